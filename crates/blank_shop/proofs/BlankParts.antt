@@ -8,14 +8,13 @@ use Rattle.std.proofs.lemmas.List.{get_or-take}
 use Rattle.std.proofs.lemmas.List.Sums.{sum_by-cons}
 use Rattle.std.specs.Prelude.{Contains, Some, if◌then◌else◌, nat_le, nat_lt, replicate, slice_get}
 use Rattle.std.specs.Prelude.{slice_index, ◌&&◌, ◌%◌, ◌/◌}
-use Rattle.d64_image.proofs.Places.{track_fits, track_from_1}
+use Rattle.d64_image.proofs.Places.{track_fits, track_from_1, few_sectors}
 use Rattle.d64_image.specs.Geometry.{sectors_on}
 use Rattle.d64_image.specs.Images.{Image, IsImage, Sector, sector}
 use Rattle.d64_image.specs.declared.place.Place.{Place}
 use Rattle.blank_shop.proofs.BlankPlaces.{blank_owners, owned-taken}
 use Rattle.blank_shop.proofs.BlankPlaces.{taken-owned}
 use Rattle.disk_layout.proofs.lemmas.lists.Lists.{get-some}
-use Rattle.disk_layout.proofs.lemmas.map.Bits.{few_sectors}
 use Rattle.disk_layout.proofs.lemmas.records.Fillers.{pieces-fill}
 use Rattle.disk_layout.proofs.lemmas.records.Joined.{joined-at, length-joined}
 use Rattle.blank_shop.specs.Blank.{AreRequestPlaces, IsBlankMap}

@@ -1,6 +1,6 @@
 -- The sectors of the blank image, one by one.
 use Rattle.std.proofs.Common.{List, [], Some, IsSome, ap, ap₂, arith, inl, inr, length, length-append, refl, subst, suc}
-use Rattle.std.proofs.Common.{sym, zero, ℕ, ◌+◌, ◌++◌, ◌<◌, ◌∙◌, ◌∷◌, ◌≡◌, ◌≢◌, ◌≤◌, ◌⊎◌}
+use Rattle.std.proofs.Common.{sym, zero, ℕ, ◌+◌, ◌++◌, ◌<◌, ◌∙◌, ◌∷◌, ◌≡◌, ◌≢◌, ◌≤◌}
 use Rattle.std.proofs.lemmas.Bool.{cases_lt}
 use Rattle.std.proofs.lemmas.Bool.Decides.{nat_tests}
 use Rattle.std.specs.Prelude.{None, if◌then◌else◌, nat_eq, nat_lt, slice_get}
@@ -19,18 +19,12 @@ use Rattle.disk_layout.specs.Entries.{rel_entry}
 use Rattle.blank_shop.specs.Blank.{request_track, requests_side, stock_block, stock_side}
 use Rattle.disk_layout.specs.Directory.{directory_start, map_place}
 use Rattle.disk_layout.specs.Side.{side_sector}
+use Rattle.disk_layout.proofs.lemmas.lists.Lists.{get-push}
 use Rattle.blank_shop.specs.Written.{IsWritten}
 
 -- the disk has each of its sectors
 pub has-sector : (t s : ℕ) → s < sectors_on t → IsSome (place_at t s)
 has-sector t s h = let (p, at) = place_at-found t s h in subst IsSome (sym at) refl
-
-get-snoc : {X : Type 0} (xs : List X) (x : X) (k : ℕ) (y : X) → slice_get (xs ++ x ∷ []) k ≡ Some y
-    → (slice_get xs k ≡ Some y) ⊎ ((k ≡ length xs) × (x ≡ y))
-get-snoc [] x zero y h = inr (refl, cc)
-get-snoc [] x (suc k) y h = cc
-get-snoc (z ∷ xs) x zero y h = inl h
-get-snoc (z ∷ xs) x (suc k) y h = elim (get-snoc xs x k y h) [ inl e ↦ inl e | inr e ↦ inr (ap suc e.0, e.1) ]
 
 -- the place of a data block of REQUESTS
 pub request-at : (k t s : ℕ) (p : Place) → place_at t s ≡ Some p → (t ≡ request_track k) × (s ≡ request_sector k)
@@ -42,7 +36,7 @@ pub places-more : (ps qs : List Place) (n : ℕ) (p : Place) → AreRequestPlace
     → qs ≡ ps ++ p ∷ [] → AreRequestPlaces qs (n + 1)
 places-more ps qs n p h here e = rw e (record {
   count = length-append ps (p ∷ []) ∙ omega (arith, h.count);
-  each = λ k q at. elim (get-snoc ps p k q at) [
+  each = λ k q at. elim (get-push ps p k q at) [
     | inl old ↦ h.each k q old
     | inr new ↦ is-new k q (new.0 ∙ h.count) new.1
   ];

@@ -8,11 +8,10 @@ use Rattle.std.proofs.lemmas.List.{get_or-append_right, get_or-replicate, length
 use Rattle.std.proofs.lemmas.Nat.Bits.{bit_at-zero}
 use Rattle.std.specs.Int.{bit_at}
 use Rattle.std.specs.Prelude.{if◌then◌else◌, nat_le, nat_lt, ◌%◌, ◌&&◌, ◌/◌}
-use Rattle.d64_image.proofs.Places.{place_at-some}
+use Rattle.d64_image.proofs.Places.{place_at-some, few_sectors}
 use Rattle.d64_image.specs.Geometry.{sectors_on}
 use Rattle.d64_image.specs.Places.{place_at}
 use Rattle.d64_image.specs.declared.place.Place.{Place}
-use Rattle.disk_layout.proofs.lemmas.map.Bits.{few_sectors}
 use Rattle.blank_shop.specs.Blank.{names_of, taken_on}
 use Rattle.blank_shop.specs.Free.{IsFreeFrom}
 use Rattle.disk_layout.specs.Free.{IsWithoutFree}

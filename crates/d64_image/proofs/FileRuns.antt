@@ -1,23 +1,5 @@
 -- What a run over a mirror says of its file.
-use Rattle.std.proofs.Common.{
-  Bool,
-  true,
-  false,
-  ◌≡◌,
-  ◌<◌,
-  ◌≤◌,
-  ◌+◌,
-  None,
-  Option,
-  Some,
-  arith,
-  inl,
-  inr,
-  refl,
-  subst,
-  sym,
-  ⊎_elim,
-}
+use Rattle.std.proofs.Common.{Bool, true, false, ◌≡◌, ◌<◌, ◌≤◌, ◌+◌, None, Option, Some, arith, refl, ⊎_elim}
 use Rattle.std.proofs.lemmas.Bool.Decides.{nat_tests}
 use Rattle.d64_image.specs.declared.mirror.Mirror.{Mirror}
 use Rattle.d64_image.specs.declared.sector_file.SectorFile.{Ghosts}
@@ -25,7 +7,7 @@ use Rattle.d64_image.specs.FileDisks.{FileDisk, fails_since, in_run}
 use Rattle.d64_image.specs.Mirrors.{IsMirrored, is_broken, mirror, mirror_image, one_if}
 use Rattle.d64_image.specs.History.{Changes, Failed, HeldOnly, NeverFailed}
 use Rattle.d64_image.specs.Images.{Image}
-use Rattle.d64_image.specs.Keeps.{Agrees, FileFailed, Keeps, KeptOnly, kept_or}
+use Rattle.d64_image.specs.Keeps.{Agrees, FileFailed, Keeps, kept_or}
 
 pub agrees_with_itself : (o : Option Image) (img : Image) → Agrees o (kept_or o img)
 agrees_with_itself None img = refl
@@ -68,19 +50,6 @@ module _ {F : Type 0} {G : Ghosts F} where
       let x : IsMirrored a b = kept.held.reached in
       ⊎_elim (λ broken. absurd (whole broken)) (λ e. e)
       (x.quiet (omega (arith, taken, x.taken)) (omega (arith, taken, untaken)))
-
-  -- the file kept only what the mirror held
-  pub kept_only : (a b : Mirror F G) (P : Image → Type 0) → P (mirror_image a) → HeldOnly mirror a b P
-      → KeptOnly G.keeps a.file b.file P
-  kept_only a b P first x = record {
-    reached = x.reached.file;
-    later = x.later;
-    each = λ c h. x.each c (inr h);
-    before = λ t c le h. ⊎_elim
-        (λ held. ⊎_elim (λ (e : c ≡ mirror_image a). inr (subst P (sym e) first)) (λ k. inl k) held)
-        (λ p. inr p)
-        (x.before t c le (inr h));
-  }
 
   module _ (first : F) where
     -- what the mirror held its file kept

@@ -2,9 +2,8 @@
 use Rattle.std.proofs.Common.{ℕ, ◌≡◌, ◌<◌, ◌⊎◌, ⊎_elim, arith}
 use Rattle.d64_image.specs.declared.fuse.Fuse.{Fuse}
 use Rattle.d64_image.specs.Images.{Image}
-use Rattle.d64_image.specs.History.{History, HeldOnly, Changes, Failed, NeverFailed}
+use Rattle.d64_image.specs.History.{History, HeldOnly, Changes, Failed}
 use Rattle.d64_image.specs.Fuses.{fuse, fuse_disk, fuse_left, fuse_failures}
-use Rattle.d64_image.proofs.Moments.{never_failed}
 
 module _ {D : Type 0} (h : History D) where
   pub held_beneath : (a b : Fuse D) (P : Image → Type 0) → HeldOnly (fuse h) a b P
@@ -27,11 +26,3 @@ module _ {D : Type 0} (h : History D) where
       (omega (arith, same, fresh, failed.rose (omega (arith, same, fresh)))))
       (λ cause. cause)
       x.reached.cause
-
-  -- where it has not blown and the disk beneath it didn't fail, it didn't fail
-  pub whole_beneath : (a b : Fuse D) (P : Image → Type 0) → HeldOnly (fuse h) a b P → fuse_failures a < (fuse h).last
-      → 0 < fuse_left b → NeverFailed h (fuse_disk a) (fuse_disk b) → Failed (fuse h) a b → ⊥
-  whole_beneath a b P x fresh left never failed = ⊎_elim
-      (λ (blown : fuse_left b ≡ 0). absurd (omega (arith, blown, left)))
-      (λ (beneath : Failed h (fuse_disk a) (fuse_disk b)). never_failed h (fuse_disk a) (fuse_disk b) never beneath)
-      (cause_beneath a b P x fresh failed)

@@ -1,20 +1,12 @@
 -- What a sector of an image is after a write.
 use Rattle.std.proofs.Common.{ℕ, ◌<◌, ◌≡◌, ◌≢◌, [], ◌∙◌, sym, subst, ⊎_elim, length, get_or, set, arith}
-use Rattle.std.proofs.lemmas.List.{
-  length-set,
-  get_or-set_same,
-  get_or-set_other,
-  set-set,
-  set_comm,
-  set-get_or,
-  ext_get_or,
-}
+use Rattle.std.proofs.lemmas.List.{length-set, get_or-set_same, get_or-set_other, set-set, set-get_or}
 use Rattle.std.proofs.lemmas.Bool.{cases_eq}
 use Rattle.std.proofs.lemmas.Grind.{get_or-set_at}
 use Rattle.d64_image.specs.declared.place.Place.{Place}
 use Rattle.d64_image.specs.Places.{index_of}
 use Rattle.d64_image.specs.Images.{Sector, Image, IsSector, IsImage, sector, put}
-use Rattle.d64_image.proofs.Places.{index_below, other_index, place_of}
+use Rattle.d64_image.proofs.Places.{index_below, other_index}
 
 pub sector-put_same : (img : Image) (p : Place) (bytes : Sector) → length img ≡ 683 → sector (put img p bytes) p ≡ bytes
 unfolding sector put
@@ -33,10 +25,6 @@ length-put img p bytes = length-set img (index_of p) bytes
 pub put-put : (img : Image) (p : Place) (a b : Sector) → put (put img p a) p b ≡ put img p b
 unfolding put
 put-put img p a b = set-set img (index_of p) a b
-
-pub put_comm : (img : Image) (p q : Place) (a b : Sector) → p ≢ q → put (put img p a) q b ≡ put (put img q b) p a
-unfolding put
-put_comm img p q a b other = set_comm img (index_of p) (index_of q) a b (other_index p q other)
 
 pub put-sector : (img : Image) (p : Place) → put img p (sector img p) ≡ img
 unfolding sector put
@@ -60,10 +48,3 @@ put_is_image img p bytes is new = record {
   size = length-set img (index_of p) bytes ∙ is.size;
   each = λ i below. set_each img 683 (index_of p) i bytes is.size (index_below p) below (is.each i below) new;
 }
-
--- two images are one where each place has the same sector
-pub same_image : (i j : Image) → IsImage i → IsImage j → ((p : Place) → sector i p ≡ sector j p) → i ≡ j
-unfolding sector
-same_image i j is js same = ext_get_or [] i j (is.size ∙ sym js.size) (λ n below.
-    let found = place_of n (omega (arith, below, is.size)) in
-    subst (λ (k : ℕ). get_or i k [] ≡ get_or j k []) found.1 (same found.0))

@@ -1,13 +1,10 @@
 -- How the words on moments, counts and failures go on from one call to the next.
-use Rattle.std.proofs.Common.{ℕ, ◌≡◌, ◌≤◌, ◌<◌, ◌+◌, ◌⊎◌, ⊎_elim, inl, inr, sym, ◌∙◌, subst, refl, le_refl, Result, Ok}
-use Rattle.std.proofs.Common.{Err, IsOk, OnOk, OnErr, arith}
+use Rattle.std.proofs.Common.{ℕ, ◌≡◌, ◌≤◌, ◌<◌, ◌+◌, ⊎_elim, inl, inr, sym, ◌∙◌, subst, refl, le_refl, Result, Ok}
+use Rattle.std.proofs.Common.{Err, OnOk, OnErr, arith}
 use Rattle.std.proofs.Math.Nat.{add-le-add, le_of_eq, le_trans, lt_of_le_of_lt, lt_of_lt_of_le}
-use Rattle.std.proofs.lemmas.Bool.{cases_lt}
-use Rattle.d64_image.specs.Calls.{WritesSector}
-use Rattle.d64_image.specs.Images.{Image, Sector, put}
-use Rattle.d64_image.specs.History.{History, HeldOnly, Failed, NeverFailed, OnlyReads, OldOr, Changes, TellsFailure}
+use Rattle.d64_image.specs.Images.{Image}
+use Rattle.d64_image.specs.History.{History, HeldOnly, Failed, NeverFailed, OnlyReads, OldOr, Changes}
 use Rattle.d64_image.specs.History.{WritesNothing, IfCounted}
-use Rattle.d64_image.specs.declared.place.Place.{Place}
 
 -- counts that rise by so much at most, one after another
 rises : {y z n : ℕ} (x k m : ℕ) → k + m ≤ n → y ≤ x + k → z ≤ y + m → z ≤ x + n
@@ -22,9 +19,6 @@ stays n same = omega (arith, same)
 -- a count that stays, beside one that rises
 rises_later : {x y z : ℕ} → y ≡ x → y < z → x < z
 rises_later same lt = lt_of_le_of_lt (le_of_eq (sym same)) lt
-
-rises_before : {x y z : ℕ} → y ≡ x → x < z → y < z
-rises_before same lt = lt_of_le_of_lt (le_of_eq same) lt
 
 between : {x y z : ℕ} → x ≤ y → y ≤ z → z ≡ x → y ≡ x
 between low high same = omega (arith, low, high, same)
@@ -60,13 +54,6 @@ module _ {D : Type 0} (S : History D) where
     each = λ c x. f c (h.each c x);
     before = λ t c le x. ⊎_elim (λ l. inl l) (λ p. inr (f c p)) (h.before t c le x);
   }
-
-  -- a run that began earlier, and what came after it
-  pub then_or : (a b c : D) (P Q : Image → Type 0) → HeldOnly S a b P → HeldOnly S b c Q
-      → HeldOnly S a c (λ i. P i ⊎ Q i)
-  then_or a b c P Q first second = then a b c (λ i. P i ⊎ Q i)
-      (weaker a b P (λ i. P i ⊎ Q i) (λ i p. inl p) first)
-      (weaker b c Q (λ i. P i ⊎ Q i) (λ i q. inr q) second)
 
   -- what it holds at the end is one of those
   pub at_end : (a b : D) (P : Image → Type 0) → HeldOnly S a b P → P (S.image b)
@@ -165,31 +152,6 @@ module _ {D : Type 0} (S : History D) where
   pub none_counted : (a b : D) (P : Image → Type 0) → S.writes b ≡ S.writes a → IfCounted S a b P
   none_counted a b P same = λ (lt : S.writes a < S.writes b). absurd (falls same lt)
 
-  pub write_counted : {T E : Type 0} (a b : D) (p : Place) (bytes : Sector) (fault : E) (result : Result T E)
-      → WritesSector S a b p bytes fault result
-      → IfCounted S a b (λ c. c ≡ put (S.image a) p bytes)
-  write_counted a b p bytes fault (Ok _) w = λ lt. w.ok
-  write_counted a b p bytes fault (Err _) w = none_counted a b (λ c. c ≡ put (S.image a) p bytes) w.uncounted
-
-  pub counted_weaker : (a b : D) (P Q : Image → Type 0) → (P (S.image b) → Q (S.image b)) → IfCounted S a b P
-      → IfCounted S a b Q
-  counted_weaker a b P Q f done = λ lt. f (done lt)
-
-  -- what comes after keeps it where it was so
-  pub counted_then : (a b c : D) (P Q : Image → Type 0) → (P (S.image b) → Q (S.image c)) → IfCounted S a b P
-      → IfCounted S b c Q → IfCounted S a c Q
-  counted_then a b c P Q keeps first second = λ (lt : S.writes a < S.writes c). ⊎_elim
-      (λ (before : S.writes a < S.writes b). keeps (first before))
-      (λ (none : S.writes b ≤ S.writes a). second (lt_of_le_of_lt none lt))
-      (cases_lt (S.writes a) (S.writes b))
-
-  pub counted_after : (a b c : D) (P : Image → Type 0) → WritesNothing S a b → IfCounted S b c P → IfCounted S a c P
-  counted_after a b c P w done = λ (lt : S.writes a < S.writes c). done (rises_before w.writes lt)
-
-  pub counted_before : (a b c : D) (P : Image → Type 0) → IfCounted S a b P → WritesNothing S b c → IfCounted S a c P
-  counted_before a b c P done w = λ (lt : S.writes a < S.writes c). subst P (sym w.image)
-      (done (lt_of_lt_of_le lt (le_of_eq w.writes)))
-
   -- failures
   pub failed_later : (a b c : D) → S.failures b ≡ S.failures a → Failed S b c → Failed S a c
   failed_later a b c same f = record {
@@ -214,15 +176,3 @@ module _ {D : Type 0} (S : History D) where
   pub never_failed_rest : (a b c : D) → S.failures a ≤ S.failures b → S.failures b ≤ S.failures c → NeverFailed S a c
       → NeverFailed S b c
   never_failed_rest a b c ab bc n = record { same = between_rest ab bc n.same; not_spent = n.not_spent }
-
-  -- the count of failures doesn't fall
-  pub told_later : {T E : Type 0} (a b : D) (result : Result T E) → TellsFailure S a b result
-      → S.failures a ≤ S.failures b
-  told_later a b (Ok _) tells = le_of_eq (sym tells)
-  told_later a b (Err _) tells = tells.later
-
-  -- where the device doesn't fail, the answer is Ok
-  pub told_ok : {T E : Type 0} (a b : D) (result : Result T E) → TellsFailure S a b result → NeverFailed S a b
-      → IsOk result
-  told_ok a b (Ok _) tells n = refl
-  told_ok a b (Err _) tells n = absurd (never_failed a b n tells)

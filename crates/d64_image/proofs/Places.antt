@@ -37,8 +37,8 @@ use Rattle.d64_image.specs.Geometry.{sectors_on, sectors_below}
 use Rattle.d64_image.specs.Places.{track_of, sector_of, index_of, place_if, place_at}
 
 -- no track has more sectors than the outermost
-at_most_21 : (t : ℕ) → sectors_on t ≤ 21
-at_most_21 t = grind (arith, nat_tests)
+pub few_sectors : (t : ℕ) → sectors_on t ≤ 21
+few_sectors t = grind (arith, nat_tests)
 
 -- the zones, one after another
 on_none : (t : ℕ) → t < 1 → sectors_on t ≡ 0
@@ -106,7 +106,7 @@ track_from_1 p = ⊎_elim
     (cases_lt p.track 1)
 
 pub sector_small : (p : Place) → p.sector < 21
-sector_small p = omega (arith, p.on_disk, at_most_21 p.track)
+sector_small p = omega (arith, p.on_disk, few_sectors p.track)
 
 pub index_parts : (p : Place) → index_of p ≡ sectors_below p.track + p.sector
 unfolding index_of

@@ -13,7 +13,7 @@ use Rattle.disk_layout.proofs.lemmas.chains.AsFar.{walk-of_chain}
 use Rattle.disk_layout.specs.Directory.{IsDirectory, directory_start}
 use Rattle.disk_layout.specs.Layout.{File}
 use Rattle.disk_layout.specs.declared.slot.Slot.{Slot}
-use Rattle.std.specs.List.{AllByRecursion}
+use Rattle.disk_layout.proofs.lemmas.lists.Lists.{all-push}
 use Rattle.std.proofs.lemmas.List.{map-append, take_more}
 use Rattle.disk_pictures.specs.Drawings.{AreDrawn, AreDrawnSides, GoesFrom, IsDrawn, IsDrawnFile}
 
@@ -40,11 +40,6 @@ sides-drawn img bytes viewed o ps found sides u n k same e walk all few part =
     ∙ take_min (sides_for n) found in
     (ps, u, goes-from img bytes viewed 21 o ps u same e walk, part ∙ kept ∙ ap (take (sides_for n)) all)
 
-all-more : {X : Type 0} (P : X → Type 0) (xs : List X) (x : X) → AllByRecursion P xs → P x
-    → AllByRecursion P (xs ++ x ∷ [])
-all-more P [] x all here = (here, tt)
-all-more P (y ∷ ys) x all here = (all.0, all-more P ys x all.1 here)
-
 -- one entry more
 pub drawn-more : (img : Image) (slots : List Slot) (i : ℕ) (s : Slot) (fs : List File) (f : File) → i < length slots
     → get_or slots i s ≡ s
@@ -52,7 +47,7 @@ pub drawn-more : (img : Image) (slots : List Slot) (i : ℕ) (s : Slot) (fs : Li
 drawn-more img slots i s fs f inside here so_far same drawn = record {
   entries = map-append (λ (g : File). g.slot) fs (f ∷ []) ∙ ap (λ (ss : List Slot). ss ++ f.slot ∷ []) so_far.entries
       ∙ ap (λ (x : Slot). take i slots ++ x ∷ []) (same ∙ sym here) ∙ sym (take_more slots i s inside);
-  files = all-more (IsDrawnFile img) fs f so_far.files drawn;
+  files = all-push (IsDrawnFile img) fs f so_far.files drawn;
 }
 
 -- the directory's sectors are those that its links come to

@@ -1,9 +1,9 @@
 -- Each sector is drawn with the one owner that it is drawn as, and once there.
 use Rattle.std.proofs.Common.{◌≡◌, ◌≢◌, ◌<◌, ◌≤◌, ◌⊎◌, inl, inr, ◌+◌, ℕ, suc, Bool, true, false, List, [], ◌∷◌, drop}
 use Rattle.std.proofs.Common.{take, refl, subst, sym, ap, ◌∙◌, arith}
-use Rattle.std.specs.Prelude.{Contains, Some, if◌then◌else◌, nat_eq, nat_lt, slice_get, ◌&&◌}
+use Rattle.std.specs.Prelude.{Contains, Some, if◌then◌else◌, nat_eq, nat_lt, slice_get}
 use Rattle.std.specs.List.{AllByRecursion}
-use Rattle.std.proofs.lemmas.Bool.{eqb-true, false≢true, ltb-false, ltb-true}
+use Rattle.std.proofs.lemmas.Bool.{eqb-true, false≢true, ltb-false, ltb-true, and_parts}
 use Rattle.std.proofs.lemmas.List.{take-append-drop}
 use Rattle.std.proofs.lemmas.List.Folds.{list_any_at}
 use Rattle.std.proofs.lemmas.Map.Views.{Contains-from_any}
@@ -19,14 +19,9 @@ use Rattle.disk_pictures.specs.Drawings.{owner_of}
 use Rattle.disk_pictures.specs.declared.owners.Owner.{Owner}
 use Rattle.disk_pictures.specs.declared.owners.Owner.TheVariants as owner
 
-split : (a b : Bool) → (a && b) ≡ true → (a ≡ true) × (b ≡ true)
-split true true e = (refl, refl)
-split true false e = absurd (false≢true e)
-split false b e = absurd (false≢true e)
-
 place-is : (p q : Place) → is_place p q ≡ true → p ≡ q
 place-is p q e =
-    let parts = split (nat_eq q.track p.track) (nat_eq q.sector p.sector) e in
+    let parts = and_parts (nat_eq q.track p.track) (nat_eq q.sector p.sector) e in
     same_place p q (sym (eqb-true q.track p.track parts.0)) (sym (eqb-true q.sector p.sector parts.1))
 
 self : (n : ℕ) → nat_eq n n ≡ true

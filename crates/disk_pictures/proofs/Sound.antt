@@ -9,19 +9,16 @@ use Rattle.d64_image.specs.Images.{Image}
 use Rattle.d64_image.specs.declared.place.Place.{Place}
 use Rattle.disk_layout.proofs.lemmas.chains.AsFar.{walk-of_chain}
 use Rattle.disk_layout.proofs.lemmas.chains.Chains.{Names-one}
-use Rattle.disk_layout.proofs.lemmas.layouts.Layouts.{IsDirectory-one}
+use Rattle.disk_layout.proofs.lemmas.layouts.Layouts.{IsDirectory-one, File-ext}
 use Rattle.disk_layout.proofs.lemmas.lists.Once.{EachOnce-left, EachOnce-right}
 use Rattle.disk_layout.specs.AsFar.{IsWalk}
 use Rattle.disk_layout.specs.Chain.{EachOnce}
 use Rattle.disk_layout.specs.Directory.{map_place, type_byte}
-use Rattle.disk_layout.specs.Layout.{File, HasChain, IsClosedType, IsFile, IsLayout, Layout, file_owns, is_rel, owners}
+use Rattle.disk_layout.specs.Layout.{File, HasChain, IsFile, IsLayout, Layout, file_owns, is_rel, owners}
 use Rattle.disk_layout.specs.declared.slot.Slot.{Slot}
 use Rattle.disk_pictures.proofs.Sides.{sides-own}
 use Rattle.disk_pictures.specs.Drawings.{AreDrawnSides, GoesFrom, IsDrawn, IsDrawnFile}
-
-is-closed : (t : ℕ) → IsClosedType t → 128 ≤ t
-is-closed t (inl low) = low.0
-is-closed t (inr high) = omega (arith, high.0)
+use Rattle.layout_check.proofs.lemmas.owners.Clashes.{closed-high}
 
 -- the blocks are those of the chain
 blocks-own : (img : Image) (f : File) (ps : List Place) (u : ℕ) → HasChain img f → GoesFrom img f.slot.bytes 3 ps u
@@ -41,24 +38,21 @@ none-own img bytes ps u none goes = elim goes [
   | inr (nowhere, empty, zero) ↦ (empty, zero)
 ]
 
-File-same : (f g : File) → f.slot ≡ g.slot → f.blocks ≡ g.blocks → f.last ≡ g.last → f.sides ≡ g.sides → f ≡ g
-File-same f g a b c d = λ i. record { slot = a i; blocks = b i; last = c i; sides = d i }
-
 -- the file that is drawn of an entry is the entry's own
 module _ (img : Image) (f g : File) (same : g.slot ≡ f.slot) (is : IsFile img f) (drawn : IsDrawnFile img g) where
   goes : GoesFrom img f.slot.bytes 3 g.blocks g.last
   goes = subst (λ (s : Slot). GoesFrom img s.bytes 3 g.blocks g.last) same
-      (drawn.blocks (subst (λ (s : Slot). 128 ≤ type_byte s) (sym same) (is-closed (type_byte f.slot) is.closed)))
+      (drawn.blocks (subst (λ (s : Slot). 128 ≤ type_byte s) (sym same) (closed-high (type_byte f.slot) is.closed)))
 
   plain-own : IsFalse (is_rel f.slot) → (slice_index f.slot.bytes 3 ≡ 0) ⊎ (slice_index f.slot.bytes 3 ≢ 0) → g ≡ f
   plain-own n (inl z) =
       let own = is.empty n z in
       let blocks = none-own img f.slot.bytes g.blocks g.last z goes in
-      File-same g f same (blocks.0 ∙ sym own.0) (blocks.1 ∙ sym own.1) (drawn.plain (ap is_rel same ∙ n) ∙ sym own.2)
+      File-ext g f same (blocks.0 ∙ sym own.0) (blocks.1 ∙ sym own.1) (drawn.plain (ap is_rel same ∙ n) ∙ sym own.2)
   plain-own n (inr z) =
       let own = is.plain n z in
       let blocks = blocks-own img f g.blocks g.last own.0 goes in
-      File-same g f same blocks.0 blocks.1 (drawn.plain (ap is_rel same ∙ n) ∙ sym own.1)
+      File-ext g f same blocks.0 blocks.1 (drawn.plain (ap is_rel same ∙ n) ∙ sym own.1)
 
   pub file-own : EachOnce f.sides → g ≡ f
   file-own once = by (is_rel f.slot) refl
@@ -69,7 +63,7 @@ module _ (img : Image) (f g : File) (same : g.slot ≡ f.slot) (is : IsFile img 
           let blocks = blocks-own img f g.blocks g.last own.chain goes in
           let sides = subst (λ (s : Slot). AreDrawnSides img s.bytes (length g.blocks) g.sides) same
           (drawn.relative (ap is_rel same ∙ e)) in
-          File-same g f same blocks.0 blocks.1 (sides-own img f g.sides own once
+          File-ext g f same blocks.0 blocks.1 (sides-own img f g.sides own once
           (subst (λ (ps : List Place). AreDrawnSides img f.slot.bytes (length ps) g.sides) blocks.0 sides))
       by false e = plain-own e (cases_eq (slice_index f.slot.bytes 3) 0)
 

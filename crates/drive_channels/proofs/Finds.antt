@@ -222,7 +222,3 @@ looked-before img k new o e x y name known is before closed other named here the
     shut : (entry : ℕ) (s : Option Spot) → channel_in entry s ≡ None → s ≡ None
     shut entry None h = refl
     shut entry (Some s) h = absurd (none-some _ (sym h))
-
--- what is told of a found file
-pub of-some : {A : Type 0} (N : Type 0) (P : A → Type 0) (o : Option A) (x : A) → o ≡ Some x → MatchOption o N P → P x
-of-some {A} N P o x is h = subst (λ (o : Option A). MatchOption o N P) is h

@@ -3,7 +3,6 @@ pub mod Examples
 pub mod Finds
 pub mod Given
 pub mod Kept
-pub mod Lengths
 pub mod Made
 pub mod Moves
 pub mod Openings

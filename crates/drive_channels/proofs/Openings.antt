@@ -4,7 +4,6 @@ use Rattle.std.proofs.Common.{None, Some, IfOk, IsSome, Result, Ok, Err, OnOk, s
 use Rattle.std.proofs.lemmas.Option.{none-some}
 use Rattle.d64_image.proofs.Moments.{changes_then, changes_weaker, reads_change, reads_then, reads_weaker}
 use Rattle.std.specs.Result.{IsErrAnd}
-use Rattle.d64_image.proofs.Told.{told_after}
 use Rattle.d64_image.specs.History.{Changes, Failed, History, OnlyReads, TellsFailure}
 use Rattle.d64_image.specs.Images.{Image}
 use Rattle.disk_layout.specs.Clean.{IsClean}
@@ -31,11 +30,6 @@ same-shown img img' k k' s same closed checked closed' checked' =
     subst (λ (i : Image). shown i k' s ≡ shown img k s) (sym same)
     (ap₂ (λ (c : Option Channel) (b : Bool). record { image = img; channel = c; status = s; checked = b })
     (closed' ∙ sym closed) (checked' ∙ sym checked))
-
--- what follows of an answer that is done
-pub if-ok : {T E : Type 0} (P Q : T → Type 0) (r : Result T E) → ((x : T) → P x → Q x) → IfOk r P → IfOk r Q
-if-ok P Q (Ok x) f h = f x h
-if-ok P Q (Err e) f h = tt
 
 module _ {D E : Type 0} (S : History D) (a b c : D) where
   -- a call that reads some, and then one that reads some where it is done
@@ -153,23 +147,11 @@ read-for {D} {E} S a b w after result reads = record {
     by (Ok st) = λ _. reads_weaker S a b 702 757 (omega arith) reads
     by (Err e) = tt
 
--- an answer that is passed on is not done, and tells of the device what the call told
-pub none-done : {T E : Type 0} (r : Result T E) (Q : E → Type 0) → IsErrAnd r Q → (P : T → Type 0) → IfOk r P
-none-done (Ok x) Q h P = absurd h
-none-done (Err e) Q h P = tt
-
-pub not-done : {T E : Type 0} (r : Result T E) (Q : E → Type 0) → IsErrAnd r Q → (P : Type 0) → OnOk r P
-not-done (Ok x) Q h P = absurd h
-not-done (Err e) Q h P = tt
-
+-- an answer that is passed on tells of the device what the call told
 pub tells-failed : {D T E : Type 0} (S : History D) (a b : D) (r : Result T E) (Q : E → Type 0) → IsErrAnd r Q
     → Failed S a b → TellsFailure S a b r
 tells-failed S a b (Ok x) Q h f = absurd h
 tells-failed S a b (Err e) Q h f = f
-
-pub tells-after : {D T E : Type 0} (S : History D) (a b c : D) → S.failures b ≡ S.failures a → (r : Result T E)
-    → TellsFailure S b c r → TellsFailure S a c r
-tells-after {E = E} S a b c same r h = told_after S (λ (_ : E). true) a b c r same h
 
 -- no channel is open
 pub closed-of : (o : Option Channel) (b : Bool) → MatchOption o (b ≡ false) (λ c. b ≡ true) → b ≡ false → o ≡ None

@@ -119,10 +119,6 @@ module _ (img : Image) (k : Known) (name : List ℕ) (missing : ¬ (HasFile img 
   none-other None other = absurd other
   none-other (Some l) other = missing (other.0, other.1, other.2)
 
-  pub absent-row : OpensFile (shown img k s) number (record { name = name; length = None })
-      (shown img k statuses.FileNotFound)
-  absent-row = inl ((refl, missing), refl)
-
   given : (l : ℕ) → IsNone (Some l) × ¬ (HasFile img name) → ⊥
   given l h = cc
 

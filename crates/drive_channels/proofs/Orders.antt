@@ -1,26 +1,7 @@
 -- Which row of the table a command meets, and what is known after a repair.
-use Rattle.std.proofs.Common.{
-  ℕ,
-  ◌≡◌,
-  inl,
-  inr,
-  Bool,
-  true,
-  false,
-  IsTrue,
-  List,
-  [],
-  ◌∷◌,
-  slice_index,
-  sym,
-  ap,
-  subst,
-  refl,
-}
+use Rattle.std.proofs.Common.{ℕ, ◌≡◌, inl, inr, Bool, true, false, IsTrue, List, [], ◌∷◌, slice_index, sym, ap, subst}
 use Rattle.d64_image.specs.Images.{Image}
 use Rattle.disk_layout.specs.Clean.{IsClean}
-use Rattle.disk_layout.specs.Layout.{IsLayout, Layout}
-use Rattle.layout_check.specs.Mended.{IsMended}
 use Rattle.drive_channels.specs.Inside.{IsKnown, Remembers}
 use Rattle.drive_channels.specs.Spelling.{BeginsWithP, IsInitialize, IsValidate}
 use Rattle.drive_channels.specs.State.{View}
@@ -65,18 +46,4 @@ known-after old new k known same = record {
   fresh = known.fresh;
   remembered = λ checked. let m = known.remembered checked in subst (λ (i : Image). Remembers i k.last k.before)
       (sym (same m.clean)) m;
-}
-
--- an image is mended from itself
-pub mended-same : (img : Image) (l : Layout) → IsLayout img l → IsMended img l img
-mended-same img l h = record {
-  layout = l;
-  sound = h;
-  same = record {
-    directory = refl;
-    files = refl;
-    entries = λ p own i lt. inr refl;
-    header = refl;
-    elsewhere = λ p a b c. refl;
-  };
 }

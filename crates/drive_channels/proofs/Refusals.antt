@@ -1,5 +1,5 @@
 -- What the faults of the calls below say.
-use Rattle.std.proofs.Common.{◌≡◌, false, true, Result, Err, Ok, refl, subst, sym}
+use Rattle.std.proofs.Common.{◌≡◌, Result, Err, Ok, refl, subst, sym}
 use Rattle.d64_image.specs.History.{Failed, History}
 use Rattle.d64_image.specs.Images.{Image}
 use Rattle.d64_image.specs.declared.place.Place.{Place}
@@ -26,9 +26,6 @@ calm T S old new Device other t = absurd (other refl)
 -- what is done told no error
 pub not-err : {T E : Type 0} (x : T) (e : E) → ◌≡◌ {A = Result T E} (Ok x) (Err e) → ⊥
 not-err x e h = cc
-
-pub not-ok : false ≡ true → ⊥
-not-ok h = cc
 
 -- a fault of the layout that isn't Device is a fact of the image alone
 pub fact : (failed_at : Place → Type 0) (img : Image) (fault : Fault) → ((p : Place) → ¬ (fault ≡ faults.Device p))

@@ -28,9 +28,9 @@ use Rattle.disk_layout.specs.Layout.{File, Layout}
 use Rattle.disk_layout.specs.Records.{records}
 use Rattle.rel_records.specs.File.{IsFileOf, Shows, entry_of}
 use Rattle.rel_records.specs.Written.{IsAbsent, IsRecord}
-use Rattle.drive_channels.proofs.Lengths.{count-is}
 use Rattle.drive_channels.specs.Files.{IsRelAt}
 use Rattle.rel_records.specs.growth.Growth.{records_had}
+use Rattle.rel_records.proofs.lemmas.growth.Grows.{count-is}
 use Rattle.drive_channels.specs.Given.{IsGiven}
 use Rattle.drive_channels.specs.Inside.{IsFound, at_spot, channel_of, next_spot, shown}
 use Rattle.drive_channels.specs.State.{Channel, View}

@@ -9,34 +9,21 @@ use Rattle.d64_image.proofs.Moments.{changes_then, changes_weaker, no_change, no
 use Rattle.d64_image.specs.History.{History}
 use Rattle.d64_image.specs.Images.{Image}
 use Rattle.disk_layout.proofs.lemmas.layouts.Layouts.{IsLayout-one}
-use Rattle.disk_layout.proofs.lemmas.records.Pieces.{length-pieces}
 use Rattle.disk_layout.specs.Clean.{IsClean, IsCleanLayout}
 use Rattle.disk_layout.specs.Layout.{File, IsLayout, Layout, record_length}
-use Rattle.disk_layout.specs.Records.{record_count, records}
+use Rattle.disk_layout.specs.Records.{records}
 use Rattle.rel_records.proofs.lemmas.Kept.{has_same, keeps_same, leaves_leaves, leaves_then, places-stay}
+use Rattle.rel_records.proofs.lemmas.growth.Grows.{had-of, count-is}
 use Rattle.rel_records.proofs.lemmas.writing.Grown.{size-kept}
 use Rattle.rel_records.specs.File.{IsFileOf, length_of, records_in}
 use Rattle.rel_records.specs.Others.{LeavesRecords}
 use Rattle.rel_records.specs.declared.rel_file.RelFile.{RelFile}
-use Rattle.rel_records.specs.growth.Growth.{records_had}
 use Rattle.keeper_commands.proofs.Folds.{changed-append, long-stored, part-behind, part-front, so-behind, so-front}
 use Rattle.keeper_commands.proofs.Folds.{so-stored, stored-append}
 use Rattle.keeper_commands.proofs.Mendings.{tells-after}
 use Rattle.keeper_commands.specs.Stores.{AreSo, IsPartStored, NewRecord, changed_text, stored}
 use Rattle.keeper_commands.specs.Storing.{IsStoringOver, StoresLines}
 use Rattle.keeper_commands.specs.declared.faults.KeepFault.{KeepFault}
-
--- how many records a file has, by what is kept of it
-pub had-is : (img : Image) (l : Layout) (n : ℕ) (f : File) (v : RelFile) → IsFileOf img l n f v
-    → records_in v ≡ records_had f
-had-is img l n f v of =
-    ap (λ (b : ℕ). record_count b v.last v.size) of.shows.blocks
-    ∙ ap (λ (u : ℕ). record_count (length f.blocks) u v.size) of.shows.last
-    ∙ ap (λ (L : ℕ). record_count (length f.blocks) f.last L) of.shows.size
-
-pub count-is : (img : Image) (f : File) → length (records img f) ≡ records_had f
-unfolding records
-count-is img f = length-pieces _ _ _
 
 pub clean-layout : (img : Image) (l : Layout) → IsClean img → IsLayout img l → IsCleanLayout img l
 clean-layout img l clean is = subst (λ (m : Layout). IsCleanLayout img m) (IsLayout-one img clean.0 l clean.1.layout is)
@@ -60,12 +47,12 @@ pub had-kept : (a b : Image) (l : Layout) (n : ℕ) (f : File) (v w : RelFile) (
     → IsFileOf a l n f v
     → LeavesRecords a b l n (stored L xs (records a f)) w → records_in w ≡ records_in v
 had-kept a b l n f v w L xs of h =
-    had-is b h.layout n h.file w h.of
+    had-of b h.layout n h.file w h.of
     ∙ sym (count-is b h.file)
     ∙ ap (λ (rs : List (List ℕ)). length rs) h.records
     ∙ long-stored L xs (records a f)
     ∙ count-is a f
-    ∙ sym (had-is a l n f v of)
+    ∙ sym (had-of a l n f v of)
 
 module _ {D W : Type 0} (S : History D) (contents : W → Option (List ℕ)) (l : Layout) (n : ℕ) (f : File) where
   pub none-stored : (a : D) (o : W) (v : RelFile) → IsClean (S.image a) → IsFileOf (S.image a) l n f v

@@ -1,13 +1,8 @@
 -- Entries that are looked at one after another for a name.
-use Rattle.std.proofs.Common.{◌≡◌, ◌∙◌, Bool, IsTrue, List, Some, ℕ, false, subst, sym}
-use Rattle.std.specs.Prelude.{slice_get}
+use Rattle.std.proofs.Common.{◌≡◌, ◌∙◌, Bool, IsTrue, List, ℕ, false, subst, sym}
 use Rattle.std.proofs.lemmas.Bool.{false≢true}
 use Rattle.disk_layout.specs.declared.slot.Slot.{Slot}
 use Rattle.keeper_commands.specs.Bytes.{IsClosedNamed}
-
-pub same-slot : (entries : List Slot) (n : ℕ) (s t : Slot) → slice_get entries n ≡ Some s → slice_get entries n ≡ Some t
-    → s ≡ t
-same-slot entries n s t at to = cc
 
 -- an entry that was judged not to be so named
 pub not-named : (name : List ℕ) (s t : Slot) (judged : Bool) → judged ≡ false → (IsClosedNamed name s → IsTrue judged)

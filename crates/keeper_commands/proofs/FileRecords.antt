@@ -17,8 +17,9 @@ use Rattle.disk_layout.proofs.lemmas.records.Joined.{joined-cons, joined-nil, le
 use Rattle.disk_layout.specs.Layout.{File, IsLayout, IsRelFile, Layout, record_length}
 use Rattle.disk_layout.specs.Records.{joined, pieces, record_count, records}
 use Rattle.disk_layout.specs.Rest.{IsFirst}
+use Rattle.rel_records.proofs.lemmas.growth.Grows.{count-is}
 use Rattle.rel_records.proofs.lemmas.reading.Opened.{rel-of}
-use Rattle.keeper_commands.proofs.Composed.{count-is}
+use Rattle.rel_records.proofs.lemmas.writing.OneBlock.{le-rows}
 use Rattle.keeper_commands.specs.Stores.{AreRecords}
 
 -- bytes of a part, and of two parts
@@ -59,10 +60,6 @@ pieces-are L (suc n) xs fit all =
       pieces-are L n (drop L xs) (omega (arith, fit, row, length-drop L xs)) (small-drop L xs all),
     )
 
-least : (n L : ℕ) → 1 ≤ L → n ≤ n * L
-least zero L low = omega arith
-least (suc n) L low = omega (arith, least n L low, suc-mul n L, low)
-
 -- the bytes of an image are those of a disk
 pub image-of : (image : List ℕ) → length image ≡ 174848 → AreBytes image → IsImage (sectors_in image)
 image-of image size small =
@@ -98,7 +95,7 @@ module _ (img : Image) (l : Layout) (n : ℕ) (f : File) (name : List ℕ) (w : 
   file-few =
       let count = count-is img f in
       let few = places-few f.blocks rel.chain.2.once in
-      let row = least (record_count (length f.blocks) f.last (record_length f.slot)) (record_length f.slot)
+      let row = le-rows (record_count (length f.blocks) f.last (record_length f.slot)) (record_length f.slot)
       rel.length_low in
       omega (arith, count, fit, few, row)
 

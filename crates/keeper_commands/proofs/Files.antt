@@ -7,8 +7,8 @@ use Rattle.d64_image.specs.declared.place.Place.{Place}
 use Rattle.disk_layout.specs.Directory.{IsDirectory}
 use Rattle.disk_layout.specs.declared.faults.Fault.{Fault}
 use Rattle.disk_layout.specs.declared.slot.Slot.{Slot}
-use Rattle.keeper_commands.proofs.Entries.{same-slot}
 use Rattle.keeper_commands.specs.Bytes.{HasEntries, HasFile, HasFileBlocks, HasNamed, HoldsOfFile, IsFirstClosed}
+use Rattle.rel_records.proofs.lemmas.reading.Found.{same-slot}
 
 pub has-entries : (image : List ℕ) (img : Image) (places : List Place) (listed slots : List Slot)
     → length image ≡ 174848

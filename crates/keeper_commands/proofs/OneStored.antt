@@ -12,6 +12,7 @@ use Rattle.disk_layout.specs.Layout.{File, Layout, record_length}
 use Rattle.disk_layout.specs.Records.{records}
 use Rattle.rel_records.proofs.lemmas.Kept.{has_same}
 use Rattle.rel_records.proofs.lemmas.growth.RunCosts.{added-none, growth-none}
+use Rattle.rel_records.proofs.lemmas.growth.Grows.{had-of, count-is}
 use Rattle.rel_records.proofs.lemmas.writing.Composed.{reads_first}
 use Rattle.rel_records.specs.Calls.{ReadsRecord, WritesRecord}
 use Rattle.rel_records.specs.Faults.{TellsRelFault}
@@ -23,7 +24,7 @@ use Rattle.rel_records.specs.declared.faults.RelFault.TheVariants as rel
 use Rattle.rel_records.specs.declared.rel_file.RelFile.{RelFile}
 use Rattle.rel_records.specs.growth.Growth.{added, growth_writes, records_had}
 use Rattle.byte_text.specs.Texts.{trimmed}
-use Rattle.keeper_commands.proofs.Composed.{count-is, had-is, leaves-same}
+use Rattle.keeper_commands.proofs.Composed.{leaves-same}
 use Rattle.keeper_commands.proofs.Padded.{other-changed, other-not_so, so-stored_one, so-there, so-unchanged}
 use Rattle.keeper_commands.proofs.Printing.{not-err, read-fails}
 use Rattle.keeper_commands.specs.Stores.{IsSo, NewRecord, with_stored}
@@ -114,7 +115,7 @@ module _ {D : Type 0} (S : History D) (a b : D) (l : Layout) (n : ℕ) (f : File
     (short : length x.bytes ≤ length_of v) (text : List ℕ) (r : Result (Unit {0}) RelFault)
     (read : ReadsRecord S a b v x.number text 3 r) where
   reached : x.number ≤ records_had f
-  reached = subst (λ (m : ℕ). x.number ≤ m) (had-is (S.image a) l n f v of) high
+  reached = subst (λ (m : ℕ). x.number ≤ m) (had-of (S.image a) l n f v of) high
 
   fits : length x.bytes ≤ record_length f.slot
   fits = subst (λ (m : ℕ). length x.bytes ≤ m) of.shows.size short

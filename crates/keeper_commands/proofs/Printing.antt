@@ -1,5 +1,5 @@
 -- A record that is there is read from a disk in memory, and its line is printed behind the others.
-use Rattle.std.proofs.Common.{◌≡◌, ◌≤◌, ◌+◌, ◌-◌, ◌++◌, ◌⊎◌, inl, inr, ℕ, suc, List, [], Option, Some, None, Result, Ok}
+use Rattle.std.proofs.Common.{◌≡◌, ◌≤◌, ◌+◌, ◌-◌, ◌++◌, ◌⊎◌, inl, inr, ℕ, suc, List, [], Option, Some, Result, Ok}
 use Rattle.std.proofs.Common.{Err, true, false, length, get_or, refl, subst, sym, ap, ◌∙◌, arith}
 use Rattle.std.specs.Prelude.{IfErr, OnOk, is_err, slice_get}
 use Rattle.std.specs.Io.KnownBytes.{Appends}
@@ -8,7 +8,6 @@ use Rattle.std.proofs.lemmas.List.{append_assoc}
 use Rattle.std.proofs.lemmas.Option.{get_or_from_slice_get}
 use Rattle.d64_image.proofs.Told.{memory-never}
 use Rattle.d64_image.specs.History.{Failed, History}
-use Rattle.d64_image.specs.Images.{Image}
 use Rattle.d64_image.specs.Memory.{memory}
 use Rattle.d64_image.specs.declared.mem_disk.MemDisk.{MemDisk}
 use Rattle.byte_text.specs.Texts.{record_line}
@@ -16,9 +15,6 @@ use Rattle.rel_records.specs.Faults.{TellsRelFault}
 use Rattle.rel_records.specs.Written.{IsAbsent}
 use Rattle.rel_records.specs.declared.faults.RelFault.{RelFault}
 use Rattle.rel_records.specs.declared.faults.RelFault.TheVariants as rel
-use Rattle.rel_records.specs.declared.reading.in_order.LastBlock.{LastBlock}
-use Rattle.rel_records.specs.declared.rel_file.RelFile.{RelFile}
-use Rattle.rel_records.specs.reading.Kept.{IsKept, number_kept}
 use Rattle.keeper_commands.specs.Records.{HandsOn, lines_to, records_text}
 
 absent-no : (rs : List (List ℕ)) (number : ℕ) → 1 ≤ number → number ≤ length rs → IsAbsent rs number → ⊥
@@ -70,9 +66,6 @@ not-err (Err x) e p = absurd (cc)
 
 pub got : (rs : List (List ℕ)) (i : ℕ) (x : List ℕ) → slice_get rs i ≡ Some x → get_or rs i [] ≡ x
 got rs i x e = get_or_from_slice_get rs i x [] e
-
-pub kept-none : (img : Image) (v : RelFile) (x : LastBlock) → number_kept x ≡ None → IsKept img v x
-kept-none img v x none = λ l n f is. rw none tt
 
 -- what is kept of that which was kept, with something behind it
 hands-more : (a b c : Option (List ℕ)) (all held kept line : List ℕ) → HandsOn a b all held → HandsOn b c held kept

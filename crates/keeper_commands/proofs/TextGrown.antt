@@ -8,6 +8,7 @@ use Rattle.disk_layout.specs.Clean.{IsClean}
 use Rattle.disk_layout.specs.Layout.{File, Layout, record_length}
 use Rattle.disk_layout.specs.Rest.{IsFirst}
 use Rattle.rel_records.proofs.lemmas.Kept.{growing_same}
+use Rattle.rel_records.proofs.lemmas.growth.Grows.{had-of}
 use Rattle.rel_records.proofs.lemmas.writing.Composed.{reads_first}
 use Rattle.rel_records.proofs.lemmas.writing.Grown.{size-kept}
 use Rattle.rel_records.specs.Calls.{FindsFile, Grows}
@@ -19,7 +20,6 @@ use Rattle.rel_records.specs.declared.faults.RelFault.TheVariants as rel
 use Rattle.rel_records.specs.declared.rel_file.RelFile.{RelFile}
 use Rattle.rel_records.specs.growth.Growth.{IsFull, growth_writes, records_had}
 use Rattle.script_lines.specs.Lines.{lines}
-use Rattle.keeper_commands.proofs.Composed.{had-is}
 use Rattle.keeper_commands.proofs.Reached.{not-too-large}
 use Rattle.keeper_commands.specs.Faults.{keep_fault}
 use Rattle.keeper_commands.specs.Refusals.{IsLeft}
@@ -71,7 +71,7 @@ module _ {D W : Type 0} (S : History D) (image name text : List ℕ) (a b : D) (
         → AreLinesOf (record_length it.0.slot) (records_had it.0) ls xs
     file-lines ls xs are =
         subst (λ (L : ℕ). AreLinesOf L (records_had it.0) ls xs) it.2.shows.size
-        (subst (λ (had : ℕ). AreLinesOf (length_of v) had ls xs) (had-is (S.image a) clean.0 (entry_of v) it.0 v it.2)
+        (subst (λ (had : ℕ). AreLinesOf (length_of v) had ls xs) (had-of (S.image a) clean.0 (entry_of v) it.0 v it.2)
         are)
 
     -- a line is bad
@@ -83,7 +83,7 @@ module _ {D W : Type 0} (S : History D) (image name text : List ℕ) (a b : D) (
       it.1,
       subst (λ (L : ℕ). IsFirstBad L (records_had it.0) (lines text) k) it.2.shows.size
           (subst (λ (had : ℕ). IsFirstBad (length_of v) had (lines text) k)
-          (had-is (S.image a) clean.0 (entry_of v) it.0 v it.2) bad),
+          (had-of (S.image a) clean.0 (entry_of v) it.0 v it.2) bad),
     )
         (reads_no_write S a b 702 found.reads)
 

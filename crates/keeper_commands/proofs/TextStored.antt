@@ -17,8 +17,8 @@ use Rattle.rel_records.specs.Others.{HasRecords, LeavesRecords}
 use Rattle.rel_records.specs.Written.{grown_to}
 use Rattle.rel_records.specs.declared.rel_file.RelFile.{RelFile}
 use Rattle.rel_records.specs.growth.Growth.{IsFull, growth_writes, records_had}
+use Rattle.rel_records.proofs.lemmas.growth.Grows.{had-of, count-is}
 use Rattle.script_lines.specs.Lines.{lines}
-use Rattle.keeper_commands.proofs.Composed.{count-is, had-is}
 use Rattle.keeper_commands.proofs.LastOnes.{lines-numbers, ones-greatest, stored-ones}
 use Rattle.keeper_commands.proofs.OneStored.{grown-none}
 use Rattle.keeper_commands.proofs.Reached.{so-there}
@@ -81,7 +81,7 @@ module _ {D W : Type 0} (S : History D) (image name text : List ℕ) (a b : D) (
     -- where those that count were so already nothing was written
     none-written : AreSo (record_length it.0.slot) (records (S.image a) it.0) (last_ones xs) → WritesNothing S a d
     none-written so =
-        let had = had-is (S.image a) clean.0 (entry_of v) it.0 v it.2 in
+        let had = had-of (S.image a) clean.0 (entry_of v) it.0 v it.2 in
         let there = so-there (record_length it.0.slot) (records (S.image a) it.0) (last_ones xs) so in
         let few : greatest xs ≤ records_had it.0 =
         omega (arith, there, ones-greatest xs, count-is (S.image a) it.0) in

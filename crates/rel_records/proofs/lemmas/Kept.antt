@@ -1,42 +1,28 @@
 -- What calls on one file leave of the others, from call to call.
-use Rattle.std.proofs.lemmas.Bool.Decides.{nat_tests}
 use Rattle.std.proofs.Common.{
-  Bool,
-  true,
-  false,
   List,
-  [],
   Some,
   ap,
   append-nil,
   arith,
-  cond,
   inl,
   inr,
   length,
-  map,
-  not,
   refl,
   subst,
   sym,
   ℕ,
-  suc,
-  ◌&&◌,
-  ◌++◌,
-  ◌+◌,
   ◌<◌,
   ◌≤◌,
   ◌∙◌,
-  ◌∷◌,
   ◌≡◌,
   ◌≢◌,
   ◌⊎◌,
 }
-use Rattle.std.specs.Prelude.{slice_get, nat_eq}
-use Rattle.d64_image.specs.Images.{Image, Sector, sector}
+use Rattle.std.specs.Prelude.{slice_get}
+use Rattle.d64_image.specs.Images.{Image}
 use Rattle.disk_layout.specs.Layout.{File, IsLayout, Layout, file_owns}
 use Rattle.disk_layout.specs.Records.{records}
-use Rattle.disk_layout.specs.Rest.{kept_of, others}
 use Rattle.rel_records.specs.File.{IsFileOf}
 use Rattle.rel_records.specs.Others.{HasRecords, KeepsOthers, KeepsPlaces, KeepsRelFiles, LeavesRecords}
 use Rattle.rel_records.specs.Written.{IsGrowingBy}
@@ -157,36 +143,3 @@ pub growing_same : (img : Image) (l : Layout) (n : ℕ) (f : File) (v : RelFile)
 growing_same img l n f v m of =
     let P : List (List ℕ) → Type 0 = HasRecords img img l n in
     (0, omega arith, subst P (sym (append-nil (records img f))) (has_same img l n f v of))
-
--- the rest of the disk beside two files, of which one may change
-kept-same : (a b : Image) (f g : File) → f ≡ g → map (sector b) f.blocks ≡ map (sector a) f.blocks
-    → kept_of b g ≡ kept_of a f
-kept-same a b f g e bytes =
-    let P : File → Type 0 = λ x. kept_of b x ≡ kept_of a f in
-    subst P e (ap (λ (bs : List Sector). record (kept_of a f) { bytes = bs }) bytes)
-
-one-kept : (a b : Image) (f g : File) (fs gs : List File) (t : Bool) → (t ≡ true → kept_of b g ≡ kept_of a f)
-    → map (kept_of b) gs ≡ map (kept_of a) fs → map (kept_of b) (cond t (g ∷ []) [] ++ gs) ≡ map (kept_of a)
-    (cond t (f ∷ []) [] ++ fs)
-one-kept a b f g fs gs true here rest = let one = here refl in cc
-one-kept a b f g fs gs false here rest = rest
-
-pub others-kept : (a b : Image) (x y i : ℕ) (fs gs : List File) → length gs ≡ length fs
-    → ((k : ℕ) (f : File) → i + k ≢ x → i + k ≢ y → slice_get fs k ≡ Some f → (slice_get gs k ≡ Some f)
-    × (map (sector b) f.blocks ≡ map (sector a) f.blocks))
-    → map (kept_of b) (others x y i gs) ≡ map (kept_of a) (others x y i fs)
-others-kept a b x y i [] [] long h = refl
-others-kept a b x y i [] (g ∷ gs) long h = cc
-others-kept a b x y i (f ∷ fs) [] long h = cc
-others-kept a b x y i (f ∷ fs) (g ∷ gs) long h =
-    one-kept a b f g (others x y (suc i) fs) (others x y (suc i) gs) (not (nat_eq i x) && not (nat_eq i y)) here
-    (others-kept a b x y (suc i) fs gs (omega (arith, long)) (λ k f' ne nf at. h (suc k) f' (λ e. ne (omega (arith, e)))
-    (λ e. nf (omega (arith, e))) at))
-  where
-    here : (not (nat_eq i x) && not (nat_eq i y)) ≡ true → kept_of b g ≡ kept_of a f
-    here t =
-        let ne : i ≢ x = grind (arith, nat_tests) in
-        let nf : i ≢ y = grind (arith, nat_tests) in
-        let both = h 0 f (λ e. ne (omega (arith, e))) (λ e. nf (omega (arith, e))) refl in
-        let e : g ≡ f = cc in
-        kept-same a b f g (sym e) both.1

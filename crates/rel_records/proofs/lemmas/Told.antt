@@ -25,10 +25,6 @@ pub if-then : {T E : Type 0} (r : Result T E) (P : T → Type 0) (Q : Type 0) �
 if-then (Ok x) P Q f h = f x h
 if-then (Err e) P Q f h = tt
 
-pub if-so : {T E : Type 0} (r : Result T E) (P Q : T → Type 0) → ((x : T) → P x → Q x) → IfOk r P → IfOk r Q
-if-so (Ok x) P Q f h = f x h
-if-so (Err e) P Q f h = tt
-
 -- the fault is the one that is passed on
 pub fault-is : {T E : Type 0} (r : Result T E) (Q : E → Type 0) → IsErrAnd r Q → (P : E → Type 0)
     → ((e : E) → Q e → P e) → IfErr r P
@@ -69,11 +65,6 @@ exists-not-full e = cc
 
 pub device-not-found : {X : Type 0} (e : RelFault) → e ≡ Device → e ≡ NotFound → X
 device-not-found e is other = cc
-
--- what holds of each such fault
-pub weaker-fault : {T E : Type 0} (r : Result T E) (P Q : E → Type 0) → ((e : E) → P e → Q e) → IfErr r P → IfErr r Q
-weaker-fault (Ok x) P Q f h = tt
-weaker-fault (Err e) P Q f h = f e h
 
 pub too-large-not-full : {X : Type 0} → TooLarge ≡ Full → X
 too-large-not-full e = cc

@@ -1,6 +1,5 @@
 -- The directory's sectors, read one after another.
 use Rattle.std.proofs.Common.{
-  Bool,
   List,
   [],
   append-nil,
@@ -29,9 +28,8 @@ use Rattle.std.proofs.Common.{
   ◌≢◌,
   ◌≤◌,
   ◌⊎◌,
-  ◌||◌,
 }
-use Rattle.std.proofs.lemmas.Bool.{false≢true}
+use Rattle.std.proofs.lemmas.Bool.{false≢true, or_cases, ne_eqb}
 use Rattle.std.proofs.lemmas.Bool.Decides.{Decides-eqb}
 use Rattle.std.proofs.lemmas.Grind.{flat_map-append}
 use Rattle.std.proofs.lemmas.List.Elements.{filter-append}
@@ -77,15 +75,11 @@ rank-below p h =
 same-rank : (p q : Place) → IsDirectoryPlace p → IsDirectoryPlace q → rank p ≡ rank q → p ≡ q
 same-rank p q a b e = same_place p q (a.0 ∙ sym b.0) (omega (arith, e, from_1 p a, from_1 q b))
 
-not-eqb : (b : Bool) (P : Type 0) → (b ≡ true → P) → ¬ P → b ≡ false
-not-eqb true P h n = absurd (n (h refl))
-not-eqb false P h n = refl
-
 differ : (p : Place) (ps : List Place) → IsDirectoryPlace p → AllByRecursion IsDirectoryPlace ps → ¬ (Contains ps p)
     → AllByRecursion (λ y. eqb (rank p) y ≡ false) (map rank ps)
 differ p [] h all n = tt
 differ p (q ∷ ps) h all n = (
-  not-eqb (eqb (rank p) (rank q)) (rank p ≡ rank q) (Decides-eqb (rank p) (rank q)).0 (λ e. let s : p ≡ q =
+  ne_eqb (rank p) (rank q) (λ e. let s : p ≡ q =
       same-rank p q h all.0 e in n (rw s (Contains-here q ps))),
   differ p ps h all.1 (λ c. n (Contains-there p q ps c)),
 )
@@ -95,14 +89,10 @@ unfolding IsDistinct
 distinct [] once all = tt
 distinct (p ∷ ps) once all = (differ p ps all.0 all.1 once.0, distinct ps once.1 all.1)
 
-or-cases : (a b : Bool) → (a || b) ≡ true → (a ≡ true) ⊎ (b ≡ true)
-or-cases true b h = inl refl
-or-cases false b h = inr h
-
 below : (ps : List Place) → AllByRecursion IsDirectoryPlace ps → (q : ℕ) → list_any (eqb q) (map rank ps) ≡ true
     → q < 18
 below [] all q h = absurd (false≢true h)
-below (p ∷ ps) all q h = step (below ps all.1 q) (or-cases (eqb q (rank p)) (list_any (eqb q) (map rank ps)) h)
+below (p ∷ ps) all q h = step (below ps all.1 q) (or_cases (eqb q (rank p)) (list_any (eqb q) (map rank ps)) h)
   where
     step : (list_any (eqb q) (map rank ps) ≡ true → q < 18) → (eqb q (rank p) ≡ true)
         ⊎ (list_any (eqb q) (map rank ps) ≡ true) → q < 18
@@ -117,6 +107,17 @@ length-ranks (p ∷ ps) = ap suc (length-ranks ps)
 pub directory-few : (ps : List Place) → EachOnce ps → AllByRecursion IsDirectoryPlace ps → length ps ≤ 18
 directory-few ps once all =
     omega (arith, length-ranks ps, length-le_from_distinct_below (map rank ps) 18 (distinct ps once all) (below ps all))
+
+pub directory-places : (ps : List Place) → AllByRecursion (λ p. p.track ≡ 18) ps → ¬ (Contains ps map_place)
+    → AllByRecursion IsDirectoryPlace ps
+directory-places [] on off = tt
+directory-places (p ∷ ps) on off = (
+  (on.0, λ e. off (rw e (Contains-here map_place ps))),
+  directory-places ps on.1 (λ c. off (Contains-there map_place p ps c)),
+)
+
+pub few-sectors : (img : Image) (ps : List Place) (es : List Slot) → IsDirectory img ps es → length ps ≤ 18
+few-sectors img ps es d = directory-few ps d.chain.once (directory-places ps d.on_track d.not_map)
 
 -- the links of the directory lead through these sectors, each of them once and each one that a directory may have, to p
 pub record IsReached (img : Image) (before : List Place) (p : Place) : Type 0 where

@@ -35,7 +35,7 @@ use Rattle.d64_image.proofs.Images.{sector-put_same}
 use Rattle.d64_image.specs.Images.{Image, put, sector}
 use Rattle.d64_image.specs.declared.place.Place.{Place}
 use Rattle.disk_layout.proofs.lemmas.chains.Chains.{cons_both}
-use Rattle.disk_layout.proofs.lemmas.counts.Slots.{slots_at}
+use Rattle.disk_layout.proofs.lemmas.counts.Slots.{slots_at, slots-eight}
 use Rattle.disk_layout.proofs.lemmas.layouts.Frames.{unless-same, used_slots-frame}
 use Rattle.disk_layout.proofs.lemmas.lists.Once.{
   Contains-cases,
@@ -110,10 +110,6 @@ slot-get p bytes (suc (suc (suc (suc (suc zero))))) h = refl
 slot-get p bytes (suc (suc (suc (suc (suc (suc zero)))))) h = refl
 slot-get p bytes (suc (suc (suc (suc (suc (suc (suc zero))))))) h = refl
 slot-get p bytes (suc (suc (suc (suc (suc (suc (suc (suc n)))))))) h = absurd (omega arith)
-
-slots-eight : (p : Place) (bytes : List ℕ) → length (slots_in p bytes) ≡ 8
-unfolding slots_in
-slots-eight p bytes = refl
 
 -- a slot among them is the one of its number
 pub slot-number : (p : Place) (bytes : List ℕ) (s : Slot) → Contains (slots_in p bytes) s → (s.number < 8)

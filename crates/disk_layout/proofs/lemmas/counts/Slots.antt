@@ -45,15 +45,15 @@ slots_at p bytes (suc (suc (suc (suc (suc (suc zero)))))) d h = refl
 slots_at p bytes (suc (suc (suc (suc (suc (suc (suc zero))))))) d h = refl
 slots_at p bytes (suc (suc (suc (suc (suc (suc (suc (suc n)))))))) d h = absurd (omega arith)
 
-slots_long : (p : Place) (bytes : List ℕ) → length (slots_in p bytes) ≡ 8
+pub slots-eight : (p : Place) (bytes : List ℕ) → length (slots_in p bytes) ≡ 8
 unfolding slots_in
-slots_long p bytes = refl
+slots-eight p bytes = refl
 
 slots_more : (p : Place) (bytes : List ℕ) (n : ℕ) → n < 8 → take (n + 1) (slots_in p bytes) ≡ take n (slots_in p bytes)
     ++ slot_in p bytes n ∷ []
 slots_more p bytes n h =
     let d = slot_in p bytes n in
-    let lt : n < length (slots_in p bytes) = omega (arith, slots_long p bytes) in
+    let lt : n < length (slots_in p bytes) = omega (arith, slots-eight p bytes) in
     take_more (slots_in p bytes) n d lt ∙ ap (λ s. take n (slots_in p bytes) ++ s ∷ []) (slots_at p bytes n d h)
 
 used_more : (p : Place) (bytes : List ℕ) (n : ℕ) → n < 8 → filter is_used (take (n + 1) (slots_in p bytes))
@@ -84,4 +84,4 @@ skip-free old now p bytes n h e free = e
     (drops (slot_in p bytes n) free) ∙ append-nil (filter is_used (take n (slots_in p bytes)))))
 
 pub all-slots : (p : Place) (bytes : List ℕ) → take 8 (slots_in p bytes) ≡ slots_in p bytes
-all-slots p bytes = take_all 8 (slots_in p bytes) (omega (arith, slots_long p bytes))
+all-slots p bytes = take_all 8 (slots_in p bytes) (omega (arith, slots-eight p bytes))

@@ -10,7 +10,6 @@ use Rattle.std.proofs.Common.{
   inr,
   length,
   length-append,
-  map,
   max,
   refl,
   slice_index,
@@ -32,8 +31,7 @@ use Rattle.std.proofs.Math.Nat.{lt-div-mul-add, mul-div_cancel}
 use Rattle.std.proofs.lemmas.Bool.{cases_lt}
 use Rattle.std.proofs.lemmas.Bool.Decides.{nat_tests}
 use Rattle.std.proofs.lemmas.Grind.{flat_map-append}
-use Rattle.std.proofs.lemmas.List.Elements.{Contains-append_left, Contains-append_right}
-use Rattle.std.specs.Prelude.{Contains, Some, flat_map, replicate, slice_get, ◌/◌}
+use Rattle.std.specs.Prelude.{Some, replicate, slice_get, ◌/◌}
 use Rattle.d64_image.proofs.Images.{sector-put_other, sector-put_same}
 use Rattle.d64_image.specs.Images.{Image, IsImage, Sector, put, sector}
 use Rattle.d64_image.specs.declared.place.Place.{Place}
@@ -42,11 +40,10 @@ use Rattle.disk_layout.proofs.lemmas.growth.SideWrites.{get-append}
 use Rattle.disk_layout.proofs.lemmas.layouts.Layouts.{get-contains}
 use Rattle.disk_layout.proofs.lemmas.lists.Once.{Contains-here, EachOnce-apart}
 use Rattle.disk_layout.proofs.lemmas.records.Fillers.{pieces-fill}
-use Rattle.disk_layout.proofs.lemmas.records.Joined.{file-kept, joined-at, joined-block, length-joined}
+use Rattle.disk_layout.proofs.lemmas.records.Joined.{joined-at, joined-block, length-joined}
 use Rattle.disk_layout.specs.Chain.{EachOnce}
-use Rattle.disk_layout.specs.Layout.{File, file_owns, record_length}
+use Rattle.disk_layout.specs.Layout.{File, record_length}
 use Rattle.disk_layout.specs.Records.{IsFilled, empty_record, filler, joined, record_count, records}
-use Rattle.disk_layout.specs.Rest.{kept_of}
 
 pub joined-append : (img : Image) (ps qs : List Place) → joined img (ps ++ qs) ≡ joined img ps ++ joined img qs
 unfolding joined
@@ -156,14 +153,3 @@ count-full n u L total pos few e last =
     let more : 254 * (n + 1) < total * L + L = rw e above in
     let top : 254 * ((n + 1) - 1) + max u 1 - 1 ≡ total * L = grind (arith, nat_tests) in
     rw top (mul-div_cancel total pos)
-
--- files that do not own the sector keep all that is asked to stay, and their records
-pub files-kept : (img : Image) (p : Place) (b : List ℕ) (fs : List File) → ¬ (Contains (flat_map file_owns fs) p)
-    → map (kept_of (put img p b)) fs ≡ map (kept_of img) fs
-files-kept img p b [] free = refl
-files-kept img p b (f ∷ fs) free =
-    let here = file-kept img f p b
-    (λ c. free (Contains-append_left (file_owns f) (flat_map file_owns fs) p
-    (Contains-append_left f.blocks f.sides p c))) in
-    let rest = files-kept img p b fs (λ c. free (Contains-append_right (file_owns f) (flat_map file_owns fs) p c)) in
-    cc

@@ -1,5 +1,5 @@
 -- What is asked to stay of files decides their names and their records, the first of a name, and how far it can grow.
-use Rattle.std.proofs.Common.{ℕ, ◌≡◌, ◌<◌, ◌+◌, List, [], ◌∷◌, ◌++◌, length, drop, map, refl, sym, ◌∙◌, ap, subst}
+use Rattle.std.proofs.Common.{ℕ, ◌≡◌, ◌<◌, ◌+◌, List, [], ◌∷◌, ◌++◌, length, drop, map, sym, ◌∙◌, ap, subst}
 use Rattle.std.proofs.Common.{IsTrue, ◌||◌, take, slice_index, slice_range, arith}
 use Rattle.std.specs.Prelude.{Some, flat_map, nat_eq, slice_get}
 use Rattle.std.proofs.lemmas.List.{drop-drop, drop-take, get_or-drop, get_or-take}
@@ -16,7 +16,7 @@ use Rattle.disk_layout.specs.Rest.{IsFirst, IsNamed, Kept, kept_of}
 use Rattle.disk_layout.specs.Same.{Stays, stays_of}
 
 -- the joined bytes of a chain, from its sectors
-joined-sectors : (img : Image) (ps : List Place) → joined img ps ≡ flat_map (drop 2) (map (sector img) ps)
+pub joined-sectors : (img : Image) (ps : List Place) → joined img ps ≡ flat_map (drop 2) (map (sector img) ps)
 joined-sectors img [] = joined-nil img
 joined-sectors img (p ∷ ps) = joined-cons img p ps
     ∙ ap (λ (xs : List ℕ). drop 2 (sector img p) ++ xs) (joined-sectors img ps)
@@ -54,7 +54,7 @@ first-kept l m name n f g same there h =
     }
 
 -- a byte of an entry that stays
-entry-byte : (xs : List ℕ) (i : ℕ) → i < 28 → slice_index (slice_range xs 2 30) i ≡ slice_index xs (2 + i)
+pub entry-byte : (xs : List ℕ) (i : ℕ) → i < 28 → slice_index (slice_range xs 2 30) i ≡ slice_index xs (2 + i)
 entry-byte xs i lt = get_or-take 28 (drop 2 xs) i 0 lt ∙ get_or-drop 2 xs i 0
 
 entry-name : (xs : List ℕ) → slice_range (slice_range xs 2 30) 3 19 ≡ slice_range xs 5 21
@@ -85,7 +85,3 @@ kept-stayed a f = λ i. record {
 
 pub kept-of_stays : (a b : Image) (f g : File) → stays_of a f ≡ stays_of b g → kept_of a f ≡ kept_of b g
 kept-of_stays a b f g e = kept-stayed a f ∙ ap stayed e ∙ sym (kept-stayed b g)
-
-kept-map : (a : Image) (fs : List File) → map (kept_of a) fs ≡ map stayed (map (stays_of a) fs)
-kept-map a [] = refl
-kept-map a (f ∷ fs) = let here = kept-stayed a f in let rest = kept-map a fs in cc

@@ -29,11 +29,10 @@ use Rattle.disk_layout.proofs.lemmas.lists.Once.{Contains-here, Contains-there, 
 use Rattle.disk_layout.proofs.lemmas.records.Joined.{joined-cons, joined-nil}
 use Rattle.disk_layout.specs.Chain.{byte}
 use Rattle.disk_layout.specs.Clean.{IsCleanLayout, IsExactFile}
-use Rattle.disk_layout.specs.Directory.{map_place, type_byte}
+use Rattle.disk_layout.specs.Directory.{map_place}
 use Rattle.disk_layout.specs.Layout.{File, IsLayout, Layout, file_owns, is_rel, owners, record_length}
 use Rattle.disk_layout.specs.Map.{IsMapOf}
 use Rattle.disk_layout.specs.Records.{joined, pieces, record_count, records}
-use Rattle.disk_layout.specs.Rest.{kept_of}
 use Rattle.disk_layout.specs.Same.{stays_of}
 
 -- what is owned by a file of the layout is owned by the layout
@@ -83,17 +82,6 @@ sectors-agree a b (p ∷ ps) same =
     let here = same p (Contains-here p ps) in
     let rest = sectors-agree a b ps (λ q c. same q (Contains-there q p ps c)) in
     cc
-
-pub kept-agree : (a b : Image) (f : File) → AgreeAt a b f.blocks → kept_of a f ≡ kept_of b f
-kept-agree a b f same =
-    ap (λ (bs : List Sector). record {
-      kind = type_byte f.slot;
-      name = slice_range f.slot.bytes 5 21;
-      length = record_length f.slot;
-      blocks = f.blocks;
-      bytes = bs;
-      sides = f.sides;
-    }) (sectors-agree a b f.blocks same)
 
 pub stays-agree : (a b : Image) (f : File) → AgreeAt a b f.blocks → stays_of a f ≡ stays_of b f
 stays-agree a b f same = ap (λ (bs : List Sector). record {

@@ -28,6 +28,7 @@ use Rattle.std.proofs.lemmas.List.{get_or-append_right, length-replicate, take_a
 use Rattle.std.proofs.Math.ListN.{get_or-append}
 use Rattle.d64_image.specs.Images.{Image, sector}
 use Rattle.d64_image.specs.declared.place.Place.{Place}
+use Rattle.disk_layout.proofs.lemmas.lists.Listed.{length-place_bytes}
 use Rattle.disk_layout.proofs.lemmas.lists.Lists.{get-drop, get-take}
 use Rattle.disk_layout.specs.Chain.{Names}
 use Rattle.disk_layout.specs.Layout.{File, IsSide, record_length}
@@ -49,10 +50,6 @@ Names-before xs ys i q lt h =
     let low : i < length xs = omega arith in
     (get_or-append xs ys 0 i low ∙ h.0, get_or-append xs ys 0 (i + 1) lt ∙ h.1)
 
-length-places : (ps : List Place) → length (flat_map place_bytes ps) ≡ 2 * length ps
-length-places [] = refl
-length-places (p ∷ ps) = omega (arith, length-places ps)
-
 pub get-lt : {X : Type 0} (xs : List X) (k : ℕ) (x : X) → slice_get xs k ≡ Some x → k < length xs
 get-lt [] k x e = cc
 get-lt (y ∷ xs) zero x e = omega arith
@@ -70,7 +67,7 @@ padded-at : (n : ℕ) (ps : List Place) (k : ℕ) (q : Place) → slice_get ps k
     → Names (padded n (flat_map place_bytes ps)) (2 * k) q
 unfolding padded
 padded-at n ps k q e = Names-before (flat_map place_bytes ps) _ (2 * k) q
-    (omega (arith, get-lt ps k q e, length-places ps)) (places-at ps k q e)
+    (omega (arith, get-lt ps k q e, length-place_bytes ps)) (places-at ps k q e)
 
 length-padded : (n : ℕ) (xs : List ℕ) → length xs ≤ n → length (padded n xs) ≡ n
 unfolding padded
@@ -148,4 +145,4 @@ exact-side img f j p few e = record {
     la = length-link (slice_get f.sides (j + 1)) _
 
     lc : length C ≡ 12
-    lc = rw six (length-padded 12 (flat_map place_bytes f.sides) (omega (arith, length-places f.sides)))
+    lc = rw six (length-padded 12 (flat_map place_bytes f.sides) (omega (arith, length-place_bytes f.sides)))

@@ -59,7 +59,7 @@ sides-one img f g same blocks r s = same-lists f.sides g.sides (r.count ∙ ap (
         Names-one (sector img q) (4 + 2 * k) x y (rw (← first) ((r.sides 0 p ep).sides k x e))
         ((s.sides 0 q eq).sides k y h)
 
-File-ext : (f g : File) → f.slot ≡ g.slot → f.blocks ≡ g.blocks → f.last ≡ g.last → f.sides ≡ g.sides → f ≡ g
+pub File-ext : (f g : File) → f.slot ≡ g.slot → f.blocks ≡ g.blocks → f.last ≡ g.last → f.sides ≡ g.sides → f ≡ g
 File-ext f g a b c d = λ i. record { slot = a i; blocks = b i; last = c i; sides = d i }
 
 pub IsFile-one : (img : Image) (f g : File) → f.slot ≡ g.slot → IsFile img f → IsFile img g → f ≡ g

@@ -1,28 +1,14 @@
 -- Where a side sector stands among the places of a file.
-use Rattle.std.proofs.Common.{◌≡◌, ℕ, zero, suc, ◌+◌, ◌<◌, List, [], ◌∷◌, length, refl, ap}
+use Rattle.std.proofs.Common.{◌≡◌, ℕ, suc, ◌+◌, ◌<◌, List, [], ◌∷◌, length}
 use Rattle.std.proofs.Common.{arith}
 use Rattle.std.specs.Prelude.{slice_get, Some}
 use Rattle.d64_image.specs.Images.{Image, sector}
 use Rattle.d64_image.specs.declared.place.Place.{Place}
 use Rattle.disk_layout.proofs.lemmas.chains.Chains.{IsChain-one, Names-one}
-use Rattle.disk_layout.proofs.lemmas.layouts.Layouts.{get-contains}
-use Rattle.disk_layout.specs.Chain.{EachOnce, Leads}
+use Rattle.disk_layout.specs.Chain.{Leads}
 use Rattle.disk_layout.specs.Fault.{IsSideSector}
 use Rattle.disk_layout.specs.Layout.{File, IsRelFile}
-
--- an element below the length
-pub get-below : {X : Type 0} (xs : List X) (k : ℕ) → k < length xs → (x : X) × (slice_get xs k ≡ Some x)
-get-below [] k h = absurd (omega arith)
-get-below (x ∷ xs) zero h = (x, refl)
-get-below (x ∷ xs) (suc k) h = get-below xs k (omega arith)
-
-pub get-one : {X : Type 0} (xs : List X) (j k : ℕ) (x : X) → EachOnce xs → slice_get xs j ≡ Some x
-    → slice_get xs k ≡ Some x → j ≡ k
-get-one [] j k x once a b = cc
-get-one (y ∷ xs) zero zero x once a b = refl
-get-one (y ∷ xs) zero (suc k) x once a b = let e : y ≡ x = cc in absurd (once.0 (rw e (get-contains xs k x b)))
-get-one (y ∷ xs) (suc j) zero x once a b = let e : y ≡ x = cc in absurd (once.0 (rw e (get-contains xs j x a)))
-get-one (y ∷ xs) (suc j) (suc k) x once a b = ap suc (get-one xs j k x once.1 a b)
+use Rattle.disk_layout.proofs.lemmas.lists.Lists.{get-some}
 
 -- links from a side sector lead to the later ones
 side-along : (img : Image) (f : File) (vs : List Place) (k : ℕ) (x p : Place) → IsRelFile img f
@@ -30,7 +16,7 @@ side-along : (img : Image) (f : File) (vs : List Place) (k : ℕ) (x p : Place) 
     → slice_get f.sides (k + length vs) ≡ Some p
 side-along img f [] k x p r at h a = let n : k + 0 ≡ k = omega arith in rw (n, ← a) at
 side-along img f (v ∷ vs) k x p r at h (next, same, to, more) =
-    let (y, ey) = get-below f.sides (k + 1) (omega arith) in
+    let (y, ey) = get-some f.sides (k + 1) (omega arith) in
     let one : next ≡ y = Names-one (sector img x) 0 next y (rw (← same) to) ((r.sides k x at).link y ey) in
     let n : k + suc (length vs) ≡ (k + 1) + length vs = omega arith in
     rw n (side-along img f vs (k + 1) next p r (rw one ey) (omega arith) more)
@@ -44,7 +30,7 @@ side-at img f blocks j p r s =
     let same : blocks ≡ f.blocks =
     (IsChain-one img first blocks f.blocks s.last f.last (rw (← start) s.chain) chain).0 in
     let wanted : j < length f.sides = rw (r.count, ← same) s.wanted in
-    let (q, eq) = get-below f.sides 0 (omega arith) in
+    let (q, eq) = get-some f.sides 0 (omega arith) in
     let head : s.first ≡ q = Names-one f.slot.bytes 21 s.first q s.named (r.first_side q eq) in
     let n : 0 + length s.before ≡ j = omega (arith, s.number) in
     (same, rw n at (side-along img f s.before 0 s.first p r (rw head eq) (rw n wanted) s.leads))

@@ -9,6 +9,7 @@ use Rattle.disk_layout.proofs.lemmas.layouts.Layouts.{get-contains}
 use Rattle.disk_layout.proofs.lemmas.layouts.Unsound.{closed-file, has-chain, in-directory, no_bad_length}
 use Rattle.disk_layout.proofs.lemmas.layouts.Unsound.{no_bad_link}
 use Rattle.disk_layout.proofs.lemmas.layouts.Unsound.{no_bad_type, no_loop, no_unclosed, visited-in}
+use Rattle.disk_layout.proofs.lemmas.lists.Lists.{get-some, get-once}
 use Rattle.disk_layout.proofs.lemmas.lists.Once.{Contains-cases, Contains-nil, EachOnce-apart, EachOnce-left}
 use Rattle.disk_layout.proofs.lemmas.lists.Once.{EachOnce-right, flat_map-in}
 use Rattle.disk_layout.specs.Chain.{EachOnce, Names}
@@ -23,7 +24,7 @@ use Rattle.disk_layout.specs.declared.faults.Fault.TheVariants.{BadLength, BadLi
 use Rattle.disk_layout.specs.declared.faults.Fault.TheVariants.{CountWrong}
 use Rattle.disk_layout.specs.declared.faults.Fault.TheVariants.{Device, Loop, MapWrong, OwnedTwice, Unclosed}
 use Rattle.disk_layout.specs.declared.slot.Slot.{Slot}
-use Rattle.disk_layout.proofs.lemmas.layouts.SidesAt.{get-below, get-one, side-at}
+use Rattle.disk_layout.proofs.lemmas.layouts.SidesAt.{side-at}
 
 -- what an owner has in a layout
 abbrev pub Claims : Layout → Owner → Place → Type 0
@@ -50,7 +51,7 @@ claim img l (sides_of s) p h (q, closed, rel, blocks, j, side) =
     (f, c, e, get-contains f.sides j p at)
 
 -- two files that share a place are one
-files-apart : (fs : List File) (f g : File) (p : Place) → EachOnce (flat_map file_owns fs) → Contains fs f
+pub files-apart : (fs : List File) (f g : File) (p : Place) → EachOnce (flat_map file_owns fs) → Contains fs f
     → Contains fs g → Contains (file_owns f) p → Contains (file_owns g) p → f ≡ g
 files-apart [] f g p once cf cg a b = absurd (Contains-nil f cf)
 files-apart (h ∷ fs) f g p once cf cg a b =
@@ -67,7 +68,8 @@ files-apart (h ∷ fs) f g p once cf cg a b =
       ]
     ]
 
-file-once : (fs : List File) (f : File) → EachOnce (flat_map file_owns fs) → Contains fs f → EachOnce (file_owns f)
+-- a file owns no sector twice
+pub file-once : (fs : List File) (f : File) → EachOnce (flat_map file_owns fs) → Contains fs f → EachOnce (file_owns f)
 file-once [] f once c = absurd (Contains-nil f c)
 file-once (h ∷ fs) f once c = elim (Contains-cases f h fs c) [
   | inl e ↦ rw (← e) (EachOnce-left (file_owns h) (flat_map file_owns fs) once)
@@ -148,7 +150,7 @@ no_owned_twice img p (inr (q, s, closed, rel, blocks, j, k, ne, x, y)) (l, h) =
     let r = file.rel (rw e rel) in
     let (same, at) = side-at img f blocks j p r (at-slot img f.slot s blocks j p e x) in
     let (also, there) = side-at img f blocks k p r (at-slot img f.slot s blocks k p e y) in
-    ne (get-one f.sides j k p (EachOnce-right f.blocks f.sides (file-once l.files f (files_once l h) c)) at there)
+    ne (get-once f.sides j k p (EachOnce-right f.blocks f.sides (file-once l.files f (files_once l h) c)) at there)
   where
     files_once : (l : Layout) → IsLayout img l → EachOnce (flat_map file_owns l.files)
     files_once l h = EachOnce-right l.directory (flat_map file_owns l.files) h.once.1
@@ -169,7 +171,7 @@ no_bad_side img p (inl (s, closed, rel, none)) (l, h) =
   where
     missing : (f : File) → f.slot ≡ s → IsRelFile img f → ⊥
     missing f e r =
-        let (q, eq) = get-below f.sides 0 (some-side img f r) in
+        let (q, eq) = get-some f.sides 0 (some-side img f r) in
         none q (moved f.slot s q e (r.first_side q eq))
 no_bad_side img p (inr (q, s, closed, rel, blocks, j, side, bad)) (l, h) =
     let (f, c, e, file) = closed-file img l q s h closed in
@@ -183,7 +185,7 @@ no_bad_side img p (inr (q, s, closed, rel, blocks, j, side, bad)) (l, h) =
     wrong f e r same good (number n) = n good.number
     wrong f e r same good (length_byte n) = n (good.length_byte ∙ ap record_length e)
     wrong f e r same good (link more none) =
-        let (y, ey) = get-below f.sides (j + 1) (rw (r.count, ← same) more) in
+        let (y, ey) = get-some f.sides (j + 1) (rw (r.count, ← same) more) in
         none y (good.link y ey)
     wrong f e r same good (listed k y side' n) =
         n (good.sides k y (side-at img f blocks k y r (at-slot img f.slot s blocks k y e side')).1)

@@ -8,10 +8,8 @@ use Rattle.std.proofs.Common.{
   ◌⊎◌,
   inl,
   inr,
-  Bool,
   true,
   false,
-  ◌||◌,
   List,
   [],
   ◌∷◌,
@@ -24,7 +22,7 @@ use Rattle.std.proofs.Common.{
 }
 use Rattle.std.specs.Prelude.{Contains}
 use Rattle.std.specs.List.{AllByRecursion, IsDistinct, list_any}
-use Rattle.std.proofs.lemmas.Bool.{false≢true}
+use Rattle.std.proofs.lemmas.Bool.{false≢true, or_cases, ne_eqb}
 use Rattle.std.proofs.lemmas.Bool.Decides.{Decides-eqb}
 use Rattle.std.proofs.lemmas.Map.Steps.{length-le_from_distinct_below}
 use Rattle.d64_image.proofs.Places.{index_below, same_index}
@@ -33,15 +31,11 @@ use Rattle.d64_image.specs.declared.place.Place.{Place}
 use Rattle.disk_layout.proofs.lemmas.lists.Once.{Contains-here, Contains-there}
 use Rattle.disk_layout.specs.Chain.{EachOnce}
 
-not-eqb : (b : Bool) (P : Type 0) → (b ≡ true → P) → ¬ P → b ≡ false
-not-eqb true P h n = absurd (n (h refl))
-not-eqb false P h n = refl
-
 differ : (p : Place) (ps : List Place) → ¬ (Contains ps p)
     → AllByRecursion (λ y. eqb (index_of p) y ≡ false) (map index_of ps)
 differ p [] n = tt
 differ p (q ∷ ps) n = (
-  not-eqb (eqb (index_of p) (index_of q)) (index_of p ≡ index_of q) (Decides-eqb (index_of p) (index_of q)).0
+  ne_eqb (index_of p) (index_of q)
       (λ e. let s : p ≡ q = same_index p q e in n (rw s (Contains-here q ps))),
   differ p ps (λ c. n (Contains-there p q ps c)),
 )
@@ -51,13 +45,9 @@ unfolding IsDistinct
 distinct [] once = tt
 distinct (p ∷ ps) once = (differ p ps once.0, distinct ps once.1)
 
-or-cases : (a b : Bool) → (a || b) ≡ true → (a ≡ true) ⊎ (b ≡ true)
-or-cases true b h = inl refl
-or-cases false b h = inr h
-
 below : (ps : List Place) (q : ℕ) → list_any (eqb q) (map index_of ps) ≡ true → q < 683
 below [] q h = absurd (false≢true h)
-below (p ∷ ps) q h = step (below ps q) (or-cases (eqb q (index_of p)) (list_any (eqb q) (map index_of ps)) h)
+below (p ∷ ps) q h = step (below ps q) (or_cases (eqb q (index_of p)) (list_any (eqb q) (map index_of ps)) h)
   where
     step : (list_any (eqb q) (map index_of ps) ≡ true → q < 683) → (eqb q (index_of p) ≡ true)
         ⊎ (list_any (eqb q) (map index_of ps) ≡ true) → q < 683

@@ -86,14 +86,6 @@ written-step bytes now at ps i p room lt is e =
     ∙ ap (λ t. take at bytes ++ t) (sym (append_assoc (flat_map place_bytes (take i ps)) (place_bytes p) new))
     ∙ ap (λ t. take at bytes ++ (t ++ new)) (sym more)
 
-pub written-all : (bytes : List ℕ) (at i : ℕ) (ps : List Place) → length ps ≤ i → i ≤ length ps
-    → written bytes at ps i ≡ take at bytes ++ (flat_map place_bytes ps ++ drop (at + 2 * length ps) bytes)
-written-all bytes at i ps lo hi =
-    let e : i ≡ length ps = omega (arith, lo, hi) in
-    ap (λ n. written bytes at ps n) e
-    ∙ ap (λ qs. take at bytes ++ (flat_map place_bytes qs ++ drop (at + 2 * length ps) bytes))
-    (take_all (length ps) ps (omega arith))
-
 -- a list written behind a front that zeros follow
 pub put-front : (front xs : List ℕ) (m at a : ℕ) → at ≡ length front → a ≡ length xs
     → take at (front ++ replicate m 0) ++ (xs ++ drop (at + a) (front ++ replicate m 0)) ≡ front

@@ -1,7 +1,6 @@
 -- Lists: their parts, their elements by index, and what is made of each element.
 use Rattle.std.proofs.Common.{
   ◌≡◌,
-  ◌≢◌,
   ◌<◌,
   ◌≤◌,
   ◌+◌,
@@ -30,10 +29,12 @@ use Rattle.std.proofs.Common.{
   ap,
   arith,
   length-append,
+  get_or,
+  ◌⊎◌,
 }
 use Rattle.std.specs.Prelude.{Contains, cond, filter, option_map, slice_get}
 use Rattle.std.specs.List.{AllByRecursion}
-use Rattle.std.proofs.lemmas.Option.{slice_get-get_or, slice_get-map}
+use Rattle.std.proofs.lemmas.Option.{slice_get-get_or, slice_get-map, slice_get_read}
 use Rattle.disk_layout.proofs.lemmas.counts.Recount.{filter-out}
 use Rattle.disk_layout.proofs.lemmas.layouts.Layouts.{get-contains}
 use Rattle.disk_layout.proofs.lemmas.lists.Once.{Contains-cases, Contains-here, Contains-nil, Contains-there}
@@ -60,6 +61,11 @@ get-some [] k h = absurd (omega arith)
 get-some (x ∷ xs) zero h = (x, refl)
 get-some (x ∷ xs) (suc k) h = get-some xs k (omega arith)
 
+-- the element that is read is the one there
+pub read-there : {X : Type 0} (xs : List X) (n : ℕ) (x : X) → n < length xs → x ≡ get_or xs n x
+    → slice_get xs n ≡ Some x
+read-there xs n x lt e = slice_get_read xs (length xs) n x refl lt e
+
 -- an element of a part
 pub get-drop : {X : Type 0} (xs : List X) (a k : ℕ) → slice_get (drop a xs) k ≡ slice_get xs (a + k)
 get-drop [] zero k = refl
@@ -72,6 +78,14 @@ get-take xs zero k h = absurd (omega arith)
 get-take [] (suc n) k h = refl
 get-take (x ∷ xs) (suc n) zero h = refl
 get-take (x ∷ xs) (suc n) (suc k) h = get-take xs n k (omega arith)
+
+-- an element of a list with one more at the end
+pub get-push : {X : Type 0} (xs : List X) (x : X) (k : ℕ) (y : X) → slice_get (xs ++ x ∷ []) k ≡ Some y
+    → (slice_get xs k ≡ Some y) ⊎ ((k ≡ length xs) × (x ≡ y))
+get-push [] x zero y h = inr (refl, cc)
+get-push [] x (suc k) y h = cc
+get-push (z ∷ xs) x zero y h = inl h
+get-push (z ∷ xs) x (suc k) y h = elim (get-push xs x k y h) [ inl e ↦ inl e | inr e ↦ inr (ap suc e.0, e.1) ]
 
 -- what stands before an element, and behind it
 pub split-get : {X : Type 0} (xs : List X) (k : ℕ) (x : X) → slice_get xs k ≡ Some x → (before : List X)
@@ -93,14 +107,6 @@ get-once (y ∷ xs) zero zero x once a b = refl
 get-once (y ∷ xs) zero (suc j) x once a b = let s : y ≡ x = cc in absurd (once.0 (rw s (get-contains xs j x b)))
 get-once (y ∷ xs) (suc i) zero x once a b = let s : y ≡ x = cc in absurd (once.0 (rw s (get-contains xs i x a)))
 get-once (y ∷ xs) (suc i) (suc j) x once a b = ap suc (get-once xs i j x once.1 a b)
-
--- an element of a list with another in the place of one
-pub get-exchanged : {X : Type 0} (xs ys : List X) (x y : X) (k : ℕ) → k ≢ length xs
-    → slice_get (xs ++ x ∷ ys) k ≡ slice_get (xs ++ y ∷ ys) k
-get-exchanged [] ys x y zero ne = absurd (ne refl)
-get-exchanged [] ys x y (suc k) ne = refl
-get-exchanged (z ∷ xs) ys x y zero ne = refl
-get-exchanged (z ∷ xs) ys x y (suc k) ne = get-exchanged xs ys x y k (λ e. ne (ap suc e))
 
 -- where each element has its number, no two are equal
 pub numbered-once : {X : Type 0} (f : X → ℕ) (n : ℕ) (xs : List X) → ((k : ℕ) (x : X) → slice_get xs k ≡ Some x

@@ -30,20 +30,14 @@ use Rattle.std.proofs.Common.{
   min,
 }
 use Rattle.std.proofs.lemmas.Bool.{cases_eq}
-use Rattle.std.proofs.lemmas.Bool.Decides.{nat_tests}
 use Rattle.std.proofs.lemmas.Grind.{same_number_lists}
 use Rattle.std.proofs.lemmas.List.{get_or-drop, get_or-take, length-drop, length-set, length-take}
 use Rattle.std.proofs.lemmas.Nat.Bits.{bit_at-lt, bit_at-pow_other, bit_at-pow_same, bit_at_xor}
 use Rattle.std.specs.Int.{bit_at}
 use Rattle.std.specs.Prelude.{◌^◌, ◌%◌, ◌/◌}
-use Rattle.d64_image.proofs.Places.{track_fits, track_from_1}
-use Rattle.d64_image.specs.Geometry.{sectors_on}
+use Rattle.d64_image.proofs.Places.{track_fits, track_from_1, few_sectors}
 use Rattle.d64_image.specs.declared.place.Place.{Place}
 use Rattle.disk_layout.specs.Map.{IsFree, IsGiven, IsSameBut, IsTaken, map_bit, map_count}
-
--- a track has at most 21 sectors
-pub few_sectors : (t : ℕ) → sectors_on t ≤ 21
-few_sectors t = grind (arith, nat_tests)
 
 -- `1 << k` at eight bits
 pow-small : (k : ℕ) → k < 8 → 1 * 2 ^ k % 256 ≡ 2 ^ k

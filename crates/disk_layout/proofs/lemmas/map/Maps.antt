@@ -2,11 +2,10 @@
 use Rattle.std.proofs.Common.{List, ap, arith, inl, inr, sym, ℕ, ◌+◌, ◌<◌, ◌∙◌, ◌≡◌, ◌≢◌, ◌≤◌, ◌⊎◌}
 use Rattle.std.proofs.lemmas.Bool.{cases_eq}
 use Rattle.std.specs.Prelude.{Contains, sum_by, ◌↔◌}
-use Rattle.d64_image.proofs.Places.{same_or_other, same_place}
+use Rattle.d64_image.proofs.Places.{same_or_other, same_place, few_sectors}
 use Rattle.d64_image.specs.Geometry.{sectors_on}
 use Rattle.d64_image.specs.declared.place.Place.{Place}
 use Rattle.disk_layout.proofs.lemmas.lists.Sums.{sum-less, sum-same}
-use Rattle.disk_layout.proofs.lemmas.map.Bits.{few_sectors}
 use Rattle.disk_layout.specs.Map.{IsFree, IsMapOf, IsTaken, map_bit, map_count, numbers_below}
 
 apart-place : (p q : Place) → p ≢ q → (q.track ≢ p.track) ⊎ (q.sector ≢ p.sector)

@@ -32,7 +32,7 @@ use Rattle.std.proofs.Common.{
   length-append,
   length-drop,
 }
-use Rattle.std.specs.Prelude.{map, slice_range, Contains, slice_get, Some}
+use Rattle.std.specs.Prelude.{Contains, slice_get, Some}
 use Rattle.std.proofs.lemmas.Bool.{cases_lt}
 use Rattle.std.proofs.lemmas.List.{get_or-drop, get_or-append_right}
 use Rattle.std.proofs.Math.ListN.{get_or-append}
@@ -44,10 +44,8 @@ use Rattle.disk_layout.proofs.lemmas.layouts.Layouts.{get-contains}
 use Rattle.disk_layout.proofs.lemmas.lists.Once.{Contains-here, Contains-there}
 use Rattle.disk_layout.proofs.lemmas.records.Pieces.{piece, pieces-write}
 use Rattle.disk_layout.specs.Chain.{EachOnce, byte}
-use Rattle.disk_layout.specs.Directory.{type_byte}
 use Rattle.disk_layout.specs.Layout.{File, record_length}
 use Rattle.disk_layout.specs.Records.{joined, record_count, records}
-use Rattle.disk_layout.specs.Rest.{kept_of}
 
 pub sector-long : (img : Image) (p : Place) → IsImage img → length (sector img p) ≡ 256
 sector-long img p w = (is_sector img p w).size
@@ -172,26 +170,3 @@ records-write img f r k p b w v once at below fit same =
         | inr c ↦ sym (joined-block img f.blocks r p b w v once at i (inr c))
       ]
     ]
-
-sectors-kept : (img : Image) (ps : List Place) (p : Place) (b : List ℕ) → ¬ (Contains ps p)
-    → map (sector (put img p b)) ps ≡ map (sector img) ps
-sectors-kept img [] p b free = refl
-sectors-kept img (q ∷ ps) p b free =
-    let here : sector (put img p b) q ≡ sector img q =
-    sector-put_other img p q b (λ e. free (rw e (Contains-here q ps))) in
-    let rest = sectors-kept img ps p b (λ c. free (Contains-there p q ps c)) in
-    cc
-
--- and all that is asked to stay of it
-pub file-kept : (img : Image) (f : File) (p : Place) (b : List ℕ) → ¬ (Contains f.blocks p)
-    → kept_of (put img p b) f ≡ kept_of img f
-file-kept img f p b free =
-    ap (λ (bs : List (List ℕ)). record {
-      kind = type_byte f.slot;
-      name = slice_range f.slot.bytes 5 21;
-      length = record_length f.slot;
-      blocks = f.blocks;
-      bytes = bs;
-      sides = f.sides;
-    })
-    (sectors-kept img f.blocks p b free)

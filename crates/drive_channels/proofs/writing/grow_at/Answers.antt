@@ -1,5 +1,6 @@
 use Rattle.std.proofs.Common.{ℕ, arith, ◌≡◌, ◌≤◌, [], inl, inr, Err, ap, refl, sym, subst}
-use Rattle.drive_channels.proofs.Refusals.{calm, device-failed, not-err, not-ok}
+use Rattle.std.proofs.lemmas.Bool.{false≢true}
+use Rattle.drive_channels.proofs.Refusals.{calm, device-failed, not-err}
 use Rattle.drive_channels.proofs.Rows.{at-file}
 use Rattle.drive_channels.proofs.Writes.{grown-at, grown-row, had-is, keeps-left, keeps-same, leaves-has, ok-done}
 use Rattle.drive_channels.proofs.Writes.{refused-row, same-spot}
@@ -41,7 +42,7 @@ returns-in-Device g c =
           let of = at-file _ _ l f c.requires.found rel in
           grown-at g.D.Sectors.history _ _ _ l f _ ((c.in-Err.ensures.file l _ f of).moments)
           (λ le _. absurd
-          (not-ok (c.in-Err.ensures.quiet
+          (false≢true (c.in-Err.ensures.quiet
           (subst (λ (k : ℕ). c.args.spot.record_number ≤ k) (sym (had-is f c.args.found.now.file of.shows))
           le)).0));
       refused = tt;

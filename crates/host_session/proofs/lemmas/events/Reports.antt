@@ -1,8 +1,8 @@
 -- One reply more, written on a line of its own.
 use Rattle.std.proofs.Common.{◌≡◌, ℕ, ◌+◌, List, [], ◌∷◌, ◌++◌, Option, Some, None, refl, subst, sym, ◌∙◌, ap}
-use Rattle.std.proofs.Common.{append_assoc, append-nil, Ok, Err, true}
+use Rattle.std.proofs.Common.{append_assoc, append-nil}
 use Rattle.std.proofs.lemmas.List.{map-append}
-use Rattle.std.specs.Prelude.{IsSome, codes, if◌then◌else◌, is_none, option_map, option_to_list, OnOk, is_ok, Result}
+use Rattle.std.specs.Prelude.{IsSome, codes, if◌then◌else◌, is_none, option_map, option_to_list}
 use Rattle.std.specs.Io.KnownBytes.{Appends}
 use Rattle.std.proofs.KnownBytes.{Appends-trans}
 use Rattle.request_cards.specs.Ledgers.{report}
@@ -14,11 +14,6 @@ use Rattle.host_session.specs.events.Asking.{messages_in}
 use Rattle.host_session.specs.events.Events.{Message, message_in, message_of, messages_of}
 use Rattle.host_session.specs.events.Instants.{Instant}
 use Rattle.script_lines.specs.Resets.{Line, first_bad, line_in, line_of}
-
--- a line was written
-pub wrote_line : {T E : Type 0} (r : Result T E) (A : Type 0) → is_ok r ≡ true → OnOk r A → A
-wrote_line (Ok x) A is wrote = wrote
-wrote_line (Err e) A is wrote = cc
 
 report_more : (told : List Reply) (r : Reply) → report (told ++ r ∷ []) ≡ report told ++ (reply_text r ++ codes "\n")
 report_more [] r = append-nil (reply_text r ++ codes "\n")

@@ -11,7 +11,6 @@ use Rattle.d64_image.proofs.Moments.{changes_then, changes_weaker, reads_change}
 use Rattle.disk_layout.specs.Clean.{IsClean}
 use Rattle.disk_layout.specs.Layout.{File, Layout, record_length}
 use Rattle.disk_layout.specs.Records.{empty_record, records}
-use Rattle.drive_channels.proofs.Lengths.{count-is}
 use Rattle.drive_channels.specs.Files.{IsRelAt}
 use Rattle.drive_channels.specs.Moments.{IsOnTheWay, writes_for}
 use Rattle.drive_channels.specs.Serving.{Serves}
@@ -20,6 +19,7 @@ use Rattle.drive_channels.specs.Tables.{IsOn, Writes, WritesIn}
 use Rattle.rel_records.specs.Others.{HasRecords}
 use Rattle.rel_records.specs.Written.{IsGrowingTo, grown_by, grown_to}
 use Rattle.rel_records.specs.growth.Growth.{IsFull, IsTooLarge, added, blocks_for, full, growth_writes, records_had}
+use Rattle.rel_records.proofs.lemmas.growth.Grows.{count-is}
 use Rattle.host_session.specs.shop.Files.{Files, HasFiles}
 use Rattle.host_session.specs.shop.Growing.{HasGrown, HasGrownTo, grown}
 use Rattle.host_session.specs.shop.Shop.{AreLedgerRecords, IsShop, shop_of}

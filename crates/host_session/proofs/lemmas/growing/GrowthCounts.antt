@@ -5,12 +5,14 @@ use Rattle.std.specs.Prelude.{if◌then◌else◌, nat_eq, nat_le, nat_lt}
 use Rattle.d64_image.specs.Images.{Image}
 use Rattle.disk_layout.specs.Layout.{File, record_length, sides_for}
 use Rattle.rel_records.proofs.lemmas.growth.RunCosts.{growth-none}
+use Rattle.rel_records.proofs.lemmas.growth.Grows.{count-is}
+use Rattle.rel_records.proofs.lemmas.growth.RunCosts.{run-step}
+use Rattle.rel_records.specs.Written.{touched}
 use Rattle.rel_records.specs.growth.Growth.{blocks_for, fill_writes, full, growth_writes, records_had, run_writes}
 use Rattle.rel_records.specs.growth.Growth.{side_writes}
 use Rattle.request_cards.specs.declared.answer.Answer.{Answer}
 use Rattle.request_cards.specs.declared.answer.Answer.TheVariants as answers
 use Rattle.request_cards.specs.Requests.{Body}
-use Rattle.drive_channels.proofs.Lengths.{count-is}
 use Rattle.host_session.specs.shop.Files.{Files, HasFiles}
 use Rattle.host_session.specs.session.Handling.{kept_writes}
 use Rattle.host_session.specs.shop.Shop.{results_in}

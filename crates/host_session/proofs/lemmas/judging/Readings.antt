@@ -2,7 +2,7 @@
 use Rattle.std.proofs.Common.{ℕ, ◌≡◌, ◌<◌, ◌≤◌, ◌-◌, inl, inr, zero, suc, List, ap, arith, subst}
 use Rattle.std.proofs.Common.{◌∙◌, Err, length}
 use Rattle.std.specs.Array.{IsFirstChunk}
-use Rattle.std.specs.Prelude.{MatchOption, Option, Some, slice_get}
+use Rattle.std.specs.Prelude.{Some, slice_get}
 use Rattle.std.proofs.lemmas.List.{take_all}
 use Rattle.d64_image.specs.History.{History}
 use Rattle.d64_image.specs.Images.{Image, IsImage}
@@ -43,10 +43,6 @@ module _ (img : Image) (w : IsImage img) (f : Files) (x : LedgerFiles) (a : AreF
 pub past-last : (rs qs : List (List ℕ)) (r : ℕ) → qs ≡ rs → 1 ≤ r → IsAbsent rs r → length qs < r
 past-last rs qs r e low (inl z) = absurd (omega (arith, z, low))
 past-last rs qs r e low (inr lt) = omega (arith, ap length e, lt)
-
-pub match-some : {X : Type 0} (A : Type 0) (P : X → Type 0) (o : Option X) (x : X) → o ≡ Some x → MatchOption o A P
-    → P x
-match-some {X} A P o x e h = subst (λ (y : Option X). MatchOption y A P) e h
 
 -- the first bytes of a text that has no more are the text
 pub whole-chunk : (text bytes : List ℕ) (n : ℕ) → length text ≡ n → IsFirstChunk text bytes n → bytes ≡ text

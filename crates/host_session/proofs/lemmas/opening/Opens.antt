@@ -1,5 +1,5 @@
 -- What opening tells of a disk, from what its steps tell.
-use Rattle.std.proofs.Common.{ℕ, ◌≡◌, ◌≢◌, ◌≤◌, ◌⊎◌, inl, inr, Err, IfErr, IfOk, IsOk, Ok, OnOk, Result, ap, arith}
+use Rattle.std.proofs.Common.{ℕ, ◌≡◌, ◌≢◌, ◌≤◌, ◌⊎◌, inl, inr, Err, IfErr, IsOk, Ok, OnOk, Result, ap, arith}
 use Rattle.std.proofs.Common.{refl, subst, sym, ◌∙◌}
 use Rattle.d64_image.proofs.Moments.{changes_weaker, failed_later, never_failed}
 use Rattle.d64_image.specs.History.{Changes, Failed, History, NeverFailed}
@@ -24,10 +24,6 @@ pub error-tells : {T D : Type 0} (S : History D) (a : D) (f : T → D) (r : Resu
     → TellsOpening f S a r
 error-tells {T = T} {D = D} S a f r e is told = subst (λ (q : Result T (OpenFault × D)). TellsOpening f S a q) (sym is)
     told
-
-pub ok-weaker : {T E : Type 0} (P Q : T → Type 0) (r : Result T E) → ((x : T) → P x → Q x) → IfOk r P → IfOk r Q
-ok-weaker P Q (Ok x) f h = f x h
-ok-weaker P Q (Err e) f h = h
 
 module _ {T D : Type 0} (S : History D) (f : T → D) (a b : D) (same : S.failures b ≡ S.failures a)
     (r : Result T (OpenFault × D)) (told : TellsOpening f S b r) where

@@ -5,6 +5,7 @@ use Rattle.std.specs.Prelude.{IsSome, Some, None, slice_get, set}
 use Rattle.std.proofs.lemmas.Bool.{false≢true}
 use Rattle.std.proofs.lemmas.Option.{none-some, same_Some}
 use Rattle.host_session.specs.shop.Files.{record_at, with_record}
+use Rattle.disk_layout.proofs.lemmas.growth.SideWrites.{get-append}
 
 -- the changed record, and each other
 pub get-set_same : {X : Type 0} (xs : List X) (n : ℕ) (x y : X) → slice_get xs n ≡ Some x
@@ -85,10 +86,6 @@ record_at-map_take f n xs zero x h e = absurd (none-some x e)
 record_at-map_take f n xs (suc k) x h e = get-map_take f n xs k x (omega (arith, h)) e
 
 -- records added behind the others
-get-append : {X : Type 0} (xs ys : List X) (k : ℕ) (x : X) → slice_get xs k ≡ Some x → slice_get (xs ++ ys) k ≡ Some x
-get-append [] ys k x e = absurd (none-some x e)
-get-append (z ∷ xs) ys zero x e = e
-get-append (z ∷ xs) ys (suc k) x e = get-append xs ys k x e
 
 pub record_at-append : {X : Type 0} (xs ys : List X) (r : ℕ) (x : X) → record_at xs r ≡ Some x
     → record_at (xs ++ ys) r ≡ Some x

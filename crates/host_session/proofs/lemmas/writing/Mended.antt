@@ -12,10 +12,11 @@ use Rattle.disk_layout.specs.Layout.{File, Layout, file_owns, record_length}
 use Rattle.disk_layout.specs.Records.{joined, pieces, record_count, records}
 use Rattle.disk_layout.specs.Rest.{IsFirst, IsNamed, kept_of, others, rest_of, taken_by_others}
 use Rattle.disk_layout.specs.Same.{Stays, stays_of}
+use Rattle.disk_layout.proofs.lemmas.kept.Kept.{joined-sectors}
 use Rattle.layout_check.specs.Mended.{IsMended}
 use Rattle.host_session.specs.shop.Files.{Files, HasFiles}
 use Rattle.host_session.specs.shop.Shop.{IsShop, Shop}
-use Rattle.host_session.proofs.lemmas.writing.SameEntries.{joined-by_map, top-kept}
+use Rattle.host_session.proofs.lemmas.writing.SameEntries.{top-kept}
 
 -- bytes 2 to 29 of a slot
 entry-byte : (xs ys : List ℕ) → slice_range xs 2 30 ≡ slice_range ys 2 30 → (i : ℕ) → i < 28
@@ -53,8 +54,8 @@ module _ (a c : Image) (f g : File) (e : stays_of c g ≡ stays_of a f) where
   stay-records : records c g ≡ records a f
   unfolding records
   stay-records =
-      let bytes : joined c g.blocks ≡ joined a f.blocks = joined-by_map c g.blocks
-      ∙ ap (λ (s : Stays). flat_map (drop 2) s.bytes) e ∙ sym (joined-by_map a f.blocks) in
+      let bytes : joined c g.blocks ≡ joined a f.blocks = joined-sectors c g.blocks
+      ∙ ap (λ (s : Stays). flat_map (drop 2) s.bytes) e ∙ sym (joined-sectors a f.blocks) in
       λ i. pieces (stay-length i) (record_count (length (e i).blocks) (e i).last (stay-length i)) (bytes i)
 
   stay-owns : file_owns g ≡ file_owns f

@@ -15,12 +15,12 @@ use Rattle.disk_layout.proofs.lemmas.records.Joined.{record_count-fit}
 use Rattle.disk_layout.specs.Clean.{IsClean}
 use Rattle.disk_layout.specs.Layout.{File, IsFile, IsLayout, IsRelFile, Layout, record_length}
 use Rattle.disk_layout.specs.Rest.{IsFirst}
-use Rattle.drive_channels.proofs.Lengths.{count-is}
 use Rattle.drive_channels.specs.Files.{HasFile, IsNamedFile, IsRelAt}
 use Rattle.drive_channels.specs.Spelling.{IsInitialize, IsName, IsValidate, wanted_position, wanted_record}
 use Rattle.drive_channels.specs.State.{Channel, View}
 use Rattle.drive_channels.specs.Tables.{Commands, Moves, MovesTo, Opens, OpensAt, OpensFile, channel_without}
 use Rattle.rel_records.specs.growth.Growth.{blocks_for, records_had}
+use Rattle.rel_records.proofs.lemmas.growth.Grows.{count-is}
 use Rattle.host_session.specs.shop.Putting.{IsInReach, IsPlaced}
 use Rattle.host_session.specs.shop.Selecting.{channel_at, place_text}
 

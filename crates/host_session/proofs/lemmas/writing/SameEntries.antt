@@ -14,6 +14,7 @@ use Rattle.disk_layout.specs.Records.{joined, pieces, record_count, records}
 use Rattle.blank_shop.specs.Room.{Fits, IsTop}
 use Rattle.disk_layout.specs.Rest.{IsFirst, IsNamed, kept_of, others, slot_name, taken_by_others}
 use Rattle.disk_layout.specs.declared.slot.Slot.{Slot}
+use Rattle.disk_layout.proofs.lemmas.kept.Kept.{joined-sectors}
 
 -- the entry at a place, where entries stay but for their counts
 pub entry-at : (fs gs : List File) → SameEntries (map (λ (f : File). f.slot) gs) (map (λ (f : File). f.slot) fs)
@@ -62,13 +63,9 @@ first-kept l m name k f g e x there =
     }
 
 -- records, and all that is asked to stay, of a file whose blocks' bytes stay
-pub joined-by_map : (i : Image) (qs : List Place) → joined i qs ≡ flat_map (drop 2) (map (sector i) qs)
-unfolding joined
-joined-by_map i [] = refl
-joined-by_map i (q ∷ qs) = ap (λ (xs : List ℕ). drop 2 (sector i q) ++ xs) (joined-by_map i qs)
 
 joined-same : (a b : Image) (ps : List Place) → map (sector b) ps ≡ map (sector a) ps → joined b ps ≡ joined a ps
-joined-same a b ps e = joined-by_map b ps ∙ ap (flat_map (drop 2)) e ∙ sym (joined-by_map a ps)
+joined-same a b ps e = joined-sectors b ps ∙ ap (flat_map (drop 2)) e ∙ sym (joined-sectors a ps)
 
 pub records-same : (a b : Image) (f : File) → map (sector b) f.blocks ≡ map (sector a) f.blocks
     → records b f ≡ records a f

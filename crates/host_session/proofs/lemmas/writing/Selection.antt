@@ -1,6 +1,6 @@
 -- What the calls of a session on the drive come to, from the rows of the drive's tables.
-use Rattle.std.proofs.Common.{◌≡◌, ◌≤◌, ◌+◌, ◌-◌, ℕ, inl, inr, Bool, true, false, None, Some, Result, Ok, Err, List, []}
-use Rattle.std.proofs.Common.{◌∷◌, length, refl, sym, ◌∙◌, ap, subst, arith}
+use Rattle.std.proofs.Common.{◌≡◌, ◌≤◌, ◌+◌, ◌-◌, ℕ, inl, inr, Bool, true, false, None, Some, Result, Ok, Err, List}
+use Rattle.std.proofs.Common.{length, refl, sym, ◌∙◌, ap, subst, arith}
 use Rattle.std.specs.Prelude.{OnOk, OnErr, if◌then◌else◌}
 use Rattle.std.proofs.lemmas.Bool.{false≢true}
 use Rattle.std.proofs.lemmas.List.{append-nil}
@@ -14,12 +14,13 @@ use Rattle.disk_layout.specs.Layout.{File, IsLayout, Layout, file_owns, record_l
 use Rattle.disk_layout.specs.Records.{records}
 use Rattle.disk_layout.specs.Rest.{IsFirst}
 use Rattle.drive_channels.specs.Files.{IsRelAt}
-use Rattle.drive_channels.specs.Moments.{IsOnTheWay, is_nil, writes_for}
+use Rattle.drive_channels.specs.Moments.{IsOnTheWay, writes_for}
 use Rattle.drive_channels.specs.Serving.{Serves}
 use Rattle.drive_channels.specs.Spelling.{IsName}
 use Rattle.drive_channels.specs.State.{Channel, Seen, View, view_of}
 use Rattle.drive_channels.specs.Tables.{Closes, Commands, IsOn, Opens, Writes, WritesIn}
 use Rattle.rel_records.proofs.lemmas.growth.RunCosts.{added-none, growth-none}
+use Rattle.drive_channels.proofs.Callers.{on-the-way, some-text}
 use Rattle.rel_records.specs.Others.{HasRecords}
 use Rattle.rel_records.specs.Written.{IsWriting, grown_by, touched, with_written}
 use Rattle.rel_records.specs.growth.Growth.{records_had}
@@ -77,9 +78,6 @@ none-grown : (img : Image) (f : File) (r m : ℕ) → m ≡ 0
 none-grown img f r m e = ap (λ (k : ℕ). grown_by (record_length f.slot) k (records img f)) e
     ∙ append-nil (records img f)
 
-some-text : (text : List ℕ) → 1 ≤ length text → is_nil text ≡ false
-some-text [] h = absurd (omega (arith, h))
-some-text (t ∷ ts) h = refl
 
 -- the row of a write of a record that is there
 pub written-row : (x y : View) (text : List ℕ) (l : Layout) (n r : ℕ) (f : File) → x.channel ≡ Some (channel_at n r)
@@ -172,11 +170,10 @@ writing-same img name r l n f text p = inl (
       }),
 )
 
-on-the-way : (old : Image) (text : List ℕ) (l : Layout) (n r : ℕ) (f : File) → r ≤ records_had f → 1 ≤ length text
-    → (i : Image) → IsOnTheWay old text (channel_at n r) l f i → IsWriting old l n f 0 r 1 text i
-on-the-way old [] l n r f le some i h = absurd (omega (arith, some))
-on-the-way old (t ∷ ts) l n r f le some i h = subst (λ (m : ℕ). IsWriting old l n f m r 1 (t ∷ ts) i)
-    (added-none (record_length f.slot) (records_had f) r le) h
+placed-on-the-way : (old : Image) (text : List ℕ) (l : Layout) (n r : ℕ) (f : File) → r ≤ records_had f
+    → 1 ≤ length text → (i : Image) → IsOnTheWay old text (channel_at n r) l f i → IsWriting old l n f 0 r 1 text i
+placed-on-the-way old text l n r f le some i h = subst (λ (m : ℕ). IsWriting old l n f m r 1 text i)
+    (added-none (record_length f.slot) (records_had f) r le) (on-the-way old text (channel_at n r) l f some i h)
 
 pub written-moments : {D : Type 0} (S : History D) (d0 d1 d2 : Seen D) (name text : List ℕ) (number k : ℕ) (l : Layout)
     (n : ℕ) (f : File)
@@ -199,7 +196,7 @@ written-moments {D} S d0 d1 d2 name text number k l n f reads at some p change =
     (changes_weaker S d1.disk d2.disk (writes_for f (channel_at n number) text) t
     (IsOnTheWay (S.image d1.disk) text (channel_at n number) l f) P count
     (λ i h. subst (λ (j : Image). IsWriting j l n f 0 number 1 text i) reads.image
-    (on-the-way (S.image d1.disk) text l n number f le some i h)) w)
+    (placed-on-the-way (S.image d1.disk) text l n number f le some i h)) w)
 
 pub uncounted-after : {D T E : Type 0} (S : History D) (a b c : D) (r : Result T E) → S.writes b ≡ S.writes a
     → OnErr r (S.writes c ≡ S.writes b) → OnErr r (S.writes c ≡ S.writes a)

@@ -2,7 +2,8 @@
 use Rattle.std.proofs.Common.{arith, length, refl}
 use borrow.Author.Count.{below_more}
 use Rattle.std.proofs.lemmas.Option.{slice_get_read, slice_get_within}
-use Rattle.keeper_commands.proofs.Entries.{not-named, same-slot}
+use Rattle.keeper_commands.proofs.Entries.{not-named}
+use Rattle.rel_records.proofs.lemmas.reading.Found.{same-slot}
 use Rattle.keeper_commands.proofs.naming.first_closed.Goals as goal
 
 pub loop-number-preserved : goal.loop-number-preserved

@@ -1,10 +1,10 @@
 -- The map that was read, beside the owners.
 use Rattle.std.proofs.Common.{ap, ◌∙◌}
-use Rattle.std.proofs.lemmas.Result.{err_from_is_err_and}
+use Rattle.std.proofs.lemmas.Result.{err_from_is_err_and, on_ok_weaker, IfErr-weaker}
 use Rattle.d64_image.specs.Images.{sector}
 use Rattle.d64_image.specs.declared.place.Place.{Place}
+use Rattle.d64_image.proofs.Told.{at-ok}
 use Rattle.layout_check.proofs.lemmas.judging.Calls.{passes_read, tells_read}
-use Rattle.layout_check.proofs.lemmas.finding.Finding.{if_err, on_ok, on_any}
 use Rattle.layout_check.proofs.lemmas.judging.Inexact.{clean_tells}
 use Rattle.layout_check.proofs.lemmas.judging.Verdict.{map-right, map_tells}
 use Rattle.layout_check.proofs.checking.check_map.Goals as goal
@@ -27,14 +27,14 @@ returns g c =
     record {
       map = let e = c.in_ok-read_sector.ensures.sector
           ∙ ap (λ (p : Place). sector (S.image c.args.disk.now) p) c.map_place.ensures in
-          on_ok c.check_bits.result _ _ (λ h. map-right _ c.args.found.now c.read_sector.new.to c.requires e
+          on_ok_weaker c.check_bits.result (λ h. map-right _ c.args.found.now c.read_sector.new.to c.requires e
           (rw (← c.owners.ensures) h)) c.check_bits.ensures.ok;
-      ok = on_any c.check_bits.result _ (passes_read S c.args.disk.now c.read_sector.new.disk
+      ok = at-ok c.check_bits.result (passes_read S c.args.disk.now c.read_sector.new.disk
           c.in_ok-read_sector.ensures.reads c.in_ok-read_sector.ensures.failures);
       err = let e = c.in_ok-read_sector.ensures.sector
           ∙ ap (λ (p : Place). sector (S.image c.args.disk.now) p) c.map_place.ensures in
-          if_err c.check_bits.result _ _ (λ f h. map_tells S c.args.disk.now c.read_sector.new.disk c.args.found.now
-          c.read_sector.new.to f c.requires (passes_read S c.args.disk.now c.read_sector.new.disk
+          IfErr-weaker c.check_bits.result _ _ (λ f h. map_tells S c.args.disk.now c.read_sector.new.disk
+          c.args.found.now c.read_sector.new.to f c.requires (passes_read S c.args.disk.now c.read_sector.new.disk
           c.in_ok-read_sector.ensures.reads c.in_ok-read_sector.ensures.failures) e (rw (← c.owners.ensures) h))
           c.check_bits.ensures.err;
     }

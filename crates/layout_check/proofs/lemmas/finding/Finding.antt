@@ -27,7 +27,7 @@ use Rattle.std.proofs.Common.{
   Ok,
   Err,
 }
-use Rattle.std.specs.Prelude.{Contains, IfErr, IfOk, IsFalse, None, OnOk, Option}
+use Rattle.std.specs.Prelude.{Contains, IsFalse, None, OnOk, Option}
 use Rattle.std.proofs.lemmas.Bool.{false≢true}
 use Rattle.d64_image.proofs.Places.{same_or_other}
 use Rattle.d64_image.specs.History.{History}
@@ -50,25 +50,9 @@ use Rattle.layout_check.specs.Owners.{IsClaimed, IsOwned}
 use Rattle.layout_check.specs.Sides.{HasParts, IsRelEntry, IsWalkOfSides, ListsEach}
 use Rattle.layout_check.specs.declared.owners.Owners.{Owners}
 
-pub on_ok : {T E : Type 0} (r : Result T E) (P Q : Type 0) → (P → Q) → OnOk r P → OnOk r Q
-on_ok (Ok x) P Q f h = f h
-on_ok (Err e) P Q f h = tt
-
-pub on_any : {T E : Type 0} (r : Result T E) (P : Type 0) → P → OnOk r P
-on_any (Ok x) P h = h
-on_any (Err e) P h = tt
-
 pub on_ok_both : {T E : Type 0} (r : Result T E) (P Q R : Type 0) → (P → Q → R) → OnOk r P → OnOk r Q → OnOk r R
 on_ok_both (Ok x) P Q R f h k = f h k
 on_ok_both (Err e) P Q R f h k = tt
-
-pub if_err : {T E : Type 0} (r : Result T E) (P Q : E → Type 0) → ((e : E) → P e → Q e) → IfErr r P → IfErr r Q
-if_err (Ok x) P Q f h = tt
-if_err (Err e) P Q f h = f e h
-
-pub if_ok : {T E : Type 0} (r : Result T E) (P Q : T → Type 0) → ((x : T) → P x → Q x) → IfOk r P → IfOk r Q
-if_ok (Ok x) P Q f h = f x h
-if_ok (Err e) P Q f h = tt
 
 pub contains_or_not : (ps : List Place) (p : Place) → Contains ps p ⊎ ¬ (Contains ps p)
 contains_or_not [] p = inr (Contains-nil p)

@@ -10,11 +10,9 @@ use Rattle.std.proofs.Common.{
   [],
   ◌∷◌,
   ◌++◌,
-  length,
   sym,
   ◌∙◌,
   ap,
-  refl,
   arith,
   subst,
   append_assoc,
@@ -25,18 +23,19 @@ use Rattle.std.proofs.lemmas.Bool.Decides.{nat_tests}
 use Rattle.std.proofs.lemmas.Option.{slice_get_within}
 use Rattle.d64_image.specs.Images.{Image, sector}
 use Rattle.d64_image.specs.declared.place.Place.{Place}
+use Rattle.disk_layout.proofs.lemmas.chains.Directories.{directory-places}
 use Rattle.disk_layout.proofs.lemmas.counts.Recount.{flat_map-out, slot-get, slot-there}
+use Rattle.disk_layout.proofs.lemmas.counts.Slots.{slots-eight}
 use Rattle.disk_layout.proofs.lemmas.growth.Commit.{all-left}
 use Rattle.disk_layout.proofs.lemmas.layouts.Layouts.{get-contains}
 use Rattle.disk_layout.proofs.lemmas.lists.Lists.{contains-get, filter-once, numbered-once}
-use Rattle.disk_layout.proofs.lemmas.lists.Once.{Contains-here, Contains-there, EachOnce-join}
+use Rattle.disk_layout.proofs.lemmas.lists.Once.{EachOnce-join}
 use Rattle.disk_layout.specs.Chain.{EachOnce}
 use Rattle.disk_layout.specs.Directory.{
   IsDirectory,
   IsDirectoryPlace,
   directory_start,
   is_used,
-  map_place,
   slot_in,
   slots_in,
   type_byte,
@@ -56,14 +55,10 @@ flat_map-once f key (x ∷ xs) once each tells = EachOnce-join (f x) (flat_map f
     (λ y c d. let (z, e, h) = flat_map-out f xs y d in let same : z ≡ x = sym (tells z y h)
     ∙ tells x y c in once.0 (rw (← same) e))
 
-slots-long : (p : Place) (bytes : List ℕ) → length (slots_in p bytes) ≡ 8
-unfolding slots_in
-slots-long p bytes = refl
-
 slot-found : (p : Place) (bytes : List ℕ) (k : ℕ) (s : Slot) → slice_get (slots_in p bytes) k ≡ Some s
     → slot_in p bytes k ≡ s
 slot-found p bytes k s h =
-    let below : k < 8 = omega (arith, slice_get_within (slots_in p bytes) k s h, slots-long p bytes) in
+    let below : k < 8 = omega (arith, slice_get_within (slots_in p bytes) k s h, slots-eight p bytes) in
     cc (slot-get p bytes k below)
 
 slots-once : (p : Place) (bytes : List ℕ) → EachOnce (slots_in p bytes)
@@ -81,15 +76,6 @@ used-once img ps once = filter-once is_used _ (flat_map-once (λ p. slots_in p (
 
 pub entries-once : (img : Image) (ps : List Place) (es : List Slot) → IsDirectory img ps es → EachOnce es
 entries-once img ps es d = rw d.slots (used-once img ps d.chain.once)
-
--- a sector of the directory, as a fault names it
-directory-places : (ps : List Place) → AllByRecursion (λ p. p.track ≡ 18) ps → ¬ (Contains ps map_place)
-    → AllByRecursion IsDirectoryPlace ps
-directory-places [] on off = tt
-directory-places (p ∷ ps) on off = (
-  (on.0, λ e. off (rw e (Contains-here map_place ps))),
-  directory-places ps on.1 (λ c. off (Contains-there map_place p ps c)),
-)
 
 pub directory-sector : (img : Image) (ps : List Place) (es : List Slot) (p : Place) → IsDirectory img ps es
     → Contains ps p → IsDirectorySector img p

@@ -23,26 +23,20 @@ use Rattle.std.proofs.Common.{
   min,
   sym,
   ◌∙◌,
-  refl,
   arith,
   inl,
   inr,
   ◌⊎◌,
 }
 use Rattle.std.specs.Prelude.{Some, nat_eq, slice_get, slice_range, ◌&&◌}
-use Rattle.std.proofs.lemmas.Bool.{and_cases, false≢true}
+use Rattle.std.proofs.lemmas.Bool.{and_cases, false≢true, and_parts}
 use Rattle.std.proofs.lemmas.Bool.Decides.{Decides-eqb}
-use Rattle.std.proofs.lemmas.Option.{slice_get_read, slice_get_within}
+use Rattle.std.proofs.lemmas.Option.{slice_get_within}
 use Rattle.std.proofs.Math.Decide.{dec_lt}
 use Rattle.d64_image.specs.declared.place.Place.{Place}
-use Rattle.disk_layout.proofs.lemmas.lists.Lists.{get-drop, get-take}
+use Rattle.disk_layout.proofs.lemmas.lists.Lists.{get-drop, get-take, read-there}
 use Rattle.disk_layout.specs.Chain.{Names}
 use Rattle.layout_check.specs.Sides.{IsMisnamed, IsMispointed, NamesEach}
-
--- the element that is read is the one there
-pub read-there : {X : Type 0} (xs : List X) (n : ℕ) (x : X) → n < length xs → x ≡ get_or xs n x
-    → slice_get xs n ≡ Some x
-read-there xs n x lt e = slice_get_read xs (length xs) n x refl lt e
 
 pub named-here : (bytes : List ℕ) (at n : ℕ) (ps : List Place) (p : Place) → n < length ps → p ≡ get_or ps n p
     → Names bytes (at + 2 * n) p → (q : Place) → slice_get ps n ≡ Some q → Names bytes (at + 2 * n) q
@@ -54,16 +48,12 @@ pub misnamed-here : (bytes : List ℕ) (at n : ℕ) (ps : List Place) (p : Place
     → ¬ (Names bytes (at + 2 * n) p) → IsMisnamed bytes at ps
 misnamed-here bytes at n ps p lt e h = record { k = n; q = p; there = read-there ps n p lt e; other = h }
 
-and-parts : (a b : Bool) → (a && b) ≡ true → (a ≡ true) × (b ≡ true)
-and-parts true b h = (refl, h)
-and-parts false b h = absurd (false≢true h)
-
 -- the test of two bytes, after the tests of those before
 pub same-passed : (same : Bool) (x y t s : ℕ) → (same && (nat_eq x t && nat_eq y s)) ≡ true → (same ≡ true) × (x ≡ t)
     × (y ≡ s)
 same-passed same x y t s h =
-    let p = and-parts same (nat_eq x t && nat_eq y s) h in
-    let q = and-parts (nat_eq x t) (nat_eq y s) p.1 in
+    let p = and_parts same (nat_eq x t && nat_eq y s) h in
+    let q = and_parts (nat_eq x t) (nat_eq y s) p.1 in
     (p.0, (Decides-eqb x t).0 q.0, (Decides-eqb y s).0 q.1)
 
 pub same-failed : (same : Bool) (x y t s : ℕ) → (same && (nat_eq x t && nat_eq y s)) ≡ false → (same ≡ false)

@@ -8,7 +8,6 @@ use Rattle.std.proofs.Common.{
   ◌≤◌,
   ◌+◌,
   ◌*◌,
-  ◌⊎◌,
   List,
   [],
   ◌∷◌,
@@ -34,7 +33,7 @@ use Rattle.disk_layout.specs.Fault.{Holds, IsBadSide, IsSideSector, length_byte,
 use Rattle.disk_layout.specs.Layout.{sides_for}
 use Rattle.disk_layout.specs.declared.faults.Fault.TheVariants.{BadSide}
 use Rattle.disk_layout.specs.declared.slot.Slot.{Slot}
-use Rattle.layout_check.proofs.lemmas.finding.Pointers.{read-there}
+use Rattle.disk_layout.proofs.lemmas.lists.Lists.{read-there}
 use Rattle.layout_check.specs.Sides.{
   AreLinkedSides,
   HasOtherFields,
@@ -45,14 +44,6 @@ use Rattle.layout_check.specs.Sides.{
   IsWalkOfSides,
   ListsEach,
 }
-
--- an element of a list with one more at the end
-pub get-push : {X : Type 0} (xs : List X) (x : X) (k : ℕ) (y : X) → slice_get (xs ++ x ∷ []) k ≡ Some y
-    → (slice_get xs k ≡ Some y) ⊎ ((k ≡ length xs) × (x ≡ y))
-get-push [] x zero y h = inr (refl, cc)
-get-push [] x (suc k) y h = cc
-get-push (z ∷ xs) x zero y h = inl h
-get-push (z ∷ xs) x (suc k) y h = elim (get-push xs x k y h) [ inl e ↦ inl e | inr e ↦ inr (ap suc e.0, e.1) ]
 
 pub some-blocks : (img : Image) (s : Slot) (blocks : List Place) → IsRelEntry img s blocks → 0 < length blocks
 some-blocks img s blocks e =

@@ -8,14 +8,13 @@ use Rattle.std.proofs.lemmas.List.Elements.{Contains-append_right}
 use Rattle.d64_image.specs.Images.{Image}
 use Rattle.d64_image.specs.declared.place.Place.{Place}
 use Rattle.disk_layout.proofs.lemmas.layouts.Layouts.{get-contains}
-use Rattle.disk_layout.proofs.lemmas.lists.Lists.{all-push}
+use Rattle.disk_layout.proofs.lemmas.lists.Lists.{all-push, get-push}
 use Rattle.disk_layout.proofs.lemmas.lists.Once.{EachOnce-join, flat_map-in}
 use Rattle.disk_layout.specs.Chain.{EachOnce}
 use Rattle.disk_layout.specs.Directory.{IsDirectory, map_place}
 use Rattle.disk_layout.specs.Layout.{File, IsFile, file_owns}
 use Rattle.disk_layout.specs.declared.slot.Slot.{Slot}
 use Rattle.layout_check.proofs.lemmas.finding.Finding.{contains_or_not}
-use Rattle.layout_check.proofs.lemmas.finding.SideWalks.{get-push}
 use Rattle.layout_check.specs.Owners.{IsClaimed, IsSystem, owner_of}
 use Rattle.layout_check.specs.Survey.{IsSurveyed, taken}
 use Rattle.layout_check.specs.declared.owners.Owners.{Owners}

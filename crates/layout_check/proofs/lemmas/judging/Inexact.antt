@@ -28,6 +28,7 @@ use Rattle.d64_image.specs.History.{History, NeverFailed}
 use Rattle.d64_image.specs.Images.{Image}
 use Rattle.d64_image.specs.declared.place.Place.{Place}
 use Rattle.disk_layout.proofs.lemmas.layouts.Layouts.{IsFile-one}
+use Rattle.disk_layout.proofs.lemmas.lists.Lists.{read-there}
 use Rattle.disk_layout.proofs.lemmas.lists.Once.{all-in}
 use Rattle.disk_layout.specs.Fault.{Holds, HoldsOfClean, TellsFault, nowhere}
 use Rattle.disk_layout.specs.Layout.{File, IsFile, IsLayout, Layout, is_rel}
@@ -47,7 +48,6 @@ use Rattle.disk_layout.specs.declared.faults.Fault.TheVariants.{
 use Rattle.disk_layout.specs.declared.slot.Slot.{Slot}
 use Rattle.layout_check.proofs.lemmas.finding.Assembly.{rel-file}
 use Rattle.layout_check.proofs.lemmas.judging.Calls.{tells_later}
-use Rattle.layout_check.proofs.lemmas.finding.Pointers.{read-there}
 use Rattle.layout_check.specs.Calls.{Passes, TellsUnsound}
 use Rattle.layout_check.specs.Entry.{IsProper}
 use Rattle.layout_check.specs.Exact.{IsExactSide, TellsUnclean}

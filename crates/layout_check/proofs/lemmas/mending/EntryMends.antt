@@ -5,12 +5,11 @@ use Rattle.std.proofs.lemmas.Option.{slice_get_within}
 use Rattle.d64_image.specs.Images.{Image}
 use Rattle.d64_image.specs.declared.place.Place.{Place}
 use Rattle.disk_layout.proofs.lemmas.layouts.Layouts.{IsDirectory-one}
-use Rattle.disk_layout.proofs.lemmas.lists.Lists.{contains-get}
+use Rattle.disk_layout.proofs.lemmas.lists.Lists.{contains-get, read-there}
 use Rattle.disk_layout.specs.Directory.{IsDirectory}
 use Rattle.disk_layout.specs.Layout.{is_rel}
 use Rattle.disk_layout.specs.declared.slot.Slot.{Slot}
 use Rattle.layout_check.proofs.lemmas.finding.Listed.{entry-listed}
-use Rattle.layout_check.proofs.lemmas.finding.Pointers.{read-there}
 use Rattle.layout_check.proofs.lemmas.finding.Progress.{slot-in}
 use Rattle.layout_check.specs.Entry.{IsEntry}
 use Rattle.layout_check.specs.Exact.{IsFiled}

@@ -9,12 +9,11 @@ use Rattle.std.proofs.lemmas.Slice.{put_mid-paste}
 use borrow.Rule.Slice.PartMut.{put_mid}
 use Rattle.std.proofs.lemmas.Nat.Bits.{bit_at-zero}
 use Rattle.std.proofs.lemmas.Bool.{cases_eq}
-use Rattle.d64_image.proofs.Places.{place_at-some}
+use Rattle.d64_image.proofs.Places.{place_at-some, few_sectors}
 use Rattle.d64_image.specs.Geometry.{sectors_on}
 use Rattle.d64_image.specs.Places.{place_at}
 use Rattle.d64_image.specs.declared.place.Place.{Place}
 use Rattle.disk_layout.proofs.lemmas.lists.Sums.{sum-same}
-use Rattle.disk_layout.proofs.lemmas.map.Bits.{few_sectors}
 use Rattle.disk_layout.specs.Free.{IsWithoutFree}
 use Rattle.disk_layout.specs.Map.{IsFree, IsGiven, map_bit, map_count}
 use Rattle.layout_check.proofs.lemmas.mending.Ones.{marked-all, marked-next, marked-past, ones-all, ones-free}

@@ -42,7 +42,6 @@ use Rattle.disk_layout.proofs.lemmas.counts.Recounts.{map-same_on}
 use Rattle.disk_layout.proofs.lemmas.growth.SideWrites.{IsLayout-put_side}
 use Rattle.disk_layout.specs.Directory.{map_place}
 use Rattle.disk_layout.specs.Layout.{File, IsLayout, Layout, file_owns, is_rel, owners, record_length}
-use Rattle.disk_layout.specs.Entries.{IsRecountedAll}
 use Rattle.disk_layout.specs.Same.{IsCountByte, SameButCounts, SameFiles, Stays, stays_of}
 use Rattle.disk_layout.specs.Side.{side_sector}
 use Rattle.layout_check.specs.Made.{SameHeader}
@@ -179,16 +178,6 @@ pub record IsCounted (old new : List ℕ) : Type 0 where
   pub old_long : length old ≡ 256
   pub long : length new ≡ 256
   pub bytes : (i : ℕ) → i < 256 → IsCountByte old i ⊎ (slice_index new i ≡ slice_index old i)
-
-counted-all : (old new : List ℕ) → IsCounted old new → IsRecountedAll old new
-counted-all old new h = record {
-  old_long = h.old_long;
-  long = h.long;
-  same = λ n i low below. elim (h.bytes (32 * n + i) (omega arith)) [
-    | inl x ↦ absurd (omega (arith, x.0))
-    | inr e ↦ e
-  ];
-}
 
 -- a byte that may have changed twice
 count-byte : (a c : List ℕ) (i : ℕ) → i < 256

@@ -34,12 +34,11 @@ use Rattle.std.specs.Prelude.{nat_eq, sum_by}
 use Rattle.std.proofs.Math.Decide.{dec_lt}
 use Rattle.std.proofs.lemmas.Bool.{cases_eq, eqb-true, false≢true}
 use Rattle.std.proofs.lemmas.Nat.Bits.{bit_at-lt}
-use Rattle.d64_image.proofs.Places.{place_at-some, same_place, sector_small}
+use Rattle.d64_image.proofs.Places.{place_at-some, same_place, sector_small, few_sectors}
 use Rattle.d64_image.specs.Geometry.{sectors_on}
 use Rattle.d64_image.specs.Places.{place_at}
 use Rattle.d64_image.specs.declared.place.Place.{Place}
 use Rattle.disk_layout.proofs.lemmas.lists.Sums.{sum-same, sum_more}
-use Rattle.disk_layout.proofs.lemmas.map.Bits.{few_sectors}
 use Rattle.disk_layout.proofs.lemmas.chains.Names.{past-track}
 use Rattle.disk_layout.specs.Map.{IsFree, map_bit, numbers_below}
 use Rattle.layout_check.specs.Marked.{IsMarked, ones_on}

@@ -1,5 +1,5 @@
 -- Side sectors rewritten one by one.
-use Rattle.std.proofs.Common.{ℕ, ◌≡◌, ◌≢◌, ◌<◌, ◌≤◌, ◌+◌, List, [], ◌∷◌, length, sym, ◌∙◌, ap, arith, subst, inl, inr}
+use Rattle.std.proofs.Common.{ℕ, ◌≡◌, ◌≢◌, ◌<◌, ◌≤◌, ◌+◌, List, length, sym, ◌∙◌, ap, arith, subst, inl, inr}
 use Rattle.std.specs.Prelude.{Contains, Err, IsTrue, Some, flat_map, slice_get}
 use Rattle.std.proofs.lemmas.Bool.{cases_eq}
 use Rattle.std.proofs.lemmas.List.Elements.{Contains-append_right}
@@ -10,10 +10,9 @@ use Rattle.d64_image.specs.Images.{Image, put, sector}
 use Rattle.d64_image.specs.declared.place.Place.{Place}
 use Rattle.disk_layout.proofs.lemmas.layouts.Agree.{map-unowned, owned-side}
 use Rattle.disk_layout.proofs.lemmas.layouts.Layouts.{IsFile-one, IsLayout-one, get-contains}
-use Rattle.disk_layout.proofs.lemmas.layouts.Twice.{told-sound}
-use Rattle.disk_layout.proofs.lemmas.layouts.SidesAt.{get-one}
-use Rattle.disk_layout.proofs.lemmas.lists.Once.{Contains-cases, Contains-nil, EachOnce-apart, EachOnce-left}
-use Rattle.disk_layout.proofs.lemmas.lists.Once.{EachOnce-right, all-in, flat_map-in}
+use Rattle.disk_layout.proofs.lemmas.layouts.Twice.{told-sound, files-apart, file-once}
+use Rattle.disk_layout.proofs.lemmas.lists.Lists.{get-once}
+use Rattle.disk_layout.proofs.lemmas.lists.Once.{EachOnce-right, all-in}
 use Rattle.disk_layout.specs.Chain.{EachOnce}
 use Rattle.disk_layout.specs.Directory.{map_place}
 use Rattle.disk_layout.specs.Fault.{TellsFault}
@@ -28,32 +27,6 @@ use Rattle.layout_check.specs.Exact.{AreExactSides, IsExactSide, IsFiled}
 use Rattle.layout_check.specs.Mended.{IsMended, IsPartsOf, KeepsExact, KeepsLayouts, Mends, SameMap, TellsDevice}
 use Rattle.layout_check.specs.Calls.{TellsUnsound}
 use Rattle.layout_check.specs.Sides.{HasParts}
-
--- two files that share a place are one
-pub files-apart : (fs : List File) (f g : File) (p : Place) → EachOnce (flat_map file_owns fs) → Contains fs f
-    → Contains fs g → Contains (file_owns f) p → Contains (file_owns g) p → f ≡ g
-files-apart [] f g p once cf cg a b = absurd (Contains-nil f cf)
-files-apart (h ∷ fs) f g p once cf cg a b =
-    elim (Contains-cases f h fs cf) [
-      | inl e ↦ elim (Contains-cases g h fs cg) [
-        | inl d ↦ sym e ∙ d
-        | inr d ↦ absurd (EachOnce-apart (file_owns h) (flat_map file_owns fs) once p (rw e a)
-            (flat_map-in file_owns fs g p d b))
-      ]
-      | inr e ↦ elim (Contains-cases g h fs cg) [
-        | inl d ↦ absurd (EachOnce-apart (file_owns h) (flat_map file_owns fs) once p (rw d b)
-            (flat_map-in file_owns fs f p e a))
-        | inr d ↦ files-apart fs f g p (EachOnce-right (file_owns h) (flat_map file_owns fs) once) e d a b
-      ]
-    ]
-
--- a file owns no sector twice
-pub file-once : (fs : List File) (f : File) → EachOnce (flat_map file_owns fs) → Contains fs f → EachOnce (file_owns f)
-file-once [] f once c = absurd (Contains-nil f c)
-file-once (h ∷ fs) f once c = elim (Contains-cases f h fs c) [
-  | inl e ↦ rw (← e) (EachOnce-left (file_owns h) (flat_map file_owns fs) once)
-  | inr d ↦ file-once fs f (EachOnce-right (file_owns h) (flat_map file_owns fs) once) d
-]
 
 files-once : (img : Image) (l : Layout) → IsLayout img l → EachOnce (flat_map file_owns l.files)
 unfolding owners
@@ -82,7 +55,7 @@ side-one img s t bs ss cs ts j k p h i a b =
       sym h.slot ∙ ap (λ (f : File). f.slot) one ∙ i.slot,
       sym h.blocks_are ∙ ap (λ (f : File). f.blocks) one ∙ i.blocks_are,
       sym h.sides_are ∙ ap (λ (f : File). f.sides) one ∙ i.sides_are,
-      get-one h.file.sides j k p each of_f (ap (λ (f : File). slice_get f.sides k) one ∙ of_g),
+      get-once h.file.sides j k p each of_f (ap (λ (f : File). slice_get f.sides k) one ∙ of_g),
     )
 
 -- the image with side sector n written

@@ -36,8 +36,7 @@ use Rattle.d64_image.specs.Images.{Image}
 use Rattle.d64_image.specs.declared.place.Place.{Place}
 use Rattle.disk_layout.proofs.lemmas.chains.Chains.{Leads-push}
 use Rattle.disk_layout.proofs.lemmas.counts.Recount.{flat_map-out}
-use Rattle.disk_layout.proofs.lemmas.layouts.SidesAt.{get-below}
-use Rattle.disk_layout.proofs.lemmas.lists.Lists.{contains-get}
+use Rattle.disk_layout.proofs.lemmas.lists.Lists.{contains-get, get-some}
 use Rattle.disk_layout.proofs.lemmas.lists.Once.{Contains-cases, Contains-nil, all-in}
 use Rattle.disk_layout.specs.Chain.{Leads}
 use Rattle.disk_layout.specs.Directory.{IsDirectory, map_place, type_byte}
@@ -59,7 +58,7 @@ use Rattle.layout_check.proofs.lemmas.finding.Assembly.{owns-block}
 use Rattle.layout_check.proofs.lemmas.finding.Listed.{directory-sector, entry-listed}
 use Rattle.layout_check.specs.Survey.{taken}
 
-closed-high : (t : ℕ) → IsClosedType t → 128 ≤ t
+pub closed-high : (t : ℕ) → IsClosedType t → 128 ≤ t
 closed-high t (inl h) = omega (arith, h)
 closed-high t (inr h) = omega (arith, h)
 
@@ -68,7 +67,7 @@ rel-reached : (img : Image) (f : File) (j : ℕ) (p : Place) → (r : IsRelFile 
     → (first : Place) × (slice_get f.sides 0 ≡ Some first) × (vs : List Place) × (length vs ≡ j) × Leads img first vs p
 rel-reached img f zero p r h = (p, h, [], refl, refl)
 rel-reached img f (suc j) p r h =
-    let (q, there) = get-below f.sides j (omega (arith, slice_get_within f.sides (suc j) p h)) in
+    let (q, there) = get-some f.sides j (omega (arith, slice_get_within f.sides (suc j) p h)) in
     let (first, start, vs, long, leads) = rel-reached img f j q r there in
     let n : suc j ≡ j + 1 = omega arith in (
       first,

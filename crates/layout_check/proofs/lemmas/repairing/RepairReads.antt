@@ -12,7 +12,7 @@ use Rattle.disk_layout.specs.Directory.{slot_in}
 use Rattle.disk_layout.specs.Layout.{File, IsLayout, Layout, file_owns, is_rel, owners}
 use Rattle.disk_layout.specs.declared.faults.Fault.{Fault}
 use Rattle.disk_layout.specs.declared.slot.Slot.{Slot}
-use Rattle.layout_check.proofs.lemmas.finding.Pointers.{read-there}
+use Rattle.disk_layout.proofs.lemmas.lists.Lists.{read-there}
 use Rattle.layout_check.proofs.lemmas.judging.Inexact.{parts-of}
 use Rattle.layout_check.proofs.lemmas.repairing.OwnedSums.{among-next, and-both, is_among, owned-one, owned-reread}
 use Rattle.layout_check.proofs.lemmas.repairing.OwnedSums.{owned-first, owned-next, owners-few, place-in, same-eqb}

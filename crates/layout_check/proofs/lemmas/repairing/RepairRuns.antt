@@ -1,5 +1,5 @@
 -- A repair's run: the images held, the fault told, what is left at the end, and that a clean disk is not written.
-use Rattle.std.proofs.Common.{ℕ, ◌≡◌, ◌≤◌, Result, Ok, Err, OnOk, sym, subst, arith}
+use Rattle.std.proofs.Common.{ℕ, ◌≡◌, ◌≤◌, Err, sym, subst, arith}
 use Rattle.d64_image.proofs.Moments.{changes_then, changes_weaker, failed_later, never_failed, reads_change}
 use Rattle.d64_image.specs.History.{Changes, History, NeverFailed, OnlyReads}
 use Rattle.d64_image.specs.Images.{Image}
@@ -18,10 +18,6 @@ use Rattle.layout_check.specs.Recounted.{AreCounted, KeepsButCounts}
 use Rattle.layout_check.specs.Repaired.{IsRepaired, MendsFrom}
 use Rattle.layout_check.specs.Survey.{IsToldBy}
 use Rattle.layout_check.specs.declared.outcome.Survey.{Survey}
-
-pub ok-then : {T E : Type 0} (r : Result T E) (P Q : Type 0) → (P → Q) → OnOk r P → OnOk r Q
-ok-then (Ok x) P Q f p = f p
-ok-then (Err e) P Q f p = tt
 
 -- map, side sectors and counts in turn: the last image is the repaired one
 pub repaired : (a b c d : Image) (s : Survey) → IsToldBy a s → HasMap b → KeepsLayouts a b → KeepsLayouts b c

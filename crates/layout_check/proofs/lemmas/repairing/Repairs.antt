@@ -16,7 +16,6 @@ use Rattle.std.proofs.Common.{
   Some,
   length,
   map,
-  drop,
   slice_index,
   sym,
   ◌∙◌,
@@ -27,12 +26,13 @@ use Rattle.std.proofs.Common.{
   IsTrue,
   arith,
 }
-use Rattle.std.specs.Prelude.{Contains, flat_map, nat_eq, slice_get, slice_range}
+use Rattle.std.specs.Prelude.{Contains, flat_map, nat_eq, slice_get}
 use Rattle.std.specs.List.{AllByRecursion}
-use Rattle.std.proofs.lemmas.List.{get_or-drop, get_or-take, length-map}
+use Rattle.std.proofs.lemmas.List.{length-map}
 use Rattle.std.proofs.lemmas.List.Elements.{Contains-append_right}
 use Rattle.d64_image.specs.Images.{Image, sector}
 use Rattle.d64_image.specs.declared.place.Place.{Place}
+use Rattle.disk_layout.proofs.lemmas.kept.Kept.{entry-byte}
 use Rattle.disk_layout.proofs.lemmas.layouts.Layouts.{IsLayout-one, get-contains}
 use Rattle.disk_layout.proofs.lemmas.lists.Lists.{alike, contains-get}
 use Rattle.disk_layout.proofs.lemmas.lists.Once.{EachOnce-apart, all-in, flat_map-in}
@@ -51,10 +51,6 @@ use Rattle.layout_check.specs.Mended.{AreExactFor, KeepsLayouts, SameMap}
 use Rattle.layout_check.specs.Recounted.{AreCounted, IsSameButCounts}
 use Rattle.layout_check.specs.Survey.{IsSurveyOf}
 use Rattle.layout_check.specs.declared.outcome.Survey.{Survey}
-
--- a byte of an entry that stays
-entry-byte : (xs : List ℕ) (i : ℕ) → i < 28 → slice_index (slice_range xs 2 30) i ≡ slice_index xs (2 + i)
-entry-byte xs i lt = get_or-take 28 (drop 2 xs) i 0 lt ∙ get_or-drop 2 xs i 0
 
 -- what a file that stays keeps
 module _ (a c : Image) (f g : File) (e : stays_of a f ≡ stays_of c g) where

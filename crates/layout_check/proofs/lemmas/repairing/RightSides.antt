@@ -14,8 +14,8 @@ use Rattle.disk_layout.proofs.lemmas.counts.Recounts.{slot-of}
 use Rattle.disk_layout.proofs.lemmas.kept.Orders.{made_put, made_then, once-next, over_more, over_read, over_then}
 use Rattle.disk_layout.proofs.lemmas.kept.Orders.{over_write}
 use Rattle.disk_layout.proofs.lemmas.layouts.Layouts.{IsDirectory-one, get-contains}
-use Rattle.disk_layout.proofs.lemmas.layouts.SidesAt.{get-one}
-use Rattle.disk_layout.proofs.lemmas.lists.Lists.{contains-get, take-get}
+use Rattle.disk_layout.proofs.lemmas.layouts.Twice.{files-apart, file-once}
+use Rattle.disk_layout.proofs.lemmas.lists.Lists.{contains-get, take-get, get-once, read-there}
 use Rattle.disk_layout.proofs.lemmas.lists.Once.{Contains-nil, EachOnce-left, EachOnce-right, all-in, flat_map-in}
 use Rattle.disk_layout.specs.Chain.{EachOnce}
 use Rattle.disk_layout.specs.Directory.{IsDirectory}
@@ -24,9 +24,8 @@ use Rattle.disk_layout.specs.Layout.{File, IsFile, IsLayout, Layout, is_rel, rec
 use Rattle.disk_layout.specs.Side.{side_sector}
 use Rattle.disk_layout.specs.declared.slot.Slot.{Slot}
 use Rattle.layout_check.proofs.lemmas.judging.Inexact.{parts-of}
-use Rattle.layout_check.proofs.lemmas.finding.Pointers.{read-there}
 use Rattle.layout_check.proofs.lemmas.repairing.Rights.{files-once, side-not_directory, side-not_map, sides-once}
-use Rattle.layout_check.proofs.lemmas.mending.SideMends.{file-once, file-sector, files-apart, parts-in}
+use Rattle.layout_check.proofs.lemmas.mending.SideMends.{file-sector, parts-in}
 use Rattle.layout_check.specs.Exact.{AreExactSides}
 use Rattle.layout_check.specs.RepairOrder.{IsRight, sides_of}
 use Rattle.layout_check.specs.Mended.{IsPartsOf}
@@ -44,7 +43,7 @@ module _ (img : Image) (l : Layout) (is : IsLayout img l) where
       let one : f ≡ g = files-apart l.files f g p (files-once img l is) own_f own_g
       (Contains-append_right f.blocks f.sides p (get-contains f.sides j p at_f))
       (Contains-append_right g.blocks g.sides p (get-contains g.sides k p at_g)) in
-      let number : j ≡ k = get-one f.sides j k p (file-sides_once f own_f) at_f
+      let number : j ≡ k = get-once f.sides j k p (file-sides_once f own_f) at_f
       (ap (λ (x : File). slice_get x.sides k) one ∙ at_g) in
       ap (λ (n : ℕ). side_sector n f.blocks f.sides (record_length f.slot)) number
       ∙ ap (λ (x : File). side_sector k x.blocks x.sides (record_length x.slot)) one

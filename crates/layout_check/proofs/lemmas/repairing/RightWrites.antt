@@ -2,26 +2,21 @@
 use Rattle.std.proofs.Common.{ℕ, ◌≡◌, ◌<◌, ◌≤◌, ◌+◌, List, [], ◌∷◌, ◌++◌, length, take, get_or, ⊎_elim, sym, ◌∙◌, ap}
 use Rattle.std.proofs.Common.{refl, arith, subst, inl, inr}
 use Rattle.std.specs.Prelude.{Contains, Some, slice_get}
-use Rattle.std.specs.List.{AllByRecursion}
 use Rattle.std.proofs.lemmas.List.{take_all}
 use Rattle.d64_image.proofs.Images.{sector-put_same}
 use Rattle.d64_image.proofs.Moments.{at_end, changes_then, changes_weaker, no_write_then, reads_change, weaker}
 use Rattle.d64_image.specs.History.{Changes, History, OldOr, OnlyReads, WritesNothing}
 use Rattle.d64_image.specs.Images.{Image, IsImage, Sector, put, sector}
 use Rattle.d64_image.specs.declared.place.Place.{Place}
-use Rattle.disk_layout.proofs.lemmas.chains.Directories.{directory-few}
+use Rattle.disk_layout.proofs.lemmas.chains.Directories.{few-sectors}
 use Rattle.disk_layout.proofs.lemmas.layouts.Layouts.{IsLayout-one, get-contains}
-use Rattle.disk_layout.proofs.lemmas.lists.Lists.{take-get}
-use Rattle.disk_layout.proofs.lemmas.lists.Once.{Contains-here, Contains-there}
+use Rattle.disk_layout.proofs.lemmas.lists.Lists.{take-get, read-there}
 use Rattle.disk_layout.proofs.lemmas.kept.Orders.{made_none, made_then, once-next, over_first, over_none, over_one}
 use Rattle.disk_layout.proofs.lemmas.kept.Orders.{over_then}
 use Rattle.disk_layout.specs.Chain.{EachOnce}
-use Rattle.disk_layout.specs.Directory.{IsDirectory, IsDirectoryPlace, map_place}
 use Rattle.disk_layout.specs.InOrder.{AreMade, GoesOver, WritesOther}
 use Rattle.disk_layout.specs.Layout.{IsLayout, IsSound, Layout}
-use Rattle.disk_layout.specs.declared.slot.Slot.{Slot}
 use Rattle.disk_layout.proofs.lemmas.counts.Recounts.{reread_layout}
-use Rattle.layout_check.proofs.lemmas.finding.Pointers.{read-there}
 use Rattle.layout_check.proofs.lemmas.repairing.RightCounts.{all-counted, reread-layout, recount-mended, recount-none}
 use Rattle.layout_check.proofs.lemmas.repairing.RightCounts.{recount-put}
 use Rattle.layout_check.proofs.lemmas.repairing.RightCounts.{recount-then}
@@ -31,18 +26,6 @@ use Rattle.layout_check.proofs.lemmas.repairing.Rights.{directory-once}
 use Rattle.layout_check.specs.RepairOrder.{IsRight}
 use Rattle.layout_check.specs.Recounted.{AreCounted, AreRightIn, IsCountedAs, IsInDirectory, IsMendedAt, IsRecountOf}
 use Rattle.layout_check.specs.Recounted.{KeepsButCounts, OldOrMended}
-
--- a directory has eighteen sectors at most
-places-on : (ps : List Place) → AllByRecursion (λ p. p.track ≡ 18) ps → ¬ (Contains ps map_place)
-    → AllByRecursion IsDirectoryPlace ps
-places-on [] on off = tt
-places-on (p ∷ ps) on off = (
-  (on.0, λ e. off (rw e (Contains-here map_place ps))),
-  places-on ps on.1 (λ c. off (Contains-there map_place p ps c)),
-)
-
-pub few-sectors : (img : Image) (ps : List Place) (es : List Slot) → IsDirectory img ps es → length ps ≤ 18
-few-sectors img ps es d = omega (arith, directory-few ps d.chain.once (places-on ps d.on_track d.not_map))
 
 pub few-of : (img : Image) (ps : List Place) → IsSound img → ((l : Layout) → IsLayout img l → ps ≡ l.directory)
     → length ps ≤ 18

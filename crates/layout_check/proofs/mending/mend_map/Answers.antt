@@ -1,12 +1,12 @@
 -- The map is right already, or it is written.
 mod Unwritten
 use Rattle.std.proofs.Common.{[], ap, arith, sym, ◌∙◌, ◌∷◌}
+use Rattle.std.proofs.lemmas.Result.{on_ok_weaker}
 use Rattle.d64_image.specs.Images.{Image, sector}
 use Rattle.d64_image.specs.declared.place.Place.{Place}
 use Rattle.disk_layout.proofs.lemmas.kept.OtherWrites.{write_changes}
 use Rattle.disk_layout.specs.Directory.{map_place}
 use Rattle.disk_layout.specs.InOrder.{AreMade}
-use Rattle.layout_check.proofs.lemmas.finding.Finding.{on_ok}
 use Rattle.layout_check.proofs.lemmas.mending.MapMends.{device_later, err-holds, layouts-put, map-put}
 use Rattle.layout_check.proofs.lemmas.mending.MapMends.{mends_write, right-map, write_device, written}
 use Rattle.layout_check.proofs.lemmas.mending.Mendings.{mended-map}
@@ -31,13 +31,13 @@ returns g c =
     let S = g.D.Sectors.history in
     record {
       map = let same = c.in_ok-read_sector.ensures.reads.image in
-          on_ok c.write_other.result _ _ (λ h. written HasMap _ (S.image c.read_sector.new.disk) c.map_place-2.result
+          on_ok_weaker c.write_other.result (λ h. written HasMap _ (S.image c.read_sector.new.disk) c.map_place-2.result
           c.map_of-wanted.result h c.map_place-2.ensures (map-put (S.image c.read_sector.new.disk) c.args.found.now
           c.map_of-wanted.result (S.whole c.read_sector.new.disk).size
           (told-at _ _ c.args.found.now same c.requires) (rw (← c.owners-2.ensures) c.map_of-wanted.ensures.right)))
           c.write_other.ensures.write.ok;
       mending = record {
-        layouts = on_ok c.write_other.result _ _ (λ h. written (KeepsLayouts (S.image c.args.disk.now)) _
+        layouts = on_ok_weaker c.write_other.result (λ h. written (KeepsLayouts (S.image c.args.disk.now)) _
             (S.image c.read_sector.new.disk) c.map_place-2.result c.map_of-wanted.result h c.map_place-2.ensures
             (layouts-put (S.image c.args.disk.now) (S.image c.read_sector.new.disk) c.map_of-wanted.result
             c.in_ok-read_sector.ensures.reads.image)) c.write_other.ensures.write.ok;
@@ -74,7 +74,7 @@ returns g c =
             ∙ ap (λ (p : Place). sector (S.image a) p) c.map_place.ensures in
             let wrong = err-holds c.check_bits.result _ (sym c.is_ok.ensures.value ∙ c.if-is_ok.false)
             c.check_bits.ensures.err in
-            on_ok c.write_other.result _ _ (λ h. written (AreMade (IsRight l) (map_place ∷ []) (S.image a)) _
+            on_ok_weaker c.write_other.result (λ h. written (AreMade (IsRight l) (map_place ∷ []) (S.image a)) _
             (S.image b) c.map_place-2.result c.map_of-wanted.result h c.map_place-2.ensures
             (made-written (S.image a) (S.image b) c.args.found.now c.read_sector.new.to c.map_of-wanted.result l
             (S.whole a).size c.in_ok-read_sector.ensures.reads.image c.requires read (rw (← c.owners.ensures) wrong)

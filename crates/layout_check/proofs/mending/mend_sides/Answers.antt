@@ -6,7 +6,7 @@ use Rattle.d64_image.proofs.Moments.{no_change, no_reads, no_write, no_write_the
 use Rattle.d64_image.specs.Images.{Image, put, sector}
 use Rattle.disk_layout.proofs.lemmas.kept.Orders.{made_none, over_none}
 use Rattle.disk_layout.proofs.lemmas.kept.OtherWrites.{write_changes}
-use Rattle.layout_check.proofs.lemmas.finding.Pointers.{read-there}
+use Rattle.disk_layout.proofs.lemmas.lists.Lists.{read-there}
 use Rattle.layout_check.proofs.lemmas.repairing.RightSides.{side_made, side_over}
 use Rattle.layout_check.proofs.lemmas.mending.SideMends.{after-side, exact-more, exact-others, side-layouts, side-map}
 use Rattle.layout_check.proofs.lemmas.mending.SideMends.{side_mends}

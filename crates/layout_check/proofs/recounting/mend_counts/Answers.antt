@@ -5,7 +5,7 @@ use Rattle.std.proofs.Common.{Ok, ap, arith, length, ◌∙◌}
 use Rattle.d64_image.proofs.Moments.{at_end, reads_no_write}
 use Rattle.disk_layout.proofs.lemmas.layouts.Layouts.{get-contains}
 use Rattle.disk_layout.specs.Layout.{IsLayout, Layout}
-use Rattle.layout_check.proofs.lemmas.finding.Pointers.{read-there}
+use Rattle.disk_layout.proofs.lemmas.lists.Lists.{read-there}
 use Rattle.layout_check.proofs.lemmas.repairing.RepairReads.{sector_reads}
 use Rattle.layout_check.proofs.lemmas.repairing.RightWrites.{first_moments, in-of}
 use Rattle.layout_check.proofs.lemmas.repairing.RightWrites.{made_start, made_step, over_start, over_step, sound-of}

@@ -1,11 +1,11 @@
 -- The sector is read, its counts are made right, and it is written where other bytes came out.
 mod Failed
 use Rattle.std.proofs.Common.{ap, arith, subst, sym, ◌∙◌}
+use Rattle.std.proofs.lemmas.Result.{on_ok_weaker}
 use Rattle.d64_image.proofs.Moments.{no_write_then, reads_no_write, reads_then}
 use Rattle.d64_image.specs.Images.{Image, sector}
 use Rattle.disk_layout.proofs.lemmas.kept.OtherWrites.{write_changes}
 use Rattle.disk_layout.specs.Layout.{IsLayout}
-use Rattle.layout_check.proofs.lemmas.finding.Finding.{on_ok}
 use Rattle.layout_check.proofs.lemmas.mending.MapMends.{device_later, write_device}
 use Rattle.layout_check.proofs.lemmas.repairing.RepairReads.{few_all}
 use Rattle.layout_check.proofs.lemmas.repairing.RightWrites.{
@@ -40,8 +40,8 @@ returns g c =
     record {
       right = let now = c.in_ok-recount_sector.ensures in
           let P : Image → Type 0 = λ i. AreRightIn i c.args.place c.recount_sector.new.bytes in
-          on_ok c.write_other.result _ _ (λ h. right_written S c.args.disk.now c.recount_sector.new.disk _ c.args.place
-          c.recount_sector.new.bytes (now.judged.ok.reads.image ∙ c.read_sector.ensures.reads.image) h
+          on_ok_weaker c.write_other.result (λ h. right_written S c.args.disk.now c.recount_sector.new.disk _
+          c.args.place c.recount_sector.new.bytes (now.judged.ok.reads.image ∙ c.read_sector.ensures.reads.image) h
           (subst P (sym now.judged.ok.reads.image) now.counted.right)) c.write_other.ensures.write.ok;
       moments = let now = c.in_ok-recount_sector.ensures in
           let reads = reads_then S c.args.disk.now c.read_sector.new.disk c.recount_sector.new.disk 1 5856 5857

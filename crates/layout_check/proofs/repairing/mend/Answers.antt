@@ -1,6 +1,6 @@
 -- The map, then the side sectors, then the block counts.
 use Rattle.std.proofs.Common.{Err, ◌∙◌, ◌+◌, ◌*◌, arith, length}
-use Rattle.std.proofs.lemmas.Result.{err_from_is_err_and}
+use Rattle.std.proofs.lemmas.Result.{err_from_is_err_and, on_ok_weaker}
 use Rattle.d64_image.proofs.Moments.{at_end, no_write_then}
 use Rattle.layout_check.proofs.lemmas.mending.MapMends.{device_later, mends_then}
 use Rattle.disk_layout.specs.Layout.{owners}
@@ -9,7 +9,7 @@ use Rattle.layout_check.proofs.lemmas.repairing.OwnedSums.{length-owners}
 use Rattle.layout_check.proofs.lemmas.repairing.RepairReads.{few_after}
 use Rattle.layout_check.proofs.lemmas.repairing.RepairOrder.{order_all, order_map, order_sides, spare_counts}
 use Rattle.layout_check.proofs.lemmas.repairing.RepairOrder.{spare_sides}
-use Rattle.layout_check.proofs.lemmas.repairing.RepairRuns.{counts-at, counts_mend, mends_from, ok-then, repaired}
+use Rattle.layout_check.proofs.lemmas.repairing.RepairRuns.{counts-at, counts_mend, mends_from, repaired}
 use Rattle.layout_check.proofs.lemmas.repairing.RepairRuns.{sides-at}
 use Rattle.layout_check.proofs.lemmas.repairing.Repairs.{clean-map}
 use Rattle.layout_check.proofs.repairing.mend.Goals as goal
@@ -76,7 +76,7 @@ returns g c =
     c.mend_map.ensures.mending.mends c.mend_entries.ensures.mending.mends)
     (counts_mend S c.mend_entries.new.disk last c.mend_counts.ensures.moments) in
     record {
-      clean = ok-then c.mend_counts.result _ _
+      clean = on_ok_weaker c.mend_counts.result
           (repaired (S.image c.args.disk.now) (S.image c.mend_map.new.disk) (S.image c.mend_entries.new.disk)
           (S.image c.mend_counts.new.disk) c.args.found.now c.requires
           c.in_ok-mend_map.ensures.map c.in_ok-mend_map.ensures.mending.layouts

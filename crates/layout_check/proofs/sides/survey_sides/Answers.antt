@@ -9,10 +9,10 @@ use Rattle.disk_layout.proofs.lemmas.kept.OtherWrites.{other-bytes}
 use Rattle.layout_check.proofs.lemmas.judging.Calls.{passes_read, passes_then, passes_weaker}
 use Rattle.layout_check.proofs.lemmas.judging.Inexact.{exact-here, same-bytes}
 use Rattle.layout_check.proofs.lemmas.judging.Judged.{exact-sound, judged-all, judged-exact, judged-none, judged-other}
-use Rattle.layout_check.proofs.lemmas.finding.Pointers.{read-there}
 use Rattle.layout_check.proofs.lemmas.finding.SideWalks.{all-sound, sound-here}
 use Rattle.disk_layout.specs.Layout.{record_length}
 use Rattle.disk_layout.specs.Side.{side_sector}
+use Rattle.disk_layout.proofs.lemmas.lists.Lists.{read-there}
 use Rattle.layout_check.specs.Exact.{ToldOfSides}
 use Rattle.layout_check.proofs.sides.survey_sides.Goals as goal
 use Rattle.layout_check.proofs.sides.survey_sides.Goals.{then-ne+else-not-is_sound_side, else-ne}

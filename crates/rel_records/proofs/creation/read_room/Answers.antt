@@ -5,7 +5,7 @@ use Rattle.d64_image.specs.declared.place.Place.{Place}
 use Rattle.disk_layout.specs.Chain.{IsChain}
 use Rattle.disk_layout.specs.Directory.{directory_start}
 use Rattle.disk_layout.specs.Fault.{HoldsOfChain}
-use Rattle.rel_records.proofs.lemmas.creation.Sites.{few-sectors}
+use Rattle.disk_layout.proofs.lemmas.chains.Directories.{few-sectors}
 use Rattle.rel_records.proofs.lemmas.creation.TakenNames.{room-of, walked}
 use Rattle.rel_records.proofs.lemmas.reading.Found.{chain-failed}
 use Rattle.std.proofs.lemmas.List.{length_push}

@@ -14,6 +14,7 @@ use Rattle.disk_layout.proofs.lemmas.counts.CountWrites.{slot-byte}
 use Rattle.disk_layout.proofs.lemmas.counts.Recounts.{reread}
 use Rattle.disk_layout.proofs.lemmas.growth.GrowthRecords.{get-seam}
 use Rattle.disk_layout.proofs.lemmas.growth.LongerDirectory.{IsRelinked}
+use Rattle.disk_layout.proofs.lemmas.lists.Lists.{snoc-last}
 use Rattle.disk_layout.proofs.lemmas.lists.Once.{Contains-cases, Contains-here, Contains-nil, Contains-there, insert-in}
 use Rattle.disk_layout.proofs.lemmas.lists.Once.{insert-out}
 use Rattle.disk_layout.specs.Entries.{rel_entry}
@@ -22,7 +23,6 @@ use Rattle.disk_layout.specs.Directory.{is_used, map_place, slot_in}
 use Rattle.disk_layout.specs.Layout.{File, Layout, file_owns, owners}
 use Rattle.disk_layout.specs.Map.{IsMapOf}
 use Rattle.disk_layout.specs.Side.{side_sector}
-use Rattle.rel_records.proofs.lemmas.steps.Committing.{snoc-last}
 use Rattle.rel_records.proofs.lemmas.directory.Entered.{IsEntry, entry-used, is-entry}
 use Rattle.rel_records.proofs.lemmas.creation.Creating.{with_new}
 use Rattle.rel_records.proofs.lemmas.directory.FullSlots.{files-full}

@@ -15,7 +15,6 @@ use Rattle.std.proofs.Common.{
   Some,
   ap,
   arith,
-  drop,
   length,
   map,
   refl,
@@ -23,12 +22,12 @@ use Rattle.std.proofs.Common.{
   sym,
   ◌∙◌,
 }
-use Rattle.std.specs.Prelude.{option_map, slice_get, slice_index, slice_range}
-use Rattle.std.proofs.lemmas.List.{get_or-drop, get_or-take}
+use Rattle.std.specs.Prelude.{option_map, slice_get, slice_index}
 use Rattle.std.proofs.lemmas.Option.{slice_get-map}
 use Rattle.d64_image.proofs.Moments.{at_end, changes_then, changes_weaker, no_write_change}
 use Rattle.d64_image.specs.History.{Changes, History, WritesNothing}
 use Rattle.d64_image.specs.Images.{Image}
+use Rattle.disk_layout.proofs.lemmas.kept.Kept.{entry-byte}
 use Rattle.disk_layout.proofs.lemmas.lists.Lists.{made-from}
 use Rattle.disk_layout.specs.Layout.{File, IsLayout, Layout, is_rel_type}
 use Rattle.disk_layout.specs.Same.{Stays, stays_of}
@@ -57,10 +56,6 @@ made-file a l name L st c v h at = record {
     };
   };
 }
-
--- byte 2 + i of a slot, in what stays of it
-entry-byte : (xs : List ℕ) (i : ℕ) → i < 28 → slice_index (slice_range xs 2 30) i ≡ slice_index xs (2 + i)
-entry-byte xs i lt = get_or-take 28 (drop 2 xs) i 0 lt ∙ get_or-drop 2 xs i 0
 
 same-byte : (a c : Image) (f g : File) (i : ℕ) → i < 28 → stays_of c g ≡ stays_of a f
     → slice_index g.slot.bytes (2 + i) ≡ slice_index f.slot.bytes (2 + i)

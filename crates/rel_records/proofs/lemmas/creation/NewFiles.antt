@@ -33,7 +33,7 @@ use Rattle.std.specs.Prelude.{Contains, Some, flat_map, replicate, slice_get}
 use Rattle.std.proofs.lemmas.Grind.{flat_map-append}
 use Rattle.d64_image.specs.Images.{Image, IsImage, sector}
 use Rattle.d64_image.specs.declared.place.Place.{Place}
-use Rattle.disk_layout.proofs.lemmas.counts.Recounts.{reread}
+use Rattle.disk_layout.proofs.lemmas.counts.Recounts.{reread, reread-owns}
 use Rattle.disk_layout.proofs.lemmas.layouts.Exact.{exact-side}
 use Rattle.disk_layout.proofs.lemmas.lists.Once.{Contains-nil, EachOnce-insert, insert-out}
 use Rattle.disk_layout.proofs.lemmas.records.Fillers.{pieces-fill}
@@ -140,10 +140,6 @@ module _ (b : Image) (s : Slot) (block side : Place) (u : ℕ) (h : IsNewFile b 
           let at : 254 * 0 + i ≡ i = omega arith in
           ap (λ k. get_or (joined b (block ∷ [])) k 0) (sym at) ∙ joined-at b (block ∷ []) 0 i block w refl lt
           ∙ filled i lt
-
-reread-owns : (b : Image) (fs : List File) → flat_map file_owns (map (reread b) fs) ≡ flat_map file_owns fs
-reread-owns b [] = refl
-reread-owns b (f ∷ fs) = ap (λ ps. file_owns f ++ ps) (reread-owns b fs)
 
 -- the owners of the new layout: those of the old one, and the two sectors among them
 pub owners-new : (b : Image) (dir : List Place) (fs gs : List File) (s : Slot) (block side : Place) (u : ℕ)

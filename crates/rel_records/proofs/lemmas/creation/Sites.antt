@@ -1,42 +1,28 @@
 -- What a new file takes of a clean disk: room in the directory, and sectors that nobody owns.
-use Rattle.std.proofs.Common.{◌≡◌, ◌≢◌, ℕ, ◌+◌, ◌*◌, ◌<◌, ◌≤◌, ◌⊎◌, inl, inr, List, [], ◌∷◌, ◌++◌, Option, Some, None}
+use Rattle.std.proofs.Common.{◌≡◌, ◌≢◌, ℕ, ◌+◌, ◌*◌, ◌<◌, ◌⊎◌, inl, inr, List, [], ◌∷◌, ◌++◌, Option, Some, None}
 use Rattle.std.proofs.Common.{ap, arith, drop, length, length-append, refl, subst, sym, take, ◌∙◌}
 use Rattle.std.specs.Prelude.{Contains, MatchOption, slice_get}
-use Rattle.std.specs.List.{AllByRecursion}
 use Rattle.std.proofs.lemmas.Bool.{false≢true}
 use Rattle.std.proofs.lemmas.List.Elements.{Contains-append_right}
 use Rattle.std.proofs.lemmas.Option.{slice_get_within}
 use Rattle.d64_image.specs.Images.{Image, Sector, sector}
 use Rattle.d64_image.specs.declared.place.Place.{Place}
-use Rattle.disk_layout.proofs.lemmas.chains.Directories.{directory-few}
+use Rattle.disk_layout.proofs.lemmas.chains.Directories.{few-sectors}
 use Rattle.disk_layout.proofs.lemmas.growth.GrowthRecords.{get-seam}
 use Rattle.disk_layout.proofs.lemmas.lists.Lists.{get-once}
 use Rattle.disk_layout.proofs.lemmas.lists.Once.{Contains-cases, Contains-here, Contains-there}
 use Rattle.disk_layout.proofs.lemmas.map.Maps.{set-free, taken-map}
 use Rattle.disk_layout.specs.Clean.{IsCleanLayout}
-use Rattle.disk_layout.specs.Directory.{IsDirectory, IsDirectoryPlace, map_place}
+use Rattle.disk_layout.specs.Directory.{map_place}
 use Rattle.disk_layout.specs.Layout.{IsLayout, Layout, owners}
 use Rattle.disk_layout.specs.Map.{IsFirstOn, IsFree, IsFullTrack, IsMapOf, IsTaken}
 use Rattle.disk_layout.specs.View.{blocks_free}
 use Rattle.disk_layout.specs.declared.bam.Bam.{Bam}
-use Rattle.disk_layout.specs.declared.slot.Slot.{Slot}
 use Rattle.rel_records.specs.creation.Made.{HasNoRoom}
 use Rattle.rel_records.specs.creation.Room.{AreFullSectors, IsFirstRoom, IsFullDirectory}
 use Rattle.rel_records.specs.creation.Site.{IsRoomOf, IsSectorSite, IsSlotSite}
 use Rattle.rel_records.specs.declared.creation.directory_room.Room.{Room}
 use Rattle.rel_records.specs.growth.Steps.{TakesNext}
-
--- a directory has eighteen sectors at most
-places-on : (ps : List Place) → AllByRecursion (λ p. p.track ≡ 18) ps → ¬ (Contains ps map_place)
-    → AllByRecursion IsDirectoryPlace ps
-places-on [] on off = tt
-places-on (p ∷ ps) on off = (
-  (on.0, λ e. off (rw e (Contains-here map_place ps))),
-  places-on ps on.1 (λ c. off (Contains-there map_place p ps c)),
-)
-
-pub few-sectors : (img : Image) (ps : List Place) (es : List Slot) → IsDirectory img ps es → length ps ≤ 18
-few-sectors img ps es d = directory-few ps d.chain.once (places-on ps d.on_track d.not_map)
 
 pub before-few : (img : Image) (l : Layout) (r : Room) → IsLayout img l → IsRoomOf img l r → r.before < 18
 before-few img l r h room = omega (

@@ -30,12 +30,13 @@ use Rattle.std.proofs.lemmas.Bool.{le-ltb, lt-ltb}
 use Rattle.std.proofs.lemmas.List.{get_or-take, length-drop, length-map, length-take}
 use Rattle.d64_image.specs.Images.{Image, Sector, sector}
 use Rattle.d64_image.specs.declared.place.Place.{Place}
+use Rattle.disk_layout.proofs.lemmas.counts.Recount.{used-append}
 use Rattle.disk_layout.proofs.lemmas.counts.Slots.{slots_at}
 use Rattle.disk_layout.proofs.lemmas.lists.Once.{Contains-here, Contains-there}
 use Rattle.disk_layout.specs.Directory.{is_used, slot_in, slots_in, used_slots}
 use Rattle.disk_layout.specs.Layout.{File, IsLayout, Layout}
 use Rattle.disk_layout.specs.declared.slot.Slot.{Slot}
-use Rattle.rel_records.proofs.lemmas.directory.NewSlots.{used-append, used_before, used_behind, used_slots-free}
+use Rattle.rel_records.proofs.lemmas.directory.NewSlots.{used_before, used_behind, used_slots-free}
 use Rattle.rel_records.specs.creation.Made.{creation_writes}
 use Rattle.rel_records.specs.creation.Room.{AreFullSectors, IsFirstRoom, IsFirstSlot, IsFullSector}
 

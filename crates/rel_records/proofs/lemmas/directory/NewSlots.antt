@@ -4,7 +4,6 @@ use Rattle.std.proofs.Common.{
   ◌≢◌,
   ℕ,
   suc,
-  ◌+◌,
   ◌<◌,
   true,
   false,
@@ -23,65 +22,19 @@ use Rattle.std.proofs.Common.{
   take,
   drop,
 }
-use Rattle.std.specs.Prelude.{Contains, filter, flat_map}
-use Rattle.std.proofs.lemmas.Grind.{flat_map-append}
-use Rattle.std.proofs.lemmas.List.{get_or-drop, get_or-take, length-drop, length-take, same_lists}
+use Rattle.std.specs.Prelude.{Contains, filter}
 use Rattle.std.proofs.lemmas.List.Elements.{filter-append}
 use Rattle.d64_image.proofs.Images.{sector-put_same}
 use Rattle.d64_image.specs.Images.{Image, put, sector}
 use Rattle.d64_image.specs.declared.place.Place.{Place}
-use Rattle.disk_layout.proofs.lemmas.counts.Recount.{around, slot-get}
-use Rattle.disk_layout.proofs.lemmas.counts.Slots.{slots_at}
+use Rattle.disk_layout.proofs.lemmas.counts.Recount.{around, slot-get, slots-around, used-append, used-split}
 use Rattle.disk_layout.proofs.lemmas.layouts.Frames.{unless-same, used_slots-frame}
 use Rattle.disk_layout.proofs.lemmas.lists.Once.{Contains-here, EachOnce-apart, EachOnce-right}
 use Rattle.disk_layout.specs.Chain.{EachOnce}
 use Rattle.disk_layout.specs.Directory.{is_used, slot_in, slots_in, used_slots}
 use Rattle.disk_layout.specs.declared.slot.Slot.{Slot}
 
-slots-eight : (p : Place) (bytes : List ℕ) → length (slots_in p bytes) ≡ 8
-unfolding slots_in
-slots-eight p bytes = refl
-
--- as in Recount, where it is private
-slots-around : (p : Place) (x y : List ℕ) (n : ℕ) → n < 8 → ((k : ℕ) → k < 8 → k ≢ n → slot_in p x k ≡ slot_in p y k)
-    → (take n (slots_in p x) ≡ take n (slots_in p y)) × (drop (suc n) (slots_in p x) ≡ drop (suc n) (slots_in p y))
-slots-around p x y n h same = (
-  same_lists _ _ (length-take n (slots_in p x) ∙ cc (slots-eight p x, slots-eight p y)
-      ∙ sym (length-take n (slots_in p y))) (λ k d lt.
-      let below : k < n = omega (arith, lt, length-take n (slots_in p x)) in
-      get_or-take n (slots_in p x) k d below ∙ slots_at p x k d (omega arith) ∙ same k (omega arith) (omega arith)
-      ∙ sym (get_or-take n (slots_in p y) k d below ∙ slots_at p y k d (omega arith))),
-  same_lists _ _ (length-drop (suc n) (slots_in p x) ∙ cc (slots-eight p x, slots-eight p y)
-      ∙ sym (length-drop (suc n) (slots_in p y))) (λ k d lt.
-      let below : suc n + k < 8 = omega (arith, lt, length-drop (suc n) (slots_in p x), slots-eight p x) in
-      get_or-drop (suc n) (slots_in p x) k d ∙ slots_at p x (suc n + k) d below ∙ same (suc n + k) below (omega arith)
-      ∙ sym (get_or-drop (suc n) (slots_in p y) k d ∙ slots_at p y (suc n + k) d below)),
-)
-
-pub used-append : (a : Image) (front back : List Place) (p : Place)
-    → used_slots a (front ++ p ∷ back) ≡ used_slots a front ++ (filter is_used (slots_in p (sector a p)) ++ used_slots a
-    back)
-unfolding used_slots
-used-append a front back p =
-    ap (filter is_used) (flat_map-append (λ p. slots_in p (sector a p)) front (p ∷ back))
-    ∙ filter-append is_used (flat_map (λ p. slots_in p (sector a p)) front)
-    (slots_in p (sector a p) ++ flat_map (λ p. slots_in p (sector a p)) back)
-    ∙ ap (λ xs. filter is_used (flat_map (λ p. slots_in p (sector a p)) front) ++ xs)
-    (filter-append is_used (slots_in p (sector a p)) (flat_map (λ p. slots_in p (sector a p)) back))
-
--- the used slots of a sector around slot n: with it, where it is used, and without
-around-used : (p : Place) (bytes : List ℕ) (n : ℕ) → n < 8 → is_used (slot_in p bytes n) ≡ true
-    → filter is_used (slots_in p bytes) ≡ filter is_used (take n (slots_in p bytes)) ++ slot_in p bytes n ∷ filter
-    is_used (drop (suc n) (slots_in p bytes))
-around-used p bytes n h used =
-    ap (filter is_used) (around (slots_in p bytes) n (slot_in p bytes n) (slot-get p bytes n h))
-    ∙ filter-append is_used (take n (slots_in p bytes)) (slot_in p bytes n ∷ drop (suc n) (slots_in p bytes))
-    ∙ ap (λ xs. filter is_used (take n (slots_in p bytes)) ++ xs) keep
-  where
-    keep : filter is_used (slot_in p bytes n ∷ drop (suc n) (slots_in p bytes)) ≡ slot_in p bytes n ∷ filter is_used
-        (drop (suc n) (slots_in p bytes))
-    keep = rw used refl
-
+-- the used slots of a sector around a free one
 around-free : (p : Place) (bytes : List ℕ) (n : ℕ) → n < 8 → is_used (slot_in p bytes n) ≡ false
     → filter is_used (slots_in p bytes) ≡ filter is_used (take n (slots_in p bytes)) ++ filter is_used
     (drop (suc n) (slots_in p bytes))
@@ -132,7 +85,7 @@ used_slots-new a front back p n b full each h apart new =
     let there : sector (put a p b) p ≡ b = sector-put_same a p b full in
     used-append (put a p b) front back p
     ∙ ap (λ x. used_slots (put a p b) front ++ (filter is_used (slots_in p x) ++ used_slots (put a p b) back)) there
-    ∙ ap (λ xs. used_slots (put a p b) front ++ (xs ++ used_slots (put a p b) back)) (around-used p b n h new)
+    ∙ ap (λ xs. used_slots (put a p b) front ++ (xs ++ used_slots (put a p b) back)) (used-split p b n h new)
     ∙ shape (used_slots (put a p b) front) _ _ (used_slots (put a p b) back) (slot_in p b n)
     ∙ cc (F, B, T.0, T.1)
   where

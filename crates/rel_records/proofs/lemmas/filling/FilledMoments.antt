@@ -26,17 +26,17 @@ use Rattle.std.proofs.Common.{
 }
 use Rattle.std.specs.Prelude.{if◌then◌else◌, nat_eq, nat_lt}
 use Rattle.std.proofs.lemmas.Bool.{ne_eqb}
+use Rattle.std.proofs.lemmas.Result.{on_ok_weaker}
 use Rattle.d64_image.proofs.Moments.{at_end, changes_weaker, one_write_more}
 use Rattle.d64_image.specs.History.{Changes, HeldOnly, History, OldOr}
 use Rattle.d64_image.specs.Images.{Image, IsSector, Sector, put, sector}
 use Rattle.d64_image.specs.declared.place.Place.{Place}
 use Rattle.disk_layout.specs.Layout.{File, Layout, record_length}
 use Rattle.disk_layout.specs.Records.{record_count}
+use Rattle.disk_layout.proofs.lemmas.lists.Lists.{snoc-last}
 use Rattle.rel_records.proofs.lemmas.filling.Filled.{filled-has, filled-up}
 use Rattle.rel_records.proofs.lemmas.filling.BeforeLast.{old-grows, ready-grows, ready-then}
 use Rattle.rel_records.proofs.lemmas.filling.ReadyToEnd.{IsReadyToEnd, had-is}
-use Rattle.rel_records.proofs.lemmas.steps.Committing.{snoc-last}
-use Rattle.rel_records.proofs.lemmas.steps.Sided.{ok-then}
 use Rattle.rel_records.proofs.lemmas.filling.Standing.{file-rel, had-low}
 use Rattle.rel_records.specs.growth.Growth.{fill_writes, full, records_had}
 use Rattle.rel_records.specs.growth.Steps.{FillsBefore, HasFilled, IsAt, IsEnd}
@@ -147,7 +147,7 @@ module _ {D : Type 0} (S : History D) (d : D) (l : Layout) (n : ℕ) (f : File) 
         → z.blocks.items ≡ p.blocks.items → z.last ≡ bytes → z.directory ≡ p.directory
         → OnOk result (S.image c ≡ put (S.image b) place bytes) → OnOk result (HasFilled a (S.image c) l n f p z)
     filled-end c result z map s number size sides blocks lastb directory done =
-        ok-then result _ _ (λ e.
+        on_ok_weaker result (λ e.
         let P : Image → Type 0 = λ i. HasFilled a i l n f p z in
         subst P (sym (e ∙ ap (λ x. put (S.image b) x bytes) same-place))
         (filled-up a (S.image b) l n f p (S.whole d) (S.whole b) at r bytes fresh ends z map s number size sides blocks

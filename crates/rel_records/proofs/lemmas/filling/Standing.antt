@@ -34,12 +34,12 @@ use Rattle.disk_layout.proofs.lemmas.counts.Recount.{around, slot-there}
 use Rattle.disk_layout.proofs.lemmas.counts.Recounts.{slot-of}
 use Rattle.disk_layout.proofs.lemmas.growth.GrowthRecords.{get-seam}
 use Rattle.disk_layout.proofs.lemmas.layouts.Layouts.{get-contains}
+use Rattle.disk_layout.proofs.lemmas.lists.Lists.{snoc-last}
 use Rattle.disk_layout.proofs.lemmas.records.Joined.{record_count-fit}
 use Rattle.disk_layout.specs.Chain.{EachOnce}
 use Rattle.disk_layout.specs.Layout.{File, IsRelFile, Layout, record_length}
 use Rattle.disk_layout.specs.Records.{record_count}
 use Rattle.rel_records.proofs.lemmas.reading.Opened.{rel-of}
-use Rattle.rel_records.proofs.lemmas.steps.Committing.{snoc-last}
 use Rattle.rel_records.specs.declared.growth.step_parts.Parts.{Parts}
 use Rattle.rel_records.specs.growth.Growth.{full, records_had}
 use Rattle.rel_records.specs.growth.Steps.{IsAt}

@@ -4,8 +4,9 @@ use Rattle.d64_image.proofs.Moments.{changes_then, changes_weaker, reads_change}
 use Rattle.d64_image.specs.History.{Changes, History, OnlyReads}
 use Rattle.d64_image.specs.Images.{Image}
 use Rattle.disk_layout.specs.Layout.{File, Layout, record_length, sides_for}
-use Rattle.disk_layout.specs.Records.{record_count}
+use Rattle.disk_layout.specs.Records.{record_count, records}
 use Rattle.disk_layout.specs.View.{blocks_free}
+use Rattle.disk_layout.proofs.lemmas.records.Pieces.{length-pieces}
 use Rattle.rel_records.proofs.lemmas.filling.BeforeLast.{old-grows}
 use Rattle.rel_records.proofs.lemmas.growth.Running.{growing-more, run-held, run-run}
 use Rattle.rel_records.proofs.lemmas.growth.RunCosts.{full-mono}
@@ -25,6 +26,11 @@ had-of img l n f v of =
     ap (λ k. record_count k v.last v.size) of.shows.blocks
     ∙ ap (λ u. record_count (length f.blocks) u v.size) of.shows.last
     ∙ ap (record_count (length f.blocks) f.last) of.shows.size
+
+-- as many as it counts
+pub count-is : (img : Image) (f : File) → length (records img f) ≡ records_had f
+unfolding records
+count-is img f = length-pieces _ _ _
 
 -- what stands in memory of a relative file with blocks
 pub at-sides : (img : Image) (l : Layout) (n : ℕ) (f : File) (p : Parts) → IsAt img l n f p
@@ -46,10 +52,6 @@ module _ {D : Type 0} (S : History D) (d b : D) (l : Layout) (n : ℕ) (f : File
 
   fewer : full (record_length f.slot) (length f.blocks) - records_had f ≤ full (record_length f.slot) w - records_had f
   fewer = omega (arith, full-mono (record_length f.slot) (length f.blocks) w (pos (S.image d) l n f p at) more)
-
-  pub read-moments : Changes S d b (fill_writes f + run_writes (length f.blocks) w) Grows
-  read-moments = changes_weaker S d b 0 _ Grows Grows (omega arith) (λ c h. h)
-      (reads_change S d b 8 Grows reads (old-grows (S.image d) l n f p (S.whole d) at _))
 
   module _ (x : D) (fill : Changes S b x (fill_writes f)
       (IsGrowingBy (S.image b) l n f (full (record_length f.slot) (length f.blocks) - records_had f))) where

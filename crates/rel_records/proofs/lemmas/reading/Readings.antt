@@ -30,7 +30,7 @@ use Rattle.d64_image.specs.Images.{Image, IsImage, Sector, sector}
 use Rattle.d64_image.specs.declared.place.Place.{Place}
 use Rattle.disk_layout.proofs.lemmas.records.Joined.{joined-at, length-joined, sector-long}
 use Rattle.disk_layout.proofs.lemmas.records.Pieces.{length-piece, piece, piece-byte, row-le}
-use Rattle.std.specs.Prelude.{Err, IfSome, Ok, OnOk, Result}
+use Rattle.std.specs.Prelude.{IfSome}
 use Rattle.disk_layout.specs.Chain.{IsChain, Leads, LinksTo}
 use Rattle.disk_layout.specs.Records.{joined}
 use Rattle.rel_records.proofs.lemmas.reading.Lent.{same_bytes}
@@ -225,10 +225,6 @@ there-fits img v r of w low high = omega (arith, inside-of img v r of w low high
 pub placed : (img : Image) (v : RelFile) (r : ℕ) → IsOf img v → IsImage img → 1 ≤ r → r ≤ records_in v → r ≤ 182880
 placed img v r of w low high = omega
     (arith, there-fits img v r of w low high, v.few, le-rows r (length_of v) v.size_low)
-
-pub if_ok : {T E : Type 0} {P : Type 0} (result : Result T E) → P → OnOk result P
-if_ok (Ok x) p = p
-if_ok (Err e) p = tt
 
 -- and they are as long as the file's records
 pub has-read : (img : Image) (v : RelFile) (r : ℕ) (bytes : List ℕ) → IsOf img v → IsImage img

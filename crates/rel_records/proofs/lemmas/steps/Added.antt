@@ -37,10 +37,10 @@ use Rattle.disk_layout.proofs.lemmas.growth.Commit.{grown}
 use Rattle.disk_layout.proofs.lemmas.growth.GrowthRecords.{get-seam}
 use Rattle.disk_layout.specs.Directory.{map_place}
 use Rattle.disk_layout.specs.Layout.{File, Layout, sides_for}
+use Rattle.disk_layout.proofs.lemmas.lists.Lists.{read-there}
 use Rattle.rel_records.proofs.lemmas.steps.Adding.{block-more, counted-adds, linked-adds}
 use Rattle.rel_records.proofs.lemmas.steps.LaidOut.{IsRewritten, IsStep, before-adds, next, prepared, some-sides}
 use Rattle.rel_records.proofs.lemmas.steps.LastBlocks.{records_more}
-use Rattle.rel_records.proofs.lemmas.steps.Sided.{read-there}
 use Rattle.rel_records.specs.Written.{IsGrowingBy}
 use Rattle.rel_records.specs.declared.growth.step_parts.Parts.{Parts}
 use Rattle.rel_records.specs.growth.Next.{IsLaidOut}

@@ -1,6 +1,6 @@
 -- The write that makes a file longer: it links the file's last block to the fresh one.
 use Rattle.std.proofs.Common.{◌≡◌, ◌≢◌, ℕ, ◌+◌, ◌<◌, ◌≤◌, List, [], ◌∷◌, ◌++◌, map, length, refl, sym, ◌∙◌, ap, arith}
-use Rattle.std.proofs.Common.{subst, IsTrue, length-append, slice_index}
+use Rattle.std.proofs.Common.{subst, IsTrue, slice_index}
 use Rattle.std.specs.Prelude.{Contains, slice_get, Some, flat_map, replicate, take, drop}
 use Rattle.std.proofs.lemmas.List.Elements.{Contains-append_left, Contains-append_right}
 use Rattle.d64_image.proofs.Images.{put_is_image, sector-put_other}
@@ -13,6 +13,7 @@ use Rattle.disk_layout.proofs.lemmas.growth.GrowthRecords.{records-grown}
 use Rattle.disk_layout.proofs.lemmas.growth.SideWrites.{IsLonger, file-there}
 use Rattle.disk_layout.proofs.lemmas.layouts.Agree.{owned-block}
 use Rattle.disk_layout.proofs.lemmas.layouts.Exact.{exact-side}
+use Rattle.disk_layout.proofs.lemmas.lists.Lists.{snoc-last}
 use Rattle.disk_layout.proofs.lemmas.lists.Once.{Contains-here, Contains-there, EachOnce-apart, EachOnce-left}
 use Rattle.disk_layout.proofs.lemmas.lists.Once.{flat_map-in}
 use Rattle.disk_layout.specs.Chain.{EachOnce, Names}
@@ -27,14 +28,6 @@ use Rattle.rel_records.proofs.lemmas.steps.Preparing.{preparing-layout, preparin
 use Rattle.rel_records.proofs.lemmas.steps.Others.{has-records, places-more}
 use Rattle.rel_records.specs.Others.{HasRecords}
 use Rattle.rel_records.specs.growth.Preparing.{IsPrepared}
-
-pub snoc-last : {X : Type 0} (xs ys : List X) (x y : X) → xs ++ x ∷ [] ≡ ys ++ y ∷ [] → x ≡ y
-snoc-last [] [] x y e = cc
-snoc-last [] (z ∷ ys) x y e = let none : [] ≡ ys ++ y ∷ [] = cc in
-    absurd (omega (arith, ap length none, length-append ys (y ∷ [])))
-snoc-last (w ∷ xs) [] x y e = let none : xs ++ x ∷ [] ≡ [] = cc in
-    absurd (omega (arith, ap length none, length-append xs (x ∷ [])))
-snoc-last (w ∷ xs) (z ∷ ys) x y e = let rest : xs ++ x ∷ [] ≡ ys ++ y ∷ [] = cc in snoc-last xs ys x y rest
 
 -- all is ready for the write of the link on c, the image before it; a is the one at the start. The file f, of the
 -- layout l, gets the block `fresh`, used up to index u, and then has the side sectors ss; its last block so far, `last`

@@ -14,7 +14,8 @@ use Rattle.disk_layout.proofs.lemmas.counts.Faces.{with_slot}
 use Rattle.disk_layout.proofs.lemmas.growth.Commit.{all-join, all-left, all-right, alone, grown, own-once}
 use Rattle.disk_layout.proofs.lemmas.layouts.Agree.{records-agree}
 use Rattle.disk_layout.proofs.lemmas.layouts.Layouts.{get-contains}
-use Rattle.disk_layout.proofs.lemmas.lists.Once.{Contains-here, Contains-there, EachOnce-apart, flat_map-in}
+use Rattle.disk_layout.proofs.lemmas.lists.Lists.{all-map}
+use Rattle.disk_layout.proofs.lemmas.lists.Once.{EachOnce-apart, flat_map-in}
 use Rattle.disk_layout.specs.Clean.{IsCleanLayout, IsExactFile}
 use Rattle.disk_layout.specs.Directory.{map_place, slot_in}
 use Rattle.disk_layout.specs.Entries.{IsRecounted, uncounted}
@@ -36,11 +37,6 @@ pub owners-slot : (l : Layout) (before after : List File) (g : File) (t : Slot)
 unfolding owners
 owners-slot l before after g t = ap (λ xs. l.directory ++ xs) (flat_map-append file_owns before (with_slot g t ∷ after)
     ∙ sym (flat_map-append file_owns before (g ∷ after)))
-
-pub all-map : {X : Type 0} (P Q : X → Type 0) (xs : List X) → ((x : X) → Contains xs x → P x → Q x)
-    → AllByRecursion P xs → AllByRecursion Q xs
-all-map P Q [] h a = tt
-all-map P Q (x ∷ xs) h a = (h x (Contains-here x xs) a.0, all-map P Q xs (λ y c. h y (Contains-there y x xs c)) a.1)
 
 -- exact side sectors stay exact where they stay
 pub exact-stay : (a b : Image) (fs : List File) → AgreeAt a b (flat_map file_owns fs)

@@ -8,10 +8,8 @@ use Rattle.std.proofs.Common.{
   true,
   false,
   List,
-  [],
   ◌∷◌,
   ◌++◌,
-  map,
   length,
   refl,
   sym,
@@ -29,7 +27,6 @@ use Rattle.disk_layout.proofs.lemmas.chains.Chains.{AgreeAt, links-agree}
 use Rattle.disk_layout.proofs.lemmas.growth.Commit.{IsLayout-replace, alone, own-once}
 use Rattle.disk_layout.proofs.lemmas.growth.SideWrites.{IsLonger, IsSide-shorter, file-there, same-layout}
 use Rattle.disk_layout.proofs.lemmas.layouts.Agree.{
-  kept-agree,
   owned-block,
   owned-side,
   owned-by_files,
@@ -40,7 +37,7 @@ use Rattle.disk_layout.proofs.lemmas.layouts.Exact.{exact-side}
 use Rattle.disk_layout.proofs.lemmas.layouts.Layouts.{get-contains}
 use Rattle.disk_layout.proofs.lemmas.layouts.Frames.{HasChain-frame, IsSide-frame, KeepsFiles, all_blocks}
 use Rattle.disk_layout.proofs.lemmas.layouts.Frames.{block-owned, side-owned}
-use Rattle.disk_layout.proofs.lemmas.lists.Once.{Contains-here, Contains-there, EachOnce-apart}
+use Rattle.disk_layout.proofs.lemmas.lists.Once.{Contains-here, EachOnce-apart}
 use Rattle.disk_layout.specs.Chain.{EachOnce}
 use Rattle.disk_layout.specs.Directory.{map_place}
 use Rattle.disk_layout.specs.Layout.{
@@ -56,19 +53,9 @@ use Rattle.disk_layout.specs.Layout.{
   owners,
 }
 use Rattle.disk_layout.specs.Records.{records}
-use Rattle.disk_layout.specs.Rest.{kept_of}
 use Rattle.rel_records.proofs.lemmas.steps.Others.{has-records, places-same}
 use Rattle.rel_records.specs.Others.{HasRecords}
 use Rattle.rel_records.specs.growth.Preparing.{IsPreparing}
-
--- files whose blocks agree keep all that is asked to stay
-pub kept-all : (a b : Image) (fs : List File) → ((f : File) → Contains fs f → AgreeAt a b f.blocks)
-    → map (kept_of b) fs ≡ map (kept_of a) fs
-kept-all a b [] same = refl
-kept-all a b (f ∷ fs) same =
-    let here = sym (kept-agree a b f (same f (Contains-here f fs))) in
-    let rest = kept-all a b fs (λ g c. same g (Contains-there g f fs c)) in
-    cc
 
 -- the file stands among those of the layout
 pub file-in : (l : Layout) (before after : List File) (f : File) → l.files ≡ before ++ f ∷ after → Contains l.files f

@@ -25,9 +25,8 @@ use Rattle.std.proofs.Common.{
   arith,
   subst,
 }
-use Rattle.std.specs.Prelude.{Contains, OnErr, Some, get_or, slice_get}
+use Rattle.std.specs.Prelude.{Contains, OnErr, Some, slice_get}
 use Rattle.std.proofs.lemmas.Bool.{cases_lt}
-use Rattle.std.proofs.lemmas.Option.{slice_get_read}
 use Rattle.d64_image.proofs.Images.{sector-put_other, sector-put_same}
 use Rattle.d64_image.proofs.Moments.{changes_then, changes_weaker, write_change}
 use Rattle.d64_image.proofs.Places.{same_or_other}
@@ -178,13 +177,3 @@ module _ {D : Type 0} (S : History D) (p : Parts) (fresh : Place) (block : Secto
       changes_then S a c d 2 k n _ le first (changes_weaker S c d k k _ _ (omega arith)
       (λ x h. inr (inr (let P : Image → Type 0 = λ i. IsSided i p.blocks.items p.sides.items p.size x in
       subst P (then ∙ ap (λ i. put i fresh block) (done ∙ ap (λ x. put (S.image a) x p.map.bytes) is)) h))) sides)
-
--- what an answer says where it is Ok
-pub ok-then : {T E : Type 0} (r : Result T E) (P Q : Type 0) → (P → Q) → OnOk r P → OnOk r Q
-ok-then (Ok x) P Q f p = f p
-ok-then (Err e) P Q f p = tt
-
--- the element that is read is the one there
-pub read-there : {X : Type 0} (xs : List X) (n : ℕ) (x : X) → n < length xs → x ≡ get_or xs n x
-    → slice_get xs n ≡ Some x
-read-there xs n x lt e = slice_get_read xs (length xs) n x refl lt e

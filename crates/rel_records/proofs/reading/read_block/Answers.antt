@@ -1,15 +1,16 @@
 -- The block that its side sector names.
 use Rattle.std.proofs.Common.{ap, ◌∙◌, refl, arith}
+use Rattle.std.proofs.lemmas.Result.{IfOk-weaker}
 use Rattle.d64_image.specs.Images.{Image, sector}
 use Rattle.d64_image.proofs.Moments.{reads_then, reads_weaker}
-use Rattle.rel_records.proofs.lemmas.Told.{fault-is, if-so, none-done, passed-on, tells-rel-after}
+use Rattle.rel_records.proofs.lemmas.Told.{fault-is, none-done, passed-on, tells-rel-after}
 use Rattle.rel_records.proofs.reading.read_block.Goals as goal
 
 pub returns : goal.returns
 returns g c =
     let S = g.D.Sectors.history in
     record {
-      ok = if-so c.read.result _ _ (λ done e l n f of. record {
+      ok = IfOk-weaker c.read.result _ _ (λ done e l n f of. record {
         place = c.in_ok-place.place;
         at = c.in_ok-place.ensures.ok l n f of;
         read = e ∙ ap (λ (i : Image). sector i c.in_ok-place.place) c.block_at.ensures.reads.image;

@@ -1,13 +1,14 @@
 use Rattle.std.proofs.Common.{false, ap, arith, refl, sym, ◌∙◌}
 use Rattle.std.proofs.lemmas.Bool.{false≢true}
 use Rattle.d64_image.proofs.Moments.{no_reads, no_write, reads_weaker}
-use Rattle.drive_channels.proofs.Orders.{known-after, meets-v, mended-same, truth}
-use Rattle.drive_channels.proofs.Openings.{not-done}
+use Rattle.drive_channels.proofs.Orders.{known-after, meets-v, truth}
 use Rattle.drive_channels.proofs.Steady.{died, orderly, served, still-dead}
 use Rattle.drive_channels.proofs.Written.{idle}
 use Rattle.drive_channels.proofs.drive.Drive.command.Goals as goal
 use Rattle.drive_channels.specs.Inside.{seen_of}
 use Rattle.drive_channels.specs.State.{view_of}
+use Rattle.rel_records.proofs.lemmas.Told.{not-done}
+use Rattle.layout_check.proofs.lemmas.mending.Mendings.{mended-start}
 
 pub returns-then-self : goal.returns-then-self
 returns-then-self g c = record {
@@ -15,7 +16,7 @@ returns-then-self g c = record {
   row = tt;
   -- a dead drive does nothing
   silent = λ _. refl;
-  moments = λ l h. idle g.D.Sectors.history _ _ _ (mended-same _ l h);
+  moments = λ l h. idle g.D.Sectors.history _ _ _ (mended-start _ l h);
   unsound = λ _. reads_weaker g.D.Sectors.history _ _ 0 2114 (omega arith) (no_reads g.D.Sectors.history _);
   reads = omega arith;
   quiet = λ _. no_write g.D.Sectors.history _;
@@ -86,7 +87,7 @@ returns g c = record {
       (c.self.invariant c.if-self.false));
   -- only the status and the place change
   silent = λ _. ap (λ d. d.disk) c.self.view_is;
-  moments = rw (← c.self.view_is) (λ l h. idle g.D.Sectors.history _ _ _ (mended-same _ l h));
+  moments = rw (← c.self.view_is) (λ l h. idle g.D.Sectors.history _ _ _ (mended-start _ l h));
   unsound = rw (← c.self.view_is) (λ _. reads_weaker g.D.Sectors.history _ _ 0 2114 (omega arith)
       (no_reads g.D.Sectors.history _));
   reads = rw (← c.self.view_is) (omega arith);

@@ -1,6 +1,5 @@
 use Rattle.std.proofs.Common.{◌≡◌, ◌⊎◌, false, inl, inr, arith, refl, ap, sym, ◌∙◌, List, None, Option, Result, ℕ}
 use Rattle.d64_image.proofs.Moments.{no_reads, reads_weaker}
-use Rattle.drive_channels.proofs.Openings.{not-done}
 use Rattle.drive_channels.proofs.Steady.{orderly, served, died, still-dead}
 use Rattle.drive_channels.proofs.Written.{idle}
 use Rattle.drive_channels.proofs.drive.Drive.open.Goals as goal
@@ -10,6 +9,7 @@ use Rattle.drive_channels.specs.Inside.{seen_of}
 use Rattle.drive_channels.specs.Moments.{IsOpenedBy}
 use Rattle.drive_channels.specs.Spelling.{IsWish, Wish}
 use Rattle.drive_channels.specs.State.{Channel}
+use Rattle.rel_records.proofs.lemmas.Told.{not-done}
 
 -- without a length, or where the file is there, nothing is written
 quiet-of : {D T E : Type 0} {S : History D} {a b : D} {text : List ℕ} {before after : Option Channel}

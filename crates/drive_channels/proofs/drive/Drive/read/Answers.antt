@@ -1,10 +1,10 @@
 use Rattle.std.proofs.Common.{false, sym, subst, ap, refl, ◌∙◌, arith}
 use Rattle.std.proofs.lemmas.Bool.{false≢true}
 use Rattle.d64_image.specs.Images.{Image}
-use Rattle.drive_channels.proofs.Openings.{not-done}
 use Rattle.drive_channels.proofs.Steady.{orderly, served, died, still-dead}
 use Rattle.drive_channels.specs.Inside.{IsKnown, seen_of}
 use Rattle.d64_image.proofs.Moments.{no_reads, reads_weaker}
+use Rattle.rel_records.proofs.lemmas.Told.{not-done}
 use Rattle.drive_channels.proofs.drive.Drive.read.Goals as goal
 
 pub returns-then-self : goal.returns-then-self

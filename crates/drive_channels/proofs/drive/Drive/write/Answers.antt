@@ -1,9 +1,9 @@
-use Rattle.drive_channels.proofs.Openings.{not-done}
 use Rattle.drive_channels.proofs.Steady.{orderly, served, died, still-dead}
 use Rattle.drive_channels.proofs.Written.{begins, idle}
 use Rattle.drive_channels.specs.Inside.{seen_of}
 use Rattle.std.proofs.Common.{arith, false, ap, refl, sym, ◌∙◌, Err, Ok, Result}
 use Rattle.std.specs.Prelude.{OnErr}
+use Rattle.rel_records.proofs.lemmas.Told.{not-done}
 use Rattle.drive_channels.proofs.drive.Drive.write.Goals as goal
 
 on-err : {T E : Type 0} (r : Result T E) {P : Type 0} → P → OnErr r P

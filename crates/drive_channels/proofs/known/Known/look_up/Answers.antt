@@ -1,11 +1,13 @@
 use Rattle.std.proofs.Common.{◌≡◌, ◌≢◌, ◌∙◌, IfSome, List, ℕ, ap, arith, rules, refl, sym, subst}
+use Rattle.std.proofs.lemmas.Option.{MatchOption-at_some}
 use Rattle.d64_image.proofs.Moments.{no_reads, reads_weaker}
-use Rattle.drive_channels.proofs.Finds.{looked-put, of-some}
-use Rattle.drive_channels.proofs.Openings.{none-done, tells-failed}
+use Rattle.drive_channels.proofs.Finds.{looked-put}
+use Rattle.drive_channels.proofs.Openings.{tells-failed}
 use Rattle.drive_channels.proofs.known.Known.look_up.Goals as goal
 use Rattle.drive_channels.specs.Inside.{IsFound, found_in}
 use Rattle.drive_channels.specs.declared.found.Found.{Found}
 use Rattle.drive_channels.specs.declared.known.Known.{Known}
+use Rattle.rel_records.proofs.lemmas.Told.{none-done}
 
 pub returns-then-recall : goal.returns-then-recall
 returns-then-recall g c =
@@ -18,8 +20,8 @@ returns-then-recall g c =
 pub returns-in-Some : goal.returns-in-Some
 returns-in-Some g c =
     let other = c.recall.ensures.other c.if-recall.false in
-    let told = of-some _
-    (λ (e : Found). IsFound (g.D.Sectors.history.image c.args.disk.now) e × (e.name.items ≡ c.args.name.now)) _
+    let told = MatchOption-at_some _
+    (λ (e : Found). IsFound (g.D.Sectors.history.image c.args.disk.now) e × (e.name.items ≡ c.args.name.now))
     c.in-Some.found c.in-Some.is c.in_ok-found.ensures.found in
     record {
       found =

@@ -1,7 +1,7 @@
 use Rattle.std.proofs.Common.{ℕ, IsNone, Option, inl, refl, sym, subst}
+use Rattle.std.proofs.lemmas.Result.{IfOk-weaker}
 use Rattle.d64_image.specs.Images.{Image}
-use Rattle.drive_channels.proofs.Openings.{if-ok, none-done, not-done, opened-made, read-for, same-shown, tells-after}
-use Rattle.drive_channels.proofs.Openings.{tells-failed}
+use Rattle.drive_channels.proofs.Openings.{opened-made, read-for, same-shown, tells-failed}
 use Rattle.drive_channels.proofs.known.Known.open_file.Goals as goal
 use Rattle.drive_channels.specs.Files.{HasFile}
 use Rattle.drive_channels.specs.Inside.{HasLooked, IsKnown, shown}
@@ -9,6 +9,7 @@ use Rattle.drive_channels.specs.Spelling.{IsSpelled}
 use Rattle.drive_channels.specs.State.{View}
 use Rattle.drive_channels.specs.Tables.{OpensFile}
 use Rattle.drive_channels.specs.Wishes.{wish_of}
+use Rattle.rel_records.proofs.lemmas.Told.{none-done, not-done, tells-after}
 use Rattle.drive_channels.specs.declared.status.Status.TheVariants as statuses
 
 pub returns-then-branch : goal.returns-then-branch
@@ -41,8 +42,7 @@ returns-in-Some g c =
     let img = g.D.Sectors.history.image in
     let looked = c.in_ok-look_up.ensures.found in
     record {
-      row =
-          if-ok _ _ c.make.result (λ status row s.
+      row = IfOk-weaker c.make.result _ _ (λ status row s.
           subst (λ (x : View). OpensFile x c.args.channel (wish_of c.args.wish)
           (shown (img c.make.new.disk) c.make.new.self status))
           (same-shown (img c.args.disk.now) (img c.look_up.new.disk) c.args.self.now c.look_up.new.self s

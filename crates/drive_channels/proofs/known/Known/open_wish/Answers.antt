@@ -1,8 +1,9 @@
 use Rattle.std.proofs.Common.{true, inl, inr, ap, ap₂, arith, refl, subst, sym, ◌∙◌}
+use Rattle.std.proofs.lemmas.Result.{IfOk-weaker}
 use Rattle.d64_image.proofs.Moments.{no_reads}
 use Rattle.d64_image.specs.Images.{Image}
-use Rattle.drive_channels.proofs.Openings.{checked-shown, if-ok, none-done, not-done, opened-by, past, read-by}
-use Rattle.drive_channels.proofs.Openings.{tells-after, tells-failed, unspelled}
+use Rattle.drive_channels.proofs.Openings.{checked-shown, opened-by, past, read-by}
+use Rattle.drive_channels.proofs.Openings.{tells-failed, unspelled}
 use Rattle.drive_channels.proofs.Wishes.{wish-one}
 use Rattle.drive_channels.proofs.known.Known.open_wish.Goals as goal
 use Rattle.drive_channels.specs.Inside.{IsKnown, channel_of, shown}
@@ -11,6 +12,7 @@ use Rattle.drive_channels.specs.State.{View}
 use Rattle.drive_channels.specs.Tables.{OpensFile}
 use Rattle.drive_channels.specs.Wishes.{wish_of}
 use Rattle.drive_channels.specs.declared.known.Known.{Known}
+use Rattle.rel_records.proofs.lemmas.Told.{none-done, not-done, tells-after}
 use Rattle.drive_channels.specs.declared.status.Status.TheVariants as statuses
 
 pub returns-then-not-branch : goal.returns-then-not-branch
@@ -40,7 +42,7 @@ returns g c =
     let passed = c.in_ok-passes_check.ensures.passed c.if-not-branch.false in
     record {
       row =
-          if-ok _ _ c.open_file.result (λ status row s.
+          IfOk-weaker c.open_file.result _ _ (λ status row s.
           past (shown (img c.args.disk.now) c.args.self.now s) c.args.channel c.args.text.now
           (shown (img c.open_file.new.disk) c.open_file.new.self status) (wish_of c.in-Some.wish)
           c.requires.channel.low c.requires.channel.high c.requires.closed c.in-Some.ensures

@@ -1,4 +1,5 @@
 use Rattle.std.proofs.Common.{◌≡◌, true, false, refl, arith, None, subst, sym, Option}
+use Rattle.std.proofs.lemmas.Bool.{false≢true, true≢false}
 use Rattle.disk_layout.proofs.lemmas.layouts.Unclean.{told-unclean}
 use Rattle.drive_channels.proofs.Refusals.{clean-fact, quiet}
 use Rattle.d64_image.proofs.Moments.{no_reads, reads_weaker}
@@ -11,14 +12,11 @@ use Rattle.drive_channels.specs.declared.found.Opened.{Opened}
 use Rattle.drive_channels.proofs.known.Known.passes_check.Goals as goal
 use Rattle.layout_check.specs.declared.outcome.Survey.{Survey}
 
-differ : false ≡ true → ⊥
-differ h = cc
-
 pub returns-in_default : goal.returns-in_default
 returns-in_default g c =
     let S = g.D.Sectors.history in
     record {
-      passed = λ is. absurd (differ is);
+      passed = λ is. absurd (false≢true is);
       refused = λ _. (
         refl,
         c.if-self.false,
@@ -29,9 +27,6 @@ returns-in_default g c =
       reads = c.check.ensures.reads;
       failures = quiet Survey S _ _ c.in-Err.fault c.in_default.not-Device c.in-Err.ensures.failures;
     }
-
-refused : true ≡ false → ⊥
-refused h = cc
 
 -- nothing is remembered before a check has passed
 checked-now : (img : Image) (k : Known) → k.checked ≡ false → IsKnown img k → IsClean img
@@ -46,7 +41,7 @@ checked-now img k unchecked known clean =
       apart = tt;
     } in
     record {
-      fresh = λ e. absurd (refused e);
+      fresh = λ e. absurd (true≢false e);
       remembered = λ _. subst (λ (o : Option Opened). Remembers img o k.before) (sym last)
           (subst (λ (o : Option Found). Remembers img None o) (sym before) nothing);
     }
@@ -56,7 +51,7 @@ returns-then-self g c =
     let S = g.D.Sectors.history in
     record {
       passed = λ _. (c.if-self.true, c.requires.known);
-      refused = λ is. absurd (refused is);
+      refused = λ is. absurd (true≢false is);
       last = refl;
       reads = reads_weaker S c.args.disk.now c.args.disk.now 0 2115 (omega arith) (no_reads S c.args.disk.now);
       failures = refl;
@@ -71,7 +66,7 @@ returns-in-Ok g c =
         checked-now (g.D.Sectors.history.image c.args.disk.now) c.args.self.now c.if-self.false
             c.requires.known (clean.0, clean.1),
       );
-      refused = λ is. absurd (refused is);
+      refused = λ is. absurd (true≢false is);
       last = refl;
       reads = c.check.ensures.reads;
       failures = c.in-Ok.ensures.failures;

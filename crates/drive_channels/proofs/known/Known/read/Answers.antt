@@ -1,6 +1,6 @@
 use Rattle.std.proofs.Common.{arith, rules, refl, None}
+use Rattle.std.proofs.lemmas.Result.{IfOk-weaker}
 use Rattle.d64_image.proofs.Moments.{no_reads, reads_weaker}
-use Rattle.drive_channels.proofs.Openings.{if-ok}
 use Rattle.drive_channels.proofs.Rows.{read-on}
 use Rattle.drive_channels.proofs.Written.{closed-read, no-file, none-open, on-spot, other-open, parts-of, still-known}
 use Rattle.drive_channels.proofs.known.Known.read.Goals as goal
@@ -9,7 +9,7 @@ pub returns-then-spot-channel : goal.returns-then-spot-channel
 returns-then-spot-channel g c =
     record {
       row =
-          if-ok _ _ c.read_at.result
+          IfOk-weaker c.read_at.result _ _
           (λ status row s. read-on (g.D.Sectors.history.image c.args.disk.now) c.in-Some.opened.found
           c.in-Some-spot.spot c.args.channel c.args.self.now _ s _
           (parts-of c.args.self.now c.in-Some.opened _ c.in-Some.is c.in-Some-spot.is) c.if-spot-channel.true

@@ -1,5 +1,5 @@
 use Rattle.std.proofs.Common.{arith, refl, None, ◌≡◌}
-use Rattle.drive_channels.proofs.Openings.{if-ok}
+use Rattle.std.proofs.lemmas.Result.{IfOk-weaker}
 use Rattle.drive_channels.proofs.Written.{
   known-written,
   on-both,
@@ -34,7 +34,7 @@ returns-then-spot-channel g c =
     let is = parts-of c.args.self.now c.in-Some.opened _ c.in-Some.is c.in-Some-spot.is in
     let on = c.if-spot-channel.true in
     record {
-      row = if-ok _ _ c.write_at.result
+      row = IfOk-weaker c.write_at.result _ _
           (λ status row s. write-on (S.image c.args.disk.now) c.in-Some.opened.found c.in-Some-spot.spot c.args.channel
           c.args.self.now _ s _ is on (row s c.args.self.now.checked))
           c.write_at.ensures.row;

@@ -1,8 +1,9 @@
 -- The bytes are a record's of STOCK, and all of them are judged.
 use Rattle.std.proofs.Common.{List, arith, length, subst, sym, ℕ}
+use Rattle.std.proofs.lemmas.Option.{MatchOption-at_some}
 use Rattle.request_cards.specs.CardReading.{stock_card_of}
 use Rattle.host_session.specs.shop.Found.{Tells}
-use Rattle.host_session.proofs.lemmas.judging.Readings.{match-some, whole-chunk}
+use Rattle.host_session.proofs.lemmas.judging.Readings.{whole-chunk}
 use Rattle.host_session.proofs.shop.reading.item_held.Goals as goal
 
 pub unwrap-bytes-requires : goal.unwrap-bytes-requires
@@ -10,7 +11,7 @@ unwrap-bytes-requires c = c.first_chunk.ensures.variant.1 (omega (arith, c.requi
 
 pub returns : goal.returns
 returns c =
-    let chunk = match-some _ _ c.first_chunk.result c.unwrap-bytes.result c.unwrap-bytes.ensures
+    let chunk = MatchOption-at_some _ _ c.unwrap-bytes.result c.unwrap-bytes.ensures
     c.first_chunk.ensures.cases in
     let same = whole-chunk _ _ 18 c.requires chunk in
     subst (λ n. Tells stock_card_of n c.args.bytes.now c.what_is_held.result) c.requires

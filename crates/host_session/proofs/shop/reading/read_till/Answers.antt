@@ -1,10 +1,11 @@
 -- A record of REQUESTS has 127 bytes, and all of them are judged.
 use Rattle.std.proofs.Common.{arith, ap, length, subst, sym, ◌∙◌}
 use Rattle.std.specs.Prelude.{Some}
+use Rattle.std.proofs.lemmas.Option.{MatchOption-at_some}
 use Rattle.host_session.specs.shop.Files.{record_at}
 use Rattle.request_cards.specs.CardReading.{request_card_of}
 use Rattle.host_session.specs.shop.Found.{Tells}
-use Rattle.host_session.proofs.lemmas.judging.Readings.{absent-told, match-some, past-last, till-read, whole-chunk}
+use Rattle.host_session.proofs.lemmas.judging.Readings.{absent-told, past-last, till-read, whole-chunk}
 use Rattle.host_session.proofs.shop.reading.read_till.Goals as goal
 
 pub unwrap-bytes-requires : goal.unwrap-bytes-requires
@@ -25,7 +26,7 @@ returns-in-Ok g c =
           let is = text.ok a.has.layout a.has.requests_place a.has.requests_file a.requests_of in
           let read = till-read (S.image c.args.disk.now) (S.whole c.args.disk.now) f c.args.files.now a c.from.result
           c.read_next.new.text.items is in
-          let chunk = match-some _ _ c.first_chunk.result c.unwrap-bytes.result c.unwrap-bytes.ensures
+          let chunk = MatchOption-at_some _ _ c.unwrap-bytes.result c.unwrap-bytes.ensures
           c.first_chunk.ensures.cases in
           let long = ap length c.as_slice.ensures.value ∙ read.1 in
           let same = whole-chunk _ _ 127 long chunk ∙ c.as_slice.ensures.value in (

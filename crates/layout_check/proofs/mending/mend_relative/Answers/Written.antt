@@ -1,12 +1,12 @@
 -- The side sectors are gone over.
 use Rattle.std.proofs.Common.{List, ap, arith, length, subst, sym}
+use Rattle.std.proofs.lemmas.Result.{on_ok_weaker}
 use Rattle.d64_image.proofs.Moments.{no_write_then, reads_no_write}
 use Rattle.d64_image.specs.Images.{Image}
 use Rattle.d64_image.specs.declared.place.Place.{Place}
 use Rattle.disk_layout.proofs.lemmas.kept.Orders.{over_read}
 use Rattle.disk_layout.specs.InOrder.{AreMade, GoesOver}
 use Rattle.disk_layout.specs.Layout.{IsLayout}
-use Rattle.layout_check.proofs.lemmas.finding.Finding.{on_ok}
 use Rattle.layout_check.proofs.lemmas.mending.MapMends.{device_later, mends_read, mends_then}
 use Rattle.layout_check.proofs.lemmas.repairing.RepairReads.{few_all, found-owned}
 use Rattle.layout_check.proofs.lemmas.repairing.RightSides.{file-sides_once, sides-found}
@@ -20,16 +20,16 @@ returns-in-Some g c =
     let S = g.D.Sectors.history in
     record {
       exact = let found = c.in_ok-find_parts.ensures in
-          on_ok c.mend_sides.result _ _ (λ h bs ss i. parts-exact _ _ c.args.slot.now
+          on_ok_weaker c.mend_sides.result (λ h bs ss i. parts-exact _ _ c.args.slot.now
           c.find_parts.new.parts.blocks.items c.find_parts.new.parts.sides.items bs ss
           (parts-here _ c.args.slot.now c.find_parts.new.parts.blocks.items c.find_parts.new.parts.sides.items
           c.requires.filed c.requires.rel found.parts)
           (rw (← c.as_slice.ensures.value, ← c.as_slice-in-Some.ensures.value) h) i) c.mend_sides.ensures.exact;
-      beside = on_ok c.mend_sides.result _ _ (λ h. let P : Image
+      beside = on_ok_weaker c.mend_sides.result (λ h. let P : Image
           → Type 0 = λ i. KeepsBeside i (S.image c.mend_sides.new.disk) in
           subst P c.in_ok-find_parts.ensures.ok.reads.image h) c.mend_sides.ensures.beside;
       mending = record {
-        layouts = on_ok c.mend_sides.result _ _ (λ h. let P : Image
+        layouts = on_ok_weaker c.mend_sides.result (λ h. let P : Image
             → Type 0 = λ i. KeepsLayouts i (S.image c.mend_sides.new.disk) in
             subst P c.in_ok-find_parts.ensures.ok.reads.image h) c.mend_sides.ensures.mending.layouts;
         mends = mends_then S c.args.disk.now c.find_parts.new.disk c.mend_sides.new.disk 0 6 6 (omega arith)
@@ -49,7 +49,7 @@ returns-in-Some g c =
             (file-sides_once (S.image c.args.disk.now) l is f own) found.ok.reads
             (subst P same (c.mend_sides.ensures.right l (subst Q (sym found.ok.reads.image) is)).over);
         made = let found = c.in_ok-find_parts.ensures in
-            on_ok c.mend_sides.result _ _ (λ made.
+            on_ok_weaker c.mend_sides.result (λ made.
             let same = sides-found (S.image c.args.disk.now) l f c.args.slot.now c.find_parts.new.parts.blocks.items
             c.find_parts.new.parts.sides.items c.as_slice-in-Some.result.now is own slot c.requires.rel found.parts
             c.as_slice-in-Some.ensures.value in

@@ -4,8 +4,8 @@ use Rattle.std.proofs.lemmas.Result.{err_from_is_err_and}
 use Rattle.d64_image.proofs.Moments.{no_write_then, reads_no_write}
 use Rattle.disk_layout.proofs.lemmas.kept.Orders.{over_first, over_left}
 use Rattle.disk_layout.proofs.lemmas.kept.OtherWrites.{write_changes}
+use Rattle.disk_layout.proofs.lemmas.lists.Lists.{read-there}
 use Rattle.layout_check.proofs.lemmas.mending.MapMends.{device_later, device_told, mends_read, mends_then, mends_weaker}
-use Rattle.layout_check.proofs.lemmas.finding.Pointers.{read-there}
 use Rattle.layout_check.proofs.lemmas.repairing.RightSides.{parts-once, side_over}
 use Rattle.layout_check.proofs.lemmas.mending.SideMends.{side_mends}
 use Rattle.layout_check.proofs.lemmas.mending.SideMends.{side_right}

@@ -5,8 +5,8 @@ use Rattle.d64_image.proofs.Moments.{reads_no_write}
 use Rattle.disk_layout.proofs.lemmas.kept.Orders.{over_none}
 use Rattle.disk_layout.proofs.lemmas.layouts.Layouts.{IsLayout-one, get-contains}
 use Rattle.disk_layout.specs.Layout.{IsLayout, Layout}
+use Rattle.disk_layout.proofs.lemmas.lists.Lists.{read-there}
 use Rattle.layout_check.proofs.lemmas.mending.MapMends.{device_later}
-use Rattle.layout_check.proofs.lemmas.finding.Pointers.{read-there}
 use Rattle.layout_check.proofs.lemmas.repairing.OwnedSums.{sectors-few}
 use Rattle.layout_check.proofs.lemmas.repairing.RepairReads.{sector_reads}
 use Rattle.layout_check.proofs.lemmas.repairing.RightWrites.{all_moments, few-of, first_moments}

@@ -1,12 +1,13 @@
 -- The sectors and the directory's new one, then the link to it.
 use Rattle.std.proofs.Common.{arith, sym, subst, ◌∷◌}
 use Rattle.std.specs.Prelude.{Contains}
+use Rattle.std.proofs.lemmas.Result.{on_ok_weaker}
 use Rattle.d64_image.specs.Images.{Image}
 use Rattle.d64_image.specs.declared.place.Place.{Place}
 use Rattle.disk_layout.proofs.lemmas.lists.Once.{Contains-here}
 use Rattle.disk_layout.specs.Layout.{owners}
 use Rattle.rel_records.proofs.lemmas.creation.InNewSector.{directory-moments, link-more, link-moments}
-use Rattle.rel_records.proofs.lemmas.steps.Sided.{counted_once, ok-then}
+use Rattle.rel_records.proofs.lemmas.steps.Sided.{counted_once}
 use Rattle.rel_records.specs.creation.Site.{HasFileAt}
 use Rattle.rel_records.proofs.lemmas.Told.{not-done}
 use Rattle.rel_records.proofs.creation.new_file.write_behind.Goals as goal
@@ -52,7 +53,7 @@ returns-clause-file g c l name site is_for =
     let P : Image → Type 0 = HasFileAt (S.image c.args.disk.now) l name c.args.size st c.args.fresh in
     record {
       ok =
-          ok-then c.write.result _ _ (λ done. subst P (sym done)
+          on_ok_weaker c.write.result (λ done. subst P (sym done)
           (link-more S c.args.disk.now c.write_with_directory.new.disk l st c.args.fresh c.args.first.now
           c.args.last.now name c.args.size site is_for c.requires.size.low c.requires.size.high
           c.in_ok-write_with_directory.ensures.moments

@@ -1,12 +1,13 @@
 -- The map, the data block, the side sector.
 use Rattle.std.proofs.Common.{arith, ◌∷◌, [], List, refl, ◌∙◌}
+use Rattle.std.proofs.lemmas.Result.{on_ok_weaker}
 use Rattle.d64_image.proofs.Moments.{changes_weaker}
 use Rattle.d64_image.specs.declared.place.Place.{Place}
 use Rattle.disk_layout.proofs.lemmas.lists.Once.{Contains-here, Contains-there}
 use Rattle.rel_records.proofs.creation.new_file.write_sectors.Goals as goal
 use Rattle.rel_records.proofs.lemmas.Told.{not-done, tells-after, tells-failed}
 use Rattle.rel_records.proofs.lemmas.creation.NewWrites.{map-first, new-sectors, one-more}
-use Rattle.rel_records.proofs.lemmas.steps.Sided.{counted_once, ok-then}
+use Rattle.rel_records.proofs.lemmas.steps.Sided.{counted_once}
 
 pub returns-in_err-write : goal.returns-in_err-write
 returns-in_err-write g c =
@@ -53,7 +54,7 @@ returns g c =
     c.write-2.ensures.held c.in_ok-write-2.ensures.counted in
     record {
       ok =
-          ok-then c.write-3.result _ _
+          on_ok_weaker c.write-3.result
           (new-sectors (S.image c.args.disk.now) (S.image c.write.new.self) (S.image c.write-2.new.self)
           (S.image c.write-3.new.self) c.args.map.now.bytes c.fresh_block.result c.side_bytes.result
           c.map_place.result c.args.block c.args.side c.args.size

@@ -1,12 +1,13 @@
 -- The file's sectors, then the directory's.
 use Rattle.std.proofs.Common.{arith, ◌∷◌, [], List, refl}
+use Rattle.std.proofs.lemmas.Result.{on_ok_weaker}
 use Rattle.d64_image.proofs.Moments.{changes_weaker}
 use Rattle.d64_image.specs.declared.place.Place.{Place}
 use Rattle.disk_layout.proofs.lemmas.lists.Once.{Contains-here}
 use Rattle.rel_records.proofs.creation.new_file.write_with_directory.Goals as goal
 use Rattle.rel_records.proofs.lemmas.Told.{not-done, tells-after, tells-failed}
 use Rattle.rel_records.proofs.lemmas.creation.NewWrites.{changes-more, one-more, sectors-still}
-use Rattle.rel_records.proofs.lemmas.steps.Sided.{counted_once, ok-then}
+use Rattle.rel_records.proofs.lemmas.steps.Sided.{counted_once}
 
 pub returns-in_err-write_sectors : goal.returns-in_err-write_sectors
 returns-in_err-write_sectors g c =
@@ -30,7 +31,7 @@ returns g c =
     c.in_ok-write_sectors.ensures.moments in
     record {
       ok =
-          ok-then c.write.result _ _
+          on_ok_weaker c.write.result
           (λ done. sectors-still (S.image c.write_sectors.new.disk) (S.image c.write.new.self) c.args.map.now.bytes
           c.args.bytes.now c.args.block c.args.side c.args.fresh c.args.size
           (S.whole c.write_sectors.new.disk).size c.requires.fresh.fresh c.requires.fresh.fresh_block

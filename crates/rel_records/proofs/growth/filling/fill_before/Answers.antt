@@ -2,12 +2,14 @@
 use Rattle.std.proofs.Common.{ℕ, arith, refl, sym, ap, inl, inr, length, ◌≡◌, ◌≤◌, ◌<◌, ◌∙◌, ◌+◌, ◌-◌, ◌*◌}
 use Rattle.std.specs.Prelude.{Some, if◌then◌else◌, nat_lt, slice_get}
 use Rattle.std.proofs.lemmas.Bool.{lt-ltb}
+use Rattle.std.proofs.lemmas.Result.{on_ok_weaker}
 use Rattle.d64_image.proofs.Moments.{changes_then, reads_change, write_change, changes_weaker, no_change}
 use Rattle.d64_image.specs.Images.{put}
 use Rattle.rel_records.proofs.growth.filling.fill_before.Goals as goal
 use Rattle.rel_records.proofs.lemmas.Told.{not-done, tells-after, tells-failed}
 use Rattle.rel_records.proofs.lemmas.filling.ReadyToEnd.{tail-of}
-use Rattle.rel_records.proofs.lemmas.steps.Sided.{counted_once, ok-then, read-there}
+use Rattle.rel_records.proofs.lemmas.steps.Sided.{counted_once}
+use Rattle.disk_layout.proofs.lemmas.lists.Lists.{read-there}
 
 pub returns : goal.returns
 returns g c =
@@ -25,18 +27,17 @@ returns g c =
     let once : 0 + 1 ≤ (if nat_lt c.args.from (254 * (length p.blocks.items - 1)) then 1 else 0) = omega
     (arith, ap {B = ℕ} (λ b. if b then 1 else 0) (lt-ltb c.args.from (254 * (length p.blocks.items - 1)) low)) in
     record {
-      ok = ok-then c.write.result _ _
-          (λ e. inr (
-            low,
-            (
-              place,
-              c.fill_tail.new.bytes,
-              ap (λ k. slice_get p.blocks.items (k - 2))
-                  (sym c.len-count.ensures.value) ∙ at,
-              tail,
-              e ∙ ap (λ i. put i place c.fill_tail.new.bytes) c.in_ok-read.ensures.reads.image,
-            ),
-          )) c.write.ensures.ok;
+      ok = on_ok_weaker c.write.result (λ e. inr (
+        low,
+        (
+          place,
+          c.fill_tail.new.bytes,
+          ap (λ k. slice_get p.blocks.items (k - 2))
+              (sym c.len-count.ensures.value) ∙ at,
+          tail,
+          e ∙ ap (λ i. put i place c.fill_tail.new.bytes) c.in_ok-read.ensures.reads.image,
+        ),
+      )) c.write.ensures.ok;
       moments =
           changes_then S c.args.disk.now c.read.new.self c.write.new.self 0 1 _ _ once
           (reads_change S c.args.disk.now c.read.new.self 1 _ c.in_ok-read.ensures.reads (inl refl))
@@ -49,8 +50,7 @@ returns g c =
             (
               place,
               c.fill_tail.new.bytes,
-              ap (λ k. slice_get p.blocks.items (k - 2))
-                  (sym c.len-count.ensures.value)
+              ap (λ k. slice_get p.blocks.items (k - 2)) (sym c.len-count.ensures.value)
                   ∙ at,
               tail,
               ap (λ i. put i place c.fill_tail.new.bytes) c.in_ok-read.ensures.reads.image,

@@ -1,10 +1,10 @@
 -- The map, the fresh block, the side sectors.
 use Rattle.std.proofs.Common.{arith, subst, ap, ◌≡◌, ◌∙◌, refl, inl, inr, length, sym}
+use Rattle.std.proofs.lemmas.Result.{on_ok_weaker}
 use Rattle.d64_image.proofs.Moments.{at_end, changes_weaker, write_change}
 use Rattle.d64_image.specs.Images.{Image, put}
 use Rattle.d64_image.specs.declared.place.Place.{Place}
 use Rattle.disk_layout.specs.Directory.{map_place}
-use Rattle.rel_records.proofs.lemmas.steps.Sided.{ok-then}
 use Rattle.rel_records.proofs.lemmas.steps.Sided.{before_sides, before_two}
 use Rattle.rel_records.specs.growth.Steps.{IsSided}
 use Rattle.rel_records.proofs.lemmas.Told.{tells-after, not-done, tells-failed}
@@ -41,7 +41,7 @@ returns g c =
     let sided = subst P (c.in_ok-write-2.ensures.ok ∙ ap (λ (i : Image). put i c.args.fresh c.args.block.now) first)
     (at_end S c.write-2.new.self c.write_sides.new.disk _ moments.held) in
     record {
-      ok = ok-then c.write_sides.result _ _ (λ h. (h, sided)) done;
+      ok = on_ok_weaker c.write_sides.result (λ h. (h, sided)) done;
       moments =
           before_sides S c.args.parts.now c.args.fresh c.args.block.now c.args.disk.now c.write.new.self
           c.write-2.new.self c.write_sides.new.disk c.map_place.result _ _ (omega arith) c.map_place.ensures

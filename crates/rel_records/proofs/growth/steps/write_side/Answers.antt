@@ -1,11 +1,12 @@
 -- One side sector is written.
 use Rattle.std.proofs.Common.{arith, sym, subst, ◌≡◌, ◌∙◌, ap, Some}
+use Rattle.std.proofs.lemmas.Result.{on_ok_weaker}
 use Rattle.d64_image.proofs.Moments.{write_change}
 use Rattle.d64_image.specs.Images.{Sector, put}
-use Rattle.rel_records.proofs.lemmas.steps.Sided.{read-there, ok-then}
 use Rattle.rel_records.specs.growth.Steps.{IsSided}
 use Rattle.rel_records.proofs.lemmas.steps.Sided.{counted_once, sided-none, sided-put}
 use Rattle.disk_layout.specs.Side.{side_sector}
+use Rattle.disk_layout.proofs.lemmas.lists.Lists.{read-there}
 use Rattle.d64_image.specs.declared.place.Place.{Place}
 use Rattle.rel_records.proofs.growth.steps.write_side.Goals as goal
 
@@ -21,7 +22,7 @@ returns g c =
     let P : Sector → Type 0 = λ b. IsSided a c.args.blocks.now c.args.sides.now c.args.size (put a p b) in
     record {
       ok =
-          ok-then c.write.result _ _
+          on_ok_weaker c.write.result
           (λ e q there. e ∙ ap (λ (s : Sector). put a p s) c.side_bytes-bytes.ensures
           ∙ ap (λ x. put a x (side_sector c.args.number c.args.blocks.now c.args.sides.now c.args.size))
           (same-place p q (sym at ∙ there))) c.write.ensures.ok;

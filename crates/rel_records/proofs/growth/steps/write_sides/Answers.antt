@@ -1,7 +1,7 @@
 -- The last side sector, and then the older ones.
 use Rattle.std.proofs.Common.{arith, sym, subst, length, ◌+◌, ◌-◌, ◌≤◌, Bool, if◌then◌else◌}
+use Rattle.std.proofs.lemmas.Result.{on_ok_weaker}
 use Rattle.d64_image.proofs.Moments.{at_end}
-use Rattle.rel_records.proofs.lemmas.steps.Sided.{ok-then}
 use Rattle.rel_records.proofs.lemmas.steps.Sided.{sided-last, sides_then}
 use Rattle.d64_image.specs.History.{Changes}
 use Rattle.rel_records.specs.growth.Steps.{AreSidedFrom, IsSided}
@@ -15,7 +15,7 @@ returns-then-new g c =
     → Type 0 = λ b. AreSidedFrom (if b then 0 else (length c.args.sides.now - 1)) (S.image c.write_older.new.disk)
     c.args.blocks.now c.args.sides.now c.args.size in
     record {
-      ok = ok-then c.write_older.result _ _
+      ok = on_ok_weaker c.write_older.result
           (λ h. subst P (sym c.if-new.true)
           (h (sided-last (S.image c.args.disk.now) (S.image c.write_side.new.disk) c.args.blocks.now c.args.sides.now
           c.args.size (length c.args.sides.now - 1) (omega (arith, c.requires.some)) (S.whole c.args.disk.now).size

@@ -1,10 +1,10 @@
 -- The slots of the directory are those of the files, in order.
 use Rattle.std.proofs.Common.{◌∙◌, arith, inl, inr, refl}
 use Rattle.std.proofs.lemmas.Option.{slice_get_within}
+use Rattle.std.proofs.lemmas.Result.{IfOk-weaker, IfErr-weaker}
 use Rattle.rel_records.proofs.lemmas.reading.Found.{none-found, opened, opened-of}
 use Rattle.d64_image.proofs.Moments.{reads_then, reads_weaker}
-use Rattle.rel_records.proofs.lemmas.Told.{device-not-found, fault-is, if-so, none-done, passed-on, tells-rel-after}
-use Rattle.rel_records.proofs.lemmas.Told.{weaker-fault}
+use Rattle.rel_records.proofs.lemmas.Told.{device-not-found, fault-is, none-done, passed-on, tells-rel-after}
 use Rattle.rel_records.proofs.reading.finding.find.Goals as goal
 
 pub returns-in_default : goal.returns-in_default
@@ -42,11 +42,11 @@ returns g c =
           c.list_slots.ensures.reads.image is (c.as_slice-slots.ensures.value ∙ c.in_ok-list_slots.ensures.ok l is)
           c.in-Some.ensures c.index-slots-entry.is in
           opened (S.image c.args.disk.now) l c.args.name.now c.in-Some.entry f c.open_entry.result is first
-          (if-so c.open_entry.result _ _ (λ v h. h.0 f rel) c.open_entry.ensures.ok)
-          (if-so c.open_entry.result _ _ (λ v h. h.1) c.open_entry.ensures.ok);
-      not_found = λ l h. weaker-fault c.open_entry.result _ _ (λ e is x. device-not-found e is x)
+          (IfOk-weaker c.open_entry.result _ _ (λ v h. h.0 f rel) c.open_entry.ensures.ok)
+          (IfOk-weaker c.open_entry.result _ _ (λ v h. h.1) c.open_entry.ensures.ok);
+      not_found = λ l h. IfErr-weaker c.open_entry.result _ _ (λ e is x. device-not-found e is x)
           c.open_entry.ensures.err;
-      told = weaker-fault c.open_entry.result _ _ (λ e is. inr is) c.open_entry.ensures.err;
+      told = IfErr-weaker c.open_entry.result _ _ (λ e is. inr is) c.open_entry.ensures.err;
       reads = reads_then g.D.Sectors.history _ _ _ 18 684 702 (omega arith) c.list_slots.ensures.reads
           c.open_entry.ensures.reads;
       failures = tells-rel-after g.D.Sectors.history _ _ _ c.in_ok-list_slots.ensures.failures c.open_entry.result

@@ -1,7 +1,8 @@
 -- The block is kept already, or lies behind the one that is, or is looked up.
 use Rattle.std.proofs.Common.{arith, ap, refl, ◌∙◌, ◌≡◌, ◌+◌, Some, None, Option, sym, ℕ}
+use Rattle.std.proofs.lemmas.Result.{IfOk-weaker}
 use Rattle.d64_image.proofs.Moments.{no_reads, reads_weaker}
-use Rattle.rel_records.proofs.lemmas.Told.{fault-is, if-so, none-done, passed-on}
+use Rattle.rel_records.proofs.lemmas.Told.{fault-is, none-done, passed-on}
 use Rattle.rel_records.proofs.reading.in_order.bring.Goals as goal
 use Rattle.rel_records.proofs.reading.in_order.bring.Goals.{in-Some+else-here-block+else-here-block-2, in_default}
 
@@ -40,7 +41,7 @@ pub returns-then-block-here-eq1-clause-here : goal.returns-then-block-here-eq1-c
 returns-then-block-here-eq1-clause-here g c =
     let same : c.in-Some.here + 1 ≡ c.args.block = omega (arith, c.if-block-here-eq1.true, c.if-here-block-2.true) in
     record {
-      ok = if-so c.go_on.result _ _ (λ done e. e ∙ ap Some same) c.go_on.ensures.next.ok;
+      ok = IfOk-weaker c.go_on.result _ _ (λ done e. e ∙ ap Some same) c.go_on.ensures.next.ok;
       err = c.go_on.ensures.next.err;
       reads = reads_weaker g.D.Sectors.history _ _ 1 2 (omega arith) c.go_on.ensures.next.reads;
       failures = c.go_on.ensures.next.failures;

@@ -1,10 +1,12 @@
 -- A record that isn't there is told without a read.
 use Rattle.std.proofs.Common.{arith, inr, ◌<◌, length, inl, refl}
+use Rattle.std.proofs.lemmas.Result.{IfErr-weaker}
 use Rattle.d64_image.proofs.Moments.{no_reads, reads_weaker}
+use Rattle.d64_image.proofs.Told.{at-ok}
 use Rattle.disk_layout.specs.Records.{records}
-use Rattle.rel_records.proofs.lemmas.Told.{device-not-present, if-then, weaker-fault}
+use Rattle.rel_records.proofs.lemmas.Told.{device-not-present, if-then}
 use Rattle.rel_records.proofs.lemmas.reading.Counts.{fewer}
-use Rattle.rel_records.proofs.lemmas.reading.Readings.{count-is, if_ok, placed}
+use Rattle.rel_records.proofs.lemmas.reading.Readings.{count-is, placed}
 use Rattle.rel_records.proofs.reading.in_order.read_next.Goals as goal
 
 pub returns-then-number-eq0-clause-text : goal.returns-then-number-eq0-clause-text
@@ -47,12 +49,12 @@ returns-clause-text g c =
     record {
       ok = λ l n f of. if-then c.next_there.result _ _ (λ done h. h.bytes l n f of) c.next_there.ensures.text.ok;
       size = if-then c.next_there.result _ _ (λ done h. h.size) c.next_there.ensures.text.ok;
-      bound = if_ok c.next_there.result
+      bound = at-ok c.next_there.result
           (placed (S.image c.args.disk.now) c.args.file.now c.args.number c.requires.of (S.whole c.args.disk.now)
           (omega (arith, c.if-number-eq0.false)) (c.has_records.ensures.0 c.if-not-has_records.false));
-      not_present = λ l n f of. weaker-fault c.next_there.result _ _ (λ e is o. device-not-present e is o)
+      not_present = λ l n f of. IfErr-weaker c.next_there.result _ _ (λ e is o. device-not-present e is o)
           c.next_there.ensures.text.err;
-      told = weaker-fault c.next_there.result _ _ (λ e is. inr is) c.next_there.ensures.text.err;
+      told = IfErr-weaker c.next_there.result _ _ (λ e is. inr is) c.next_there.ensures.text.err;
       reads = c.next_there.ensures.text.reads;
       failures = c.next_there.ensures.text.failures;
     }

@@ -1,5 +1,6 @@
 -- The record is written, whole or cut.
 use Rattle.std.proofs.Common.{IfErr, Result, length, subst, ℕ, ◌∙◌, ◌≡◌, ◌+◌, ◌<◌, arith, inl}
+use Rattle.std.proofs.lemmas.Result.{on_ok_weaker, IfErr-weaker}
 use Rattle.d64_image.proofs.Moments.{at_end}
 use Rattle.d64_image.specs.History.{Changes}
 use Rattle.disk_layout.specs.Layout.{record_length}
@@ -13,8 +14,6 @@ use Rattle.rel_records.specs.declared.faults.RelFault.{RelFault}
 use Rattle.rel_records.specs.declared.faults.RelFault.TheVariants.{Overflow}
 use Rattle.rel_records.proofs.lemmas.Told.{cut-tells}
 use Rattle.rel_records.proofs.lemmas.Told.{overflow-not-full}
-use Rattle.rel_records.proofs.lemmas.Told.{weaker-fault}
-use Rattle.rel_records.proofs.lemmas.steps.Sided.{ok-then}
 use Rattle.rel_records.proofs.writing.write_record.Goals as goal
 
 pub returns : goal.returns
@@ -48,7 +47,7 @@ returns g c =
                       let d = q.0 in cc),
                   (λ t. let full = ((c.grow_to.ensures.file l n f of).too_large).1 t in cc),
                 );
-            full = weaker-fault c.told_of_text.result _ _ (λ e h o. overflow-not-full e h.0 o)
+            full = IfErr-weaker c.told_of_text.result _ _ (λ e h o. overflow-not-full e h.0 o)
                 c.told_of_text.ensures.err;
             fits = λ done. (c.in_ok-grow_to.ensures.file l n f of).fits;
             moments =
@@ -70,9 +69,9 @@ returns g c =
                 (at_end S c.args.disk.now c.write_there.new.disk
                 (IsWriting a l n f m c.args.number c.args.position c.args.text.now) held.held);
           };
-      ok = ok-then c.told_of_text.result _ _ (λ h. omega (arith, h, c.in_ok-grow_to.ensures.same))
+      ok = on_ok_weaker c.told_of_text.result (λ h. omega (arith, h, c.in_ok-grow_to.ensures.same))
           c.told_of_text.ensures.ok;
-      overflow = weaker-fault c.told_of_text.result _ _ (λ e h o. omega (arith, h.1, c.in_ok-grow_to.ensures.same))
+      overflow = IfErr-weaker c.told_of_text.result _ _ (λ e h o. omega (arith, h.1, c.in_ok-grow_to.ensures.same))
           c.told_of_text.ensures.err;
       there = λ done.
           let S = g.D.Sectors.history in
@@ -85,9 +84,9 @@ returns g c =
                 c.in_ok-grow_to.ensures.there,
           );
       same = λ done. c.in_ok-grow_to.ensures.same;
-      told = weaker-fault c.told_of_text.result _ _ (λ e h. inl h.0) c.told_of_text.ensures.err;
-      refused = weaker-fault c.told_of_text.result _ _ (λ e h ne over. absurd (over h.0)) c.told_of_text.ensures.err;
-      uncounted = λ le one. weaker-fault c.told_of_text.result _ _ (λ e h over. absurd (over h.0))
+      told = IfErr-weaker c.told_of_text.result _ _ (λ e h. inl h.0) c.told_of_text.ensures.err;
+      refused = IfErr-weaker c.told_of_text.result _ _ (λ e h ne over. absurd (over h.0)) c.told_of_text.ensures.err;
+      uncounted = λ le one. IfErr-weaker c.told_of_text.result _ _ (λ e h over. absurd (over h.0))
           c.told_of_text.ensures.err;
       reads = omega (arith, c.in_ok-write_there.ensures.reads, c.grow_to.ensures.reads);
       few = λ le. omega (arith, c.in_ok-write_there.ensures.reads, (c.grow_to.ensures.quiet le).2.reads);

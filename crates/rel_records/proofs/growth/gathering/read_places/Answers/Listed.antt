@@ -7,7 +7,7 @@ use Rattle.d64_image.specs.Images.{sector}
 use Rattle.rel_records.proofs.growth.gathering.read_places.Goals as goal
 use Rattle.rel_records.proofs.lemmas.growth.Gathered.{piece-joined, piece-long, piece-named}
 use Rattle.rel_records.proofs.lemmas.growth.Gathered.{take-one}
-use Rattle.rel_records.proofs.lemmas.steps.Sided.{read-there}
+use Rattle.disk_layout.proofs.lemmas.lists.Lists.{read-there}
 
 pub list_blocks-requires-clause-named : goal.list_blocks-requires-clause-named
 list_blocks-requires-clause-named g c =
