@@ -1,6 +1,6 @@
 -- Numbers of which each below a limit stands once in a list are as many as the limit.
-use Rattle.std.proofs.Common.{◌≡◌, ◌≢◌, ◌<◌, ◌≤◌, inl, inr, ◌+◌, ℕ, zero, suc, Bool, true, List, [], ◌∷◌}
-use Rattle.std.proofs.Common.{◌++◌, length, ne_eqb, refl, subst, sym, ap, ◌∙◌, arith}
+use Rattle.std.proofs.Common.{◌≡◌, ◌≢◌, ◌<◌, ◌≤◌, inl, inr, ◌+◌, ℕ, zero, suc, Bool, List, [], ◌∷◌}
+use Rattle.std.proofs.Common.{◌++◌, length, eq-eqb, ne_eqb, refl, subst, sym, ap, ◌∙◌, arith}
 use Rattle.std.specs.Prelude.{if◌then◌else◌, flat_map, nat_eq}
 use Rattle.std.specs.List.{AllByRecursion}
 use Rattle.std.proofs.lemmas.Bool.{cases_eq}
@@ -10,11 +10,8 @@ use Rattle.disk_pictures.specs.Texts.{each_below, numbered}
 abbrev pub hit : ℕ → ℕ → ℕ
 hit n x = if nat_eq n x then 1 else 0
 
-pub self : (n : ℕ) → nat_eq n n ≡ true
-self n = grind arith
-
 pub hit-same : (n x : ℕ) → n ≡ x → hit n x ≡ 1
-hit-same n x e = subst (λ (y : ℕ). hit n y ≡ 1) e (ap (λ (b : Bool). if b then 1 else 0) (self n))
+hit-same n x e = subst (λ (y : ℕ). hit n y ≡ 1) e (ap (λ (b : Bool). if b then 1 else 0) (eq-eqb n n refl))
 
 pub hit-other : (n x : ℕ) → n ≢ x → hit n x ≡ 0
 hit-other n x ne = ap (λ (b : Bool). if b then 1 else 0) (ne_eqb n x ne)

@@ -1,6 +1,6 @@
 -- The number of each sector stands in a drawing by number once.
 use Rattle.std.proofs.Common.{◌≡◌, ◌≢◌, ◌≤◌, ◌+◌, ℕ, zero, suc, true, false, List, [], ◌∷◌}
-use Rattle.std.proofs.Common.{◌++◌, ne_eqb, refl, subst, sym, ap, ◌∙◌, arith}
+use Rattle.std.proofs.Common.{◌++◌, eq-eqb, ne_eqb, refl, subst, sym, ap, ◌∙◌, arith}
 use Rattle.std.specs.Prelude.{Contains, Option, Some, if◌then◌else◌, flat_map, slice_get}
 use Rattle.d64_image.specs.Images.{Image, Sector}
 use Rattle.d64_image.specs.Places.{index_of}
@@ -9,7 +9,6 @@ use Rattle.disk_layout.specs.Chain.{EachOnce}
 use Rattle.disk_layout.specs.Directory.{map_place}
 use Rattle.disk_layout.specs.Layout.{File, Layout}
 use Rattle.disk_layout.specs.declared.faults.Fault.{Fault}
-use Rattle.disk_pictures.proofs.Counted.{self}
 use Rattle.disk_pictures.proofs.Counted.{times-append, times-nil}
 use Rattle.disk_pictures.proofs.CountedDrawing.{all-of, no-place, none-of, number, once, one-place, other, out, same}
 use Rattle.disk_pictures.proofs.DrawnOnce.{drawn-once}
@@ -203,14 +202,14 @@ module _ (show : Show) (l : Layout) (p : Place) where
     each map v (owner.Blocks k) e (f, at, c, each-once) =
         let none = no-system (λ h. omega (arith, h, ap kind e)) (λ h. omega (arith, h, ap kind e)) in
         let first = from-0 l.files k f at
-        (by-blocks k f (ap (is_blocks k) e ∙ self k) (ap (is_sides k) e) each-once c)
+        (by-blocks k f (ap (is_blocks k) e ∙ eq-eqb k k refl) (ap (is_sides k) e) each-once c)
         (λ j ne. (ap (is_blocks j) e ∙ ne_eqb k j (λ h. ne (sym h)), ap (is_sides j) e)) in
         let nobody = no-place p (λ q. is_nobody (owner_of l q)) (ap is_nobody e) in
         omega (arith, whole v map, none, first, others map, nobody)
     each map v (owner.Sides k) e (f, at, c, each-once) =
         let none = no-system (λ h. omega (arith, h, ap kind e)) (λ h. omega (arith, h, ap kind e)) in
         let first = from-0 l.files k f at
-        (by-sides k f (ap (is_blocks k) e) (ap (is_sides k) e ∙ self k) each-once c)
+        (by-sides k f (ap (is_blocks k) e) (ap (is_sides k) e ∙ eq-eqb k k refl) each-once c)
         (λ j ne. (ap (is_blocks j) e, ap (is_sides j) e ∙ ne_eqb k j (λ h. ne (sym h)))) in
         let nobody = no-place p (λ q. is_nobody (owner_of l q)) (ap is_nobody e) in
         omega (arith, whole v map, none, first, others map, nobody)

@@ -3,7 +3,7 @@ use Rattle.std.proofs.Common.{◌≡◌, ◌≢◌, ◌<◌, ◌≤◌, ◌⊎�
 use Rattle.std.proofs.Common.{take, refl, subst, sym, ap, ◌∙◌, arith}
 use Rattle.std.specs.Prelude.{Contains, Some, if◌then◌else◌, nat_eq, nat_lt, slice_get}
 use Rattle.std.specs.List.{AllByRecursion}
-use Rattle.std.proofs.lemmas.Bool.{eqb-true, false≢true, ltb-false, ltb-true, and_parts}
+use Rattle.std.proofs.lemmas.Bool.{and_parts, eq-eqb, eqb-true, false≢true, ltb-false, ltb-true}
 use Rattle.std.proofs.lemmas.List.{take-append-drop}
 use Rattle.std.proofs.lemmas.List.Folds.{list_any_at}
 use Rattle.std.proofs.lemmas.Map.Views.{Contains-from_any}
@@ -24,11 +24,8 @@ place-is p q e =
     let parts = and_parts (nat_eq q.track p.track) (nat_eq q.sector p.sector) e in
     same_place p q (sym (eqb-true q.track p.track parts.0)) (sym (eqb-true q.sector p.sector parts.1))
 
-self : (n : ℕ) → nat_eq n n ≡ true
-self n = grind arith
-
 place-self : (p : Place) → is_place p p ≡ true
-place-self p = rw (self p.track, self p.sector) refl
+place-self p = rw (eq-eqb p.track p.track refl, eq-eqb p.sector p.sector refl) refl
 
 pub has-there : (ps : List Place) (p : Place) → has ps p ≡ true → Contains ps p
 unfolding has

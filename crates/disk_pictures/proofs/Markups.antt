@@ -1,11 +1,11 @@
 -- Bytes of a disk bring no markup into a page.
 use Rattle.std.proofs.Common.{◌≡◌, inl, inr, ◌+◌, ◌/◌, ◌%◌, ℕ, List, [], ◌∷◌, ◌++◌, Bool, true, false, ne_eqb, refl}
 use Rattle.std.proofs.Common.{sym, ap, ◌∙◌, arith}
-use Rattle.std.specs.Prelude.{codes, flat_map, if◌then◌else◌, nat_eq, nat_lt, not, ◌&&◌}
+use Rattle.std.specs.Prelude.{codes, flat_map, if◌then◌else◌, nat_eq, nat_lt}
 use Rattle.std.proofs.lemmas.Bool.{false≢true}
 use Rattle.std.proofs.lemmas.List.Elements.{filter-append}
 use Rattle.byte_text.specs.Texts.{byte_text, digit, is_plain}
-use Rattle.disk_pictures.proofs.PlainBytes.{plain-escaped, plain-none}
+use Rattle.disk_pictures.proofs.PlainBytes.{no-quote, plain-escaped, plain-none}
 use Rattle.disk_pictures.specs.Html.{escaped, html_byte, html_of, is_long, plain_byte}
 use Rattle.disk_pictures.specs.Markup.{BeginsEscape, IsEscaped, is_markup, markup_of}
 
@@ -23,12 +23,6 @@ escape-none false false false c less greater quote = rw (quote, less, greater) r
 escaped-none : (c : ℕ) → nat_eq c 34 ≡ false → markup_of (escaped c) ≡ []
 escaped-none c quote = escape-none (nat_eq c 38) (nat_eq c 60) (nat_eq c 62) c refl refl quote
 
-not-third : (x y z w : Bool) → (x && (y && (not z && not w))) ≡ true → z ≡ false
-not-third true true false w e = refl
-not-third true true true w e = absurd (false≢true e)
-not-third true false z w e = absurd (false≢true e)
-not-third false y z w e = absurd (false≢true e)
-
 digit-quote : (t : Bool) (n : ℕ) → nat_eq (if t then 48 + n else 87 + n) 34 ≡ false
 digit-quote true n = ne_eqb (48 + n) 34 (λ e. omega (arith, e))
 digit-quote false n = ne_eqb (87 + n) 34 (λ e. omega (arith, e))
@@ -36,7 +30,7 @@ digit-quote false n = ne_eqb (87 + n) 34 (λ e. omega (arith, e))
 byte-none : (p : Bool) (b : ℕ) → is_plain b ≡ p
     → markup_of (flat_map escaped (if p then b ∷ [] else 92 ∷ digit (b / 16) ∷ digit (b % 16) ∷ [])) ≡ []
 byte-none true b plain =
-    both-none (escaped b) [] (escaped-none b (not-third _ _ (nat_eq b 34) (nat_eq b 92) plain)) refl
+    both-none (escaped b) [] (escaped-none b (no-quote _ _ (nat_eq b 34) (nat_eq b 92) plain)) refl
 byte-none false b plain =
     let high = escaped-none (digit (b / 16)) (digit-quote (nat_lt (b / 16) 10) (b / 16)) in
     let low = escaped-none (digit (b % 16)) (digit-quote (nat_lt (b % 16) 10) (b % 16)) in

@@ -2,6 +2,7 @@
 use Rattle.std.proofs.Common.{◌≡◌, ◌≢◌, ◌<◌, ◌≤◌, ◌-◌, ◌⊎◌, inl, inr, ℕ, zero, suc, List, [], ◌∷◌, length, take, refl}
 use Rattle.std.proofs.Common.{subst, sym, ap, ap₂, ◌∙◌, ne_eqb, arith}
 use Rattle.std.specs.Prelude.{slice_index}
+use Rattle.std.proofs.lemmas.List.{length-take-le}
 use Rattle.disk_pictures.specs.Names.{name_before, unpadded}
 
 -- shifted spaces alone are dropped
@@ -19,10 +20,6 @@ kept-some x (y ∷ ys) other = refl
 kept-long : (x : ℕ) (xs : List ℕ) → 1 ≤ length xs → name_before x xs ≡ x ∷ xs
 kept-long x [] long = absurd (omega (arith, long))
 kept-long x (y ∷ ys) long = refl
-
-first-there : (xs : List ℕ) (n : ℕ) → suc n ≤ length xs → 1 ≤ length (take (suc n) xs)
-first-there [] n few = absurd (omega (arith, few))
-first-there (x ∷ xs) n few = omega arith
 
 pub unpadded-is : (xs : List ℕ) (n : ℕ) → n ≤ length xs → ((i : ℕ) → n ≤ i → i < length xs → slice_index xs i ≡ 160)
     → (n ≡ 0) ⊎ (slice_index xs (n - 1) ≢ 160) → take n xs ≡ unpadded xs
@@ -47,5 +44,5 @@ unpadded-is (x ∷ xs) (suc (suc n)) few pad last =
     unpadded-is xs (suc n) (omega (arith, few)) (λ i le lt. pad (suc i) (omega (arith, le)) (omega (arith, lt)))
     last' in
     let long : 1 ≤ length (unpadded xs) = subst (λ (ys : List ℕ). 1 ≤ length ys) rest
-    (first-there xs n (omega (arith, few))) in
+    (omega (arith, length-take-le (suc n) xs (omega (arith, few)))) in
     ap (λ (ys : List ℕ). x ∷ ys) rest ∙ sym (kept-long x (unpadded xs) long)

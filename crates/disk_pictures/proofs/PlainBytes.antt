@@ -71,7 +71,7 @@ quiet-three a b c p q r = record {
 spelled : (n m : ℕ) → IsShown (92 ∷ digit n ∷ digit m ∷ [])
 spelled n m = quiet-three 92 (digit n) (digit m) backslash-quiet (digit-quiet n) (digit-quiet m)
 
-no-quote : (x y z w : Bool) → (x && (y && (not z && not w))) ≡ true → z ≡ false
+pub no-quote : (x y z w : Bool) → (x && (y && (not z && not w))) ≡ true → z ≡ false
 no-quote true true false w e = refl
 no-quote true true true w e = absurd (false≢true e)
 no-quote true false z w e = absurd (false≢true e)

@@ -1,7 +1,7 @@
 -- Lines printed one after another.
 use Rattle.std.proofs.Common.{◌≡◌, ◌<◌, ◌+◌, ◌++◌, ℕ, suc, List, [], ◌∷◌, get_or, length, map, take, refl, subst, sym}
 use Rattle.std.proofs.Common.{ap, append_assoc, ◌∙◌, arith}
-use Rattle.std.specs.Prelude.{OnOk, Option, Result, Ok, Err}
+use Rattle.std.specs.Prelude.{Option}
 use Rattle.std.specs.Io.KnownBytes.{Appends}
 use Rattle.std.specs.Char.{encode_utf8}
 use Rattle.std.proofs.lemmas.Bool.{lt-ltb}
@@ -78,11 +78,6 @@ three a b c d x y z first second third = Appends-trans a b d x (y ++ z) first (A
 pub ascii : (c : ℕ) → c < 128 → encode_utf8 c ≡ c ∷ []
 unfolding encode_utf8
 ascii c small = rw (lt-ltb c 128 small) refl
-
--- what holds in any case holds at Ok
-pub at-ok : {T E P : Type 0} (r : Result T E) → P → OnOk r P
-at-ok (Ok x) p = p
-at-ok (Err e) p = tt
 
 -- four texts, one after another
 pub four : (a b c d e : Option (List ℕ)) (x y z u : List ℕ) → Appends a b x → Appends b c y → Appends c d z

@@ -1,5 +1,5 @@
 -- What comes of a play over the file of a mirror, from that over the mirror and whether it is broken.
-use Rattle.std.proofs.Common.{◌≡◌, ◌≢◌, ◌<◌, ◌≤◌, ◌+◌, ℕ, List, None, Result, Ok, Err, arith, inl, inr}
+use Rattle.std.proofs.Common.{◌≡◌, ◌≢◌, ◌<◌, ◌≤◌, ℕ, List, None, Result, Ok, Err, arith, inl, inr}
 use Rattle.std.proofs.Common.{length, refl, subst, sym, ap, ⊎_elim}
 use Rattle.std.proofs.lemmas.Bool.{cases_lt}
 use Rattle.d64_image.specs.declared.mirror.Mirror.{Mirror}
@@ -8,15 +8,15 @@ use Rattle.d64_image.specs.FileDisks.{FileDisk, in_run}
 use Rattle.d64_image.specs.History.{Failed}
 use Rattle.d64_image.specs.Keeps.{FileFailed, Keeps}
 use Rattle.d64_image.specs.Memory.{sectors_in}
-use Rattle.d64_image.specs.Mirrors.{IsMirrored, is_broken, mirror, mirror_image, one_if}
-use Rattle.d64_image.proofs.FileRuns.{file_disk, file_failed, one_if-false}
+use Rattle.d64_image.specs.Mirrors.{IsMirrored, is_broken, mirror, mirror_image}
+use Rattle.d64_image.proofs.FileRuns.{file_disk, file_failed, not_failed, same_file}
 use Rattle.host_session.specs.declared.faults.OpenFault.{OpenFault}
 use Rattle.host_session.specs.declared.faults.OpenFault.TheVariants as opening
 use Rattle.host_session.specs.declared.runs.running.ScriptFault.{ScriptFault}
 use Rattle.host_session.specs.declared.runs.running.ScriptFault.TheVariants as script_faults
 use Rattle.host_session.specs.events.Telling.{Output}
 use Rattle.host_session.specs.runs.ScriptRuns.{IsScriptRun}
-use Rattle.host_session.specs.session.Opening.{Refuses, Untouched}
+use Rattle.host_session.specs.session.Opening.{Refuses}
 use Rattle.script_lines.specs.Lines.{lines}
 use Rattle.script_lines.specs.Resets.{first_bad}
 use Rattle.ledger_commands.specs.Faults.{opening_fault, script_fault}
@@ -65,20 +65,6 @@ module _ {F T : Type 0} {G : Ghosts F} (o : Output T) (image script : List ℕ) 
   reached_at_ok : IsScriptRun mirror o start script old new (Ok m) → IsMirrored start m
   reached_at_ok x = let s = x.shop in (x.moments s.0 s.1).reached
 
-  not_failed : (is_broken m → ⊥) → Failed mirror start m → ⊥
-  not_failed whole failed =
-      let none : one_if m.broken ≡ 0 = one_if-false m.broken whole in
-      let rose : one_if start.broken < one_if m.broken = failed.rose (omega (arith, none)) in
-      omega (arith, none, rose)
-
-  -- a file that was handed nothing is as it was
-  same_file : Untouched mirror start m → (is_broken m → ⊥) → m.file ≡ start.file
-  same_file kept whole =
-      let taken : m.taken.n ≤ start.taken.n + 0 = kept.writes in
-      let x : IsMirrored start m = kept.held.reached in
-      ⊎_elim (λ broken. absurd (whole broken)) (λ e. e)
-      (x.quiet (omega (arith, taken, x.taken)) (omega (arith, taken, untaken)))
-
   -- each line was played, and the file is whole
   pub whole_at_ok : (is_broken m → ⊥) → IsPlayEnd mirror o start script old new (Ok m)
       → IsPlayedFile G.keeps o image script start.file m.file old new
@@ -116,9 +102,11 @@ module _ {F T : Type 0} {G : Ghosts F} (o : Output T) (image script : List ℕ) 
   script_at whole (script_faults.Open f) x =
       let y = x.«open» f refl in
       let other : f ≢ opening.Device =
-      λ is. not_failed whole (subst (Refuses (Failed mirror start m) (mirror_image start)) is y.0.refused) in
-      refused_at f other (no_bad_line (script_faults.Open f) x (λ n is. cc)) (same_file (y.0.kept other) whole) y.1
-      (subst (λ img. Refuses ⊥ img f) holds (refuses_so _ _ (mirror_image start) f (not_failed whole) y.0.refused))
+      λ is. not_failed start m whole (subst (Refuses (Failed mirror start m) (mirror_image start)) is y.0.refused) in
+      refused_at f other (no_bad_line (script_faults.Open f) x (λ n is. cc))
+      (same_file start m _ untaken (y.0.kept other) whole) y.1
+      (subst (λ img. Refuses ⊥ img f) holds
+      (refuses_so _ _ (mirror_image start) f (not_failed start m whole) y.0.refused))
   script_at whole (script_faults.BadLine n) x =
       let first = x.good n refl in
       let y = x.bad_line n first in
@@ -127,7 +115,7 @@ module _ {F T : Type 0} {G : Ghosts F} (o : Output T) (image script : List ℕ) 
   script_at whole script_faults.Output x =
       let s = x.after refl in
       file_at whole (x.moments s.0 s.1).reached (inr (script_faults.Output, refl, x))
-  script_at whole script_faults.Device x = absurd (not_failed whole (x.cause refl).1)
+  script_at whole script_faults.Device x = absurd (not_failed start m whole (x.cause refl).1)
 
   pub whole_at_err : (is_broken m → ⊥) → (fault : RunFault) → IsPlayEnd mirror o start script old new (Err (fault, m))
       → IsFileFault G.keeps o image script start.file m.file old new fault

@@ -1,9 +1,7 @@
 -- What is kept of a disk in the bytes of a file, where a sector of it was written there.
 use Rattle.std.proofs.Common.{◌≡◌, ◌≤◌, ◌⊎◌, ◌∙◌, ℕ, List, Option, Some, None}
-use Rattle.std.proofs.Common.{ap, arith, inl, inr, length, refl, sym, ⊎_elim}
-use Rattle.std.specs.Prelude.{◌+◌, ◌<◌, ◌++◌, drop, slice_index, take}
-use Rattle.std.proofs.lemmas.List.{length-append, length-drop, length-take}
-use Rattle.std.proofs.lemmas.Option.{none-some}
+use Rattle.std.proofs.Common.{ap, inl, inr, length, refl, sym, ⊎_elim}
+use Rattle.std.specs.Prelude.{◌<◌, slice_index}
 use Rattle.d64_image.specs.Images.{Image, IsImage, IsSector, put}
 use Rattle.d64_image.specs.Keeps.{put_kept}
 use Rattle.d64_image.specs.Memory.{bytes_of, sectors_in}
@@ -12,7 +10,6 @@ use Rattle.d64_image.specs.declared.place.Place.{Place}
 use Rattle.d64_image.proofs.Chunks.{chunks_are_bytes, chunks_are_sectors, length-bytes_of, sectors_in-bytes_of}
 use Rattle.d64_image.proofs.Images.{put_is_image}
 use Rattle.d64_image.proofs.Offsets.{bytes_of-put}
-use Rattle.d64_image.proofs.Places.{index_below}
 use Rattle.ledger_commands.specs.Lasting.{Lasting, StaysOr, overwritten_in}
 use Rattle.ledger_commands.specs.LastingImages.{
   image_of,
@@ -38,30 +35,6 @@ image_of-overwritten (Some all) p bytes new sized small =
     image_of-size (overwritten all (offset_of p) bytes) (ap length e ∙ length-bytes_of (put img p bytes) after)
     ∙ ap Some (ap sectors_in e ∙ sectors_in-bytes_of (put img p bytes) after)
     ∙ sym (ap (λ o. put_kept o p bytes) (image_of-size all size))
-
-pub length-overwritten : (all : List ℕ) (n : ℕ) (bytes : List ℕ) → n + length bytes ≤ length all
-    → length (overwritten all n bytes) ≡ length all
-length-overwritten all n bytes le = omega (
-  arith,
-  le,
-  length-append (take n all ++ bytes) (drop (n + length bytes) all),
-  length-append (take n all) bytes,
-  length-take n all,
-  length-drop (n + length bytes) all,
-)
-
--- a sector of a disk ends in its image
-pub in_image : (p : Place) (bytes : List ℕ) → IsSector bytes → offset_of p + length bytes ≤ 174848
-in_image p bytes is = omega (arith, is.size, index_below p)
-
-next_sized : (o : Option (List ℕ)) (n : ℕ) (bytes all : List ℕ)
-    → ((xs : List ℕ) → o ≡ Some xs → length xs ≡ 174848) → n + length bytes ≤ 174848
-    → overwritten_in o n bytes ≡ Some all → length all ≡ 174848
-next_sized None n bytes all sized le e = absurd (none-some all e)
-next_sized (Some xs) n bytes all sized le e =
-    let size : length xs ≡ 174848 = sized xs refl in
-    let same : overwritten xs n bytes ≡ all = cc in
-    sym (ap length same) ∙ length-overwritten xs n bytes (omega (arith, le, size)) ∙ size
 
 module _ {F : Type 0} (L : Lasting F) (old new : F) (p : Place) (bytes : List ℕ) (is : IsSector bytes)
     (sized : (all : List ℕ) → L.bytes old ≡ Some all → length all ≡ 174848) where
@@ -91,10 +64,3 @@ module _ {F : Type 0} (L : Lasting F) (old new : F) (p : Place) (bytes : List �
       ⊎ ((image_of (L.bytes old) ≡ Some c) ⊎ (put_kept (image_of (L.bytes old)) p bytes ≡ Some c))
   before_image x t c le h =
       ⊎_elim (λ s. inl (h.0, s, h.2)) (λ s. inr (among h.0 c h.2 s)) (x.before t h.0 le h.1)
-
-  -- it has the size of an image as before
-  pub sized_then : StaysOr L old new next → (all : List ℕ) → L.bytes new ≡ Some all → length all ≡ 174848
-  sized_then x all e = ⊎_elim
-      (λ s. sized all (sym s ∙ e))
-      (λ s. next_sized (L.bytes old) (offset_of p) bytes all sized (in_image p bytes is) (sym s ∙ e))
-      x.now

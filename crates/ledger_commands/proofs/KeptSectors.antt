@@ -25,7 +25,7 @@ use Rattle.ledger_commands.specs.Placed.{GrowsOn, is_synced, placed, seen_of}
 use Rattle.ledger_commands.specs.declared.durable.WritesAt.{Ghosts}
 use Rattle.ledger_commands.specs.declared.placed.Placed.{Placed}
 use Rattle.ledger_commands.proofs.Synced.{on_ok_of}
-use Rattle.ledger_commands.proofs.Kept.{before_image, each_image, kept_either, kept_ok, sized_then}
+use Rattle.ledger_commands.proofs.Kept.{before_image, each_image, kept_either, kept_ok}
 
 -- a sector of a disk lies in the file of its image
 pub sector_in : (o : Option (List ℕ)) (p : Place) (n : ℕ) (bytes : List ℕ) → IsSector bytes → n ≡ offset_of p
@@ -137,9 +137,3 @@ module _ {F : Type 0} {G : Ghosts F} (a b : Placed F G) (p : Place) (bytes : Lis
     uncounted = uncounted;
     failures = failures;
   }
-
-  -- and it is an image's file yet
-  pub fits_so : StaysOr L a.file b.file (overwritten_in (L.bytes a.file) (offset_of p) bytes) → (all : List ℕ)
-      → (seen_of b).bytes b.file ≡ Some all → length all ≡ 174848
-  fits_so stays all e = sized_then L a.file b.file p bytes is a.whole stays all
-      (seen_back a b grows (λ M. M.bytes b.file ≡ Some all) e)

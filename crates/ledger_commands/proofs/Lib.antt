@@ -8,7 +8,6 @@ pub mod FileEnds
 pub mod FileScripts
 pub mod Formats
 mod Kept
-mod KeptOn
 mod KeptSectors
 pub mod Listings
 mod PlayEnds

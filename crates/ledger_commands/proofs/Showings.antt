@@ -1,10 +1,8 @@
 -- What is shown of a shop, from its parts; and an image that is no shop's, from the fault of its opening.
-use Rattle.std.proofs.Common.{◌≡◌, ℕ, List, Option, Result, Ok, Err, OnOk, length, refl, arith}
+use Rattle.std.proofs.Common.{◌≡◌, ℕ, List, Option, length, refl}
 use Rattle.std.specs.Io.KnownBytes.{Appends, Keeps}
 use Rattle.std.proofs.KnownBytes.{Appends-kept, Appends-trans}
-use Rattle.d64_image.specs.History.{Failed}
-use Rattle.d64_image.specs.Memory.{memory, sectors_in}
-use Rattle.d64_image.specs.declared.mem_disk.MemDisk.{MemDisk}
+use Rattle.d64_image.specs.Memory.{sectors_in}
 use Rattle.host_session.specs.declared.faults.OpenFault.{OpenFault}
 use Rattle.host_session.specs.declared.faults.OpenFault.TheVariants as opening
 use Rattle.host_session.specs.session.Opening.{Refuses}
@@ -13,11 +11,6 @@ use Rattle.ledger_commands.specs.Faults.{opening_fault}
 use Rattle.ledger_commands.specs.Shops.{IsShowFault}
 use Rattle.ledger_commands.specs.Shows.{card_lines, shown_shop, till_lines, top_line}
 
--- what holds in each case holds at Ok
-pub at-ok : {T E P : Type 0} (r : Result T E) → P → OnOk r P
-at-ok (Ok x) p = p
-at-ok (Err e) p = tt
-
 -- the top's line, the cards and the tills, handed over
 pub shop-shown : (a b c d e : Option (List ℕ)) (top : ℕ) (state : State) → Appends a b (top_line top)
     → Appends b c (card_lines state)
@@ -25,10 +18,6 @@ pub shop-shown : (a b c d e : Option (List ℕ)) (top : ℕ) (state : State) →
 unfolding shown_shop
 shop-shown a b c d e top state first cards tills kept =
     Appends-kept a d e _ (Appends-trans a b d _ _ first (Appends-trans b c d _ _ cards tills)) kept
-
--- a disk in memory never fails
-pub memory-never : (a b : MemDisk) → Failed memory a b → ⊥
-memory-never a b failed = omega (arith, failed.rose (omega arith))
 
 -- an image that isn't opened isn't shown
 pub show-refused : (image : List ℕ) (failed : Type 0) (f : OpenFault) → (failed → ⊥) → length image ≡ 174848

@@ -50,8 +50,8 @@ module _ {F : Type 0} {G : Ghosts F} (durability : Durability) (image : List ℕ
       → OnOk ended (AllStays G.held G.lasting (placed_file last))
       → IfErr ended (λ fault. fault ≡ faults.File → AllStays G.held G.lasting (placed_file last))
       → IsDurableRun durability image file after ended IsRun
-  durable_run is_file unfailed is_last run told refused unblamed blamed failed same reached untouched alone brought synced
-      unsynced there stands = record {
+  durable_run is_file unfailed is_last run told refused unblamed blamed failed same reached untouched alone brought
+      synced unsynced there stands = record {
         first = first;
         left = left;
         last = last;

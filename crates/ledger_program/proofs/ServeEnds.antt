@@ -1,20 +1,20 @@
 -- What comes of a shop that is served over the file of a mirror, from what came of it over the mirror and whether that
 -- is broken.
-use Rattle.std.proofs.Common.{◌≡◌, ◌≢◌, ◌<◌, ◌≤◌, ◌+◌, ℕ, List, Result, Ok, Err, arith, inl, inr, length, refl}
-use Rattle.std.proofs.Common.{subst, ⊎_elim}
+use Rattle.std.proofs.Common.{◌≡◌, ◌≢◌, ℕ, List, Result, Ok, Err, inl, inr, length, refl}
+use Rattle.std.proofs.Common.{subst}
 use Rattle.d64_image.specs.declared.mirror.Mirror.{Mirror}
 use Rattle.d64_image.specs.declared.sector_file.SectorFile.{Ghosts}
 use Rattle.d64_image.specs.FileDisks.{FileDisk, in_run}
 use Rattle.d64_image.specs.History.{Failed}
 use Rattle.d64_image.specs.Keeps.{FileFailed}
 use Rattle.d64_image.specs.Memory.{sectors_in}
-use Rattle.d64_image.specs.Mirrors.{IsMirrored, is_broken, mirror, mirror_image, one_if}
-use Rattle.d64_image.proofs.FileRuns.{file_disk, file_failed, one_if-false}
+use Rattle.d64_image.specs.Mirrors.{IsMirrored, is_broken, mirror, mirror_image}
+use Rattle.d64_image.proofs.FileRuns.{file_disk, file_failed, not_failed, same_file}
 use Rattle.host_session.specs.declared.faults.OpenFault.{OpenFault}
 use Rattle.host_session.specs.declared.faults.OpenFault.TheVariants as opening
 use Rattle.host_session.specs.declared.runs.looping.LoopFault.{LoopFault}
 use Rattle.host_session.specs.declared.runs.looping.LoopFault.TheVariants as loop
-use Rattle.host_session.specs.session.Opening.{Refuses, Untouched}
+use Rattle.host_session.specs.session.Opening.{Refuses}
 use Rattle.serving.specs.Answering.{Answering}
 use Rattle.serving.specs.Giving.{Input}
 use Rattle.serving.specs.Serves.{IsServed}
@@ -57,20 +57,6 @@ module _ {F R T : Type 0} {G : Ghosts F} (i : Input R) (a : Answering T) (image 
   reached_at_ok : Served (Ok m) → IsMirrored start m
   reached_at_ok x = let s = x.shop in (x.moments s.0 s.1).reached
 
-  not_failed : (is_broken m → ⊥) → Failed mirror start m → ⊥
-  not_failed whole failed =
-      let none : one_if m.broken ≡ 0 = one_if-false m.broken whole in
-      let rose : one_if start.broken < one_if m.broken = failed.rose (omega (arith, none)) in
-      omega (arith, none, rose)
-
-  -- a file that was handed nothing is as it was
-  same_file : Untouched mirror start m → (is_broken m → ⊥) → m.file ≡ start.file
-  same_file kept whole =
-      let taken : m.taken.n ≤ start.taken.n + 0 = kept.writes in
-      let x : IsMirrored start m = kept.held.reached in
-      ⊎_elim (λ broken. absurd (whole broken)) (λ e. e)
-      (x.quiet (omega (arith, taken, x.taken)) (omega (arith, taken, untaken)))
-
   -- each line was served, and the file is whole
   pub served_at_ok : (is_broken m → ⊥) → Served (Ok m)
       → IsServedFile G.keeps i a image start.file m.file old_in new_in old new
@@ -99,14 +85,15 @@ module _ {F R T : Type 0} {G : Ghosts F} (i : Input R) (a : Answering T) (image 
   served_at_err whole (loop.Open f) x =
       let y = x.«open» f refl in
       let other : f ≢ opening.Device =
-      λ is. not_failed whole (subst (Refuses (Failed mirror start m) (mirror_image start)) is y.0.refused) in
-      refused_at f other (same_file (y.0.kept other) whole) y.1 y.2
-      (subst (λ img. Refuses ⊥ img f) holds (refuses_so _ _ (mirror_image start) f (not_failed whole) y.0.refused))
+      λ is. not_failed start m whole (subst (Refuses (Failed mirror start m) (mirror_image start)) is y.0.refused) in
+      refused_at f other (same_file start m _ untaken (y.0.kept other) whole) y.1 y.2
+      (subst (λ img. Refuses ⊥ img f) holds
+      (refuses_so _ _ (mirror_image start) f (not_failed start m whole) y.0.refused))
   served_at_err whole loop.Input x = let s = x.after (inl refl) in
       ((x.moments s.0 s.1).reached.unfailed whole, inl (at_err loop.Input x))
   served_at_err whole loop.Output x = let s = x.after (inr refl) in
       ((x.moments s.0 s.1).reached.unfailed whole, inr (at_err loop.Output x))
-  served_at_err whole loop.Device x = absurd (not_failed whole (x.cause refl).1)
+  served_at_err whole loop.Device x = absurd (not_failed start m whole (x.cause refl).1)
 
   -- the file failed
   failed_at_err : is_broken m → (f : LoopFault) → Served (Err (f, m)) → FileFailed G.keeps start.file m.file

@@ -1,5 +1,5 @@
 -- Lines that are taken of an input, and one more of them.
-use Rattle.std.proofs.Common.{◌≡◌, ◌⊎◌, ◌<◌, ◌≤◌, ◌+◌, ℕ, true, List, [], ◌∷◌, ◌++◌, Option, None, map, refl, sym}
+use Rattle.std.proofs.Common.{◌≡◌, ◌⊎◌, ◌≤◌, ◌+◌, ℕ, true, List, [], ◌∷◌, ◌++◌, Option, None, map, refl, sym}
 use Rattle.std.proofs.Common.{◌∙◌, ap, append-nil, arith, inl, inr, length, subst, ⊎_elim}
 use Rattle.std.specs.Prelude.{OnSome}
 use Rattle.std.specs.Io.KnownBytes.{Consumes, IsAtEnd}
@@ -143,11 +143,3 @@ module _ {R : Type 0} (i : Input R) (old new : OfInput R) where
               (λ first xs k. subst (λ now. i.asked first now xs) (sym input) k) (λ _. inr spent) (inl is),
           is,
         )
-
--- behind an end or a failure the same is said again
-pub said_again : {R : Type 0} (i : Input R) (x : OfInput R) (at : Instant) (said : Next)
-    → x.said ≡ said → (said ≡ next.Event → ⊥)
-    → IsNext (of_input i) x x at said
-said_again i x at next.Event is never = absurd (never refl)
-said_again i x at next.End is never = (λ first xs k. k, is, λ failed. failed)
-said_again i x at next.Failed is never = (λ first xs k. k, is)

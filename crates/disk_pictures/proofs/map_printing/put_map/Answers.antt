@@ -6,7 +6,8 @@ use Rattle.std.proofs.KnownBytes.{Appends-kept, Appends-trans}
 use Rattle.d64_image.specs.Images.{Sector}
 use Rattle.disk_layout.specs.Layout.{Layout}
 use Rattle.disk_layout.specs.declared.faults.Fault.{Fault}
-use Rattle.disk_pictures.proofs.Printing.{at-ok, three}
+use Rattle.d64_image.proofs.Told.{at-ok}
+use Rattle.disk_pictures.proofs.Printing.{three}
 use Rattle.disk_pictures.specs.Drawings.{file_in}
 use Rattle.disk_pictures.specs.Held.{drawn_in}
 use Rattle.disk_pictures.specs.Maps.{entry_line, map_head, map_text, track_line}

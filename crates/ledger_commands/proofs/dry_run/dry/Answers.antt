@@ -4,7 +4,7 @@ use Rattle.std.proofs.Common.{[]}
 use Rattle.std.proofs.KnownBytes.{Appends-kept}
 use Rattle.request_cards.proofs.Plain.{replies_by_ledger, plain_nil}
 use Rattle.script_lines.specs.Lines.{lines}
-use Rattle.ledger_commands.proofs.Showings.{at-ok}
+use Rattle.d64_image.proofs.Told.{at-ok}
 use Rattle.ledger_commands.specs.Tables.{dry_start}
 use Rattle.ledger_commands.proofs.dry_run.dry.Goals as goal
 

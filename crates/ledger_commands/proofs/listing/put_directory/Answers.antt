@@ -1,6 +1,6 @@
 -- The first line, the lines of the entries and the last line are the listing.
 use Rattle.ledger_commands.proofs.Listings.{listing-written}
-use Rattle.ledger_commands.proofs.Showings.{at-ok}
+use Rattle.d64_image.proofs.Told.{at-ok}
 use Rattle.ledger_commands.proofs.listing.put_directory.Goals as goal
 
 pub returns-clause-ok : goal.returns-clause-ok

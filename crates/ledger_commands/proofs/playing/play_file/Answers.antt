@@ -1,5 +1,6 @@
 -- The cases of a play: it came to its end, or a fault ended it; and its file failed, or not.
-use Rattle.std.proofs.Common.{◌≡◌, ◌∙◌, Err, Result, ap, ap₂, subst, sym, ⊎_elim}
+use Rattle.std.proofs.Common.{◌≡◌, ◌∙◌, ap, ap₂, subst, sym, ⊎_elim}
+use Rattle.std.proofs.Math.Path.{subst₂}
 use Rattle.std.proofs.lemmas.Result.{IfErr-weaker, IfOk-weaker}
 use Rattle.d64_image.specs.Keeps.{kept_or}
 use Rattle.d64_image.specs.Memory.{disk_image, sectors_in}
@@ -9,13 +10,6 @@ use Rattle.ledger_commands.specs.declared.faults.RunFault.{RunFault}
 use Rattle.ledger_commands.specs.declared.faults.RunFault.TheVariants as run
 use Rattle.ledger_commands.proofs.FileEnds.{broken_at_err, broken_at_ok, whole_at_err, whole_at_ok}
 use Rattle.ledger_commands.proofs.playing.play_file.Goals as goal
-
--- what holds of two files holds of those that they are
-of_files : {F : Type 0} (P : F → F → Type 0) {a b c d : F} → a ≡ b → d ≡ c → P a c → P b d
-of_files P {a} {b} {c} {d} first second holds = subst (λ f. P f d) first (subst (λ f. P a f) (sym second) holds)
-
-err_is : {A B : Type 0} {x y : B} → ◌≡◌ {A = Result A B} (Err x) (Err y) → x ≡ y
-err_is same = cc
 
 pub returns-in-Ok-play_image-clause-ok : goal.returns-in-Ok-play_image-clause-ok
 returns-in-Ok-play_image-clause-ok g c =
@@ -31,7 +25,7 @@ returns-in-Ok-play_image-clause-ok g c =
     ∙ loaded.1) ∙ c.requires.agrees in
     let mirror = c.in-Ok-play_image.mirror in
     IfOk-weaker c.file_of.result _ _ (λ after x.
-    of_files (λ f d. IsPlayedFile g.F.SectorFile.keeps o image script f d old new) c.new.ensures.file x.0
+    subst₂ (λ f d. IsPlayedFile g.F.SectorFile.keeps o image script f d old new) c.new.ensures.file (sym x.0)
     (whole_at_ok o image script start c.new.ensures.whole c.new.ensures.untaken loaded.0 holds old new mirror x.1
     c.in-Ok-play_image.ensures))
     c.file_of.ensures.ok
@@ -52,7 +46,7 @@ returns-in-Ok-play_image-clause-err g c =
     IfErr-weaker c.file_of.result _ _ (λ e x. ⊎_elim
     (λ broken. subst (λ (f : RunFault). IsFileFault g.F.SectorFile.keeps o image script c.args.file e.1 old new f)
     (sym broken.1)
-    (of_files (λ f d. IsFileFault g.F.SectorFile.keeps o image script f d old new run.Device) c.new.ensures.file x.0
+    (subst₂ (λ f d. IsFileFault g.F.SectorFile.keeps o image script f d old new run.Device) c.new.ensures.file (sym x.0)
     (broken_at_ok o image script start c.new.ensures.whole c.new.ensures.untaken loaded.0 holds old new mirror broken.0
     c.in-Ok-play_image.ensures)))
     (λ whole. let never = whole.1 in cc)
@@ -76,12 +70,12 @@ returns-in-Err-play_image-clause-err g c =
     IfErr-weaker c.file_of-in-Err-play_image.result _ _ (λ e x. ⊎_elim
     (λ broken. subst (λ (f : RunFault). IsFileFault g.F.SectorFile.keeps o image script c.args.file e.1 old new f)
     (sym broken.1)
-    (of_files (λ f d. IsFileFault g.F.SectorFile.keeps o image script f d old new run.Device) c.new.ensures.file x.0
+    (subst₂ (λ f d. IsFileFault g.F.SectorFile.keeps o image script f d old new run.Device) c.new.ensures.file (sym x.0)
     (broken_at_err o image script start c.new.ensures.whole c.new.ensures.untaken loaded.0 holds old new mirror broken.0
     fault c.in-Err-play_image.ensures)))
-    (λ whole. subst (λ (f : RunFault). IsFileFault g.F.SectorFile.keeps o image script c.args.file e.1 old new f)
-    (err_is whole.1)
-    (of_files (λ f d. IsFileFault g.F.SectorFile.keeps o image script f d old new fault) c.new.ensures.file x.0
+    (λ whole. let same : fault ≡ e.0 = cc (whole.1) in
+    subst (λ (f : RunFault). IsFileFault g.F.SectorFile.keeps o image script c.args.file e.1 old new f) same
+    (subst₂ (λ f d. IsFileFault g.F.SectorFile.keeps o image script f d old new fault) c.new.ensures.file (sym x.0)
     (whole_at_err o image script start c.new.ensures.whole c.new.ensures.untaken loaded.0 holds old new mirror whole.0
     fault c.in-Err-play_image.ensures)))
     x.1)

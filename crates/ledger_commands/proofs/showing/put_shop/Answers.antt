@@ -1,5 +1,6 @@
 -- The parts that were printed are all that is shown of the shop.
-use Rattle.ledger_commands.proofs.Showings.{at-ok, shop-shown}
+use Rattle.d64_image.proofs.Told.{at-ok}
+use Rattle.ledger_commands.proofs.Showings.{shop-shown}
 use Rattle.ledger_commands.proofs.showing.put_shop.Goals as goal
 
 pub returns-clause-ok : goal.returns-clause-ok

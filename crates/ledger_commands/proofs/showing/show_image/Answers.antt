@@ -6,7 +6,8 @@ use Rattle.d64_image.specs.History.{Failed}
 use Rattle.d64_image.specs.Memory.{memory}
 use Rattle.host_session.specs.session.Opening.{Refuses}
 use Rattle.host_session.specs.shop.Shop.{IsShop}
-use Rattle.ledger_commands.proofs.Showings.{memory-never, show-refused}
+use Rattle.d64_image.proofs.Told.{memory-never}
+use Rattle.ledger_commands.proofs.Showings.{show-refused}
 use Rattle.ledger_commands.specs.Shops.{IsShowFault}
 use Rattle.ledger_commands.proofs.showing.show_image.Goals as goal
 

@@ -1,5 +1,6 @@
 -- The cases of a service: the input came to its end, or a fault ended it; and the file failed, or not.
-use Rattle.std.proofs.Common.{◌≡◌, ◌∙◌, Err, Result, ap, ap₂, subst, sym, ⊎_elim}
+use Rattle.std.proofs.Common.{◌≡◌, ◌∙◌, ap, ap₂, subst, sym, ⊎_elim}
+use Rattle.std.proofs.Math.Path.{subst₂}
 use Rattle.std.proofs.lemmas.Result.{IfErr-weaker, IfOk-weaker}
 use Rattle.d64_image.specs.Keeps.{kept_or}
 use Rattle.d64_image.specs.Memory.{disk_image, sectors_in}
@@ -9,13 +10,6 @@ use Rattle.ledger_commands.specs.declared.faults.RunFault.{RunFault}
 use Rattle.ledger_commands.specs.declared.faults.RunFault.TheVariants as run
 use Rattle.ledger_program.proofs.ServeEnds.{served_at_err, served_at_ok, stopped_at_err, stopped_at_ok}
 use Rattle.ledger_program.proofs.serving_files.serve_file.Goals as goal
-
--- what holds of two files holds of those that they are
-of_files : {F : Type 0} (P : F → F → Type 0) {a b c d : F} → a ≡ b → d ≡ c → P a c → P b d
-of_files P {a} {b} {c} {d} first second holds = subst (λ f. P f d) first (subst (λ f. P a f) (sym second) holds)
-
-err_is : {A B : Type 0} {x y : B} → ◌≡◌ {A = Result A B} (Err x) (Err y) → x ≡ y
-err_is same = cc
 
 pub returns-in-Ok-serve-clause-ok : goal.returns-in-Ok-serve-clause-ok
 returns-in-Ok-serve-clause-ok g c =
@@ -34,7 +28,7 @@ returns-in-Ok-serve-clause-ok g c =
     ∙ c.requires.agrees in
     let mirror = c.in-Ok-serve.mirror in
     IfOk-weaker c.file_of.result _ _ (λ after x.
-    of_files (λ f d. IsServedFile K left o image f d old_in new_in old new) c.new.ensures.file x.0
+    subst₂ (λ f d. IsServedFile K left o image f d old_in new_in old new) c.new.ensures.file (sym x.0)
     (served_at_ok left o image start c.new.ensures.whole c.new.ensures.untaken loaded.0 holds old_in new_in old new
     mirror x.1 c.in-Ok-serve.ensures))
     c.file_of.ensures.ok
@@ -58,7 +52,7 @@ returns-in-Ok-serve-clause-err g c =
     IfErr-weaker c.file_of.result _ _ (λ e x. ⊎_elim
     (λ broken. subst (λ (f : RunFault). IsServeFault K left o image c.args.file e.1 old_in new_in old new f)
     (sym broken.1)
-    (of_files (λ f d. IsServeFault K left o image f d old_in new_in old new run.Device) c.new.ensures.file x.0
+    (subst₂ (λ f d. IsServeFault K left o image f d old_in new_in old new run.Device) c.new.ensures.file (sym x.0)
     (stopped_at_ok left o image start c.new.ensures.whole c.new.ensures.untaken loaded.0 holds old_in new_in old new
     mirror broken.0 c.in-Ok-serve.ensures)))
     (λ whole. let never = whole.1 in cc)
@@ -85,12 +79,13 @@ returns-in-Err-serve-clause-err g c =
     IfErr-weaker c.file_of-in-Err-serve.result _ _ (λ e x. ⊎_elim
     (λ broken. subst (λ (f : RunFault). IsServeFault K left o image c.args.file e.1 old_in new_in old new f)
     (sym broken.1)
-    (of_files (λ f d. IsServeFault K left o image f d old_in new_in old new run.Device) c.new.ensures.file x.0
+    (subst₂ (λ f d. IsServeFault K left o image f d old_in new_in old new run.Device) c.new.ensures.file (sym x.0)
     (stopped_at_err left o image start c.new.ensures.whole c.new.ensures.untaken loaded.0 holds old_in new_in old new
     mirror broken.0 fault c.in-Err-serve.ensures)))
-    (λ whole. subst (λ (f : RunFault). IsServeFault K left o image c.args.file e.1 old_in new_in old new f)
-    (sym c.told.ensures ∙ err_is whole.1)
-    (of_files (λ f d. IsServeFault K left o image f d old_in new_in old new (loop_fault fault)) c.new.ensures.file x.0
+    (λ whole. let same : loop_fault fault ≡ e.0 = cc (c.told.ensures, whole.1) in
+    subst (λ (f : RunFault). IsServeFault K left o image c.args.file e.1 old_in new_in old new f) same
+    (subst₂ (λ f d. IsServeFault K left o image f d old_in new_in old new (loop_fault fault)) c.new.ensures.file
+    (sym x.0)
     (served_at_err left o image start c.new.ensures.whole c.new.ensures.untaken loaded.0 holds old_in new_in old new
     mirror whole.0 fault c.in-Err-serve.ensures)))
     x.1)
