@@ -78,7 +78,6 @@ none-grown : (img : Image) (f : File) (r m : ℕ) → m ≡ 0
 none-grown img f r m e = ap (λ (k : ℕ). grown_by (record_length f.slot) k (records img f)) e
     ∙ append-nil (records img f)
 
-
 -- the row of a write of a record that is there
 pub written-row : (x y : View) (text : List ℕ) (l : Layout) (n r : ℕ) (f : File) → x.channel ≡ Some (channel_at n r)
     → IsRelAt x.image l n f → r ≤ records_had f → 1 ≤ length text
