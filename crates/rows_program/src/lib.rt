@@ -34,9 +34,13 @@ mod refusal_rows;
 #[cfg(test)]
 mod scenes;
 #[cfg(test)]
+mod size_rows;
+#[cfg(test)]
 mod stored;
 #[cfg(test)]
 mod stored_rows;
+#[cfg(test)]
+mod texts;
 #[cfg(test)]
 mod told_rows;
 #[cfg(test)]

@@ -32,9 +32,9 @@
 use crate::jobs::asked;
 use crate::memory::{Errors, Memory, Runtime};
 use crate::stored::{Kind, Others, Stored};
+use crate::texts::{cut, number_of, text_in, text_of, took, words_of};
 use ledger_words::{Told, program};
-use std::alloc::Global;
-use std::cell::{Cell, RefCell};
+use std::cell::Cell;
 use std::process::Abort;
 
 /// A row as it is gone through.
@@ -82,57 +82,6 @@ const HURTS: [(&[u8], u64, &[u8]); 13] = [
         b"I,000000001,S,00002,000000005,0,000000005\r",
     ),
 ];
-
-/// What stands before such a byte, and what behind it.
-fn cut(text: &[u8], at: u8) -> Option<(&[u8], &[u8])> {
-    let place = text.iter().position(|byte| *byte == at)?;
-    Some((text.get(..place)?, text.get(place.checked_add(1)?..)?))
-}
-
-/// The number whose digits stand in a text.
-fn number_of(text: &[u8]) -> usize {
-    let mut number: usize = 0;
-    for byte in text {
-        if byte.is_ascii_digit() {
-            let digit = byte.saturating_sub(b'0') as usize;
-            number = number.saturating_mul(10).saturating_add(digit);
-        }
-    }
-    number
-}
-
-/// The text that a line means.
-fn text_of(alloc: Global, line: &[u8]) -> Vec<u8> {
-    let (count, part) = match cut(line, b'*') {
-        Some((count, part)) => (number_of(count), part),
-        None => (1, line),
-    };
-    let mut text = Vec::new(alloc);
-    for _ in 0..count {
-        for byte in part {
-            let _ = text.push(if *byte == b'|' { b'\n' } else { *byte });
-        }
-    }
-    text
-}
-
-/// The words of a command line, with a zero between each two.
-fn words_of(alloc: Global, line: &[u8]) -> Vec<u8> {
-    let mut words = Vec::new(alloc);
-    let mut quoted = false;
-    for byte in line {
-        match *byte {
-            b'\'' => quoted = !quoted,
-            b' ' if !quoted => {
-                let _ = words.push(0);
-            }
-            other => {
-                let _ = words.push(other);
-            }
-        }
-    }
-    words
-}
 
 /// Changes an image. Whether there is such a change.
 fn hurt(image: &Stored, name: &[u8]) -> bool {
@@ -191,32 +140,6 @@ fn fails(memory: &Memory, word: &[u8], text: &[u8]) -> bool {
         _ => return false,
     }
     true
-}
-
-/// Whether these bytes are a text, begin so or have it in them.
-fn fits(bytes: &[u8], text: &[u8]) -> bool {
-    let Some(part) = text.strip_suffix(b"..") else {
-        return bytes == text;
-    };
-    match (
-        text.starts_with(b".."),
-        std::str::from_utf8(bytes),
-        std::str::from_utf8(part),
-    ) {
-        (true, Ok(bytes), Ok(part)) => bytes.contains(part.trim_start_matches('.')),
-        _ => bytes.starts_with(part),
-    }
-}
-
-/// Takes what was written where it is this text. Whether it is.
-fn took(written: &RefCell<Vec<u8>>, text: &[u8]) -> bool {
-    match written.try_borrow_mut() {
-        Ok(mut held) if fits(held.as_slice(), text) => {
-            held.clear();
-            true
-        }
-        _ => false,
-    }
 }
 
 /// How often something was done with the image, its folder or the output, or how many bytes stand there.
@@ -348,11 +271,6 @@ fn holds(scene: &Scene, line: &[u8]) -> bool {
     fails(&scene.memory, word, text)
         || sees(scene, word, text)
         || is_told(scene) && finds(scene, word, text)
-}
-
-/// The text of what was written, as far as it is one.
-fn text_in(written: &[u8]) -> &str {
-    std::str::from_utf8(written).unwrap_or_default()
 }
 
 /// Sees that each line of these rows holds.
