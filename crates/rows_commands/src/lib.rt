@@ -26,9 +26,13 @@ mod images;
 #[cfg(test)]
 mod kept_rows;
 #[cfg(test)]
+mod known_disk_rows;
+#[cfg(test)]
 mod listing_rows;
 #[cfg(test)]
 mod machine;
+#[cfg(test)]
+mod noted_rows;
 #[cfg(test)]
 mod pieces;
 #[cfg(test)]

@@ -13,8 +13,3 @@ pub use disk_file::{Bringing, DiskFile, Lock};
 pub use noting::{NotedLines, NotedReplies};
 pub use runs::{play_in_file, play_on_disk, serve_on_disk};
 pub use whole_file::WholeFile;
-
-#[cfg(test)]
-mod noting_rows;
-#[cfg(test)]
-mod rows;

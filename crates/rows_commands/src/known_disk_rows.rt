@@ -1,12 +1,9 @@
 //! Days on files whose disks are known: played whole, and with a call that fails.
-use crate::disk::IMAGE_BYTES;
-use crate::disk_file::{Bringing, DiskFile};
-use crate::runs::{play_in_file, play_on_disk};
-use crate::whole_file::WholeFile;
 use disk_layout::Fault;
 use host_session::Printer;
 use ledger_commands::{RunFault, format_image, show_image};
 use std::process::Abort;
+use tool_disk_file::{Bringing, DiskFile, IMAGE_BYTES, WholeFile, play_in_file, play_on_disk};
 
 const SCRIPT: &[u8] = b"1,1,S,42,120\n1,2,I,42,20\n";
 

@@ -1,11 +1,11 @@
 //! A shop served on a disk in memory, to an input and an output that note what it held and may fail.
-use crate::noting::{NotedLines, NotedReplies};
-use crate::rows::{SHOPS, fresh};
+use crate::known_disk_rows::{SHOPS, fresh};
 use d64_image::MemDisk;
 use host_session::LoopFault;
 use ledger_commands::show_image;
 use serving::serve;
 use std::process::Abort;
+use tool_disk_file::{NotedLines, NotedReplies};
 
 /// Two lines, and what is none.
 const LINES: &[u8] = b"1,1,S,42,120\n1,2,I,42,20\n1,2,I,42,20";
