@@ -1,5 +1,5 @@
 -- What is drawn of an entry, from what was read.
-use Rattle.std.proofs.Common.{◌≡◌, ◌+◌, ◌-◌, ◌/◌, ◌++◌, ◌∷◌, get_or, ◌<◌, map, inl, inr, ℕ, List, [], Option, Some}
+use Rattle.std.proofs.Common.{◌≡◌, ◌+◌, ◌-◌, ◌/◌, map, inl, inr, ℕ, List, [], Option, Some}
 use Rattle.std.proofs.Common.{None, length, min, take, subst, sym, ap, ◌∙◌, arith}
 use Rattle.std.specs.Prelude.{MatchOption}
 use Rattle.std.proofs.lemmas.List.{take_min}
@@ -13,9 +13,7 @@ use Rattle.disk_layout.proofs.lemmas.chains.AsFar.{walk-of_chain}
 use Rattle.disk_layout.specs.Directory.{IsDirectory, directory_start}
 use Rattle.disk_layout.specs.Layout.{File}
 use Rattle.disk_layout.specs.declared.slot.Slot.{Slot}
-use Rattle.disk_layout.proofs.lemmas.lists.Lists.{all-push}
-use Rattle.std.proofs.lemmas.List.{map-append, take_more}
-use Rattle.disk_pictures.specs.Drawings.{AreDrawn, AreDrawnSides, GoesFrom, IsDrawn, IsDrawnFile}
+use Rattle.disk_pictures.specs.Drawings.{AreDrawn, AreDrawnSides, GoesFrom, IsDrawn}
 
 -- a walk from the place that the bytes at i name
 pub goes-from : (img : Image) (bytes viewed : Sector) (i : ℕ) (o : Option Place) (ps : List Place) (u : ℕ)
@@ -39,16 +37,6 @@ sides-drawn img bytes viewed o ps found sides u n k same e walk all few part =
     let kept : take k found ≡ take (sides_for n) found = ap (λ (m : ℕ). take m found) many
     ∙ take_min (sides_for n) found in
     (ps, u, goes-from img bytes viewed 21 o ps u same e walk, part ∙ kept ∙ ap (take (sides_for n)) all)
-
--- one entry more
-pub drawn-more : (img : Image) (slots : List Slot) (i : ℕ) (s : Slot) (fs : List File) (f : File) → i < length slots
-    → get_or slots i s ≡ s
-    → AreDrawn img (take i slots) fs → f.slot ≡ s → IsDrawnFile img f → AreDrawn img (take (i + 1) slots) (fs ++ f ∷ [])
-drawn-more img slots i s fs f inside here so_far same drawn = record {
-  entries = map-append (λ (g : File). g.slot) fs (f ∷ []) ∙ ap (λ (ss : List Slot). ss ++ f.slot ∷ []) so_far.entries
-      ∙ ap (λ (x : Slot). take i slots ++ x ∷ []) (same ∙ sym here) ∙ sym (take_more slots i s inside);
-  files = all-push (IsDrawnFile img) fs f so_far.files drawn;
-}
 
 -- the directory's sectors are those that its links come to
 pub drawn-is : (img : Image) (ps walked d : List Place) (slots : List Slot) (fs : List File) (u : ℕ)

@@ -55,6 +55,6 @@ pub record Repairs {D : Type 0} (S : History D) (old new : D) (result : Result S
   pub failures : TellsFault S old new result
   -- of any disk, whatever is told
   pub reads : S.reads new ≤ S.reads old + 5543
-  -- and at Ok seven an owned sector
+  -- and at Ok seven a sector of the directory or a file
   pub few_reads : OnOk result ((l : Layout) → IsLayout (S.image old) l
       → S.reads new ≤ S.reads old + (37 + 7 * length (owners l)))

@@ -35,11 +35,11 @@ pub record ReadsAtMost {D T : Type 0} (S : History D) (old new : D) (most : ℕ)
 
 -- At most so many sectors are written, and so many read. At Ok this holds of the image; each image on the way is one of
 -- these.
-pub record WritesAtMost {D T E : Type 0} (S : History D) (old new : D) (most seen : ℕ) (held done : Image → Type 0)
+pub record WritesAtMost {D T E : Type 0} (S : History D) (old new : D) (most read : ℕ) (held done : Image → Type 0)
     (result : Result T E) : Type 0 where
   pub ok : OnOk result (done (S.image new))
   pub moments : Changes S old new most held
-  pub reads : S.reads new ≤ S.reads old + seen
+  pub reads : S.reads new ≤ S.reads old + read
   pub failures : TellsFailure S old new result
 
 -- The first closed relative file of this name was found, or the directory has none.
@@ -73,14 +73,14 @@ pub record ReadsRecord {D : Type 0} (S : History D) (old new : D) (v : RelFile) 
 
 -- The sector at a place was written with these bytes, by one write, and at most so many were read: at an error, which
 -- is the device's, they may stand or not.
-pub record PutsSector {D T : Type 0} (S : History D) (old new : D) (p : Place) (bytes : Sector) (seen : ℕ)
+pub record PutsSector {D T : Type 0} (S : History D) (old new : D) (p : Place) (bytes : Sector) (read : ℕ)
     (result : Result T RelFault) : Type 0 where
   pub ok : OnOk result (S.image new ≡ put (S.image old) p bytes)
   pub err : IfErr result (λ e. e ≡ Device)
   pub held : HeldOnly S old new (OldOr (S.image old) (put (S.image old) p bytes))
   pub writes : S.writes new ≤ S.writes old + 1
   pub uncounted : OnErr result (S.writes new ≡ S.writes old)
-  pub reads : S.reads new ≤ S.reads old + seen
+  pub reads : S.reads new ≤ S.reads old + read
   pub failures : TellsRelFault S old new result
 
 -- Record `number` of the file that v is of is there, and this is a position in it, counted from 1.
@@ -110,13 +110,13 @@ pub record WritesOver {D : Type 0} (S : History D) (old new : D) (l : Layout) (n
 
 -- A text was written from a position on into a record that is there, by at most so many writes, and reads.
 pub record WritesThere {D : Type 0} (S : History D) (old new : D) (v : RelFile) (number position : ℕ) (text : List ℕ)
-    (most seen : ℕ)
+    (most read : ℕ)
     (result : Result (Unit {0}) RelFault) : Type 0 where
   pub file : OfItsFile (S.image old) v (λ l n f. WritesOver S old new l n f v number position text most result)
   pub err : IfErr result (λ e. e ≡ Device)
   -- a record in one block is written at once
   pub uncounted : IsInOneBlock (length_of v) number → OnErr result (S.writes new ≡ S.writes old)
-  pub reads : S.reads new ≤ S.reads old + seen
+  pub reads : S.reads new ≤ S.reads old + read
   pub failures : TellsRelFault S old new result
 
 -- A text was written into a record of f, the file at place n of the layout l, which grew where it had to; w is kept of

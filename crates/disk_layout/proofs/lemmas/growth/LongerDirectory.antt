@@ -1,7 +1,6 @@
--- A directory that gains a sector: its last sector links to a fresh one, and all entries stay.
+-- A sector of the directory that links to another: all entries stay.
 use Rattle.std.proofs.Common.{
   ◌≡◌,
-  ◌≢◌,
   ℕ,
   ◌*◌,
   ◌+◌,
@@ -10,9 +9,6 @@ use Rattle.std.proofs.Common.{
   inl,
   inr,
   List,
-  [],
-  ◌∷◌,
-  ◌++◌,
   map,
   length,
   sym,
@@ -21,28 +17,20 @@ use Rattle.std.proofs.Common.{
   arith,
   subst,
   slice_index,
-  append-nil,
   drop,
   get_or,
 }
 use Rattle.std.specs.Prelude.{Contains, flat_map, filter, slice_range, nat_eq, not}
 use Rattle.std.proofs.lemmas.Grind.{same_number_lists}
 use Rattle.std.proofs.lemmas.List.{get_or-drop, length-drop}
-use Rattle.std.proofs.lemmas.List.Elements.{Contains-append_cases}
 use Rattle.d64_image.proofs.Images.{sector-put_other, sector-put_same}
 use Rattle.d64_image.proofs.Places.{same_or_other}
 use Rattle.d64_image.specs.Images.{Image, Sector, put, sector}
 use Rattle.d64_image.specs.declared.place.Place.{Place}
-use Rattle.disk_layout.proofs.lemmas.chains.Chains.{IsChain-grow, chain-front, chain-last, links-agree}
 use Rattle.disk_layout.proofs.lemmas.counts.Counts.{range-piece}
-use Rattle.disk_layout.proofs.lemmas.counts.Recount.{used-append}
 use Rattle.disk_layout.proofs.lemmas.counts.Recounts.{all_slots-reslot, filter-map, reslot, slot-any}
-use Rattle.disk_layout.proofs.lemmas.growth.Commit.{all-join}
-use Rattle.disk_layout.proofs.lemmas.layouts.Frames.{unless-same}
-use Rattle.disk_layout.proofs.lemmas.lists.Once.{Contains-cases, Contains-nil}
 use Rattle.disk_layout.proofs.lemmas.records.Pieces.{length-piece, piece, piece-byte}
-use Rattle.disk_layout.specs.Chain.{IsChain, Names}
-use Rattle.disk_layout.specs.Directory.{IsDirectory, directory_start, is_used, map_place, slot_in, slots_in, used_slots}
+use Rattle.disk_layout.specs.Directory.{is_used, slot_in, slots_in, used_slots}
 use Rattle.disk_layout.specs.declared.slot.Slot.{Slot}
 
 -- the bytes of a directory sector differ in its link alone
@@ -97,48 +85,3 @@ module _ (c : Image) (p : Place) (bytes : Sector) (full : length c ≡ 683) (rel
     unfolding used_slots
     used_slots-relinked ps = ap (filter is_used) (all_slots-reslot c b ps)
         ∙ filter-map is_used (reslot b) (flat_map (λ q. slots_in q (sector c q)) ps) (used-same ps)
-
-    -- the directory's last sector links to one that wasn't in the chain and ends it
-    module _ (ps : List Place) (es : List Slot) (h : IsDirectory c ps es) (is_last : h.chain.last ≡ p) (fresh : Place)
-        (link : Names bytes 0 fresh)
-        (ends : slice_index (sector c fresh) 0 ≡ 0) (on_18 : fresh.track ≡ 18) (no_map : fresh ≢ map_place)
-        (new : ¬ (Contains ps fresh)) where
-      other : p ≢ fresh
-      other e =
-          let P : Place → Type 0 = Contains ps in
-          new (subst P (is_last ∙ e) (chain-last c directory_start ps h.last h.chain))
-
-      fresh-stays : sector b fresh ≡ sector c fresh
-      fresh-stays = sector-put_other c p fresh bytes other
-
-      chain : IsChain b directory_start (ps ++ fresh ∷ []) (slice_index (sector c fresh) 1)
-      chain = IsChain-grow c b directory_start fresh ps h.last (slice_index (sector c fresh) 1) h.chain
-          (links-agree c b h.chain.front
-          (λ q d. unless-same c p q bytes (λ e. (chain-front c directory_start ps h.last h.chain q d).1 (sym e
-          ∙ sym is_last))))
-          (let P : Place → Type 0 = λ x. Names (sector b x) 0 fresh in
-          subst P (sym is_last) (rw (sector-put_same c p bytes full) link))
-          (ap (λ s. slice_index s 0) fresh-stays ∙ ends, ap (λ s. slice_index s 1) fresh-stays)
-          new
-
-      pub IsDirectory-longer : IsDirectory b (ps ++ fresh ∷ [])
-          (map (reslot b) es ++ filter is_used (slots_in fresh (sector c fresh)))
-      unfolding used_slots
-      IsDirectory-longer = record {
-        last = slice_index (sector c fresh) 1;
-        chain = chain;
-        on_track = all-join (λ q. q.track ≡ 18) ps (fresh ∷ []) h.on_track (on_18, tt);
-        not_map = λ d. elim (Contains-append_cases ps (fresh ∷ []) map_place d) [
-          | inl e ↦ h.not_map e
-          | inr e ↦ elim (Contains-cases map_place fresh [] e) [
-            | inl same ↦ no_map same
-            | inr none ↦ Contains-nil map_place none
-          ]
-        ];
-        slots =
-            ap (λ xs. map (reslot b) xs ++ filter is_used (slots_in fresh (sector c fresh))) h.slots
-            ∙ ap (λ xs. xs ++ filter is_used (slots_in fresh (sector c fresh))) (sym (used_slots-relinked ps))
-            ∙ ap (λ x. used_slots b ps ++ filter is_used (slots_in fresh x)) (sym fresh-stays)
-            ∙ ap (λ xs. used_slots b ps ++ xs) (sym (append-nil (filter is_used (slots_in fresh (sector b fresh)))))
-            ∙ sym (used-append b ps [] fresh);
-      }

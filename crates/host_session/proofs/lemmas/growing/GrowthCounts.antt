@@ -6,8 +6,6 @@ use Rattle.d64_image.specs.Images.{Image}
 use Rattle.disk_layout.specs.Layout.{File, record_length, sides_for}
 use Rattle.rel_records.proofs.lemmas.growth.RunCosts.{growth-none}
 use Rattle.rel_records.proofs.lemmas.growth.Grows.{count-is}
-use Rattle.rel_records.proofs.lemmas.growth.RunCosts.{run-step}
-use Rattle.rel_records.specs.Written.{touched}
 use Rattle.rel_records.specs.growth.Growth.{blocks_for, fill_writes, full, growth_writes, records_had, run_writes}
 use Rattle.rel_records.specs.growth.Growth.{side_writes}
 use Rattle.request_cards.specs.declared.answer.Answer.{Answer}

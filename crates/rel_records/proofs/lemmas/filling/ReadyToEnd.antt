@@ -16,7 +16,7 @@ use Rattle.disk_layout.specs.Directory.{map_place}
 use Rattle.disk_layout.specs.Layout.{File, Layout, file_owns, owners, record_length}
 use Rattle.disk_layout.specs.Records.{filler, joined, record_count, records}
 use Rattle.std.proofs.lemmas.List.Elements.{Contains-append_left}
-use Rattle.rel_records.proofs.lemmas.filling.Ending.{others-after, others-before, tail-has}
+use Rattle.rel_records.proofs.lemmas.filling.Ending.{others-after, others-before}
 use Rattle.rel_records.proofs.lemmas.filling.Standing.{blocks-once, blocks-some, entry-in, file-rel, had-fit, had-low}
 use Rattle.rel_records.proofs.lemmas.filling.Standing.{last-at, place, same-last, split}
 use Rattle.rel_records.proofs.lemmas.filling.Tails.{tail-new}
@@ -110,13 +110,6 @@ module _ (a : Image) (l : Layout) (n : ℕ) (f : File) (p : Parts) (w : IsImage 
         (alone l (take n l.files) (drop (suc n) l.files) f once q (Contains-append_left f.blocks f.sides q
         mine)).directory
         (let P : Place → Type 0 = Contains l.directory in subst P (sym e) (entry-in a l n f p at))
-
-    pub tail-held : HasRecords a (put a q bytes) l n (records a f)
-    tail-held =
-        let P : ℕ → Type 0 = λ k. HasRecords a (put a q bytes) l k (records a f) in
-        subst P (place a l n f p at) (tail-has a l (take n l.files) (drop (suc n) l.files) f at.clean.layout
-        (split a l n f p at) at.rel q bytes mine w (length f.blocks - 2) here v (tail.link 0 (omega arith))
-        (tail.link 1 (omega arith)) (had-fit a l n f p at w) tail.kept)
 
     at-now : IsAt (put a q bytes) l n f p
     at-now = record {
