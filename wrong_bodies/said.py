@@ -14,6 +14,7 @@ UNTRIED = re.compile(r"note: `search` has not tried the goals of `([^`]+)`, whic
 LOST_NAME = re.compile(r"has no field|is not in scope|has no `|was not admitted")
 # what says that the checker has no proof rules for the form of a body, whatever it means
 FORM = re.compile(r"\[(?:borrow-|unsupported-|linear-)|not covered|not supported")
+UNCOVERED = re.compile(r"fn (\S+?): no proof: .*the borrow checker does not cover this function yet: (src/\S+?):(\d+)")
 SOURCE = re.compile(r"(?:error: )?(?:\./)?(?:src|specs)/\S+?:\d+:\d+: error")
 DIFFERENCE = re.compile(r"one has `(.*?)`\s*\(expected\).*?the other has `(.*?)`\s*\(found\)", re.S)
 
@@ -42,6 +43,7 @@ class Told:
         self.goals = []
         self.answers = []
         self.waits = any(waits(places, line) for line in said)
+        self.uncovered = next((line for line in said if is_uncovered(places, line)), None)
         for number, line in enumerate(said):
             goal, answer = GOAL.match(line), ANSWER.match(line)
             if goal and is_in(places, goal[1], int(goal[2])):
@@ -66,6 +68,12 @@ class Told:
 def is_in(places, file, line):
     """Whether the line is one of the functions; of anything, where no place is asked for."""
     return places is None or any(file == place[0] and place[2] <= line <= place[3] for place in places)
+
+
+def is_uncovered(places, line):
+    """Whether the line says that the borrow checker has no rules for a form that stands in one of the functions."""
+    found = UNCOVERED.match(line)
+    return bool(found) and is_in(places, found[2], int(found[3]))
 
 
 def paths_of(place):
@@ -146,6 +154,8 @@ def verdict(edit, kept, aside):
     why = refusal(edit, kept, aside)
     if why:
         return "refused           ", why
+    if kept.uncovered:
+        return "form not covered  ", kept.uncovered[:160]
     open_clause = aside.clause() or kept.clause()
     where = "no clause, only what the proof says of a loop or of names"
     if open_clause:
