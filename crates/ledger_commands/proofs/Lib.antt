@@ -9,6 +9,7 @@ pub mod FileScripts
 pub mod Formats
 mod Kept
 mod KeptSectors
+mod KeptSizes
 pub mod Listings
 mod PlayEnds
 pub mod Replies
