@@ -42,7 +42,7 @@ on_err_of X (Ok u) x = tt
 on_err_of X (Err e) x = x
 
 -- a count of failures of a file that isn't stopped
-none_failed : (n : ℕ) (stopped : Bool) → stopped ≡ false → (1 ≤ n → stopped ≡ true) → n ≡ 0
+pub none_failed : (n : ℕ) (stopped : Bool) → stopped ≡ false → (1 ≤ n → stopped ≡ true) → n ≡ 0
 none_failed zero stopped going stops = refl
 none_failed (suc n) stopped going stops = let is : stopped ≡ true = stops (omega arith) in cc
 

@@ -28,17 +28,17 @@ pub unwritten : {E : Type 0} (o : Option (List ℕ)) (n : ℕ) (bytes : List ℕ
 unwritten None n bytes fault = (0, refl)
 unwritten (Some all) n bytes fault = (0, λ _. ap Some (rw (add-zero, append-nil) (sym (take-append-drop n all))))
 
+pub unmoved : {F : Type 0} (L : Lasting F) (f : F) → {next : Option (List ℕ)} → StaysOr L f f next
+unmoved L f = record {
+  now = inl refl;
+  later = le_refl (L.moment f);
+  each = λ all h. inl (L.only_now f all h);
+  before = λ t all le h. inl h;
+}
+
 pub untaken : {F E : Type 0} (L : Lasting F) (f : F) (n : ℕ) (bytes : List ℕ) (fault : E)
     → TakesSector L f f n bytes (Err fault)
-untaken L f n bytes fault = record {
-  stays = record {
-    now = inl refl;
-    later = le_refl (L.moment f);
-    each = λ all h. inl (L.only_now f all h);
-    before = λ t all le h. inl h;
-  };
-  ok = tt;
-}
+untaken L f n bytes fault = record { stays = unmoved L f; ok = tt }
 
 -- a failure was counted
 pub no_failure : (X : Type 0) (before after : ℕ) → after ≡ min (before + 1) 18446744073709551615 → after ≡ 0 → X

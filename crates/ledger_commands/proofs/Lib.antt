@@ -8,6 +8,7 @@ pub mod FileEnds
 pub mod FileScripts
 pub mod Formats
 mod Kept
+mod KeptOn
 mod KeptSectors
 mod KeptSizes
 pub mod Listings
