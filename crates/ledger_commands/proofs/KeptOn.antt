@@ -1,9 +1,9 @@
 -- A file that keeps what it kept: one that nothing was asked of, and one that was brought to the disk at the end.
-use Rattle.std.proofs.Common.{◌≡◌, ◌≤◌, ◌⊎◌, ◌∙◌, Bool, false, true, ℕ, List, Option, Some, Result, Ok, Err}
+use Rattle.std.proofs.Common.{◌≡◌, ◌≤◌, ◌⊎◌, ◌∙◌, Bool, false, true, ℕ, List, Some, Result, Ok, Err}
 use Rattle.std.proofs.Common.{ap, inl, inr, le_refl, length, refl, sym, ⊎_elim}
 use Rattle.std.specs.Prelude.{OnErr, OnOk}
 use Rattle.std.proofs.lemmas.Bool.{false≢true}
-use Rattle.ledger_commands.specs.Lasting.{Lasting, StaysOr, seen, unknown_lasting}
+use Rattle.ledger_commands.specs.Lasting.{Lasting, StaysOr, seen}
 use Rattle.ledger_commands.specs.LastingImages.{image_of, stayed_image}
 use Rattle.ledger_commands.specs.Placed.{GrowsOn, KeepsOn, placed, seen_of}
 use Rattle.ledger_commands.specs.declared.durable.WritesAt.{Ghosts}

@@ -1,6 +1,6 @@
 -- A file in which a sector was written, or which was left as it was: how long it is, and what came of it.
-use Rattle.std.proofs.Common.{◌≡◌, ◌≤◌, ◌+◌, ◌++◌, ◌∙◌, ℕ, List, Option, Some, Result, Ok, Err}
-use Rattle.std.proofs.Common.{add-zero, ap, arith, drop, inl, le_refl, length, min, refl, subst, sym, take, ⊎_elim}
+use Rattle.std.proofs.Common.{◌≡◌, ◌≤◌, ◌+◌, ◌∙◌, ℕ, List, Option, Some, Result, Ok, Err}
+use Rattle.std.proofs.Common.{add-zero, ap, arith, inl, le_refl, length, min, refl, subst, sym, ⊎_elim}
 use Rattle.std.specs.Prelude.{None, OnErr, OnOk}
 use Rattle.std.proofs.lemmas.List.{append-nil, length-append, length-drop, length-take, take-append-drop}
 use Rattle.std.proofs.lemmas.Option.{none-some}

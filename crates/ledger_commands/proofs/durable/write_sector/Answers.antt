@@ -2,7 +2,7 @@
 use Rattle.std.proofs.Common.{◌≡◌, ◌∙◌, subst}
 use Rattle.std.specs.Prelude.{OnOk}
 use Rattle.std.proofs.lemmas.Result.{on_ok_weaker}
-use Rattle.ledger_commands.specs.Durable.{AllStays, BringsSector, WritesOver}
+use Rattle.ledger_commands.specs.Durable.{AllStays, WritesOver}
 use Rattle.ledger_commands.specs.Lasting.{overwritten_in}
 use Rattle.ledger_commands.proofs.Synced.{
   brought,
