@@ -1,8 +1,8 @@
 -- What three arrays hold of a ledger.
 use Rattle.std.proofs.Common.{◌≡◌, ℕ, true, false, ◌-◌, ◌+◌, ◌<◌, ◌≤◌, get_or, refl, sym, subst, ap, ◌∙◌, inl, inr}
-use Rattle.std.proofs.Common.{arith, length, set}
+use Rattle.std.proofs.Common.{List, arith, length, set}
 use Rattle.std.proofs.lemmas.Grind.{get_or-set_at}
-use Rattle.std.specs.Prelude.{◌==◌, if◌then◌else◌, Option, Some, None, IfSome, IsSome, nat_lt, option_map, replicate, List}
+use Rattle.std.specs.Prelude.{◌==◌, if◌then◌else◌, Option, Some, None, IfSome, IsSome, nat_lt, option_map, replicate}
 use Rattle.std.proofs.lemmas.Bool.{cases_Bool}
 use Rattle.std.proofs.lemmas.Bool.Decides.{leb_tells, nat_tests}
 use Rattle.std.proofs.lemmas.List.{get_or-replicate, get_or-set_other, get_or_default, get_or_past, length-replicate}

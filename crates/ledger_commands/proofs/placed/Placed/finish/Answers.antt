@@ -59,7 +59,13 @@ returns g c =
       reached =
           record { taken = le_refl a.taken; failed = le_refl a.failed; durability = refl; synced = refl; sized = refl };
       kept = kept_at_end a _
-          (record { taken = le_refl a.taken; failed = le_refl a.failed; durability = refl; synced = refl; sized = refl })
+          (record {
+            taken = le_refl a.taken;
+            failed = le_refl a.failed;
+            durability = refl;
+            synced = refl;
+            sized = refl;
+          })
           c.if-self.false c.sync.ensures.whole;
       untouched = λ synced. absurd (false≢true (sym c.if-self.false ∙ synced));
     }
