@@ -20,6 +20,7 @@ use Rattle.host_session.specs.session.Opening.{Refuses}
 use Rattle.script_lines.specs.Lines.{lines}
 use Rattle.script_lines.specs.Resets.{first_bad}
 use Rattle.ledger_commands.specs.Faults.{opening_fault, script_fault}
+use Rattle.ledger_commands.specs.Images.{IsLoadFault}
 use Rattle.ledger_commands.specs.Plays.{IsFileFault, IsPlayEnd, IsPlayedFile, IsStopped, IsTakenUp}
 use Rattle.ledger_commands.specs.declared.faults.RunFault.{RunFault}
 use Rattle.ledger_commands.specs.declared.faults.RunFault.TheVariants as run
@@ -151,3 +152,18 @@ module _ {F T : Type 0} {G : Ghosts F} (o : Output T) (image script : List ℕ) 
     ⊎_elim (λ y. file_failed start sound m (reached_at_ok y.1) broken) (λ y. failed_at_err broken y.0 y.2) x,
     inr (fault, taken_up (over_file (Err (fault, m)) x)),
   )
+
+-- nothing was done where the image wasn't loaded
+pub unloaded : {F T : Type 0} (K : Keeps F) (o : Output T) (image script : List ℕ) (file : F) (out : T)
+    (fault : RunFault) → IsLoadFault image fault → IsFileFault K o image script file file out out fault
+unloaded K o image script file out run.ImageSize size = (size, (refl, refl))
+unloaded K o image script file out run.NoMemory size = (size, (refl, refl))
+unloaded K o image script file out (run.Layout fault) never = absurd never
+unloaded K o image script file out run.NoStock never = absurd never
+unloaded K o image script file out run.NoRequests never = absurd never
+unloaded K o image script file out (run.BadCard item) never = absurd never
+unloaded K o image script file out (run.BadRequestCard till) never = absurd never
+unloaded K o image script file out run.TwoIntents never = absurd never
+unloaded K o image script file out (run.BadLine line) never = absurd never
+unloaded K o image script file out run.File never = absurd never
+unloaded K o image script file out run.Device never = absurd never

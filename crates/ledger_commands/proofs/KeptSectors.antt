@@ -75,7 +75,7 @@ sized_lasting L W false sized f is fits = absurd (false≢true is)
 
 module _ {F : Type 0} {G : Ghosts F} (a : Placed F G) (p : Place) (bytes : List ℕ) (is : IsSector bytes) where
   -- a file that failed is brought nothing, and another what each is
-  pub takes_so : {E : Type 0} (new : F) (r : Result Unit E) (n : ℕ) → n ≡ offset_of p → (is_synced a → a.failed ≡ 0)
+  takes_so : {E : Type 0} (new : F) (r : Result Unit E) (n : ℕ) → n ≡ offset_of p → (is_synced a → a.failed ≡ 0)
       → LastsSo G.held G.lasting a.file new a.durability n bytes r
       → (IsSectorIn (G.whole.lasting.bytes a.file) n bytes → TakesSector G.whole.lasting a.file new n bytes r)
       → TakesSector (seen_of a) a.file new (offset_of p) bytes r
@@ -89,6 +89,15 @@ module _ {F : Type 0} {G : Ghosts F} (a : Placed F G) (p : Place) (bytes : List 
       record { stays = x.stays; ok = x.ok })
       (λ fits. whole (sector_in (W.bytes a.file) p n bytes is e fits))
       a.whole)
+
+  -- one that isn't stopped
+  pub takes_unstopped : {E : Type 0} (new : F) (r : Result Unit E) (n : ℕ) → n ≡ offset_of p
+      → (stopped : Bool) → stopped ≡ false → (is_synced a × (1 ≤ a.failed) → stopped ≡ true)
+      → LastsSo G.held G.lasting a.file new a.durability n bytes r
+      → (IsSectorIn (G.whole.lasting.bytes a.file) n bytes → TakesSector G.whole.lasting a.file new n bytes r)
+      → TakesSector (seen_of a) a.file new (offset_of p) bytes r
+  takes_unstopped new r n e stopped going stops lasts whole =
+      takes_so new r n e (λ synced. none_failed a.failed stopped going (λ some. stops (synced, some))) lasts whole
 
 module _ {F : Type 0} {G : Ghosts F} (a b : Placed F G) (grows : GrowsOn a b) where
   abbrev seen_by : Bool → Bool → Lasting F

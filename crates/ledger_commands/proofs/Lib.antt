@@ -8,7 +8,9 @@ pub mod FileEnds
 pub mod FileScripts
 pub mod Formats
 mod Kept
+mod KeptOn
 mod KeptSectors
+mod KeptSizes
 pub mod Listings
 mod PlayEnds
 pub mod Replies

@@ -1,11 +1,14 @@
 -- Sectors that are written and then brought to the disk.
 use Rattle.std.proofs.Common.{◌≡◌, ◌⊎◌, ◌∙◌, ℕ, List, Option, Some, Result, Ok, Err}
 use Rattle.std.proofs.Common.{ap, arith, inl, inr, length, subst, sym, ⊎_elim, refl}
-use Rattle.std.specs.Prelude.{None, OnOk}
+use Rattle.std.specs.Prelude.{Bool, IsErr, None, OnErr, OnOk, true}
 use Rattle.std.proofs.Math.Seq.{take-length}
+use Rattle.std.proofs.lemmas.Bool.{false≢true}
 use Rattle.std.proofs.lemmas.Result.{on_ok_weaker}
-use Rattle.ledger_commands.specs.Durable.{BringsSector, AllStays, IsOverwritten, WritesOver}
+use Rattle.ledger_commands.specs.Durable.{BringsSector, AllStays, IsOverwritten, IsSynced, WritesOver}
 use Rattle.ledger_commands.specs.Lasting.{IsSectorIn, LacksASector, Lasting, StaysOr, TakesSector, overwritten_in}
+use Rattle.ledger_commands.specs.declared.durable.Durability.{Durability}
+use Rattle.ledger_commands.specs.declared.durable.Durability.TheVariants as durabilities
 
 -- bytes that were written whole stand there, whatever came of bringing them to the disk
 pub written-then : {E : Type 0} (old mid new : Option (List ℕ)) (n : ℕ) (bytes : List ℕ) (r : Result Unit E)
@@ -75,3 +78,43 @@ module _ {F : Type 0} (held : F → Option (List ℕ)) (L : Lasting F) (a b c : 
     stays = stays_on x (subst (λ o. StaysOr L b c o) e y);
     ok = on_ok_of _ r (⊎_elim (λ s. s ∙ e) (λ s. s ∙ e) y.now);
   }
+
+-- at an error nothing is said of an Ok
+none_ok : {E : Type 0} (X : Type 0) (r : Result Unit E) → IsErr r → OnOk r X
+none_ok X (Ok u) is = absurd (false≢true is)
+none_ok X (Err e) is = tt
+
+-- an error is told as another one
+pub written_err : {E D : Type 0} (old new : Option (List ℕ)) (n : ℕ) (bytes : List ℕ) (fault : D)
+    (r : Result Unit E) → IsErr r → WritesOver old new n bytes (Err fault) → WritesOver old new n bytes r
+written_err old new n bytes fault (Ok u) is written = absurd (false≢true is)
+written_err old new n bytes fault (Err e) is written = written
+
+pub passed_err : {E : Type 0} (before after : Bool) (r : Result Unit E) → IsErr r → OnOk r (after ≡ before)
+passed_err before after r is = none_ok (after ≡ before) r is
+
+pub failed_err : {E : Type 0} (after : Bool) (r : Result Unit E) → after ≡ true → OnErr r (after ≡ true)
+failed_err after (Ok u) failed = tt
+failed_err after (Err e) failed = failed
+
+module _ {F : Type 0} (held : F → Option (List ℕ)) (L : Lasting F) (a b : F) (n : ℕ) (bytes : List ℕ) where
+  pub lasting_err : {E : Type 0} (durability : Durability) (r : Result Unit E) → IsErr r
+      → OnOk r (IsSynced held L durability b)
+  lasting_err durability r is = none_ok (IsSynced held L durability b) r is
+
+  pub brought_err : {E : Type 0} (r : Result Unit E) → IsErr r → StaysOr L a b (overwritten_in (L.bytes a) n bytes)
+      → BringsSector held L a b n bytes r
+  brought_err r is stays = record {
+    stays = stays;
+    ok = none_ok (L.bytes b ≡ overwritten_in (L.bytes a) n bytes) r is;
+    all = none_ok (AllStays held L b) r is;
+  }
+
+  pub taken_err : {E : Type 0} (r : Result Unit E) → IsErr r → StaysOr L a b (overwritten_in (L.bytes a) n bytes)
+      → TakesSector L a b n bytes r
+  taken_err r is stays =
+      record { stays = stays; ok = none_ok (L.bytes b ≡ overwritten_in (L.bytes a) n bytes) r is }
+
+-- each sector, or at the end
+pub not_both : (X : Type 0) (d : Durability) → d ≡ durabilities.AtEnd → d ≡ durabilities.EachSector → X
+not_both X d at_end each = cc

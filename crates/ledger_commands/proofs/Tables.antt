@@ -1,10 +1,11 @@
 -- What three arrays hold of a ledger.
 use Rattle.std.proofs.Common.{◌≡◌, ℕ, true, false, ◌-◌, ◌+◌, ◌<◌, ◌≤◌, get_or, refl, sym, subst, ap, ◌∙◌, inl, inr}
-use Rattle.std.proofs.Common.{arith}
+use Rattle.std.proofs.Common.{List, arith, length, set}
+use Rattle.std.proofs.lemmas.Grind.{get_or-set_at}
 use Rattle.std.specs.Prelude.{◌==◌, if◌then◌else◌, Option, Some, None, IfSome, IsSome, nat_lt, option_map, replicate}
 use Rattle.std.proofs.lemmas.Bool.{cases_Bool}
-use Rattle.std.proofs.lemmas.Bool.Decides.{leb_tells}
-use Rattle.std.proofs.lemmas.List.{get_or-replicate, get_or_past, length-replicate}
+use Rattle.std.proofs.lemmas.Bool.Decides.{leb_tells, nat_tests}
+use Rattle.std.proofs.lemmas.List.{get_or-replicate, get_or-set_other, get_or_default, get_or_past, length-replicate}
 use Rattle.std.proofs.lemmas.Option.{IfSome_then}
 use Rattle.request_cards.specs.declared.answer.Answer.{Answer}
 use Rattle.request_cards.specs.declared.decision.Outcome.{Outcome}
@@ -116,3 +117,17 @@ second_fits on_hand to_hand room b o e past =
     subst (λ (p : Outcome). IfSome p.to_quantity (λ g. (b.kind ≡ Move) × (b.to ≤ 8819))) (sym e)
     (IfSome_then (trade on_hand to_hand room b).to_quantity (second_there on_hand to_hand room b.kind b.quantity)
     (λ g h. (h.0, within to_hand b.to past h.1)))
+
+-- one place of an array, which counts from 1, holds something else
+nth_set_at : {X : Type 0} (xs : List (Option X)) (k place : ℕ) (x : Option X) → 1 ≤ k → place ≡ k - 1
+    → place < length xs → (i : ℕ) → nth (set xs place x) i ≡ put (nth xs) k x i
+nth_set_at xs k place x low at inside i = grind (arith, nat_tests, get_or-set_at, get_or-set_other)
+
+pub nth_set : {X : Type 0} (xs : List (Option X)) (k place : ℕ) (x : Option X) → 1 ≤ k → place ≡ k - 1
+    → place < length xs → nth (set xs place x) ≡ put (nth xs) k x
+nth_set xs k place x low at inside e i = nth_set_at xs k place x low at inside i e
+
+-- what stands at a place
+pub nth_read : {X : Type 0} (xs : List (Option X)) (k place : ℕ) (d : Option X) → 1 ≤ k → place ≡ k - 1
+    → place < length xs → get_or xs place d ≡ nth xs k
+nth_read xs k place d low at inside = grind (arith, nat_tests, get_or_default xs place d None inside)

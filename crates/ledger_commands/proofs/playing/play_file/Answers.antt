@@ -1,6 +1,7 @@
 -- The cases of a play: it came to its end, or a fault ended it; and its file failed, or not.
 use Rattle.std.proofs.Common.{◌≡◌, ◌∙◌, ap, ap₂, subst, sym, ⊎_elim}
 use Rattle.std.proofs.Math.Path.{subst₂}
+use Rattle.std.proofs.lemmas.Bool.{false≢true}
 use Rattle.std.proofs.lemmas.Result.{IfErr-weaker, IfOk-weaker}
 use Rattle.d64_image.specs.Keeps.{kept_or}
 use Rattle.d64_image.specs.Memory.{disk_image, sectors_in}
@@ -8,8 +9,15 @@ use Rattle.d64_image.specs.Mirrors.{mirror_image}
 use Rattle.ledger_commands.specs.Plays.{IsFileFault, IsPlayedFile}
 use Rattle.ledger_commands.specs.declared.faults.RunFault.{RunFault}
 use Rattle.ledger_commands.specs.declared.faults.RunFault.TheVariants as run
-use Rattle.ledger_commands.proofs.FileEnds.{broken_at_err, broken_at_ok, whole_at_err, whole_at_ok}
+use Rattle.ledger_commands.proofs.FileEnds.{broken_at_err, broken_at_ok, unloaded, whole_at_err, whole_at_ok}
 use Rattle.ledger_commands.proofs.playing.play_file.Goals as goal
+
+pub returns-in-Err : goal.returns-in-Err
+returns-in-Err g c = record {
+  ok = tt;
+  err = unloaded g.F.SectorFile.keeps g.T.Tells.output c.args.image.now c.args.script.now c.args.file c.args.out.now
+      c.in-Err.fault c.in-Err.ensures.err;
+}
 
 pub returns-in-Ok-play_image-clause-ok : goal.returns-in-Ok-play_image-clause-ok
 returns-in-Ok-play_image-clause-ok g c =
@@ -52,6 +60,11 @@ returns-in-Ok-play_image-clause-err g c =
     (λ whole. let never = whole.1 in cc)
     x.1)
     c.file_of.ensures.err
+
+pub returns-in-Err-play_image-clause-ok : goal.returns-in-Err-play_image-clause-ok
+returns-in-Err-play_image-clause-ok g c =
+    IfOk-weaker c.file_of-in-Err-play_image.result _ _ (λ after x. absurd (false≢true x.2))
+    c.file_of-in-Err-play_image.ensures.ok
 
 pub returns-in-Err-play_image-clause-err : goal.returns-in-Err-play_image-clause-err
 returns-in-Err-play_image-clause-err g c =
