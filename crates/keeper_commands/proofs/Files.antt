@@ -1,5 +1,5 @@
 -- What is known of the file of a name when its bytes are printed.
-use Rattle.std.proofs.Common.{◌≡◌, List, get_or, length, refl, subst, sym, ℕ}
+use Rattle.std.proofs.Common.{◌≡◌, ◌*◌, ◌^◌, ◌<◌, ◌≤◌, List, arith, get_or, length, refl, subst, sym, ℕ}
 use Rattle.std.proofs.lemmas.Option.{slice_get_read, slice_get_within}
 use Rattle.d64_image.specs.Images.{Image}
 use Rattle.d64_image.specs.Memory.{sectors_in}
@@ -63,3 +63,7 @@ load-refused image name (keep.BadLine k) told = absurd told
 load-refused image name keep.DiskFull told = absurd told
 load-refused image name keep.File told = absurd told
 load-refused image name keep.Device told = absurd told
+
+-- where an entry stands among the others in memory
+pub slot-offset : (n count : ℕ) → n < count → count ≤ 144 → n * 35 < 2 ^ 64
+slot-offset n count within few = omega (arith, within, few)

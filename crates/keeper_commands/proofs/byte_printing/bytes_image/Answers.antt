@@ -1,5 +1,6 @@
 -- The file was found and walked, and its bytes were printed; or why not.
-use Rattle.std.proofs.Common.{◌∙◌, Err, List, ap, inl, inr, refl, subst, sym}
+use Rattle.std.proofs.Common.{◌∙◌, Err, List, ap, inl, inr, lit≤, refl, subst, sym}
+use Rattle.std.proofs.lemmas.Option.{slice_get_within}
 use Rattle.std.proofs.lemmas.Result.{IfErr-weaker, err_from_is_err_and}
 use Rattle.std.proofs.KnownBytes.{Appends-kept}
 use Rattle.std.specs.Io.KnownBytes.{Appends}
@@ -7,7 +8,7 @@ use Rattle.d64_image.specs.Images.{Image}
 use Rattle.d64_image.specs.Memory.{disk_image}
 use Rattle.d64_image.specs.declared.place.Place.{Place}
 use Rattle.disk_layout.specs.Fault.{HoldsOfDirectory, nowhere}
-use Rattle.keeper_commands.proofs.Files.{fault-there, file-there, has-entries, load-refused}
+use Rattle.keeper_commands.proofs.Files.{fault-there, file-there, has-entries, load-refused, slot-offset}
 use Rattle.d64_image.proofs.Told.{at-ok}
 use Rattle.keeper_commands.specs.Bytes.{file_bytes}
 use Rattle.keeper_commands.proofs.byte_printing.bytes_image.Goals as goal
@@ -110,3 +111,26 @@ returns g c =
       err = IfErr-weaker c.flush.result _ _ (λ fault is. rw is file) c.flush.ensures.err;
       untouched = IfErr-weaker c.flush.result _ _ (λ fault is other. absurd (other is)) c.flush.ensures.err;
     }
+
+pub new-entries-requires : goal.new-entries-requires
+new-entries-requires g c = lit≤ tt
+
+pub as_slice-slots-requires : goal.as_slice-slots-requires
+as_slice-slots-requires g c = lit≤ tt
+
+pub bounds-slots-number : goal.bounds-slots-number
+bounds-slots-number g c =
+    slice_get_within c.as_slice-slots.result.now c.in-Some.number c.in-Some.ensures.slot c.in-Some.ensures.there
+
+pub offset_bounds-slots-number : goal.offset_bounds-slots-number
+offset_bounds-slots-number g c = record {
+  fits = slot-offset c.in-Some.number _
+      (slice_get_within c.as_slice-slots.result.now c.in-Some.number c.in-Some.ensures.slot c.in-Some.ensures.there)
+      c.as_slice-slots.ensures.fits;
+}
+
+pub new-blocks-requires : goal.new-blocks-requires
+new-blocks-requires g c = lit≤ tt
+
+pub as_slice-requires : goal.as_slice-requires
+as_slice-requires g c = lit≤ tt
