@@ -1,9 +1,8 @@
 -- The sector was read, and its bytes were printed.
-use Rattle.std.proofs.Common.{sym, ◌∙◌}
+use Rattle.std.proofs.Common.{◌∙◌, ℕ, List, subst, sym}
 use Rattle.std.proofs.lemmas.Bool.{false≢true}
 use Rattle.std.proofs.lemmas.Result.{on_ok_weaker}
 use Rattle.std.specs.Io.KnownBytes.{Appends}
-use Rattle.std.proofs.Common.{List, subst, ℕ}
 use Rattle.keeper_commands.proofs.Blocks.{bytes-up-to}
 use Rattle.keeper_commands.proofs.Printing.{not-err}
 use Rattle.keeper_commands.proofs.chains.put_block.Goals as goal

@@ -1,5 +1,5 @@
 -- The two sectors were compared, and the line was printed where they are otherwise.
-use Rattle.std.proofs.Common.{sym}
+use Rattle.std.proofs.Common.{lit≤, sym}
 use Rattle.d64_image.proofs.Moments.{reads_no_write}
 use Rattle.keeper_commands.proofs.Mendings.{as-told, at-answer, failed-there, same-there}
 use Rattle.keeper_commands.proofs.Printing.{not-err}
@@ -12,6 +12,9 @@ returns-then-is_err g c = record {
   quiet = reads_no_write g.D.Sectors.history _ _ 1 c.read-2.ensures.reads;
   told = failed-there g.D.Sectors.history _ _ c.read-2.result (sym c.if-is_err.ensures.value) c.read-2.ensures.failures;
 }
+
+pub eq-requires : goal.eq-requires
+eq-requires g c = lit≤ tt
 
 pub returns-then-eq : goal.returns-then-eq
 returns-then-eq g c = record {

@@ -1,5 +1,5 @@
 -- A record's line is gathered behind the others, and at last all are printed.
-use Rattle.std.proofs.Common.{◌≡◌, ◌≤◌, ◌+◌, ◌-◌, ◌++◌, [], Err, ap, length, get_or, refl, subst, sym}
+use Rattle.std.proofs.Common.{◌≡◌, ◌≤◌, ◌+◌, ◌-◌, ◌++◌, [], Err, ap, length, lit≤, get_or, refl, subst, sym}
 use Rattle.std.proofs.Common.{take, ◌∙◌, arith}
 use Rattle.std.proofs.KnownBytes.{Appends-nil}
 use Rattle.std.proofs.lemmas.Result.{err_from_is_err_and, on_ok_weaker}
@@ -65,6 +65,9 @@ loop-before-init g c = (
   λ l n f of. ([], Appends-nil (g.W.Write.contents c.args.out.now), refl),
   omega arith,
 )
+
+pub new-bytes-requires : goal.new-bytes-requires
+new-bytes-requires g c = lit≤ tt
 
 pub hand_on-requires : goal.hand_on-requires
 hand_on-requires g c = c.loop-before.invariant.3
