@@ -35,6 +35,13 @@ file-split img front p u w =
     omega (arith, length-append front (p ∷ []), length-joined img front w) in
     rw (count, joined-more img front p) (take-append-add (joined img front) (drop 2 (sector img p)) (max u 1 - 1))
 
+-- the bytes of a block up to its last index, as they are taken from it
+pub bytes-up-to : (read bytes : List ℕ) (end last : ℕ) → end ≡ max last 1 → read ≡ bytes
+    → take (end + 1 - 2) (drop 2 read) ≡ take (max last 1 - 1) (drop 2 bytes)
+bytes-up-to read bytes end last ends same =
+    let count : end + 1 - 2 ≡ max last 1 - 1 = omega (arith, ends) in
+    ap (λ (n : ℕ). take n (drop 2 read)) count ∙ ap (λ (xs : List ℕ). take (max last 1 - 1) (drop 2 xs)) same
+
 -- a file without blocks has no bytes
 pub file-none : (img : Image) (blocks : List Place) (u : ℕ) → length blocks ≤ 0 → [] ≡ file_bytes img blocks u
 unfolding file_bytes

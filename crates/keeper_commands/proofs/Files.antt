@@ -1,5 +1,5 @@
 -- What is known of the file of a name when its bytes are printed.
-use Rattle.std.proofs.Common.{◌≡◌, List, get_or, length, refl, subst, sym, ℕ}
+use Rattle.std.proofs.Common.{◌≡◌, ◌*◌, ◌^◌, ◌<◌, ◌≤◌, List, arith, get_or, length, refl, subst, sym, ℕ}
 use Rattle.std.proofs.lemmas.Option.{slice_get_read, slice_get_within}
 use Rattle.d64_image.specs.Images.{Image}
 use Rattle.d64_image.specs.Memory.{sectors_in}
@@ -7,7 +7,11 @@ use Rattle.d64_image.specs.declared.place.Place.{Place}
 use Rattle.disk_layout.specs.Directory.{IsDirectory}
 use Rattle.disk_layout.specs.declared.faults.Fault.{Fault}
 use Rattle.disk_layout.specs.declared.slot.Slot.{Slot}
-use Rattle.keeper_commands.specs.Bytes.{HasEntries, HasFile, HasFileBlocks, HasNamed, HoldsOfFile, IsFirstClosed}
+use Rattle.keeper_commands.specs.Bytes.{HasEntries, HasFile, HasFileBlocks, HasNamed, HoldsOfFile, IsBytesFault}
+use Rattle.keeper_commands.specs.Bytes.{IsFirstClosed}
+use Rattle.keeper_commands.specs.Faults.{IsLoadFault}
+use Rattle.keeper_commands.specs.declared.faults.KeepFault.{KeepFault}
+use Rattle.keeper_commands.specs.declared.faults.KeepFault.TheVariants as keep
 use Rattle.rel_records.proofs.lemmas.reading.Found.{same-slot}
 
 pub has-entries : (image : List ℕ) (img : Image) (places : List Place) (listed slots : List Slot)
@@ -47,3 +51,19 @@ module _ (image name : List ℕ) (slots : List Slot) (n : ℕ) (s : Slot) (entri
     has_blocks = subst (λ (i : Image). HasFileBlocks i first.slot blocks u) same
         (subst (λ (t : Slot). HasFileBlocks img t blocks u) slot-is has);
   }
+
+-- what an image has wrong that isn't loaded, a file of it has too
+pub load-refused : (image name : List ℕ) (fault : KeepFault) → IsLoadFault image fault → IsBytesFault image name fault
+load-refused image name keep.ImageSize told = told
+load-refused image name keep.NoMemory told = told
+load-refused image name (keep.Layout fault) told = absurd told
+load-refused image name keep.NoFile told = absurd told
+load-refused image name keep.FileExists told = absurd told
+load-refused image name (keep.BadLine k) told = absurd told
+load-refused image name keep.DiskFull told = absurd told
+load-refused image name keep.File told = absurd told
+load-refused image name keep.Device told = absurd told
+
+-- where an entry stands among the others in memory
+pub slot-offset : (n count : ℕ) → n < count → count ≤ 144 → n * 35 < 2 ^ 64
+slot-offset n count within few = omega (arith, within, few)

@@ -1,12 +1,16 @@
 -- What is printed of a repair, line by line, and what a failure on the way tells.
-use Rattle.std.proofs.Common.{◌≡◌, ◌+◌, ◌-◌, ℕ, suc, List, Option, Result, Ok, Err, arith, subst, sym, ◌∙◌}
-use Rattle.std.specs.Prelude.{codes}
+use Rattle.std.proofs.Common.{◌≡◌, ◌+◌, ◌-◌, ℕ, suc, true, false, List, Option, Some, Result, Ok, Err}
+use Rattle.std.proofs.Common.{ap, arith, subst, sym, ◌∙◌}
+use Rattle.std.proofs.lemmas.Bool.{false≢true}
+use Rattle.std.specs.Prelude.{bytes_eq, codes}
+use Rattle.std.specs.Result.{OnOk, is_err, is_ok}
 use Rattle.std.specs.Io.KnownBytes.{Appends, Keeps}
 use Rattle.std.proofs.KnownBytes.{Appends-kept, Appends-nil, Appends-trans}
 use Rattle.d64_image.proofs.Moments.{failed_later}
-use Rattle.d64_image.specs.History.{History}
-use Rattle.d64_image.specs.Images.{Image}
+use Rattle.d64_image.specs.History.{Failed, History, TellsFailure}
+use Rattle.d64_image.specs.Images.{Image, sector}
 use Rattle.d64_image.specs.Places.{place_at}
+use Rattle.d64_image.specs.declared.place.Place.{Place}
 use Rattle.keeper_commands.specs.Repairs.{TellsKeep, mended_at, mended_on, mended_text, up_to}
 use Rattle.keeper_commands.specs.declared.faults.KeepFault.{KeepFault}
 use Rattle.keeper_commands.specs.declared.faults.KeepFault.TheVariants as keep
@@ -63,3 +67,26 @@ tells-after S a b c (Err keep.FileExists) same told = absurd told
 tells-after S a b c (Err (keep.BadLine n)) same told = absurd told
 tells-after S a b c (Err keep.DiskFull) same told = absurd told
 tells-after S a b c (Err keep.NoMemory) same told = absurd told
+
+-- what holds at an answer, where there is one
+pub at-answer : {T E P : Type 0} (r : Result T E) → is_ok r ≡ true → OnOk r P → P
+at-answer (Ok x) is p = p
+at-answer (Err e) is p = absurd (false≢true is)
+
+-- what a read of the device tells
+pub failed-there : {D T E : Type 0} (S : History D) (a b : D) (r : Result T E) → is_err r ≡ true
+    → TellsFailure S a b r → Failed S a b
+failed-there S a b (Ok x) is told = absurd (false≢true is)
+failed-there S a b (Err e) is told = told
+
+pub as-told : {D T E : Type 0} (S : History D) (a b : D) (r : Result T E) → is_err r ≡ false
+    → TellsFailure S a b r → S.failures b ≡ S.failures a
+as-told S a b (Ok x) is told = told
+as-told S a b (Err e) is told = absurd (false≢true (sym is))
+
+-- no line where the sectors that were read are the same
+pub same-there : (a : Option (List ℕ)) (old new : Image) (p : Place) (x y : List ℕ) → x ≡ sector old p
+    → y ≡ sector new p → true ≡ bytes_eq x y → Appends a a (mended_at old new (Some p))
+same-there a old new p x y left right is =
+    rw (sym (is ∙ ap (λ (z : List ℕ). bytes_eq z y) left ∙ ap (λ (z : List ℕ). bytes_eq (sector old p) z) right))
+    (Appends-nil a)

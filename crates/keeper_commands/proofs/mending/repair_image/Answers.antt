@@ -7,22 +7,28 @@ use Rattle.keeper_commands.proofs.Repairs.{load-refused, mended-quiet, print-ref
 use Rattle.keeper_commands.specs.Repairs.{mended_text}
 use Rattle.keeper_commands.proofs.mending.repair_image.Goals as goal
 
-pub returns-in_err-before-clause-err : goal.returns-in_err-before-clause-err
-returns-in_err-before-clause-err g c =
+pub returns-in_err-before : goal.returns-in_err-before
+returns-in_err-before g c =
     let p = err_from_is_err_and c.from_residual.result c.from_residual.ensures.1 in
-    rw (p.1 ∙ ap Err p.2) (load-refused g.D.Sectors.history c.args.image.now c.args.disk.now c.args.out.now _
-    c.in_err-before.ensures.err)
+    record {
+      ok = rw (p.1 ∙ ap Err p.2) tt;
+      err = rw (p.1 ∙ ap Err p.2) (load-refused g.D.Sectors.history c.args.image.now c.args.disk.now c.args.out.now _
+          c.in_err-before.ensures.err);
+    }
 
-pub returns-in-Err-clause-err : goal.returns-in-Err-clause-err
-returns-in-Err-clause-err g c =
+pub returns-in-Err : goal.returns-in-Err
+returns-in-Err g c =
     let S = g.D.Sectors.history in
     let size = c.in_ok-before.ensures.ok.0 in
     let run = run-only S c.args.image.now c.args.disk.now c.repair.new.disk size c.repair.ensures.moments
     c.repair.ensures.order c.repair.ensures.unsound in
-    rw c.refusal.ensures
-    (refused S c.args.image.now c.args.disk.now c.repair.new.disk c.args.out.now size c.repair.ensures.unsound run
-    c.in-Err.fault
-    c.in-Err.ensures.err c.in-Err.ensures.failures)
+    record {
+      ok = tt;
+      err = rw c.refusal.ensures
+          (refused S c.args.image.now c.args.disk.now c.repair.new.disk c.args.out.now size c.repair.ensures.unsound run
+          c.in-Err.fault
+          c.in-Err.ensures.err c.in-Err.ensures.failures);
+    }
 
 pub returns-clause-ok : goal.returns-clause-ok
 returns-clause-ok g c =

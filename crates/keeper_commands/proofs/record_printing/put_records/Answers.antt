@@ -1,6 +1,8 @@
 -- A record's line is gathered behind the others, and at last all are printed.
-use Rattle.std.proofs.Common.{◌≡◌, ◌≤◌, ◌+◌, ◌-◌, ◌++◌, [], length, get_or, subst, sym, take, ◌∙◌, arith}
-use Rattle.std.proofs.lemmas.Result.{on_ok_weaker}
+use Rattle.std.proofs.Common.{◌≡◌, ◌≤◌, ◌+◌, ◌-◌, ◌++◌, [], Err, ap, length, lit≤, get_or, refl, subst, sym}
+use Rattle.std.proofs.Common.{take, ◌∙◌, arith}
+use Rattle.std.proofs.KnownBytes.{Appends-nil}
+use Rattle.std.proofs.lemmas.Result.{err_from_is_err_and, on_ok_weaker}
 use Rattle.d64_image.specs.Images.{Image}
 use Rattle.d64_image.specs.Memory.{disk_image}
 use Rattle.byte_text.specs.Texts.{record_line}
@@ -55,3 +57,39 @@ returns-clause-ok g c = λ l n f of.
     (omega (arith, all, c.loop-before-test.false, c.loop-before.auto.before-end))
     (c.loop-before.invariant.2 l n f of) put)
     c.put.ensures.ok
+
+pub loop-before-init : goal.loop-before-init
+loop-before-init g c = (
+  refl,
+  λ l n f of. rw c.none-last.ensures tt,
+  λ l n f of. ([], Appends-nil (g.W.Write.contents c.args.out.now), refl),
+  omega arith,
+)
+
+pub new-bytes-requires : goal.new-bytes-requires
+new-bytes-requires g c = lit≤ tt
+
+pub hand_on-requires : goal.hand_on-requires
+hand_on-requires g c = c.loop-before.invariant.3
+
+pub gather_line-requires-clause-room : goal.gather_line-requires-clause-room
+gather_line-requires-clause-room g c = c.in_ok-start.ensures.room
+
+pub returns-in_err-start : goal.returns-in_err-start
+returns-in_err-start g c =
+    let p = err_from_is_err_and c.from_residual.result c.from_residual.ensures.1 in
+    record {
+      ok = λ l n f of. rw (p.1 ∙ ap Err p.2) tt;
+      err = rw (p.1 ∙ ap Err p.2) c.in_err-start.ensures.err;
+    }
+
+pub returns-in_err-end : goal.returns-in_err-end
+returns-in_err-end g c =
+    let p = err_from_is_err_and c.from_residual-in_err-end.result c.from_residual-in_err-end.ensures.1 in
+    record {
+      ok = λ l n f of. rw (p.1 ∙ ap Err p.2) tt;
+      err = rw (p.1 ∙ ap Err p.2) c.in_err-end.ensures.err;
+    }
+
+pub returns-clause-err : goal.returns-clause-err
+returns-clause-err g c = c.put.ensures.err

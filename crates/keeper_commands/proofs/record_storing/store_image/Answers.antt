@@ -1,5 +1,6 @@
 -- The file was found, grew, and has the records of the lines; or why not.
 mod Asked
+mod Early
 mod Refused
 use Rattle.std.proofs.Common.{◌≡◌, Ok, Err, ℕ, ap, refl, subst, sym, ◌∙◌}
 use Rattle.std.proofs.lemmas.Result.{IfErr-weaker, err_from_is_err_and}
@@ -14,43 +15,26 @@ use Rattle.keeper_commands.specs.declared.faults.KeepFault.TheVariants as keep
 use Rattle.rel_records.specs.Calls.{Grows}
 use Rattle.keeper_commands.proofs.record_storing.store_image.Goals as goal
 use Rattle.keeper_commands.proofs.record_storing.store_image.Answers.Asked as asked
+use Rattle.keeper_commands.proofs.record_storing.store_image.Answers.Early as early
 use Rattle.keeper_commands.proofs.record_storing.store_image.Answers.Refused as refused
 
-pub returns-in_err-check_image-clause-err : goal.returns-in_err-check_image-clause-err
-returns-in_err-check_image-clause-err g c =
-    let p = err_from_is_err_and c.from_residual.result c.from_residual.ensures.1 in
-    rw (p.1 ∙ ap Err p.2)
-    (store-unclean g.D.Sectors.history c.args.image.now c.args.name.now c.args.text.now c.args.disk.now c.args.out.now _
-    c.in_err-check_image.ensures.err)
+pub returns-in_err-check_image : goal.returns-in_err-check_image
+returns-in_err-check_image = early.returns-in_err-check_image
 
-pub returns-in_err-last-clause-err : goal.returns-in_err-last-clause-err
-returns-in_err-last-clause-err g c =
-    let p = err_from_is_err_and c.from_residual-in_err-last.result c.from_residual-in_err-last.ensures.1 in
-    rw (p.1 ∙ ap Err (p.2 ∙ c.in_err-last.ensures.err))
-    (c.in_ok-check_image.ensures.ok.0, refl, refl)
+pub returns-in_err-last : goal.returns-in_err-last
+returns-in_err-last = early.returns-in_err-last
 
 pub find-requires : goal.find-requires
 find-requires = asked.find-requires
 
-pub returns-in-Err-clause-err : goal.returns-in-Err-clause-err
-returns-in-Err-clause-err g c =
-    let S = g.D.Sectors.history in
-    let clean = c.in_ok-check_image.ensures.ok in
-    rw c.refusal.ensures
-    (find-refused S c.args.image.now c.args.name.now c.args.text.now c.args.disk.now c.find.new.disk clean.0
-    (subst IsClean (sym c.requires.holds) clean.1)
-    c.args.out.now c.in-Err.fault c.in-Err.ensures)
+pub returns-in-Err : goal.returns-in-Err
+returns-in-Err = early.returns-in-Err
 
-pub returns-in_err-most-clause-err : goal.returns-in_err-most-clause-err
-returns-in_err-most-clause-err g c =
-    let S = g.D.Sectors.history in
-    let clean = c.in_ok-check_image.ensures.ok in
-    let p = err_from_is_err_and c.from_residual-in_err-most.result c.from_residual-in_err-most.ensures.1 in
-    let (k, is, bad) = c.in_err-most.ensures.err in
-    rw (p.1 ∙ ap Err (p.2 ∙ is))
-    (bad-line S c.args.image.now c.args.name.now c.args.text.now c.args.disk.now c.find.new.disk clean.0
-    (subst IsClean (sym c.requires.holds) clean.1)
-    c.args.out.now c.in-Ok.file c.in-Ok.ensures k bad)
+pub judge-requires : goal.judge-requires
+judge-requires = early.judge-requires
+
+pub returns-in_err-most : goal.returns-in_err-most
+returns-in_err-most = early.returns-in_err-most
 
 pub grow_to-requires-clause-clean : goal.grow_to-requires-clause-clean
 grow_to-requires-clause-clean = asked.grow_to-requires-clause-clean
@@ -58,8 +42,8 @@ grow_to-requires-clause-clean = asked.grow_to-requires-clause-clean
 pub grow_to-requires-clause-of : goal.grow_to-requires-clause-of
 grow_to-requires-clause-of = asked.grow_to-requires-clause-of
 
-pub returns-in-Err-grow_to-clause-err : goal.returns-in-Err-grow_to-clause-err
-returns-in-Err-grow_to-clause-err = refused.returns-in-Err-grow_to-clause-err
+pub returns-in-Err-grow_to : goal.returns-in-Err-grow_to
+returns-in-Err-grow_to = refused.returns-in-Err-grow_to
 
 pub store_lines-requires-clause-clean : goal.store_lines-requires-clause-clean
 store_lines-requires-clause-clean = asked.store_lines-requires-clause-clean
@@ -70,8 +54,8 @@ store_lines-requires-clause-of = asked.store_lines-requires-clause-of
 pub store_lines-requires-clause-lines : goal.store_lines-requires-clause-lines
 store_lines-requires-clause-lines = asked.store_lines-requires-clause-lines
 
-pub returns-in_err-store_lines-clause-err : goal.returns-in_err-store_lines-clause-err
-returns-in_err-store_lines-clause-err = refused.returns-in_err-store_lines-clause-err
+pub returns-in_err-store_lines : goal.returns-in_err-store_lines
+returns-in_err-store_lines = refused.returns-in_err-store_lines
 
 pub returns-clause-ok : goal.returns-clause-ok
 returns-clause-ok g c =

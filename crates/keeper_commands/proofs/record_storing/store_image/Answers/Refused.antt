@@ -7,32 +7,38 @@ use Rattle.keeper_commands.proofs.TextStored.{store-refused}
 use Rattle.rel_records.specs.Calls.{Grows}
 use Rattle.keeper_commands.proofs.record_storing.store_image.Goals as goal
 
-pub returns-in-Err-grow_to-clause-err : goal.returns-in-Err-grow_to-clause-err
-returns-in-Err-grow_to-clause-err g c =
+pub returns-in-Err-grow_to : goal.returns-in-Err-grow_to
+returns-in-Err-grow_to g c =
     let S = g.D.Sectors.history in
     let clean = c.in_ok-check_image.ensures.ok in
     let (xs, are, is, tells) = c.in_ok-most.ensures.ok in
-    rw c.refusal-in-Err-grow_to.ensures
-    (grow-refused S c.args.image.now c.args.name.now c.args.text.now c.args.disk.now c.find.new.disk clean.0
-    (subst IsClean (sym c.requires.holds) clean.1)
-    c.args.out.now c.in-Ok.file c.in-Ok.ensures xs are c.judge.new.last.places.items tells c.grow_to.new.disk
-    c.grow_to.new.file c.in-Err-grow_to.fault
-    (subst (λ (m : ℕ). Grows S c.find.new.disk c.grow_to.new.disk c.in-Ok.file c.grow_to.new.file m
-    (Err c.in-Err-grow_to.fault)) is c.in-Err-grow_to.ensures))
+    record {
+      ok = tt;
+      err = rw c.refusal-in-Err-grow_to.ensures
+          (grow-refused S c.args.image.now c.args.name.now c.args.text.now c.args.disk.now c.find.new.disk clean.0
+          (subst IsClean (sym c.requires.holds) clean.1)
+          c.args.out.now c.in-Ok.file c.in-Ok.ensures xs are c.judge.new.last.places.items tells c.grow_to.new.disk
+          c.grow_to.new.file c.in-Err-grow_to.fault
+          (subst (λ (m : ℕ). Grows S c.find.new.disk c.grow_to.new.disk c.in-Ok.file c.grow_to.new.file m
+          (Err c.in-Err-grow_to.fault)) is c.in-Err-grow_to.ensures));
+    }
 
-pub returns-in_err-store_lines-clause-err : goal.returns-in_err-store_lines-clause-err
-returns-in_err-store_lines-clause-err g c =
+pub returns-in_err-store_lines : goal.returns-in_err-store_lines
+returns-in_err-store_lines g c =
     let S = g.D.Sectors.history in
     let clean = c.in_ok-check_image.ensures.ok in
     let (xs, are, is, tells) = c.in_ok-most.ensures.ok in
     let p = err_from_is_err_and c.from_residual-in_err-store_lines.result c.from_residual-in_err-store_lines.ensures.1
     in
-    rw (p.1 ∙ ap Err p.2)
-    (store-refused S c.args.image.now c.args.name.now c.args.text.now c.args.disk.now c.find.new.disk clean.0
-    (subst IsClean (sym c.requires.holds) clean.1)
-    c.args.out.now c.in-Ok.file c.in-Ok.ensures xs are c.judge.new.last.places.items tells c.grow_to.new.disk
-    c.grow_to.new.file
-    (subst (λ (m : ℕ). Grows S c.find.new.disk c.grow_to.new.disk c.in-Ok.file c.grow_to.new.file m
-    (Ok c.in_default.field-0)) is c.in_default.ensures)
-    g.W.Write.contents c.store_lines.new.disk c.store_lines.new.out c.store_lines.new.file
-    c.in_err-store_lines.field-0.0 c.in_err-store_lines.ensures)
+    record {
+      ok = rw (p.1 ∙ ap Err p.2) tt;
+      err = rw (p.1 ∙ ap Err p.2)
+          (store-refused S c.args.image.now c.args.name.now c.args.text.now c.args.disk.now c.find.new.disk clean.0
+          (subst IsClean (sym c.requires.holds) clean.1)
+          c.args.out.now c.in-Ok.file c.in-Ok.ensures xs are c.judge.new.last.places.items tells c.grow_to.new.disk
+          c.grow_to.new.file
+          (subst (λ (m : ℕ). Grows S c.find.new.disk c.grow_to.new.disk c.in-Ok.file c.grow_to.new.file m
+          (Ok c.in_default.field-0)) is c.in_default.ensures)
+          g.W.Write.contents c.store_lines.new.disk c.store_lines.new.out c.store_lines.new.file
+          c.in_err-store_lines.field-0.0 c.in_err-store_lines.ensures);
+    }

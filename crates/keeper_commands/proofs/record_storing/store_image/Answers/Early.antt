@@ -1,0 +1,54 @@
+-- What refuses the records before any is stored.
+use Rattle.std.proofs.Common.{Err, ap, refl, subst, sym, ◌∙◌}
+use Rattle.std.proofs.lemmas.Result.{err_from_is_err_and}
+use Rattle.disk_layout.specs.Clean.{IsClean}
+use Rattle.keeper_commands.proofs.Reached.{store-unclean}
+use Rattle.keeper_commands.proofs.TextGrown.{bad-line, find-refused}
+use Rattle.keeper_commands.proofs.record_storing.store_image.Goals as goal
+
+pub returns-in_err-check_image : goal.returns-in_err-check_image
+returns-in_err-check_image g c =
+    let p = err_from_is_err_and c.from_residual.result c.from_residual.ensures.1 in
+    record {
+      ok = rw (p.1 ∙ ap Err p.2) tt;
+      err = rw (p.1 ∙ ap Err p.2)
+          (store-unclean g.D.Sectors.history c.args.image.now c.args.name.now c.args.text.now c.args.disk.now
+          c.args.out.now _ c.in_err-check_image.ensures.err);
+    }
+
+pub returns-in_err-last : goal.returns-in_err-last
+returns-in_err-last g c =
+    let p = err_from_is_err_and c.from_residual-in_err-last.result c.from_residual-in_err-last.ensures.1 in
+    record {
+      ok = rw (p.1 ∙ ap Err p.2) tt;
+      err = rw (p.1 ∙ ap Err (p.2 ∙ c.in_err-last.ensures.err)) (c.in_ok-check_image.ensures.ok.0, refl, refl);
+    }
+
+pub returns-in-Err : goal.returns-in-Err
+returns-in-Err g c =
+    let S = g.D.Sectors.history in
+    let clean = c.in_ok-check_image.ensures.ok in
+    record {
+      ok = tt;
+      err = rw c.refusal.ensures
+          (find-refused S c.args.image.now c.args.name.now c.args.text.now c.args.disk.now c.find.new.disk clean.0
+          (subst IsClean (sym c.requires.holds) clean.1)
+          c.args.out.now c.in-Err.fault c.in-Err.ensures);
+    }
+
+pub judge-requires : goal.judge-requires
+judge-requires g c = c.in_ok-last.ensures.ok
+
+pub returns-in_err-most : goal.returns-in_err-most
+returns-in_err-most g c =
+    let S = g.D.Sectors.history in
+    let clean = c.in_ok-check_image.ensures.ok in
+    let p = err_from_is_err_and c.from_residual-in_err-most.result c.from_residual-in_err-most.ensures.1 in
+    let (k, is, bad) = c.in_err-most.ensures.err in
+    record {
+      ok = rw (p.1 ∙ ap Err p.2) tt;
+      err = rw (p.1 ∙ ap Err (p.2 ∙ is))
+          (bad-line S c.args.image.now c.args.name.now c.args.text.now c.args.disk.now c.find.new.disk clean.0
+          (subst IsClean (sym c.requires.holds) clean.1)
+          c.args.out.now c.in-Ok.file c.in-Ok.ensures k bad);
+    }
