@@ -12,7 +12,7 @@ use Rattle.d64_image.proofs.Places.{place_at-some, few_sectors}
 use Rattle.d64_image.specs.Geometry.{sectors_on}
 use Rattle.d64_image.specs.Places.{place_at}
 use Rattle.d64_image.specs.declared.place.Place.{Place}
-use Rattle.blank_shop.specs.Blank.{names_of, taken_on}
+use Rattle.blank_shop.specs.Blank.{IsBlankMap, names_of, taken_on}
 use Rattle.blank_shop.specs.Free.{IsFreeFrom}
 use Rattle.disk_layout.specs.Free.{IsWithoutFree}
 use Rattle.disk_layout.specs.Map.{IsFree, IsGiven, map_bit, map_count}
@@ -163,3 +163,13 @@ made-none name id blocks = record {
   where
     zeros : (i : ℕ) → 4 ≤ i → i < 144 → get_or (header name id) i 0 ≡ 0
     zeros i lo hi = middle (18 ∷ 1 ∷ 65 ∷ 0 ∷ []) (names_of name id) 140 i lo hi
+
+-- made as far as the last track
+pub made-all : (bytes name id : List ℕ) (blocks n : ℕ) → n ≡ 35 → IsMadeTo bytes name id blocks n
+    → IsBlankMap bytes name id blocks
+made-all bytes name id blocks n all h = record {
+  start = h.start;
+  counts = λ t lo hi. h.counts t lo (omega (arith, hi, all));
+  bits = λ t s lo hi lt. h.bits t s lo (omega (arith, hi, all)) lt;
+  names = h.names;
+}

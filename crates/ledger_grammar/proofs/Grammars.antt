@@ -5,7 +5,6 @@ use Rattle.std.specs.Prelude.{◌||◌, Bool, Result, Ok, Err, IfOk, false}
 use Rattle.clap.specs.Words.{AddsArg, AddsSubcommand, App, Rule, app_of, rule_of, with_rule, with_subcommand}
 use Rattle.clap.specs.declared.builder.arg.Arg.{Arg}
 use Rattle.clap.specs.declared.builder.command.Command.{Command}
-use Rattle.clap.specs.declared.builder.command.Command.TheViews.{out-Command}
 use Rattle.ledger_grammar.specs.Grammar.{AddsTo, IsSubcommand}
 
 -- both could be made

@@ -72,7 +72,10 @@ fn takes<'a>(
     ensures { (before : App) → IfOk subcommand.entry (grammar.IsSubcommand before)
         → IfOk result (grammar.IsSubcommand (with_rule before (rule_of value.entry))) }
 {
-    subcommand?.arg(value)
+    match subcommand {
+        Ok(subcommand) => subcommand.arg(value),
+        Err(no_memory) => Err(no_memory),
+    }
 }
 
 /// A subcommand over an image.

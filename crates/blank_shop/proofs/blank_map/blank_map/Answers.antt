@@ -1,7 +1,7 @@
 -- Before the first track, and track by track.
-use Rattle.std.proofs.Common.{arith, subst, sym, ◌+◌, ◌∙◌}
+use Rattle.std.proofs.Common.{arith, subst, sym, ◌+◌, ◌∙◌, ◌≡◌}
 use Rattle.blank_shop.proofs.blank_map.blank_map.Goals as goal
-use Rattle.blank_shop.proofs.Freeing.{IsMadeTo, made-none, made-track}
+use Rattle.blank_shop.proofs.Freeing.{IsMadeTo, made-all, made-none, made-track}
 use Rattle.blank_shop.specs.Free.{IsFreeFrom}
 use Rattle.std.proofs.Common.{List, ℕ}
 
@@ -19,3 +19,8 @@ loop-below-preserved c =
     24 in
     made-track c.loop-below.map.bytes c.free_from.new.map.bytes c.args.name.now c.args.id c.args.blocks
     c.loop-below.below c.loop-below.invariant (subst P c.taken_on.ensures.value c.free_from.ensures)
+
+pub returns : goal.returns
+returns c =
+    let all : c.loop-below.below ≡ 35 = omega (arith, c.loop-below-test.false, c.loop-below.auto.below-end) in
+    made-all _ _ _ _ _ all c.loop-below.invariant
