@@ -35,4 +35,7 @@ returns-in-19 c = record {
 }
 
 pub returns-in_default : goal.returns-in_default
-returns-in_default c = record { value = rest c.args.blocks c.args.track (omega arith) (omega arith) (omega arith); few = none }
+returns-in_default c = record {
+  value = rest c.args.blocks c.args.track (omega arith) (omega arith) (omega arith);
+  few = none;
+}
