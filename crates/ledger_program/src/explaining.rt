@@ -107,33 +107,11 @@ fn writes(job: &Job<'_>) -> bool {
 /// Tells what the system says of a file that can't be opened. False where it can, or is standard input.
 fn told_unopened<T: Drop, E: Write>(err: &mut E, path: &str, tried: io::Result<T>) -> bool {
     match tried {
-        Err(error) if path != STANDARD_INPUT => {
+        Ok(_) => false,
+        Err(error) => {
             let _ = writeln!(err, "ledger: {path}: {error}");
             true
         }
-        _ => false,
-    }
-}
-
-/// Opens a job's first file as the job does, but makes none and changes none.
-fn tried<F: Drop, R: Files<File = F>>(rt: &R, job: &Job<'_>, image: &str) -> io::Result<F> {
-    match job {
-        Job::Format { .. } => OpenOptions::new().write(true).open(rt, image),
-        _ if writes(job) => opened(rt, image),
-        _ => File::open(rt, image),
-    }
-}
-
-/// Tells what the system says of the script, or the records, where the job reads any and it can't open them.
-fn told_text<F, R, E>(rt: &R, job: &Job<'_>, err: &mut E) -> bool
-where
-    F: Drop,
-    R: Files<File = F>,
-    E: Write,
-{
-    match text_of(job) {
-        Some(text) => told_unopened(err, text, File::open(rt, text)),
-        None => false,
     }
 }
 
@@ -145,8 +123,18 @@ where
     E: Write,
 {
     let image = image_of(job);
-    if told_unopened(err, image, tried(rt, job, image)) || told_text(rt, job, err) {
+    let tried = match job {
+        Job::Format { .. } => OpenOptions::new().write(true).open(rt, image),
+        _ if writes(job) => opened(rt, image),
+        _ => File::open(rt, image),
+    };
+    if image != STANDARD_INPUT && told_unopened(err, image, tried) {
         return;
+    }
+    if let Some(text) = text_of(job) {
+        if text != STANDARD_INPUT && told_unopened(err, text, File::open(rt, text)) {
+            return;
+        }
     }
     let _ = writeln!(
         err,
