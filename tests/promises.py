@@ -20,7 +20,7 @@ def record_fields():
     for file in TOP.glob("crates/*/specs/**/*.antt"):
         name = None
         for line in file.read_text().split("\n"):
-            head = re.match(rf"pub record ({WORD})", line)
+            head = re.match(rf" *pub record ({WORD})", line)
             field = re.match(rf" +pub «?({WORD})»? :", line)
             name = head[1] if head else name if line.startswith(" ") or not line else None
             if name and field:

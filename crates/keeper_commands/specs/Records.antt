@@ -1,12 +1,18 @@
 -- What is printed of the records of a relative file of an image. All of it is our own.
-use Rattle.std.specs.Prelude.{◌≡◌, ◌≢◌, ℕ, zero, suc, ◌+◌, ◌++◌, List, [], Option, Some, get_or, length, slice_get}
+use Rattle.std.specs.Prelude.{◌≡◌, ◌≢◌, ◌≤◌, ℕ, zero, suc, ◌+◌, ◌-◌, ◌++◌, List, [], IfErr, IfOk, Option, Result, Some}
+use Rattle.std.specs.Prelude.{get_or, length, slice_get, take}
 use Rattle.std.specs.Io.KnownBytes.{Appends}
 use Rattle.byte_text.specs.Texts.{record_line}
+use Rattle.d64_image.specs.Images.{Image}
 use Rattle.d64_image.specs.Memory.{sectors_in}
 use Rattle.disk_layout.specs.Fault.{Holds, nowhere}
 use Rattle.disk_layout.specs.Layout.{File, IsLayout, Layout}
 use Rattle.disk_layout.specs.Records.{records}
 use Rattle.disk_layout.specs.Rest.{IsFirst, IsNamed}
+use Rattle.rel_records.specs.File.{OfItsFile}
+use Rattle.rel_records.specs.declared.rel_file.RelFile.{RelFile}
+use Rattle.rel_records.specs.declared.reading.in_order.LastBlock.{LastBlock}
+use Rattle.rel_records.specs.reading.Kept.{IsKept}
 use Rattle.keeper_commands.specs.declared.faults.KeepFault.{KeepFault}
 use Rattle.keeper_commands.specs.declared.faults.KeepFault.TheVariants as keep
 
@@ -18,6 +24,17 @@ lines_to rs (suc n) = lines_to rs n ++ record_line (n + 1) (get_or rs n [])
 -- of these bytes, `held`, a beginning was handed to an output, and the others, `kept`, weren't yet
 abbrev pub HandsOn : Option (List ℕ) → Option (List ℕ) → List ℕ → List ℕ → Type 0
 HandsOn old new held kept = (front : List ℕ) × Appends old new front × (held ≡ front ++ kept)
+
+-- The line of a record of an image's file was put into a room of 4,096 bytes behind the first `start`, up to where is
+-- answered. A disk in memory isn't changed by that, nor does it fail.
+pub record IsGathered (old new : Image) (file : RelFile) (last : LastBlock) (number start : ℕ) (before after : List ℕ)
+    (result : Result ℕ KeepFault) : Type 0 where
+  pub ok : OfItsFile old file (λ l n f. IfOk result (λ end. take end after
+      ≡ take start before ++ record_line number (get_or (records old f) (number - 1) [])))
+  pub end : IfOk result (λ end. end ≤ start + 776)
+  pub same : new ≡ old
+  pub kept : IsKept old file last
+  pub err : IfErr result (λ fault. fault ≡ keep.File)
 
 -- the lines of all of them
 unfoldable pub records_text : List (List ℕ) → List ℕ

@@ -1,14 +1,12 @@
 //! The records of a relative file, as they are printed.
-ghost use Rattle.std.specs.Prelude.{◌≡◌, ◌≢◌, ◌≤◌, ◌+◌, ◌-◌, ◌++◌, [], IfErr, IfOk, OnOk, get_or, length};
-ghost use Rattle.std.specs.Prelude.{take};
+ghost use Rattle.std.specs.Prelude.{◌≡◌, ◌≢◌, ◌≤◌, ◌+◌, IfErr, IfOk, OnOk, length, take};
 ghost use Rattle.std.specs.Io.KnownBytes.{Appends};
 ghost use Rattle.d64_image.specs.Memory.{disk_image};
 ghost use Rattle.disk_layout.specs.Records as records_of;
-ghost use Rattle.keeper_commands.specs.Records.{AreRecordsPrinted, HandsOn, IsRecordsFault, records_text};
+ghost use Rattle.keeper_commands.specs.Records.{AreRecordsPrinted, HandsOn, IsGathered, IsRecordsFault, records_text};
 ghost use Rattle.keeper_commands.specs.declared.faults.KeepFault.TheVariants as faults;
 ghost use Rattle.rel_records.specs.File.{IsOf, OfItsFile};
 ghost use Rattle.rel_records.specs.reading.Kept.{IsKept};
-ghost use Rattle.byte_text.specs.Texts.{record_line};
 
 use crate::faults::KeepFault;
 use crate::loading::load_sound;
@@ -41,13 +39,8 @@ fn gather_line(
     requires there { OfItsFile (disk_image disk.old) file.now (λ l n f.
         (1 ≤ number) × (number ≤ length (records_of.records (disk_image disk.old) f))) }
     requires room { start + 776 ≤ 4096 }
-    ensures ok { OfItsFile (disk_image disk.old) file.now (λ l n f. IfOk result (λ end. take end room.new
-        ≡ take start room.old
-        ++ record_line number (get_or (records_of.records (disk_image disk.old) f) (number - 1) []))) }
-    ensures end { IfOk result (λ end. end ≤ start + 776) }
-    ensures same { disk_image disk.new ≡ disk_image disk.old }
-    ensures kept { IsKept (disk_image disk.old) file.now last.new }
-    ensures err { IfErr result (λ fault. fault ≡ faults.File) }
+    ensures { IsGathered (disk_image disk.old) (disk_image disk.new) file.now last.new number start room.old room.new
+        result }
 {
     if read_next(disk, file, last, number, bytes).is_err() {
         return Err(KeepFault::Device);

@@ -26,6 +26,14 @@ use Rattle.d64_image.specs.Keeps.{Agrees, kept_or}
 use Rattle.d64_image.specs.Memory.{sectors_in}
 use Rattle.ledger_commands.specs.Lasting.{Lasting, Whole, seen}
 use Rattle.ledger_commands.specs.LastingImages.{image_of, image_of-size}
+use Rattle.ledger_commands.specs.declared.durable.Durability.{Durability}
+use Rattle.ledger_commands.specs.declared.durable.Durability.TheVariants as durabilities
+
+-- where sectors are brought to the disk at the end, none is brought there before
+pub unbrought : (b : Bool) (d : Durability) → (b ≡ true → d ≡ durabilities.EachSector) → d ≡ durabilities.AtEnd
+    → b ≡ false
+unbrought true d each end = let e = sym (each refl) ∙ end in cc
+unbrought false d each end = refl
 
 -- bytes of which one more was asked for than there are
 read_whole : (all image : List ℕ) → image ≡ take 174849 all → length image ≡ 174848 → length all ≡ 174848

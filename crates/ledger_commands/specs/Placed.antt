@@ -1,10 +1,13 @@
 -- A file that keeps the sectors of a disk at their places. Our own.
-use Rattle.std.specs.Prelude.{◌≡◌, ◌≤◌, Some, true, false}
+use Rattle.std.specs.Prelude.{◌≡◌, ◌≤◌, ℕ, List, Result, IsOk, OnErr, OnOk, Some, length, true, false}
 use Rattle.std.proofs.Common.{◌∙◌, arith, le_refl, refl}
-use Rattle.d64_image.specs.Keeps.{Keeps, KeptOnly}
+use Rattle.d64_image.specs.Keeps.{Agrees, Keeps, KeptOnly}
+use Rattle.d64_image.specs.Memory.{sectors_in}
+use Rattle.ledger_commands.specs.Durable.{AllStays}
 use Rattle.ledger_commands.specs.Lasting.{Lasting, seen}
 use Rattle.ledger_commands.specs.LastingImages.{image_of, now_image, only_now_image, stayed_image, whole_image}
 use Rattle.ledger_commands.specs.declared.durable.Durability.{Durability}
+use Rattle.ledger_commands.specs.declared.durable.Durability.TheVariants as durabilities
 use Rattle.ledger_commands.specs.declared.durable.WritesAt.{Ghosts}
 use Rattle.ledger_commands.specs.declared.placed.Placed.{Placed}
 
@@ -73,3 +76,26 @@ module _ {F : Type 0} {G : Ghosts F} where
   pub record KeepsOn (old new : Placed F G) : Type 0 where
     pub kept : placed.kept new ≡ placed.kept old
     pub only : KeptOnly placed old new (λ c. placed.kept old ≡ Some c)
+
+  -- The file of an image with these bytes was taken up: it took no sector, and hasn't failed. Where each sector is
+  -- brought to the disk, it keeps what stays there; else what it holds, where that is known whole.
+  pub record IsTakenUp (durability : Durability) (image : List ℕ) (file : F) (p : Placed F G) : Type 0 where
+    pub is_file : placed_file p ≡ file
+    pub brings : placed_durability p ≡ durability
+    pub untaken : placed.writes p ≡ 0
+    pub unfailed : placed.failures p ≡ 0
+    pub synced : durability ≡ durabilities.EachSector → length image ≡ 174848 → is_synced p
+    pub unsynced : durability ≡ durabilities.AtEnd → length image ≡ 174848 → is_unsynced p
+    pub agrees : Agrees (placed.kept p) (sectors_in image)
+
+  -- All that was written was brought to the disk, where that wasn't done behind each sector.
+  pub record BringsAll {E : Type 0} (old new : Placed F G) (result : Result Unit E) : Type 0 where
+    pub lasting : OnOk result (AllStays G.held G.lasting (placed_file new))
+    pub whole : is_synced old → placed.failures old ≡ 0 → IsOk result
+    -- an error is told where the file failed alone, now or before
+    pub failed : OnErr result (G.has_failed (placed_file new) ≡ true)
+    pub passed : OnOk result (G.has_failed (placed_file new) ≡ G.has_failed (placed_file old))
+    pub same : G.held (placed_file new) ≡ G.held (placed_file old)
+    pub reached : placed.reached old new
+    pub kept : KeepsOn old new
+    pub untouched : is_synced old → new ≡ old

@@ -39,18 +39,9 @@ fn is_brought(durability: Durability, image: &[u8]) -> bool
 }
 
 impl<F: WritesAt> Placed<F> {
-    ghost use Rattle.std.specs.Prelude.{IfSome, IsOk, OnErr, OnOk, take};
-    ghost use Rattle.d64_image.specs.Keeps.{Agrees};
-    ghost use Rattle.d64_image.specs.Memory.{sectors_in};
-    ghost use Rattle.ledger_commands.specs.Durable.{AllStays, IsSynced};
-    ghost use Rattle.ledger_commands.specs.Placed.{
-      KeepsOn,
-      is_synced,
-      is_unsynced,
-      placed,
-      placed_durability,
-      placed_file,
-    };
+    ghost use Rattle.std.specs.Prelude.{IfSome, take};
+    ghost use Rattle.ledger_commands.specs.Durable.{IsSynced};
+    ghost use Rattle.ledger_commands.specs.Placed.{BringsAll, IsTakenUp, is_synced, placed, placed_durability, placed_file};
 
     /// The file, whose sectors aren't brought to the disk before the end. It took no sector, and hasn't failed.
     pub fn new(file: F) -> Placed<F>
@@ -75,13 +66,7 @@ impl<F: WritesAt> Placed<F> {
     pub fn of_image(file: F, durability: Durability, image: &[u8]) -> Placed<F>
         requires there { IsSynced F.held F.lasting durability file }
         requires image { IfSome (F.held file) (λ all. image.now ≡ take 174849 all) }
-        ensures file { placed_file result ≡ file }
-        ensures durability { placed_durability result ≡ durability }
-        ensures untaken { placed.writes result ≡ 0 }
-        ensures unfailed { placed.failures result ≡ 0 }
-        ensures synced { durability ≡ Durability.EachSector → length image.now ≡ 174848 → is_synced result }
-        ensures unsynced { durability ≡ Durability.AtEnd → length image.now ≡ 174848 → is_unsynced result }
-        ensures agrees { Agrees (placed.kept result) (sectors_in image.now) }
+        ensures { IsTakenUp durability image.now file result }
     {
         Placed {
             file,
@@ -119,15 +104,7 @@ impl<F: WritesAt> Placed<F> {
     /// Brings all that was written to the disk, where that wasn't done behind each sector. A file that failed to bring
     /// a sector there isn't asked again. Where each is there, and none failed, there is nothing to bring, and no error.
     pub fn finish(&mut self) -> io::Result<()>
-        ensures lasting { OnOk result (AllStays F.held F.lasting (placed_file self.new)) }
-        ensures whole { is_synced self.old → placed.failures self.old ≡ 0 → IsOk result }
-        // an error is told where the file failed alone, now or before
-        ensures failed { OnErr result (F.has_failed (placed_file self.new) ≡ true) }
-        ensures passed { OnOk result (F.has_failed (placed_file self.new) ≡ F.has_failed (placed_file self.old)) }
-        ensures same { F.held (placed_file self.new) ≡ F.held (placed_file self.old) }
-        ensures reached { placed.reached self.old self.new }
-        ensures kept { KeepsOn self.old self.new }
-        ensures untouched { is_synced self.old → self.new ≡ self.old }
+        ensures { BringsAll self.old self.new result }
     {
         if self.is_stopped() {
             return Err(io::Error::from(io::ErrorKind::Other));

@@ -1,7 +1,7 @@
 -- Runs over a file that is brought to the disk, once its sectors stand at their places.
 use Rattle.std.proofs.Common.{◌≡◌, ◌≢◌, ◌∙◌, ◌⊎◌, ⊎_elim, ℕ, Bool, Err, List, Ok, Option, Some, ap}
-use Rattle.std.proofs.Common.{false, length, refl, subst, sym, true}
-use Rattle.std.specs.Prelude.{IfErr, OnOk}
+use Rattle.std.proofs.Common.{false, refl, subst, sym, true}
+use Rattle.std.specs.Prelude.{IfErr}
 use Rattle.d64_image.specs.Images.{Image}
 use Rattle.d64_image.specs.Keeps.{Keeps, none_kept}
 use Rattle.host_session.specs.events.Telling.{Output}
@@ -10,15 +10,14 @@ use Rattle.serving.specs.Giving.{Input}
 use Rattle.ledger_commands.specs.Durable.{AllStays}
 use Rattle.ledger_commands.specs.Lasting.{Lasting, Whole, seen}
 use Rattle.ledger_commands.specs.LastingImages.{are_image, image_of}
-use Rattle.ledger_commands.specs.Placed.{KeepsOn, is_synced, is_unsynced, placed, placed_file}
+use Rattle.ledger_commands.specs.Placed.{IsTakenUp, placed, placed_file}
 use Rattle.ledger_commands.specs.Plays.{IsFileFault, IsUntouched}
 use Rattle.ledger_commands.specs.declared.durable.Durability.{Durability}
-use Rattle.ledger_commands.specs.declared.durable.Durability.TheVariants as durabilities
 use Rattle.ledger_commands.specs.declared.durable.WritesAt.{Ghosts}
 use Rattle.ledger_commands.specs.declared.faults.RunFault.{RunFault}
 use Rattle.ledger_commands.specs.declared.faults.RunFault.TheVariants as faults
 use Rattle.ledger_commands.specs.declared.placed.Placed.{Placed}
-use Rattle.ledger_program.specs.DurableRuns.{IsDurableRun}
+use Rattle.ledger_program.specs.DurableRuns.{IsDurableRun, IsFinished}
 use Rattle.ledger_program.specs.Ends.{Ended}
 use Rattle.ledger_program.specs.FileServes.{IsServeFault, IsUnserved}
 
@@ -35,58 +34,30 @@ image_left held L W false false f g untouched same stays c e = none_kept e
 module _ {F : Type 0} {G : Ghosts F} (durability : Durability) (image : List ℕ) (file after : F)
     (first left last : Placed F G) (end ended : Ended) (IsRun : Placed F G → Placed F G → Ended → Type 0) where
   -- whatever the run was, its file was taken up, brought to the disk and handed back
-  pub durable_run : placed_file first ≡ file → placed.failures first ≡ 0 → after ≡ placed_file last
-      → IsRun first left end → (ended ≡ end) ⊎ (ended ≡ Err faults.Device)
-      → IfErr end (λ fault. fault ≢ faults.File → ended ≡ end)
-      → (is_synced left → placed.failures left ≡ 0 → ended ≡ end)
-      → (ended ≡ end) ⊎ (G.has_failed (placed_file last) ≡ true)
-      → (G.has_failed (placed_file left) ≡ true → G.has_failed (placed_file last) ≡ true)
-      → G.held (placed_file last) ≡ G.held (placed_file left)
-      → placed.reached left last → (is_synced left → last ≡ left)
-      → IfErr end (λ fault. fault ≢ faults.File → last ≡ left)
-      → KeepsOn left last
-      → (durability ≡ durabilities.EachSector → length image ≡ 174848 → is_synced first)
-      → (durability ≡ durabilities.AtEnd → length image ≡ 174848 → is_unsynced first)
-      → OnOk ended (AllStays G.held G.lasting (placed_file last))
-      → IfErr ended (λ fault. fault ≡ faults.File → AllStays G.held G.lasting (placed_file last))
-      → IsDurableRun durability image file after ended IsRun
-  durable_run is_file unfailed is_last run told refused unblamed blamed failed same reached untouched alone brought
-      synced unsynced there stands = record {
+  pub durable_run : IsTakenUp durability image file first → after ≡ placed_file last → IsRun first left end
+      → IsFinished end left last ended → IsDurableRun durability image file after ended IsRun
+  durable_run taken is_last run finished = record {
         first = first;
         left = left;
         last = last;
-        is_file = is_file;
-        unfailed = unfailed;
-        synced = synced;
-        unsynced = unsynced;
-        is_after = sym is_last;
+        taken = taken;
         end = end;
         run = run;
-        told = told;
-        refused = refused;
-        unblamed = unblamed;
-        blamed = subst (λ f. (ended ≡ end) ⊎ (G.has_failed f ≡ true)) (sym is_last) blamed;
-        counted = λ some. subst (λ f. G.has_failed f ≡ true) (sym is_last) (failed (left.blamed some));
-        same = ap G.held is_last ∙ same;
-        reached = reached;
-        untouched = untouched;
-        alone = alone;
+        finished = finished;
+        is_after = sym is_last;
+        counted = λ some. subst (λ f. G.has_failed f ≡ true) (sym is_last) (finished.failed (left.blamed some));
         lasts = λ each size now r. ap (λ b. image_of ((seen G.lasting G.whole.lasting b now.sized).bytes now.file))
-            (r.synced ∙ synced each size);
+            (r.synced ∙ taken.synced each size);
         holds = λ end size now r.
-            let is = unsynced end size in
+            let is = taken.unsynced end size in
             ap (λ b. image_of ((seen G.lasting G.whole.lasting b now.sized).bytes now.file)) (r.synced ∙ is.0)
             ∙ ap (λ b. image_of ((seen G.lasting G.whole.lasting false b).bytes now.file)) (r.sized ∙ is.1);
-        brought = brought;
         remains = subst
             (λ f. AllStays G.held G.lasting f → (c : Image) → placed.kept left ≡ Some c
             → image_of (G.lasting.bytes f) ≡ Some c)
             (sym is_last)
             (image_left G.held G.lasting G.whole left.synced left.sized left.file last.file
-            (λ is. ap placed_file (untouched is)) same);
-        there = subst (λ f. OnOk ended (AllStays G.held G.lasting f)) (sym is_last) there;
-        stands = subst (λ f. IfErr ended (λ fault. fault ≡ faults.File → AllStays G.held G.lasting f)) (sym is_last)
-            stands;
+            (λ is. ap placed_file (finished.untouched is)) finished.same);
       }
 
 -- a fault that blames neither the file nor the output tells that nothing was done

@@ -3,13 +3,35 @@ use Rattle.std.specs.Prelude.{◌≡◌, ◌≢◌, ◌⊎◌, ◌≤◌, List, 
 use Rattle.d64_image.specs.Images.{Image}
 use Rattle.ledger_commands.specs.Durable.{AllStays}
 use Rattle.ledger_commands.specs.LastingImages.{image_of}
-use Rattle.ledger_commands.specs.Placed.{KeepsOn, is_synced, is_unsynced, placed, placed_file}
+use Rattle.ledger_commands.specs.Placed.{IsTakenUp, KeepsOn, is_synced, placed, placed_file}
 use Rattle.ledger_commands.specs.declared.durable.Durability.{Durability}
 use Rattle.ledger_commands.specs.declared.durable.Durability.TheVariants as durabilities
 use Rattle.ledger_commands.specs.declared.durable.WritesAt.{Ghosts}
 use Rattle.ledger_commands.specs.declared.faults.RunFault.TheVariants as faults
 use Rattle.ledger_commands.specs.declared.placed.Placed.{Placed}
 use Rattle.ledger_program.specs.Ends.{Ended}
+
+-- A run that ended as `end` left such a file. The rest of what was written was brought to the disk then, and `ended` is
+-- told.
+pub record IsFinished {F : Type 0} {G : Ghosts F} (end : Ended) (left last : Placed F G) (ended : Ended) : Type 0 where
+  -- A file that can't be brought there is told of in place of how the run ended; but a run that was refused is told as
+  -- it ended, and so is one over a file whose sectors are all on the disk.
+  pub told : (ended ≡ end) ⊎ (ended ≡ Err faults.Device)
+  pub refused : IfErr end (λ fault. fault ≢ faults.File → ended ≡ end)
+  pub unblamed : is_synced left → placed.failures left ≡ 0 → ended ≡ end
+  -- where the file is blamed in place of that, it failed
+  pub blamed : (ended ≡ end) ⊎ (G.has_failed (placed_file last) ≡ true)
+  pub failed : G.has_failed (placed_file left) ≡ true → G.has_failed (placed_file last) ≡ true
+  pub same : G.held (placed_file last) ≡ G.held (placed_file left)
+  pub reached : placed.reached left last
+  pub untouched : is_synced left → last ≡ left
+  -- nothing is asked of the file behind a refusal, nor of one that failed
+  pub alone : IfErr end (λ fault. fault ≢ faults.File → last ≡ left)
+  -- it changes nothing of what the file keeps, at no moment
+  pub brought : KeepsOn left last
+  -- done, or where the output alone failed, all that the file holds stays
+  pub there : OnOk ended (AllStays G.held G.lasting (placed_file last))
+  pub stands : IfErr ended (λ fault. fault ≡ faults.File → AllStays G.held G.lasting (placed_file last))
 
 -- A run over the image of a file that was handed in, and which was left as `after`, ended so.
 pub record IsDurableRun {F : Type 0} {G : Ghosts F} (durability : Durability) (image : List ℕ) (file after : F)
@@ -18,27 +40,14 @@ pub record IsDurableRun {F : Type 0} {G : Ghosts F} (durability : Durability) (i
   pub first : Placed F G
   pub left : Placed F G
   pub last : Placed F G
-  pub is_file : placed_file first ≡ file
-  pub unfailed : placed.failures first ≡ 0
-  pub synced : durability ≡ durabilities.EachSector → length image ≡ 174848 → is_synced first
-  pub unsynced : durability ≡ durabilities.AtEnd → length image ≡ 174848 → is_unsynced first
-  pub is_after : placed_file last ≡ after
-  -- how the run alone ended; a file that then couldn't be brought to the disk is told of in its place
+  pub taken : IsTakenUp durability image file first
+  -- how the run alone ended
   pub end : Ended
   pub run : IsRun first left end
-  pub told : (ended ≡ end) ⊎ (ended ≡ Err faults.Device)
-  -- A run that was refused is told as it ended, and so is one over a file whose sectors are all on the disk.
-  pub refused : IfErr end (λ fault. fault ≢ faults.File → ended ≡ end)
-  pub unblamed : is_synced left → placed.failures left ≡ 0 → ended ≡ end
-  -- Of a file that says that none of its calls failed it is told so too, and none of them is counted as failed.
-  pub blamed : (ended ≡ end) ⊎ (G.has_failed after ≡ true)
+  pub finished : IsFinished end left last ended
+  pub is_after : placed_file last ≡ after
+  -- where the file failed in the run, it says so
   pub counted : 1 ≤ placed.failures left → G.has_failed after ≡ true
-  -- what the file holds at the end is what the run left
-  pub same : G.held after ≡ G.held (placed_file left)
-  pub reached : placed.reached left last
-  pub untouched : is_synced left → last ≡ left
-  -- Behind a refusal, or where the file failed in the run, nothing more was done to it.
-  pub alone : IfErr end (λ fault. fault ≢ faults.File → last ≡ left)
   -- Where each sector is brought to the disk, what such a file keeps at any time of the run is the image that stays
   -- there where the machine loses power.
   pub lasts : durability ≡ durabilities.EachSector → length image ≡ 174848 → (now : Placed F G)
@@ -47,11 +56,6 @@ pub record IsDurableRun {F : Type 0} {G : Ghosts F} (durability : Durability) (i
   -- whole.
   pub holds : durability ≡ durabilities.AtEnd → length image ≡ 174848 → (now : Placed F G)
       → placed.reached first now → placed.kept now ≡ image_of (G.whole.lasting.bytes (placed_file now))
-  -- Bringing it to the disk changes nothing of what it keeps, at no moment; and what then stays is the image that the
-  -- run left, where that is known.
-  pub brought : KeepsOn left last
+  -- What stays at the end is the image that the run left, where that is known.
   pub remains : AllStays G.held G.lasting after → (c : Image) → placed.kept left ≡ Some c
       → image_of (G.lasting.bytes after) ≡ Some c
-  -- Done, or where the output alone failed, all that the file holds stays.
-  pub there : OnOk ended (AllStays G.held G.lasting after)
-  pub stands : IfErr ended (λ fault. fault ≡ faults.File → AllStays G.held G.lasting after)

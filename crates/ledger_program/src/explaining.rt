@@ -104,7 +104,7 @@ fn writes(job: &Job<'_>) -> bool {
     }
 }
 
-/// Tells what the system says of a file that can't be opened. False where it can, or is standard input.
+/// Tells what the system says of a file that can't be opened. False where it can.
 fn told_unopened<T: Drop, E: Write>(err: &mut E, path: &str, tried: io::Result<T>) -> bool {
     match tried {
         Ok(_) => false,
@@ -115,7 +115,20 @@ fn told_unopened<T: Drop, E: Write>(err: &mut E, path: &str, tried: io::Result<T
     }
 }
 
-/// Tells which of a job's files can't be opened.
+/// Opens the file of an image as its job does.
+fn opened_for<F, R>(rt: &R, job: &Job<'_>, image: &str) -> io::Result<F>
+where
+    F: Drop,
+    R: Files<File = F>,
+{
+    match job {
+        Job::Format { .. } => OpenOptions::new().write(true).open(rt, image),
+        _ if writes(job) => opened(rt, image),
+        _ => File::open(rt, image),
+    }
+}
+
+/// Tells which of a job's files can't be opened. Standard input isn't tried: a pipe whose writer is gone would wait.
 fn tell_files<F, R, E>(rt: &R, job: &Job<'_>, err: &mut E)
 where
     F: Drop,
@@ -123,12 +136,7 @@ where
     E: Write,
 {
     let image = image_of(job);
-    let tried = match job {
-        Job::Format { .. } => OpenOptions::new().write(true).open(rt, image),
-        _ if writes(job) => opened(rt, image),
-        _ => File::open(rt, image),
-    };
-    if image != STANDARD_INPUT && told_unopened(err, image, tried) {
+    if image != STANDARD_INPUT && told_unopened(err, image, opened_for(rt, job, image)) {
         return;
     }
     if let Some(text) = text_of(job) {
@@ -142,6 +150,24 @@ where
     );
 }
 
+/// How many bytes a file has. None of standard input, which isn't opened, nor where the system doesn't say.
+fn size_of<F, R>(rt: &R, path: &str) -> Option<u64>
+where
+    F: OpenFile + Drop,
+    R: Files<File = F>,
+{
+    if path == STANDARD_INPUT {
+        return None;
+    }
+    match File::open(rt, path) {
+        Ok(file) => match file.metadata() {
+            Ok(found) => Some(found.len()),
+            Err(_) => None,
+        },
+        Err(_) => None,
+    }
+}
+
 /// Tells how many bytes an image has.
 fn tell_size<F, R, E>(rt: &R, image: &str, err: &mut E)
 where
@@ -150,13 +176,9 @@ where
     E: Write,
 {
     const WANTED: &str = "an image of 35 tracks without error bytes has 174848";
-    let told = match File::open(rt, image) {
-        Ok(file) => file.metadata(),
-        Err(error) => Err(error),
-    };
-    let _ = match told {
-        Ok(found) => writeln!(err, "ledger: {image} has {} bytes; {WANTED}", found.len()),
-        Err(_) => writeln!(err, "ledger: {image}: {WANTED}"),
+    let _ = match size_of(rt, image) {
+        Some(bytes) => writeln!(err, "ledger: {image} has {bytes} bytes; {WANTED}"),
+        None => writeln!(err, "ledger: {image}: {WANTED}"),
     };
 }
 
@@ -171,22 +193,14 @@ where
     let Job::Format { image, .. } = job else {
         return;
     };
-    let found = match File::open(rt, image) {
-        Ok(file) => file.metadata(),
-        Err(error) => Err(error),
-    };
-    if let Ok(found) = found {
-        let _ = writeln!(
-            err,
-            "ledger: replacing {image}, which has {} bytes",
-            found.len()
-        );
+    if let Some(bytes) = size_of(rt, image) {
+        let _ = writeln!(err, "ledger: replacing {image}, which has {bytes} bytes");
     }
 }
 
 /// Tells a person, in a line below the refusal's own, which file it is about, what the system says of it then, or what
-/// to do. The job's files are opened once more for it, and neither made, read nor changed. Where it can't be told there
-/// is nobody left to tell.
+/// to do. The job's files, but for standard input, are opened once more for it, and neither made, read nor changed. Where
+/// it can't be told there is nobody left to tell.
 pub fn explain<F, R, E>(rt: &R, job: &Job<'_>, refusal: Refusal, err: &mut E)
 where
     F: OpenFile + Drop,

@@ -1,8 +1,7 @@
 //! Image files that a job locks, reads, writes and brings to the disk.
-ghost use Rattle.std.specs.Prelude.{◌≡◌, ◌≢◌, ◌⊎◌, Err, IfErr, IfOk, IfSome, IsOk, OnOk, take, true, vec_items};
-ghost use Rattle.ledger_commands.specs.Durable.{AllStays, IsSynced};
-ghost use Rattle.ledger_commands.specs.Placed.{KeepsOn, is_synced, placed, placed_file};
-ghost use Rattle.ledger_commands.specs.declared.faults.RunFault.TheVariants as faults;
+ghost use Rattle.std.specs.Prelude.{◌≡◌, IfOk, IfSome, OnOk, take, vec_items};
+ghost use Rattle.ledger_commands.specs.Durable.{IsSynced};
+ghost use Rattle.ledger_program.specs.DurableRuns.{IsFinished};
 
 use crate::refusals::Refusal;
 use disk_layout::Fault;
@@ -82,21 +81,7 @@ pub(crate) fn finished<F: WritesAt>(
     file: &mut Placed<F>,
     ended: Result<Option<Fault>, RunFault>,
 ) -> Result<Option<Fault>, RunFault>
-    ensures lasting { OnOk result (AllStays F.held F.lasting (placed_file file.new)) }
-    ensures stands { IfErr result (λ fault. fault ≡ faults.File → AllStays F.held F.lasting (placed_file file.new)) }
-    ensures told { (result ≡ ended) ⊎ (result ≡ Err faults.Device) }
-    ensures unblamed { is_synced file.old → placed.failures file.old ≡ 0 → result ≡ ended }
-    // where the file is blamed in place of how the run ended, it failed
-    ensures blamed { (result ≡ ended) ⊎ (F.has_failed (placed_file file.new) ≡ true) }
-    ensures failed { F.has_failed (placed_file file.old) ≡ true → F.has_failed (placed_file file.new) ≡ true }
-    ensures refused { IfErr ended (λ fault. fault ≢ faults.File → result ≡ ended) }
-    ensures fault { IfErr ended (λ fault. (fault ≡ faults.File → IsOk result → ⊥)) }
-    ensures same { F.held (placed_file file.new) ≡ F.held (placed_file file.old) }
-    ensures reached { placed.reached file.old file.new }
-    ensures kept { KeepsOn file.old file.new }
-    ensures untouched { is_synced file.old → file.new ≡ file.old }
-    // nothing is asked of the file behind a refusal, nor of one that failed
-    ensures alone { IfErr ended (λ fault. fault ≢ faults.File → file.new ≡ file.old) }
+    ensures { IsFinished {G = F.WritesAt.own} ended file.old file.new result }
 {
     match &ended {
         Ok(_) | Err(RunFault::File) => match file.finish() {

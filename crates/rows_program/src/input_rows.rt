@@ -33,6 +33,21 @@ ends 3
 $ ledger_cli show a.d64
 prints TOP 9256|
 
+# A person is told, and standard input isn't opened for it.
+no script
+input 1,1,S,42,120|
+input-fails
+person ledger_cli play a.d64 /dev/stdin
+tells FILE|ledger: a file couldn't be read to its end, or the output not be written|
+ends 3
+
+no script
+input D64
+input-fails
+person ledger_cli check /dev/stdin
+tells FILE|ledger: a file couldn't be read to its end, or the output not be written|
+ends 3
+
 no script
 input 1,A|
 input-fails

@@ -24,6 +24,8 @@ pub(crate) struct Memory {
     pub(crate) input: Stored,
     pub(crate) fails: Cell<bool>,
     pub(crate) taken: Cell<bool>,
+    /// Whether it was opened by its name, which waits where it is a pipe whose writer is gone.
+    pub(crate) reopened: Cell<bool>,
     pub(crate) out: RefCell<Vec<u8>>,
     /// How many bytes the output takes until it fails, and in how many writes it took some.
     pub(crate) room: Cell<usize>,
@@ -46,6 +48,7 @@ impl Memory {
             input: Stored::new(alloc),
             fails: Cell::new(false),
             taken: Cell::new(false),
+            reopened: Cell::new(false),
             out: RefCell::new(Vec::new(alloc)),
             room: Cell::new(usize::MAX),
             prints: Cell::new(0),
@@ -149,6 +152,10 @@ impl<'a> Files for Runtime<'a> {
             "a.d64" => open_stored(&self.memory.image, how),
             "s.txt" => open_stored(&self.memory.script, how),
             "." => open_stored(&self.memory.folder, how),
+            "/dev/stdin" => {
+                self.memory.reopened.set(true);
+                failed(ErrorKind::NotFound)
+            }
             _ => failed(ErrorKind::NotFound),
         }
     }

@@ -20,7 +20,8 @@
 //! The run, by a command line as a shell splits it: `$` with standard error that no person reads, `person` with one who
 //! does, `waiting` with one who doesn't see the output. `job` only prints which job the command line asks for.
 //!
-//! What it leaves; of what isn't named nothing is printed or told, the status is 0, and nothing is written:
+//! What it leaves; of what isn't named nothing is printed or told, the status is 0, nothing is written, and standard
+//! input isn't opened by its name:
 //! - `prints`, `tells`, `ends`: the output, standard error, the status; a text that ends with `..` is its beginning, one
 //!   that begins with `..` too a part of it
 //! - `written`: the image is another; `rewritten`: it was written, and is the same; `leaves` with `the shop`, `another`
@@ -204,6 +205,7 @@ fn is_told(scene: &Scene) -> bool {
         && took(&memory.err, b"")
         && memory.status.get() == 0
         && !memory.image.unlocked.get()
+        && !memory.reopened.get()
         && memory.script.is_as(&scene.script)
         && (scene.written.get()
             || memory.image.writes.get() == 0 && memory.image.is_as(&scene.image))

@@ -1,9 +1,9 @@
 -- A device that keeps each image that it held. Our own.
-use Rattle.std.specs.Prelude.{ℕ, ◌≡◌, ◌⊎◌, List, [], ◌∷◌, length, drop, refl, true}
+use Rattle.std.specs.Prelude.{ℕ, ◌≡◌, ◌≤◌, ◌+◌, ◌⊎◌, List, [], ◌∷◌, OnErr, OnOk, Result, length, drop, refl, true}
 use Rattle.std.proofs.Common.{inl, inr, ⊎_elim}
 use Rattle.d64_image.specs.declared.place.Place.{Place}
-use Rattle.d64_image.specs.Images.{Image, put}
-use Rattle.d64_image.specs.History.{History}
+use Rattle.d64_image.specs.Images.{Image, Sector, put}
+use Rattle.d64_image.specs.History.{HeldOnly, History, OldOr}
 use Rattle.tool_devices.specs.declared.change.Change.{Change}
 use Rattle.tool_devices.specs.declared.recorder.Recorder.{Recorder}
 
@@ -71,3 +71,16 @@ recorded h = record {
   failed_stays = λ a b p x failed. ⊎_elim (λ full. inl (x.full full))
       (λ there. inr (h.failed_stays a.disk b.disk p x.beneath there)) failed;
 }
+
+-- A sector was written, once what stood there was recorded. A failure isn't counted yet.
+pub record IsChanged {D T E : Type 0} (h : History D) (old new : Recorder D) (p : Place) (bytes : Sector)
+    (result : Result T E) : Type 0 where
+  pub ok : OnOk result (h.image new.disk ≡ put (h.image old.disk) p bytes)
+  pub err : OnErr result (OldOr (h.image old.disk) (put (h.image old.disk) p bytes) (h.image new.disk))
+  pub held : HeldOnly (recorded h) old new (OldOr (h.image old.disk) (put (h.image old.disk) p bytes))
+  pub counted : OnOk result (h.writes new.disk ≤ h.writes old.disk + 1)
+  pub uncounted : OnErr result (h.writes new.disk ≡ h.writes old.disk)
+  pub failures : new.failed ≡ old.failed
+  pub failed : OnErr result (fails_at h new p)
+  pub moments : OnOk result (moments_of new ≡ moments_of old + 1)
+  pub keeps : (t : ℕ) → t ≤ moments_of old → image_at h new t ≡ image_at h old t

@@ -17,10 +17,10 @@ pub struct Recorder<D> {
 }
 
 impl<D: Sectors> Recorder<D> {
-    ghost use Rattle.d64_image.specs.History.{HeldOnly, OldOr, OnlyReads, TellsFailure};
-    ghost use Rattle.d64_image.specs.Images.{put, sector};
+    ghost use Rattle.d64_image.specs.History.{OnlyReads, TellsFailure};
+    ghost use Rattle.d64_image.specs.Images.{sector};
     ghost use Rattle.std.specs.Prelude.{drop, length};
-    ghost use Rattle.tool_devices.specs.Recorder.{fails_at, image_at, moments_of, recorded, recorder_disk, undone};
+    ghost use Rattle.tool_devices.specs.Recorder.{IsChanged, image_at, moments_of, recorded, recorder_disk, undone};
 
     /// A recorder round a disk. It has recorded nothing yet.
     pub fn new(alloc: Global, disk: D) -> Self
@@ -99,19 +99,7 @@ impl<D: Sectors> Recorder<D> {
 
     /// Writes a sector, once it has recorded what stood there.
     fn change(&mut self, place: Place, from: &[u8; 256]) -> Result<(), DeviceFault>
-        ensures ok { OnOk result (D.history.image self.new.disk ≡ put (D.history.image self.old.disk) place from.now) }
-        ensures err { OnErr result
-            (OldOr (D.history.image self.old.disk) (put (D.history.image self.old.disk) place from.now)
-            (D.history.image self.new.disk)) }
-        ensures held { HeldOnly (recorded D.history) self.old self.new
-            (OldOr (D.history.image self.old.disk) (put (D.history.image self.old.disk) place from.now)) }
-        ensures counted { OnOk result (D.history.writes self.new.disk ≤ D.history.writes self.old.disk + 1) }
-        ensures uncounted { OnErr result (D.history.writes self.new.disk ≡ D.history.writes self.old.disk) }
-        ensures failures { self.new.failed ≡ self.old.failed }
-        ensures failed { OnErr result (fails_at D.history self.new place) }
-        ensures recorded { OnOk result (moments_of self.new ≡ moments_of self.old + 1) }
-        ensures keeps { (t : ℕ) → t ≤ moments_of self.old
-            → image_at D.history self.new t ≡ image_at D.history self.old t }
+        ensures { IsChanged D.history self.old self.new place from.now result }
     {
         if self.full {
             return Err(DeviceFault);

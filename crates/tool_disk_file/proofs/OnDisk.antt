@@ -70,8 +70,9 @@ module _ {F R T : Type 0} {G : Ghosts F} (bytes : F → List ℕ) (knows : (f : 
   done_well shop sound input output few =
       let none : placed.failures run.left ≡ 0 =
       none_of (placed.failures run.left) (λ some. let e = sym sound ∙ run.counted some in cc) in
-      let is : ended ≡ run.end = ⊎_elim (λ e. e) (λ failed. absurd (let e = sym sound ∙ failed in cc)) run.blamed in
-      let unfailed : placed.failures run.first ≡ 0 = run.unfailed in
+      let is : ended ≡ run.end = ⊎_elim (λ e. e) (λ failed. absurd (let e = sym sound ∙ failed in cc))
+      (subst (λ f. (ended ≡ run.end) ⊎ (G.has_failed f ≡ true)) run.is_after run.finished.blamed) in
+      let unfailed : placed.failures run.first ≡ 0 = run.taken.unfailed in
       let end = served.well (record {
         shop = shop;
         size = size;
@@ -91,7 +92,7 @@ module _ {F R T : Type 0} {G : Ghosts F} (bytes : F → List ℕ) (knows : (f : 
 
   -- but for the device it is told as the run alone ended
   is_end : ended ≢ Err faults.Device → ended ≡ run.end
-  is_end other = ⊎_elim (λ e. e) (λ device. absurd (other device)) run.told
+  is_end other = ⊎_elim (λ e. e) (λ device. absurd (other device)) run.finished.told
 
   -- and so are the input and the output
   pub file_failed : ended ≡ Err faults.File → IsFileToldBy i a new_in new served.handled

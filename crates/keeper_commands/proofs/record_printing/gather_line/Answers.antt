@@ -7,8 +7,8 @@ use Rattle.d64_image.specs.Memory.{disk_image}
 use Rattle.keeper_commands.proofs.Printing.{got, not-err, read-done}
 use Rattle.keeper_commands.proofs.record_printing.gather_line.Goals as goal
 
-pub returns-then-is_err-clause-err : goal.returns-then-is_err-clause-err
-returns-then-is_err-clause-err c =
+pub returns-then-is_err : goal.returns-then-is_err
+returns-then-is_err c =
     let of = c.requires.of in
     let l = of.0 in
     let n = of.1 in
@@ -20,11 +20,18 @@ returns-then-is_err-clause-err c =
     c.read_next.ensures.text.failures c.read_next.ensures.text.told (c.read_next.ensures.text.not_present l n f of.3)
     there.0 there.1 err)
 
-pub returns-clause-ok : goal.returns-clause-ok
-returns-clause-ok c = λ l n f of.
+pub returns : goal.returns
+returns c =
     let ok : is_err c.read_next.result ≡ false = sym c.is_err.ensures.value ∙ c.if-is_err.false in
-    let read = not-err c.read_next.result ok (c.read_next.ensures.text.ok l n f of) in
-    let bytes = got (records_of.records (disk_image c.args.disk.now) f) _ _ read.there in
-    subst (λ (xs : List ℕ). take c.put_line.result c.put_line.new.room
-    ≡ take c.args.start c.args.room.now ++ record_line c.args.number xs)
-    (sym bytes) c.put_line.ensures.written
+    record {
+      ok = λ l n f of.
+          let read = not-err c.read_next.result ok (c.read_next.ensures.text.ok l n f of) in
+          let bytes = got (records_of.records (disk_image c.args.disk.now) f) _ _ read.there in
+          subst (λ (xs : List ℕ). take c.put_line.result c.put_line.new.room
+          ≡ take c.args.start c.args.room.now ++ record_line c.args.number xs)
+          (sym bytes) c.put_line.ensures.written;
+      end = c.put_line.ensures.end.1;
+      same = c.read_next.ensures.text.reads.image;
+      kept = c.read_next.ensures.kept;
+      err = tt;
+    }

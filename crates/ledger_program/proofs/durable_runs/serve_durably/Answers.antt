@@ -10,13 +10,9 @@ returns g c =
     let done = c.finished-end in
     record {
       run = durable_run c.args.durability c.args.image.now c.args.file c.into_inner.result taken.result run.result.0
-          done.new.file run.result.1 done.result _ taken.ensures.file taken.ensures.unfailed c.into_inner.ensures
-          run.ensures.run done.ensures.told done.ensures.refused done.ensures.unblamed done.ensures.blamed
-          done.ensures.failed done.ensures.same done.ensures.reached done.ensures.untouched done.ensures.alone
-          done.ensures.kept taken.ensures.synced taken.ensures.unsynced done.ensures.lasting
-          done.ensures.stands;
+          done.new.file run.result.1 done.result _ taken.ensures c.into_inner.ensures run.ensures.run done.ensures;
       untouched = served_alone c.args.file c.into_inner.result taken.result run.result.0 done.new.file run.result.1
-          done.result taken.ensures.file c.into_inner.ensures done.ensures.told done.ensures.alone c.args.input.now
+          done.result taken.ensures.is_file c.into_inner.ensures done.ensures.told done.ensures.alone c.args.input.now
           run.new.input c.args.out.now run.new.out
           (unserved placed g.R.GivesLines.input g.T.Answers.answering c.args.image.now taken.result run.result.0
           c.args.input.now run.new.input c.args.out.now run.new.out run.result.1 run.ensures.run.fault);

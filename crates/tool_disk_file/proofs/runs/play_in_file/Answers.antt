@@ -13,6 +13,7 @@ use Rattle.ledger_program.specs.Ends.{Ended}
 use Rattle.tool_disk_file.specs.Shops.{IsAfterSome}
 use Rattle.tool_disk_file.specs.WholeFiles.{whole_held}
 use Rattle.tool_disk_file.specs.WholeShops.{WereHeld}
+use Rattle.tool_disk_file.proofs.Durably.{all_there}
 use Rattle.tool_disk_file.proofs.Ends.{held_sized, known_in, on_ok_by}
 use Rattle.tool_disk_file.proofs.Lasts.{lasts_done, lasts_each, play_failed}
 use Rattle.tool_disk_file.proofs.runs.play_in_file.Goals as goal
@@ -47,7 +48,7 @@ returns g c =
     record {
       done = on_ok_by ended _ (λ v e.
           let there : Some after.file.disk.bytes.items ≡ Some (whole_held after) = subst
-          (λ (end : Ended). OnOk end (Some after.file.disk.bytes.items ≡ Some (whole_held after))) e run.there in
+          (λ (end : Ended). OnOk end (Some after.file.disk.bytes.items ≡ Some (whole_held after))) e (all_there run) in
           record {
             told = λ s is none. (lasts_done durabilities.AtEnd o image script file after ended out new_out size known
                 run s (shop s is) v e (whole_held after) refl after.file.held.size none).0;
@@ -58,7 +59,7 @@ returns g c =
                 (lasts_done durabilities.AtEnd o image script file after ended out new_out size known run s (shop s is)
                 v e (whole_held after) refl after.file.held.size none).1;
           });
-      held = on_ok_weaker ended (λ same. ap known_in same) run.there;
+      held = on_ok_weaker ended (λ same. ap known_in same) (all_there run);
       stays = record { each = each; now = λ s is. each s is (whole_held after) (inl refl) };
       device = play_failed durabilities.AtEnd o image script file after ended out new_out size known run;
     }

@@ -8,6 +8,7 @@ use Rattle.serving.specs.Inputs.{line_messages}
 use Rattle.tool_disk_file.specs.Files.{file_held}
 use Rattle.tool_disk_file.specs.Shops.{IsAfterSome, WereThere, bytes_there}
 use Rattle.tool_disk_file.specs.declared.disk_file.DiskFile.{DiskFile}
+use Rattle.tool_disk_file.proofs.Durably.{all_there}
 use Rattle.tool_disk_file.proofs.Ends.{on_ok_by, stayed_sized}
 use Rattle.tool_disk_file.proofs.OnDisk.{
   asked,
@@ -93,7 +94,7 @@ returns g c =
         there = there bytes_there knows sized i a image file after ended old_in new_in out new_out size (ap Some known)
             run s (shop s is) v e;
       });
-      held = on_ok_weaker ended (λ same. ap known_in same) run.there;
+      held = on_ok_weaker ended (λ same. ap known_in same) (all_there run);
       device = device_failed bytes_there knows sized i a image file after ended old_in new_in out new_out size
           (ap Some known) run;
       file = file_failed bytes_there knows sized i a image file after ended old_in new_in out new_out size
