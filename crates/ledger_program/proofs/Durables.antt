@@ -37,28 +37,28 @@ module _ {F : Type 0} {G : Ghosts F} (durability : Durability) (image : List ℕ
   pub durable_run : IsTakenUp durability image file first → after ≡ placed_file last → IsRun first left end
       → IsFinished end left last ended → IsDurableRun durability image file after ended IsRun
   durable_run taken is_last run finished = record {
-        first = first;
-        left = left;
-        last = last;
-        taken = taken;
-        end = end;
-        run = run;
-        finished = finished;
-        is_after = sym is_last;
-        counted = λ some. subst (λ f. G.has_failed f ≡ true) (sym is_last) (finished.failed (left.blamed some));
-        lasts = λ each size now r. ap (λ b. image_of ((seen G.lasting G.whole.lasting b now.sized).bytes now.file))
-            (r.synced ∙ taken.synced each size);
-        holds = λ end size now r.
-            let is = taken.unsynced end size in
-            ap (λ b. image_of ((seen G.lasting G.whole.lasting b now.sized).bytes now.file)) (r.synced ∙ is.0)
-            ∙ ap (λ b. image_of ((seen G.lasting G.whole.lasting false b).bytes now.file)) (r.sized ∙ is.1);
-        remains = subst
-            (λ f. AllStays G.held G.lasting f → (c : Image) → placed.kept left ≡ Some c
-            → image_of (G.lasting.bytes f) ≡ Some c)
-            (sym is_last)
-            (image_left G.held G.lasting G.whole left.synced left.sized left.file last.file
-            (λ is. ap placed_file (finished.untouched is)) finished.same);
-      }
+    first = first;
+    left = left;
+    last = last;
+    taken = taken;
+    end = end;
+    run = run;
+    finished = finished;
+    is_after = sym is_last;
+    counted = λ some. subst (λ f. G.has_failed f ≡ true) (sym is_last) (finished.failed (left.blamed some));
+    lasts = λ each size now r. ap (λ b. image_of ((seen G.lasting G.whole.lasting b now.sized).bytes now.file))
+        (r.synced ∙ taken.synced each size);
+    holds = λ end size now r.
+        let is = taken.unsynced end size in
+        ap (λ b. image_of ((seen G.lasting G.whole.lasting b now.sized).bytes now.file)) (r.synced ∙ is.0)
+        ∙ ap (λ b. image_of ((seen G.lasting G.whole.lasting false b).bytes now.file)) (r.sized ∙ is.1);
+    remains = subst
+        (λ f. AllStays G.held G.lasting f → (c : Image) → placed.kept left ≡ Some c
+        → image_of (G.lasting.bytes f) ≡ Some c)
+        (sym is_last)
+        (image_left G.held G.lasting G.whole left.synced left.sized left.file last.file
+        (λ is. ap placed_file (finished.untouched is)) finished.same);
+  }
 
 -- a fault that blames neither the file nor the output tells that nothing was done
 module _ {F T : Type 0} (K : Keeps F) (o : Output T) (image script : List ℕ) (file after : F) (old new : T) where

@@ -1,10 +1,10 @@
 -- Replies that are handed on one by one, and one more of them.
-use Rattle.std.proofs.Common.{◌≡◌, ◌∙◌, ⊎_elim, List, [], ◌∷◌, ◌++◌, Err, Ok, Result, arith, inl, inr, refl}
+use Rattle.std.proofs.Common.{◌≡◌, ◌∙◌, List, [], ◌∷◌, ◌++◌, Err, Ok, Result, arith, inl, inr, refl}
 use Rattle.std.specs.Prelude.{OnOk}
 use Rattle.request_cards.specs.declared.reply.Reply.{Reply}
 use Rattle.host_session.specs.events.Instants.{Instant}
 use Rattle.host_session.specs.events.Telling.{BreaksOff, IsTold, Output, TellsNone, TellsOne}
-use Rattle.serving.specs.Answering.{HandedOnInTurn, IsHeldBack, answered, at_once, of_output}
+use Rattle.serving.specs.Answering.{HandedOnInTurn, answered, at_once, of_output}
 use Rattle.serving.specs.AtOnce.{lent}
 use Rattle.serving.specs.declared.at_once.AtOnce.{AtOnce}
 

@@ -2,14 +2,11 @@
 mod Asked
 mod Early
 mod Refused
-use Rattle.std.proofs.Common.{◌≡◌, Ok, Err, ℕ, ap, refl, subst, sym, ◌∙◌}
-use Rattle.std.proofs.lemmas.Result.{IfErr-weaker, err_from_is_err_and}
+use Rattle.std.proofs.Common.{◌≡◌, Ok, ℕ, subst, sym}
+use Rattle.std.proofs.lemmas.Result.{IfErr-weaker}
 use Rattle.disk_layout.specs.Clean.{IsClean}
 use Rattle.d64_image.proofs.Told.{at-ok}
-use Rattle.keeper_commands.proofs.Reached.{store-unclean}
-use Rattle.keeper_commands.proofs.TextGrown.{bad-line, find-refused, found-file, grow-refused, grown-clean, grown-file}
-use Rattle.keeper_commands.proofs.TextGrown.{grown-lines}
-use Rattle.keeper_commands.proofs.TextStored.{store-done, store-refused, store-unprinted}
+use Rattle.keeper_commands.proofs.TextStored.{store-done, store-unprinted}
 use Rattle.keeper_commands.specs.Storing.{IsStoreFault}
 use Rattle.keeper_commands.specs.declared.faults.KeepFault.TheVariants as keep
 use Rattle.rel_records.specs.Calls.{Grows}

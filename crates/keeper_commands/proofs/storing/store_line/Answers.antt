@@ -1,13 +1,12 @@
 -- The line is of the one record, which was stored, and its line printed where it was otherwise.
 mod Refused
-use Rattle.std.proofs.Common.{◌≡◌, ◌≤◌, ◌∷◌, [], Err, Result, List, ℕ, Bool, Ok, length, refl, sym, subst, ap, ◌∙◌}
+use Rattle.std.proofs.Common.{◌≡◌, ◌≤◌, Err, List, ℕ, Bool, Ok, length, refl, sym, subst, ap, ◌∙◌}
 use Rattle.std.specs.Io.KnownBytes.{Appends}
 use Rattle.std.specs.Prelude.{slice_index}
-use Rattle.std.proofs.lemmas.Result.{err_from_is_err_and}
 use Rattle.rel_records.specs.File.{length_of, records_in}
 use Rattle.byte_text.specs.Texts.{record_line}
 use Rattle.keeper_commands.proofs.Composed.{none-stored}
-use Rattle.keeper_commands.proofs.LineStored.{if-last, if-not_last, line-failed, line-printed, line-record, line-same}
+use Rattle.keeper_commands.proofs.LineStored.{if-last, if-not_last, line-printed, line-record}
 use Rattle.keeper_commands.proofs.LineStored.{line-unprinted}
 use Rattle.keeper_commands.proofs.Printing.{not-err}
 use Rattle.keeper_commands.specs.Stores.{NewRecord, new_record}

@@ -1,5 +1,5 @@
 -- The bytes that have the text are no new file's name, and no others have it.
-use Rattle.std.proofs.Common.{◌≡◌, ◌∙◌, IsNone, ap, subst, sym}
+use Rattle.std.proofs.Common.{◌≡◌, ◌∙◌, subst, sym}
 use Rattle.std.proofs.lemmas.Bool.{false≢true}
 use Rattle.byte_text.proofs.Texts.{one-text}
 use Rattle.keeper_commands.specs.Makes.{IsNewName}

@@ -2,11 +2,11 @@
 mod Stopped
 use Rattle.std.proofs.Common.{◌≡◌, ◌∙◌, false, not, ap, subst, sym}
 use Rattle.request_cards.specs.declared.reply.Reply.TheVariants.{Cut}
-use Rattle.host_session.proofs.lemmas.runs.AskedTold.{cut_is, is_reset, no_none, was_broken, was_told}
-use Rattle.host_session.proofs.lemmas.runs.Looped.{breaks_off, fails, goes_on}
+use Rattle.host_session.proofs.lemmas.runs.AskedTold.{cut_is, is_reset, no_none, was_told}
+use Rattle.host_session.proofs.lemmas.runs.Looped.{goes_on}
 use Rattle.host_session.specs.events.Instants.{instant_of}
-use Rattle.host_session.specs.runs.Loops.{Ends, EndsBy, IsStretch, with_disk}
-use Rattle.host_session.specs.events.OneEvent.{EndsFailed, GoesOn, IsEvent}
+use Rattle.host_session.specs.runs.Loops.{Ends, IsStretch, with_disk}
+use Rattle.host_session.specs.events.OneEvent.{GoesOn, IsEvent}
 use Rattle.host_session.specs.declared.runs.looping.LoopFault.TheVariants as faults
 use Rattle.host_session.specs.events.Telling.{IsTold}
 use Rattle.host_session.specs.events.Within.{SparesTheDisk}

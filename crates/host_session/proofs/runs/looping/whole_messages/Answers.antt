@@ -2,10 +2,10 @@
 mod Stopped
 use Rattle.std.proofs.Common.{◌≡◌, ◌∙◌, false, arith, le_refl, not, ap, subst, sym}
 use Rattle.std.proofs.lemmas.Bool.{false≢true}
-use Rattle.host_session.proofs.lemmas.runs.AskedTold.{is_whole, no_cut, some_cut, was_asked, was_broken, was_told}
-use Rattle.host_session.proofs.lemmas.runs.Looped.{at_end, at_fault, breaks_off, fails, goes_on, takes_one}
+use Rattle.host_session.proofs.lemmas.runs.AskedTold.{is_whole, no_cut, some_cut, was_asked, was_told}
+use Rattle.host_session.proofs.lemmas.runs.Looped.{at_end, at_fault, goes_on, takes_one}
 use Rattle.host_session.specs.events.Instants.{instant_of}
-use Rattle.host_session.specs.events.OneEvent.{EndsFailed, GoesOn, IsEvent}
+use Rattle.host_session.specs.events.OneEvent.{GoesOn, IsEvent}
 use Rattle.host_session.specs.events.Telling.{IsTold}
 use Rattle.host_session.specs.events.Within.{IsWithin, SparesTheDisk}
 use Rattle.host_session.proofs.runs.looping.whole_messages.Goals as goal

@@ -1,15 +1,11 @@
 -- What was judged is a shop's, and stays the same shop's; what was refused is no shop's, and was only read.
 mod Refused
 mod Unsettled
-use Rattle.std.proofs.Common.{Err, ap, arith, refl, subst, sym, ◌≡◌, ◌∙◌}
-use Rattle.std.proofs.lemmas.Result.{err_from_is_err_and}
-use Rattle.std.proofs.lemmas.Bool.{false≢true}
+use Rattle.std.proofs.Common.{arith, refl, subst, sym, ◌≡◌, ◌∙◌}
 use Rattle.d64_image.proofs.Moments.{changes_then, changes_weaker, reads_change}
 use Rattle.host_session.specs.shop.Files.{HasFiles}
 use Rattle.host_session.specs.shop.Shop.{IsSettled, IsShop, shop_of}
-use Rattle.host_session.specs.session.Standing.{View}
-use Rattle.host_session.proofs.lemmas.opening.Opens.{device-ok, device-refused, error-changes, error-device, error-told}
-use Rattle.host_session.proofs.lemmas.opening.Opens.{judged-opening, judged-same, ok-of, opening-later, refused-no}
+use Rattle.host_session.proofs.lemmas.opening.Opens.{judged-same, ok-of}
 use Rattle.host_session.proofs.session.Session.open.Goals as goal
 use Rattle.host_session.proofs.session.Session.open.Answers.Unsettled as unsettled
 use Rattle.host_session.proofs.session.Session.open.Answers.Refused as refused

@@ -1,15 +1,12 @@
 -- A card of version 1 holds one request; as version 2 it holds the same.
 mod Failed
 mod Left
-use Rattle.std.proofs.Common.{ap, arith, sym, subst, ◌+◌, ◌-◌, ◌<◌, ◌≡◌, ◌∙◌, refl}
-use Rattle.d64_image.proofs.Moments.{changes_weaker, no_change}
+use Rattle.std.proofs.Common.{ap, arith, sym, subst, ◌+◌, ◌-◌, ◌<◌, ◌≡◌, ◌∙◌}
 use Rattle.request_cards.specs.CardTexts.{card_text}
 use Rattle.host_session.specs.session.Settling.{HasNewTable}
-use Rattle.host_session.specs.shop.Shop.{IsShop}
 use Rattle.host_session.specs.session.Standing.{nth}
-use Rattle.host_session.proofs.lemmas.opening.AtRest.{card-at, new-young, none-young, old-is, table-more, young-at}
+use Rattle.host_session.proofs.lemmas.opening.AtRest.{card-at, old-is}
 use Rattle.host_session.proofs.lemmas.opening.Migrated.{renewed-moments, renewed-ok, renewed-there}
-use Rattle.std.proofs.lemmas.Result.{err_from_is_err_and}
 use Rattle.host_session.proofs.session.migrating.migrate_till.Goals as goal
 use Rattle.host_session.proofs.session.migrating.migrate_till.Answers.Failed as failed
 use Rattle.host_session.proofs.session.migrating.migrate_till.Answers.Left as left

@@ -2,9 +2,8 @@
 mod Asked
 use Rattle.std.proofs.Common.{refl}
 use Rattle.std.proofs.lemmas.Result.{err_from_is_err_and}
-use Rattle.host_session.proofs.lemmas.writing.Completions.{done-fits, done-moments, done-ok, done-there, moved-fits}
-use Rattle.host_session.proofs.lemmas.writing.Completions.{moved-fits', moved-half, moved-moments, moved-ok}
-use Rattle.host_session.proofs.lemmas.writing.Completions.{moved-there, moved-there', some-results}
+use Rattle.host_session.proofs.lemmas.writing.Completions.{done-fits, done-moments, done-ok, done-there, moved-half}
+use Rattle.host_session.proofs.lemmas.writing.Completions.{moved-moments, moved-ok, some-results}
 use Rattle.host_session.proofs.lemmas.writing.IntentAnswers.{done-of, intent-fits, moved-of, none-in, one-in, two-in}
 use Rattle.host_session.proofs.lemmas.writing.Selection.{told-after}
 use Rattle.host_session.proofs.shop.completing.put_results.Goals as goal

@@ -1,11 +1,8 @@
 -- The survey's layout is that of each call: nothing is written. STOCK is judged before REQUESTS.
 mod Refused
-use Rattle.std.proofs.Common.{Err, ap, arith, refl, ◌∙◌}
-use Rattle.std.proofs.lemmas.Result.{err_from_is_err_and}
+use Rattle.std.proofs.Common.{arith, ◌∙◌}
 use Rattle.std.specs.Prelude.{codes}
-use Rattle.d64_image.proofs.Moments.{reads_then, reads_weaker}
-use Rattle.layout_check.specs.declared.outcome.Survey.{Survey}
-use Rattle.host_session.proofs.lemmas.judging.Judgments.{device-error, judged-error, refused-error}
+use Rattle.d64_image.proofs.Moments.{reads_then}
 use Rattle.host_session.proofs.lemmas.judging.Search.{entry-below, files-found, has-file, lacks-none, named-some}
 use Rattle.host_session.proofs.lemmas.judging.Search.{top-at}
 use Rattle.host_session.proofs.shop.finding.find_files.Goals as goal

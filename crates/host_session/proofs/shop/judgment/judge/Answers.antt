@@ -1,12 +1,10 @@
 -- The two files, the tills' cards, the items' cards: nothing is written in between.
 mod Refused
-use Rattle.std.proofs.Common.{ℕ, Err, Option, ap, arith, refl, ◌∙◌}
+use Rattle.std.proofs.Common.{Err, ap, arith, ◌∙◌}
 use Rattle.std.proofs.lemmas.Result.{err_from_is_err_and}
-use Rattle.d64_image.proofs.Moments.{reads_then, reads_weaker}
+use Rattle.d64_image.proofs.Moments.{reads_then}
 use Rattle.host_session.proofs.lemmas.judging.JudgedTills.{given-fits, judged-tills, ledger-judged}
 use Rattle.host_session.proofs.lemmas.judging.Judgments.{files-still, judged-error, refused-error}
-use Rattle.host_session.specs.declared.shop.finding.LedgerFiles.{LedgerFiles}
-use Rattle.host_session.specs.declared.shop.intents.Intent.{Intent}
 use Rattle.host_session.proofs.shop.judgment.judge.Goals as goal
 use Rattle.host_session.proofs.shop.judgment.judge.Answers.Refused as refused
 

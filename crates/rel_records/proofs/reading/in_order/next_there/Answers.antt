@@ -2,13 +2,10 @@
 mod Kept
 mod Near
 mod Text
-use Rattle.std.proofs.Common.{ap, arith, length, subst, sym, ℕ, ◌∙◌, ◌≡◌, ◌-◌}
-use Rattle.d64_image.specs.Images.{Image, IsImage, Sector}
-use Rattle.disk_layout.proofs.lemmas.records.Joined.{sector-long}
-use Rattle.disk_layout.specs.Layout.{File}
+use Rattle.std.proofs.Common.{arith, subst, sym, ◌-◌}
+use Rattle.d64_image.specs.Images.{Image}
 use Rattle.rel_records.proofs.lemmas.reading.Readings.{inside-of}
 use Rattle.rel_records.specs.File.{IsOf}
-use Rattle.rel_records.specs.reading.Block.{IsBlock}
 use Rattle.rel_records.specs.reading.Kept.{IsKept}
 use Rattle.rel_records.proofs.reading.in_order.next_there.Goals as goal
 use Rattle.rel_records.proofs.reading.in_order.next_there.Answers.Kept as kept
