@@ -92,12 +92,18 @@ with_version a = record { top = record a.top { has_version = true }; subs = a.su
 abbrev pub bare : App
 bare = with_required_subcommand (with_version (new_app (codes "ledger")))
 
+-- a program that has the subcommands for a shop, and those for the files of a disk, too
+abbrev pub with_shop : App → App
+with_shop a = with_subcommand (with_subcommand (with_subcommand (with_subcommand (with_subcommand (with_subcommand
+    a format.top) list.top) check.top) show.top) play.top) serve.top
+
+abbrev pub with_files : App → App
+with_files a = with_subcommand (with_subcommand (with_subcommand (with_subcommand (with_subcommand
+    a repair.top) records.top) bytes.top) make.top) store.top
+
 -- the program with its subcommands
 abbrev pub ledger : App
-ledger = with_subcommand (with_subcommand (with_subcommand (with_subcommand (with_subcommand (with_subcommand
-    (with_subcommand (with_subcommand (with_subcommand (with_subcommand (with_subcommand (with_subcommand
-    (with_subcommand (with_subcommand bare format.top) list.top) check.top) show.top) play.top) serve.top) repair.top)
-    records.top) bytes.top) make.top) store.top) map.top) picture.top) dry.top
+ledger = with_subcommand (with_subcommand (with_subcommand (with_files (with_shop bare)) map.top) picture.top) dry.top
 
 -- this is that subcommand, and none of its values is one of the program's
 pub record IsSubcommand (app : App) (c : Command) : Type 0 where

@@ -1,5 +1,5 @@
 //! The command line that the program takes: one function a subcommand.
-ghost use Rattle.std.specs.Prelude.{◌≡◌, IfOk, codes, false};
+ghost use Rattle.std.specs.Prelude.{◌≡◌, IfOk, Ok, codes, false};
 ghost use Rattle.clap.specs.Words.{App, app_of, new_app, rule_of, with_rule};
 ghost use Rattle.clap.specs.declared.builder.command.Command.TheViews.{out-Command};
 ghost use Rattle.ledger_grammar.specs.Grammar as grammar;
@@ -286,6 +286,19 @@ fn bare<'a>(alloc: Global) -> Command<'a>
     described(alloc).version(VERSION).subcommand_required(true)
 }
 
+/// Adds a subcommand to the program, where there was memory for it.
+fn adds_to<'a>(
+    program: Command<'a>,
+    subcommand: Result<Command<'a>, AllocError>,
+) -> Result<Command<'a>, AllocError>
+    ensures { IfOk result (grammar.AddsTo (Ok program.entry) subcommand.entry) }
+{
+    match subcommand {
+        Ok(subcommand) => program.subcommand(subcommand),
+        Err(no_memory) => Err(no_memory),
+    }
+}
+
 /// Adds a subcommand to the program, where there was memory for both.
 fn adds<'a>(
     program: Result<Command<'a>, AllocError>,
@@ -293,26 +306,48 @@ fn adds<'a>(
 ) -> Result<Command<'a>, AllocError>
     ensures { IfOk result (grammar.AddsTo program.entry subcommand.entry) }
 {
-    let subcommand = subcommand?;
-    program?.subcommand(subcommand)
+    match program {
+        Ok(program) => adds_to(program, subcommand),
+        Err(no_memory) => Err(no_memory),
+    }
+}
+
+/// Adds the subcommands for a shop to the program.
+fn with_shop<'a>(
+    alloc: Global,
+    program: Result<Command<'a>, AllocError>,
+) -> Result<Command<'a>, AllocError>
+    ensures { (before : App) → IfOk program.entry (λ c. app_of c ≡ before)
+        → IfOk result (λ c. app_of c ≡ grammar.with_shop before) }
+{
+    let program = adds(program, format_command(alloc));
+    let program = adds(program, list_command(alloc));
+    let program = adds(program, check_command(alloc));
+    let program = adds(program, show_command(alloc));
+    let program = adds(program, play_command(alloc));
+    adds(program, serve_command(alloc))
+}
+
+/// Adds the subcommands for the files of a disk to the program.
+fn with_files<'a>(
+    alloc: Global,
+    program: Result<Command<'a>, AllocError>,
+) -> Result<Command<'a>, AllocError>
+    ensures { (before : App) → IfOk program.entry (λ c. app_of c ≡ before)
+        → IfOk result (λ c. app_of c ≡ grammar.with_files before) }
+{
+    let program = adds(program, repair_command(alloc));
+    let program = adds(program, records_command(alloc));
+    let program = adds(program, bytes_command(alloc));
+    let program = adds(program, make_command(alloc));
+    adds(program, store_command(alloc))
 }
 
 /// The program's command line.
 pub fn ledger_command<'a>(alloc: Global) -> Result<Command<'a>, AllocError>
     ensures { IfOk result (λ c. app_of c ≡ grammar.ledger) }
 {
-    let program = Ok(bare(alloc));
-    let program = adds(program, format_command(alloc));
-    let program = adds(program, list_command(alloc));
-    let program = adds(program, check_command(alloc));
-    let program = adds(program, show_command(alloc));
-    let program = adds(program, play_command(alloc));
-    let program = adds(program, serve_command(alloc));
-    let program = adds(program, repair_command(alloc));
-    let program = adds(program, records_command(alloc));
-    let program = adds(program, bytes_command(alloc));
-    let program = adds(program, make_command(alloc));
-    let program = adds(program, store_command(alloc));
+    let program = with_files(alloc, with_shop(alloc, Ok(bare(alloc))));
     let program = adds(program, map_command(alloc));
     let program = adds(program, picture_command(alloc));
     adds(program, dry_command(alloc))

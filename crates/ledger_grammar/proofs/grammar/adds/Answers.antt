@@ -1,6 +1,8 @@
--- Both could be made, and the program has what `clap` gives one that gets a subcommand.
-use Rattle.ledger_grammar.proofs.Grammars.{adds-made}
+-- The program could be made.
+use Rattle.std.proofs.Common.{subst, sym}
+use Rattle.std.specs.Prelude.{IfOk}
+use Rattle.ledger_grammar.specs.Grammar.{AddsTo}
 use Rattle.ledger_grammar.proofs.grammar.adds.Goals as goal
 
-pub returns : goal.returns
-returns c = adds-made _ _ c.subcommand.result _ _ c.in_ok-program.was c.in_ok-subcommand.was c.subcommand.ensures
+pub returns-in-Ok : goal.returns-in-Ok
+returns-in-Ok c = subst (λ q. IfOk c.adds_to.result (AddsTo q c.args.subcommand)) (sym c.in-Ok.is) c.adds_to.ensures
