@@ -25,8 +25,8 @@ SOURCES = r"Guide|D64|Standard"
 HEAD = """# Definitions
 
 The definitions that contracts of public calls and types cite, under crate and file (`crates/CRATE/specs/NAME.antt` has the
-sentence over each), in brackets the example that decides it: a theorem of `proofs/`, or a row. A line of its own has each fact that
-contracts of another crate cite, and what has no sentence there. Left out are what these rest on, values without an example that one
+sentence over each), in brackets the example that decides it: a theorem, or a row. A line of its own has each fact that contracts of
+another crate cite, and what has no sentence there. Left out are what these rest on, values without an example that one
 file alone cites, and the tools' own. "The Guide" is the 1541 User's Guide; what names no source is our own. *The disk with STOCK*
 has one relative file of one block. `tests/definitions.py` makes this page."""
 
@@ -150,11 +150,14 @@ def side_table():
 
 
 def unknown_examples(side):
-    """What is named as an example, and is no word of a proof or a test, and no name of a file or crate."""
+    """What is named as an example, and is no word of a proof or a test, no theorem of specs/, and no name of a file or crate."""
     known = set(CRATES)
     for form in ("src/**/*.rt", "proofs/*.antt", "proofs/lemmas/**/*.antt"):
         for file in TOP.glob(f"crates/*/{form}"):
             known |= {file.stem, f"proofs/{file.stem}"} | set(re.findall(WORD, file.read_text()))
+    for file in TOP.glob("crates/*/specs/*.antt"):
+        theorems = re.findall(rf"(?m)^pub ({WORD}) :", file.read_text())
+        known |= {f"specs/{file.stem}", *theorems} if theorems else set()
     named = [(it, word) for it, text in side.items() if it[2] == ":" for word in re.findall(r"`([a-z][\w'/-]*)`", text)]
     return [f"no such example: {it[0]}/{it[1]}: {word}" for it, word in named if word not in known]
 

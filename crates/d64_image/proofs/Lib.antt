@@ -1,4 +1,3 @@
-pub mod Chunks
 pub mod Examples
 pub mod FileRuns
 pub mod Fused

@@ -1,4 +1,5 @@
 pub mod Calls
+pub mod Chunks
 pub mod Counts
 pub mod Faults
 pub mod FileDisks

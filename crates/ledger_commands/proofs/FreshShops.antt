@@ -4,7 +4,7 @@ use Rattle.std.proofs.Common.{ap, append-nil, arith, length, lit≤, refl, subst
 use Rattle.std.specs.Prelude.{◌↔◌, if◌then◌else◌, option_map, slice_index}
 use Rattle.std.proofs.lemmas.Bool.{eq-eqb, ne_eqb, true≢false}
 use Rattle.std.proofs.lemmas.Option.{none-some}
-use Rattle.d64_image.proofs.Chunks.{length-bytes_of, sectors_in-bytes_of}
+use Rattle.d64_image.specs.Chunks.{length-bytes_of, sectors_in-bytes_of}
 use Rattle.d64_image.specs.History.{History}
 use Rattle.d64_image.specs.Images.{Image}
 use Rattle.d64_image.specs.Memory.{sectors_in}

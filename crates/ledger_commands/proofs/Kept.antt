@@ -7,7 +7,7 @@ use Rattle.d64_image.specs.Keeps.{put_kept}
 use Rattle.d64_image.specs.Memory.{bytes_of, sectors_in}
 use Rattle.d64_image.specs.Offsets.{offset_of, overwritten}
 use Rattle.d64_image.specs.declared.place.Place.{Place}
-use Rattle.d64_image.proofs.Chunks.{chunks_are_bytes, chunks_are_sectors, length-bytes_of, sectors_in-bytes_of}
+use Rattle.d64_image.specs.Chunks.{chunks_are_bytes, chunks_are_sectors, length-bytes_of, sectors_in-bytes_of}
 use Rattle.d64_image.proofs.Images.{put_is_image}
 use Rattle.d64_image.proofs.Offsets.{bytes_of-put}
 use Rattle.ledger_commands.specs.Lasting.{Lasting, StaysOr, overwritten_in}

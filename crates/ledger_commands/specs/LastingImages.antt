@@ -21,7 +21,7 @@ use Rattle.std.proofs.lemmas.Bool.{eq-eqb, eqb-true}
 use Rattle.d64_image.specs.Images.{Image, IsImage}
 use Rattle.d64_image.specs.Keeps.{kept_or, none_kept}
 use Rattle.d64_image.specs.Memory.{sectors_in}
-use Rattle.d64_image.proofs.Chunks.{chunks_are_image, chunks_are_sectors}
+use Rattle.d64_image.specs.Chunks.{chunks_are_image, chunks_are_sectors}
 use Rattle.ledger_commands.specs.Lasting.{Lasting}
 
 -- the image that bytes are, where they are known and as many as an image has

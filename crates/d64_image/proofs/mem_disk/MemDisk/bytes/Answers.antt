@@ -1,6 +1,6 @@
 use Rattle.std.proofs.Common.{◌∙◌, ap}
 use Rattle.d64_image.specs.Memory.{sectors_in, bytes_of}
-use Rattle.d64_image.proofs.Chunks.{sectors_in-bytes_of}
+use Rattle.d64_image.specs.Chunks.{sectors_in-bytes_of}
 use Rattle.d64_image.proofs.mem_disk.MemDisk.bytes.Goals as goal
 
 pub returns-clause-image : goal.returns-clause-image

@@ -2,7 +2,7 @@
 use Rattle.std.proofs.Common.{◌∙◌, ap, subst, sym, arith}
 use Rattle.d64_image.specs.Images.{IsImage}
 use Rattle.d64_image.specs.Memory.{bytes_of}
-use Rattle.d64_image.proofs.Chunks.{chunks_are_image, chunks_are_bytes, chunks_are_sectors}
+use Rattle.d64_image.specs.Chunks.{chunks_are_image, chunks_are_bytes, chunks_are_sectors}
 use Rattle.d64_image.proofs.mem_disk.MemDisk.load.Goals as goal
 
 pub invariant_of-result : goal.invariant_of-result

@@ -2,7 +2,7 @@
 use Rattle.std.proofs.Common.{[], rules, arith}
 use Rattle.d64_image.specs.Images.{sector}
 use Rattle.d64_image.specs.Places.{index_of}
-use Rattle.d64_image.proofs.Chunks.{zeros_in, zeros_are_image, zeros_joined}
+use Rattle.d64_image.specs.Chunks.{zeros_in, zeros_are_image, zeros_joined}
 use Rattle.d64_image.proofs.mem_disk.MemDisk.zeroed.Goals as goal
 
 pub invariant_of-result : goal.invariant_of-result
