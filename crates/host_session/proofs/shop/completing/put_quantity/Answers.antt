@@ -11,6 +11,11 @@ use Rattle.host_session.proofs.shop.completing.put_quantity.Goals as goal
 pub put_card-requires-clause-ready : goal.put_card-requires-clause-ready
 put_card-requires-clause-ready g c = c.requires.ready
 
+pub put_card-requires-clause-there : goal.put_card-requires-clause-there
+put_card-requires-clause-there g c =
+    let (f, h, high) = c.requires.there in
+    (f, h, c.requires.fits.item_low, high)
+
 pub returns : goal.returns
 returns g c =
     let S = g.D.Sectors.history in
