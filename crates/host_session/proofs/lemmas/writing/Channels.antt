@@ -89,6 +89,16 @@ known-differs equal stock requests known file differ is =
     by Stock e = false≢true (sym e ∙ stock)
     by Requests e = false≢true (sym e ∙ requests)
 
+-- what compares equal is this file
+pub known-same : (equal : ShopFile → ShopFile → Bool) → equal Stock Requests ≡ false → equal Requests Stock ≡ false
+    → (known : Option ShopFile) (file : ShopFile)
+    → option_eq equal known (Some file) ≡ true → known ≡ Some file
+known-same equal stock requests None file same = absurd (false≢true same)
+known-same equal stock requests (Some Stock) Stock same = refl
+known-same equal stock requests (Some Stock) Requests same = absurd (false≢true (sym stock ∙ same))
+known-same equal stock requests (Some Requests) Stock same = absurd (false≢true (sym requests ∙ same))
+known-same equal stock requests (Some Requests) Requests same = refl
+
 -- where another file is known, or none, the channel isn't in this one
 pub known-off : {D : Type 0} (S : History D) (d : Seen D) (known : Option ShopFile) (file : ShopFile)
     → (known ≢ Some file) → IsKnownOn S d known → ¬ (IsOn S d file)

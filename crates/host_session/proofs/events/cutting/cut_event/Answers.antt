@@ -1,5 +1,6 @@
 -- The openings after a cut message keep the shop that it left.
-use Rattle.std.proofs.Common.{◌≡◌, ◌≤◌, ⊎_elim, refl, subst, arith, None}
+use Rattle.std.proofs.Common.{◌≡◌, ◌≤◌, ⊎_elim, List, None, refl, subst, sym, ℕ}
+use Rattle.std.proofs.lemmas.Option.{none-some}
 use Rattle.d64_image.specs.History.{Failed, HeldOnly}
 use Rattle.d64_image.proofs.Moments.{then, at_end}
 use Rattle.host_session.proofs.lemmas.events.Cuts.{event_failed, event_then}
@@ -13,6 +14,10 @@ use Rattle.host_session.specs.events.Quiet.{AsksNothing}
 use Rattle.host_session.specs.shop.Shop.{IsSettled, IsShop, Shop, start_of, with_state}
 use Rattle.request_cards.specs.declared.reply.Reply.TheVariants.{Cut}
 use Rattle.host_session.proofs.events.cutting.cut_event.Goals as goal
+
+-- power goes in it
+goes : (bytes : List ℕ) (after : ℕ) → (cut_at bytes after).cut_after ≡ None → ⊥
+goes bytes after none = none-some after (sym none)
 
 pub returns-in-Ok-clause-done : goal.returns-in-Ok-clause-done
 returns-in-Ok-clause-done g c = λ s settled alive.
@@ -32,12 +37,13 @@ returns-in-Ok-clause-done g c = λ s settled alive.
     (c.in-Ok.ensures.quiet u) in (
       ok.3,
       event_then h s m _ _ _ (Leaves h s c.cut_message-cut_disk.result) (GoesOn h s m Cut c.in-Ok.session.disk)
-          (λ (e : m.cut_after ≡ None). cc) x (then h _ _ _ (λ i. IsShop i t) listed last.held)
-          (omega (arith, c.cut_openings-disk.ensures.later t x.ends, c.in-Ok.ensures.failures))
+          (goes c.args.message.now c.args.cut.now.after) x (then h _ _ _ (λ i. IsShop i t) listed last.held)
+          (subst (λ n. h.failures c.cut_message-cut_disk.result ≤ n) (sym c.in-Ok.ensures.failures)
+          (c.cut_openings-disk.ensures.later t x.ends))
           (λ asks. (spared s settled asks).0)
           (record {
             told = refl;
-            answered = λ (e : m.cut_after ≡ None). cc;
+            answered = λ e. absurd (goes c.args.message.now c.args.cut.now.after e);
             settled = subst (IsSettled (h.image c.in-Ok.session.disk)) (IsShop-one _ _ t ok.1 there) ok.2;
           }),
       λ u rests asks. (spared u rests asks).1,
@@ -67,7 +73,7 @@ returns-in-Err-clause-stopped g c = λ s settled alive.
           (λ asks. (spared s settled asks).0)
           (record {
             told = refl;
-            asked = λ (e : m.cut_after ≡ None). cc;
+            asked = λ e. absurd (goes c.args.message.now c.args.cut.now.after e);
             is_failed = refl;
             shop = at_end h _ _ (λ i. IsShop i t) held;
           }),

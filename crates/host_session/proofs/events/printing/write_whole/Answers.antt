@@ -1,11 +1,43 @@
 -- So many bytes more were written.
-use Rattle.std.proofs.Common.{◌≡◌, ◌-◌, ℕ, List, ap, arith, drop, length, length-drop, subst, sym, take}
+use Rattle.std.proofs.Common.{◌≡◌, ◌≤◌, ◌-◌, ℕ, List, ap, arith, drop, le_refl, length, length-drop, subst, sym, take}
 use Rattle.std.proofs.lemmas.List.{take_all}
 use Rattle.std.specs.Io.KnownBytes.{Appends}
-use Rattle.std.proofs.KnownBytes.{Appends-kept, Appends-trans}
+use Rattle.std.proofs.KnownBytes.{Appends-kept, Appends-nil, Appends-trans}
 use Rattle.host_session.proofs.events.printing.write_whole.Goals.{in-Ok, in-Err+else-ne}
 use Rattle.host_session.proofs.events.printing.write_whole.Goals as goal
 use Rattle.host_session.proofs.lemmas.events.Printed.{take_more}
+
+-- none is written yet
+none_yet : (n : ℕ) → 0 ≤ n
+none_yet n = omega arith
+
+pub loop-init : goal.loop-init
+loop-init g c = record {
+  within = none_yet (length c.args.bytes.now);
+  wrote = Appends-nil (g.W.Write.contents c.args.out.now);
+}
+
+pub returns-then-written-bytes-clause-ok : goal.returns-then-written-bytes-clause-ok
+returns-then-written-bytes-clause-ok g c =
+    let bytes : List ℕ = c.args.bytes.now in
+    let a = g.W.Write.contents c.args.out.now in
+    let b = g.W.Write.contents c.loop.out in
+    let long = subst (λ n. length bytes ≤ n) (sym c.if-written-bytes.true) (le_refl (length bytes)) in
+    subst (Appends a b) (take_all c.loop.written bytes long) c.loop.invariant.wrote
+
+pub slice_bounds-write-count : goal.slice_bounds-write-count
+slice_bounds-write-count g c = c.loop.invariant.within
+
+pub returns-then-ne-clause-err : goal.returns-then-ne-clause-err
+returns-then-ne-clause-err g c = (
+  c.loop.written,
+  Appends-kept (g.W.Write.contents c.args.out.now) (g.W.Write.contents c.loop.out)
+      (g.W.Write.contents c.write.new.self)
+      (take c.loop.written c.args.bytes.now) c.loop.invariant.wrote c.in-Err.ensures.bytes,
+)
+
+pub returns-clause-err : goal.returns-clause-err
+returns-clause-err g c = (c.loop.written, c.loop.invariant.wrote)
 
 pub loop-preserved : goal.loop-preserved
 loop-preserved g c =

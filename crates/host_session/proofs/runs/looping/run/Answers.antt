@@ -18,6 +18,9 @@ returns-in-Err g c =
     c.in-Err.ensures.quiet
     (λ shop never. opening_failed h _ _ _ c.in-Err.ensures.err shop c.in-Err.ensures.failures never)
 
+pub run_on-requires : goal.run_on-requires
+run_on-requires g c = (c.whole_messages.ensures.cut c.in-Cut.is).0
+
 pub returns-in-Cut : goal.returns-in-Cut
 returns-in-Cut g c =
     let h = g.D.Sectors.history in

@@ -19,6 +19,12 @@ returns-in-Err = stopped.returns-in-Err
 pub returns-then-is_err : goal.returns-then-is_err
 returns-then-is_err = stopped.returns-then-is_err
 
+pub loop-next-init : goal.loop-next-init
+loop-next-init g c = record { cut = c.requires; way = λ from w alive. (alive, w) }
+
+pub loop-next-smaller : goal.loop-next-smaller
+loop-next-smaller g c = (c.whole_messages.ensures.cut c.in-Cut.is).1
+
 pub loop-next-preserved : goal.loop-next-preserved
 loop-next-preserved g c =
     let h = g.D.Sectors.history in

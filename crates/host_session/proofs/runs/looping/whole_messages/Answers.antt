@@ -1,9 +1,12 @@
 -- One whole message more.
 mod Stopped
-use Rattle.std.proofs.Common.{◌≡◌, ◌∙◌, false, arith, le_refl, not, ap, subst, sym}
+use Rattle.std.proofs.Common.{◌≡◌, ◌∙◌, Err, Ok, Result, false, arith, le_refl, not, ap, subst, sym}
 use Rattle.std.proofs.lemmas.Bool.{false≢true}
 use Rattle.host_session.proofs.lemmas.runs.AskedTold.{is_whole, no_cut, some_cut, was_asked, was_told}
 use Rattle.host_session.proofs.lemmas.runs.Looped.{at_end, at_fault, goes_on, takes_one}
+use Rattle.host_session.specs.declared.runs.looping.LoopFault.{LoopFault}
+use Rattle.host_session.specs.declared.runs.looping.LoopFault.TheVariants as faults
+use Rattle.host_session.specs.declared.runs.looping.Stretch.TheVariants as stretches
 use Rattle.host_session.specs.events.Instants.{instant_of}
 use Rattle.host_session.specs.events.OneEvent.{GoesOn, IsEvent}
 use Rattle.host_session.specs.events.Telling.{IsTold}
@@ -11,8 +14,29 @@ use Rattle.host_session.specs.events.Within.{IsWithin, SparesTheDisk}
 use Rattle.host_session.proofs.runs.looping.whole_messages.Goals as goal
 use Rattle.host_session.proofs.runs.looping.whole_messages.Answers.Stopped as stopped
 
+-- a stretch that ended wasn't cut
+not_cut : (end : Result (Unit {0}) LoopFault) → stretches.Ended end ≡ stretches.Cut → ⊥
+not_cut end is = cc
+
 pub loop-asks-init : goal.loop-asks-init
 loop-asks-init g c = record { fuel = le_refl _; way = λ from w alive. (alive, w) }
+
+pub loop-asks-smaller : goal.loop-asks-smaller
+loop-asks-smaller g c = (was_asked g.D.Sectors.history g.A.Asks.source c.loop-asks.asks c.next.new.self
+    c.disk.result.now
+    c.loop-asks.session.disk _ _ c.disk.ensures c.in-Event.is c.next.ensures).1
+
+pub returns-in-End-clause-cut : goal.returns-in-End-clause-cut
+returns-in-End-clause-cut g c = λ is. absurd (not_cut (Ok tt) is)
+
+pub returns-in-Failed-clause-cut : goal.returns-in-Failed-clause-cut
+returns-in-Failed-clause-cut g c = λ is. absurd (not_cut (Err faults.Input) is)
+
+pub returns-then-is_media-clause-cut : goal.returns-then-is_media-clause-cut
+returns-then-is_media-clause-cut g c = λ is. absurd (not_cut (Err faults.Device) is)
+
+pub returns-then-is_err-clause-cut : goal.returns-then-is_err-clause-cut
+returns-then-is_err-clause-cut g c = λ is. absurd (not_cut (Err faults.Output) is)
 
 pub returns-in-End-clause-way : goal.returns-in-End-clause-way
 returns-in-End-clause-way g c = λ from w alive.

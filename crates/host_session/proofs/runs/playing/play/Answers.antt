@@ -1,6 +1,7 @@
 -- The ends of a run of events.
-use Rattle.std.proofs.Common.{◌≡◌, ◌++◌, ◌∙◌, List, Ok, arith, le_refl, map, refl, subst, sym}
+use Rattle.std.proofs.Common.{◌≡◌, ◌≤◌, ◌+◌, ◌-◌, ◌++◌, ◌∙◌, List, Ok, arith, le_refl, length, map, refl, subst, sym, ℕ}
 use Rattle.std.proofs.lemmas.List.{length-map}
+use Rattle.std.specs.Prelude.{vec_capacity, vec_len}
 use Rattle.d64_image.proofs.Moments.{start}
 use Rattle.request_cards.specs.declared.reply.Reply.{Reply}
 use Rattle.host_session.proofs.lemmas.runs.EventEnds.{IsEventsEnd, faulted, spared, whole_run}
@@ -8,12 +9,25 @@ use Rattle.host_session.proofs.lemmas.runs.QuietRuns.{quiet_same}
 use Rattle.host_session.proofs.lemmas.runs.QuietWrites.{spared_same}
 use Rattle.host_session.proofs.lemmas.runs.Runs.{held_none}
 use Rattle.host_session.proofs.lemmas.runs.Sparing.{same_bound}
+use Rattle.host_session.specs.declared.faults.OpenFault.{OpenFault}
+use Rattle.host_session.specs.declared.runs.playing.PlayFault.TheVariants as faults
 use Rattle.host_session.specs.events.Asking.{of_events}
 use Rattle.host_session.specs.events.Events.{message_of}
 use Rattle.host_session.specs.runs.Loops.{IsRun}
 use Rattle.host_session.specs.runs.Outputs.{listed}
 use Rattle.host_session.specs.shop.Shop.{IsShop}
 use Rattle.host_session.proofs.runs.playing.play.Goals as goal
+
+-- so many more have room
+have_room : (len more most : ℕ) → len + more ≤ most → more ≤ most - len
+have_room len more most fits = omega (arith, fits)
+
+-- what is told without room isn't told of the device, or of an opening
+memory_no_device : faults.NoMemory ≡ faults.Device → ⊥
+memory_no_device is = cc
+
+memory_no_opening : (f : OpenFault) → faults.NoMemory ≡ faults.Open f → ⊥
+memory_no_opening f is = cc
 
 -- no room for the replies
 pub returns-in-Err : goal.returns-in-Err
@@ -24,15 +38,15 @@ returns-in-Err g c =
     record {
       shop = tt;
       ok = λ s shop. tt;
-      device = λ s shop is. absurd (let e = is in cc);
+      device = λ s shop is. absurd (memory_no_device is);
       moments = λ s shop. held_none h s ms disk disk (start h disk (λ i. IsShop i s) shop) (le_refl (h.failures disk));
       quiet = λ s shop _. quiet_same h s ms disk shop;
       spared = λ s shop _. spared_same h s disk;
       writes = λ s shop _. same_bound h ms disk;
       unfailed = λ uncut. tt;
       plays = λ shop never. refl;
-      «open» = λ f is. absurd (let e = is in cc);
-      cause = λ is. absurd (let e = is in cc);
+      «open» = λ f is. absurd (memory_no_opening f is);
+      cause = λ is. absurd (memory_no_device is);
       memory = λ is. (refl, omega (arith, c.in-Err.ensures.full, length-map c.args.events.now message_of));
       silent = λ other. c.try_reserve.ensures.items;
     }
@@ -42,11 +56,12 @@ returns-in-Ok-run g c =
     let h = g.D.Sectors.history in
     let old = c.try_reserve.new.self in
     let new = c.run.new.out in
+    let fits = have_room (vec_len old) (length c.args.events.now) (vec_capacity old) c.in-Ok.ensures.ok in
     let k = subst (IsRun h of_events listed c.args.disk c.new-asks.result c.run.new.asks old new) c.in-Ok-run.is
     c.run.ensures in
     let w = whole_run h c.args.disk c.args.events.now c.new-asks.result c.run.new.asks old new c.new-asks.ensures.events
     c.new-asks.ensures.none
-    (omega (arith, c.in-Ok.ensures.ok)) c.in-Ok-run.disk k in
+    fits c.in-Ok-run.disk k in
     record {
       shop = k.shop.0;
       ok = λ s shop.
@@ -56,7 +71,7 @@ returns-in-Ok-run g c =
       moments = w.1;
       quiet = w.2;
       spared = spared h c.args.disk c.args.events.now c.new-asks.result c.run.new.asks old new c.new-asks.ensures.events
-          c.new-asks.ensures.none (omega (arith, c.in-Ok.ensures.ok)) (Ok c.in-Ok-run.disk) k;
+          c.new-asks.ensures.none fits (Ok c.in-Ok-run.disk) k;
       writes = w.3;
       unfailed = w.4;
       plays = λ shop never. tt;
@@ -71,13 +86,14 @@ returns-in-Err-run g c =
     let h = g.D.Sectors.history in
     let old = c.try_reserve.new.self in
     let new = c.run.new.out in
+    let fits = have_room (vec_len old) (length c.args.events.now) (vec_capacity old) c.in-Ok.ensures.ok in
     let k = subst (IsRun h of_events listed c.args.disk c.new-asks.result c.run.new.asks old new) c.in-Err-run.is
     c.run.ensures in
     let e = subst (IsEventsEnd h c.args.disk c.in-Err-run.disk (map message_of c.args.events.now) old.items new.items)
     (sym c.fault_of.ensures)
     (faulted h c.args.disk c.args.events.now c.new-asks.result c.run.new.asks old new c.new-asks.ensures.events
     c.new-asks.ensures.none
-    (omega (arith, c.in-Ok.ensures.ok)) c.in-Err-run.disk c.in-Err-run.fault k) in
+    fits c.in-Err-run.disk c.in-Err-run.fault k) in
     record {
       shop = tt;
       ok = λ s shop. tt;

@@ -8,6 +8,15 @@ use Rattle.host_session.proofs.lemmas.session.Answered.{known-keeping, known-num
 use Rattle.host_session.proofs.lemmas.session.Answered.{stands-dead}
 use Rattle.host_session.proofs.session.Session.answer.Goals as goal
 
+pub keep-requires-clause-ready : goal.keep-requires-clause-ready
+keep-requires-clause-ready g c = c.self.invariant.1 (ap (λ d. d.dead) c.self.view_is ∙ c.requires.alive)
+
+pub renew-requires-clause-item : goal.renew-requires-clause-item
+renew-requires-clause-item g c = c.decided-outcome.ensures.item
+
+pub renew-requires-clause-to : goal.renew-requires-clause-to
+renew-requires-clause-to g c = c.decided-outcome.ensures.to
+
 pub next_card-card-requires-clause-entry : goal.next_card-card-requires-clause-entry
 next_card-card-requires-clause-entry g c =
     known-entry g.D.Sectors.history c.self.inside.drive c.args.self.now c.self.inside.dead c.self.inside.top

@@ -1,5 +1,6 @@
 -- One till more in each turn.
-use Rattle.std.proofs.Common.{Err, Result, ap, arith, refl, subst, sym, ◌+◌, ◌-◌, ◌≡◌, ◌∙◌}
+use Rattle.std.proofs.Common.{Err, Result, ap, arith, le_refl, refl, subst, sym, ℕ, ◌+◌, ◌-◌, ◌<◌, ◌≡◌, ◌≤◌, ◌∙◌}
+use Rattle.std.proofs.lemmas.Bool.{false≢true}
 use Rattle.std.proofs.lemmas.Result.{err_from_is_err_and}
 use Rattle.d64_image.proofs.Moments.{changes_then, changes_weaker, failed_later, no_change}
 use Rattle.d64_image.specs.History.{TellsFailure}
@@ -10,6 +11,18 @@ use Rattle.host_session.specs.session.Standing.{nth}
 use Rattle.host_session.proofs.lemmas.opening.AtRest.{table-start}
 use Rattle.host_session.proofs.lemmas.opening.Migrated.{table-none_old}
 use Rattle.host_session.proofs.session.migrating.migrate.Goals as goal
+
+-- the till of a place, and back
+back : (place : ℕ) → place ≡ (place + 1) - 1
+back place = omega arith
+
+-- all places were gone through
+all : (place : ℕ) → place ≤ 64 → 64 ≤ place → place ≡ 64
+all place few end = omega (arith, few, end)
+
+-- one more is no more than all
+next : (place : ℕ) → place < 64 → place + 1 ≤ 64
+next place test = omega (arith, test)
 
 pub loop-place-init : goal.loop-place-init
 loop-place-init g c =
@@ -29,7 +42,7 @@ pub migrate_till-requires-clause-table : goal.migrate_till-requires-clause-table
 migrate_till-requires-clause-table g c =
     let S = g.D.Sectors.history in
     let (s, h) = c.requires.table in
-    let same : c.loop-place.place ≡ (c.loop-place.place + 1) - 1 = omega arith in (
+    let same = back c.loop-place.place in (
       s,
       subst (HasNewTable (S.image c.loop-place.drive.disk) s c.loop-place.requests) same
           (c.loop-place.invariant.so_far s h).0,
@@ -39,16 +52,17 @@ pub loop-place-preserved : goal.loop-place-preserved
 loop-place-preserved g c =
     let S = g.D.Sectors.history in
     let inv = c.loop-place.invariant in
-    let same : c.loop-place.place ≡ (c.loop-place.place + 1) - 1 = omega arith in record {
+    let same = back c.loop-place.place in record {
       ready = c.in_ok-migrate_till.ensures.puts.ready;
       failures = c.in_ok-migrate_till.ensures.puts.failures ∙ inv.failures;
-      few = omega (arith, c.loop-place-test.true);
+      few = next c.loop-place.place c.loop-place-test.true;
       so_far = λ s h.
           let (table, changes) = inv.so_far s h in
           let now = subst (HasNewTable (S.image c.loop-place.drive.disk) s c.loop-place.requests) same table in (
             c.in_ok-migrate_till.ensures.puts.ok s now,
             changes_then S c.args.drive.now.disk c.loop-place.drive.disk c.migrate_till.new.drive.disk
-                c.loop-place.place 1 (c.loop-place.place + 1) (λ i. IsShop i s) (omega arith) changes
+                c.loop-place.place 1 (c.loop-place.place + 1) (λ i. IsShop i s)
+                (le_refl (c.loop-place.place + 1)) changes
                 (c.migrate_till.ensures.puts.moments s now),
           );
       quiet = λ young.
@@ -68,10 +82,10 @@ returns-in_err-migrate_till g c =
         moments = λ s h.
             let S = g.D.Sectors.history in
             let (table, changes) = c.loop-place.invariant.so_far s h in
-            let same : c.loop-place.place ≡ (c.loop-place.place + 1) - 1 = omega arith in
+            let same = back c.loop-place.place in
             let now = subst (HasNewTable (S.image c.loop-place.drive.disk) s c.loop-place.requests) same table in
             changes_then S c.args.drive.now.disk c.loop-place.drive.disk c.migrate_till.new.drive.disk
-            c.loop-place.place 1 64 (λ i. IsShop i s) (omega (arith, c.loop-place-test.true)) changes
+            c.loop-place.place 1 64 (λ i. IsShop i s) (next c.loop-place.place c.loop-place-test.true) changes
             (c.migrate_till.ensures.puts.moments s now);
         failures = let S = g.D.Sectors.history in
             let p = err_from_is_err_and c.from_residual.result c.from_residual.ensures.1 in
@@ -93,7 +107,7 @@ returns g c = record {
   puts = record {
     ready = c.loop-place.invariant.ready;
     ok = λ s h.
-        let n : c.loop-place.place ≡ 64 = omega (arith, c.loop-place.invariant.few, c.loop-place-test.false) in
+        let n = all c.loop-place.place c.loop-place.invariant.few c.loop-place-test.false in
         subst (HasNewTable (g.D.Sectors.history.image c.loop-place.drive.disk) s c.loop-place.requests) n
         (c.loop-place.invariant.so_far s h).0;
     moments = λ s h.
@@ -101,7 +115,7 @@ returns g c = record {
         (λ i. IsShop i s) (λ i. IsShop i s) c.loop-place.invariant.few (λ i x. x)
         (c.loop-place.invariant.so_far s h).1;
     failures = c.loop-place.invariant.failures;
-    dies = λ is. absurd cc;
+    dies = λ is. absurd (false≢true is);
   };
   quiet = c.loop-place.invariant.quiet;
 }

@@ -2,11 +2,13 @@
 mod Failed
 mod Left
 use Rattle.std.proofs.Common.{ap, arith, sym, subst, ◌+◌, ◌-◌, ◌<◌, ◌≡◌, ◌∙◌}
+use Rattle.std.proofs.lemmas.Bool.{false≢true}
 use Rattle.request_cards.specs.CardTexts.{card_text}
 use Rattle.host_session.specs.session.Settling.{HasNewTable}
 use Rattle.host_session.specs.session.Standing.{nth}
 use Rattle.host_session.proofs.lemmas.opening.AtRest.{card-at, old-is}
 use Rattle.host_session.proofs.lemmas.opening.Migrated.{renewed-moments, renewed-ok, renewed-there}
+use Rattle.host_session.proofs.lemmas.opening.Tills.{place-down, place-high, place-up}
 use Rattle.host_session.proofs.session.migrating.migrate_till.Goals as goal
 use Rattle.host_session.proofs.session.migrating.migrate_till.Answers.Failed as failed
 use Rattle.host_session.proofs.session.migrating.migrate_till.Answers.Left as left
@@ -14,9 +16,9 @@ use Rattle.host_session.proofs.session.migrating.migrate_till.Answers.Left as le
 pub put_answer-requires-clause-there : goal.put_answer-requires-clause-there
 put_answer-requires-clause-there g c =
     let k = c.from-place.result - 1 in
-    let up : k + 1 ≡ c.args.till = omega (arith, c.from-place.ensures, c.requires.low) in
-    let down : c.args.till - 1 ≡ k = omega (arith, c.from-place.ensures) in
-    let lt : k < 64 = omega (arith, up, c.requires.high) in
+    let up = place-up c.from-place.result c.args.till c.from-place.ensures c.requires.low in
+    let down = place-down c.from-place.result c.args.till c.from-place.ensures in
+    let lt = place-high c.from-place.result c.args.till c.from-place.ensures c.requires.low c.requires.high in
     let table = c.args.requests.now in
     let img = g.D.Sectors.history.image c.args.drive.now.disk in
     let (s, h) = c.requires.table in
@@ -41,9 +43,9 @@ returns g c = record {
     ready = c.in_ok-put_answer.ensures.puts.ready;
     ok = λ s h.
         let k = c.from-place.result - 1 in
-        let up : k + 1 ≡ c.args.till = omega (arith, c.from-place.ensures, c.requires.low) in
-        let down : c.args.till - 1 ≡ k = omega (arith, c.from-place.ensures) in
-        let lt : k < 64 = omega (arith, up, c.requires.high) in
+        let up = place-up c.from-place.result c.args.till c.from-place.ensures c.requires.low in
+        let down = place-down c.from-place.result c.args.till c.from-place.ensures in
+        let lt = place-high c.from-place.result c.args.till c.from-place.ensures c.requires.low c.requires.high in
         let table = c.args.requests.now in
         let S = g.D.Sectors.history in
         let img = S.image c.args.drive.now.disk in
@@ -56,9 +58,9 @@ returns g c = record {
         (c.in_ok-put_answer.ensures.puts.ok h2.closed.has.shop.files h2.closed.has.shop.has);
     moments = λ s h.
         let k = c.from-place.result - 1 in
-        let up : k + 1 ≡ c.args.till = omega (arith, c.from-place.ensures, c.requires.low) in
-        let down : c.args.till - 1 ≡ k = omega (arith, c.from-place.ensures) in
-        let lt : k < 64 = omega (arith, up, c.requires.high) in
+        let up = place-up c.from-place.result c.args.till c.from-place.ensures c.requires.low in
+        let down = place-down c.from-place.result c.args.till c.from-place.ensures in
+        let lt = place-high c.from-place.result c.args.till c.from-place.ensures c.requires.low c.requires.high in
         let table = c.args.requests.now in
         let S = g.D.Sectors.history in
         let img = S.image c.args.drive.now.disk in
@@ -69,12 +71,12 @@ returns g c = record {
         c.args.till up c.print.result (c.print.ensures ∙ ap card_text c.to_v2-new.ensures) S c.args.drive.now.disk
         c.put_answer.new.drive.disk (c.put_answer.ensures.puts.moments h2.closed.has.shop.files h2.closed.has.shop.has);
     failures = c.in_ok-put_answer.ensures.puts.failures;
-    dies = λ is. absurd cc;
+    dies = λ is. absurd (false≢true is);
   };
   quiet = λ young.
       let k = c.from-place.result - 1 in
-      let up : k + 1 ≡ c.args.till = omega (arith, c.from-place.ensures, c.requires.low) in
-      let lt : k < 64 = omega (arith, up, c.requires.high) in
+      let up = place-up c.from-place.result c.args.till c.from-place.ensures c.requires.low in
+      let lt = place-high c.from-place.result c.args.till c.from-place.ensures c.requires.low c.requires.high in
       absurd (old-is (nth c.args.requests.now c.args.till) c.in-Some.card
       (card-at c.args.requests.now k c.args.till _ up lt c.told-requests c.in-Some.card c.in-Some.is)
       (sym c.version.ensures ∙ c.if-version-ne1.false) young);

@@ -1,6 +1,6 @@
 -- The open intent of the table is one of the disk, and it is the shop's as long as it is completed.
-use Rattle.std.proofs.Common.{Option, Some, arith, refl, set, subst, sym, ◌+◌, ◌-◌, ◌≡◌}
-use Rattle.d64_image.proofs.Moments.{changes_weaker, no_change}
+use Rattle.std.proofs.Common.{Option, Some, refl, set, subst, sym, ◌-◌, ◌≡◌}
+use Rattle.std.proofs.lemmas.Bool.{false≢true}
 use Rattle.std.specs.Prelude.{IfNone}
 use Rattle.std.proofs.lemmas.Result.{err_from_is_err_and}
 use Rattle.host_session.specs.shop.Judged.{IsIntentOf}
@@ -8,6 +8,8 @@ use Rattle.host_session.specs.session.Settling.{HasClosedTable}
 use Rattle.host_session.specs.shop.Shop.{IsShop}
 use Rattle.host_session.proofs.lemmas.opening.Migrated.{completed-changes}
 use Rattle.host_session.proofs.lemmas.opening.Recovered.{completed-table, has-intent, intent-card}
+use Rattle.host_session.proofs.lemmas.opening.Unwritten.{unwritten}
+use Rattle.host_session.proofs.lemmas.opening.Tills.{place-up}
 use Rattle.host_session.proofs.session.recovery.recover.Goals as goal
 
 -- an intent that is there says nothing of none
@@ -24,11 +26,9 @@ returns-in_default-clause-puts g c =
         has = p.0;
         no_intent = subst (IsIntentOf c.args.requests.now) c.in_default.is p.1;
       };
-      moments = λ s p.
-          changes_weaker S d d 0 5 (λ i. IsShop i s) (λ i. IsShop i s) (omega arith) (λ i x. x)
-          (no_change S d (λ i. IsShop i s) p.0.shop);
+      moments = λ s p. unwritten S d 5 (λ i. IsShop i s) p.0.shop;
       failures = refl;
-      dies = λ is. absurd cc;
+      dies = λ is. absurd (false≢true is);
     }
 
 pub complete-requires-clause-ready : goal.complete-requires-clause-ready
@@ -88,7 +88,7 @@ returns g c =
         ok = λ s p.
             let (h, is) = p in
             let only = subst (IsIntentOf table) c.in-Some.is is in
-            let place : (c.from.result - 1) + 1 ≡ c.in-Some.open.till = omega (arith, c.from.ensures, only.low) in
+            let place = place-up c.from.result c.in-Some.open.till c.from.ensures only.low in
             let done = c.in_ok-complete.ensures.ok h.shop.files (
               h.shop.has,
               has-intent img s table h c.in-Some.open
@@ -101,7 +101,7 @@ returns g c =
             completed-changes S c.args.drive.now.disk c.complete.new.drive.disk img s p.0.shop c.in-Some.open.card
             (c.complete.ensures.moments p.0.shop.files (p.0.shop.has, has-intent img s table p.0 c.in-Some.open only));
         failures = c.in_ok-complete.ensures.failures;
-        dies = λ is. absurd cc;
+        dies = λ is. absurd (false≢true is);
       };
       quiet = for-some _ c.args.intent.now c.in-Some.open c.in-Some.is;
     }

@@ -1,6 +1,6 @@
 -- The text that is written is that of the card.
-use Rattle.std.proofs.Common.{ap, subst, ◌∙◌, List, ℕ}
-use Rattle.std.specs.Prelude.{OnOk}
+use Rattle.std.proofs.Common.{None, Option, Some, ap, refl, subst, ◌∙◌, List, ℕ}
+use Rattle.std.specs.Prelude.{IfNone, IsSome, OnOk}
 use Rattle.d64_image.specs.History.{Changes}
 use Rattle.rel_records.specs.Written.{touched}
 use Rattle.request_cards.specs.CardTexts.{stock_text}
@@ -8,8 +8,21 @@ use Rattle.host_session.specs.shop.Putting.{HasCard, IsPuttingCard}
 use Rattle.host_session.proofs.lemmas.writing.IntentAnswers.{some-of}
 use Rattle.host_session.proofs.shop.completing.put_quantity.Goals as goal
 
+-- what fits has a card
+has_card : {X : Type 0} (P : Type 0) (o : Option X) → IfNone o (P → ⊥) → P → IsSome o
+has_card P None none fits = absurd (none fits)
+has_card P (Some x) none fits = refl
+
+pub unwrap-card-requires : goal.unwrap-card-requires
+unwrap-card-requires g c = has_card _ c.new.result c.new.ensures.none c.requires.fits
+
 pub put_card-requires-clause-ready : goal.put_card-requires-clause-ready
 put_card-requires-clause-ready g c = c.requires.ready
+
+pub put_card-requires-clause-there : goal.put_card-requires-clause-there
+put_card-requires-clause-there g c =
+    let (f, h, high) = c.requires.there in
+    (f, h, c.requires.fits.item_low, high)
 
 pub returns : goal.returns
 returns g c =

@@ -5,6 +5,14 @@ use Rattle.host_session.specs.shop.Files.{record_at}
 use Rattle.host_session.proofs.lemmas.judging.Readings.{absent-told, item-read, past-last}
 use Rattle.host_session.proofs.shop.reading.read_item_next.Goals as goal
 
+pub read_next-requires-clause-of : goal.read_next-requires-clause-of
+read_next-requires-clause-of g c =
+    let (f, a) = c.requires.of in
+    (a.has.layout, a.has.stock_place, a.has.stock_file, a.stock_of)
+
+pub read_next-requires-clause-kept : goal.read_next-requires-clause-kept
+read_next-requires-clause-kept g c = c.requires.kept
+
 pub item_held-requires : goal.item_held-requires
 item_held-requires g c =
     let S = g.D.Sectors.history in

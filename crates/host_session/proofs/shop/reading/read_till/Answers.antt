@@ -8,6 +8,14 @@ use Rattle.host_session.specs.shop.Found.{Tells}
 use Rattle.host_session.proofs.lemmas.judging.Readings.{absent-told, past-last, till-read, whole-chunk}
 use Rattle.host_session.proofs.shop.reading.read_till.Goals as goal
 
+pub read_next-requires-clause-of : goal.read_next-requires-clause-of
+read_next-requires-clause-of g c =
+    let (f, a) = c.requires.of in
+    (a.has.layout, a.has.requests_place, a.has.requests_file, a.requests_of)
+
+pub read_next-requires-clause-kept : goal.read_next-requires-clause-kept
+read_next-requires-clause-kept g c = c.requires.kept
+
 pub unwrap-bytes-requires : goal.unwrap-bytes-requires
 unwrap-bytes-requires g c =
     let S = g.D.Sectors.history in

@@ -1,11 +1,12 @@
 -- The device failed as the card was written.
-use Rattle.std.proofs.Common.{ap, arith, sym, subst, ◌+◌, ◌-◌, ◌<◌, ◌≡◌, ◌∙◌, refl}
+use Rattle.std.proofs.Common.{ap, sym, subst, ◌-◌, ◌∙◌, refl}
 use Rattle.request_cards.specs.CardTexts.{card_text}
 use Rattle.host_session.specs.session.Settling.{HasNewTable}
 use Rattle.host_session.specs.session.Standing.{nth}
 use Rattle.host_session.proofs.lemmas.opening.AtRest.{card-at, old-is}
 use Rattle.host_session.proofs.lemmas.opening.Migrated.{renewed-moments}
 use Rattle.std.proofs.lemmas.Result.{err_from_is_err_and}
+use Rattle.host_session.proofs.lemmas.opening.Tills.{place-down, place-high, place-up}
 use Rattle.host_session.proofs.session.migrating.migrate_till.Goals as goal
 
 pub returns-in_err-put_answer : goal.returns-in_err-put_answer
@@ -17,9 +18,9 @@ returns-in_err-put_answer g c =
         ok = rw p.1 (λ s h. tt);
         moments = λ s h.
             let k = c.from-place.result - 1 in
-            let up : k + 1 ≡ c.args.till = omega (arith, c.from-place.ensures, c.requires.low) in
-            let down : c.args.till - 1 ≡ k = omega (arith, c.from-place.ensures) in
-            let lt : k < 64 = omega (arith, up, c.requires.high) in
+            let up = place-up c.from-place.result c.args.till c.from-place.ensures c.requires.low in
+            let down = place-down c.from-place.result c.args.till c.from-place.ensures in
+            let lt = place-high c.from-place.result c.args.till c.from-place.ensures c.requires.low c.requires.high in
             let table = c.args.requests.now in
             let S = g.D.Sectors.history in
             let img = S.image c.args.drive.now.disk in
@@ -35,8 +36,8 @@ returns-in_err-put_answer g c =
       };
       quiet = λ young.
           let k = c.from-place.result - 1 in
-          let up : k + 1 ≡ c.args.till = omega (arith, c.from-place.ensures, c.requires.low) in
-          let lt : k < 64 = omega (arith, up, c.requires.high) in
+          let up = place-up c.from-place.result c.args.till c.from-place.ensures c.requires.low in
+          let lt = place-high c.from-place.result c.args.till c.from-place.ensures c.requires.low c.requires.high in
           absurd (old-is (nth c.args.requests.now c.args.till) c.in-Some.card
           (card-at c.args.requests.now k c.args.till _ up lt c.told-requests c.in-Some.card c.in-Some.is)
           (sym c.version.ensures ∙ c.if-version-ne1.false) young);

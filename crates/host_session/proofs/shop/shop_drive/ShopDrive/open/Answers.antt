@@ -31,6 +31,19 @@ returns-in_err-open-clause-failures g c =
     rw p.1 (rw (← c.self.view_is) (failed_later S c.self.inside.drive.disk c.close.new.self.disk c.open.new.self.disk
     (ap (λ d. S.failures d) c.close.ensures.disk) (c.in_err-open.ensures.serves.failures alive)))
 
+pub invariant_of-self : goal.invariant_of-self
+invariant_of-self g c = λ alive. absurd (false≢true (sym alive ∙ c.in_err-close.ensures.serves.dies.1 refl))
+
+pub invariant_of-self-in_err-open : goal.invariant_of-self-in_err-open
+invariant_of-self-in_err-open g c = λ alive.
+    absurd (false≢true (sym alive ∙ c.in_err-open.ensures.serves.dies.1 refl))
+
+pub returns-in_err-close-clause-failures : goal.returns-in_err-close-clause-failures
+returns-in_err-close-clause-failures g c =
+    let alive = ap (λ d. d.dead) c.self.view_is ∙ c.requires.ready.alive in
+    let p = err_from_is_err_and c.from_residual.result c.from_residual.ensures.1 in
+    rw p.1 (rw (← c.self.view_is) (c.in_err-close.ensures.serves.failures alive))
+
 pub invariant_of-self-2 : goal.invariant_of-self-2
 invariant_of-self-2 g c = λ alive.
     let S = g.D.Sectors.history in
