@@ -1,12 +1,12 @@
 -- Lines printed one after another.
 use Rattle.std.proofs.Common.{◌≡◌, ◌<◌, ◌+◌, ◌++◌, ℕ, suc, List, [], ◌∷◌, get_or, length, map, take, refl, subst, sym}
 use Rattle.std.proofs.Common.{ap, append_assoc, ◌∙◌, arith}
-use Rattle.std.specs.Prelude.{Option}
+use Rattle.std.specs.Prelude.{Option, flat_map}
 use Rattle.std.specs.Io.KnownBytes.{Appends}
 use Rattle.std.specs.Char.{encode_utf8}
 use Rattle.std.proofs.lemmas.Bool.{lt-ltb}
 use Rattle.std.proofs.KnownBytes.{Appends-nil, Appends-trans}
-use Rattle.std.proofs.lemmas.List.{append-nil, length-map, length-take-le, map_more, take_more}
+use Rattle.std.proofs.lemmas.List.{append-nil, flat_map_more, length-map, length-take-le, map_more, take_more}
 use Rattle.disk_pictures.specs.Texts.{each_below, numbered}
 
 -- one line more
@@ -57,6 +57,15 @@ plain-more line a b c xs i x inside here before more =
     subst (Appends a c)
     (ap (λ (m : ℕ). numbered line 0 (take i xs) ++ line m x) here' ∙ sym (numbered-push line 0 (take i xs) x)
     ∙ ap (numbered line 0) (sym taken))
+    (Appends-trans a b c _ _ before more)
+
+-- one text more, where the texts aren't numbered
+pub flat-more : {X : Type 0} (line : X → List ℕ) (a b c : Option (List ℕ)) (xs : List X) (i : ℕ) (x : X)
+    → i < length xs → get_or xs i x ≡ x → Appends a b (flat_map line (take i xs)) → Appends b c (line x)
+    → Appends a c (flat_map line (take (i + 1) xs))
+flat-more line a b c xs i x inside here before more =
+    let taken = take_more xs i x inside ∙ ap (λ y. take i xs ++ y ∷ []) here in
+    subst (Appends a c) (flat_map_more line [] (take i xs) x ∙ ap (flat_map line) (sym taken))
     (Appends-trans a b c _ _ before more)
 
 -- nothing was printed so far

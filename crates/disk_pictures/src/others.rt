@@ -7,7 +7,7 @@ ghost use Rattle.disk_pictures.specs.Pictures.{each_place, other_arc, others_gro
 ghost use Rattle.disk_pictures.specs.Texts.{at_place, each_below};
 ghost use Rattle.disk_pictures.specs.declared.faults.PictureFault.TheVariants as faults;
 
-use crate::arcs::{FreeArc, LostArc};
+use crate::arcs::PlainArc;
 use crate::drawing::Drawing;
 use crate::faults::PictureFault;
 use crate::output::put;
@@ -35,9 +35,19 @@ fn put_other<W: Write>(out: &mut W, drawing: &Drawing, place: Place) -> Result<(
     match drawing.owner(place) {
         Owner::Nobody => {
             if free {
-                put(out, FreeArc(place))
+                let sector = PlainArc {
+                    place,
+                    class: "free",
+                    owner: "free",
+                };
+                put(out, sector)
             } else {
-                put(out, LostArc(place))
+                let sector = PlainArc {
+                    place,
+                    class: "lost",
+                    owner: "taken, of no file",
+                };
+                put(out, sector)
             }
         }
         _ => Ok(()),
