@@ -1,13 +1,14 @@
 -- Lines printed one after another.
 use Rattle.std.proofs.Common.{◌≡◌, ◌<◌, ◌+◌, ◌++◌, ℕ, suc, List, [], ◌∷◌, get_or, length, map, take, refl, subst, sym}
 use Rattle.std.proofs.Common.{ap, append_assoc, ◌∙◌, arith}
-use Rattle.std.specs.Prelude.{Option, flat_map}
+use Rattle.std.specs.Prelude.{None, Option, Some, flat_map}
 use Rattle.std.specs.Io.KnownBytes.{Appends}
 use Rattle.std.specs.Char.{encode_utf8}
 use Rattle.std.proofs.lemmas.Bool.{lt-ltb}
 use Rattle.std.proofs.KnownBytes.{Appends-nil, Appends-trans}
 use Rattle.std.proofs.lemmas.List.{append-nil, flat_map_more, length-map, length-take-le, map_more, take_more}
-use Rattle.disk_pictures.specs.Texts.{each_below, numbered}
+use Rattle.d64_image.specs.declared.place.Place.{Place}
+use Rattle.disk_pictures.specs.Texts.{at_place, each_below, numbered}
 
 -- one line more
 pub below-more : (a b c : Option (List ℕ)) (n : ℕ) (line : ℕ → List ℕ) → Appends a b (each_below n line)
@@ -58,6 +59,21 @@ plain-more line a b c xs i x inside here before more =
     (ap (λ (m : ℕ). numbered line 0 (take i xs) ++ line m x) here' ∙ sym (numbered-push line 0 (take i xs) x)
     ∙ ap (numbered line 0) (sym taken))
     (Appends-trans a b c _ _ before more)
+
+-- one sector more, where the track has it, and where it hasn't
+pub place-more : (line : Place → List ℕ) (place : ℕ → Option Place) (a b c : Option (List ℕ)) (n : ℕ) (p : Place)
+    → place n ≡ Some p → Appends a b (each_below n (λ s. at_place line (place s))) → Appends b c (line p)
+    → Appends a c (each_below (n + 1) (λ s. at_place line (place s)))
+place-more line place a b c n p here before more =
+    below-more a b c n (λ s. at_place line (place s)) before
+    (subst (Appends b c) (ap (at_place line) (sym here)) more)
+
+pub no-place-more : (line : Place → List ℕ) (place : ℕ → Option Place) (a b : Option (List ℕ)) (n : ℕ)
+    → place n ≡ None → Appends a b (each_below n (λ s. at_place line (place s)))
+    → Appends a b (each_below (n + 1) (λ s. at_place line (place s)))
+no-place-more line place a b n none before =
+    below-more a b b n (λ s. at_place line (place s)) before
+    (subst (Appends b b) (ap (at_place line) (sym none)) (Appends-nil b))
 
 -- one text more, where the texts aren't numbered
 pub flat-more : {X : Type 0} (line : X → List ℕ) (a b c : Option (List ℕ)) (xs : List X) (i : ℕ) (x : X)

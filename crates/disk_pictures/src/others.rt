@@ -54,23 +54,6 @@ fn put_other<W: Write>(out: &mut W, drawing: &Drawing, place: Place) -> Result<(
     }
 }
 
-/// Prints a sector, where the track has it and it is of nobody.
-fn put_other_at<W: Write>(
-    out: &mut W,
-    drawing: &Drawing,
-    track: u8,
-    sector: u8,
-) -> Result<(), PictureFault>
-    ensures ok { OnOk result (Appends (W.contents out.old) (W.contents out.new)
-        (at_place (other_arc drawing.now.map (drawn_in drawing.now)) (place_at track sector))) }
-    ensures err { IfErr result (λ fault. fault ≡ faults.File) }
-{
-    match Place::new(track, sector) {
-        Some(place) => put_other(out, drawing, place),
-        None => Ok(()),
-    }
-}
-
 /// Prints the sectors of nobody on a track.
 fn put_others_on<W: Write>(out: &mut W, drawing: &Drawing, track: u8) -> Result<(), PictureFault>
     ensures ok { OnOk result (Appends (W.contents out.old) (W.contents out.new)
@@ -79,7 +62,9 @@ fn put_others_on<W: Write>(out: &mut W, drawing: &Drawing, track: u8) -> Result<
     ensures err { IfErr result (λ fault. fault ≡ faults.File) }
 {
     for sector in 0..SECTORS {
-        put_other_at(out, drawing, track, sector)?;
+        if let Some(place) = Place::new(track, sector) {
+            put_other(out, drawing, place)?;
+        }
     }
     Ok(())
 }
