@@ -61,19 +61,24 @@ plain-more line a b c xs i x inside here before more =
     (Appends-trans a b c _ _ before more)
 
 -- one sector more, where the track has it, and where it hasn't
-pub place-more : (line : Place → List ℕ) (place : ℕ → Option Place) (a b c : Option (List ℕ)) (n : ℕ) (p : Place)
-    → place n ≡ Some p → Appends a b (each_below n (λ s. at_place line (place s))) → Appends b c (line p)
-    → Appends a c (each_below (n + 1) (λ s. at_place line (place s)))
-place-more line place a b c n p here before more =
-    below-more a b c n (λ s. at_place line (place s)) before
-    (subst (Appends b c) (ap (at_place line) (sym here)) more)
+pub place-more : {O : Type 0} (told : O → Option (List ℕ)) (line : Place → List ℕ) (place : ℕ → Option Place)
+    (a : Option (List ℕ)) (before then now : O) (n : ℕ) (p : Place)
+    → now ≡ then → place n ≡ Some p → Appends a (told before) (each_below n (λ s. at_place line (place s)))
+    → Appends (told before) (told then) (line p)
+    → Appends a (told now) (each_below (n + 1) (λ s. at_place line (place s)))
+place-more told line place a before then now n p is here all more =
+    subst (λ o. Appends a (told o) (each_below (n + 1) (λ s. at_place line (place s)))) (sym is)
+    (below-more a (told before) (told then) n (λ s. at_place line (place s)) all
+    (subst (Appends (told before) (told then)) (ap (at_place line) (sym here)) more))
 
-pub no-place-more : (line : Place → List ℕ) (place : ℕ → Option Place) (a b : Option (List ℕ)) (n : ℕ)
-    → place n ≡ None → Appends a b (each_below n (λ s. at_place line (place s)))
-    → Appends a b (each_below (n + 1) (λ s. at_place line (place s)))
-no-place-more line place a b n none before =
-    below-more a b b n (λ s. at_place line (place s)) before
-    (subst (Appends b b) (ap (at_place line) (sym none)) (Appends-nil b))
+pub no-place-more : {O : Type 0} (told : O → Option (List ℕ)) (line : Place → List ℕ) (place : ℕ → Option Place)
+    (a : Option (List ℕ)) (before now : O) (n : ℕ)
+    → now ≡ before → place n ≡ None → Appends a (told before) (each_below n (λ s. at_place line (place s)))
+    → Appends a (told now) (each_below (n + 1) (λ s. at_place line (place s)))
+no-place-more told line place a before now n is none all =
+    subst (λ o. Appends a (told o) (each_below (n + 1) (λ s. at_place line (place s)))) (sym is)
+    (below-more a (told before) (told before) n (λ s. at_place line (place s)) all
+    (subst (Appends (told before) (told before)) (ap (at_place line) (sym none)) (Appends-nil (told before))))
 
 -- one text more, where the texts aren't numbered
 pub flat-more : {X : Type 0} (line : X → List ℕ) (a b c : Option (List ℕ)) (xs : List X) (i : ℕ) (x : X)

@@ -19,11 +19,15 @@ loop-sector-preserved g c =
     let d = c.args.drawing.now in
     let mark : Place → ℕ = mark_of c.args.found d.map (drawn_in d) in
     let one : Place → List ℕ = λ p. mark p ∷ [] in
+    let told = g.W.Write.contents in
+    let all = c.loop-sector.invariant in
     elim c.match-new.branch [
-      | in-Some+in_ok-put w ↦ rw w.out-is (place-more one (place_at c.args.track) _ _ _ c.loop-sector.sector
-          w.in-Some.place (sym c.new.ensures.value ∙ w.in-Some.is) c.loop-sector.invariant
-          (subst (Appends _ _) (ap encode_utf8 w.sign.ensures
-          ∙ ascii (mark w.in-Some.place) (mark-small c.args.found d.map (drawn_in d) w.in-Some.place)) w.in_ok-put.ensures.ok))
-      | in_default w ↦ rw w.out-is (no-place-more one (place_at c.args.track) _ _ c.loop-sector.sector
-          (sym c.new.ensures.value ∙ w.in_default.is) c.loop-sector.invariant)
+      | in-Some+in_ok-put w ↦
+          let p = w.in-Some.place in
+          place-more told one (place_at c.args.track) (told c.args.out.now) c.loop-sector.out
+          w.put.new.out c.match-new.out c.loop-sector.sector p w.out-is (sym c.new.ensures.value ∙ w.in-Some.is) all
+          (subst (Appends (told c.loop-sector.out) (told w.put.new.out)) (ap encode_utf8 w.sign.ensures
+          ∙ ascii (mark p) (mark-small c.args.found d.map (drawn_in d) p)) w.in_ok-put.ensures.ok)
+      | in_default w ↦ no-place-more told one (place_at c.args.track) (told c.args.out.now)
+          c.loop-sector.out c.match-new.out c.loop-sector.sector w.out-is (sym c.new.ensures.value ∙ w.in_default.is) all
     ]

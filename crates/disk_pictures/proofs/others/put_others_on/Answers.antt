@@ -13,10 +13,14 @@ loop-sector-init g c = none-below _ _
 pub loop-sector-preserved : goal.loop-sector-preserved
 loop-sector-preserved g c =
     let d = c.args.drawing.now in
+    let told = g.W.Write.contents in
+    let all = c.loop-sector.invariant in
     elim c.match-new.branch [
-      | in-Some+in_ok-put_other w ↦ rw w.out-is (place-more (other_arc d.map (drawn_in d)) (place_at c.args.track) _ _ _
-          c.loop-sector.sector w.in-Some.place (sym c.new.ensures.value ∙ w.in-Some.is) c.loop-sector.invariant
-          w.in_ok-put_other.ensures.ok)
-      | in_default w ↦ rw w.out-is (no-place-more (other_arc d.map (drawn_in d)) (place_at c.args.track) _ _
-          c.loop-sector.sector (sym c.new.ensures.value ∙ w.in_default.is) c.loop-sector.invariant)
+      | in-Some+in_ok-put_other w ↦
+          let p = w.in-Some.place in
+          place-more told (other_arc d.map (drawn_in d)) (place_at c.args.track) (told c.args.out.now) c.loop-sector.out
+          w.put_other.new.out c.match-new.out c.loop-sector.sector p w.out-is (sym c.new.ensures.value ∙ w.in-Some.is) all
+          w.in_ok-put_other.ensures.ok
+      | in_default w ↦ no-place-more told (other_arc d.map (drawn_in d)) (place_at c.args.track) (told c.args.out.now)
+          c.loop-sector.out c.match-new.out c.loop-sector.sector w.out-is (sym c.new.ensures.value ∙ w.in_default.is) all
     ]

@@ -16,13 +16,17 @@ pub loop-sector-preserved : goal.loop-sector-preserved
 loop-sector-preserved g c =
     let d = c.args.drawing.now in
     let dash : Place → List ℕ = λ p. dash_text (is_open d.map (drawn_in d) p) p in
+    let told = g.W.Write.contents in
+    let all = c.loop-sector.invariant in
     elim c.match-new.branch [
-      | in-Some+in_ok-put w ↦ rw w.out-is (place-more dash (place_at c.args.track) _ _ _ c.loop-sector.sector
-          w.in-Some.place (sym c.new.ensures.value ∙ w.in-Some.is) c.loop-sector.invariant
-          (subst (Appends _ _) (ap (λ white. dash_text white w.in-Some.place) w.is_open-white.ensures)
-          w.in_ok-put.ensures.ok))
-      | in_default w ↦ rw w.out-is (no-place-more dash (place_at c.args.track) _ _ c.loop-sector.sector
-          (sym c.new.ensures.value ∙ w.in_default.is) c.loop-sector.invariant)
+      | in-Some+in_ok-put w ↦
+          let p = w.in-Some.place in
+          place-more told dash (place_at c.args.track) (told c.args.out.now) c.loop-sector.out
+          w.put.new.out c.match-new.out c.loop-sector.sector p w.out-is (sym c.new.ensures.value ∙ w.in-Some.is) all
+          (subst (Appends (told c.loop-sector.out) (told w.put.new.out))
+          (ap (λ white. dash_text white p) w.is_open-white.ensures) w.in_ok-put.ensures.ok)
+      | in_default w ↦ no-place-more told dash (place_at c.args.track) (told c.args.out.now)
+          c.loop-sector.out c.match-new.out c.loop-sector.sector w.out-is (sym c.new.ensures.value ∙ w.in_default.is) all
     ]
 
 pub returns-clause-ok : goal.returns-clause-ok
