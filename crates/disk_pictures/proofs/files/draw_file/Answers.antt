@@ -9,7 +9,7 @@ use Rattle.disk_pictures.proofs.files.draw_file.Goals as goal
 pub returns-clause-ok : goal.returns-clause-ok
 returns-clause-ok c =
     let bytes = c.args.slot.now.bytes in
-    let last = c.in_ok-last.last in
+    let last = c.walk-last.result in
     let img = disk_image c.args.disk.now in
     record {
       unclosed = λ few. let here = c.type_byte.ensures ∙ ap (λ (bs : List ℕ). slice_index bs 2) c.new-entry.ensures in
@@ -17,8 +17,8 @@ returns-clause-ok c =
       blocks = λ closed. subst (λ (ps : List Place). GoesFrom img bytes 3 ps last) (sym (c.in_ok-blocks.ensures.ok
           ∙ c.as_slice.ensures.value))
           (goes-from img bytes _ 3 c.first_block.result _ last c.new-entry.ensures c.first_block.ensures
-          c.in_ok-last.ensures.ok);
+          c.walk-last.ensures.ok);
       plain = c.in_ok-sides.ensures.plain;
-      relative = λ rel. sides-at _ img bytes _ _ _ c.in_ok-last.ensures.same (ap length c.as_slice-2.ensures.value)
+      relative = λ rel. sides-at _ img bytes _ _ _ c.walk-last.ensures.same (ap length c.as_slice-2.ensures.value)
           (c.in_ok-sides.ensures.relative rel);
     }

@@ -29,5 +29,6 @@ loop-sector-preserved g c =
           (subst (Appends (told c.loop-sector.out) (told w.put.new.out)) (ap encode_utf8 w.sign.ensures
           ∙ ascii (mark p) (mark-small c.args.found d.map (drawn_in d) p)) w.in_ok-put.ensures.ok)
       | in_default w ↦ no-place-more told one (place_at c.args.track) (told c.args.out.now)
-          c.loop-sector.out c.match-new.out c.loop-sector.sector w.out-is (sym c.new.ensures.value ∙ w.in_default.is) all
+          c.loop-sector.out c.match-new.out c.loop-sector.sector w.out-is (sym c.new.ensures.value ∙ w.in_default.is)
+          all
     ]

@@ -19,8 +19,9 @@ loop-sector-preserved g c =
       | in-Some+in_ok-put_other w ↦
           let p = w.in-Some.place in
           place-more told (other_arc d.map (drawn_in d)) (place_at c.args.track) (told c.args.out.now) c.loop-sector.out
-          w.put_other.new.out c.match-new.out c.loop-sector.sector p w.out-is (sym c.new.ensures.value ∙ w.in-Some.is) all
-          w.in_ok-put_other.ensures.ok
+          w.put_other.new.out c.match-new.out c.loop-sector.sector p w.out-is (sym c.new.ensures.value ∙ w.in-Some.is)
+          all w.in_ok-put_other.ensures.ok
       | in_default w ↦ no-place-more told (other_arc d.map (drawn_in d)) (place_at c.args.track) (told c.args.out.now)
-          c.loop-sector.out c.match-new.out c.loop-sector.sector w.out-is (sym c.new.ensures.value ∙ w.in_default.is) all
+          c.loop-sector.out c.match-new.out c.loop-sector.sector w.out-is (sym c.new.ensures.value ∙ w.in_default.is)
+          all
     ]

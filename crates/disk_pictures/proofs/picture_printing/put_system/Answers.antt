@@ -13,8 +13,8 @@ pub returns-clause-ok : goal.returns-clause-ok
 unfolding system_group map_arc digits
 returns-clause-ok g c =
     let map = subst (λ p. Appends (g.W.Write.contents c.put.new.out) (g.W.Write.contents c.put-2.new.out)
-    (ring_of p ++ (codes " class=\"map\"><title>" ++ (place_text p ++ codes " map</title></circle>\n")))) c.map_place.ensures
-    c.in_ok-put-2.ensures.ok in
+    (ring_of p ++ (codes " class=\"map\"><title>" ++ (place_text p ++ codes " map</title></circle>\n"))))
+    c.map_place.ensures c.in_ok-put-2.ensures.ok in
     let directory =
     subst (λ ps. Appends (g.W.Write.contents c.put-2.new.out) (g.W.Write.contents c.put_directory.new.out)
     (flat_map directory_arc ps))

@@ -12,17 +12,15 @@ use Rattle.disk_pictures.proofs.reading.draw.Goals as goal
 pub returns-clause-ok : goal.returns-clause-ok
 returns-clause-ok c =
     let found = c.in_default.ensures.ok in
-    let first = c.read_directory.ensures.reads.image in
-    let then = c.in_ok-walk.ensures.same ∙ first in
-    let last = c.in_ok-map.ensures.same ∙ then in
+    let first = c.read_map-map.ensures.same ∙ c.read_directory.ensures.reads.image in
+    let last = c.walk.ensures.same ∙ first in
     let img = disk_image c.args.disk.now in
     let walked = c.walk.new.places.items in
-    let walk = subst (λ (p : Place). IsWalk img p walked c.in_ok-walk.field-0) c.directory_start.ensures
-    (subst (λ (i : Image). IsWalk i c.directory_start.result walked c.in_ok-walk.field-0) first c.in_ok-walk.ensures.ok)
-    in
+    let walk = subst (λ (p : Place). IsWalk img p walked c.walk.result) c.directory_start.ensures
+    (subst (λ (i : Image). IsWalk i c.directory_start.result walked c.walk.result) first c.walk.ensures.ok) in
     let files = map file_in c.in_ok-files.files.items in
     let drawn = subst (λ (ss : List Slot). AreDrawn img ss files) c.as_slice-2.ensures.value
     (subst (λ (i : Image). AreDrawn i c.as_slice-2.result.now files) last c.in_ok-files.ensures.ok) in
     subst (IsDrawn img) (sym c.new.ensures.drawn)
     (drawn-is img found.0 walked c.in_ok-directory.directory.items c.read_directory.new.slots.items files
-    c.in_ok-walk.field-0 found.1 walk (c.in_ok-directory.ensures.ok ∙ c.as_slice.ensures.value) drawn)
+    c.walk.result found.1 walk (c.in_ok-directory.ensures.ok ∙ c.as_slice.ensures.value) drawn)

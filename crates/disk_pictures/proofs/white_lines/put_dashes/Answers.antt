@@ -26,7 +26,8 @@ loop-sector-preserved g c =
           (subst (Appends (told c.loop-sector.out) (told w.put.new.out))
           (ap (λ white. dash_text white p) w.is_open-white.ensures) w.in_ok-put.ensures.ok)
       | in_default w ↦ no-place-more told dash (place_at c.args.track) (told c.args.out.now)
-          c.loop-sector.out c.match-new.out c.loop-sector.sector w.out-is (sym c.new.ensures.value ∙ w.in_default.is) all
+          c.loop-sector.out c.match-new.out c.loop-sector.sector w.out-is (sym c.new.ensures.value ∙ w.in_default.is)
+          all
     ]
 
 pub returns-clause-ok : goal.returns-clause-ok
