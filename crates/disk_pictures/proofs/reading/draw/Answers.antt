@@ -1,5 +1,6 @@
 -- The directory's sectors and the entries are those of the image, which stays.
-use Rattle.std.proofs.Common.{List, map, subst, sym, ◌∙◌}
+use Rattle.std.proofs.Common.{Err, List, ap, map, refl, subst, sym, ◌∙◌}
+use Rattle.std.proofs.lemmas.Result.{err_from_is_err_and}
 use Rattle.d64_image.specs.Images.{Image}
 use Rattle.d64_image.specs.Memory.{disk_image}
 use Rattle.d64_image.specs.declared.place.Place.{Place}
@@ -8,6 +9,33 @@ use Rattle.disk_layout.specs.declared.slot.Slot.{Slot}
 use Rattle.disk_pictures.proofs.Drawn.{drawn-is}
 use Rattle.disk_pictures.specs.Drawings.{AreDrawn, IsDrawn, file_in}
 use Rattle.disk_pictures.proofs.reading.draw.Goals as goal
+
+pub returns-in_err-directory : goal.returns-in_err-directory
+returns-in_err-directory c =
+    let p = err_from_is_err_and c.from_residual.result c.from_residual.ensures.1 in
+    let told = p.1 ∙ ap Err (p.2 ∙ c.in_err-directory.ensures.err) in
+    record {
+      ok = rw told tt;
+      map = rw told tt;
+      same = c.walk.ensures.same ∙ c.read_map-map.ensures.same ∙ c.read_directory.ensures.reads.image;
+      err = rw told refl;
+    }
+
+pub returns-in_err-files : goal.returns-in_err-files
+returns-in_err-files c =
+    let p = err_from_is_err_and c.from_residual-in_err-files.result c.from_residual-in_err-files.ensures.1 in
+    let told = p.1 ∙ ap Err (p.2 ∙ c.in_err-files.ensures.err) in
+    record {
+      ok = rw told tt;
+      map = rw told tt;
+      same = c.draw_files.ensures.same ∙ c.walk.ensures.same ∙ c.read_map-map.ensures.same
+          ∙ c.read_directory.ensures.reads.image;
+      err = rw told refl;
+    }
+
+pub returns-clause-same : goal.returns-clause-same
+returns-clause-same c = c.draw_files.ensures.same ∙ c.walk.ensures.same ∙ c.read_map-map.ensures.same
+    ∙ c.read_directory.ensures.reads.image
 
 pub returns-clause-ok : goal.returns-clause-ok
 returns-clause-ok c =
