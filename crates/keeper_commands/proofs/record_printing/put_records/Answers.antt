@@ -13,7 +13,8 @@ use Rattle.rel_records.specs.reading.Kept.{IsKept}
 use Rattle.keeper_commands.proofs.record_printing.put_records.Goals as goal
 
 pub gather_line-end-requires-clause-of : goal.gather_line-end-requires-clause-of
-gather_line-end-requires-clause-of g c = subst (λ (img : Image). IsOf img c.args.file.now) (sym c.loop-before.invariant.0)
+gather_line-end-requires-clause-of g c = subst (λ (img : Image). IsOf img c.args.file.now)
+    (sym c.loop-before.invariant.0)
     c.requires.of
 
 pub gather_line-end-requires-clause-kept : goal.gather_line-end-requires-clause-kept
@@ -34,7 +35,8 @@ pub loop-before-preserved : goal.loop-before-preserved
 loop-before-preserved g c =
     let same = c.loop-before.invariant.0 in (
       c.gather_line-end.ensures.same ∙ same,
-      subst (λ (img : Image). IsKept img c.args.file.now c.gather_line-end.new.last) same c.gather_line-end.ensures.kept,
+      subst (λ (img : Image). IsKept img c.args.file.now c.gather_line-end.new.last) same
+          c.gather_line-end.ensures.kept,
       λ l n f of.
           let there = subst (λ (img : Image). IsFileOf img l n f c.args.file.now) (sym same) of in
           line-gathered _ _ _ (records_of.records (disk_image c.args.disk.now) f) c.loop-before.before _ _ _
