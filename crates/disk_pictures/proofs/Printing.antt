@@ -1,13 +1,14 @@
 -- Lines printed one after another.
 use Rattle.std.proofs.Common.{◌≡◌, ◌<◌, ◌+◌, ◌++◌, ℕ, suc, List, [], ◌∷◌, get_or, length, map, take, refl, subst, sym}
 use Rattle.std.proofs.Common.{ap, append_assoc, ◌∙◌, arith}
-use Rattle.std.specs.Prelude.{Option}
+use Rattle.std.specs.Prelude.{None, Option, Some, flat_map}
 use Rattle.std.specs.Io.KnownBytes.{Appends}
 use Rattle.std.specs.Char.{encode_utf8}
 use Rattle.std.proofs.lemmas.Bool.{lt-ltb}
 use Rattle.std.proofs.KnownBytes.{Appends-nil, Appends-trans}
-use Rattle.std.proofs.lemmas.List.{append-nil, length-map, length-take-le, map_more, take_more}
-use Rattle.disk_pictures.specs.Texts.{each_below, numbered}
+use Rattle.std.proofs.lemmas.List.{append-nil, flat_map_more, length-map, length-take-le, map_more, take_more}
+use Rattle.d64_image.specs.declared.place.Place.{Place}
+use Rattle.disk_pictures.specs.Texts.{at_place, each_below, numbered}
 
 -- one line more
 pub below-more : (a b c : Option (List ℕ)) (n : ℕ) (line : ℕ → List ℕ) → Appends a b (each_below n line)
@@ -57,6 +58,35 @@ plain-more line a b c xs i x inside here before more =
     subst (Appends a c)
     (ap (λ (m : ℕ). numbered line 0 (take i xs) ++ line m x) here' ∙ sym (numbered-push line 0 (take i xs) x)
     ∙ ap (numbered line 0) (sym taken))
+    (Appends-trans a b c _ _ before more)
+
+-- one sector more, where the track has it, and where it hasn't
+pub place-more : {O : Type 0} (told : O → Option (List ℕ)) (line : Place → List ℕ) (place : ℕ → Option Place)
+    (a : Option (List ℕ)) (before then now : O) (n : ℕ) (p : Place)
+    → now ≡ then → place n ≡ Some p → Appends a (told before) (each_below n (λ s. at_place line (place s)))
+    → Appends (told before) (told then) (line p)
+    → Appends a (told now) (each_below (n + 1) (λ s. at_place line (place s)))
+place-more told line place a before then now n p is here all more =
+    subst (λ o. Appends a (told o) (each_below (n + 1) (λ s. at_place line (place s)))) (sym is)
+    (below-more a (told before) (told then) n (λ s. at_place line (place s)) all
+    (subst (Appends (told before) (told then)) (ap (at_place line) (sym here)) more))
+
+pub no-place-more : {O : Type 0} (told : O → Option (List ℕ)) (line : Place → List ℕ) (place : ℕ → Option Place)
+    (a : Option (List ℕ)) (before now : O) (n : ℕ)
+    → now ≡ before → place n ≡ None → Appends a (told before) (each_below n (λ s. at_place line (place s)))
+    → Appends a (told now) (each_below (n + 1) (λ s. at_place line (place s)))
+no-place-more told line place a before now n is none all =
+    subst (λ o. Appends a (told o) (each_below (n + 1) (λ s. at_place line (place s)))) (sym is)
+    (below-more a (told before) (told before) n (λ s. at_place line (place s)) all
+    (subst (Appends (told before) (told before)) (ap (at_place line) (sym none)) (Appends-nil (told before))))
+
+-- one text more, where the texts aren't numbered
+pub flat-more : {X : Type 0} (line : X → List ℕ) (a b c : Option (List ℕ)) (xs : List X) (i : ℕ) (x : X)
+    → i < length xs → get_or xs i x ≡ x → Appends a b (flat_map line (take i xs)) → Appends b c (line x)
+    → Appends a c (flat_map line (take (i + 1) xs))
+flat-more line a b c xs i x inside here before more =
+    let taken = take_more xs i x inside ∙ ap (λ y. take i xs ++ y ∷ []) here in
+    subst (Appends a c) (flat_map_more line [] (take i xs) x ∙ ap (flat_map line) (sym taken))
     (Appends-trans a b c _ _ before more)
 
 -- nothing was printed so far

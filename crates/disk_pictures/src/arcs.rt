@@ -1,17 +1,17 @@
 //! The sectors of a picture: each is a circle whose one dash is the sector. The page's style has the dash of each ring.
-ghost use Rattle.std.specs.Prelude.{◌≡◌, ◌≤◌, ◌*◌, Some};
+ghost use Rattle.std.specs.Prelude.{◌≡◌, ◌≤◌, ◌++◌, ◌*◌, Some, codes};
 ghost use Rattle.d64_image.specs.Geometry.{sectors_on};
 ghost use Rattle.d64_image.specs.Places.{track_of};
 ghost use Rattle.disk_layout.specs.Texts.{place_text};
 ghost use Rattle.disk_pictures.specs.Html.{html_of};
-ghost use Rattle.disk_pictures.specs.Pictures.{arc, block_arc, brightness as brightness_of, colour, directory_arc};
-ghost use Rattle.disk_pictures.specs.Pictures.{fault_sector, free_arc, hue as hue_of, lost_arc, dash_text, map_arc};
-ghost use Rattle.disk_pictures.specs.Pictures.{radius as radius_of, rim_mark, ring_text, side_arc};
+ghost use Rattle.disk_pictures.specs.Pictures.{arc, block_arc, brightness as brightness_of, colour};
+ghost use Rattle.disk_pictures.specs.Pictures.{fault_sector, hue as hue_of, dash_text, radius as radius_of, rim_mark};
+ghost use Rattle.disk_pictures.specs.Pictures.{ring_of, ring_text, side_arc};
 
 use crate::html::Html;
 use crate::texts::fault_place;
 use d64_image::Place;
-use disk_layout::{Fault, map_place};
+use disk_layout::Fault;
 use std::fmt::{self, Display, Formatter};
 
 /// The radius of the mark at the rim.
@@ -131,35 +131,30 @@ impl Display for Colour {
     }
 }
 
-/// 18/0.
+/// A sector that is no entry's.
 #[derive(Clone, Copy)]
-pub(crate) struct MapArc;
-
-impl Display for MapArc {
-    ghost output = { λ _. Some map_arc };
-
-    fn fmt<W: fmt::Write>(&self, f: &mut Formatter<W>) -> fmt::Result {
-        writeln!(
-            f,
-            "{} class=\"map\"><title>18/0 map</title></circle>",
-            Ring::of(map_place())
-        )
-    }
+pub(crate) struct PlainArc {
+    /// Where it is.
+    pub place: Place,
+    /// The class of its circle.
+    pub class: &'static str,
+    /// Whose it is, as it is told.
+    pub owner: &'static str,
 }
 
-/// A sector of the directory.
-#[derive(Clone, Copy)]
-pub(crate) struct DirectoryArc(pub Place);
-
-impl Display for DirectoryArc {
-    ghost output = { λ sector. Some (directory_arc sector.0) };
+impl Display for PlainArc {
+    ghost output = { λ sector. Some (ring_of sector.place ++ (codes " class=\"" ++ (sector.class.now
+        ++ (codes "\"><title>" ++ (place_text sector.place ++ (codes " " ++ (sector.owner.now
+        ++ codes "</title></circle>\n"))))))) };
 
     fn fmt<W: fmt::Write>(&self, f: &mut Formatter<W>) -> fmt::Result {
         writeln!(
             f,
-            "{} class=\"dir\"><title>{} directory</title></circle>",
-            Ring::of(self.0),
-            PlaceText(self.0)
+            "{} class=\"{}\"><title>{} {}</title></circle>",
+            Ring::of(self.place),
+            self.class,
+            PlaceText(self.place),
+            self.owner
         )
     }
 }
@@ -215,40 +210,6 @@ impl Display for SideArc<'_> {
             PlaceText(self.place),
             Html(self.name),
             self.number
-        )
-    }
-}
-
-/// A free sector.
-#[derive(Clone, Copy)]
-pub(crate) struct FreeArc(pub Place);
-
-impl Display for FreeArc {
-    ghost output = { λ sector. Some (free_arc sector.0) };
-
-    fn fmt<W: fmt::Write>(&self, f: &mut Formatter<W>) -> fmt::Result {
-        writeln!(
-            f,
-            "{} class=\"free\"><title>{} free</title></circle>",
-            Ring::of(self.0),
-            PlaceText(self.0)
-        )
-    }
-}
-
-/// A sector that is taken in the map and of nobody.
-#[derive(Clone, Copy)]
-pub(crate) struct LostArc(pub Place);
-
-impl Display for LostArc {
-    ghost output = { λ sector. Some (lost_arc sector.0) };
-
-    fn fmt<W: fmt::Write>(&self, f: &mut Formatter<W>) -> fmt::Result {
-        writeln!(
-            f,
-            "{} class=\"lost\"><title>{} taken, of no file</title></circle>",
-            Ring::of(self.0),
-            PlaceText(self.0)
         )
     }
 }

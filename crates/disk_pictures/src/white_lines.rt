@@ -52,34 +52,17 @@ fn is_track_open(drawing: &Drawing, track: u8) -> bool
     found
 }
 
-/// Prints the dash of a sector, where the track has it.
-fn put_dash_at<W: Write>(
-    out: &mut W,
-    drawing: &Drawing,
-    track: u8,
-    sector: u8,
-) -> Result<(), PictureFault>
-    ensures ok { OnOk result (Appends (W.contents out.old) (W.contents out.new)
-        (at_place (λ p. dash_text (open_at drawing.now.map (drawn_in drawing.now) p) p) (place_at track sector))) }
-    ensures err { IfErr result (λ fault. fault ≡ faults.File) }
-{
-    match Place::new(track, sector) {
-        Some(place) => {
-            let white = is_open(drawing, place);
-            put(out, Dash { white, place })
-        }
-        None => Ok(()),
-    }
-}
-
-/// Prints the dashes of a track.
+/// Prints the dashes of the sectors that the track has.
 fn put_dashes<W: Write>(out: &mut W, drawing: &Drawing, track: u8) -> Result<(), PictureFault>
     ensures ok { OnOk result (Appends (W.contents out.old) (W.contents out.new)
         (track_dashes drawing.now.map (drawn_in drawing.now) track)) }
     ensures err { IfErr result (λ fault. fault ≡ faults.File) }
 {
     for sector in 0..SECTORS {
-        put_dash_at(out, drawing, track, sector)?;
+        if let Some(place) = Place::new(track, sector) {
+            let white = is_open(drawing, place);
+            put(out, Dash { white, place })?;
+        }
     }
     Ok(())
 }

@@ -3,7 +3,7 @@ use Rattle.std.proofs.Common.{◌≡◌, ◌+◌, ◌-◌, ℕ, suc, true, false
 use Rattle.std.proofs.Common.{ap, arith, subst, sym, ◌∙◌}
 use Rattle.std.proofs.lemmas.Bool.{false≢true}
 use Rattle.std.specs.Prelude.{bytes_eq, codes}
-use Rattle.std.specs.Result.{OnOk, is_err, is_ok}
+use Rattle.std.specs.Result.{is_err}
 use Rattle.std.specs.Io.KnownBytes.{Appends, Keeps}
 use Rattle.std.proofs.KnownBytes.{Appends-kept, Appends-nil, Appends-trans}
 use Rattle.d64_image.proofs.Moments.{failed_later}
@@ -67,11 +67,6 @@ tells-after S a b c (Err keep.FileExists) same told = absurd told
 tells-after S a b c (Err (keep.BadLine n)) same told = absurd told
 tells-after S a b c (Err keep.DiskFull) same told = absurd told
 tells-after S a b c (Err keep.NoMemory) same told = absurd told
-
--- what holds at an answer, where there is one
-pub at-answer : {T E P : Type 0} (r : Result T E) → is_ok r ≡ true → OnOk r P → P
-at-answer (Ok x) is p = p
-at-answer (Err e) is p = absurd (false≢true is)
 
 -- what a read of the device tells
 pub failed-there : {D T E : Type 0} (S : History D) (a b : D) (r : Result T E) → is_err r ≡ true

@@ -1,18 +1,10 @@
 -- The sector was read, and its bytes were printed.
-use Rattle.std.proofs.Common.{◌∙◌, ℕ, List, subst, sym}
-use Rattle.std.proofs.lemmas.Bool.{false≢true}
+use Rattle.std.proofs.Common.{ℕ, List, subst}
 use Rattle.std.proofs.lemmas.Result.{on_ok_weaker}
 use Rattle.std.specs.Io.KnownBytes.{Appends}
 use Rattle.keeper_commands.proofs.Blocks.{bytes-up-to}
-use Rattle.keeper_commands.proofs.Printing.{not-err}
+use Rattle.keeper_commands.proofs.Printing.{at-answer}
 use Rattle.keeper_commands.proofs.chains.put_block.Goals as goal
-
-pub returns-then-is_err : goal.returns-then-is_err
-returns-then-is_err g c = record {
-  ok = tt;
-  same = c.read.ensures.device.reads.image;
-  err = absurd (false≢true (sym c.if-is_err.ensures.negation ∙ c.read.ensures.never_fails));
-}
 
 pub returns : goal.returns
 returns g c = record {
@@ -20,7 +12,7 @@ returns g c = record {
       (λ printed. subst (λ (bs : List ℕ). Appends (g.W.Write.contents c.args.out.now) (g.W.Write.contents c.put.new.out)
       bs)
       (bytes-up-to _ _ _ _ c.max-end.ensures
-      (not-err c.read.result (sym c.if-is_err.ensures.value) c.read.ensures.device.sector))
+      (at-answer c.read.result c.read.ensures.never_fails c.read.ensures.device.sector))
       printed)
       c.put.ensures.ok;
   same = c.read.ensures.device.reads.image;

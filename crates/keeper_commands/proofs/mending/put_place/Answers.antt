@@ -1,8 +1,8 @@
 -- The two sectors were compared, and the line was printed where they are otherwise.
 use Rattle.std.proofs.Common.{lit≤, sym}
 use Rattle.d64_image.proofs.Moments.{reads_no_write}
-use Rattle.keeper_commands.proofs.Mendings.{as-told, at-answer, failed-there, same-there}
-use Rattle.keeper_commands.proofs.Printing.{not-err}
+use Rattle.keeper_commands.proofs.Mendings.{as-told, failed-there, same-there}
+use Rattle.keeper_commands.proofs.Printing.{at-answer, not-err}
 use Rattle.keeper_commands.proofs.mending.put_place.Goals as goal
 
 pub returns-then-is_err : goal.returns-then-is_err

@@ -12,17 +12,18 @@ use Rattle.rel_records.specs.File.{IsFileOf, IsOf}
 use Rattle.rel_records.specs.reading.Kept.{IsKept}
 use Rattle.keeper_commands.proofs.record_printing.put_records.Goals as goal
 
-pub gather_line-requires-clause-of : goal.gather_line-requires-clause-of
-gather_line-requires-clause-of g c = subst (λ (img : Image). IsOf img c.args.file.now) (sym c.loop-before.invariant.0)
+pub gather_line-end-requires-clause-of : goal.gather_line-end-requires-clause-of
+gather_line-end-requires-clause-of g c = subst (λ (img : Image). IsOf img c.args.file.now)
+    (sym c.loop-before.invariant.0)
     c.requires.of
 
-pub gather_line-requires-clause-kept : goal.gather_line-requires-clause-kept
-gather_line-requires-clause-kept g c =
+pub gather_line-end-requires-clause-kept : goal.gather_line-end-requires-clause-kept
+gather_line-end-requires-clause-kept g c =
     subst (λ (img : Image). IsKept img c.args.file.now c.loop-before.last) (sym c.loop-before.invariant.0)
     c.loop-before.invariant.1
 
-pub gather_line-requires-clause-there : goal.gather_line-requires-clause-there
-gather_line-requires-clause-there g c = λ l n f of.
+pub gather_line-end-requires-clause-there : goal.gather_line-end-requires-clause-there
+gather_line-end-requires-clause-there g c = λ l n f of.
     let same = c.loop-before.invariant.0 in
     let here = subst (λ (img : Image). IsFileOf img l n f c.args.file.now) same of in
     let all = c.records-before-end.ensures.exact (disk_image c.args.disk.now) l n f here in
@@ -33,20 +34,21 @@ gather_line-requires-clause-there g c = λ l n f of.
 pub loop-before-preserved : goal.loop-before-preserved
 loop-before-preserved g c =
     let same = c.loop-before.invariant.0 in (
-      c.in_ok-end.ensures.same ∙ same,
-      subst (λ (img : Image). IsKept img c.args.file.now c.gather_line.new.last) same c.in_ok-end.ensures.kept,
+      c.gather_line-end.ensures.same ∙ same,
+      subst (λ (img : Image). IsKept img c.args.file.now c.gather_line-end.new.last) same
+          c.gather_line-end.ensures.kept,
       λ l n f of.
           let there = subst (λ (img : Image). IsFileOf img l n f c.args.file.now) (sym same) of in
           line-gathered _ _ _ (records_of.records (disk_image c.args.disk.now) f) c.loop-before.before _ _ _
           (c.loop-before.invariant.2 l n f of)
           c.in_ok-start.ensures.ok
-          (subst (λ (img : Image). take c.in_ok-end.end c.gather_line.new.room
+          (subst (λ (img : Image). take c.gather_line-end.result c.gather_line-end.new.room
           ≡ take c.in_ok-start.start c.loop-before.room
           ++ record_line (c.loop-before.before + 1)
           (get_or (records_of.records img f) (c.loop-before.before + 1 - 1) []))
           same
-          (c.in_ok-end.ensures.ok l n f there)),
-      omega (arith, c.in_ok-end.ensures.end, c.in_ok-start.ensures.room),
+          (c.gather_line-end.ensures.ok l n f there)),
+      omega (arith, c.gather_line-end.ensures.end, c.in_ok-start.ensures.room),
     )
 
 pub returns-clause-ok : goal.returns-clause-ok
@@ -72,8 +74,8 @@ new-bytes-requires g c = lit≤ tt
 pub hand_on-requires : goal.hand_on-requires
 hand_on-requires g c = c.loop-before.invariant.3
 
-pub gather_line-requires-clause-room : goal.gather_line-requires-clause-room
-gather_line-requires-clause-room g c = c.in_ok-start.ensures.room
+pub gather_line-end-requires-clause-room : goal.gather_line-end-requires-clause-room
+gather_line-end-requires-clause-room g c = c.in_ok-start.ensures.room
 
 pub returns-in_err-start : goal.returns-in_err-start
 returns-in_err-start g c =
@@ -81,14 +83,6 @@ returns-in_err-start g c =
     record {
       ok = λ l n f of. rw (p.1 ∙ ap Err p.2) tt;
       err = rw (p.1 ∙ ap Err p.2) c.in_err-start.ensures.err;
-    }
-
-pub returns-in_err-end : goal.returns-in_err-end
-returns-in_err-end g c =
-    let p = err_from_is_err_and c.from_residual-in_err-end.result c.from_residual-in_err-end.ensures.1 in
-    record {
-      ok = λ l n f of. rw (p.1 ∙ ap Err p.2) tt;
-      err = rw (p.1 ∙ ap Err p.2) c.in_err-end.ensures.err;
     }
 
 pub returns-clause-err : goal.returns-clause-err

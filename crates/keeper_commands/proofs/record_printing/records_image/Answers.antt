@@ -1,5 +1,5 @@
 -- The image is sound, the file was found, and its records were printed; or why not.
-use Rattle.std.proofs.Common.{◌≡◌, Err, List, length, subst, sym, ◌∙◌, ap, ℕ}
+use Rattle.std.proofs.Common.{◌≡◌, Err, List, length, subst, sym, ◌∙◌, ap, refl, ℕ}
 use Rattle.std.proofs.lemmas.Result.{IfErr-weaker, err_from_is_err_and}
 use Rattle.std.proofs.KnownBytes.{Appends-kept}
 use Rattle.std.specs.Io.KnownBytes.{Appends}
@@ -13,10 +13,15 @@ use Rattle.keeper_commands.specs.Records.{IsRecordFile, records_text}
 use Rattle.rel_records.specs.File.{IsFileOf, entry_of}
 use Rattle.keeper_commands.proofs.record_printing.records_image.Goals as goal
 
-pub returns-in_err-disk-clause-err : goal.returns-in_err-disk-clause-err
-returns-in_err-disk-clause-err g c =
+pub returns-in_err-disk : goal.returns-in_err-disk
+returns-in_err-disk g c =
     let p = err_from_is_err_and c.from_residual.result c.from_residual.ensures.1 in
-    rw (p.1 ∙ ap Err p.2) (c.in_err-disk.ensures.err.2 c.args.name.now)
+    let told = p.1 ∙ ap Err p.2 in
+    record {
+      ok = rw told tt;
+      err = rw told (c.in_err-disk.ensures.err.2 c.args.name.now);
+      untouched = rw told (λ other. refl);
+    }
 
 pub put_records-requires : goal.put_records-requires
 put_records-requires g c =
@@ -42,15 +47,22 @@ found-file image name img l n f size same is first = record {
   first = first;
 }
 
-pub returns-in_err-put_records-clause-err : goal.returns-in_err-put_records-clause-err
-returns-in_err-put_records-clause-err g c =
+pub returns-in_err-put_records : goal.returns-in_err-put_records
+returns-in_err-put_records g c =
     let loaded = c.in_ok-disk.ensures.ok in
     let sound = loaded.2 in
     let found = c.in-Ok.ensures.ok sound.0 sound.1 in
     let p = err_from_is_err_and c.from_residual-in_err-put_records.result c.from_residual-in_err-put_records.ensures.1
     in
-    rw (p.1 ∙ ap Err (p.2 ∙ c.in_err-put_records.ensures.err))
-    (found.0, found-file c.args.image.now c.args.name.now _ sound.0 _ found.0 loaded.0 loaded.1 sound.1 found.1)
+    let told = p.1 ∙ ap Err (p.2 ∙ c.in_err-put_records.ensures.err) in
+    record {
+      ok = rw told tt;
+      err = rw told (
+        found.0,
+        found-file c.args.image.now c.args.name.now _ sound.0 _ found.0 loaded.0 loaded.1 sound.1 found.1,
+      );
+      untouched = rw told (λ other. absurd (other refl));
+    }
 
 pub returns-clause-err : goal.returns-clause-err
 returns-clause-err g c =
@@ -81,3 +93,6 @@ returns-clause-ok g c =
           (Appends-kept _ _ _ _ (c.in_ok-put_records.ensures.ok sound.0 (entry_of c.in-Ok.file) found.0 of)
           c.flush.ensures.kept);
     })
+
+pub returns-clause-untouched : goal.returns-clause-untouched
+returns-clause-untouched g c = IfErr-weaker c.flush.result _ _ (λ fault is other. absurd (other is)) c.flush.ensures.err
