@@ -1,6 +1,7 @@
 //! Doing a job: its files are opened and read, and what is printed goes to an output.
-ghost use Rattle.std.specs.Prelude.{◌≡◌, ◌≤◌, IfErr, IfOk, IfSome, Err, vec_items};
+ghost use Rattle.std.specs.Prelude.{◌≡◌, ◌≤◌, IfErr, IfOk, IfSome, Err, take, vec_items};
 ghost use Rattle.std.specs.IoError.{error_kind};
+ghost use Rattle.ledger_commands.specs.Durable.{IsSynced};
 ghost use Rattle.ledger_commands.specs.Faults.{io_fault};
 ghost use Rattle.ledger_program.specs.Ends.{as_drawn, as_job, as_kept, told_of};
 ghost use Rattle.ledger_program.specs.Jobs.{IsFit, needed};
@@ -20,7 +21,9 @@ use disk_layout::Fault;
 use disk_pictures::PictureFault;
 use host_session::Printer;
 use keeper_commands::KeepFault;
-use ledger_commands::{Durability, EndedFile, Locks, Replaced, RunFault, read_image, read_script};
+use ledger_commands::{
+    Durability, EndedFile, Locks, Replaced, RunFault, WritesAt, read_image, read_script,
+};
 use std::alloc::Global;
 use std::fs::{File, OpenFile};
 use std::io::{self, BufReader, Read, Write};
@@ -192,6 +195,35 @@ where
     job_end(ended)
 }
 
+/// Serves the shop of this image, over its file, to what comes on standard input.
+fn serve_input<F, R, W>(
+    rt: &R,
+    image: &[u8],
+    file: F,
+    durability: Durability,
+    out: &mut W,
+) -> Result<Option<Fault>, Refusal>
+where
+    F: WritesAt + Drop,
+    R: Input + AllocGlobal,
+    W: Write,
+    requires synced { IsSynced F.held F.lasting durability file }
+    requires image { IfSome (F.held file) (λ all. image.now ≡ take 174849 all) }
+{
+    // A bare reader of standard input reads a byte a call.
+    let mut input = told(BufReader::new(rt.alloc(), rt.reader()))?;
+    let mut printer = Printer::new(out);
+    let (_, ended) = serve_durably(
+        rt.alloc(),
+        image,
+        file,
+        durability,
+        &mut input,
+        &mut printer,
+    );
+    job_end(ended)
+}
+
 /// Serves the shop of the image at a path, over its file, to what comes on standard input.
 fn do_serving<F, R, W>(
     rt: &R,
@@ -206,18 +238,7 @@ where
 {
     let mut file = told(opened(rt, path))?;
     let image = own_image(rt.alloc(), &mut file, durability)?;
-    // A bare reader of standard input reads a byte a call.
-    let mut input = told(BufReader::new(rt.alloc(), rt.reader()))?;
-    let mut printer = Printer::new(out);
-    let (_, ended) = serve_durably(
-        rt.alloc(),
-        image.as_slice(),
-        file,
-        durability,
-        &mut input,
-        &mut printer,
-    );
-    job_end(ended)
+    serve_input(rt, image.as_slice(), file, durability, out)
 }
 
 /// The bytes of the image at a path, which nobody writes while it is read, or of standard input.
