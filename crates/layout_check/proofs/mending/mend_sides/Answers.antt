@@ -99,3 +99,6 @@ returns-in_err-write_other = failed.returns-in_err-write_other
 
 pub returns : goal.returns
 returns = done.returns
+
+pub read_sector-requires : goal.read_sector-requires
+read_sector-requires g c κs = λ h. h
