@@ -16,7 +16,10 @@ pub(crate) fn read<D: Sectors>(
     ensures { ReadsAtMost D.history disk.old disk.new 1 result
         (λ done. to.new ≡ sector (D.history.image disk.old) place) }
 {
-    read_sector(disk, place, to).map_err(|_| RelFault::Device)
+    match read_sector(disk, place, to) {
+        Ok(()) => Ok(()),
+        Err(_) => Err(RelFault::Device),
+    }
 }
 
 /// Writes a sector; at an error it is written or as before.
@@ -29,5 +32,8 @@ pub(crate) fn write<D: Sectors>(
 ) -> Result<(), RelFault>
     ensures { PutsSector D.history disk.old disk.new place from.now 0 result }
 {
-    write_sector(disk, place, from).map_err(|_| RelFault::Device)
+    match write_sector(disk, place, from) {
+        Ok(()) => Ok(()),
+        Err(_) => Err(RelFault::Device),
+    }
 }

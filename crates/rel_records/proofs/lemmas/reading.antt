@@ -6,3 +6,4 @@ pub mod Lent
 pub mod Lookups
 pub mod Opened
 pub mod Readings
+pub mod Starts

@@ -101,3 +101,6 @@ returns-in-None = told.returns-in-None
 
 pub returns-in_err-read_sector : goal.returns-in_err-read_sector
 returns-in_err-read_sector = told.returns-in_err-read_sector
+
+pub read_sector-requires : goal.read_sector-requires
+read_sector-requires g c κs = λ h. h

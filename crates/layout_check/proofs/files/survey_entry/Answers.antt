@@ -1,9 +1,11 @@
 -- What the slot shows, or what its kind of file gives.
-use Rattle.std.proofs.Common.{inl, inr, rules, slice_index, sym, ◌∙◌, ◌≡◌}
+use Rattle.layout_check.proofs.lemmas.owners.Clashes.{closed-high}
+use Rattle.disk_layout.specs.Layout.{is_rel_type}
+use Rattle.std.proofs.Common.{inl, inr, rules, slice_index, sym, ◌∙◌, ◌≡◌, ap, List, ℕ}
 use Rattle.std.proofs.lemmas.Bool.{cases_eq, false≢true}
 use Rattle.std.proofs.lemmas.Result.{err_from_is_err_and}
 use Rattle.layout_check.proofs.lemmas.judging.Calls.{passes_none}
-use Rattle.layout_check.proofs.lemmas.finding.Entries.{shown-tells}
+use Rattle.layout_check.proofs.lemmas.finding.Entries.{shown-tells, closed-entry}
 use Rattle.layout_check.proofs.lemmas.finding.Finding.{empty-finds}
 use Rattle.layout_check.proofs.files.survey_entry.Goals as goal
 
@@ -48,3 +50,22 @@ returns-in_err-survey_plain g c =
       ok = rw p.1 tt;
       err = rw (p.1, p.2) c.in_err-survey_plain.ensures.err;
     }
+
+pub survey_relative-requires : goal.survey_relative-requires
+survey_relative-requires g c = record {
+  closed = closed-entry _ c.args.slot.now c.requires.entry (closed-high _ c.in_ok-judge_entry.ensures.ok.closed);
+  proper = c.in_ok-judge_entry.ensures.ok;
+  rel = sym (c.is_relative.ensures
+      ∙ ap (λ (bs : List ℕ). is_rel_type (slice_index bs 2)) c.new-entry.ensures) ∙ c.if-is_relative.true;
+  some = c.requires.some;
+}
+
+pub survey_plain-requires : goal.survey_plain-requires
+survey_plain-requires g c = record {
+  closed = closed-entry _ c.args.slot.now c.requires.entry (closed-high _ c.in_ok-judge_entry.ensures.ok.closed);
+  proper = c.in_ok-judge_entry.ensures.ok;
+  plain = sym (c.is_relative.ensures
+      ∙ ap (λ (bs : List ℕ). is_rel_type (slice_index bs 2)) c.new-entry.ensures) ∙ c.if-is_relative.false;
+  names = rw c.new-entry.ensures at (c.has_first_block.ensures.0 c.if-not-has_first_block.false);
+  some = c.requires.some;
+}

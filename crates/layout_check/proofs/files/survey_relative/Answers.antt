@@ -91,3 +91,13 @@ returns g c =
           judged;
       err = tt;
     }
+
+pub claim_blocks-requires : goal.claim_blocks-requires
+claim_blocks-requires g c = record {
+  closed = c.requires.closed;
+  names = inl c.requires.rel;
+  some = c.requires.some;
+}
+
+pub claim-requires-clause-some : goal.claim-requires-clause-some
+claim-requires-clause-some g c = c.requires.some

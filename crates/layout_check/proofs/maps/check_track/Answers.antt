@@ -90,3 +90,11 @@ returns-clause-ok c =
           c.loop-sector.invariant.marked;
       count = sym count ∙ c.if-free_on-count.false ∙ ones;
     }
+
+pub overflow_add-count : goal.overflow_add-count
+overflow_add-count c = omega (
+  arith,
+  c.loop-sector.invariant.few,
+  c.from-count.ensures,
+  bit-small c.is_free-free.result,
+)

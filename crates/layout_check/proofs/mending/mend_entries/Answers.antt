@@ -115,3 +115,17 @@ returns-in_err-mend_relative = returned.returns-in_err-mend_relative
 
 pub returns : goal.returns
 returns = returned.returns
+
+pub bounds-slot-items-slot-index : goal.bounds-slot-items-slot-index
+bounds-slot-items-slot-index g c = c.loop-slot-test.true
+
+pub offset_bounds-slot-items-slot-index : goal.offset_bounds-slot-items-slot-index
+offset_bounds-slot-items-slot-index g c = omega (
+  arith,
+  c.loop-slot-test.true,
+  c.as_slice-slot-items.ensures.fits,
+)
+
+pub mend_relative-requires-clause-rel : goal.mend_relative-requires-clause-rel
+mend_relative-requires-clause-rel g c = sym (c.is_relative.ensures
+    ∙ ap (λ (bs : List ℕ). is_rel_type (slice_index bs 2)) c.new.ensures) ∙ c.if-is_relative.true

@@ -114,3 +114,6 @@ returns-in-None g c =
 
 pub returns-in-Some : goal.returns-in-Some
 returns-in-Some = written.returns-in-Some
+
+pub find_parts-requires-clause-rel : goal.find_parts-requires-clause-rel
+find_parts-requires-clause-rel g c = c.requires.rel

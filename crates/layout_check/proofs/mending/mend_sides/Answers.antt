@@ -99,3 +99,12 @@ returns-in_err-write_other = failed.returns-in_err-write_other
 
 pub returns : goal.returns
 returns = done.returns
+
+pub read_sector-requires : goal.read_sector-requires
+read_sector-requires g c κs = λ h. h
+
+pub bounds-sides-number : goal.bounds-sides-number
+bounds-sides-number g c = c.loop-number-test.true
+
+pub overflow_cast-number : goal.overflow_cast-number
+overflow_cast-number g c = omega (arith, c.loop-number-test.true, c.requires.few)

@@ -1,4 +1,5 @@
 -- The blocks and the side sectors that were found are the file's.
+use Rattle.layout_check.proofs.lemmas.finding.Entries.{rel-closed}
 use Rattle.std.proofs.Common.{arith}
 use Rattle.std.proofs.lemmas.Result.{err_from_is_err_and}
 use Rattle.layout_check.proofs.lemmas.judging.Calls.{passes_weaker}
@@ -30,3 +31,15 @@ returns g c = record {
     c.len-2.ensures.value,
   );
 }
+
+pub find_parts-requires : goal.find_parts-requires
+find_parts-requires g c = record {
+  closed = rel-closed _ c.args.slot.now c.requires.entry c.requires.rel;
+  rel = c.requires.rel;
+}
+
+pub overflow_add-result : goal.overflow_add-result
+overflow_add-result g c = omega (arith, c.len.ensures.fits, c.len-2.ensures.fits)
+
+pub overflow_cast-result : goal.overflow_cast-result
+overflow_cast-result g c = omega (arith, c.len.ensures.fits, c.len-2.ensures.fits)

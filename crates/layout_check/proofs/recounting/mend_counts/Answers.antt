@@ -94,3 +94,13 @@ returns-in_err-mend_sector = failed.returns-in_err-mend_sector
 
 pub returns : goal.returns
 returns = returned.returns
+
+pub bounds-place-items-place-index : goal.bounds-place-items-place-index
+bounds-place-items-place-index g c = c.loop-place-test.true
+
+pub offset_bounds-place-items-place-index : goal.offset_bounds-place-items-place-index
+offset_bounds-place-items-place-index g c = omega (
+  arith,
+  c.loop-place-test.true,
+  c.as_slice-place-items.ensures.fits,
+)

@@ -1,5 +1,5 @@
 -- The chain, and then the side sectors.
-use Rattle.std.proofs.Common.{ap, arith, length}
+use Rattle.std.proofs.Common.{ap, arith, length, inl}
 use Rattle.std.proofs.lemmas.Result.{err_from_is_err_and, on_ok_weaker, IfErr-weaker, IfOk-weaker}
 use Rattle.layout_check.proofs.lemmas.judging.Calls.{passes_then, tells_then, tells_weaker}
 use Rattle.layout_check.proofs.lemmas.finding.Finding.{on_ok_both, parts-found, rel-entry}
@@ -53,3 +53,6 @@ returns-in_err-survey_blocks g c =
       err = rw (p.1, p.2) (tells_weaker g.D.Sectors.history c.args.disk.now c.survey_blocks.new.disk 720 732 _
           (omega arith) c.in_err-survey_blocks.ensures.err);
     }
+
+pub survey_blocks-requires : goal.survey_blocks-requires
+survey_blocks-requires g c = record { closed = c.requires.closed; names = inl c.requires.rel }

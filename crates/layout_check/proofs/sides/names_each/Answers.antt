@@ -31,3 +31,18 @@ returns-clause-right c t k q there =
       c.loop-number-test.false,
       slice_get_within c.args.places.now k q there,
     )) q there
+
+pub bounds-places-number : goal.bounds-places-number
+bounds-places-number c = c.loop-number-test.true
+
+pub offset_bounds-places-number : goal.offset_bounds-places-number
+offset_bounds-places-number c = omega (arith, c.loop-number-test.true, c.requires)
+
+pub overflow_mul-byte : goal.overflow_mul-byte
+overflow_mul-byte c = omega (arith, c.loop-number-test.true, c.requires)
+
+pub overflow_add-byte : goal.overflow_add-byte
+overflow_add-byte c = omega (arith, c.loop-number-test.true, c.requires)
+
+pub overflow_add-same : goal.overflow_add-same
+overflow_add-same c = omega (arith, c.loop-number-test.true, c.requires)

@@ -112,3 +112,9 @@ returns-in_err-read_sector = told.returns-in_err-read_sector
 
 pub returns-then-not-is_sound_side : goal.returns-then-not-is_sound_side
 returns-then-not-is_sound_side = told.returns-then-not-is_sound_side
+
+pub walk_sides-requires : goal.walk_sides-requires
+walk_sides-requires g c = record { entry = c.requires.entry; few = c.requires.few }
+
+pub read_sector-requires : goal.read_sector-requires
+read_sector-requires g c κs = λ h. h

@@ -81,3 +81,20 @@ returns-then-not-is_numbered = told.returns-then-not-is_numbered
 
 pub returns-in_default-next : goal.returns-in_default-next
 returns-in_default-next = told.returns-in_default-next
+
+pub div_ceil-needed-requires : goal.div_ceil-needed-requires
+div_ceil-needed-requires g c = lit< tt
+
+pub read_sector-requires : goal.read_sector-requires
+read_sector-requires g c κs = λ h. h
+
+pub overflow_add-number : goal.overflow_add-number
+overflow_add-number g c = omega (
+  arith,
+  c.loop-number.invariant.below,
+  c.div_ceil-needed.ensures,
+  c.requires.few,
+)
+
+pub loop-number-smaller : goal.loop-number-smaller
+loop-number-smaller g c = omega (arith, c.loop-number.invariant.below)

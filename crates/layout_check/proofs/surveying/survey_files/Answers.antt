@@ -56,3 +56,12 @@ returns g c = record {
       ∙ ap (λ (xs : List Slot). length xs) (sym c.as_slice-slot-items.ensures.value));
   err = tt;
 }
+
+pub bounds-slot-items-number : goal.bounds-slot-items-number
+bounds-slot-items-number g c = c.loop-number-test.true
+
+pub overflow_cast-number : goal.overflow_cast-number
+overflow_cast-number g c = omega (arith, c.loop-number-test.true, c.as_slice-slot-items.ensures.fits)
+
+pub survey_entry-requires-clause-some : goal.survey_entry-requires-clause-some
+survey_entry-requires-clause-some g c = omega (arith, c.loop-number-test.true, c.as_slice-slot-items.ensures.fits)

@@ -90,3 +90,16 @@ returns-in_err-list_slots = failed.returns-in_err-list_slots
 
 pub returns-in_err-room : goal.returns-in_err-room
 returns-in_err-room = failed.returns-in_err-room
+
+pub list_slots-requires : goal.list_slots-requires
+list_slots-requires g c = record { sound = let (l, clean) = c.requires.clean in (l, clean.layout) }
+
+pub read_room-requires : goal.read_room-requires
+read_room-requires g c = record {
+  sound = let (l, clean) = c.requires.clean in
+      let P : Image → Type 0 = λ i. IsLayout i l in
+      (l, subst P (sym c.list_slots.ensures.reads.image) clean.layout);
+}
+
+pub padded_name-requires : goal.padded_name-requires
+padded_name-requires g c = c.requires.name

@@ -1,12 +1,20 @@
 -- How many whole records go into blocks, and where the last one ends.
-use Rattle.std.proofs.Common.{◌≡◌, ℕ, ◌+◌, ◌*◌, ◌/◌, ◌<◌, ◌≤◌, arith}
-use Rattle.std.proofs.Math.Nat.{div-mul-le_self, lt-div-mul-add}
+use Rattle.std.proofs.Common.{◌≡◌, ℕ, ◌+◌, ◌*◌, ◌/◌, ◌<◌, ◌≤◌, arith, subst, sym}
+use Rattle.std.proofs.Math.Nat.{div-le_self, div-mul-le_self, lt-div-mul-add}
 use Rattle.std.proofs.lemmas.Nat.{le-div}
 use Rattle.rel_records.specs.growth.Growth.{full}
 
 -- the whole records end within the blocks
 pub full-inside : (L n : ℕ) → full L n * L ≤ 254 * n
 full-inside L n = div-mul-le_self (254 * n) L
+
+-- the same of their number under another name
+pub records-inside : (L n records : ℕ) → records ≡ full L n → records * L ≤ 254 * n
+records-inside L n records e = subst (λ r. r * L ≤ 254 * n) (sym e) (full-inside L n)
+
+-- no more records than bytes
+pub records-few : (L n records : ℕ) → records ≡ full L n → records ≤ 254 * n
+records-few L n records e = subst (λ r. r ≤ 254 * n) (sym e) (div-le_self (254 * n) L)
 
 -- and past the last but one
 pub full-last : (L n : ℕ) → 0 < L → L ≤ 254 → 254 * n < full L (n + 1) * L + 1

@@ -66,3 +66,9 @@ pub returns-clause-next : goal.returns-clause-next
 returns-clause-next g c = c.new.ensures.value
     ∙ patched-next c.args.start c.args.end c.args.text.now _ _ _ c.requires.order c.requires.inside c.read.array_long
     (c.patch.ensures) c.in_ok-read.ensures.ok
+
+pub read-requires : goal.read-requires
+read-requires g c κs = λ h. h
+
+pub write-requires : goal.write-requires
+write-requires g c κs = λ h. h

@@ -77,3 +77,15 @@ write_across-requires-clause-inside = twoBlocks.write_across-requires-clause-ins
 
 pub write_across-requires-clause-over : goal.write_across-requires-clause-over
 write_across-requires-clause-over = twoBlocks.write_across-requires-clause-over
+
+pub overflow_mul-start : goal.overflow_mul-start
+overflow_mul-start g c =
+    let fits = there-fits (g.D.Sectors.history.image c.args.disk.now) c.args.file.now c.args.number c.requires.of
+    (g.D.Sectors.history.whole c.args.disk.now) c.requires.low c.requires.high in
+    omega (arith, fits, c.args.file.now.few, one-more c.args.number (length_of c.args.file.now) c.requires.low)
+
+pub overflow_mul-end : goal.overflow_mul-end
+overflow_mul-end g c =
+    let fits = there-fits (g.D.Sectors.history.image c.args.disk.now) c.args.file.now c.args.number c.requires.of
+    (g.D.Sectors.history.whole c.args.disk.now) c.requires.low c.requires.high in
+    omega (arith, fits, c.args.file.now.few)

@@ -1,4 +1,5 @@
 -- Sector by sector.
+use Rattle.rel_records.proofs.lemmas.Told.{none-done, tells-failed}
 use Rattle.std.proofs.Common.{ap, arith, length, refl, subst, ◌∙◌, ◌≡◌}
 use borrow.Author.Count.{below_more}
 use Rattle.std.proofs.lemmas.Option.{slice_get_read}
@@ -95,3 +96,25 @@ returns-clause-before g c =
     let few = c.requires in
     slice_get_read c.args.places.now (length c.args.places.now) _ c.index-places-before-2.result refl
     (omega (arith, few)) c.index-places-before-2.is
+
+pub read-requires : goal.read-requires
+read-requires g c κs = λ h. h
+
+pub returns-in_err-read-clause-failures : goal.returns-in_err-read-clause-failures
+returns-in_err-read-clause-failures g c = tells-failed g.D.Sectors.history _ _ _
+    c.loop-before.invariant.failures c.from_residual.result _ c.from_residual.ensures.1 c.in_err-read.ensures.failures
+
+pub returns-in_err-read-clause-bytes : goal.returns-in_err-read-clause-bytes
+returns-in_err-read-clause-bytes g c = none-done c.from_residual.result _ c.from_residual.ensures.1 _
+
+pub returns-in_err-read-clause-ok : goal.returns-in_err-read-clause-ok
+returns-in_err-read-clause-ok g c = none-done c.from_residual.result _ c.from_residual.ensures.1 _
+
+pub returns-in_err-read-clause-before : goal.returns-in_err-read-clause-before
+returns-in_err-read-clause-before g c = none-done c.from_residual.result _ c.from_residual.ensures.1 _
+
+pub returns-in-Some-clause-failures : goal.returns-in-Some-clause-failures
+returns-in-Some-clause-failures g c = c.in_ok-read.ensures.failures ∙ c.loop-before.invariant.failures
+
+pub returns-clause-failures : goal.returns-clause-failures
+returns-clause-failures g c = c.loop-before.invariant.failures

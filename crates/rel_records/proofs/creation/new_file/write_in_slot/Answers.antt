@@ -1,5 +1,5 @@
 -- The sectors, then the entry.
-use Rattle.std.proofs.Common.{arith, sym, subst, ◌∷◌}
+use Rattle.std.proofs.Common.{arith, refl, sym, subst, ◌∷◌}
 use Rattle.std.specs.Prelude.{Contains}
 use Rattle.std.proofs.lemmas.Result.{on_ok_weaker}
 use Rattle.d64_image.specs.Images.{Image}
@@ -9,7 +9,7 @@ use Rattle.disk_layout.specs.Layout.{owners}
 use Rattle.rel_records.proofs.lemmas.creation.InFreeSlot.{entry-moments, entry-more, sectors-moments}
 use Rattle.rel_records.proofs.lemmas.steps.Sided.{counted_once}
 use Rattle.rel_records.specs.creation.Site.{HasFileAt}
-use Rattle.rel_records.proofs.lemmas.Told.{not-done}
+use Rattle.rel_records.proofs.lemmas.Told.{not-done, tells-after, tells-failed}
 use Rattle.rel_records.proofs.creation.new_file.write_in_slot.Goals as goal
 
 pub write_sectors-requires-clause-apart : goal.write_sectors-requires-clause-apart
@@ -60,3 +60,17 @@ returns-in_err-write_sectors-clause-reads g c = omega (arith, c.in_err-write_sec
 
 pub returns-clause-reads : goal.returns-clause-reads
 returns-clause-reads g c = omega (arith, c.write.ensures.reads, c.in_ok-write_sectors.ensures.reads)
+
+pub returns-in_err-write_sectors-clause-failures : goal.returns-in_err-write_sectors-clause-failures
+returns-in_err-write_sectors-clause-failures g c = tells-failed g.D.Sectors.history _ _ _ refl
+    c.from_residual.result _ c.from_residual.ensures.1 c.in_err-write_sectors.ensures.failures
+
+pub returns-clause-failures : goal.returns-clause-failures
+returns-clause-failures g c = tells-after g.D.Sectors.history _ _ _ c.in_ok-write_sectors.ensures.failures
+    c.write.result c.write.ensures.failures
+
+pub write_sectors-requires-clause-size : goal.write_sectors-requires-clause-size
+write_sectors-requires-clause-size g c = c.requires.size
+
+pub write-requires : goal.write-requires
+write-requires g c κs = λ h. h

@@ -1,5 +1,5 @@
 -- The tail of the block before the last.
-use Rattle.std.proofs.Common.{ℕ, arith, refl, sym, ap, inl, inr, length, ◌≡◌, ◌≤◌, ◌<◌, ◌∙◌, ◌+◌, ◌-◌, ◌*◌}
+use Rattle.std.proofs.Common.{ℕ, arith, refl, sym, ap, inl, inr, length, ◌≡◌, ◌≤◌, ◌<◌, ◌∙◌, ◌+◌, ◌-◌, ◌*◌, lit<}
 use Rattle.std.specs.Prelude.{Some, if◌then◌else◌, nat_lt, slice_get}
 use Rattle.std.proofs.lemmas.Bool.{lt-ltb}
 use Rattle.std.proofs.lemmas.Result.{on_ok_weaker}
@@ -118,3 +118,12 @@ fill_tail-requires-clause-total g c = c.requires.total
 
 pub fill_tail-requires-clause-length : goal.fill_tail-requires-clause-length
 fill_tail-requires-clause-length g c = c.args.parts.now.size_low
+
+pub deref-requires : goal.deref-requires
+deref-requires g c = lit< tt
+
+pub read-requires : goal.read-requires
+read-requires g c κs = λ h. h
+
+pub write-requires : goal.write-requires
+write-requires g c κs = λ h. h

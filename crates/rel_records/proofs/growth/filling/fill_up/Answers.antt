@@ -1,5 +1,6 @@
 -- The block before the last, then the last.
 mod Filled
+use Rattle.rel_records.proofs.lemmas.filling.Fulls.{records-few}
 use Rattle.std.proofs.Common.{arith, refl, sym, ap, length, ◌≡◌, ◌∙◌, ◌*◌}
 use Rattle.d64_image.proofs.Moments.{no_change, changes_weaker}
 use Rattle.rel_records.proofs.lemmas.filling.BeforeLast.{filled-already, old-grows}
@@ -94,3 +95,29 @@ returns-in_err-fill_before-clause-reads g c = c.in_err-fill_before.ensures.reads
 
 pub returns-clause-reads : goal.returns-clause-reads
 returns-clause-reads g c = omega (arith, c.write.ensures.reads, c.in_ok-fill_before.ensures.reads)
+
+pub overflow_cast-count : goal.overflow_cast-count
+overflow_cast-count g c = omega (arith, c.len-count.ensures.value, c.requires.few)
+
+pub full_records-total-requires : goal.full_records-total-requires
+full_records-total-requires g c = c.args.parts.now.size_low
+
+pub fill_before-requires-clause-total : goal.fill_before-requires-clause-total
+fill_before-requires-clause-total g c = omega (
+  arith,
+  c.len-count.ensures.value,
+  c.requires.few,
+  records-few c.args.parts.now.size c.len-count.result c.full_records-total.result c.full_records-total.ensures,
+)
+
+pub fill_last-requires-clause-few : goal.fill_last-requires-clause-few
+fill_last-requires-clause-few g c = omega (arith, c.len-count.ensures.value, c.requires.few)
+
+pub fill_last-requires-clause-length : goal.fill_last-requires-clause-length
+fill_last-requires-clause-length g c = record {
+  low = c.args.parts.now.size_low;
+  high = c.args.parts.now.size_high;
+}
+
+pub write-requires : goal.write-requires
+write-requires g c κs = λ h. h

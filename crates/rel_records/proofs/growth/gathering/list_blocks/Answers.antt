@@ -26,3 +26,6 @@ pub returns : goal.returns
 returns c qs long named =
     all-listed c.args.blocks.now.items qs c.loop-number.blocks.items c.loop-number.number c.args.count
     (c.loop-number.invariant qs long named) long c.loop-number-test.false
+
+pub block-requires : goal.block-requires
+block-requires c = record { listed = omega (arith, c.loop-number-test.true, c.requires.few) }

@@ -1,5 +1,5 @@
 -- The places, the directory sector, the last block.
-use Rattle.std.proofs.Common.{arith, ap, ◌∙◌, refl, length}
+use Rattle.std.proofs.Common.{arith, ap, ◌∙◌, refl, length, lit<}
 use Rattle.d64_image.proofs.Moments.{reads_then, reads_weaker}
 use Rattle.d64_image.specs.Images.{sector}
 use Rattle.rel_records.proofs.growth.gathering.read_parts.Goals as goal
@@ -103,3 +103,19 @@ returns-in_err-read_places-clause-reads g c = reads_weaker g.D.Sectors.history _
 pub returns-clause-failures : goal.returns-clause-failures
 returns-clause-failures g c = c.in_ok-read-2.ensures.failures ∙ c.in_ok-read.ensures.failures
     ∙ c.in_ok-read_places.ensures.failures
+
+pub read_places-requires : goal.read_places-requires
+read_places-requires g c = record {
+  of = c.requires.of;
+  no_sides = c.new-sides.ensures;
+  no_blocks = c.new-blocks.ensures;
+}
+
+pub deref-requires : goal.deref-requires
+deref-requires g c = lit< tt
+
+pub read-requires : goal.read-requires
+read-requires g c κs = λ h. h
+
+pub read-requires-2 : goal.read-requires-2
+read-requires-2 g c κs = λ h. h

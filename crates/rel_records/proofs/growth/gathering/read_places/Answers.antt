@@ -92,3 +92,6 @@ list_blocks-requires-clause-named = listed.list_blocks-requires-clause-named
 
 pub loop-side-preserved : goal.loop-side-preserved
 loop-side-preserved = listed.loop-side-preserved
+
+pub read-requires : goal.read-requires
+read-requires g c κs = λ h. h

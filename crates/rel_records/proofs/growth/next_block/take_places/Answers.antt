@@ -1,5 +1,5 @@
 -- Where the side sectors are full, a second sector.
-use Rattle.std.proofs.Common.{arith, refl, ◌≡◌, ◌%◌, length, ap, sym, ◌∙◌}
+use Rattle.std.proofs.Common.{arith, refl, ◌≡◌, ◌%◌, length, ap, sym, ◌∙◌, lit<}
 use Rattle.rel_records.proofs.growth.next_block.take_places.Goals as goal
 use Rattle.rel_records.proofs.lemmas.steps.Taking.{places-side, places-block, taken-some, taken-two}
 
@@ -46,3 +46,6 @@ take_next-side-requires-clause-some c = omega (
 
 pub take_next-side-requires-clause-map : goal.take_next-side-requires-clause-map
 take_next-side-requires-clause-map c = let (owned, is) = c.requires.map in (_, c.take_next-fresh.ensures.owned owned is)
+
+pub push-requires : goal.push-requires
+push-requires c = (lit< tt, c.requires.few)

@@ -112,3 +112,9 @@ returns-in_err-write-clause-reads = failed.returns-in_err-write-clause-reads
 
 pub returns-in_err-write-2-clause-reads : goal.returns-in_err-write-2-clause-reads
 returns-in_err-write-2-clause-reads = failed.returns-in_err-write-2-clause-reads
+
+pub write-requires : goal.write-requires
+write-requires g c κs = λ h. h
+
+pub write-requires-2 : goal.write-requires-2
+write-requires-2 g c κs = λ h. h

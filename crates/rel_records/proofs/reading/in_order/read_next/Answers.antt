@@ -80,3 +80,12 @@ returns-then-not-has_records-clause-near g c kept =
 
 pub returns-clause-near : goal.returns-clause-near
 returns-clause-near g c kept = c.next_there.ensures.near kept
+
+pub next_there-requires-clause-of : goal.next_there-requires-clause-of
+next_there-requires-clause-of g c = c.requires.of
+
+pub next_there-requires-clause-kept : goal.next_there-requires-clause-kept
+next_there-requires-clause-kept g c = c.requires.kept
+
+pub next_there-requires-clause-low : goal.next_there-requires-clause-low
+next_there-requires-clause-low g c = omega (arith, c.if-number-eq0.false)
