@@ -1,11 +1,12 @@
 -- A turn visits one more sector; where the walk stops, the sectors visited are all that the links come to.
-use Rattle.std.proofs.Common.{sym, subst, ◌∙◌, ◌<◌, ℕ, arith, inl, inr, length, lit<, refl}
+use Rattle.std.proofs.Common.{sym, subst, ◌∙◌, ℕ, inl, inr, length, lit<, refl}
 use Rattle.std.proofs.lemmas.Bool.{false≢true}
 use Rattle.std.proofs.lemmas.Result.{err_from_is_err_and}
 use Rattle.std.specs.Prelude.{Err}
 use Rattle.d64_image.proofs.Places.{place_at-some}
 use Rattle.d64_image.proofs.Moments.{failed_later, reads_then}
 use Rattle.disk_layout.proofs.lemmas.chains.Chains.{Leads-push}
+use Rattle.disk_layout.proofs.lemmas.chains.Counting.{in_list, less_room, one_visited, still_few, visited_all}
 use Rattle.disk_layout.proofs.lemmas.lists.Once.{EachOnce-push}
 use Rattle.disk_layout.proofs.lemmas.chains.Walks.{not_in, IsSetOf-push, link-read, end-read, nowhere-read}
 use Rattle.disk_layout.proofs.lemmas.chains.AsFar.{walk-stops}
@@ -20,11 +21,10 @@ insert-requires g c = record { free = c.walk.invariant.fresh }
 
 pub push-requires : goal.push-requires
 push-requires g c =
-    let h : length c.walk.places.items < 720 = omega (arith, c.walk.invariant.count) in
-    (lit< tt, h)
+    (lit< tt, in_list _ _ c.walk.invariant.count)
 
 pub walk-smaller : goal.walk-smaller
-walk-smaller g c = omega (arith, c.insert.ensures.room)
+walk-smaller g c = less_room _ _ c.insert.ensures.room
 
 pub returns-in_err-read_sector : goal.returns-in_err-read_sector
 returns-in_err-read_sector g c =
@@ -38,8 +38,8 @@ returns-in_err-read_sector g c =
           rw (p.1, p.2) (subst P (sym c.in_err-read_sector.ensures.told) (failed_later S c.args.disk.now c.walk.disk
           c.read_sector.new.disk c.walk.invariant.failures c.in_err-read_sector.ensures.failures));
       reads = reads_then S _ _ _ (length c.walk.places.items) 1 (length c.push.new.self.items)
-          (omega (arith, c.push.ensures.len)) c.walk.invariant.reads c.read_sector.ensures.reads;
-      few = omega (arith, c.push.ensures.len, c.insert.ensures.room, c.walk.invariant.count);
+          (one_visited _ _ c.push.ensures.len) c.walk.invariant.reads c.read_sector.ensures.reads;
+      few = still_few _ _ _ _ c.walk.invariant.count c.push.ensures.len c.insert.ensures.room;
     }
 
 pub returns-then-sector-eq0 : goal.returns-then-sector-eq0
@@ -52,8 +52,8 @@ returns-then-sector-eq0 g c = record {
   fault = tt;
   failures = c.in_ok-read_sector.ensures.failures ∙ c.walk.invariant.failures;
   reads = reads_then g.D.Sectors.history _ _ _ (length c.walk.places.items) 1 (length c.push.new.self.items)
-      (omega (arith, c.push.ensures.len)) c.walk.invariant.reads c.read_sector.ensures.reads;
-  few = omega (arith, c.push.ensures.len, c.insert.ensures.room, c.walk.invariant.count);
+      (one_visited _ _ c.push.ensures.len) c.walk.invariant.reads c.read_sector.ensures.reads;
+  few = still_few _ _ _ _ c.walk.invariant.count c.push.ensures.len c.insert.ensures.room;
 }
 
 pub returns-in_default : goal.returns-in_default
@@ -70,8 +70,8 @@ returns-in_default g c = record {
   fault = tt;
   failures = c.in_ok-read_sector.ensures.failures ∙ c.walk.invariant.failures;
   reads = reads_then g.D.Sectors.history _ _ _ (length c.walk.places.items) 1 (length c.push.new.self.items)
-      (omega (arith, c.push.ensures.len)) c.walk.invariant.reads c.read_sector.ensures.reads;
-  few = omega (arith, c.push.ensures.len, c.insert.ensures.room, c.walk.invariant.count);
+      (one_visited _ _ c.push.ensures.len) c.walk.invariant.reads c.read_sector.ensures.reads;
+  few = still_few _ _ _ _ c.walk.invariant.count c.push.ensures.len c.insert.ensures.room;
 }
 
 pub returns-then-contains : goal.returns-then-contains
@@ -87,8 +87,8 @@ returns-then-contains g c = record {
   fault = tt;
   failures = c.in_ok-read_sector.ensures.failures ∙ c.walk.invariant.failures;
   reads = reads_then g.D.Sectors.history _ _ _ (length c.walk.places.items) 1 (length c.push.new.self.items)
-      (omega (arith, c.push.ensures.len)) c.walk.invariant.reads c.read_sector.ensures.reads;
-  few = omega (arith, c.push.ensures.len, c.insert.ensures.room, c.walk.invariant.count);
+      (one_visited _ _ c.push.ensures.len) c.walk.invariant.reads c.read_sector.ensures.reads;
+  few = still_few _ _ _ _ c.walk.invariant.count c.push.ensures.len c.insert.ensures.room;
 }
 
 pub walk-preserved : goal.walk-preserved
@@ -104,8 +104,9 @@ walk-preserved g c =
       fresh = sym c.contains.ensures ∙ c.if-contains.false;
       marks = rw c.push.ensures.items (IsSetOf-push c.walk.visited c.insert.new.self _ _ old.marks
           c.insert.ensures.now);
-      count = omega (arith, c.push.ensures.len, c.insert.ensures.room, old.count);
+      count = visited_all _ (length c.push.new.self.items) _ _ c.walk.invariant.count c.push.ensures.len
+          c.insert.ensures.room;
       reads = reads_then S _ _ _ (length c.walk.places.items) 1 (length c.push.new.self.items)
-          (omega (arith, c.push.ensures.len)) old.reads c.read_sector.ensures.reads;
+          (one_visited _ _ c.push.ensures.len) old.reads c.read_sector.ensures.reads;
       failures = c.in_ok-read_sector.ensures.failures ∙ old.failures;
     }
