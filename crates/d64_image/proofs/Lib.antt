@@ -1,7 +1,10 @@
+pub mod Counting
 pub mod Examples
 pub mod FileRuns
+pub mod FuseCalls
 pub mod Fused
 pub mod Images
+pub mod MirrorCalls
 pub mod Moments
 pub mod Offsets
 pub mod Places

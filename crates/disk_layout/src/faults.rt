@@ -1,6 +1,6 @@
 //! What can be wrong with the layout of a disk, and where.
-ghost use Rattle.std.specs.Prelude.{◌≡◌, Some};
-ghost use Rattle.disk_layout.specs.Texts.{fault_text};
+ghost use Rattle.std.specs.Prelude.{◌≡◌, ◌++◌, Some, codes};
+ghost use Rattle.disk_layout.specs.Texts.{fault_text, place_text};
 
 use d64_image::Place;
 use std::error::Error;
@@ -53,14 +53,12 @@ impl Fault {
             Fault::Device(_) => 10,
         }
     }
-}
 
-/// Its word and its place, as `LOOP 17/0`.
-impl Display for Fault {
-    ghost output = { λ fault. Some (fault_text fault) };
-
-    fn fmt<W: fmt::Write>(&self, f: &mut Formatter<W>) -> fmt::Result {
-        let (word, place) = match *self {
+    /// Its word, as it is printed, and its place.
+    fn word_and_place(self) -> (&'static str, Place)
+        ensures { fault_text self ≡ result.0.now ++ codes " " ++ place_text result.1 }
+    {
+        match self {
             Fault::BadLink(place) => ("BADLINK", place),
             Fault::Loop(place) => ("LOOP", place),
             Fault::OwnedTwice(place) => ("OWNEDTWICE", place),
@@ -71,7 +69,16 @@ impl Display for Fault {
             Fault::CountWrong(place) => ("COUNTWRONG", place),
             Fault::MapWrong(place) => ("MAPWRONG", place),
             Fault::Device(place) => ("DEVICE", place),
-        };
+        }
+    }
+}
+
+/// Its word and its place, as `LOOP 17/0`.
+impl Display for Fault {
+    ghost output = { λ fault. Some (fault_text fault) };
+
+    fn fmt<W: fmt::Write>(&self, f: &mut Formatter<W>) -> fmt::Result {
+        let (word, place) = self.word_and_place();
         write!(f, "{word} {}/{}", place.track(), place.sector())
     }
 }

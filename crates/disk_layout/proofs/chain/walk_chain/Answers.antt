@@ -1,10 +1,11 @@
 -- A turn visits one more sector; where the walk ends, the sectors visited are the chain, or show the fault.
-use Rattle.std.proofs.Common.{sym, subst, ◌∙◌, ◌<◌, arith, length, lit<}
+use Rattle.std.proofs.Common.{sym, subst, ◌∙◌, length, lit<}
 use Rattle.std.proofs.lemmas.Bool.{false≢true}
 use Rattle.std.proofs.lemmas.Result.{err_from_is_err_and}
 use Rattle.d64_image.proofs.Places.{place_at-some}
 use Rattle.d64_image.proofs.Moments.{failed_later, reads_then}
 use Rattle.disk_layout.proofs.lemmas.chains.Chains.{Leads-push}
+use Rattle.disk_layout.proofs.lemmas.chains.Counting.{few, in_list, less_room, one_visited, still_few, visited_all}
 use Rattle.disk_layout.proofs.lemmas.chains.Walks.{not_in, IsSetOf-push, walk-end, link-read, end-read, nowhere-read}
 use Rattle.disk_layout.proofs.lemmas.lists.Once.{EachOnce-push}
 use Rattle.disk_layout.specs.Fault.{HoldsOfChain, TellsFault}
@@ -27,7 +28,7 @@ returns-then-contains g c = record {
   );
   failures = c.chain.invariant.failures;
   reads = c.chain.invariant.reads;
-  few = omega (arith, c.chain.invariant.count);
+  few = few _ _ c.chain.invariant.count;
 }
 
 -- the next one
@@ -36,8 +37,7 @@ insert-requires g c = record { free = sym c.contains.ensures ∙ c.if-contains.f
 
 pub push-requires : goal.push-requires
 push-requires g c =
-    let h : length c.chain.places.items < 720 = omega (arith, c.chain.invariant.count) in
-    (lit< tt, h)
+    (lit< tt, in_list _ _ c.chain.invariant.count)
 
 pub returns-in_err-read_sector : goal.returns-in_err-read_sector
 returns-in_err-read_sector g c =
@@ -52,12 +52,12 @@ returns-in_err-read_sector g c =
           rw (p.1, p.2) (subst P (sym c.in_err-read_sector.ensures.told) (failed_later S c.args.disk.now c.chain.disk
           c.read_sector.new.disk c.chain.invariant.failures c.in_err-read_sector.ensures.failures));
       reads = reads_then S _ _ _ (length c.chain.places.items) 1 (length c.push.new.self.items)
-          (omega (arith, c.push.ensures.len)) c.chain.invariant.reads c.read_sector.ensures.reads;
-      few = omega (arith, c.push.ensures.len, c.insert.ensures.room, c.chain.invariant.count);
+          (one_visited _ _ c.push.ensures.len) c.chain.invariant.reads c.read_sector.ensures.reads;
+      few = still_few _ _ _ _ c.chain.invariant.count c.push.ensures.len c.insert.ensures.room;
     }
 
 pub chain-smaller : goal.chain-smaller
-chain-smaller g c = omega (arith, c.insert.ensures.room)
+chain-smaller g c = less_room _ _ c.insert.ensures.room
 
 pub chain-preserved : goal.chain-preserved
 chain-preserved g c =
@@ -72,9 +72,10 @@ chain-preserved g c =
           ∙ c.if-contains.false)));
       marks = rw c.push.ensures.items (IsSetOf-push c.chain.visited c.insert.new.self _ _ old.marks
           c.insert.ensures.now);
-      count = omega (arith, c.push.ensures.len, c.insert.ensures.room, old.count);
+      count = visited_all _ (length c.push.new.self.items) _ _ c.chain.invariant.count c.push.ensures.len
+          c.insert.ensures.room;
       reads = reads_then S _ _ _ (length c.chain.places.items) 1 (length c.push.new.self.items)
-          (omega (arith, c.push.ensures.len)) old.reads c.read_sector.ensures.reads;
+          (one_visited _ _ c.push.ensures.len) old.reads c.read_sector.ensures.reads;
       failures = c.in_ok-read_sector.ensures.failures ∙ old.failures;
     }
 
@@ -88,8 +89,8 @@ returns-then-sector-eq0 g c = record {
   fault = tt;
   failures = c.in_ok-read_sector.ensures.failures ∙ c.chain.invariant.failures;
   reads = reads_then g.D.Sectors.history _ _ _ (length c.chain.places.items) 1 (length c.push.new.self.items)
-      (omega (arith, c.push.ensures.len)) c.chain.invariant.reads c.read_sector.ensures.reads;
-  few = omega (arith, c.push.ensures.len, c.insert.ensures.room, c.chain.invariant.count);
+      (one_visited _ _ c.push.ensures.len) c.chain.invariant.reads c.read_sector.ensures.reads;
+  few = still_few _ _ _ _ c.chain.invariant.count c.push.ensures.len c.insert.ensures.room;
 }
 
 pub returns-in-None : goal.returns-in-None
@@ -107,6 +108,6 @@ returns-in-None g c = record {
   );
   failures = c.in_ok-read_sector.ensures.failures ∙ c.chain.invariant.failures;
   reads = reads_then g.D.Sectors.history _ _ _ (length c.chain.places.items) 1 (length c.push.new.self.items)
-      (omega (arith, c.push.ensures.len)) c.chain.invariant.reads c.read_sector.ensures.reads;
-  few = omega (arith, c.push.ensures.len, c.insert.ensures.room, c.chain.invariant.count);
+      (one_visited _ _ c.push.ensures.len) c.chain.invariant.reads c.read_sector.ensures.reads;
+  few = still_few _ _ _ _ c.chain.invariant.count c.push.ensures.len c.insert.ensures.room;
 }

@@ -1,10 +1,13 @@
 -- One bit of the map turned over, and its track's count replaced.
 use Rattle.std.proofs.Common.{
+  IsTrue,
   List,
   ap,
   arith,
+  bit_and,
   bit_xor,
   drop,
+  eqb,
   get_or,
   get_or-set_other,
   get_or-set_same,
@@ -22,6 +25,7 @@ use Rattle.std.proofs.Common.{
   ◌+◌,
   ◌-◌,
   ◌<◌,
+  ◌↔◌,
   ◌∙◌,
   ◌≡◌,
   ◌≢◌,
@@ -29,7 +33,8 @@ use Rattle.std.proofs.Common.{
   ◌⊎◌,
   min,
 }
-use Rattle.std.proofs.lemmas.Bool.{cases_eq}
+use lib.Bits.{and_mask}
+use Rattle.std.proofs.lemmas.Bool.{cases_eq, eq-eqb, eqb-true}
 use Rattle.std.proofs.lemmas.Grind.{same_number_lists}
 use Rattle.std.proofs.lemmas.List.{get_or-drop, get_or-take, length-drop, length-set, length-take}
 use Rattle.std.proofs.lemmas.Nat.Bits.{bit_at-lt, bit_at-pow_other, bit_at-pow_same, bit_at_xor}
@@ -38,6 +43,21 @@ use Rattle.std.specs.Prelude.{◌^◌, ◌%◌, ◌/◌}
 use Rattle.d64_image.proofs.Places.{track_fits, track_from_1, few_sectors}
 use Rattle.d64_image.specs.declared.place.Place.{Place}
 use Rattle.disk_layout.specs.Map.{IsFree, IsGiven, IsSameBut, IsTaken, map_bit, map_count}
+
+-- the bytes of a place's track are in the sector
+pub count-inside : (p : Place) (t : ℕ) → t ≡ p.track → 4 * t < 256
+count-inside p t same = omega (arith, same, track_fits p)
+
+pub bits-inside : (p : Place) (t s : ℕ) → t ≡ p.track → s ≡ p.sector → 4 * t + 1 + s / 8 < 256
+bits-inside p t s track sector = omega (arith, track, sector, track_fits p, p.on_disk, few_sectors p.track)
+
+-- `(byte >> k) & 1 == 1`
+pub free-bit : (x : List ℕ) (p : Place) (t s : ℕ) → t ≡ p.track → s ≡ p.sector
+    → (IsTrue (eqb (bit_and (get_or x (4 * t + 1 + s / 8) 0 / 2 ^ (s % 8)) 1) 1)) ↔ IsFree x p
+free-bit x p t s track sector =
+    let byte = get_or x (4 * p.track + 1 + p.sector / 8) 0 in
+    let lowest = and_mask (byte / 2 ^ (p.sector % 8)) 1 in
+    rw (track, sector) (λ e. sym lowest ∙ eqb-true _ _ e, λ free. eq-eqb _ _ (lowest ∙ free))
 
 -- `1 << k` at eight bits
 pow-small : (k : ℕ) → k < 8 → 1 * 2 ^ k % 256 ≡ 2 ^ k

@@ -29,11 +29,11 @@ use Rattle.std.specs.Prelude.{MatchOption}
 use Rattle.std.proofs.lemmas.Nat.{div-mul-add, mod-mul-add}
 use Rattle.std.proofs.lemmas.Nat.Bits.{bit_at-trailing_zeros}
 use Rattle.std.proofs.lemmas.Bool.{cases_lt}
-use Rattle.d64_image.proofs.Places.{place_at-found, place_at-none, place_at-some}
+use Rattle.d64_image.proofs.Places.{place_at-found, place_at-none, place_at-some, track_fits, track_from_1}
 use Rattle.d64_image.specs.Geometry.{sectors_on}
 use Rattle.d64_image.specs.Places.{place_at}
 use Rattle.d64_image.specs.declared.place.Place.{Place}
-use Rattle.disk_layout.specs.Map.{IsFirstOn, IsFree, IsFullTrack, distance, map_bit}
+use Rattle.disk_layout.specs.Map.{IsFirstFree, IsFirstOn, IsFree, IsFullDisk, IsFullTrack, distance, map_bit}
 
 -- no sector of the track below this one is free
 abbrev pub NoneBelow : List ℕ → ℕ → ℕ → Type 0
@@ -101,3 +101,43 @@ first_in bytes t k r some fits is below =
 -- no sector nearer to track 18 than this is free, track 18 left out
 abbrev pub NoneNearer : List ℕ → ℕ → Type 0
 NoneNearer bytes d = (q : Place) → q.track ≢ 18 → distance q.track < d → ¬ (IsFree bytes q)
+
+-- the search at a distance: first on the lower track, then on the higher one
+pub first-lower : (bytes : List ℕ) (d : ℕ) (p : Place) → 1 ≤ d → d < 18 → NoneNearer bytes d
+    → IsFirstOn bytes (18 - d) p → IsFirstFree bytes p
+first-lower bytes d p some low nearer on = record {
+  track = omega (arith, some, on.track);
+  free = on.free;
+  first = λ q off before. elim before [
+    | inl near ↦ nearer q off (omega (arith, near, on.track))
+    | inr (same, inl left) ↦ absurd (omega (arith, some, low, same, left, on.track))
+    | inr (same, inr (here, less)) ↦ on.first q (here ∙ on.track) less
+  ];
+}
+
+pub first-higher : (bytes : List ℕ) (d : ℕ) (p : Place) → 1 ≤ d → d < 18 → NoneNearer bytes d
+    → IsFullTrack bytes (18 - d) → IsFirstOn bytes (18 + d) p → IsFirstFree bytes p
+first-higher bytes d p some low nearer full on = record {
+  track = omega (arith, some, on.track);
+  free = on.free;
+  first = λ q off before. elim before [
+    | inl near ↦ nearer q off (omega (arith, near, on.track))
+    | inr (same, inl left) ↦ full q (omega (arith, low, same, left, on.track))
+    | inr (same, inr (here, less)) ↦ on.first q (here ∙ on.track) less
+  ];
+}
+
+-- no sector is free at this distance either
+pub none-there : (bytes : List ℕ) (d : ℕ) → NoneNearer bytes d → IsFullTrack bytes (18 - d) → IsFullTrack bytes (18 + d)
+    → NoneNearer bytes (d + 1)
+none-there bytes d nearer lower higher q off lt = elim (cases_lt (distance q.track) d) [
+  | inl near ↦ nearer q off near
+  | inr far ↦ elim (cases_lt q.track 18) [
+    | inl left ↦ lower q (omega (arith, lt, far, left))
+    | inr right ↦ higher q (omega (arith, lt, far, right))
+  ]
+]
+
+-- no track is at distance 18 or more
+pub none-anywhere : (bytes : List ℕ) (d : ℕ) → 18 ≤ d → NoneNearer bytes d → IsFullDisk bytes
+none-anywhere bytes d far nearer q off = nearer q off (omega (arith, far, track_fits q, track_from_1 q))

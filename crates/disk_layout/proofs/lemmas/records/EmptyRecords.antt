@@ -16,6 +16,9 @@ use Rattle.std.proofs.Common.{
   length,
   take,
   drop,
+  get_or-set_other,
+  get_or-set_same,
+  set,
   slice_index,
   sym,
   ◌∙◌,
@@ -165,3 +168,27 @@ module _ {at first L total begin end : ℕ} {filled new : Sector} (b : IsBegun a
           ]
       | inr ne ↦ begun-between j low lt ne
     ]
+
+-- one more record is begun: the byte of each so far, and all other bytes
+pub begun-more : (x : Sector) (at size begin n : ℕ) → 2 + (n * size - at) < length x
+    → ((r : ℕ) → begin ≤ r → r < n → slice_index x (2 + (r * size - at)) ≡ 255)
+    → (r : ℕ) → begin ≤ r → r < n + 1 → slice_index (set x (2 + (n * size - at)) 255) (2 + (r * size - at)) ≡ 255
+begun-more x at size begin n inside begun r low lt = elim (cases_eq (2 + (r * size - at)) (2 + (n * size - at))) [
+  | inl here ↦ rw here (get_or-set_same x (2 + (n * size - at)) 255 0 inside)
+  | inr other ↦
+      let less : r < n = elim (cases_lt r n) [
+        | inl below ↦ below
+        | inr above ↦
+            let e : r ≡ n = omega (arith, lt, above) in
+            absurd (other (ap (λ k. 2 + (k * size - at)) e))
+      ] in
+      get_or-set_other x (2 + (n * size - at)) (2 + (r * size - at)) 255 0 other ∙ begun r low less
+]
+
+pub rest-more : (old x : Sector) (at size begin n : ℕ) → begin ≤ n
+    → ((k : ℕ) → ((r : ℕ) → begin ≤ r → r < n → k ≢ 2 + (r * size - at)) → slice_index x k ≡ slice_index old k)
+    → (k : ℕ) → ((r : ℕ) → begin ≤ r → r < n + 1 → k ≢ 2 + (r * size - at))
+    → slice_index (set x (2 + (n * size - at)) 255) k ≡ slice_index old k
+rest-more old x at size begin n low rest k other =
+    get_or-set_other x (2 + (n * size - at)) k 255 0 (other n low (omega arith))
+    ∙ rest k (λ r from lt. other r from (omega (arith, lt)))
