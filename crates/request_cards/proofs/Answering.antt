@@ -1,4 +1,4 @@
--- The texts of answers, words and replies that were written from their ends.
+-- The texts of answers and replies that were written from their ends.
 use Rattle.std.proofs.Common.{◌≡◌, ℕ, List, ◌∷◌, ◌++◌, ap, ap₂, sym, ◌∙◌, append_assoc}
 use Rattle.std.specs.Prelude.{codes, decimal}
 use Rattle.request_cards.specs.declared.answer.Answer.{Answer}
@@ -22,11 +22,7 @@ moved_text answer h g whole comma number rest is first between second =
     (first ∙ ap (λ (xs : List ℕ). codes "DONE," ++ (decimal h ++ xs)) (between ∙ ap (λ (xs : List ℕ). 44 ∷ xs) second)
     ∙ ap (λ (xs : List ℕ). codes "DONE," ++ xs) (sym (append_assoc (decimal h) (44 ∷ decimal g) rest)))
 
--- the same of a word, and of a reply
-pub word_of : (word this : Word) (whole rest : List ℕ) → word ≡ this → whole ≡ word_text this ++ rest
-    → whole ≡ word_text word ++ rest
-word_of word this whole rest is e = e ∙ ap (λ w. word_text w ++ rest) (sym is)
-
+-- the same of a reply
 pub reply_of : (reply this : Reply) (whole rest : List ℕ) → reply ≡ this → whole ≡ reply_text this ++ rest
     → whole ≡ reply_text reply ++ rest
 reply_of reply this whole rest is e = e ∙ ap (λ r. reply_text r ++ rest) (sym is)

@@ -19,21 +19,3 @@ returns c =
       drop-set room (at + 1) _ (omega arith),
       e,
     )
-
-pub overflow_mul-from : goal.overflow_mul-from
-overflow_mul-from c = omega arith
-
-pub bounds-from : goal.bounds-from
-bounds-from c = omega arith
-
-pub overflow_add-ones : goal.overflow_add-ones
-overflow_add-ones c = omega arith
-
-pub bounds-from-2 : goal.bounds-from-2
-bounds-from-2 c = omega arith
-
-pub bounds-room-at : goal.bounds-room-at
-bounds-room-at c = omega arith
-
-pub overflow_add-room : goal.overflow_add-room
-overflow_add-room c = omega arith

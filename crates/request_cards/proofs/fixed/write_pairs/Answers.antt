@@ -23,27 +23,3 @@ returns-clause-written c =
           ∙ fixed_even _ c.args.width c.loop-i.i c.loop-i.rest c.args.end c.loop-i.room c.loop-i.invariant.1
           (omega arith)
     ]
-
-pub overflow_mul-i : goal.overflow_mul-i
-overflow_mul-i c = omega arith
-
-pub overflow_sub-end : goal.overflow_sub-end
-overflow_sub-end c = omega arith
-
-pub overflow_sub-end-in-loop-i : goal.overflow_sub-end-in-loop-i
-overflow_sub-end-in-loop-i c = omega arith
-
-pub write_pair-requires : goal.write_pair-requires
-write_pair-requires c = omega arith
-
-pub overflow_sub-room : goal.overflow_sub-room
-overflow_sub-room c = omega arith
-
-pub bounds-room-end : goal.bounds-room-end
-bounds-room-end c = omega arith
-
-pub overflow_sub-result : goal.overflow_sub-result
-overflow_sub-result c = omega arith
-
-pub returns-clause-start : goal.returns-clause-start
-returns-clause-start c = omega arith

@@ -1,5 +1,4 @@
 -- The entry that is written is its fields, the item to go to and its quantity.
-use Rattle.std.proofs.Common.{arith}
 use Rattle.std.proofs.Common.{rules, ◌≡◌}
 use Rattle.request_cards.specs.CardTexts.{answer_to_quantity}
 use Rattle.request_cards.proofs.Entries.{entry_written}
@@ -11,12 +10,3 @@ returns-clause-written c =
     let second : c.quantities-to_quantity.result.1 ≡ answer_to_quantity c.args.self.now.answer = search rules in
     entry_written c.args.pending c.args.self.now _ _ _ _ _ to second c.write_fields.ensures.written
     c.write_end-start.ensures.written
-
-pub write_end-start-requires : goal.write_end-start-requires
-write_end-start-requires c = omega arith
-
-pub write_fields-requires : goal.write_fields-requires
-write_fields-requires c = omega arith
-
-pub returns-clause-start : goal.returns-clause-start
-returns-clause-start c = omega arith

@@ -1,5 +1,5 @@
 -- What was written is the fields of the entry.
-use Rattle.std.proofs.Common.{◌≡◌, [], ◌∷◌, ap, sym, ◌∙◌, arith}
+use Rattle.std.proofs.Common.{◌≡◌, [], ◌∷◌, ap, sym, ◌∙◌}
 use Rattle.request_cards.specs.CardTexts.{state_text}
 use Rattle.request_cards.specs.Texts.{kind_text}
 use Rattle.request_cards.proofs.Written.{answered_letter, fields_written, open_letter}
@@ -21,27 +21,3 @@ returns-clause-written c =
     (c.from.ensures ∙ c.item.ensures) c.write_fixed_field-start-3.ensures.written letter
     c.write_before-start.ensures.written
     c.write_fixed_field-start-4.ensures.written state c.write_before.ensures.written
-
-pub write_fixed-start-requires : goal.write_fixed-start-requires
-write_fixed-start-requires c = (omega arith, omega arith)
-
-pub write_fixed_field-start-requires : goal.write_fixed_field-start-requires
-write_fixed_field-start-requires c = (omega arith, omega arith)
-
-pub write_fixed_field-start-requires-2 : goal.write_fixed_field-start-requires-2
-write_fixed_field-start-requires-2 c = (omega arith, omega arith)
-
-pub write_fixed_field-start-requires-3 : goal.write_fixed_field-start-requires-3
-write_fixed_field-start-requires-3 c = (omega arith, omega arith)
-
-pub write_before-start-requires : goal.write_before-start-requires
-write_before-start-requires c = (omega arith, omega arith)
-
-pub write_fixed_field-start-requires-4 : goal.write_fixed_field-start-requires-4
-write_fixed_field-start-requires-4 c = (omega arith, omega arith)
-
-pub write_before-requires : goal.write_before-requires
-write_before-requires c = (omega arith, omega arith)
-
-pub returns-clause-start : goal.returns-clause-start
-returns-clause-start c = omega arith

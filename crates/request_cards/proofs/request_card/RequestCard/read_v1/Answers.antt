@@ -1,11 +1,10 @@
 -- A version 1 card is read exactly where its parts stand.
-use Rattle.std.proofs.Common.{arith}
 use Rattle.std.proofs.Common.{◌≡◌, [], sym, ◌∙◌, subst, refl, false, true, append-nil}
 use Rattle.std.specs.Prelude.{replicate}
 use Rattle.request_cards.specs.CardTexts.{IsCard, IsCardText}
 use Rattle.request_cards.proofs.CardReading.{old_same}
 use Rattle.request_cards.proofs.Cards.{old_card_cut, old_whole}
-use Rattle.request_cards.proofs.Widths.{both_then, none_then, nothing_here}
+use Rattle.request_cards.proofs.Widths.{both_then, none_then}
 use Rattle.request_cards.proofs.request_card.RequestCard.read_v1.Goals as goal
 
 pub returns-then-not-zeros_at-clause-none : goal.returns-then-not-zeros_at-clause-none
@@ -27,9 +26,3 @@ returns-clause-none c = none_then c.made.result _ _ c.made.ensures.none (λ out 
     let same = old_same c.args.bytes.now c.in_ok-pending.pending c.in_ok-pending.newest c.in_ok-pending.ensures.found
     c.in_ok-pending.ensures.range c.in_ok-pending.ensures.plain card m one in
     out (subst IsCard (sym same) m.0))
-
-pub returns-in_err-pending-clause-found : goal.returns-in_err-pending-clause-found
-returns-in_err-pending-clause-found c = nothing_here c.from_residual.result _ c.from_residual.ensures
-
-pub zeros_at-requires : goal.zeros_at-requires
-zeros_at-requires c = omega arith
