@@ -1,7 +1,7 @@
 -- Bytes and their texts: one text for each list of bytes.
 use Rattle.std.proofs.Common.{◌≡◌, ◌≢◌, ◌<◌, ◌≤◌, ◌+◌, ◌-◌, ◌/◌, ◌%◌, ℕ, suc, List, [], ◌∷◌, ◌++◌, Option}
 use Rattle.std.proofs.Common.{length, take, drop, get_or, Bool, true, false, length-append, refl, subst, sym, ap}
-use Rattle.std.proofs.Common.{ap₂, ◌∙◌, arith}
+use Rattle.std.proofs.Common.{ap₂, ◌∙◌, ◌⊎◌, inl, inr, arith}
 use Rattle.std.specs.Prelude.{if◌then◌else◌, slice_index, slice_range, MatchOption, None, Some}
 use Rattle.std.specs.Io.KnownBytes.{Appends}
 use Rattle.std.proofs.Math.Seq.{get_or-append_seam}
@@ -115,6 +115,26 @@ pub escaped-none : (text : List ℕ) (high low : ℕ) (more : List ℕ) → text
     → (b : ℕ) (rest : List ℕ) → b < 256 → text ≢ byte_text b ++ rest
 escaped-none text high low more is none b rest small same =
     none b rest small (escaped-chosen (is_plain b) b high low more rest refl (sym is ∙ same))
+
+-- a byte at the front that stands for itself
+pub plain-front : (text : List ℕ) → is_plain (get_or text 0 0) ≡ true
+    → text ≡ byte_text (get_or text 0 0) ++ drop 1 text
+plain-front [] plain = cc
+plain-front (x ∷ rest) plain = ap (λ (xs : List ℕ). xs ++ rest) (sym (plain-byte x plain))
+
+-- what stands at the front of a text that a byte leads
+front-chosen : (p : Bool) (b : ℕ) (text rest : List ℕ) → is_plain b ≡ p → text ≡ chosen p b ++ rest
+    → (is_plain (get_or text 0 0) ≡ true) ⊎ ((3 ≤ length text) × (get_or text 0 0 ≡ 92))
+front-chosen true b text rest is same = inl (ap is_plain (at 0 _ _ same) ∙ is)
+front-chosen false b text rest is same = inr (omega (arith, ap length same), at 0 _ _ same)
+
+pub front-of : (b : ℕ) (text rest : List ℕ) → text ≡ byte_text b ++ rest
+    → (is_plain (get_or text 0 0) ≡ true) ⊎ ((3 ≤ length text) × (get_or text 0 0 ≡ 92))
+front-of b text rest same = front-chosen (is_plain b) b text rest refl same
+
+pub some-lead : (b : ℕ) (text rest : List ℕ) → text ≡ byte_text b ++ rest → 1 ≤ length text
+some-lead b text rest same =
+    omega (arith, ap length same, length-append (byte_text b) rest, long-chosen (is_plain b) b)
 
 -- what is said where nothing was found
 pub none-found : {A : Type 0} (o : Option A) (P : Type 0) (Q : A → Type 0) → o ≡ None → P → MatchOption o P Q

@@ -2,7 +2,6 @@
 use Rattle.std.proofs.Common.{
   ◌≡◌,
   ◌+◌,
-  ◌<◌,
   ℕ,
   false,
   List,
@@ -17,7 +16,6 @@ use Rattle.std.proofs.Common.{
   ◌∙◌,
   ap,
   append_assoc,
-  arith,
   length,
   Result,
   Ok,
@@ -25,7 +23,7 @@ use Rattle.std.proofs.Common.{
   IsOk,
   OnOk,
 }
-use Rattle.std.specs.Prelude.{IfSome, is_err, option_map}
+use Rattle.std.specs.Prelude.{is_err}
 use Rattle.request_cards.specs.Reading.{cut_at, number_in, ◌>>=◌}
 use Rattle.script_lines.specs.Lines.{split}
 use Rattle.script_lines.specs.Resets.{Line, counts_of, reset_with, reset_of, line_of}
@@ -38,13 +36,6 @@ with_left message k read fields = counts_of fields >>= (λ ns. reset_with messag
 abbrev pub left_over : Option (List ℕ) → ℕ
 left_over None = 0
 left_over (Some bytes) = length bytes + 1
-
--- what is left behind a field is less
-pub smaller : {A : Type 0} (bytes : A → List ℕ) (left rest : Option A) (more : A) → rest ≡ Some more
-    → IfSome left (λ l. length (bytes l) < length (bytes more))
-    → left_over (option_map bytes left) < left_over (option_map bytes rest)
-smaller bytes None rest more is less = rw is (omega arith)
-smaller bytes (Some l) rest more is less = rw is (omega (arith, less))
 
 -- a field more is read
 pub one_read : (message : List ℕ) (k : ℕ) (read field : List ℕ) (fields : List (List ℕ)) (n : ℕ)

@@ -1,5 +1,5 @@
 -- The first space.
-use Rattle.std.proofs.Common.{sym, arith, below_more, ◌+◌}
+use Rattle.std.proofs.Common.{sym, arith, ◌+◌}
 use Rattle.std.proofs.lemmas.List.{take_rest}
 use Rattle.script_lines.proofs.Pieces.{cut_here, cut_nowhere}
 use Rattle.script_lines.proofs.event_lines.at_space.Goals as goal
@@ -12,9 +12,3 @@ returns-then-byte-eq32 c =
 pub returns : goal.returns
 returns c = sym (cut_nowhere 32 c.args.bytes.now
     (λ k below. c.loop-i.invariant k (omega (arith, below, c.loop-i-test.false))))
-
-pub loop-i-init : goal.loop-i-init
-loop-i-init c = λ k h. absurd (omega (arith, h))
-
-pub loop-i-preserved : goal.loop-i-preserved
-loop-i-preserved c = below_more _ _ c.loop-i.invariant c.if-byte-eq32.false

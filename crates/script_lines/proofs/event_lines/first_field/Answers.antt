@@ -1,5 +1,5 @@
 -- The first slash.
-use Rattle.std.proofs.Common.{arith, below_more, length-drop, ◌+◌}
+use Rattle.std.proofs.Common.{arith, ◌+◌}
 use Rattle.std.proofs.lemmas.List.{take_rest}
 use Rattle.script_lines.proofs.Pieces.{split_here, split_nowhere}
 use Rattle.script_lines.proofs.event_lines.first_field.Goals as goal
@@ -12,13 +12,3 @@ returns-then-byte-eq47-clause-fields c =
 pub returns-clause-fields : goal.returns-clause-fields
 returns-clause-fields c =
     split_nowhere 47 c.args.counts.now (λ k below. c.loop-i.invariant k (omega (arith, below, c.loop-i-test.false)))
-
-pub loop-i-init : goal.loop-i-init
-loop-i-init c = λ k h. absurd (omega (arith, h))
-
-pub loop-i-preserved : goal.loop-i-preserved
-loop-i-preserved c = below_more _ _ c.loop-i.invariant c.if-byte-eq47.false
-
-pub returns-then-byte-eq47-clause-shorter : goal.returns-then-byte-eq47-clause-shorter
-returns-then-byte-eq47-clause-shorter c =
-    rw (take_rest c.args.counts.now (c.loop-i.i + 1)) (omega (arith, length-drop (c.loop-i.i + 1) c.args.counts.now))

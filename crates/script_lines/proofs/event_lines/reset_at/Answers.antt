@@ -3,7 +3,6 @@ use Rattle.std.proofs.Common.{sym, ◌∙◌, ap, length, arith}
 use Rattle.std.specs.Prelude.{option_map}
 use Rattle.script_lines.specs.Resets.{fields_left, line_in}
 use Rattle.script_lines.proofs.Resets.{
-  smaller,
   with_left,
   first_read,
   first_not,
@@ -55,14 +54,3 @@ loop-rest-preserved c =
         c.try_push.ensures.variant.0 (taken c.try_push.result c.if-is_err.ensures.value),
       );
     }
-
-pub new-recoveries-requires : goal.new-recoveries-requires
-new-recoveries-requires c = omega arith
-
-pub try_push-requires : goal.try_push-requires
-try_push-requires c = omega arith
-
-pub loop-rest-smaller : goal.loop-rest-smaller
-loop-rest-smaller c =
-    smaller (λ r. r.now) c.first_field-in-Some.result.1 c.loop-rest.rest c.in-Some.more c.in-Some.is
-    c.first_field-in-Some.ensures.shorter
