@@ -1,12 +1,13 @@
--- Bytes displayed as text, and texts of one byte more.
+-- Bytes displayed as text, texts of one byte more, and texts between quotation marks.
 use Rattle.std.proofs.Common.{◌≡◌, ◌<◌, ◌≤◌, ◌+◌, ◌-◌, ◌/◌, ◌%◌, ℕ, List, [], ◌∷◌, ◌++◌, take, drop, get_or, length, true}
-use Rattle.std.proofs.Common.{false, ap, ap₂, sym, ◌∙◌, arith}
+use Rattle.std.proofs.Common.{false, suc, length-append, ap, ap₂, sym, ◌∙◌, arith}
 use Rattle.std.specs.Prelude.{Result, Ok, Err, nat_le, slice_range}
 use Rattle.std.specs.Result.{IsErr, IsOk}
 use Rattle.std.proofs.Math.Utf8.{encode}
+use Rattle.std.proofs.Math.Seq.{get_or-append_seam}
 use Rattle.std.proofs.lemmas.Bool.{and_parts, leb-true}
 use Rattle.std.proofs.lemmas.Grind.{flat_map-append}
-use Rattle.std.proofs.lemmas.List.{append_assoc, append-nil, drop_more, take_more}
+use Rattle.std.proofs.lemmas.List.{append_assoc, append-nil, drop_more, take_all, take_more}
 use Rattle.std.proofs.lemmas.Str.{encode_ascii}
 use Rattle.byte_text.specs.Texts.{byte_text, digit, is_plain, text_of}
 use Rattle.byte_text.proofs.Texts.{chosen, plain-byte}
@@ -52,6 +53,32 @@ put-more whole before (x ∷ rest) all some here there =
 pub none-left : (before rest all : List ℕ) → length rest < 1 → before ++ text_of rest ≡ all → before ≡ all
 none-left before [] all none there = sym (append-nil before) ∙ there
 none-left before (x ∷ rest) all none there = absurd (omega (arith, none))
+
+-- the ends of a text between quotation marks, and a text with these ends
+pub quoted-ends : (text inner : List ℕ) → text ≡ 34 ∷ (inner ++ 34 ∷ [])
+    → (2 ≤ length text) × (get_or text 0 0 ≡ 34) × (get_or text (length text - 1) 0 ≡ 34)
+quoted-ends text inner is =
+    let long : length text ≡ 2 + length inner =
+    ap length is ∙ (let n = length-append inner (34 ∷ []) in omega (arith, n)) in
+    let place : length text - 1 ≡ suc (length inner) = omega (arith, long) in (
+      omega (arith, long),
+      ap (λ (xs : List ℕ). get_or xs 0 0) is,
+      ap₂ (λ (xs : List ℕ) (k : ℕ). get_or xs k 0) is place ∙ get_or-append_seam inner 34 [] 0,
+    )
+
+pub quoted-of : (text : List ℕ) → 2 ≤ length text → get_or text 0 0 ≡ 34 → get_or text (length text - 1) 0 ≡ 34
+    → text ≡ 34 ∷ (take (length text - 1 - 1) (drop 1 text) ++ 34 ∷ [])
+quoted-of [] long first last = absurd (omega (arith, long))
+quoted-of (x ∷ rest) long first last =
+    let n : ℕ = length rest - 1 in
+    let end : get_or rest n 0 ≡ 34 =
+    ap (λ k. get_or (x ∷ rest) k 0) (let s : suc n ≡ length (x ∷ rest) - 1 = omega (arith, long) in s) ∙ last in
+    let all : rest ≡ take n rest ++ 34 ∷ [] =
+    sym (take_all (n + 1) rest (omega (arith, long))) ∙ take_more rest n 0 (omega (arith, long))
+    ∙ ap (λ c. take n rest ++ c ∷ []) end in
+    let same : length (x ∷ rest) - 1 - 1 ≡ n = omega arith in
+    ap₂ (λ y (ys : List ℕ). y ∷ ys) first
+    (all ∙ ap (λ (k : ℕ). take k rest ++ 34 ∷ []) (sym same))
 
 -- an error is no success
 pub err-not-ok : {T E : Type 0} (r : Result T E) → IsErr r → IsOk r → ⊥
