@@ -1,4 +1,5 @@
 pub mod Behind
+pub mod Displays
 pub mod Rooms
 pub mod Stored
 pub mod Texts

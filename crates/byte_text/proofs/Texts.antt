@@ -1,8 +1,8 @@
 -- Bytes and their texts: one text for each list of bytes.
 use Rattle.std.proofs.Common.{◌≡◌, ◌≢◌, ◌<◌, ◌≤◌, ◌+◌, ◌-◌, ◌/◌, ◌%◌, ℕ, suc, List, [], ◌∷◌, ◌++◌, Option}
 use Rattle.std.proofs.Common.{length, take, drop, get_or, Bool, true, false, length-append, refl, subst, sym, ap}
-use Rattle.std.proofs.Common.{ap₂, ◌∙◌, arith}
-use Rattle.std.specs.Prelude.{if◌then◌else◌, slice_index, slice_range}
+use Rattle.std.proofs.Common.{ap₂, ◌∙◌, ◌⊎◌, inl, inr, arith}
+use Rattle.std.specs.Prelude.{if◌then◌else◌, slice_index, slice_range, MatchOption, None, Some}
 use Rattle.std.specs.Io.KnownBytes.{Appends}
 use Rattle.std.proofs.Math.Seq.{get_or-append_seam}
 use Rattle.std.proofs.KnownBytes.{Appends-trans}
@@ -16,10 +16,10 @@ use Rattle.byte_text.specs.Texts.{AreBytes, byte_text, digit, is_plain, text_of}
 digit-one : (m n : ℕ) → digit m ≡ digit n → m ≡ n
 digit-one m n same = grind arith
 
-abbrev chosen : Bool → ℕ → List ℕ
+abbrev pub chosen : Bool → ℕ → List ℕ
 chosen plain b = if plain then b ∷ [] else 92 ∷ digit (b / 16) ∷ digit (b % 16) ∷ []
 
-plain-byte : (b : ℕ) → is_plain b ≡ true → byte_text b ≡ b ∷ []
+pub plain-byte : (b : ℕ) → is_plain b ≡ true → byte_text b ≡ b ∷ []
 plain-byte b plain = ap (λ (p : Bool). chosen p b) plain
 
 -- bytes that stand for themselves are their own text
@@ -93,6 +93,53 @@ never-empty b xs same =
     let long : 1 ≤ length (byte_text b) = long-chosen (is_plain b) b in
     let none : length (byte_text b ++ xs) ≡ 0 = ap length same in
     omega (arith, long, none, length-append (byte_text b) xs)
+
+-- a backslash and two bytes at the front that are no byte's text
+pub escaped-front : (text : List ℕ) → 3 ≤ length text → get_or text 0 0 ≡ 92
+    → text ≡ 92 ∷ get_or text 1 0 ∷ get_or text 2 0 ∷ drop 3 text
+escaped-front [] long is = absurd (omega (arith, long))
+escaped-front (a ∷ []) long is = absurd (omega (arith, long))
+escaped-front (a ∷ b ∷ []) long is = absurd (omega (arith, long))
+escaped-front (a ∷ b ∷ c ∷ rest) long is = ap (λ (x : ℕ). x ∷ b ∷ c ∷ rest) is
+
+escaped-chosen : (p : Bool) (b high low : ℕ) (more rest : List ℕ) → is_plain b ≡ p
+    → 92 ∷ high ∷ low ∷ more ≡ chosen p b ++ rest → 92 ∷ high ∷ low ∷ rest ≡ chosen p b ++ rest
+escaped-chosen true b high low more rest is same =
+    let slash : 92 ≡ b = at 0 _ _ same in
+    absurd (cc (subst (λ (n : ℕ). is_plain n ≡ true) (sym slash) is))
+escaped-chosen false b high low more rest is same =
+    ap₂ (λ (x y : ℕ). 92 ∷ x ∷ y ∷ rest) (at 1 _ _ same) (at 2 _ _ same)
+
+pub escaped-none : (text : List ℕ) (high low : ℕ) (more : List ℕ) → text ≡ 92 ∷ high ∷ low ∷ more
+    → ((b : ℕ) (rest : List ℕ) → b < 256 → 92 ∷ high ∷ low ∷ rest ≢ byte_text b ++ rest)
+    → (b : ℕ) (rest : List ℕ) → b < 256 → text ≢ byte_text b ++ rest
+escaped-none text high low more is none b rest small same =
+    none b rest small (escaped-chosen (is_plain b) b high low more rest refl (sym is ∙ same))
+
+-- a byte at the front that stands for itself
+pub plain-front : (text : List ℕ) → is_plain (get_or text 0 0) ≡ true
+    → text ≡ byte_text (get_or text 0 0) ++ drop 1 text
+plain-front [] plain = cc
+plain-front (x ∷ rest) plain = ap (λ (xs : List ℕ). xs ++ rest) (sym (plain-byte x plain))
+
+-- what stands at the front of a text that a byte leads
+front-chosen : (p : Bool) (b : ℕ) (text rest : List ℕ) → is_plain b ≡ p → text ≡ chosen p b ++ rest
+    → (is_plain (get_or text 0 0) ≡ true) ⊎ ((3 ≤ length text) × (get_or text 0 0 ≡ 92))
+front-chosen true b text rest is same = inl (ap is_plain (at 0 _ _ same) ∙ is)
+front-chosen false b text rest is same = inr (omega (arith, ap length same), at 0 _ _ same)
+
+pub front-of : (b : ℕ) (text rest : List ℕ) → text ≡ byte_text b ++ rest
+    → (is_plain (get_or text 0 0) ≡ true) ⊎ ((3 ≤ length text) × (get_or text 0 0 ≡ 92))
+front-of b text rest same = front-chosen (is_plain b) b text rest refl same
+
+pub some-lead : (b : ℕ) (text rest : List ℕ) → text ≡ byte_text b ++ rest → 1 ≤ length text
+some-lead b text rest same =
+    omega (arith, ap length same, length-append (byte_text b) rest, long-chosen (is_plain b) b)
+
+-- what is said where nothing was found
+pub none-found : {A : Type 0} (o : Option A) (P : Type 0) (Q : A → Type 0) → o ≡ None → P → MatchOption o P Q
+none-found (Some x) P Q e p = cc
+none-found None P Q e p = p
 
 -- what stands behind the text of the first bytes is the text of the others
 pub record IsBehind (pre bytes rest : List ℕ) : Type 0 where

@@ -1,6 +1,7 @@
 -- The fields that an entry has in both versions, and where they stand in a card.
-use Rattle.std.proofs.Common.{◌≡◌, ℕ, ◌+◌, ◌^◌, ◌<◌, Bool, true, false, List, [], ◌∷◌, ◌++◌, length, drop, get_or, refl}
-use Rattle.std.proofs.Common.{ap, ap₂, sym, subst, ◌∙◌, arith, Some}
+use Rattle.std.proofs.Common.{◌≡◌, ℕ, ◌+◌, ◌^◌, ◌<◌, ◌≤◌, Bool, true, false, List, [], ◌∷◌, ◌++◌, length, drop, get_or, refl}
+use Rattle.std.proofs.Common.{ap, ap₂, sym, subst, ◌∙◌, arith, None, Some}
+use Rattle.std.specs.Prelude.{Option, IfNone, IfSome}
 use Rattle.std.proofs.lemmas.List.{get_or-drop}
 use Rattle.request_cards.specs.declared.answer.Answer.{Answer}
 use Rattle.request_cards.specs.declared.answer.Answer.TheVariants as answers
@@ -12,8 +13,8 @@ use Rattle.request_cards.specs.Reading.{kind_of}
 use Rattle.request_cards.specs.Ledgers.{Entry}
 use Rattle.request_cards.specs.CardTexts.{IsEntry, fixed, answer_code, answer_quantity, answer_to_quantity, state_text}
 use Rattle.request_cards.specs.CardTexts.{entry_fields}
-use Rattle.request_cards.proofs.Messages.{kind_of_text}
-use Rattle.request_cards.proofs.Widths.{field_at, fixed_length, join, piece_at, same_number}
+use Rattle.request_cards.proofs.Messages.{kind_of_spells, kind_of_text}
+use Rattle.request_cards.proofs.Widths.{byte_at, byte_of, field_at, fixed_length, join, piece_at, same_number}
 
 -- the fields of an entry stand in their places, and what follows them
 pub record IsCut (bytes : List ℕ) (at : ℕ) (pending : Bool) (e : Entry) (rest : List ℕ) : Type 0 where
@@ -51,6 +52,34 @@ kind_stands bytes k kind rest d e =
     (ap (λ i. get_or bytes i d) (let s : k ≡ k + 0 = omega arith in s)
     ∙ sym (get_or-drop k bytes 0 d) ∙ ap (λ (xs : List ℕ). get_or xs 0 d) e)
     ∙ letter_first kind rest d
+
+-- a comma behind a text of one letter, and a letter with a comma behind it
+pub comma_behind : (text bytes rest : List ℕ) (k : ℕ) → length text ≡ 1 → drop k bytes ≡ text ++ 44 ∷ rest
+    → get_or bytes (k + 1) 0 ≡ 44
+comma_behind text bytes rest k one e =
+    byte_of bytes rest (k + 1) 44 (piece_at text 1 k (k + 1) bytes (44 ∷ rest) one e refl).1
+
+pub letter_here : (bytes : List ℕ) (k x : ℕ) → length bytes ≡ 127 → k + 2 ≤ 127 → get_or bytes k 0 ≡ x
+    → get_or bytes (k + 1) 0 ≡ 44 → drop k bytes ≡ x ∷ 44 ∷ drop (k + 2) bytes
+letter_here bytes k x long fits letter comma =
+    byte_at bytes k x (omega (arith, long, fits)) letter
+    ∙ ap (λ t. x ∷ t) (byte_at bytes (k + 1) 44 (omega (arith, long, fits)) comma
+    ∙ ap (λ i. 44 ∷ drop i bytes) (let s : k + 1 + 1 ≡ k + 2 = omega arith in s))
+
+-- the kind of a letter with a comma behind it, and none
+pub kind_here : (o : Option Kind) (bytes : List ℕ) (k : ℕ) → length bytes ≡ 127 → k + 2 ≤ 127
+    → get_or bytes (k + 1) 0 ≡ 44 → o ≡ kind_of (get_or bytes k 0 ∷ [])
+    → IfSome o (λ kind. drop k bytes ≡ kind_text kind ++ 44 ∷ drop (k + 2) bytes)
+kind_here (Some kind) bytes k long fits comma e =
+    letter_here bytes k (get_or bytes k 0) long fits refl comma
+    ∙ ap (λ text. text ++ 44 ∷ drop (k + 2) bytes) (kind_of_spells (get_or bytes k 0 ∷ []) kind (sym e))
+kind_here None bytes k long fits comma e = tt
+
+pub kind_refused_here : (o : Option Kind) (bytes : List ℕ) (k : ℕ) → o ≡ kind_of (get_or bytes k 0 ∷ [])
+    → IfNone o ((kind : Kind) (rest : List ℕ) → ¬ (drop k bytes ≡ kind_text kind ++ 44 ∷ rest))
+kind_refused_here (Some kind) bytes k e = tt
+kind_refused_here None bytes k e = λ kind rest text.
+    let some : None ≡ Some kind = e ∙ kind_stands bytes k kind (44 ∷ rest) 0 text in cc
 
 -- from the text to the fields in their places, and back
 pub fields_cut : (bytes : List ℕ) (at : ℕ) (pending : Bool) (e : Entry) (rest : List ℕ)
@@ -173,6 +202,13 @@ body_same b k i q t hk hi hq ht j = record { kind = hk j; item = hi j; quantity 
 pub entry_same : (e : Entry) (n : ℕ) (b : Body) (a : Answer) → n ≡ e.number → b ≡ e.body → a ≡ e.answer
     → ◌≡◌ {A = Entry} (record { number = n; body = b; answer = a }) e
 entry_same e n b a hn hb ha j = record { number = hn j; body = hb j; answer = ha j }
+
+-- an answer that was found is this one
+pub no_answer : (a : Answer) → None ≡ Some a → ⊥
+no_answer a e = cc
+
+pub one_answer : (b a : Answer) → Some b ≡ Some a → b ≡ a
+one_answer b a e = cc
 
 -- one text is of one kind
 kind_one : (k kind : Kind) (text more rest : List ℕ) → text ≡ kind_text k ++ more → text ≡ kind_text kind ++ rest

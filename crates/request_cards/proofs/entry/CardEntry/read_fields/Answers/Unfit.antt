@@ -1,8 +1,8 @@
 -- What was read field by field is no entry of a card.
-use Rattle.std.proofs.Common.{◌≡◌, sym, ◌∙◌, subst, true, Some, None}
+use Rattle.std.proofs.Common.{◌≡◌, sym, ◌∙◌, subst, true}
 use Rattle.request_cards.specs.CardTexts.{IsEntry, goes_with}
 use Rattle.request_cards.specs.Requests.{IsBody}
-use Rattle.request_cards.proofs.EntryFields.{HasFields, body_same, entry_same, fields_are}
+use Rattle.request_cards.proofs.EntryFields.{HasFields, body_same, entry_same, fields_are, no_answer, one_answer}
 use Rattle.request_cards.proofs.Widths.{none_here, nothing_here}
 use Rattle.request_cards.proofs.entry.CardEntry.read_fields.Goals as goal
 
@@ -48,9 +48,8 @@ returns-in_err-answer c =
             answer = c.in_ok-in_answer.ensures.found;
           } in
           let are = fields_are c.args.bytes.now c.args.at _ _ _ _ _ _ _ pending e rest has is text in
-          let none : None ≡ Some e.answer =
-          c.in_err-answer.ensures.only e.answer (subst (λ k. goes_with k e.answer ≡ true) (sym are.kind) is.fits)
-          (sym are.code) (sym are.answer) second in cc);
+          no_answer e.answer (c.in_err-answer.ensures.only e.answer
+          (subst (λ k. goes_with k e.answer ≡ true) (sym are.kind) is.fits) (sym are.code) (sym are.answer) second));
     }
 
 -- what was read is in no card's ranges
@@ -74,10 +73,8 @@ returns-in_err-entry c =
           let are = fields_are c.args.bytes.now c.args.at _ _ _ _ _ _ _ pending e rest has is text in
           let body = c.in_ok-wish.ensures.some
           ∙ body_same e.body _ _ _ c.args.to are.kind are.item are.quantity (sym to) in
-          let answers : Some c.in_ok-answer.answer ≡ Some e.answer =
-          c.in_ok-answer.ensures.only e.answer (subst (λ k. goes_with k e.answer ≡ true) (sym are.kind) is.fits)
-          (sym are.code) (sym are.answer) second in
-          let answer : c.in_ok-answer.answer ≡ e.answer = cc in
+          let answer = one_answer c.in_ok-answer.answer e.answer (c.in_ok-answer.ensures.only e.answer
+          (subst (λ k. goes_with k e.answer ≡ true) (sym are.kind) is.fits) (sym are.code) (sym are.answer) second) in
           let same = entry_same e _ _ _ are.number body answer in
           c.in_err-entry.ensures.none (subst IsEntry (sym same) is));
     }
