@@ -129,7 +129,11 @@ found-last img k o known is = by k.checked refl
 -- what is known stays so where the place in the file opened last is another one
 pub known-moved : (img : Image) (k : Known) (o : Opened) (spot : Option Spot) → k.last ≡ Some o → IsKnown img k
     → IfSome spot (IsSpot o.found)
-    → IsKnown img (record { last = Some (record { found = o.found; spot = spot }); before = k.before; checked = k.checked })
+    → IsKnown img (record {
+      last = Some (record { found = o.found; spot = spot });
+      before = k.before;
+      checked = k.checked;
+    })
 known-moved img k o spot is known right = record {
   fresh = λ no. absurd (none-some o (sym (known.fresh no).0 ∙ is));
   remembered = λ checked. let m = known.remembered checked in record {

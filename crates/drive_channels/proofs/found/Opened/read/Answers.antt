@@ -17,8 +17,8 @@ returns-then-spot-channel g c = λ k is known.
           (parts-of k c.args.self.now _ is c.in-Some.is) c.if-spot-channel.true (row s k.checked))
           c.read_at.ensures.row;
       known = on_ok_weaker c.read_at.result
-          (λ spot. known-moved (g.D.Sectors.history.image c.args.disk.now) k c.args.self.now (Some c.read_at.new.spot) is
-          known spot)
+          (λ spot. known-moved (g.D.Sectors.history.image c.args.disk.now) k c.args.self.now
+          (Some c.read_at.new.spot) is known spot)
           c.read_at.ensures.spot;
       reads = c.read_at.ensures.reads;
       failures = c.read_at.ensures.failures;
