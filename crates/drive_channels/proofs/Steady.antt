@@ -147,12 +147,16 @@ known-moved img k o spot is known right = record {
 }
 
 -- and so is the place in it
+pub spot-of : (img : Image) (k : Known) (o : Opened) → IsKnown img k → k.last ≡ Some o
+    → IfSome o.spot (IsSpot o.found)
+spot-of img k o known is = by k.checked refl
+  where
+    by : (b : Bool) → k.checked ≡ b → IfSome o.spot (IsSpot o.found)
+    by true checked = subst (λ (last : Option Opened). IfSome last (λ o. IfSome o.spot (IsSpot o.found))) is
+        (known.remembered checked).spot
+    by false checked = absurd (none-some o (sym (known.fresh checked).0 ∙ is))
+
 pub spot-last : (img : Image) (k : Known) (o : Opened) (s : Spot) → IsKnown img k → k.last ≡ Some o → o.spot ≡ Some s
     → IsSpot o.found s
-spot-last img k o s known is at = by k.checked refl
-  where
-    by : (b : Bool) → k.checked ≡ b → IsSpot o.found s
-    by true checked = subst (λ (spot : Option Spot). IfSome spot (IsSpot o.found)) at
-        (subst (λ (last : Option Opened). IfSome last (λ o. IfSome o.spot (IsSpot o.found))) is
-        (known.remembered checked).spot)
-    by false checked = absurd (none-some o (sym (known.fresh checked).0 ∙ is))
+spot-last img k o s known is at = subst (λ (spot : Option Spot). IfSome spot (IsSpot o.found)) at
+    (spot-of img k o known is)
