@@ -256,10 +256,11 @@ impl Known {
         let Some(wish) = wish(text) else {
             return Ok(Status::SyntaxError);
         };
-        if !self.passes_check(disk)? {
-            return Ok(Status::DirError);
+        match self.passes_check(disk) {
+            Ok(true) => self.open_file(disk, channel, wish),
+            Ok(false) => Ok(Status::DirError),
+            Err(dead) => Err(dead),
         }
-        self.open_file(disk, channel, wish)
     }
 
     /// Opens what the text asks for: what that comes to. The name of a file that is remembered is only compared.
