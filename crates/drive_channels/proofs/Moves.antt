@@ -34,7 +34,7 @@ use Rattle.drive_channels.proofs.Writes.{had-is}
 use Rattle.drive_channels.specs.Inside.{IsFound, at_spot, channel_at, channel_of, shown}
 use Rattle.drive_channels.specs.Spelling.{wanted_channel, wanted_position, wanted_record}
 use Rattle.drive_channels.specs.State.{View}
-use Rattle.drive_channels.specs.Tables.{InFile, Moves, MovesTo}
+use Rattle.drive_channels.specs.Tables.{HasOn, InFile, Moves, MovesTo}
 use Rattle.drive_channels.specs.declared.found.Found.{Found}
 use Rattle.drive_channels.specs.declared.found.Opened.{Opened}
 use Rattle.drive_channels.specs.declared.found.Spot.{Spot}
@@ -110,6 +110,17 @@ move-on img e s w known text status y long channel number position is on row =
   where
     x : View
     x = at_spot img e s status known.checked
+
+-- P of a channel that isn't open
+pub move-none : (img : Image) (known : Known) (last : Option Opened) (text : List ℕ) (status : Status)
+    → known.last ≡ last → (length text ≡ 4) ⊎ (length text ≡ 5)
+    → ¬ (HasOn (channel_of known.last) (wanted_channel text))
+    → Moves (shown img known status) text
+    (shown img (record { last = last; before = known.before; checked = known.checked }) statuses.NoChannel)
+move-none img known last text status is long closed =
+    subst (λ (o : Option Opened). Moves (shown img known status) text
+    (shown img (record { last = o; before = known.before; checked = known.checked }) statuses.NoChannel)) is
+    (inr ((λ no. no long), inl (closed, refl)))
 
 -- the record is behind the last one, or among them
 pub behind : (r count : ℕ) → count < r

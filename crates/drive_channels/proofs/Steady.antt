@@ -4,6 +4,7 @@ use Rattle.std.proofs.Common.{
   Result,
   ℕ,
   ◌≡◌,
+  ◌≢◌,
   ◌≤◌,
   Bool,
   true,
@@ -124,3 +125,38 @@ found-last img k o known is = by k.checked refl
     by true checked = subst (λ (last : Option Opened). IfSome last (λ o. IsFound img o.found)) is
         (known.remembered checked).last_found
     by false checked = absurd (none-some o (sym (known.fresh checked).0 ∙ is))
+
+-- what is known stays so where the place in the file opened last is another one
+pub known-moved : (img : Image) (k : Known) (o : Opened) (spot : Option Spot) → k.last ≡ Some o → IsKnown img k
+    → IfSome spot (IsSpot o.found)
+    → IsKnown img (record {
+      last = Some (record { found = o.found; spot = spot });
+      before = k.before;
+      checked = k.checked;
+    })
+known-moved img k o spot is known right = record {
+  fresh = λ no. absurd (none-some o (sym (known.fresh no).0 ∙ is));
+  remembered = λ checked. let m = known.remembered checked in record {
+    clean = m.clean;
+    last_found = subst (λ (last : Option Opened). IfSome last (λ o. IsFound img o.found)) is m.last_found;
+    spot = right;
+    before_found = m.before_found;
+    apart = subst (λ (last : Option Opened). IfSome last
+        (λ o. IfSome k.before (λ e. entry_of e.file ≢ entry_of o.found.file))) is m.apart;
+  };
+}
+
+-- and so is the place in it
+pub spot-of : (img : Image) (k : Known) (o : Opened) → IsKnown img k → k.last ≡ Some o
+    → IfSome o.spot (IsSpot o.found)
+spot-of img k o known is = by k.checked refl
+  where
+    by : (b : Bool) → k.checked ≡ b → IfSome o.spot (IsSpot o.found)
+    by true checked = subst (λ (last : Option Opened). IfSome last (λ o. IfSome o.spot (IsSpot o.found))) is
+        (known.remembered checked).spot
+    by false checked = absurd (none-some o (sym (known.fresh checked).0 ∙ is))
+
+pub spot-last : (img : Image) (k : Known) (o : Opened) (s : Spot) → IsKnown img k → k.last ≡ Some o → o.spot ≡ Some s
+    → IsSpot o.found s
+spot-last img k o s known is at = subst (λ (spot : Option Spot). IfSome spot (IsSpot o.found)) at
+    (spot-of img k o known is)

@@ -2,6 +2,7 @@
 use Rattle.std.proofs.Common.{
   ℕ,
   ◌≡◌,
+  ◌<◌,
   List,
   [],
   ◌∷◌,
@@ -14,6 +15,7 @@ use Rattle.std.proofs.Common.{
   get_or,
   length,
   slice_index,
+  take,
   length-append,
   sym,
   ◌∙◌,
@@ -23,6 +25,7 @@ use Rattle.std.proofs.Common.{
   refl,
   arith,
 }
+use Rattle.std.proofs.lemmas.List.{take-append-drop}
 use Rattle.std.specs.List.{AllByRecursion}
 use Rattle.drive_channels.specs.Spelling.{IsName, IsSpelled, IsTail, IsWish, Wish, is_name_byte}
 
@@ -72,3 +75,25 @@ one text a b (Some l) (Some k) x y e h =
 pub wish-one : (text : List ℕ) (v w : Wish) → IsWish text v → IsWish text w → v ≡ w
 wish-one text v w x y = let p = one text v.name w.name v.length w.length x.0 y.0 x.1 y.1 in
     ap₂ (λ (name : List ℕ) (length : Option ℕ). record { name = name; length = length }) p.0 p.1
+
+-- what is shorter than a tail, and no name, asks for nothing
+pub too-short : (text : List ℕ) → length text < 4 → ¬ (IsName text) → (w : Wish) → ¬ (IsWish text w)
+too-short text short plain w wish = by w.length wish.1
+  where
+    by : (o : Option ℕ) → IsSpelled text w.name o → ⊥
+    by None e = plain (subst IsName (sym e) wish.0)
+    by (Some l) e = absurd (omega (arith, ap length e.1, length-append w.name e.0, four e.0 l e.2, short))
+
+-- nor what is no name and doesn't end as one with a length
+pub no-wish : (text front back : List ℕ) → text ≡ front ++ back → length back ≡ 4 → ¬ (IsName text)
+    → (IsName front → (l : ℕ) → ¬ (IsTail back l)) → (w : Wish) → ¬ (IsWish text w)
+no-wish text front back is long plain none w wish = by w.length wish.1
+  where
+    by : (o : Option ℕ) → IsSpelled text w.name o → ⊥
+    by None e = plain (subst IsName (sym e) wish.0)
+    by (Some l) e = let p = parts w.name front e.0 back (four e.0 l e.2 ∙ sym long) (sym e.1 ∙ is) in
+        none (subst IsName p.0 wish.0) l (subst (λ (t : List ℕ). IsTail t l) p.1 e.2)
+
+-- a text in two parts
+pub in-two : (text front back : List ℕ) (i : ℕ) → front ≡ take i text → back ≡ drop i text → text ≡ front ++ back
+in-two text front back i first rest = sym (ap₂ (λ (a b : List ℕ). a ++ b) first rest ∙ take-append-drop i text)

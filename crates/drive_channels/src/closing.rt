@@ -1,16 +1,34 @@
 //! Closing a channel.
-ghost use Rattle.std.specs.Prelude.{◌≡◌, OnOk};
+ghost use Rattle.std.specs.Prelude.{◌≡◌, IfSome, OnOk};
 ghost use Rattle.d64_image.specs.Images.{Image};
-ghost use Rattle.drive_channels.specs.Inside.{IsKnown, channel_of};
+ghost use Rattle.drive_channels.specs.Inside.{IsKnown, IsSpot, channel_in, channel_of};
 ghost use Rattle.drive_channels.specs.Serving.{Serves};
 ghost use Rattle.drive_channels.specs.State.{view_of};
 ghost use Rattle.drive_channels.specs.Tables.{Closes, channel_without};
+ghost use Rattle.rel_records.specs.File.{entry_of};
 
 use crate::drive::Drive;
 use crate::faults::Dead;
+use crate::found::Opened;
 use crate::known::Known;
 use crate::status::Status;
 use d64_image::Sectors;
+
+impl Opened {
+    /// Closes its channel, where that has this number.
+    fn close(&mut self, channel: u8)
+        ensures found { self.new.found ≡ self.old.found }
+        ensures channel { channel_in (entry_of self.old.found.file) self.new.spot
+            ≡ channel_without channel (channel_in (entry_of self.old.found.file) self.old.spot) }
+        ensures spot { IfSome self.old.spot (IsSpot self.old.found) → IfSome self.new.spot (IsSpot self.old.found) }
+    {
+        if let Some(spot) = &self.spot {
+            if spot.channel == channel {
+                self.spot = None;
+            }
+        }
+    }
+}
 
 impl Known {
     /// Closes the channel, where it has this number.
@@ -20,11 +38,7 @@ impl Known {
         ensures known { (img : Image) → IsKnown img self.old → IsKnown img self.new }
     {
         if let Some(opened) = &mut self.last {
-            if let Some(spot) = &opened.spot {
-                if spot.channel == channel {
-                    opened.spot = None;
-                }
-            }
+            opened.close(channel);
         }
     }
 }

@@ -1,5 +1,6 @@
 //! Commands.
-ghost use Rattle.std.specs.Prelude.{◌≡◌, ◌≤◌, ◌+◌, ◌⊎◌, ◌↔◌, Bool, IsTrue, MatchOption, OnOk, length};
+ghost use Rattle.std.specs.Prelude.{◌≡◌, ◌≤◌, ◌+◌, ◌⊎◌, ◌↔◌, Bool, IsTrue, List, MatchOption, OnOk, Some, ℕ};
+ghost use Rattle.std.specs.Prelude.{length};
 ghost use Rattle.d64_image.specs.History.{OnlyReads, WritesNothing};
 ghost use Rattle.d64_image.specs.Images.{Image};
 ghost use Rattle.disk_layout.specs.Clean.{IsClean};
@@ -11,12 +12,13 @@ ghost use Rattle.drive_channels.specs.Spelling.{IsInitialize, IsValidate, wanted
 ghost use Rattle.drive_channels.specs.Spelling.{wanted_record};
 ghost use Rattle.drive_channels.specs.State.{view_of};
 ghost use Rattle.drive_channels.specs.Tables.{Commands, InFile, Moves, MovesTo};
+ghost use Rattle.drive_channels.specs.declared.known.Known.{Known};
 ghost use Rattle.drive_channels.specs.declared.status.Status as statuses;
 ghost use Rattle.layout_check.specs.Repaired.{MendsFrom};
 
 use crate::drive::Drive;
 use crate::faults::Dead;
-use crate::found::{Found, Spot};
+use crate::found::{Found, Opened, Spot};
 use crate::known::Known;
 use crate::status::Status;
 use d64_image::Sectors;
@@ -24,21 +26,31 @@ use disk_layout::Fault;
 use layout_check::repair;
 use rel_records::{blocks_for, has_records};
 
+/// Whether the command is this word.
+fn is_word(text: &[u8], word: &[u8]) -> bool
+    ensures { IsTrue result ↔ (text.now ≡ word.now) }
+{
+    text == word
+}
+
 /// Whether the command asks for the disk to be mended.
 fn is_validate(text: &[u8]) -> bool
     ensures { IsTrue result ↔ IsValidate text.now }
 {
-    text == &b"V"[..] || text == &b"V0"[..] || text == &b"VALIDATE"[..] || text == &b"VALIDATE0"[..]
+    is_word(text, b"V")
+        || is_word(text, b"V0")
+        || is_word(text, b"VALIDATE")
+        || is_word(text, b"VALIDATE0")
 }
 
 /// Whether it asks for nothing here.
 fn is_initialize(text: &[u8]) -> bool
     ensures { IsTrue result ↔ IsInitialize text.now }
 {
-    text == &b"I"[..]
-        || text == &b"I0"[..]
-        || text == &b"INITIALIZE"[..]
-        || text == &b"INITIALIZE0"[..]
+    is_word(text, b"I")
+        || is_word(text, b"I0")
+        || is_word(text, b"INITIALIZE")
+        || is_word(text, b"INITIALIZE0")
 }
 
 /// The place that a `P` asks for, where it is as long as one.
@@ -85,6 +97,33 @@ fn go_to(found: &Found, spot: &mut Spot, wanted: Spot) -> Status
     Status::Ok
 }
 
+impl Opened {
+    /// Goes to a place, where the open channel is the one that is meant: what that comes to.
+    fn position(&mut self, wanted: Spot) -> Status
+        requires record_low { 1 ≤ wanted.record_number }
+        requires record_high { wanted.record_number ≤ 65535 }
+        requires position { 1 ≤ wanted.position }
+        ensures row { (img : Image) → (k : Known) → (text : List ℕ) → (s : statuses.Status)
+            → k.last ≡ Some self.old → IsKnown img k → (length text ≡ 4) ⊎ (length text ≡ 5)
+            → wanted.channel ≡ wanted_channel text → wanted.record_number ≡ wanted_record text
+            → wanted.position ≡ wanted_position text
+            → Moves (shown img k s) text (shown img (record {
+              last = Some self.new;
+              before = k.before;
+              checked = k.checked;
+            }) result) }
+        ensures known { (img : Image) → (k : Known) → k.last ≡ Some self.old → IsKnown img k
+            → IsKnown img (record { last = Some self.new; before = k.before; checked = k.checked }) }
+    {
+        if let Some(spot) = &mut self.spot {
+            if spot.channel == wanted.channel {
+                return go_to(&self.found, spot, wanted);
+            }
+        }
+        Status::NoChannel
+    }
+}
+
 impl Known {
     /// Places the open channel, where the `P` names it: what it comes to.
     fn position(&mut self, text: &[u8]) -> Status
@@ -96,11 +135,7 @@ impl Known {
             return Status::SyntaxError;
         };
         if let Some(opened) = &mut self.last {
-            if let Some(spot) = &mut opened.spot {
-                if spot.channel == wanted.channel {
-                    return go_to(&opened.found, spot, wanted);
-                }
-            }
+            return opened.position(wanted);
         }
         Status::NoChannel
     }

@@ -17,6 +17,7 @@ ghost use Rattle.drive_channels.specs.Tables.{Opens, OpensFile};
 ghost use Rattle.drive_channels.specs.Wishes.{wish_of};
 ghost use Rattle.rel_records.specs.creation.Made.{creation_writes};
 ghost use Rattle.drive_channels.specs.Inside.{HasLooked, IsFound, IsKnown, channel_of, found_in, shown};
+ghost use Rattle.drive_channels.specs.declared.found.Found.{Found};
 ghost use Rattle.drive_channels.specs.declared.status.Status as statuses;
 
 use crate::drive::Drive;
@@ -58,6 +59,24 @@ fn find_file<D: Sectors>(disk: &mut D, name: &[u8]) -> Result<Option<Found>, Dea
     }
 }
 
+impl Opened {
+    /// Changes places with the file before, where that has this name. Whether it has.
+    fn recall(&mut self, before: &mut Option<Found>, name: &[u8]) -> bool
+        ensures found { result ≡ true → (e : Found) × (before.old ≡ Some e) × (e.name.items ≡ name.now)
+            × (self.new ≡ record { found = e; spot = self.old.spot }) × (before.new ≡ Some self.old.found) }
+        ensures other { result ≡ false
+            → (self.new ≡ self.old) × (before.new ≡ before.old) × IfSome before.old (λ e. e.name.items ≢ name.now) }
+    {
+        if let Some(found) = before {
+            if found.is_named(name) {
+                swap(&mut self.found, found);
+                return true;
+            }
+        }
+        false
+    }
+}
+
 impl Known {
     /// Whether a channel is open.
     fn is_open(&self) -> bool
@@ -91,12 +110,7 @@ impl Known {
             return true;
         }
         if let Some(opened) = &mut self.last {
-            if let Some(found) = &mut self.before {
-                if found.is_named(name) {
-                    swap(&mut opened.found, found);
-                    return true;
-                }
-            }
+            return opened.recall(&mut self.before, name);
         }
         false
     }
@@ -242,10 +256,11 @@ impl Known {
         let Some(wish) = wish(text) else {
             return Ok(Status::SyntaxError);
         };
-        if !self.passes_check(disk)? {
-            return Ok(Status::DirError);
+        match self.passes_check(disk) {
+            Ok(true) => self.open_file(disk, channel, wish),
+            Ok(false) => Ok(Status::DirError),
+            Err(dead) => Err(dead),
         }
-        self.open_file(disk, channel, wish)
     }
 
     /// Opens what the text asks for: what that comes to. The name of a file that is remembered is only compared.

@@ -1,5 +1,6 @@
 //! Reading from a channel.
-ghost use Rattle.std.specs.Prelude.{◌≡◌, ◌≢◌, ◌⊎◌, ◌<◌, ◌≤◌, ◌-◌, [], ℕ, true, OnOk, drop, length, slice_index};
+ghost use Rattle.std.specs.Prelude.{◌≡◌, ◌≢◌, ◌⊎◌, ◌<◌, ◌≤◌, ◌-◌, [], ℕ, true, OnOk, Some, drop, length};
+ghost use Rattle.std.specs.Prelude.{slice_index};
 ghost use Rattle.d64_image.specs.History.{OnlyReads};
 ghost use Rattle.drive_channels.specs.Calls.{ReadsAt, ReadsOn};
 ghost use Rattle.drive_channels.specs.Given.{IsGiven};
@@ -7,10 +8,11 @@ ghost use Rattle.drive_channels.specs.Inside.{IsFound, IsKnown, IsSpot};
 ghost use Rattle.drive_channels.specs.Serving.{Serves};
 ghost use Rattle.drive_channels.specs.State.{view_of};
 ghost use Rattle.drive_channels.specs.Tables.{Reads};
+ghost use Rattle.drive_channels.specs.declared.known.Known.{Known};
 
 use crate::drive::Drive;
 use crate::faults::Dead;
-use crate::found::{Found, Spot};
+use crate::found::{Found, Opened, Spot};
 use crate::known::Known;
 use crate::status::Status;
 use arrayvec::ArrayVec;
@@ -95,6 +97,32 @@ fn read_at<D: Sectors>(
     }
 }
 
+impl Opened {
+    /// Reads where its channel is open and has this number.
+    fn read<D: Sectors>(
+        &mut self,
+        disk: &mut D,
+        channel: u8,
+        to: &mut ArrayVec<u8, DATA>,
+    ) -> Result<Status, Dead>
+        requires { (k : Known) × (k.last ≡ Some self.old) × IsKnown (D.history.image disk.old) k }
+        ensures { (k : Known) → k.last ≡ Some self.old → IsKnown (D.history.image disk.old) k
+            → ReadsOn D.history disk.old disk.new k (record {
+              last = Some self.new;
+              before = k.before;
+              checked = k.checked;
+            }) channel to.new.items result }
+    {
+        to.clear();
+        if let Some(spot) = &mut self.spot {
+            if spot.channel == channel {
+                return read_at(disk, &self.found, spot, to);
+            }
+        }
+        Ok(Status::FileNotOpen)
+    }
+}
+
 impl Known {
     /// Reads where the channel is the open one.
     fn read<D: Sectors>(
@@ -106,14 +134,10 @@ impl Known {
         requires known { IsKnown (D.history.image disk.old) self.old }
         ensures { ReadsOn D.history disk.old disk.new self.old self.new channel to.new.items result }
     {
-        to.clear();
         if let Some(opened) = &mut self.last {
-            if let Some(spot) = &mut opened.spot {
-                if spot.channel == channel {
-                    return read_at(disk, &opened.found, spot, to);
-                }
-            }
+            return opened.read(disk, channel, to);
         }
+        to.clear();
         Ok(Status::FileNotOpen)
     }
 }

@@ -1,5 +1,5 @@
 //! Writing to a channel.
-ghost use Rattle.std.specs.Prelude.{◌≡◌, ◌≤◌, ◌+◌, [], OnErr, OnOk, length};
+ghost use Rattle.std.specs.Prelude.{◌≡◌, ◌≤◌, ◌+◌, [], OnErr, OnOk, Some, length};
 ghost use Rattle.d64_image.specs.History.{Changes, OnlyReads};
 ghost use Rattle.disk_layout.specs.Layout.{File, Layout, record_length};
 ghost use Rattle.drive_channels.specs.Calls.{IsPlace, WritesAt, WritesOn};
@@ -9,13 +9,14 @@ ghost use Rattle.drive_channels.specs.Moments.{IsOnTheWay, writes_for};
 ghost use Rattle.drive_channels.specs.Serving.{Serves};
 ghost use Rattle.drive_channels.specs.State.{Channel, view_of};
 ghost use Rattle.drive_channels.specs.Tables.{HasOn, IsOn, Writes};
+ghost use Rattle.drive_channels.specs.declared.known.Known.{Known};
 ghost use Rattle.drive_channels.specs.declared.status.Status.TheVariants.{FileTooLarge};
 ghost use Rattle.rel_records.specs.Written.{IsInOneBlock};
 ghost use Rattle.rel_records.specs.growth.Growth.{records_had};
 
 use crate::drive::Drive;
 use crate::faults::Dead;
-use crate::found::{Found, Spot};
+use crate::found::{Found, Opened, Spot};
 use crate::known::Known;
 use crate::status::Status;
 use d64_image::Sectors;
@@ -84,6 +85,26 @@ fn write_at<D: Sectors>(
     write_text(disk, found, spot, text)
 }
 
+impl Opened {
+    /// Writes where its channel is open and has this number.
+    fn write<D: Sectors>(&mut self, disk: &mut D, channel: u8, text: &[u8]) -> Result<Status, Dead>
+        requires { (k : Known) × (k.last ≡ Some self.old) × IsKnown (D.history.image disk.old) k }
+        ensures { (k : Known) → k.last ≡ Some self.old → IsKnown (D.history.image disk.old) k
+            → WritesOn D.history disk.old disk.new k (record {
+              last = Some self.new;
+              before = k.before;
+              checked = k.checked;
+            }) channel text.now result }
+    {
+        if let Some(spot) = &mut self.spot {
+            if spot.channel == channel {
+                return write_at(disk, &mut self.found, spot, text);
+            }
+        }
+        Ok(Status::FileNotOpen)
+    }
+}
+
 impl Known {
     /// Writes where the channel is the open one.
     fn write<D: Sectors>(&mut self, disk: &mut D, channel: u8, text: &[u8]) -> Result<Status, Dead>
@@ -91,11 +112,7 @@ impl Known {
         ensures { WritesOn D.history disk.old disk.new self.old self.new channel text.now result }
     {
         if let Some(opened) = &mut self.last {
-            if let Some(spot) = &mut opened.spot {
-                if spot.channel == channel {
-                    return write_at(disk, &mut opened.found, spot, text);
-                }
-            }
+            return opened.write(disk, channel, text);
         }
         Ok(Status::FileNotOpen)
     }

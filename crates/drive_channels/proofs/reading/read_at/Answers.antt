@@ -1,9 +1,12 @@
-use Rattle.std.proofs.Common.{ℕ, List, drop, ◌-◌, ◌≡◌, ◌⊎◌, inl, inr, Err, arith, subst}
+-- A record is given, or isn't there, or the device failed.
+use Rattle.std.proofs.Common.{ℕ, List, ap, drop, length, ◌-◌, ◌≡◌, ◌≤◌, ◌∙◌, ◌⊎◌, inl, inr, Err, arith, subst, sym}
 use Rattle.d64_image.specs.History.{History}
 use Rattle.drive_channels.specs.Given.{IsGiven}
 use Rattle.rel_records.specs.Faults.{TellsRelFault}
 use Rattle.rel_records.specs.declared.faults.RelFault.{RelFault}
 use Rattle.rel_records.specs.declared.faults.RelFault.TheVariants as faults
+use Rattle.drive_channels.proofs.Refusals.{device-failed}
+use Rattle.rel_records.specs.File.{length_of}
 use Rattle.drive_channels.proofs.Rows.{absent-row, read-row}
 use Rattle.drive_channels.proofs.reading.read_at.Goals as goal
 
@@ -52,3 +55,27 @@ returns-in_default g c =
       reads = c.read_record.ensures.reads;
       failures = m.1;
     }
+
+pub read_record-requires : goal.read_record-requires
+read_record-requires g c = record { of = (c.requires.found.layout, _, c.requires.found.file, c.requires.found.of) }
+
+pub give-requires : goal.give-requires
+give-requires g c =
+    let long : length c.as_slice.result.now ≡ length_of c.args.found.now.file = ap length c.as_slice.ensures.value
+    ∙ c.in-Ok.ensures.size in
+    record {
+      low = c.requires.spot.from;
+      within = subst (λ (n : ℕ). c.args.spot.now.position ≤ n) (sym long) c.requires.spot.within;
+      fits = c.as_slice.ensures.fits;
+    }
+
+pub advance-requires : goal.advance-requires
+advance-requires g c = omega (arith, c.requires.spot.up_to)
+
+pub returns-in-Device : goal.returns-in-Device
+returns-in-Device g c = record {
+  row = tt;
+  spot = tt;
+  reads = c.read_record.ensures.reads;
+  failures = device-failed (Unit {0}) g.D.Sectors.history _ _ _ c.in-Device.is c.in-Err.ensures.failures;
+}

@@ -1,3 +1,4 @@
+use Rattle.std.proofs.lemmas.Bool.{true≢false}
 use Rattle.std.proofs.Common.{◌≡◌, ◌⊎◌, false, inl, inr, arith, refl, ap, sym, ◌∙◌, List, None, Option, Result, ℕ}
 use Rattle.d64_image.proofs.Moments.{no_reads, reads_weaker}
 use Rattle.drive_channels.proofs.Steady.{orderly, served, died, still-dead}
@@ -64,3 +65,12 @@ returns-in_err-self-inside g c = record {
   unclean = rw (← c.self.view_is) c.in_err-self-inside.ensures.opened.unclean;
   moments = rw (← c.self.view_is) c.in_err-self-inside.ensures.opened.moments;
 }
+
+pub open-requires : goal.open-requires
+open-requires g c = record { known = c.self.invariant c.if-self.false }
+
+pub invariant_of-self : goal.invariant_of-self
+invariant_of-self g c = λ dead. absurd (true≢false dead)
+
+pub invariant_of-self-2 : goal.invariant_of-self-2
+invariant_of-self-2 g c = λ _. c.in_ok-self-inside.ensures.known

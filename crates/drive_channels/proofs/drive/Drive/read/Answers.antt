@@ -1,5 +1,6 @@
+-- A dead drive gives nothing; the device failed in the call, or the record is told.
 use Rattle.std.proofs.Common.{false, sym, subst, ap, refl, ◌∙◌, arith}
-use Rattle.std.proofs.lemmas.Bool.{false≢true}
+use Rattle.std.proofs.lemmas.Bool.{false≢true, true≢false}
 use Rattle.d64_image.specs.Images.{Image}
 use Rattle.drive_channels.proofs.Steady.{orderly, served, died, still-dead}
 use Rattle.drive_channels.specs.Inside.{IsKnown, seen_of}
@@ -43,3 +44,13 @@ returns-in_err-self-inside g c = record {
   reads = rw (← c.self.view_is) c.read.ensures.reads;
   silent = λ dead. absurd (false≢true (sym c.if-self.false ∙ ap (λ d. d.dead) c.self.view_is ∙ dead));
 }
+
+pub read-requires : goal.read-requires
+read-requires g c = record { known = c.self.invariant c.if-self.false }
+
+pub invariant_of-self : goal.invariant_of-self
+invariant_of-self g c = λ dead. absurd (true≢false dead)
+
+pub invariant_of-self-2 : goal.invariant_of-self-2
+invariant_of-self-2 g c = λ _. subst (λ (i : Image). IsKnown i c.read.new.self) (sym c.read.ensures.reads.image)
+    c.in_ok-self-inside.ensures.known

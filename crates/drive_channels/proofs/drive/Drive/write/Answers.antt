@@ -1,6 +1,7 @@
 use Rattle.drive_channels.proofs.Steady.{orderly, served, died, still-dead}
 use Rattle.drive_channels.proofs.Written.{begins, idle}
 use Rattle.drive_channels.specs.Inside.{seen_of}
+use Rattle.std.proofs.lemmas.Bool.{true≢false}
 use Rattle.std.proofs.Common.{arith, false, ap, refl, sym, ◌∙◌, Err, Ok, Result}
 use Rattle.std.specs.Prelude.{OnErr}
 use Rattle.rel_records.proofs.lemmas.Told.{not-done}
@@ -53,3 +54,12 @@ returns-in_err-self-inside g c = record {
   uncounted = rw (← c.self.view_is) (λ ch l f on rel there one. on-err c.from_residual.result
       ((c.in_err-self-inside.ensures.writes.at ch l f on rel).uncounted there one));
 }
+
+pub write-requires : goal.write-requires
+write-requires g c = record { known = c.self.invariant c.if-self.false }
+
+pub invariant_of-self : goal.invariant_of-self
+invariant_of-self g c = λ dead. absurd (true≢false dead)
+
+pub invariant_of-self-2 : goal.invariant_of-self-2
+invariant_of-self-2 g c = λ _. c.in_ok-self-inside.ensures.known

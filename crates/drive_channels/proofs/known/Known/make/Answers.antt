@@ -1,6 +1,7 @@
+-- A file that isn't there is made, or the reason why it can't be is told.
 use Rattle.std.proofs.Common.{◌≡◌, ◌⊎◌, inl, inr, None, Some, ap₂, refl}
 use Rattle.drive_channels.proofs.Opens.{full-row, known-made, known-still, made-row, makes-of, taken-row}
-use Rattle.drive_channels.proofs.Refusals.{calm}
+use Rattle.drive_channels.proofs.Refusals.{calm, device-failed}
 use Rattle.drive_channels.proofs.known.Known.make.Goals as goal
 use Rattle.drive_channels.specs.Inside.{channel_at}
 use Rattle.drive_channels.specs.declared.found.Spot.{Spot}
@@ -95,3 +96,26 @@ returns-in_default g c =
       | inr (inl x) ↦ x
       | inr (inr x) ↦ absurd (b x)
     ]
+
+pub create-requires : goal.create-requires
+create-requires g c = record {
+  clean = (c.requires.known.remembered c.requires.checked).clean;
+  name = c.requires.name.high;
+  low = c.requires.size.low;
+  high = c.requires.size.high;
+}
+
+pub new-requires : goal.new-requires
+new-requires g c = record { fits = c.requires.name.high }
+
+pub returns-in-Device : goal.returns-in-Device
+returns-in-Device g c = record {
+  row = tt;
+  known = tt;
+  refused = tt;
+  opened = tt;
+  reads = tt;
+  moments = λ l h. (c.in-Err.ensures.layout l h).moments;
+  failures = device-failed RelFile g.D.Sectors.history _ _ c.in-Err.fault c.in-Device.is
+      c.in-Err.ensures.refuses.failures;
+}

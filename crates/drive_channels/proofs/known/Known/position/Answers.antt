@@ -1,11 +1,25 @@
-use Rattle.std.proofs.Common.{rules}
-use Rattle.drive_channels.proofs.Moves.{move-on}
-use Rattle.drive_channels.proofs.Steady.{found-last}
+-- A P: too short or too long, to the file opened last, or to none.
+use Rattle.std.proofs.Common.{inl, refl}
+use Rattle.drive_channels.proofs.Moves.{move-none}
+use Rattle.drive_channels.proofs.Written.{no-file}
 use Rattle.drive_channels.proofs.known.Known.position.Goals as goal
 
-pub returns-then-spot-wanted-clause-row : goal.returns-then-spot-wanted-clause-row
-returns-then-spot-wanted-clause-row c = λ img s known. move-on img c.in-Some-last.opened.found c.in-Some-spot.spot
-    c.in-Some.wanted c.args.self.now c.args.text.now s _
-    c.in-Some.ensures.0 c.in-Some.ensures.1 c.in-Some.ensures.2 c.in-Some.ensures.3 (search rules) (search rules)
-    (c.go_to.ensures.row img s c.args.self.now.checked (found-last img c.args.self.now c.in-Some-last.opened known
-    (search rules)))
+pub returns-in_default : goal.returns-in_default
+returns-in_default c = record {
+  row = λ img s known. inl (c.in_default.ensures, refl);
+  known = λ img known. known;
+}
+
+pub returns-in-Some-last : goal.returns-in-Some-last
+returns-in-Some-last c = record {
+  row = λ img s known. c.position.ensures.row img c.args.self.now c.args.text.now s c.in-Some-last.is known
+      c.in-Some.ensures.0 c.in-Some.ensures.1 c.in-Some.ensures.2 c.in-Some.ensures.3;
+  known = λ img known. c.position.ensures.known img c.args.self.now c.in-Some-last.is known;
+}
+
+pub returns : goal.returns
+returns c = record {
+  row = λ img s known. move-none img c.args.self.now _ c.args.text.now s refl c.in-Some.ensures.0
+      (no-file c.args.self.now.last _ c.in_default-last.is);
+  known = λ img known. known;
+}

@@ -1,14 +1,44 @@
-use Rattle.std.proofs.Common.{refl, rules}
+-- The file is the one opened last, or the one before, or neither.
+use Rattle.std.proofs.Common.{◌∙◌, Option, Some, ap, ap₂, refl, sym}
+use Rattle.std.proofs.lemmas.Bool.{false≢true, true≢false}
 use Rattle.drive_channels.proofs.Finds.{looked-before, looked-last, not-last}
+use Rattle.drive_channels.specs.declared.found.Found.{Found}
+use Rattle.drive_channels.specs.declared.found.Opened.{Opened}
 use Rattle.drive_channels.proofs.known.Known.recall.Goals as goal
 
-pub returns-then-is_last-clause-found : goal.returns-then-is_last-clause-found
-returns-then-is_last-clause-found c = λ img known _. looked-last img c.args.self.now c.args.name.now c.is_last.result
-    c.is_last.ensures c.if-is_last.true c.requires.closed known
+pub returns-then-is_last : goal.returns-then-is_last
+returns-then-is_last c = record {
+  found = λ img known _. looked-last img c.args.self.now c.args.name.now c.is_last.result
+      c.is_last.ensures c.if-is_last.true c.requires.closed known;
+  other = λ no. absurd (true≢false no);
+  checked = refl;
+}
 
-pub returns-then-is_named-clause-found : goal.returns-then-is_named-clause-found
-returns-then-is_named-clause-found c = λ img known _. looked-before img c.args.self.now _ c.in-Some.opened
-    c.in-Some-before.found _ _ c.args.name.now known (search rules) (search rules) c.requires.closed
-    (not-last c.args.self.now.last c.args.name.now c.is_last.result c.is_last.ensures c.if-is_last.false)
-    (c.is_named.ensures.0 c.if-is_named.true)
-    c.swap.ensures.x_after c.swap.ensures.y_after refl refl refl
+pub returns-in-Some : goal.returns-in-Some
+returns-in-Some c =
+    let other = not-last c.args.self.now.last c.args.name.now c.is_last.result c.is_last.ensures c.if-is_last.false in
+    record {
+      found = λ img known yes. let (e, before, named, swapped, back) = c.recall.ensures.found yes in
+          looked-before img c.args.self.now _ c.in-Some.opened e e c.in-Some.opened.found c.args.name.now known
+          c.in-Some.is before c.requires.closed other named refl refl
+          (ap (λ (o : Opened). Some o) swapped) back refl;
+      other = λ no. let (same, kept, unnamed) = c.recall.ensures.other no in (
+        ap₂ (λ (last : Option Opened) (before : Option Found). record {
+          last = last;
+          before = before;
+          checked = c.args.self.now.checked;
+        }) (ap (λ (o : Opened). Some o) same ∙ sym c.in-Some.is) kept,
+        other,
+      );
+      checked = refl;
+    }
+
+pub returns : goal.returns
+returns c = record {
+  found = λ img known yes. absurd (false≢true yes);
+  other = λ _. (
+    refl,
+    not-last c.args.self.now.last c.args.name.now c.is_last.result c.is_last.ensures c.if-is_last.false,
+  );
+  checked = refl;
+}
