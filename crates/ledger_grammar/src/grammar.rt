@@ -114,12 +114,8 @@ fn list_command<'a>(alloc: Global) -> Result<Command<'a>, AllocError>
 fn check_command<'a>(alloc: Global) -> Result<Command<'a>, AllocError>
     ensures { IfOk result (grammar.IsSubcommand grammar.check) }
 {
-    over_image(
-        alloc,
-        "check",
-        "Judges the layout of the image: prints OK, or what is wrong and where",
-        CHECK,
-    )
+    let about = "Judges the layout of the image: prints OK, or what is wrong and where";
+    over_image(alloc, "check", about, CHECK)
 }
 
 /// The script of a subcommand.
@@ -254,12 +250,8 @@ fn map_command<'a>(alloc: Global) -> Result<Command<'a>, AllocError>
 fn picture_command<'a>(alloc: Global) -> Result<Command<'a>, AllocError>
     ensures { IfOk result (grammar.IsSubcommand grammar.picture) }
 {
-    over_image(
-        alloc,
-        "picture",
-        "Prints a drawing of the disk, as an HTML page",
-        PICTURE,
-    )
+    let about = "Prints a drawing of the disk, as an HTML page";
+    over_image(alloc, "picture", about, PICTURE)
 }
 
 /// `dry SCRIPT`
