@@ -256,11 +256,10 @@ impl Known {
         let Some(wish) = wish(text) else {
             return Ok(Status::SyntaxError);
         };
-        match self.passes_check(disk) {
-            Ok(true) => self.open_file(disk, channel, wish),
-            Ok(false) => Ok(Status::DirError),
-            Err(dead) => Err(dead),
+        if !self.passes_check(disk)? {
+            return Ok(Status::DirError);
         }
+        self.open_file(disk, channel, wish)
     }
 
     /// Opens what the text asks for: what that comes to. The name of a file that is remembered is only compared.

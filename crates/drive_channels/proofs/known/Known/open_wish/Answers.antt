@@ -1,10 +1,9 @@
--- A text that is no wish, a disk that isn't clean, a device that failed, or what opening the file comes to.
 use Rattle.std.proofs.Common.{true, inl, inr, ap, ap₂, arith, refl, subst, sym, ◌∙◌}
 use Rattle.std.proofs.lemmas.Result.{IfOk-weaker}
 use Rattle.d64_image.proofs.Moments.{no_reads}
 use Rattle.d64_image.specs.Images.{Image}
 use Rattle.drive_channels.proofs.Openings.{checked-shown, opened-by, past, read-by}
-use Rattle.drive_channels.proofs.Openings.{unspelled}
+use Rattle.drive_channels.proofs.Openings.{tells-failed, unspelled}
 use Rattle.drive_channels.proofs.Wishes.{wish-one}
 use Rattle.drive_channels.proofs.known.Known.open_wish.Goals as goal
 use Rattle.drive_channels.specs.Inside.{IsKnown, channel_of, shown}
@@ -13,15 +12,15 @@ use Rattle.drive_channels.specs.State.{View}
 use Rattle.drive_channels.specs.Tables.{OpensFile}
 use Rattle.drive_channels.specs.Wishes.{wish_of}
 use Rattle.drive_channels.specs.declared.known.Known.{Known}
-use Rattle.rel_records.proofs.lemmas.Told.{tells-after}
+use Rattle.rel_records.proofs.lemmas.Told.{none-done, not-done, tells-after}
 use Rattle.drive_channels.specs.declared.status.Status.TheVariants as statuses
 
-pub returns-in-Ok-false : goal.returns-in-Ok-false
-returns-in-Ok-false g c =
+pub returns-then-not-branch : goal.returns-then-not-branch
+returns-then-not-branch g c =
     record {
       row = λ s.
           let img = g.D.Sectors.history.image in
-          let refused = c.in-Ok-false.ensures.refused c.in-Ok-false.field-0-test in
+          let refused = c.in_ok-passes_check.ensures.refused c.if-not-branch.true in
           past (shown (img c.args.disk.now) c.args.self.now s) c.args.channel c.args.text.now _ (wish_of c.in-Some.wish)
           c.requires.channel.low c.requires.channel.high c.requires.closed c.in-Some.ensures
           (inl (
@@ -32,15 +31,15 @@ returns-in-Ok-false g c =
       known =
           subst (λ (i : Image). IsKnown i c.passes_check.new.self) (sym c.passes_check.ensures.reads.image)
           (subst (IsKnown (g.D.Sectors.history.image c.args.disk.now))
-          (sym (c.in-Ok-false.ensures.refused c.in-Ok-false.field-0-test).0) c.requires.known);
+          (sym (c.in_ok-passes_check.ensures.refused c.if-not-branch.true).0) c.requires.known);
       opened = read-by g.D.Sectors.history _ _ 2115 c.args.text.now _ _ _ (omega arith) c.passes_check.ensures.reads;
-      failures = c.in-Ok-false.ensures.failures;
+      failures = c.in_ok-passes_check.ensures.failures;
     }
 
-pub returns-in-Ok-true : goal.returns-in-Ok-true
-returns-in-Ok-true g c =
+pub returns : goal.returns
+returns g c =
     let img = g.D.Sectors.history.image in
-    let passed = c.in-Ok-true.ensures.passed c.in-Ok-true.field-0-test in
+    let passed = c.in_ok-passes_check.ensures.passed c.if-not-branch.false in
     record {
       row =
           IfOk-weaker c.open_file.result _ _ (λ status row s.
@@ -57,7 +56,7 @@ returns-in-Ok-true g c =
                 (subst (λ (x : View). OpensFile x c.args.channel (wish_of c.in-Some.wish)
                 (shown (img c.open_file.new.disk) c.open_file.new.self status))
                 (checked-shown (img c.args.disk.now) (img c.passes_check.new.disk) c.args.self.now
-                c.passes_check.new.self s c.passes_check.ensures.reads.image c.in-Ok-true.ensures.last
+                c.passes_check.new.self s c.passes_check.ensures.reads.image c.in_ok-passes_check.ensures.last
                 passed.0)
                 (row s))),
           )))
@@ -66,10 +65,11 @@ returns-in-Ok-true g c =
       opened =
           opened-by g.D.Sectors.history _ _ _ c.args.text.now (wish_of c.in-Some.wish) _ _ c.open_file.result
           c.passes_check.ensures.reads
-          (passed.1.remembered passed.0).clean c.in-Some.ensures
+          ((c.in_ok-passes_check.ensures.passed c.if-not-branch.false).1.remembered
+          (c.in_ok-passes_check.ensures.passed c.if-not-branch.false).0).clean c.in-Some.ensures
           (λ v is. wish-one c.args.text.now v (wish_of c.in-Some.wish) is c.in-Some.ensures) c.requires.closed
           c.open_file.ensures.opened;
-      failures = tells-after g.D.Sectors.history _ _ _ c.in-Ok-true.ensures.failures c.open_file.result
+      failures = tells-after g.D.Sectors.history _ _ _ c.in_ok-passes_check.ensures.failures c.open_file.result
           c.open_file.ensures.failures;
     }
 
@@ -85,22 +85,25 @@ returns-in_default g c =
       failures = refl;
     }
 
-pub returns-in-Err : goal.returns-in-Err
-returns-in-Err g c = record {
-  row = tt;
-  known = tt;
-  opened = read-by g.D.Sectors.history _ _ 2115 c.args.text.now _ _ _ (omega arith) c.passes_check.ensures.reads;
-  failures = c.in-Err.ensures.failures;
-}
+pub returns-in_err-passes_check : goal.returns-in_err-passes_check
+returns-in_err-passes_check g c =
+    record {
+      row = none-done c.from_residual.result _ c.from_residual.ensures.1 _;
+      known = not-done c.from_residual.result _ c.from_residual.ensures.1 _;
+      opened = read-by g.D.Sectors.history _ _ 2115 c.args.text.now _ _ c.from_residual.result (omega arith)
+          c.passes_check.ensures.reads;
+      failures = tells-failed g.D.Sectors.history _ _ c.from_residual.result _ c.from_residual.ensures.1
+          c.in_err-passes_check.ensures.failures;
+    }
 
 pub open_file-requires-clause-shut : goal.open_file-requires-clause-shut
 open_file-requires-clause-shut g c =
-    let passed = c.in-Ok-true.ensures.passed c.in-Ok-true.field-0-test in
+    let passed = c.in_ok-passes_check.ensures.passed c.if-not-branch.false in
     record {
       known = subst (λ (i : Image). IsKnown i c.passes_check.new.self) (sym c.passes_check.ensures.reads.image)
           passed.1;
       checked = passed.0;
-      closed = ap channel_of c.in-Ok-true.ensures.last ∙ c.requires.closed;
+      closed = ap channel_of c.in_ok-passes_check.ensures.last ∙ c.requires.closed;
     }
 
 pub open_file-requires-clause-channel : goal.open_file-requires-clause-channel
