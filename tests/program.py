@@ -3,13 +3,14 @@
 
     tests/program.py
 
-It prints a line for each thing tried; some five minutes. The status is 1 where one is otherwise than it should be."""
+It prints a line for each thing tried; some three minutes. The status is 1 where one is otherwise than it should be."""
 
 import os
 import shutil
 import subprocess
 import sys
 import tempfile
+import time
 from pathlib import Path
 
 TOP = Path(__file__).resolve().parent.parent
@@ -19,11 +20,12 @@ FILES = {
     "crates/low/src/lib.rt": """//! Numbers doubled.
 #![tactic(auto)]
 
-mod doubling;
+// called as a crate that this one doesn't stand on
+mod middle;
 
-pub use doubling::{Doubles, double};
+pub use middle::{Doubles, double};
 """,
-    "crates/low/src/doubling.rt": """//! What doubles a number.
+    "crates/low/src/middle.rt": """//! What doubles a number.
 ghost use Rattle.std.specs.Prelude.{◌≡◌};
 ghost use Rattle.low.specs.Numbers.{twice};
 
@@ -49,10 +51,10 @@ use Rattle.std.specs.Prelude.{ℕ, ◌*◌}
 unfoldable pub twice : ℕ → ℕ
 twice n = n * 2
 """,
-    "crates/low/proofs/doubling/double/Answers.antt": """-- The product is twice the number.
+    "crates/low/proofs/middle/double/Answers.antt": """-- The product is twice the number.
 use Rattle.std.proofs.Common.{refl}
 use Rattle.low.specs.Numbers.{twice}
-use Rattle.low.proofs.doubling.double.Goals as goal
+use Rattle.low.proofs.middle.double.Goals as goal
 
 pub returns : goal.returns
 unfolding twice
@@ -94,7 +96,7 @@ use middle::{Doubler, four_times};
 use std::io;
 
 fn main(rt: HostRuntime) -> io::Result<()> {
-    println!(rt; "{}", four_times(&Doubler, 5))
+    println!(rt; "middle::four_times: {}", four_times(&Doubler, 5))
 }
 """,
 }
@@ -125,7 +127,7 @@ class Repository:
 
     def is_built(self, ran):
         printed = subprocess.run([self.program], capture_output=True, text=True).stdout if self.program.exists() else None
-        return ran.returncode == 0 and ran.stdout == f"{self.program}\n" and printed == "20\n"
+        return ran.returncode == 0 and ran.stdout == f"{self.program}\n" and printed == "middle::four_times: 20\n"
 
     def run(self):
         ran = self.asked()
@@ -138,17 +140,21 @@ class Repository:
         ran = self.asked(tool=link)
         self.tell("and by a link", self.is_built(ran) and not ran.stderr, ran)
         self.try_wrong_bodies()
-        ran = self.asked("no_such_crate")
-        self.tell("a crate that isn't there is told", ran.returncode == 3 and "there is no crate no_such_crate" in ran.stderr, ran)
-        os.utime(self.program, (1, 1))
-        ran = self.asked(PATH="/usr/bin:/bin")
+        self.try_short_memory()
+        self.try_its_end()
+        for name in ("no_such_crate", "low"):
+            ran = self.asked(name)
+            self.tell(f"that {name} is no program is told", ran.returncode == 3 and f"there is no program {name}" in ran.stderr, ran)
+        (self.folder / "bin").mkdir()
+        (self.folder / "bin" / "python3").symlink_to(sys.executable)
+        ran = self.asked(PATH=f"{self.folder}/bin:/usr/bin:/bin")
         self.tell("so is a kit that isn't there", ran.returncode == 3 and "there is no command rt" in ran.stderr, ran)
         return self.failed == 0
 
     def try_wrong_bodies(self):
         """A source that isn't right anymore is told with its place, and its program isn't given."""
         cases = [
-            ("crates/low/src/doubling.rt", "number as u16 * 2", "number as u16 * 3", "doubling/double/Answers.antt"),
+            ("crates/low/src/middle.rt", "number as u16 * 2", "number as u16 * 3", "low/middle/double/Answers.antt"),
             ("crates/middle/src/low_words.rt", "double(number) as u32\n", "number as u32\n", "top::middle::low_words::four_times"),
             ("crates/top/src/main.rt", "&Doubler, 5", "&Doubler, true", "src/main.rt:8"),
         ]
@@ -161,6 +167,38 @@ class Repository:
             self.write(name, text)
         ran = self.asked()
         self.tell("put right, it is built again", self.is_built(ran) and "ledger: done after" in ran.stderr, ran)
+
+    def try_short_memory(self):
+        """No memory is enough for a tool that asks for more than there is: it proves some functions at a time."""
+        tool = self.folder / "tools" / "program"
+        text = tool.read_text()
+        tool.write_text(text.replace("ROOMY = 11_", "ROOMY = 11_000_000_"))
+        os.utime(self.program, (1, 1))
+        ran = self.asked()
+        self.tell("where memory is short, it is proved and built too", self.is_built(ran) and "all proved" not in ran.stderr, ran)
+        tool.write_text(text)
+
+    def try_its_end(self):
+        """Told to end, it ends the prover too, and leaves nothing behind but the program that was there."""
+        os.utime(self.program, (1, 1))
+        words = [self.folder / "tools" / "program", "top"]
+        how = {"stdout": subprocess.PIPE, "stderr": subprocess.PIPE, "text": True}
+        with subprocess.Popen(words, env={**os.environ, "TMPDIR": str(self.folder)}, **how) as started:
+            time.sleep(10)
+            began = list(self.folder.glob("ledger_build.*"))
+            started.terminate()
+            out, err = started.communicate()
+        left = [it for it in Path("/proc").glob("[0-9]*/cwd") if is_below(it, self.folder)]
+        good = len(began) == len(list(self.folder.glob("ledger_build.*"))) + 1 and not left and not out
+        self.tell("told to end, it ends the prover", good, subprocess.CompletedProcess(words, started.returncode, out, err))
+
+
+def is_below(link, folder):
+    """Whether a process works in the folder."""
+    try:
+        return folder in link.resolve().parents
+    except OSError:
+        return False
 
 
 def main():

@@ -4,9 +4,9 @@ ghost use Rattle.std.specs.Prelude.{◌≡◌, ◌+◌, IfErr, OnOk, Some};
 ghost use Rattle.std.specs.Io.KnownBytes.{Appends};
 ghost use Rattle.d64_image.specs.Places.{place_at};
 ghost use Rattle.disk_pictures.specs.Held.{drawn_in};
-ghost use Rattle.disk_pictures.specs.Pictures.{dash_text, is_open as open_at, is_track_open as track_open, open_group};
-ghost use Rattle.disk_pictures.specs.Pictures.{own_ring, radius as radius_of, track_dashes, white_head, white_ring};
-ghost use Rattle.disk_pictures.specs.Texts.{at_place, each_below, is_at_place};
+ghost use Rattle.disk_pictures.specs.Pictures.{is_open as open_at, is_track_open as track_open, open_group};
+ghost use Rattle.disk_pictures.specs.Pictures.{own_ring, track_dashes, white_head, white_ring};
+ghost use Rattle.disk_pictures.specs.Texts.{each_below, is_at_place};
 ghost use Rattle.disk_pictures.specs.declared.faults.PictureFault.TheVariants as faults;
 
 use crate::arcs::{Dash, radius};

@@ -92,11 +92,12 @@ with_version a = record { top = record a.top { has_version = true }; subs = a.su
 abbrev pub bare : App
 bare = with_required_subcommand (with_version (new_app (codes "ledger")))
 
--- a program that has the subcommands for a shop, and those for the files of a disk, too
+-- a program that has the subcommands for a shop too
 abbrev pub with_shop : App → App
 with_shop a = with_subcommand (with_subcommand (with_subcommand (with_subcommand (with_subcommand (with_subcommand
     a format.top) list.top) check.top) show.top) play.top) serve.top
 
+-- a program that has the subcommands for the files of a disk too
 abbrev pub with_files : App → App
 with_files a = with_subcommand (with_subcommand (with_subcommand (with_subcommand (with_subcommand
     a repair.top) records.top) bytes.top) make.top) store.top
