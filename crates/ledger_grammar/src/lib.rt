@@ -3,5 +3,6 @@
 
 mod grammar;
 mod help_texts;
+mod subcommands;
 
 pub use grammar::ledger_command;

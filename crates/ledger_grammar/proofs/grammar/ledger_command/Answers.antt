@@ -1,14 +1,35 @@
--- The subcommands are added one by one or by several, each to what the ones before made.
-use Rattle.ledger_grammar.specs.Grammar as grammar
-use Rattle.ledger_grammar.proofs.Grammars.{adds-known}
+-- Each subcommand is added to those before it, and the rows are the words that the program takes.
+use Rattle.std.proofs.Common.{◌≡◌, ◌∙◌, ℕ, List, [], ap, arith, fold, take}
+use Rattle.clap.specs.Words.{App, app_of}
+use Rattle.ledger_grammar.specs.Grammar.{bare}
+use Rattle.ledger_grammar.specs.declared.subcommands.Subcommand.{Subcommand}
+use Rattle.ledger_grammar.proofs.Grammars.{one-more, subcommand-made}
+use Rattle.ledger_grammar.proofs.Rows.{with_row}
 use Rattle.ledger_grammar.proofs.grammar.ledger_command.Goals as goal
+
+pub loop-subcommand-preserved : goal.loop-subcommand-preserved
+loop-subcommand-preserved c =
+    let at = c.loop-subcommand in
+    let none : Subcommand = record {
+      name = record { ref_ptr = (0, 0); now = [] };
+      about = record { ref_ptr = (0, 0); now = [] };
+      more = record { ref_ptr = (0, 0); now = [] };
+      values = record { ref_ptr = (0, 0); now = [] };
+    } in
+    one-more with_row bare _ at.subcommand-index none (λ a. app_of c.in_ok-program.program ≡ a) c.loop-subcommand-test.true
+    (subcommand-made at.program c.in_ok-subcommand_of.field-0 c.in_ok-program.program _ _ at.invariant
+    c.in_ok-subcommand_of.ensures c.in_ok-program.ensures)
+
+-- as many rows as there are
+all_rows : (app : App) (rows : List Subcommand) (i n : ℕ) → i ≡ n → app ≡ fold with_row bare (take i rows)
+    → app ≡ fold with_row bare (take n rows)
+all_rows app rows i n same known = known ∙ ap (λ k. fold with_row bare (take k rows)) same
 
 pub returns : goal.returns
 returns c =
-    let with_files = c.with_files-program.ensures _ (c.with_shop.ensures grammar.bare c.bare.ensures) in
-    let with_map = adds-known _ grammar.map c.with_files-program.result c.map_command.result c.adds-program.result with_files
-    c.map_command.ensures c.adds-program.ensures in
-    let with_picture = adds-known _ grammar.picture c.adds-program.result c.picture_command.result
-    c.adds-program-2.result with_map c.picture_command.ensures c.adds-program-2.ensures in
-    adds-known _ grammar.dry c.adds-program-2.result c.dry_command.result c.adds.result with_picture
-    c.dry_command.ensures c.adds.ensures
+    let at = c.loop-subcommand in
+    let within = at.auto.subcommand-index-end in
+    let past = c.loop-subcommand-test.false in
+    let all : at.subcommand-index ≡ 14 = omega arith in
+    let done = all_rows _ _ _ _ all at.invariant in
+    done

@@ -1,0 +1,190 @@
+//! The subcommands, a row each.
+use crate::help_texts::{
+    BYTES, CHECK, DRY, FORMAT, LIST, MAKE, MAP, PICTURE, PLAY, RECORDS, REPAIR, SERVE, SHOW, STORE,
+};
+
+/// A value that has to stand behind the name of a subcommand, or a flag, which may stand there or not.
+pub(crate) struct Value {
+    /// What help calls it; a flag has its word here too.
+    pub(crate) name: &'static str,
+    /// The word behind two hyphens, where it has one.
+    pub(crate) word: Option<&'static str>,
+    pub(crate) is_flag: bool,
+    pub(crate) help: &'static str,
+}
+
+/// A subcommand, and what help says of it: in a line, and below its words.
+pub(crate) struct Subcommand {
+    pub(crate) name: &'static str,
+    pub(crate) about: &'static str,
+    pub(crate) more: &'static str,
+    pub(crate) values: &'static [Value],
+}
+
+/// The image of a subcommand.
+const IMAGE: Value = Value {
+    name: "IMAGE",
+    word: None,
+    is_flag: false,
+    help: "The disk's image, a D64 file of 35 tracks",
+};
+
+/// The script of a subcommand.
+const SCRIPT: Value = Value {
+    name: "SCRIPT",
+    word: None,
+    is_flag: false,
+    help: "The script, a message a line; /dev/stdin is standard input",
+};
+
+/// The name of a file on the disk.
+const NAME: Value = Value {
+    name: "NAME",
+    word: None,
+    is_flag: false,
+    help: "The file's name; a byte that isn't plain text is a backslash and two digits, as \\c1",
+};
+
+/// The text of records of a subcommand.
+const RECORD_LINES: Value = Value {
+    name: "RECORDS",
+    word: None,
+    is_flag: false,
+    help: "The records, a line each, as records prints them; /dev/stdin is standard input",
+};
+
+/// All subcommands, in the order in which help lists them.
+pub(crate) const SUBCOMMANDS: [Subcommand; 14] = [
+    // format IMAGE --tills T
+    Subcommand {
+        name: "format",
+        about: "Makes the image of an empty shop, or replaces it",
+        more: FORMAT,
+        values: &[
+            IMAGE,
+            Value {
+                name: "T",
+                word: Some("tills"),
+                is_flag: false,
+                help: "How many tills the shop has, 1 to 64",
+            },
+        ],
+    },
+    // list IMAGE
+    Subcommand {
+        name: "list",
+        about: "Prints the directory of the image",
+        more: LIST,
+        values: &[IMAGE],
+    },
+    // check IMAGE
+    Subcommand {
+        name: "check",
+        about: "Judges the layout of the image: prints OK, or what is wrong and where",
+        more: CHECK,
+        values: &[IMAGE],
+    },
+    // show IMAGE
+    Subcommand {
+        name: "show",
+        about: "Prints the cards of the image, and the last two requests of each till with their answers",
+        more: SHOW,
+        values: &[IMAGE],
+    },
+    // play IMAGE SCRIPT [--sync]
+    Subcommand {
+        name: "play",
+        about: "Plays the messages of a script on the image, and prints the reply to each",
+        more: PLAY,
+        values: &[
+            IMAGE,
+            SCRIPT,
+            Value {
+                name: "sync",
+                word: Some("sync"),
+                is_flag: true,
+                help: "Brings each sector to the disk before the next is written, and not all at the end",
+            },
+        ],
+    },
+    // serve IMAGE [--unsynced]
+    Subcommand {
+        name: "serve",
+        about: "Answers the messages that come on standard input, each before the next is read",
+        more: SERVE,
+        values: &[
+            IMAGE,
+            Value {
+                name: "unsynced",
+                word: Some("unsynced"),
+                is_flag: true,
+                help: "Leaves it to the system when sectors come to the disk",
+            },
+        ],
+    },
+    // repair IMAGE
+    Subcommand {
+        name: "repair",
+        about: "Makes the map, the side sectors and the block counts of a sound disk right",
+        more: REPAIR,
+        values: &[IMAGE],
+    },
+    // records IMAGE NAME
+    Subcommand {
+        name: "records",
+        about: "Prints the records of a relative file, a line each",
+        more: RECORDS,
+        values: &[IMAGE, NAME],
+    },
+    // bytes IMAGE NAME
+    Subcommand {
+        name: "bytes",
+        about: "Prints the bytes of a file of any type",
+        more: BYTES,
+        values: &[IMAGE, NAME],
+    },
+    // make IMAGE NAME --length L
+    Subcommand {
+        name: "make",
+        about: "Makes a relative file with a block of empty records",
+        more: MAKE,
+        values: &[
+            IMAGE,
+            NAME,
+            Value {
+                name: "L",
+                word: Some("length"),
+                is_flag: false,
+                help: "How many bytes a record has, 1 to 254",
+            },
+        ],
+    },
+    // store IMAGE NAME RECORDS
+    Subcommand {
+        name: "store",
+        about: "Stores records in a relative file, and prints the lines of those that were otherwise",
+        more: STORE,
+        values: &[IMAGE, NAME, RECORD_LINES],
+    },
+    // map IMAGE
+    Subcommand {
+        name: "map",
+        about: "Prints which sector is whose: a line for each track, then the files and what a check tells",
+        more: MAP,
+        values: &[IMAGE],
+    },
+    // picture IMAGE
+    Subcommand {
+        name: "picture",
+        about: "Prints a drawing of the disk, as an HTML page",
+        more: PICTURE,
+        values: &[IMAGE],
+    },
+    // dry SCRIPT
+    Subcommand {
+        name: "dry",
+        about: "Prints the reply to each message of a script, from an empty shop on, without a disk",
+        more: DRY,
+        values: &[SCRIPT],
+    },
+];
