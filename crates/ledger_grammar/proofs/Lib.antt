@@ -1,2 +1,1 @@
 pub mod Grammars
-pub mod Rows

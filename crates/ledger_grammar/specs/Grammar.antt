@@ -1,11 +1,10 @@
 -- The words that the program takes (our own), as `clap` reads a command line.
-use Rattle.std.specs.Prelude.{◌≡◌, List, Result, Ok, Err, Some, false, true, [], codes}
+use Rattle.std.specs.Prelude.{◌≡◌, List, Some, false, true, [], codes}
 use Rattle.std.specs.Prelude.{unwrap_or}
 use Rattle.clap.specs.declared.builder.action.ArgAction.TheVariants.{SetTrue}
 use Rattle.clap.specs.declared.builder.command.Command.{Command}
 use Rattle.clap.specs.declared.builder.command.Command.TheViews.{out-Command}
-use Rattle.clap.specs.Words.{AddsSubcommand, App, Row, Rule, Text, app_of, first_of, new_app, new_rule, with_rule}
-use Rattle.clap.specs.Words.{with_subcommand}
+use Rattle.clap.specs.Words.{App, Row, Rule, Text, app_of, first_of, new_app, new_rule, with_rule, with_subcommand}
 
 -- a value that is required, shown by this name
 abbrev pub required : Text → Rule
@@ -114,9 +113,3 @@ pub record IsSubcommand (app : App) (c : Command) : Type 0 where
 -- the value of an argument, or an empty text where it has none
 abbrev pub value : Text → List Row → Text
 value id rows = unwrap_or (first_of id rows) []
-
--- a program that has one subcommand more, where both could be made
-abbrev pub AddsTo : {E : Type 0} → Result Command E → Result Command E → Command → Type 0
-AddsTo (Ok before) (Ok subcommand) program = AddsSubcommand before subcommand program
-AddsTo (Ok before) (Err _) program = ⊥
-AddsTo (Err _) _ program = ⊥

@@ -1,9 +1,9 @@
 //! The command line that the program takes.
-ghost use Rattle.std.specs.Prelude.{◌≡◌, IfOk, None, Some, codes, false, fold, if◌then◌else◌, not, option_map};
-ghost use Rattle.clap.specs.Words.{app_of, new_app, new_rule, rule_of, with_rule};
-ghost use Rattle.clap.specs.declared.builder.action.ArgAction.TheVariants.{SetTrue};
+ghost use Rattle.std.specs.Prelude.{◌≡◌, IfOk, Ok, codes, false};
+ghost use Rattle.clap.specs.Words.{app_of, new_app, rule_of};
 ghost use Rattle.clap.specs.declared.builder.command.Command.TheViews.{out-Command};
 ghost use Rattle.ledger_grammar.specs.Grammar as grammar;
+ghost use Rattle.ledger_grammar.specs.Rows as rows;
 
 use crate::help_texts::MORE;
 use crate::subcommands::{SUBCOMMANDS, Subcommand, Value};
@@ -23,11 +23,7 @@ fn named<'a>(alloc: Global, name: &'a str, about: &'a str, more: &'a str) -> Com
 
 /// What `clap` reads for a value or a flag.
 fn arg_of<'a>(alloc: Global, value: &Value) -> Arg<'a>
-    ensures rule { rule_of result ≡ record (new_rule value.now.name.now) {
-      long = option_map (λ word. word.now) value.now.word;
-      required = not value.now.is_flag;
-      action = if value.now.is_flag then Some SetTrue else None;
-    } }
+    ensures rule { rule_of result ≡ rows.rule value.now }
     ensures local { result.global ≡ false }
 {
     let arg = Arg::new(alloc, value.name).help(value.help);
@@ -44,11 +40,7 @@ fn arg_of<'a>(alloc: Global, value: &Value) -> Arg<'a>
 
 /// A subcommand with its values and flags.
 fn subcommand_of<'a>(alloc: Global, subcommand: &Subcommand) -> Result<Command<'a>, AllocError>
-    ensures { IfOk result (grammar.IsSubcommand (fold (λ app value. with_rule app (record (new_rule value.name.now) {
-      long = option_map (λ word. word.now) value.word;
-      required = not value.is_flag;
-      action = if value.is_flag then Some SetTrue else None;
-    })) (new_app subcommand.now.name.now) subcommand.now.values.now)) }
+    ensures { IfOk result (grammar.IsSubcommand (rows.app subcommand.now)) }
 {
     let mut command = named(alloc, subcommand.name, subcommand.about, subcommand.more);
     for value in subcommand.values {

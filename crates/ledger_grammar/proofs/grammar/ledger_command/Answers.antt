@@ -4,7 +4,7 @@ use Rattle.clap.specs.Words.{App, app_of}
 use Rattle.ledger_grammar.specs.Grammar.{bare}
 use Rattle.ledger_grammar.specs.declared.subcommands.Subcommand.{Subcommand}
 use Rattle.ledger_grammar.proofs.Grammars.{one-more, subcommand-made}
-use Rattle.ledger_grammar.proofs.Rows.{with_row}
+use Rattle.ledger_grammar.specs.Rows.{with_row}
 use Rattle.ledger_grammar.proofs.grammar.ledger_command.Goals as goal
 
 pub loop-subcommand-preserved : goal.loop-subcommand-preserved

@@ -2,7 +2,7 @@
 use Rattle.std.specs.Prelude.{◌≡◌, fold, take}
 use Rattle.clap.specs.Words.{app_of}
 use Rattle.ledger_grammar.specs.Grammar.{bare}
-use Rattle.ledger_grammar.proofs.Rows.{with_row}
+use Rattle.ledger_grammar.specs.Rows.{with_row}
 use Rattle.ledger_grammar.proofs.grammar.ledger_command.Given as goal
 
 abbrev pub invariant-loop-subcommand : goal.invariant-loop-subcommand

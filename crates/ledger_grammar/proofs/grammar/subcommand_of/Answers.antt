@@ -4,7 +4,7 @@ use Rattle.clap.specs.Words.{new_app}
 use Rattle.ledger_grammar.specs.Grammar.{IsSubcommand}
 use Rattle.ledger_grammar.specs.declared.subcommands.Value.{Value}
 use Rattle.ledger_grammar.proofs.Grammars.{arg-made, one-more}
-use Rattle.ledger_grammar.proofs.Rows.{with_value}
+use Rattle.ledger_grammar.specs.Rows.{with_value}
 use Rattle.ledger_grammar.proofs.grammar.subcommand_of.Goals as goal
 
 pub loop-value-preserved : goal.loop-value-preserved

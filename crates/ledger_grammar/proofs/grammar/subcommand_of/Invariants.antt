@@ -2,7 +2,7 @@
 use Rattle.std.specs.Prelude.{fold, take}
 use Rattle.clap.specs.Words.{new_app}
 use Rattle.ledger_grammar.specs.Grammar.{IsSubcommand}
-use Rattle.ledger_grammar.proofs.Rows.{with_value}
+use Rattle.ledger_grammar.specs.Rows.{with_value}
 use Rattle.ledger_grammar.proofs.grammar.subcommand_of.Given as goal
 
 abbrev pub invariant-loop-value : goal.invariant-loop-value
