@@ -6,6 +6,7 @@ use crate::refusals::Refusal;
 use disk_pictures::PictureFault;
 use keeper_commands::KeepFault;
 use ledger_commands::RunFault;
+use std::fmt::Display;
 use std::fs::{File, OpenFile, OpenOptions};
 use std::io::{self, Write};
 use std::rt::Files;
@@ -104,12 +105,17 @@ fn writes(job: &Job<'_>) -> bool {
     }
 }
 
+/// Tells this of the file at a path. Where it can't be told there is nobody left to tell.
+fn tell_of<E: Write, T: Display + Drop>(err: &mut E, path: &str, said: T) {
+    let _ = writeln!(err, "ledger: {path}: {said}");
+}
+
 /// Tells what the system says of a file that can't be opened. False where it can.
 fn told_unopened<T: Drop, E: Write>(err: &mut E, path: &str, tried: io::Result<T>) -> bool {
     match tried {
         Ok(_) => false,
         Err(error) => {
-            let _ = writeln!(err, "ledger: {path}: {error}");
+            tell_of(err, path, error);
             true
         }
     }
@@ -176,10 +182,12 @@ where
     E: Write,
 {
     const WANTED: &str = "an image of 35 tracks without error bytes has 174848";
-    let _ = match size_of(rt, image) {
-        Some(bytes) => writeln!(err, "ledger: {image} has {bytes} bytes; {WANTED}"),
-        None => writeln!(err, "ledger: {image}: {WANTED}"),
-    };
+    match size_of(rt, image) {
+        Some(bytes) => {
+            let _ = writeln!(err, "ledger: {image} has {bytes} bytes; {WANTED}");
+        }
+        None => tell_of(err, image, WANTED),
+    }
 }
 
 /// Tells a person which file a job is going to replace, where there is one. Where it can't be told there is nobody to
@@ -211,12 +219,8 @@ where
     match subject_of(refusal) {
         About::Files => tell_files(rt, job, err),
         About::Size => tell_size(rt, image, err),
-        About::Image(said) => {
-            let _ = writeln!(err, "ledger: {image}: {said}");
-        }
-        About::Text(said) => {
-            let _ = writeln!(err, "ledger: {}: {said}", text_of(job).unwrap_or(image));
-        }
+        About::Image(said) => tell_of(err, image, said),
+        About::Text(said) => tell_of(err, text_of(job).unwrap_or(image), said),
         About::Nothing => {}
     }
 }

@@ -52,9 +52,9 @@ impl Display for Refusal {
 
     fn fmt<W: fmt::Write>(&self, f: &mut Formatter<W>) -> fmt::Result {
         match self {
-            Refusal::Run(fault) => write!(f, "{fault}"),
-            Refusal::Keep(fault) => write!(f, "{fault}"),
-            Refusal::Draw(fault) => write!(f, "{fault}"),
+            Refusal::Run(fault) => fault.fmt(f),
+            Refusal::Keep(fault) => fault.fmt(f),
+            Refusal::Draw(fault) => fault.fmt(f),
             Refusal::InUse => f.write_str("IN USE"),
         }
     }

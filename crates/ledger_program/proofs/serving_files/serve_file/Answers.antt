@@ -1,6 +1,7 @@
 -- The cases of a service: the input came to its end, or a fault ended it; and the file failed, or not.
 use Rattle.std.proofs.Common.{◌≡◌, ◌∙◌, ap, ap₂, subst, sym, ⊎_elim}
 use Rattle.std.proofs.Math.Path.{subst₂}
+use Rattle.std.proofs.lemmas.Bool.{false≢true}
 use Rattle.std.proofs.lemmas.Result.{IfErr-weaker, IfOk-weaker}
 use Rattle.d64_image.specs.Keeps.{kept_or}
 use Rattle.d64_image.specs.Memory.{disk_image, sectors_in}
@@ -58,6 +59,11 @@ returns-in-Ok-serve-clause-err g c =
     (λ whole. let never = whole.1 in cc)
     x.1)
     c.file_of.ensures.err
+
+pub returns-in-Err-serve-clause-ok : goal.returns-in-Err-serve-clause-ok
+returns-in-Err-serve-clause-ok g c =
+    IfOk-weaker c.file_of-in-Err-serve.result _ _ (λ after x. absurd (false≢true x.2))
+    c.file_of-in-Err-serve.ensures.ok
 
 pub returns-in-Err-serve-clause-err : goal.returns-in-Err-serve-clause-err
 returns-in-Err-serve-clause-err g c =
