@@ -1,5 +1,5 @@
 //! The lines that are shown of a shop.
-ghost use Rattle.std.specs.Prelude.{◌≡◌, ◌≤◌, ◌+◌, ◌++◌, IfErr, OnOk, Some, codes, decimal, drop, length};
+ghost use Rattle.std.specs.Prelude.{◌≡◌, ◌≤◌, ◌+◌, ◌++◌, IfErr, OnOk, Some, decimal, drop, length};
 ghost use Rattle.std.specs.Io.KnownBytes.{Appends};
 ghost use Rattle.ledger_commands.specs.Shows.{card_line, card_part, told_line, told_part, till_part, top_line};
 ghost use Rattle.ledger_commands.specs.declared.faults.RunFault.TheVariants as faults;
@@ -12,22 +12,22 @@ use request_cards::{Answer, Request, write_before};
 use std::fmt::{self, Display, Formatter};
 use std::io::Write;
 
-/// A comma and an answer as it is printed.
+/// An answer as it is printed.
 #[derive(Clone, Copy)]
 struct AnswerText(Answer);
 
 impl Display for AnswerText {
-    ghost output = { λ text. Some (codes "," ++ answer_text text.0) };
+    ghost output = { λ text. Some (answer_text text.0) };
 
     fn fmt<W: fmt::Write>(&self, f: &mut Formatter<W>) -> fmt::Result {
         match self.0 {
-            Answer::Done(quantity) => write!(f, ",DONE,{quantity}"),
-            Answer::Moved(quantity, to_quantity) => write!(f, ",DONE,{quantity},{to_quantity}"),
-            Answer::Short(quantity) => write!(f, ",SHORT,{quantity}"),
-            Answer::Over(quantity) => write!(f, ",OVER,{quantity}"),
-            Answer::NoCard => f.write_str(",NO CARD"),
-            Answer::DiskFull => f.write_str(",72,DISK FULL"),
-            Answer::TooLarge => f.write_str(",52,FILE TOO LARGE"),
+            Answer::Done(quantity) => write!(f, "DONE,{quantity}"),
+            Answer::Moved(quantity, to_quantity) => write!(f, "DONE,{quantity},{to_quantity}"),
+            Answer::Short(quantity) => write!(f, "SHORT,{quantity}"),
+            Answer::Over(quantity) => write!(f, "OVER,{quantity}"),
+            Answer::NoCard => f.write_str("NO CARD"),
+            Answer::DiskFull => f.write_str("72,DISK FULL"),
+            Answer::TooLarge => f.write_str("52,FILE TOO LARGE"),
         }
     }
 }
@@ -93,6 +93,7 @@ fn put_line_of<W: Write>(
 {
     put(out, word)?;
     put(out, request.print().as_slice())?;
+    put(out, b",")?;
     put_line(out, AnswerText(answer))
 }
 
