@@ -17,3 +17,4 @@ pub mod Rows
 pub mod Sides
 pub mod Sound
 pub mod SoundPrinted
+pub mod Told

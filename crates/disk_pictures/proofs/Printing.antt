@@ -80,15 +80,6 @@ no-place-more told line place a before now n is none all =
     (below-more a (told before) (told before) n (λ s. at_place line (place s)) all
     (subst (Appends (told before) (told before)) (ap (at_place line) (sym none)) (Appends-nil (told before))))
 
--- one text more, where the texts aren't numbered
-pub flat-more : {X : Type 0} (line : X → List ℕ) (a b c : Option (List ℕ)) (xs : List X) (i : ℕ) (x : X)
-    → i < length xs → get_or xs i x ≡ x → Appends a b (flat_map line (take i xs)) → Appends b c (line x)
-    → Appends a c (flat_map line (take (i + 1) xs))
-flat-more line a b c xs i x inside here before more =
-    let taken = take_more xs i x inside ∙ ap (λ y. take i xs ++ y ∷ []) here in
-    subst (Appends a c) (flat_map_more line [] (take i xs) x ∙ ap (flat_map line) (sym taken))
-    (Appends-trans a b c _ _ before more)
-
 -- nothing was printed so far
 pub none-below : (a : Option (List ℕ)) (line : ℕ → List ℕ) → Appends a a (each_below 0 line)
 unfolding each_below
@@ -120,3 +111,70 @@ four a b c d e x y z u first second third last = Appends-trans a b e x (y ++ (z 
 pub all-below : (a b : Option (List ℕ)) (n m : ℕ) (line : ℕ → List ℕ) → n ≡ m → Appends a b (each_below n line)
     → Appends a b (each_below m line)
 all-below a b n m line all lines = subst (λ (k : ℕ). Appends a b (each_below k line)) all lines
+
+-- lines after a beginning: none so far, one more, and all with an end
+pub begun : (a b : Option (List ℕ)) (head : List ℕ) (line : ℕ → List ℕ) → Appends a b head
+    → Appends a b (head ++ each_below 0 line)
+unfolding each_below
+begun a b head line first = subst (Appends a b) (sym (append-nil head)) first
+
+pub begun-more : (a b c : Option (List ℕ)) (head : List ℕ) (n : ℕ) (line : ℕ → List ℕ)
+    → Appends a b (head ++ each_below n line) → Appends b c (line n)
+    → Appends a c (head ++ each_below (n + 1) line)
+unfolding each_below
+begun-more a b c head n line before more =
+    let next : n + 1 ≡ suc n = omega arith in
+    subst (λ (m : ℕ). Appends a c (head ++ each_below m line)) (sym next)
+    (subst (Appends a c) (append_assoc head (each_below n line) (line n))
+    (Appends-trans a b c (head ++ each_below n line) (line n) before more))
+
+pub ended : (a b c : Option (List ℕ)) (head end : List ℕ) (n m : ℕ) (line : ℕ → List ℕ) → n ≡ m
+    → Appends a b (head ++ each_below n line) → Appends b c end
+    → Appends a c (head ++ (each_below m line ++ end))
+ended a b c head end n m line all before last =
+    subst (λ (k : ℕ). Appends a c (head ++ (each_below k line ++ end))) all
+    (subst (Appends a c) (append_assoc head (each_below n line) end)
+    (Appends-trans a b c (head ++ each_below n line) end before last))
+
+-- the same, where the texts aren't numbered
+pub begun-flat : {X : Type 0} (line : X → List ℕ) (a b : Option (List ℕ)) (head : List ℕ) → Appends a b head
+    → Appends a b (head ++ flat_map line [])
+begun-flat line a b head first = subst (Appends a b) (sym (append-nil head)) first
+
+pub begun-flat-more : {X : Type 0} (line : X → List ℕ) (a b c : Option (List ℕ)) (head : List ℕ) (xs : List X) (i : ℕ)
+    (x : X)
+    → i < length xs → get_or xs i x ≡ x → Appends a b (head ++ flat_map line (take i xs)) → Appends b c (line x)
+    → Appends a c (head ++ flat_map line (take (i + 1) xs))
+begun-flat-more line a b c head xs i x inside here before more =
+    let taken = take_more xs i x inside ∙ ap (λ y. take i xs ++ y ∷ []) here in
+    subst (Appends a c)
+    (flat_map_more line head (take i xs) x ∙ ap (λ ys. head ++ flat_map line ys) (sym taken))
+    (Appends-trans a b c _ _ before more)
+
+pub ended-flat : {X : Type 0} (line : X → List ℕ) (a b c : Option (List ℕ)) (head end : List ℕ) (xs ys : List X)
+    → xs ≡ ys → Appends a b (head ++ flat_map line xs) → Appends b c end
+    → Appends a c (head ++ (flat_map line ys ++ end))
+ended-flat line a b c head end xs ys all before last =
+    subst (λ zs. Appends a c (head ++ (flat_map line zs ++ end))) all
+    (subst (Appends a c) (append_assoc head (flat_map line xs) end)
+    (Appends-trans a b c (head ++ flat_map line xs) end before last))
+
+-- one sector more after a beginning, where the track has it, and where it hasn't
+pub begun-place-more : {O : Type 0} (told : O → Option (List ℕ)) (line : Place → List ℕ) (place : ℕ → Option Place)
+    (a : Option (List ℕ)) (head : List ℕ) (before then now : O) (n : ℕ) (p : Place)
+    → now ≡ then → place n ≡ Some p → Appends a (told before) (head ++ each_below n (λ s. at_place line (place s)))
+    → Appends (told before) (told then) (line p)
+    → Appends a (told now) (head ++ each_below (n + 1) (λ s. at_place line (place s)))
+begun-place-more told line place a head before then now n p is here all more =
+    subst (λ o. Appends a (told o) (head ++ each_below (n + 1) (λ s. at_place line (place s)))) (sym is)
+    (begun-more a (told before) (told then) head n (λ s. at_place line (place s)) all
+    (subst (Appends (told before) (told then)) (ap (at_place line) (sym here)) more))
+
+pub begun-no-place : {O : Type 0} (told : O → Option (List ℕ)) (line : Place → List ℕ) (place : ℕ → Option Place)
+    (a : Option (List ℕ)) (head : List ℕ) (before now : O) (n : ℕ)
+    → now ≡ before → place n ≡ None → Appends a (told before) (head ++ each_below n (λ s. at_place line (place s)))
+    → Appends a (told now) (head ++ each_below (n + 1) (λ s. at_place line (place s)))
+begun-no-place told line place a head before now n is none all =
+    subst (λ o. Appends a (told o) (head ++ each_below (n + 1) (λ s. at_place line (place s)))) (sym is)
+    (begun-more a (told before) (told before) head n (λ s. at_place line (place s)) all
+    (subst (Appends (told before) (told before)) (ap (at_place line) (sym none)) (Appends-nil (told before))))

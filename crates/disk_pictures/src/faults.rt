@@ -37,13 +37,14 @@ impl Display for PictureFault {
     ghost output = { λ fault. Some (picture_text fault) };
 
     fn fmt<W: fmt::Write>(&self, f: &mut Formatter<W>) -> fmt::Result {
-        match self {
-            PictureFault::ImageSize => f.write_str("IMAGE SIZE"),
-            PictureFault::Layout(fault) => write!(f, "LAYOUT {fault}"),
-            PictureFault::File => f.write_str("FILE"),
-            PictureFault::NoMemory => f.write_str("NO MEMORY"),
-            PictureFault::Device => f.write_str("DEVICE"),
-        }
+        let text = match self {
+            PictureFault::ImageSize => "IMAGE SIZE",
+            PictureFault::Layout(fault) => return write!(f, "LAYOUT {fault}"),
+            PictureFault::File => "FILE",
+            PictureFault::NoMemory => "NO MEMORY",
+            PictureFault::Device => "DEVICE",
+        };
+        f.write_str(text)
     }
 }
 

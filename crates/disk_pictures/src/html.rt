@@ -21,15 +21,16 @@ impl Display for HtmlByte {
     ghost output = { λ shown. Some (if shown.escaped then html_byte shown.byte else plain_byte shown.byte) };
 
     fn fmt<W: fmt::Write>(&self, f: &mut Formatter<W>) -> fmt::Result {
-        match (self.byte, self.escaped) {
-            (b'&', true) => f.write_str("&amp;"),
-            (b'<', true) => f.write_str("&lt;"),
-            (b'>', true) => f.write_str("&gt;"),
-            (b'&', false) => f.write_str("\\26"),
-            (b'<', false) => f.write_str("\\3c"),
-            (b'>', false) => f.write_str("\\3e"),
-            (byte, _) => write!(f, "{}", Text(&[byte])),
-        }
+        let shown = match (self.byte, self.escaped) {
+            (b'&', true) => "&amp;",
+            (b'<', true) => "&lt;",
+            (b'>', true) => "&gt;",
+            (b'&', false) => "\\26",
+            (b'<', false) => "\\3c",
+            (b'>', false) => "\\3e",
+            (byte, _) => return write!(f, "{}", Text(&[byte])),
+        };
+        f.write_str(shown)
     }
 }
 

@@ -1,15 +1,14 @@
 //! The map of a disk, as it is printed for a terminal.
-ghost use Rattle.std.specs.Prelude.{◌≡◌, ◌≢◌, ◌+◌, ◌≤◌, ◌∷◌, [], IfErr, IfOk, OnOk, Some, map};
+ghost use Rattle.std.specs.Prelude.{◌≡◌, ◌≢◌, ◌≤◌, IfErr, IfOk, OnOk, Some, map};
 ghost use Rattle.std.specs.Io.KnownBytes.{Appends};
 ghost use Rattle.d64_image.specs.Memory.{sectors_in};
-ghost use Rattle.d64_image.specs.Places.{place_at};
 ghost use Rattle.disk_layout.specs.Layout.{IsLayout, Layout};
 ghost use Rattle.disk_pictures.specs.Drawings.{file_in};
 ghost use Rattle.disk_pictures.specs.Held.{drawn_in};
 ghost use Rattle.disk_pictures.specs.Maps.{entry_line, letter as letter_of, map_text, mark_of, owner_mark};
 ghost use Rattle.disk_pictures.specs.Maps.{records_text, track_line, track_text};
 ghost use Rattle.disk_pictures.specs.Outcomes.{IsMapPrinted, IsPictureFault, map_in};
-ghost use Rattle.disk_pictures.specs.Texts.{at_place, each_below, numbered};
+ghost use Rattle.disk_pictures.specs.Texts.{numbered};
 ghost use Rattle.disk_pictures.specs.declared.faults.PictureFault.TheVariants as faults;
 
 use crate::drawing::Drawing;
@@ -73,27 +72,7 @@ fn sign(found: Option<Fault>, drawing: &Drawing, place: Place) -> char
     owner_sign(&drawing.map, place, drawing.owner(place))
 }
 
-/// Prints the marks of the sectors that the track has.
-fn put_signs<W: Write>(
-    out: &mut W,
-    found: Option<Fault>,
-    drawing: &Drawing,
-    track: u8,
-) -> Result<(), PictureFault>
-    ensures ok { OnOk result (Appends (W.contents out.old) (W.contents out.new)
-        (each_below 21 (λ sector. at_place (λ place. mark_of found drawing.now.map (drawn_in drawing.now) place ∷ [])
-        (place_at track sector)))) }
-    ensures err { IfErr result (λ fault. fault ≡ faults.File) }
-{
-    for sector in 0..SECTORS {
-        if let Some(place) = Place::new(track, sector) {
-            put(out, sign(found, drawing, place))?;
-        }
-    }
-    Ok(())
-}
-
-/// Prints the line of a track.
+/// Prints the line of a track, with the marks of the sectors that it has.
 fn put_track<W: Write>(
     out: &mut W,
     found: Option<Fault>,
@@ -105,7 +84,11 @@ fn put_track<W: Write>(
     ensures err { IfErr result (λ fault. fault ≡ faults.File) }
 {
     put(out, TrackText(track))?;
-    put_signs(out, found, drawing, track)?;
+    for sector in 0..SECTORS {
+        if let Some(place) = Place::new(track, sector) {
+            put(out, sign(found, drawing, place))?;
+        }
+    }
     put(out, "\n")
 }
 
@@ -130,12 +113,10 @@ impl Display for RecordsText<'_> {
     ghost output = { λ text. Some (records_text (file_in text.0.now)) };
 
     fn fmt<W: fmt::Write>(&self, f: &mut Formatter<W>) -> fmt::Result {
-        let file = self.0;
-        if !file.has_records() {
-            return Ok(());
+        match self.0.records() {
+            Some((length, count)) => write!(f, " LENGTH {length} RECORDS {count}"),
+            None => Ok(()),
         }
-        let length = EntryView::new(&file.slot.bytes).record_length();
-        write!(f, " LENGTH {length} RECORDS {}", file.records())
     }
 }
 
@@ -166,22 +147,6 @@ impl Display for EntryLine<'_> {
     }
 }
 
-/// Prints the lines of the tracks.
-fn put_tracks<W: Write>(
-    out: &mut W,
-    found: Option<Fault>,
-    drawing: &Drawing,
-) -> Result<(), PictureFault>
-    ensures ok { OnOk result (Appends (W.contents out.old) (W.contents out.new)
-        (each_below 35 (λ below. track_line found drawing.now.map (drawn_in drawing.now) (below + 1)))) }
-    ensures err { IfErr result (λ fault. fault ≡ faults.File) }
-{
-    for below in 0..TRACKS {
-        put_track(out, found, drawing, below + 1)?;
-    }
-    Ok(())
-}
-
 /// Prints the lines of the entries.
 fn put_entries<W: Write>(out: &mut W, files: &[DrawnFile]) -> Result<(), PictureFault>
     ensures ok { OnOk result (Appends (W.contents out.old) (W.contents out.new)
@@ -205,7 +170,9 @@ fn put_map<W: Write>(
     ensures err { IfErr result (λ fault. fault ≡ faults.File) }
 {
     put(out, HEAD)?;
-    put_tracks(out, found, drawing)?;
+    for below in 0..TRACKS {
+        put_track(out, found, drawing, below + 1)?;
+    }
     put_entries(out, drawing.files.as_slice())?;
     put(out, VerdictText(found))?;
     put(out, "\n")?;

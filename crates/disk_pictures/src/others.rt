@@ -3,7 +3,7 @@ ghost use Rattle.std.specs.Prelude.{◌≡◌, IfErr, OnOk};
 ghost use Rattle.std.specs.Io.KnownBytes.{Appends};
 ghost use Rattle.d64_image.specs.Places.{place_at};
 ghost use Rattle.disk_pictures.specs.Held.{drawn_in};
-ghost use Rattle.disk_pictures.specs.Pictures.{each_place, other_arc, others_group};
+ghost use Rattle.disk_pictures.specs.Pictures.{other_arc, others_group};
 ghost use Rattle.disk_pictures.specs.Texts.{at_place, each_below};
 ghost use Rattle.disk_pictures.specs.declared.faults.PictureFault.TheVariants as faults;
 
@@ -69,25 +69,15 @@ fn put_others_on<W: Write>(out: &mut W, drawing: &Drawing, track: u8) -> Result<
     Ok(())
 }
 
-/// Prints the sectors of nobody, track by track.
-fn put_others_each<W: Write>(out: &mut W, drawing: &Drawing) -> Result<(), PictureFault>
-    ensures ok { OnOk result (Appends (W.contents out.old) (W.contents out.new)
-        (each_place (other_arc drawing.now.map (drawn_in drawing.now)))) }
-    ensures err { IfErr result (λ fault. fault ≡ faults.File) }
-{
-    for below in 0..TRACKS {
-        put_others_on(out, drawing, below + 1)?;
-    }
-    Ok(())
-}
-
-/// Prints the group of the sectors of nobody.
+/// Prints the group of the sectors of nobody, track by track.
 pub(crate) fn put_others<W: Write>(out: &mut W, drawing: &Drawing) -> Result<(), PictureFault>
     ensures ok { OnOk result (Appends (W.contents out.old) (W.contents out.new)
         (others_group drawing.now.map (drawn_in drawing.now))) }
     ensures err { IfErr result (λ fault. fault ≡ faults.File) }
 {
     put(out, "<g id=\"r\">\n")?;
-    put_others_each(out, drawing)?;
+    for below in 0..TRACKS {
+        put_others_on(out, drawing, below + 1)?;
+    }
     put(out, GROUP_END)
 }

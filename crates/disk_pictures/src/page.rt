@@ -125,12 +125,10 @@ impl Display for Cells<'_> {
     ghost output = { λ cells. Some (cells_text (file_in cells.0.now)) };
 
     fn fmt<W: fmt::Write>(&self, f: &mut Formatter<W>) -> fmt::Result {
-        let file = self.0;
-        if !file.has_records() {
-            return f.write_str("</td><td>");
+        match self.0.records() {
+            Some((length, count)) => write!(f, "{length}</td><td>{count}"),
+            None => f.write_str("</td><td>"),
         }
-        let length = EntryView::new(&file.slot.bytes).record_length();
-        write!(f, "{length}</td><td>{}", file.records())
     }
 }
 

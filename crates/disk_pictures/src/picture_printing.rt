@@ -1,5 +1,5 @@
 //! The picture of a disk, as an HTML page with an SVG drawing.
-ghost use Rattle.std.specs.Prelude.{◌≡◌, ◌≢◌, ◌≤◌, IfErr, IfOk, OnOk, Some, flat_map, map};
+ghost use Rattle.std.specs.Prelude.{◌≡◌, ◌≢◌, ◌≤◌, IfErr, IfOk, OnOk, Some, map};
 ghost use Rattle.std.specs.Io.KnownBytes.{Appends};
 ghost use Rattle.d64_image.specs.Memory.{sectors_in};
 ghost use Rattle.disk_layout.specs.Layout.{IsLayout, Layout};
@@ -7,7 +7,7 @@ ghost use Rattle.disk_pictures.specs.Drawings.{file_in};
 ghost use Rattle.disk_pictures.specs.Held.{drawn_in};
 ghost use Rattle.disk_pictures.specs.Html.{html_of};
 ghost use Rattle.disk_pictures.specs.Outcomes.{IsPictureFault, IsPicturePrinted, map_in};
-ghost use Rattle.disk_pictures.specs.Pictures.{directory_arc, drawing_text, fault_group, file_group, group_head};
+ghost use Rattle.disk_pictures.specs.Pictures.{drawing_text, fault_group, file_group, group_head};
 ghost use Rattle.disk_pictures.specs.Pictures.{own_block, own_side, picture_page, row_text, system_group};
 ghost use Rattle.disk_pictures.specs.Texts.{numbered};
 ghost use Rattle.disk_pictures.specs.declared.faults.PictureFault.TheVariants as faults;
@@ -24,27 +24,14 @@ use crate::page::{END, LEGEND, Row, Title, Told};
 use crate::verdicts::judged;
 use crate::white_lines::put_open;
 use d64_image::Place;
-use disk_layout::{Fault, map_place};
+use disk_layout::Fault;
 use std::alloc::Global;
 use std::fmt::{self, Display, Formatter};
 use std::io::Write;
 
-/// Prints the sectors of the directory.
-fn put_directory<W: Write>(out: &mut W, places: &[Place]) -> Result<(), PictureFault>
-    ensures ok { OnOk result (Appends (W.contents out.old) (W.contents out.new)
-        (flat_map directory_arc places.now)) }
-    ensures err { IfErr result (λ fault. fault ≡ faults.File) }
-{
-    for &place in places {
-        let sector = PlainArc {
-            place,
-            class: "dir",
-            owner: "directory",
-        };
-        put(out, sector)?;
-    }
-    Ok(())
-}
+/// The beginning of the group of the map and the directory: the map's sector, 18/0.
+const SYSTEM: &str = "<g id=\"m\">\n<circle r=\"21000\" stroke-dashoffset=\"-0\" class=\"map\">\
+    <title>18/0 map</title></circle>\n";
 
 /// Prints the group of the map and the directory.
 fn put_system<W: Write>(out: &mut W, drawing: &Drawing) -> Result<(), PictureFault>
@@ -52,14 +39,15 @@ fn put_system<W: Write>(out: &mut W, drawing: &Drawing) -> Result<(), PictureFau
         (system_group (drawn_in drawing.now))) }
     ensures err { IfErr result (λ fault. fault ≡ faults.File) }
 {
-    put(out, "<g id=\"m\">\n")?;
-    let sector = PlainArc {
-        place: map_place(),
-        class: "map",
-        owner: "map",
-    };
-    put(out, sector)?;
-    put_directory(out, drawing.directory.as_slice())?;
+    put(out, SYSTEM)?;
+    for &place in drawing.directory.as_slice() {
+        let sector = PlainArc {
+            place,
+            class: "dir",
+            owner: "directory",
+        };
+        put(out, sector)?;
+    }
     put(out, GROUP_END)
 }
 

@@ -1,5 +1,6 @@
 //! What is printed of a disk beside its sectors.
-ghost use Rattle.std.specs.Prelude.{◌≡◌, IsTrue, Some};
+ghost use Rattle.std.specs.Prelude.{◌≡◌, None, Some, if◌then◌else◌};
+ghost use Rattle.disk_layout.specs.Layout.{record_length};
 ghost use Rattle.disk_pictures.specs.Drawings.{file_in};
 ghost use Rattle.disk_pictures.specs.Texts.{has_records, records_in, type_text, verdict_text};
 ghost use Rattle.disk_pictures.specs.Texts.{is_fault_at as fault_at, place_of, type_name as name_of_type};
@@ -92,19 +93,23 @@ impl Display for TypeText {
 
 impl DrawnFile {
     /// Whether its record length and its number of records are told: it is relative, and has a length and a block.
-    pub(crate) fn has_records(&self) -> bool
+    fn has_records(&self) -> bool
         ensures { result ≡ has_records (file_in self.now) }
     {
         let entry = EntryView::new(&self.slot.bytes);
         entry.is_relative() && !self.blocks.is_empty() && entry.record_length() != 0
     }
 
-    /// How many whole records its blocks have, where these are told.
-    pub(crate) fn records(&self) -> usize
-        requires { IsTrue (has_records (file_in self.now)) }
-        ensures { result ≡ records_in (file_in self.now) }
+    /// Its record length and how many whole records its blocks have, where these are told.
+    pub(crate) fn records(&self) -> Option<(u8, usize)>
+        ensures { result ≡ (if has_records (file_in self.now)
+            then Some (record_length self.now.slot, records_in (file_in self.now)) else None) }
     {
+        if !self.has_records() {
+            return None;
+        }
+        let length = EntryView::new(&self.slot.bytes).record_length();
         let bytes = DATA * self.blocks.len().saturating_sub(1) + (self.last as usize).max(1) - 1;
-        bytes / EntryView::new(&self.slot.bytes).record_length() as usize
+        Some((length, bytes / length as usize))
     }
 }

@@ -1,12 +1,12 @@
 //! White lines over sectors in use that the map calls free: for each track that has such a sector a circle with a dash
 //! over each.
-ghost use Rattle.std.specs.Prelude.{◌≡◌, ◌+◌, IfErr, OnOk, Some};
+ghost use Rattle.std.specs.Prelude.{◌≡◌, IfErr, OnOk, Some};
 ghost use Rattle.std.specs.Io.KnownBytes.{Appends};
 ghost use Rattle.d64_image.specs.Places.{place_at};
 ghost use Rattle.disk_pictures.specs.Held.{drawn_in};
 ghost use Rattle.disk_pictures.specs.Pictures.{is_open as open_at, is_track_open as track_open, open_group};
-ghost use Rattle.disk_pictures.specs.Pictures.{own_ring, track_dashes, white_head, white_ring};
-ghost use Rattle.disk_pictures.specs.Texts.{each_below, is_at_place};
+ghost use Rattle.disk_pictures.specs.Pictures.{own_ring, track_dashes, white_head};
+ghost use Rattle.disk_pictures.specs.Texts.{is_at_place};
 ghost use Rattle.disk_pictures.specs.declared.faults.PictureFault.TheVariants as faults;
 
 use crate::arcs::{Dash, radius};
@@ -83,40 +83,19 @@ impl Display for WhiteHead {
     }
 }
 
-/// Prints the white line of a track.
-fn put_ring<W: Write>(out: &mut W, drawing: &Drawing, track: u8) -> Result<(), PictureFault>
-    ensures ok { OnOk result (Appends (W.contents out.old) (W.contents out.new)
-        (white_ring drawing.now.map (drawn_in drawing.now) track)) }
-    ensures err { IfErr result (λ fault. fault ≡ faults.File) }
-{
-    put(out, WhiteHead(track))?;
-    put_dashes(out, drawing, track)?;
-    put(out, "\"/>\n")
-}
-
 /// Prints the white line of a track, where it has a sector in use that is free in the map.
-fn put_own_ring<W: Write>(out: &mut W, drawing: &Drawing, track: u8) -> Result<(), PictureFault>
+fn put_ring<W: Write>(out: &mut W, drawing: &Drawing, track: u8) -> Result<(), PictureFault>
     ensures ok { OnOk result (Appends (W.contents out.old) (W.contents out.new)
         (own_ring drawing.now.map (drawn_in drawing.now) track)) }
     ensures err { IfErr result (λ fault. fault ≡ faults.File) }
 {
     if is_track_open(drawing, track) {
-        put_ring(out, drawing, track)
+        put(out, WhiteHead(track))?;
+        put_dashes(out, drawing, track)?;
+        put(out, "\"/>\n")
     } else {
         Ok(())
     }
-}
-
-/// Prints the white lines of the tracks.
-fn put_rings<W: Write>(out: &mut W, drawing: &Drawing) -> Result<(), PictureFault>
-    ensures ok { OnOk result (Appends (W.contents out.old) (W.contents out.new)
-        (each_below 35 (λ below. own_ring drawing.now.map (drawn_in drawing.now) (below + 1)))) }
-    ensures err { IfErr result (λ fault. fault ≡ faults.File) }
-{
-    for below in 0..TRACKS {
-        put_own_ring(out, drawing, below + 1)?;
-    }
-    Ok(())
 }
 
 /// Prints the group of the white lines.
@@ -126,6 +105,8 @@ pub(crate) fn put_open<W: Write>(out: &mut W, drawing: &Drawing) -> Result<(), P
     ensures err { IfErr result (λ fault. fault ≡ faults.File) }
 {
     put(out, "<g class=\"open\">\n")?;
-    put_rings(out, drawing)?;
+    for below in 0..TRACKS {
+        put_ring(out, drawing, below + 1)?;
+    }
     put(out, GROUP_END)
 }

@@ -1,23 +1,26 @@
 -- The map and the directory in a group.
-use Rattle.std.proofs.Common.{subst}
-use Rattle.std.specs.Prelude.{◌++◌, codes, flat_map}
+use Rattle.std.proofs.Common.{◌++◌, sym, ◌∙◌}
+use Rattle.std.specs.Prelude.{codes}
 use Rattle.std.specs.Fmt.{digits}
-use Rattle.std.specs.Io.KnownBytes.{Appends}
+use Rattle.std.proofs.lemmas.List.{take_all}
 use Rattle.std.proofs.lemmas.Result.{on_ok_weaker}
-use Rattle.disk_layout.specs.Texts.{place_text}
-use Rattle.disk_pictures.proofs.Printing.{four}
-use Rattle.disk_pictures.specs.Pictures.{directory_arc, map_arc, ring_of, system_group}
+use Rattle.disk_pictures.proofs.Printing.{begun-flat, begun-flat-more, ended-flat}
+use Rattle.disk_pictures.specs.Pictures.{directory_arc, map_arc, ring_text, system_group}
 use Rattle.disk_pictures.proofs.picture_printing.put_system.Goals as goal
 
+pub loop-place-init : goal.loop-place-init
+unfolding map_arc ring_text digits
+loop-place-init g c = begun-flat directory_arc _ _ (codes "<g id=\"m\">\n" ++ map_arc) c.in_ok-put.ensures.ok
+
+pub loop-place-preserved : goal.loop-place-preserved
+unfolding directory_arc
+loop-place-preserved g c = begun-flat-more directory_arc _ _ _ (codes "<g id=\"m\">\n" ++ map_arc) _
+    c.loop-place.place-index c.place-item.result c.loop-place-test.true (sym c.place-item.is)
+    c.loop-place.invariant c.in_ok-put-2.ensures.ok
+
 pub returns-clause-ok : goal.returns-clause-ok
-unfolding system_group map_arc digits
-returns-clause-ok g c =
-    let map = subst (λ p. Appends (g.W.Write.contents c.put.new.out) (g.W.Write.contents c.put-2.new.out)
-    (ring_of p ++ (codes " class=\"map\"><title>" ++ (place_text p ++ codes " map</title></circle>\n"))))
-    c.map_place.ensures c.in_ok-put-2.ensures.ok in
-    let directory =
-    subst (λ ps. Appends (g.W.Write.contents c.put-2.new.out) (g.W.Write.contents c.put_directory.new.out)
-    (flat_map directory_arc ps))
-    c.as_slice.ensures.value c.in_ok-put_directory.ensures.ok in
-    on_ok_weaker c.put-3.result (λ end. four _ _ _ _ _ _ _ _ _ c.in_ok-put.ensures.ok map directory
-    end) c.put-3.ensures.ok
+unfolding system_group
+returns-clause-ok g c = on_ok_weaker c.put-2.result
+    (λ end. ended-flat directory_arc _ _ _ (codes "<g id=\"m\">\n" ++ map_arc) _ _ _
+    (take_all _ c.as_slice-place-items.result.now c.loop-place-test.false ∙ c.as_slice-place-items.ensures.value)
+    c.loop-place.invariant end) c.put-2.ensures.ok

@@ -1,18 +1,12 @@
 -- The disk's id and version, and what a check told.
-use Rattle.std.proofs.Common.{refl}
 use Rattle.std.proofs.Output.{has_written_of_eq}
-use Rattle.disk_pictures.specs.Pictures.{told_text}
+use Rattle.disk_pictures.proofs.Told.{told-written}
 use Rattle.disk_pictures.proofs.page.ToldDisplay.fmt.Goals as goal
 
 pub returns-clause-writes : goal.returns-clause-writes
-unfolding told_text
 returns-clause-writes g c = λ plain done. has_written_of_eq _ _ _ _ _
-    (rw (
-      c.id.ensures,
-      c.version.ensures,
-      c.blocks_free.ensures,
-      c.class_of.ensures,
-      c.new-view.ensures,
-      c.header_name.ensures,
-    ) refl)
+    (told-written c.args.self.now.found c.args.self.now.map.now c.id.result.now c.version.result.now
+    c.blocks_free.result c.class_of.result.now c.header_name.result.now
+    (rw c.new-view.ensures at c.id.ensures) (rw c.new-view.ensures at c.version.ensures)
+    (rw c.new-view.ensures at c.blocks_free.ensures) c.class_of.ensures c.header_name.ensures)
     (c.write.ensures.writes plain done)

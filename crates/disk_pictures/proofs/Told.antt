@@ -1,0 +1,23 @@
+-- The parts of what is told of a disk, as they are written one after another.
+use Rattle.std.proofs.Common.{◌≡◌, ◌++◌, ℕ, List, refl}
+use Rattle.std.specs.Prelude.{Option, codes, decimal, slice_range}
+use Rattle.d64_image.specs.Images.{Sector}
+use Rattle.disk_layout.specs.View.{blocks_free}
+use Rattle.disk_layout.specs.declared.faults.Fault.{Fault}
+use Rattle.disk_pictures.specs.Html.{html_of}
+use Rattle.disk_pictures.specs.Names.{disk_name}
+use Rattle.disk_pictures.specs.Pictures.{told_text, verdict_class}
+use Rattle.disk_pictures.specs.Texts.{verdict_text}
+
+pub told-written : (v : Option Fault) (map : Sector) (id version : List ℕ) (free : ℕ) (class name : List ℕ)
+    → id ≡ slice_range map 162 164
+    → version ≡ slice_range map 165 167
+    → free ≡ blocks_free map
+    → class ≡ verdict_class v
+    → name ≡ disk_name map
+    → html_of id ++ (codes " " ++ (html_of version ++ (codes ", " ++ (decimal free
+    ++ (codes " blocks free, <span class=\"" ++ (class ++ (codes "\">" ++ (verdict_text v
+    ++ (codes "</span></p>\n<main>\n<svg viewBox=\"-36600 -36600 73200 73200\">\n<text y=\"400\">"
+    ++ (html_of name ++ codes "</text>\n<g transform=\"rotate(-90)\">\n")))))))))) ≡ told_text html_of v map
+unfolding told_text
+told-written v map id version free class name a b c d e = rw (a, b, c, d, e) refl

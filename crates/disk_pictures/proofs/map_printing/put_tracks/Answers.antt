@@ -1,9 +1,0 @@
--- The line of one track more was printed.
-use Rattle.disk_pictures.proofs.Printing.{below-more, none-below}
-use Rattle.disk_pictures.proofs.map_printing.put_tracks.Goals as goal
-
-pub loop-below-init : goal.loop-below-init
-loop-below-init g c = none-below _ _
-
-pub loop-below-preserved : goal.loop-below-preserved
-loop-below-preserved g c = below-more _ _ _ c.loop-below.below _ c.loop-below.invariant c.in_ok-put_track.ensures.ok
