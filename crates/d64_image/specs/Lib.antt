@@ -15,3 +15,4 @@ pub mod Mirrors
 pub mod Offsets
 pub mod OneFaults
 pub mod Places
+pub mod Streams

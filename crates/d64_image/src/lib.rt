@@ -12,6 +12,7 @@ mod one_fault;
 mod place;
 mod sector_file;
 mod sectors;
+mod stream;
 
 pub use count::Count;
 pub use faults::{DeviceFault, ImageFault};

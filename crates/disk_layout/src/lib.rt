@@ -1,4 +1,4 @@
-//! What lies on a 1541 disk and where: the map of free sectors, the directory, chains and side sectors.
+//! What lies on a 1541 disk and where: the map, the directory, chains and side sectors; and the blank image.
 #![tactic(auto)]
 
 mod access;

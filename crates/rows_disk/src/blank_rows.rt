@@ -4,8 +4,10 @@ ghost use Rattle.std.specs.Prelude.{◌≤◌};
 use crate::comparing::{same, same_at};
 use crate::disks::{at, empty_map, fresh, put_four, sector, zeroed};
 use arrayvec::ArrayVec;
-use disk_layout::{Bam, BamView, DirView, EntryView, Slot, blank_image, read_directory, walk_chain};
 use d64_image::{MemDisk, Meter, Place};
+use disk_layout::{
+    Bam, BamView, DirView, EntryView, Slot, blank_image, read_directory, walk_chain,
+};
 use std::process::Abort;
 
 /// What 18/0 holds for one block of requests.

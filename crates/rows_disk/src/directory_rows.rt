@@ -2,8 +2,8 @@
 use crate::comparing::{same, same_at};
 use crate::disks::{at, fresh, zeroed};
 use arrayvec::ArrayVec;
-use disk_layout::{Fault, Slot, blank_image, read_directory};
 use d64_image::{DeviceFault, Fuse, MemDisk, Sectors};
+use disk_layout::{Fault, Slot, blank_image, read_directory};
 use std::process::Abort;
 
 /// Writes a directory sector with this link, whose slots have the type byte of the row each.
