@@ -184,8 +184,7 @@ where
     const WANTED: &str = "an image of 35 tracks without error bytes has 174848";
     const ERROR_BYTES: &str =
         "35 tracks and error bytes; `head -c 174848 OLD > NEW` leaves the error bytes out";
-    const LONG: &str =
-        "40 tracks; `head -c 174848 OLD > NEW` takes the first 35, then check NEW";
+    const LONG: &str = "40 tracks; `head -c 174848 OLD > NEW` takes the first 35, then check NEW";
     const LONG_WITH_ERROR_BYTES: &str =
         "40 tracks and error bytes; `head -c 174848 OLD > NEW` takes the first 35, then check NEW";
     const CUT: &str = "it is cut short, since 35 tracks have 174848; read the disk again";
