@@ -1,10 +1,10 @@
 #!/usr/bin/env python3
-"""Makes the man page and the completions for bash from what the program itself says of its words:
+"""Makes the man page and the completions for bash, zsh and fish from the program's own help:
 
-    packaging/pages.py PROGRAM FOLDER
+    packaging/pages.py PROGRAM FOLDER NAME
 
-PROGRAM is asked for --help, and each of its subcommands too. So the pages name the words that the program takes, and no others.
-FOLDER gets `ledger.1` and `ledger.bash`."""
+PROGRAM is asked for --help, and so is each of its subcommands. So the pages name the words that the program takes, and no others.
+NAME is the command under which the program is installed. FOLDER gets `NAME.1`, `NAME.bash`, `_NAME` (zsh) and `NAME.fish`."""
 
 import re
 import subprocess
@@ -13,28 +13,31 @@ from dataclasses import dataclass, field
 from pathlib import Path
 
 STATUSES = (
-    ("0", "All was done; also where help was asked for."),
-    ("1", "An image, a script or records are refused, and nothing was done; or check, map or picture tell a fault."),
-    ("2", "The words are refused."),
+    ("0", "Success; also when help was asked for."),
+    ("1", "An image, a script or records were refused, and nothing was changed; or check, map or picture found a fault; "
+          "or a file is cut short (SHORT); or repair kept sectors (KEPT)."),
+    ("2", "The command line was refused."),
     ("3", "A file, the output or memory failed, or another program has the image."),
 )
 
-DESCRIPTION = """A stock ledger on a Commodore 1541 disk that is kept as a D64 image of 35 tracks. Tills send requests and repeat
-one whenever its answer wasn't read: a repeat gets the kept answer and has no second effect. Power may fail between any two sector
-writes; the next opening mends everything. The commands for keepers of disks take any image of 35 tracks without error bytes."""
+DESCRIPTION = """A stock ledger on a Commodore 1541 disk, kept as a D64 image of 35 tracks. A till sends requests, and repeats a request
+if it didn't get the answer: a repeat gets the kept answer and has no second effect. Power may fail between any two sector writes; the
+next opening puts everything right. The commands for keepers of disks take any image of 35 tracks without error bytes."""
 
+# the loop of docs/KEEPERS.md over a folder of disks
+SHELF = "for f in ./*.[dD]64; do printf '%s ' \"$f\"; {0} check \"$f\" 2>&1; done"
 EXAMPLES = (
-    ("ledger format shop.d64 --tills 4", "makes a shop for four tills"),
-    ("ledger play shop.d64 day.txt", "plays the messages of a script"),
-    ("ledger records old.d64 ADDRESS > address.csv", "takes the records of a relative file out, a line each"),
-    ("ledger store new.d64 ADDRESS address.csv", "puts them back"),
-    ("for f in *.d64; do printf '%s ' \"$f\"; ledger check \"$f\"; done", "judges a shelf of disks"),
+    ("{0} format --new shop.d64 --tills 4", "makes a shop for four tills; a file of this name is left alone"),
+    ("{0} play shop.d64 day.txt", "plays the messages of a script"),
+    ("{0} records old.d64 ADDRESS > address.csv", "prints the records of a relative file, a line each"),
+    ("{0} store new.d64 ADDRESS address.csv", "puts them back"),
+    (SHELF, "checks a shelf of disks"),
 )
 
 
 @dataclass
 class Word:
-    """A subcommand as its help tells it."""
+    """A subcommand, as its help describes it."""
 
     name: str
     does: str
@@ -44,15 +47,33 @@ class Word:
     more: list = field(default_factory=list)
 
 
+@dataclass
+class Option:
+    """An option: its short and long word, whether a value follows, and what it does."""
+
+    short: str
+    long: str
+    value: str
+    does: str
+
+
 def helped(program, *words):
-    """What the program prints where it is asked for help."""
+    """What the program prints if it is asked for help."""
     return subprocess.run([program, *words, "--help"], check=True, capture_output=True, text=True).stdout
 
 
 def rows(text, heading):
-    """The rows under a heading of a help text: what stands before the gap, and what behind."""
+    """The rows under a heading of a help text: the part before the gap, and the part after it."""
     part = re.search(rf"^{heading}:\n((?:  .*\n)+)", text, re.M)
     return [tuple(re.split(r"\s{2,}", line.strip(), maxsplit=1)) for line in part[1].splitlines()] if part else []
+
+
+def option_of(row):
+    """An option from its row, such as `-h, --help` or `--tills <T>`."""
+    short = re.search(r"(?<!\S)-(\w)\b", row[0])
+    long = re.search(r"--([a-z-]+)", row[0])
+    value = re.search(r"<(\w+)>", row[0])
+    return Option(short[1] if short else "", long[1], value[1] if value else "", row[1] if len(row) > 1 else "")
 
 
 def words_of(program):
@@ -65,8 +86,8 @@ def words_of(program):
         usage = re.search(r"^Usage: \S+ (.*)$", text, re.M)[1]
         more = re.search(r"^Options:\n(?:  .*\n)+\n(.*)\Z", text, re.M | re.S)[1].splitlines()
         word = Word(row[0], row[1], usage, rows(text, "Arguments"), rows(text, "Options"), more)
-        told = " ".join(it[0] for it in word.values + word.options)
-        missing = [value for value in re.findall(r"<\w+>", usage) if value not in told]
+        named = " ".join(it[0] for it in word.values + word.options)
+        missing = [value for value in re.findall(r"<\w+>", usage) if value not in named]
         if missing or not more:
             sys.exit(f"pages: the help of {row[0]} isn't read whole: {missing}")
         found.append(word)
@@ -75,65 +96,180 @@ def words_of(program):
 
 def escaped(text):
     """Text as roff takes it."""
-    return text.replace("\\", "\\e").replace("-", "\\-").replace('"', "\\(dq").replace("\n", " ")
+    return text.replace("\\", "\\e").replace("-", "\\-").replace("'", "\\(aq").replace('"', "\\(dq").replace("\n", " ")
 
 
-def man_page(words, version):
+def man_page(words, version, name):
     """The man page of the program."""
-    lines = [f'.TH LEDGER 1 "" "ledger {version}" "User Commands"', ".SH NAME", "ledger \\- retry\\-safe stock ledger on 1541 disks",
-             ".SH SYNOPSIS"]
+    lines = [f'.TH {escaped(name.upper())} 1 "" "{name} {version}" "User Commands"', ".SH NAME",
+             f"{escaped(name)} \\- retry\\-safe stock ledger on 1541 disks", ".SH SYNOPSIS"]
     for word in words:
-        lines += [".br", f".B ledger {escaped(word.usage)}"]
+        lines += [".br", f".B {escaped(name)} {escaped(word.usage)}"]
     lines += [".SH DESCRIPTION", escaped(DESCRIPTION), ".SH COMMANDS"]
     for word in words:
         lines += [f".SS {escaped(word.usage)}", escaped(word.does) + "."]
-        for name, *what in word.values + word.options:
-            lines += [".TP", f".B {escaped(name)}", escaped(what[0] if what else "")]
+        for called, *what in word.values + word.options:
+            lines += [".TP", f".B {escaped(called)}", escaped(what[0] if what else "")]
         lines.append(".PP")
         for line in word.more:
-            lines += [".br", f".B {escaped(line)}"] if line.startswith("Example: ") else [escaped(line)]
+            example = re.sub(r"\bledger ", f"{name} ", line)
+            lines += [".br", f".B {escaped(example)}"] if line.startswith("Example: ") else [escaped(line)]
     lines.append(".SH EXIT STATUS")
     for status, when in STATUSES:
         lines += [".TP", f".B {status}", escaped(when)]
     lines.append(".SH EXAMPLES")
     for line, does in EXAMPLES:
-        lines += [".TP", f".B {escaped(line)}", escaped(does)]
+        lines += [".TP", f".B {escaped(line.format(name))}", escaped(does)]
     lines += [".SH SEE ALSO", "The folder share/doc/ledger\\-1541: README.md, docs/KEEPERS.md, docs/MESSAGES.md, docs/TRUST.md"]
     return "\n".join(lines) + "\n"
 
 
-def completions(words):
-    """The completions for bash: a subcommand first, then its options, or files."""
-    options = {word.name: " ".join(re.findall(r"--[a-z-]+", " ".join(row[0] for row in word.options))) for word in words}
-    cases = "\n".join(f"        {name}) words=\"{found}\" ;;" for name, found in options.items())
-    return f"""# completions of ledger for bash
-_ledger() {{
-    local word="${{COMP_WORDS[COMP_CWORD]}}" words
-    if [ "$COMP_CWORD" -eq 1 ]; then
-        COMPREPLY=($(compgen -W "{" ".join(options)} --help --version" -- "$word"))
-        return
-    fi
-    case "${{COMP_WORDS[1]}}" in
+def values_of(word):
+    """The names of a subcommand's values that have no option, in their order."""
+    return [row[0].strip("<>") for row in word.values]
+
+
+def is_file(value):
+    """Whether a value is a file's path. NAME is a file within the image."""
+    return value != "NAME"
+
+
+def bash(words, options, name):
+    """The completions for bash. They complete files by `-o default`, which quotes a name with blanks as it has to be."""
+    named = " ".join(word.name for word in words)
+    cases = "\n".join(
+        "        {}) words=\"{}\" valued=\"{}\" files=\"{}\" ;;".format(
+            word.name, " ".join(f"--{it.long}" for it in map(option_of, word.options)),
+            " ".join(f"--{it.long}" for it in map(option_of, word.options) if it.value),
+            " ".join("yes" if is_file(it) else "no" for it in values_of(word)))
+        for word in words)
+    function = "_" + name.replace("-", "_")
+    return f"""# completions of {name} for bash
+{function}() {{
+    local word=${{COMP_WORDS[COMP_CWORD]}} before=${{COMP_WORDS[COMP_CWORD-1]}}
+    local command="" words="" valued="" files="" at count=0
+    COMPREPLY=()
+    for ((at = 1; at < COMP_CWORD; at++)); do
+        case ${{COMP_WORDS[at]}} in
+            -*) ;;
+            *) command=${{COMP_WORDS[at]}}; break ;;
+        esac
+    done
+    case $command in
+        "") words="{named} help {" ".join(f"--{it.long}" for it in options)}" ;;
+        help) words="{named}" ;;
 {cases}
         *) return ;;
     esac
-    case "$word" in
-        -*) COMPREPLY=($(compgen -W "$words" -- "$word")) ;;
-        *) COMPREPLY=($(compgen -f -- "$word")) ;;
+    case " $valued " in
+        *" $before "*) compopt +o default; return ;;
     esac
+    if [[ -z $command || $command == help || $word == -* ]]; then
+        compopt +o default
+        mapfile -t COMPREPLY < <(compgen -W "$words" -- "$word")
+        return
+    fi
+    # which of the subcommand's values the word is: those of options aren't counted
+    for ((at++; at < COMP_CWORD; at++)); do
+        case " $valued " in
+            *" ${{COMP_WORDS[at]}} "*) ((at++)) ;;
+            *) [[ ${{COMP_WORDS[at]}} == -* ]] || ((++count)) ;;
+        esac
+    done
+    local -a kinds=($files)
+    [[ ${{kinds[count]}} == yes ]] || compopt +o default
 }}
-complete -o filenames -F _ledger ledger
+complete -o default -F {function} {name}
+# where the name `ledger` leads to this program, too
+case $(readlink -f -- "$(type -P ledger)") in
+    */{name}) complete -o default -F {function} ledger ;;
+esac
 """
 
 
+def quoted(text):
+    """Text in single quotes, as a shell takes it."""
+    return "'" + text.replace("'", "'\\''") + "'"
+
+
+def described(text):
+    """A description in a specification of zsh."""
+    return re.sub(r"([\[\]:\\])", r"\\\1", text)
+
+
+def zsh_options(options):
+    """What `_arguments` of zsh takes for these options."""
+    found = []
+    for it in options:
+        what = f"[{described(it.does)}]" + (f":{it.value}:" if it.value else "")
+        found += [quoted(f"(- *){word}{what}" if it.long in ("help", "version") else word + what)
+                  for word in ([f"-{it.short}"] if it.short else []) + [f"--{it.long}"]]
+    return found
+
+
+def zsh(words, options, name):
+    """The completions for zsh."""
+    commands = "\n".join(f"        {quoted(f'{word.name}:{word.does}')}" for word in words)
+    cases = []
+    for word in words:
+        taken = zsh_options(map(option_of, word.options))
+        taken += [quoted(f"{number}:{value}:{'_files' if is_file(value) else ''}") for number, value in enumerate(values_of(word), 1)]
+        cases.append(f"                {word.name})\n                    _arguments " + " \\\n                        ".join(taken) + " ;;")
+    tops = " \\\n        ".join(zsh_options(options))
+    function = "_" + name
+    return f"""#compdef {name}
+# completions of {name} for zsh
+{function}() {{
+    local -a commands=(
+{commands}
+        'help:Print help of a command'
+    )
+    local context state state_descr line
+    typeset -A opt_args
+    _arguments -C \\
+        {tops} \\
+        '1:command:->command' \\
+        '*::argument:->argument'
+    case $state in
+        command) _describe -t commands command commands ;;
+        argument)
+            case $words[1] in
+                help) _describe -t commands command commands ;;
+{chr(10).join(cases)}
+            esac ;;
+    esac
+}}
+{function} "$@"
+"""
+
+
+def fish(words, options, name):
+    """The completions for fish."""
+    lines = [f"# completions of {name} for fish"]
+    for it in options:
+        lines.append(f"complete -c {name} -n __fish_use_subcommand -l {it.long}" + (f" -s {it.short}" if it.short else "")
+                     + f" -d {quoted(it.does)}")
+    for word in words:
+        lines.append(f"complete -c {name} -n __fish_use_subcommand -f -a {word.name} -d {quoted(word.does)}")
+    lines.append(f"complete -c {name} -n __fish_use_subcommand -f -a help -d 'Print help of a command'")
+    lines.append(f"complete -c {name} -n '__fish_seen_subcommand_from help' -f -a '{' '.join(word.name for word in words)}'")
+    for word in words:
+        for it in map(option_of, word.options):
+            lines.append(f"complete -c {name} -n '__fish_seen_subcommand_from {word.name}' -l {it.long}" + (
+                f" -s {it.short}" if it.short else "") + (" -x" if it.value else "") + f" -d {quoted(it.does)}")
+    return "\n".join(lines) + "\n"
+
+
 def main():
-    if len(sys.argv) != 3:
+    if len(sys.argv) != 4:
         sys.exit(__doc__)
-    program, folder = Path(sys.argv[1]).resolve(), Path(sys.argv[2])
+    program, folder, name = Path(sys.argv[1]).resolve(), Path(sys.argv[2]), sys.argv[3]
     version = subprocess.run([program, "--version"], check=True, capture_output=True, text=True).stdout.split()[-1]
     words = words_of(program)
-    (folder / "ledger.1").write_text(man_page(words, version), encoding="utf-8")
-    (folder / "ledger.bash").write_text(completions(words), encoding="utf-8")
+    options = [option_of(row) for row in rows(helped(program), "Options")]
+    (folder / f"{name}.1").write_text(man_page(words, version, name), encoding="utf-8")
+    for file, made in ((f"{name}.bash", bash), (f"_{name}", zsh), (f"{name}.fish", fish)):
+        (folder / file).write_text(made(words, options, name), encoding="utf-8")
 
 
 main()

@@ -1,6 +1,6 @@
 #!/bin/sh
-# Plays the day of the README on a fresh disk, and compares with what the README says that it prints; then judges a shelf of
-# disks, whose names have blanks, a quotation mark and a star, by the line of docs/KEEPERS.md:
+# Plays the day of the README on a fresh disk, and compares with what the README says that it prints; then checks a shelf of
+# disks, whose names have blanks, a quotation mark, a star and capitals, by the line of docs/KEEPERS.md, with its output in a file:
 #   tests/examples.sh PROGRAM
 # PROGRAM is what `tools/program` prints. The status is 1 where something differs.
 top=$(CDPATH= cd -- "$(dirname -- "$0")/.." && pwd) || exit 1
@@ -25,9 +25,12 @@ for name in "a shop" " begins with a blank" "two  blanks" "it's" "all*" plain; d
 # 1/0, which no file has, is taken in the map of this one: byte 5 of 18/0
 printf '\376' | dd of="$work/shelf/two  blanks.d64" bs=1 seek=91397 conv=notrunc 2>/dev/null
 head -c 1000 "$work/shop.d64" >"$work/shelf/part of one.d64"
-(cd "$work/shelf" && PATH="$work/bin:$PATH" LC_ALL=C sh -c "$line") >"$work/judged" 2>&1 || true
+cp "$work/shop.d64" "$work/shelf/CAPITALS.D64"
+(cd "$work/shelf" && PATH="$work/bin:$PATH" LC_ALL=C sh -c "$line") >"$work/judged" 2>"$work/beside" || true
+[ ! -s "$work/beside" ] || { cat "$work/beside"; exit 1; }
 LC_ALL=C sort <<'END' | diff - "$work/judged"
 ./ begins with a blank.d64 OK
+./CAPITALS.D64 OK
 ./a shop.d64 OK
 ./all*.d64 OK
 ./it's.d64 OK

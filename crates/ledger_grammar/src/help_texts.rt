@@ -26,7 +26,7 @@ pub(crate) const CHECK: &str =
     "Prints OK, or a word and the sector where it holds, as LOOP 17/0: BADLINK, LOOP, OWNEDTWICE, BADTYPE, UNCLOSED,\n\
 BADSIDE, BADLENGTH, COUNTWRONG, MAPWRONG. docs/KEEPERS.md says what each means and what to do.\n\
 Status 0: OK. 1: a fault, or IMAGE SIZE. 3: a file, the output or memory failed, or IN USE.\n\
-Example: for f in *.d64; do printf '%s ' \"$f\"; ledger check \"$f\"; done";
+Example: for f in ./*.[dD]64; do printf '%s ' \"$f\"; ledger check \"$f\" 2>&1; done";
 
 /// What `show` prints, its statuses, and an example.
 pub(crate) const SHOW: &str =
@@ -38,7 +38,7 @@ Example: ledger show shop.d64";
 pub(crate) const PLAY: &str =
     "Prints a reply for each line, as 1,1,DONE,40. A line as @2 1,1,R,7,5 lets power go after two writes.\n\
 Status 0: all were played. 1: the script is refused (SCRIPT LINE n), or the image is no shop's: nothing was done.\n\
-3: a file, the output or memory failed, or IN USE; after DEVICE play the script again.\n\
+3: a file, the output or memory failed, or IN USE; after DEVICE check a copy on another disk, and go on there.\n\
 Example: ledger play shop.d64 day.txt";
 
 /// What `serve` prints, its statuses, and an example.

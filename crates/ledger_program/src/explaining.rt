@@ -174,7 +174,7 @@ where
     }
 }
 
-/// Tells how many bytes an image has.
+/// Tells how many bytes an image has, which format has so many, and how to get one of 35 tracks without error bytes.
 fn tell_size<F, R, E>(rt: &R, image: &str, err: &mut E)
 where
     F: OpenFile + Drop,
@@ -182,12 +182,26 @@ where
     E: Write,
 {
     const WANTED: &str = "an image of 35 tracks without error bytes has 174848";
-    match size_of(rt, image) {
+    const ERROR_BYTES: &str =
+        "35 tracks and error bytes; `head -c 174848 OLD > NEW` leaves the error bytes out";
+    const LONG: &str = "40 tracks; `head -c 174848 OLD > NEW` takes the first 35, then check NEW";
+    const LONG_WITH_ERROR_BYTES: &str =
+        "40 tracks and error bytes; `head -c 174848 OLD > NEW` takes the first 35, then check NEW";
+    const CUT: &str = "it is cut short, since 35 tracks have 174848; read the disk again";
+    let said = match size_of(rt, image) {
+        None => return tell_of(err, image, WANTED),
         Some(bytes) => {
-            let _ = writeln!(err, "ledger: {image} has {bytes} bytes; {WANTED}");
+            let _ = write!(err, "ledger: {image} has {bytes} bytes; ");
+            match bytes {
+                175_531 => ERROR_BYTES,
+                196_608 => LONG,
+                197_376 => LONG_WITH_ERROR_BYTES,
+                0..=174_847 => CUT,
+                _ => WANTED,
+            }
         }
-        None => tell_of(err, image, WANTED),
-    }
+    };
+    let _ = writeln!(err, "{said}");
 }
 
 /// Tells a person which file a job is going to replace, where there is one. Where it can't be told there is nobody to

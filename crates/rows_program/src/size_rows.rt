@@ -162,3 +162,37 @@ ends 1
 fn another_size_is_told(rt: HostRuntime) {
     each(&rt, SIZES);
 }
+
+/// 683 blocks of 256 bytes, less one byte; and one error byte for each block. 40 tracks have 85 blocks more: five tracks
+/// of 17. The last row is D71's 70 tracks.
+const FORMATS: &[u8] = b"
+resize 174847
+person ledger_cli check a.d64
+tells IMAGE SIZE|ledger: a.d64 has 174847 bytes; it is cut short, since 35 tracks have 174848; read the disk again|
+ends 1
+
+resize 175531
+person ledger_cli list a.d64
+tells IMAGE SIZE|ledger: a.d64 has 175531 bytes; 35 tracks and error bytes; ..
+ends 1
+
+resize 196608
+person ledger_cli bytes a.d64 STOCK
+tells IMAGE SIZE|ledger: a.d64 has 196608 bytes; 40 tracks; ..
+ends 1
+
+resize 197376
+person ledger_cli map a.d64
+tells IMAGE SIZE|ledger: a.d64 has 197376 bytes; 40 tracks and error bytes; ..
+ends 1
+
+resize 349696
+person ledger_cli check a.d64
+tells IMAGE SIZE|ledger: a.d64 has 349696 bytes; an image of 35 tracks without error bytes has 174848|
+ends 1
+";
+
+#[test]
+fn a_person_is_told_the_format(rt: HostRuntime) {
+    each(&rt, FORMATS);
+}

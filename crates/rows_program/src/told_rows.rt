@@ -33,7 +33,7 @@ ends 3
 no script
 image short
 person ledger_cli show a.d64
-tells IMAGE SIZE|ledger: a.d64 has 5 bytes; an image of 35 tracks without error bytes has 174848|
+tells IMAGE SIZE|ledger: a.d64 has 5 bytes; it is cut short, since 35 tracks have 174848; read the disk again|
 ends 1
 
 no script
