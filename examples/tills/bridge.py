@@ -6,7 +6,7 @@
 
 Tills ask through the exchange `shop.1.asks`, each with its number as key. The asks lie in the quorum queue
 `shop.1.bridge`, which has a single active consumer: of several bridges one serves, and the others stand by. A message is
-acknowledged when the broker has confirmed its reply; a bridge that dies before leaves it to the next, whose repeat has
+acknowledged when the broker has confirmed or refused its reply; a bridge that dies before leaves it to the next, whose repeat has
 no second effect. Replies go out through the exchange `shop.1.replies`, with the till's number as key. If the connection
 is lost, `serve` is ended before another is sought: another bridge may be the active one by then. How soon that is
 noticed is said by the broker's place (`?heartbeat=10`). If no message comes for some seconds `serve` is ended too, and
@@ -88,6 +88,7 @@ class Bridge:
     def connected(self):
         """Serves over one connection, until it breaks."""
         import pika
+        from pika.exceptions import NackError
 
         connection = pika.BlockingConnection(self.parameters)
         try:
@@ -101,7 +102,11 @@ class Bridge:
                     self.idle()
                     continue
                 reply = self.reply_to(message, method.routing_key, connection.sleep)
-                channel.basic_publish(replies, shop.key_of(reply), reply)
+                try:
+                    channel.basic_publish(replies, shop.key_of(reply), reply)
+                except NackError:
+                    # a queue behind the exchange is full: the reply is lost, and its till asks again
+                    self.serve.refusals.add(shop.till_of(method.routing_key))
                 channel.basic_ack(method.delivery_tag)
         finally:
             if connection.is_open:

@@ -33,7 +33,7 @@ class Bridge:
     def __init__(self, place, user, context, name, serve, silence):
         self.place, self.context, self.name, self.serve, self.silence = place, context, name, serve, silence
         self.topic, self.title = f"shops/{name}", f"shop {name}"
-        self.client = client_of(f"bridge-{name}", place, user, context, clean=False)
+        self.client = client_of(f"bridge-{name}", place, user, context, clean=False, kind=mqtt.Client)
         self.client.will_set(f"{self.topic}/bridge", AWAY, qos=1, retain=True)
         # no reply waits for the acknowledgement of another: each has to go out before that of its own message
         self.client.max_inflight_messages_set(0)
@@ -77,9 +77,9 @@ class Bridge:
         try:
             # a broker that is silent for up to twice so long is taken for gone
             self.client.connect(self.place.host, self.place.port, self.silence)
+            self.client.loop_forever()
         except OSError as fault:
             self.ended(f"the broker is away ({type(fault).__name__})")
-        self.client.loop_forever()
 
 
 def over_broker(given, serve):

@@ -8,6 +8,7 @@ It asks on the topic `shops/1/asks/7`, the replies to it come on `shops/1/replie
 
 import queue
 import socket
+import time
 
 import paho.mqtt.client as mqtt
 
@@ -24,9 +25,29 @@ def at_once(_client, _data, link):
     link.setsockopt(socket.IPPROTO_TCP, socket.TCP_NODELAY, 1)
 
 
-def client_of(name, place, user, context, clean=True):
+class Client(mqtt.Client):
+    """A client that connects again also when TLS ends in a way that paho raises as a fault."""
+
+    def loop_forever(self, *words, **more):
+        while True:
+            try:
+                return super().loop_forever(*words, **more)
+            except OSError:
+                self.return_to_broker()
+
+    def return_to_broker(self):
+        while True:
+            time.sleep(1)
+            try:
+                self.reconnect()
+                return
+            except OSError:
+                pass
+
+
+def client_of(name, place, user, context, clean=True, kind=Client):
     """A client with this account. If a broker lets clients choose their identifier, it is the account's name too."""
-    client = mqtt.Client(user[0] if user else name, clean_session=clean)
+    client = kind(user[0] if user else name, clean_session=clean)
     client.on_socket_open = at_once
     if user:
         client.username_pw_set(*user)
