@@ -135,10 +135,12 @@ class Rabbit:
             self.away = None
 
     def link(self, till, user=None):
+        return self.link_as(till, account.account_of(self.cluster.accounts.file(user or f"till-1-{till}")))
+
+    def link_as(self, till, user):
         import till as over_rabbit
 
         places = [account.Place(text, "amqp") for text in self.cluster.places]
-        user = account.account_of(self.cluster.accounts.file(user or f"till-1-{till}"))
         return over_rabbit.Broker(places, "1", till, user, self.cluster.ca)
 
     def readdress(self, link, till):
@@ -164,10 +166,12 @@ class Mqtt:
         pass
 
     def link(self, till, user=None):
+        return self.link_as(till, account.account_of(self.broker.accounts.file(user or f"till-1-{till}")))
+
+    def link_as(self, till, user):
         import till_mqtt
 
         place = account.Place(self.broker.places[0], "mqtt")
-        user = account.account_of(self.broker.accounts.file(user or f"till-1-{till}"))
         return till_mqtt.Broker(place, "1", till, user, self.broker.ca)
 
     def readdress(self, link, till):

@@ -28,21 +28,28 @@ def at_once(_client, _data, link):
 class Client(mqtt.Client):
     """A client that connects again also when TLS ends in a way that paho raises as a fault."""
 
+    is_closed = False
+
     def loop_forever(self, *words, **more):
-        while True:
+        while not self.is_closed:
             try:
                 return super().loop_forever(*words, **more)
             except OSError:
                 self.return_to_broker()
+        return mqtt.MQTT_ERR_SUCCESS
 
     def return_to_broker(self):
-        while True:
+        while not self.is_closed:
             time.sleep(1)
             try:
                 self.reconnect()
                 return
             except OSError:
                 pass
+
+    def disconnect(self, *words, **more):
+        self.is_closed = True
+        return super().disconnect(*words, **more)
 
 
 def client_of(name, place, user, context, clean=True, kind=Client):
@@ -107,7 +114,10 @@ class Broker:
         return "no answer yet from the bridge"
 
     def close(self):
-        self.client.disconnect()
+        try:
+            self.client.disconnect()
+        except OSError:
+            pass
         self.client.loop_stop()
 
 
