@@ -143,7 +143,7 @@ class Two(tills.Trial):
     def bridge(self, name):
         seen = self.disk.seen(self.given.net + name)
         words = [seen / self.image.name, "--program", self.program, "--keep", seen / self.kept.name]
-        words += self.broker.words
+        words += self.broker.words("bridge-1")
         if self.given.over == "mqtt":
             words += ["--silence", HEARTBEAT]
         command = [tills.PYTHON, tills.EXAMPLES / self.broker.bridge, *words]
@@ -242,7 +242,7 @@ class Two(tills.Trial):
 
     def report(self, seconds):
         counted = self.judge()
-        lines = self.kept.read_bytes().count(b"\n")
+        lines = sum(len(tills.requests_in(path)) for path in tills.journals(self.kept))
         changes = sum(len(times) for times in self.seconds.values())
         each = [f"{kind} {len(times)} ({tell(times)})" for kind, times in sorted(self.seconds.items())]
         waited = sum(Path(machine.log).read_text().count("in use, waits") for machine in self.bridges)
@@ -252,7 +252,7 @@ class Two(tills.Trial):
         print(f"  {told}; {self.noise.old} old messages sent again", flush=True)
         if self.given.disk != "local":
             print(f"  the lock of a machine that was cut off fell after {self.fenced:.1f} s, and it wrote no more")
-        done = f"{counted} wishes of {self.given.tills} tills answered in {seconds:.0f} s, {lines} lines taken"
+        done = f"{counted} wishes of {self.given.tills} tills answered in {seconds:.0f} s, {lines} in the journal"
         how = f"{self.given.over}, disk {self.given.disk}"
         print(f"{how}: {changes} changes of hands between two machines; {done}: no difference", flush=True)
 

@@ -32,18 +32,22 @@ def account_of(path=None, environment=os.environ):
     """User and password, or None. The first of these counts: the file of `--account`, systemd's credential, the variable
     LEDGER_ACCOUNT. Raises Unfit if a file can't be read, or if others may read it."""
     systemd = os.path.join(environment.get("CREDENTIALS_DIRECTORY", "/nowhere"), CREDENTIAL)
-    if path or os.path.exists(systemd):
-        return parted(text_of(path or systemd), path or systemd)
+    if path:
+        return parted(text_of(path), path)
+    if os.path.exists(systemd):
+        # in a folder that systemd opens to this unit alone
+        return parted(text_of(systemd, is_guarded=True), systemd)
     if VARIABLE in environment:
         return parted(environment[VARIABLE], VARIABLE)
     return None
 
 
-def text_of(path):
+def text_of(path, is_guarded=False):
+    """What the file has, which others may not read, unless its folder is guarded."""
     try:
         with open(path, encoding="utf-8") as file:
             mode = stat.S_IMODE(os.fstat(file.fileno()).st_mode)
-            if mode & 0o077:
+            if mode & 0o077 and not is_guarded:
                 raise Unfit(f"{path} can be read by others (mode {mode:o}): chmod 600 {path}")
             return file.read()
     except (OSError, UnicodeDecodeError) as fault:

@@ -102,9 +102,12 @@ def certify(folder, address):
     def openssl(*words):
         subprocess.run(["openssl", *words], cwd=folder, check=True, capture_output=True)
 
+    (folder / "openssl.conf").write_text("[req]\ndistinguished_name=name\n[name]\n[ca]\nbasicConstraints=critical,CA:TRUE\n")
     key = ["-newkey", "ec", "-pkeyopt", "ec_paramgen_curve:prime256v1", "-nodes"]
-    openssl("req", "-x509", *key, "-keyout", "ca.key", "-out", "ca.crt", "-days", "2", "-subj", "/CN=trial of ledger")
-    openssl("req", *key, "-keyout", "broker.key", "-out", "broker.csr", "-subj", "/CN=broker")
+    made = ["-config", "openssl.conf"]
+    authority = ["-x509", "-extensions", "ca", "-days", "2", "-subj", "/CN=trial of ledger"]
+    openssl("req", *made, *authority, *key, "-keyout", "ca.key", "-out", "ca.crt")
+    openssl("req", *made, *key, "-keyout", "broker.key", "-out", "broker.csr", "-subj", "/CN=broker")
     (folder / "names").write_text(f"subjectAltName=DNS:localhost,IP:{LOOPBACK},IP:{address}\n")
     signed = ["-CA", "ca.crt", "-CAkey", "ca.key", "-CAcreateserial", "-days", "2", "-extfile", "names"]
     openssl("x509", "-req", "-in", "broker.csr", "-out", "broker.crt", *signed)
