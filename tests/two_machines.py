@@ -81,8 +81,8 @@ class Machine(tills.Supervised):
             self.start()
 
     def said(self):
-        """The last that its bridge said."""
-        lines = Path(self.log).read_text().splitlines()
+        """The last that its bridge said of itself."""
+        lines = [line for line in Path(self.log).read_text().splitlines() if not line.startswith("messages ")]
         return lines[-1].partition(": ")[2] if lines else ""
 
     def is_alive(self):
