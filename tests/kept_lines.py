@@ -15,7 +15,6 @@
 
 import random
 import shutil
-import subprocess
 import sys
 import tempfile
 import threading

@@ -19,7 +19,6 @@ write failed): it is started again, as by a keeper. At last all holds that tests
 import argparse
 import fcntl
 import os
-import random
 import signal
 import statistics
 import subprocess
