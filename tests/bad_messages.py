@@ -1,11 +1,13 @@
 #!/usr/bin/python3
-"""Messages that are no request, over a real broker, and a broker that is away; `tests/tills.sh` runs it:
+"""Messages that are no request, over a real broker, and what a till says that isn't answered; `tests/tills.sh` runs it:
 
     tests/bad_messages.py PROGRAM [--over rabbit|mqtt] [--folder FOLDER]
 
 One RabbitMQ node, or one mosquitto, is started on the loopback address, with one bridge of examples/tills. Each message
-has the reply of docs/MESSAGES.md under the key of its till, or under `refused` where it names none, and the bridge that
-took it lives on. Then the broker is killed: a till that asks meanwhile hears its answer when it is back, and once."""
+has the reply of docs/MESSAGES.md under the key of its till, or under `refused` if it is no request, and the bridge that
+took it lives on; one that is longer than the broker takes doesn't come. Then the broker is killed: a till that asks
+meanwhile hears its answer when it is back, and once. A till says that the broker knows no such shop, that there is no
+bridge, and that its account is refused."""
 
 import argparse
 import tempfile
@@ -14,6 +16,7 @@ import time
 from pathlib import Path
 
 import tills
+import brokers
 import wishes
 from served import sure, want
 from shop_rule import SYNTAX
@@ -25,14 +28,16 @@ REFUSED = {
     "no request": "no request",
     "an empty message": "",
     "an LF alone": "\n",
-    "10 MB": "7" * 10_000_000,
-    "10 MB that begin as a request": "1,1,S,1,1" + " " * 10_000_000,
+    "200 bytes": "7" * 200,
+    "200 bytes that begin as a request": "1,1,S,1,1" + " " * 191,
     "two requests with an LF between": "1,1,S,1,1\n2,1,S,1,1",
     "a request behind an LF": "\n1,1,S,1,1",
     "a power cut": "@3 1,1,S,1,1",
-    "each code up to 255": "".join(map(chr, range(256))),
+    "each code up to 159": "".join(map(chr, range(160))),
     "a till past all": "65,1,S,1,1",
+    "another till's request": "2,1,S,1,1",
 }
+LARGE = "1,1,S,1,1" + " " * 10_000_000
 NAMED = {
     "a till past the shop's": (TILLS + 1, "1,S,1,1", "1,NO TILL"),
     "a request": (1, "1,S,1,5", "1,DONE,5"),
@@ -41,30 +46,60 @@ NAMED = {
 }
 
 
+def connects(link):
+    """Whether a link over RabbitMQ has its queue now."""
+    from pika.adapters.utils.connection_workflow import AMQPConnectorException
+    from pika.exceptions import AMQPError
+
+    try:
+        link.connect()
+        return True
+    except (AMQPError, AMQPConnectorException, OSError):
+        return False
+
+
 class Trial(tills.Trial):
     """A shop, one bridge, and the keys under which replies come."""
 
     def start(self):
         sure(self.program, "format", self.image, "--tills", TILLS)
         self.broker.start()
+        self.says(5, None, "the broker knows no shop 1")
+        self.says(5, ("till-1-5", "wrong"), "refuses the account")
         self.bridges = [self.bridge("A")]
         self.first = self.bridges[0].process.pid
         self.until(self.is_heard, "a first reply")
         self.refused = self.listening("refused")
+        self.broker.readdress(self.refused, 1)
+
+    def says(self, till, user, text):
+        """What a till says that has no answer."""
+        link = self.broker.link(till) if user is None else self.broker.link_as(till, user)
+
+        def told():
+            self.heard_from(link, f"{till},1,S,1,1")
+            return text in link.trouble()
+
+        end = time.monotonic() + LONGEST
+        while not told():
+            want(time.monotonic() < end, f"a till says {link.trouble()!r}, not {text!r}")
+        link.close()
 
     def is_heard(self):
-        """Whether till 3 is told of a request before its time: then the bridge has its asks."""
+        """Whether till 3 hears of a request before its time: then the bridge has its asks."""
         link = self.listening(3)
         reply = self.heard_from(link, "3,9,S,1,1")
         link.close()
         return reply == "3,9,AHEAD"
 
     def listening(self, till):
-        """A till's link; over MQTT it has subscribed by the time that it sends."""
-        link = self.broker.link(till)
+        """A till's link, that listens by the time that it sends."""
+        link = self.broker.link(till, brokers.TRIAL if till == "refused" else None)
         if self.given.over == "mqtt":
             self.until(link.client.is_connected, "a connection")
             time.sleep(1)
+        else:
+            self.until(lambda: connects(link), "a connection")
         return link
 
     def broker_in(self, folder):
@@ -104,6 +139,11 @@ class Trial(tills.Trial):
             link = self.listening(till)
             self.told(link, f"{till},{message}", f"{till},{reply}", what)
             link.close()
+        large = self.listening(1)
+        self.heard_from(large, LARGE)
+        self.heard_from(large)
+        large.close()
+        self.told(self.refused, "hello", SYNTAX, "a message after one of 10 MB")
 
     def away(self, seconds=5):
         """A till asks while the broker is away, and hears when it is back."""
@@ -124,8 +164,9 @@ class Trial(tills.Trial):
         shown = sure(self.program, "show", self.image)[1:]
         cards = ["CARD 1,4", "CARD 2,9", "TILL 1,3,I,1,3,DONE,4", "PRIOR 1,2,R,1,2,DONE,7", "TILL 2,1,S,2,9,DONE,9"]
         want(shown == cards, f"show prints {shown}")
-        words = [self.kept, TILLS, self.folder / "new.d64", self.image, "--program", self.program]
-        sure(tills.PYTHON, tills.EXAMPLES / "rebuild.py", *words)
+        words = [self.folder / "new.d64", self.kept, "--tills", TILLS, "--image", self.image]
+        sure(tills.PYTHON, tills.EXAMPLES / "rebuild.py", *words, "--program", self.program)
+        self.says(5, None, "no bridge of shop 1 is at the broker")
 
 
 def main():
@@ -146,8 +187,8 @@ def main():
             for bridge in getattr(trial, "bridges", []):
                 bridge.kill()
             trial.broker.stop()
-    told = f"{len(REFUSED) + len(NAMED)} messages, the bridge outlived each"
-    print(f"{given.over}: {told}; a till over a broker that was away: no difference")
+    told = f"{len(REFUSED) + len(NAMED) + 1} messages, the bridge outlived each"
+    print(f"{given.over}: {told}; 3 complaints of a till; a till over a broker that was away: no difference")
 
 
 if __name__ == "__main__":

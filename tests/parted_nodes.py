@@ -20,7 +20,7 @@ from pathlib import Path
 import tills
 from served import sure, want
 
-QUEUE = "shop.1.asks"
+QUEUE = "shop.1.bridge"
 # seconds that a change of hands may take
 LONGEST = 90
 
@@ -41,7 +41,7 @@ class Parted(tills.Trial):
         self.lines = []
 
     def till(self, till):
-        words = [till, "--book", self.book(till), "--wishes", self.wishes, *self.broker.words]
+        words = [till, "--book", self.book(till), "--wishes", self.wishes, *self.broker.words(f"till-1-{till}")]
         return tills.Supervised("till 1", [tills.PYTHON, tills.EXAMPLES / "till.py", *words], self.folder / "till1.log")
 
     def until(self, holds, what):

@@ -6,13 +6,14 @@
 A cluster of three RabbitMQ nodes, or one mosquitto, is started on the loopback address, with two bridges and so many
 tills of examples/tills, each with its own list of so many wishes. At random moments one is killed with SIGKILL: a
 till, a bridge, the `serve` behind it, a node of the cluster (which is started again some seconds later). Meanwhile
-old messages are sent once more, and messages that are no request, of 10 MB, with LF within, and of tills that there
-aren't. Then
-- each till has heard the answer to each of its wishes, once and in order, and was never told `CLASH` or `AHEAD`;
-- these are the answers of docs/MESSAGES.md (tests/shop_rule.py) over the lines that `serve` took, and `show` prints
-  what comes of them;
+old messages are sent once more, and messages that are no request, that are too long, with LF within, of another till
+than their key says, and of tills that there aren't. The brokers run the configuration of examples/tills, so each till and
+each bridge comes over TLS and with an account of its own. Then
+- each till has heard the answer to each of its wishes, once and in order, and never heard `CLASH` or `AHEAD`;
+- these are the answers of docs/MESSAGES.md (tests/shop_rule.py) over the requests of the journal, which are all that
+  counted, each once and with its reply; and `show` prints what comes of them;
 - what is on hand of all items is what came in and didn't go out, reckoned from what the tills heard alone;
-- `format` and `play` make the same shop of the kept lines (examples/tills/rebuild.py).
+- `format` and `play` make the same shop of the journal (examples/tills/rebuild.py).
 At last nothing is killed, and the time from wish to answer is taken, through the broker and through a plain pipe."""
 
 import argparse
@@ -31,17 +32,21 @@ from pathlib import Path
 EXAMPLES = Path(__file__).resolve().parent.parent / "examples" / "tills"
 sys.path.insert(0, str(EXAMPLES))
 
+import account
 import brokers
+import journal
 import wishes
 from served import sure, want
-from shop_rule import SYNTAX, Shop, request_of
+from shop_rule import Shop, request_of
 
 PYTHON = "/usr/bin/python3"
 # exit statuses with which a till or a bridge is to be started again: killed, or `serve` was killed beneath it
 AGAIN = (-9, 75)
 STOCK = 1000
-# the seconds between two kills, at most, and the mean bytes of a line
-LONGEST, LENGTH = 5, 12
+# the seconds between two kills, at most, and the mean bytes of a journal's line
+LONGEST, LENGTH = 5, 55
+# bytes after which a bridge begins a new journal
+TURN = 5000
 
 
 def wishes_of(draw, till, tills, count):
@@ -108,7 +113,7 @@ class Rabbit:
     def __init__(self, folder, **more):
         self.cluster = brokers.Rabbit(folder, **more)
         self.away, self.back = None, 0
-        self.words = [word for url in self.cluster.urls for word in ("--broker", url)]
+        self.words = self.cluster.words
         self.till, self.bridge = "till.py", "bridge.py"
         self.start, self.stop = self.cluster.start, self.cluster.stop
 
@@ -129,10 +134,18 @@ class Rabbit:
         elif not self.back and self.cluster.listens(self.away):
             self.away = None
 
-    def link(self, till):
+    def link(self, till, user=None):
+        return self.link_as(till, account.account_of(self.cluster.accounts.file(user or f"till-1-{till}")))
+
+    def link_as(self, till, user):
         import till as over_rabbit
 
-        return over_rabbit.Broker(self.cluster.urls, "1", till)
+        places = [account.Place(text, "amqp") for text in self.cluster.places]
+        return over_rabbit.Broker(places, "1", till, user, self.cluster.ca)
+
+    def readdress(self, link, till):
+        """The link's next message goes out as this till's."""
+        link.key = str(till)
 
 
 class Mqtt:
@@ -140,7 +153,7 @@ class Mqtt:
 
     def __init__(self, folder, **more):
         self.broker = brokers.Mosquitto(folder, **more)
-        self.words = ["--broker", self.broker.place]
+        self.words = self.broker.words
         self.till, self.bridge = "till_mqtt.py", "bridge_mqtt.py"
         self.start, self.stop = self.broker.start, self.broker.stop
 
@@ -152,41 +165,64 @@ class Mqtt:
     def tend(self):
         pass
 
-    def link(self, till):
+    def link(self, till, user=None):
+        return self.link_as(till, account.account_of(self.broker.accounts.file(user or f"till-1-{till}")))
+
+    def link_as(self, till, user):
         import till_mqtt
 
-        return till_mqtt.Broker(self.broker.place, "1", till)
+        place = account.Place(self.broker.places[0], "mqtt")
+        return till_mqtt.Broker(place, "1", till, user, self.broker.ca)
+
+    def readdress(self, link, till):
+        """The link's next message goes out as this till's."""
+        link.asks = f"shops/1/asks/{till}"
 
 
 class Noise(threading.Thread):
-    """Sends old messages once more, and some that are no request."""
+    """Sends old messages once more, and some that are no request, with an account that may write all tills' asks."""
 
-    def __init__(self, link, kept, tills, draw):
+    def __init__(self, broker, kept, tills, draw):
         super().__init__(daemon=True)
-        self.link, self.kept, self.tills, self.draw = link, kept, tills, draw
+        self.broker, self.kept, self.tills, self.draw = broker, kept, tills, draw
+        self.link = broker.link(tills, brokers.TRIAL)
         self.old = self.bad = 0
         self.ended = threading.Event()
 
     def message(self):
+        """A till's key, and what goes out by it."""
         if self.draw.random() < 0.1:
             self.bad += 1
-            large = "7" * 10_000_000 if self.draw.random() < 0.05 else "hello"
-            past = f"{self.tills + 1},1,S,1,1"
-            return self.draw.choice([large, "", "@3 1,1,S,1,1", "1,1,S,1,1\n2,1,S,1,1", past, "no request", "\n"])
-        taken = self.kept.read_text().splitlines()[:-1] if self.kept.exists() else []
-        lines = [line for line in taken if request_of(line)]
+            large = "7" * 10_000 if self.draw.random() < 0.05 else "hello"
+            past, other = f"{self.tills + 1},1,S,1,1", f"{self.tills},1,S,1,1"
+            bad = [large, "", "@3 1,1,S,1,1", "1,1,S,1,1\n2,1,S,1,1", other, "no request", "\n"]
+            return self.draw.choice([*((1, one) for one in bad), (self.tills + 1, past)])
+        lines = [request for request, _ in requests_in(self.kept)[-200:]]
         self.old += bool(lines)
         recent = self.draw.randint(1, 30) if self.draw.random() < 0.6 else self.draw.randint(1, max(len(lines), 1))
-        return lines[-min(recent, len(lines))] if lines else "hello"
+        line = lines[-min(recent, len(lines))] if lines else "hello"
+        return (request_of(line) or (1,))[0], line
 
     def run(self):
         while not self.ended.wait(self.draw.uniform(0, 0.1)):
             try:
-                self.link.send(self.message())
+                till, message = self.message()
+                self.broker.readdress(self.link, till)
+                self.link.send(message)
                 self.link.reply(0.001)
             except wishes.Away:
                 self.ended.wait(0.5)
         self.link.close()
+
+
+def journals(path):
+    """A journal's files, in their order."""
+    return [*sorted(path.parent.glob(path.name + ".2*")), path]
+
+
+def requests_in(path):
+    """The requests of a journal's file with their replies."""
+    return journal.Entries(path.read_bytes(), path).requests if path.exists() else []
 
 
 class Trial:
@@ -207,19 +243,19 @@ class Trial:
         self.bridges = [self.bridge(name) for name in "AB"]
         self.tills = [self.till(till) for till in range(1, self.given.tills + 1)]
         draw = random.Random(self.given.seed + 1)
-        self.noise = Noise(self.broker.link(self.given.tills), self.kept, self.given.tills, draw)
+        self.noise = Noise(self.broker, self.kept, self.given.tills, draw)
         self.noise.start()
 
     def bridge(self, name):
-        words = [self.image, "--program", self.program, "--keep", self.kept, *self.broker.words]
-        command = [PYTHON, EXAMPLES / self.broker.bridge, *words]
+        words = [self.image, "--program", self.program, "--keep", self.kept, "--keep-size", TURN]
+        command = [PYTHON, EXAMPLES / self.broker.bridge, *words, *self.broker.words("bridge-1")]
         return Supervised(f"bridge {name}", command, self.folder / f"bridge{name}.log")
 
     def till(self, till):
         lines = wishes_of(self.draw, till, self.given.tills, self.given.wishes)
         path = self.folder / f"wishes{till}"
         path.write_text("".join(line + "\n" for line in lines))
-        words = [till, "--book", self.book(till), "--wishes", path, *self.broker.words]
+        words = [till, "--book", self.book(till), "--wishes", path, *self.broker.words(f"till-1-{till}")]
         command = [PYTHON, EXAMPLES / self.broker.till, *words]
         return Supervised(f"till {till}", command, self.folder / f"till{till}.log")
 
@@ -235,8 +271,8 @@ class Trial:
             self.tend()
 
     def taken(self):
-        """How many lines were kept, by their mean length."""
-        return self.kept.stat().st_size // LENGTH if self.kept.exists() else 0
+        """How many requests were kept, by the mean length of a line."""
+        return sum(path.stat().st_size for path in journals(self.kept) if path.exists()) // LENGTH
 
     def strike(self):
         """Kills one thing."""
@@ -290,18 +326,18 @@ class Trial:
         return list(zip(given, answers))
 
     def fold(self):
-        """The shop over the lines that `serve` took, and the answer to each request that was counted."""
+        """The shop over the journal's requests, and the answer to each that counted. Each was the next of its till, and
+        has the reply of the rule, but that of a till past the shop's."""
         shop, answers = Shop(self.given.tills), {}
-        for line in self.kept.read_bytes().decode("latin-1").split("\n")[:-1]:
-            line = line.removesuffix("\r")
-            reply, request = shop.reply(line), request_of(line)
-            if request and request[0] <= self.given.tills:
+        for path in journals(self.kept):
+            for line, kept in requests_in(path):
+                request, reply = request_of(line), shop.reply(line)
+                want(request and reply == kept, f"{line} has the reply {kept} in the journal, not {reply}")
                 word = reply.split(",", 2)[2]
-                want(word not in ("CLASH", "AHEAD"), f"{line} is told {word}")
-                if word != "STALE":
-                    answers.setdefault(request[:2], word)
-            else:
-                want(reply == SYNTAX or reply.endswith(",NO TILL"), f"{line} is told {reply}")
+                want(request[0] <= self.given.tills or word == "NO TILL", f"{line} has the reply {word}")
+                if word != "NO TILL":
+                    want(request[:2] not in answers and word not in wishes.REFUSALS, f"{line} is in the journal twice")
+                    answers[request[:2]] = word
         return shop, answers
 
     def judge(self):
@@ -318,16 +354,16 @@ class Trial:
         on_hand = sum(int(line.split(",")[1]) for line in shown if line.startswith("CARD "))
         want(on_hand == came, f"{on_hand} are on hand, and {came} came in and didn't go out")
         want(sure(self.program, "check", self.image) == ["OK"], "check isn't OK")
-        words = [self.kept, self.given.tills, self.folder / "new.d64", self.image, "--program", self.program]
-        sure(PYTHON, EXAMPLES / "rebuild.py", *words)
+        words = [self.folder / "new.d64", *journals(self.kept), "--tills", self.given.tills, "--image", self.image]
+        sure(PYTHON, EXAMPLES / "rebuild.py", *words, "--program", self.program)
         return len(answers)
 
     def report(self, seconds):
         counted = self.judge()
-        lines = self.kept.read_bytes().count(b"\n")
+        files = len(journals(self.kept))
         struck = ", ".join(f"{self.struck[kind]} of {name}" for kind, name in KINDS[self.given.over])
         noise = f"{self.noise.old} old messages sent again, {self.noise.bad} that are no request"
-        answered = f"{counted} wishes answered in {seconds:.0f} s, {lines} lines taken"
+        answered = f"{counted} wishes answered in {seconds:.0f} s, in {files} files of the journal"
         print(f"{self.given.over}: {self.given.tills} tills, {answered}")
         print(f"  killed: {struck}; {noise}: no difference", flush=True)
 

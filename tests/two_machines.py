@@ -19,7 +19,6 @@ write failed): it is started again, as by a keeper. At last all holds that tests
 import argparse
 import fcntl
 import os
-import random
 import signal
 import statistics
 import subprocess
@@ -81,8 +80,8 @@ class Machine(tills.Supervised):
             self.start()
 
     def said(self):
-        """The last that its bridge said."""
-        lines = Path(self.log).read_text().splitlines()
+        """The last that its bridge said of itself."""
+        lines = [line for line in Path(self.log).read_text().splitlines() if not line.startswith("messages ")]
         return lines[-1].partition(": ")[2] if lines else ""
 
     def is_alive(self):
@@ -143,7 +142,7 @@ class Two(tills.Trial):
     def bridge(self, name):
         seen = self.disk.seen(self.given.net + name)
         words = [seen / self.image.name, "--program", self.program, "--keep", seen / self.kept.name]
-        words += self.broker.words
+        words += self.broker.words("bridge-1")
         if self.given.over == "mqtt":
             words += ["--silence", HEARTBEAT]
         command = [tills.PYTHON, tills.EXAMPLES / self.broker.bridge, *words]
@@ -242,7 +241,7 @@ class Two(tills.Trial):
 
     def report(self, seconds):
         counted = self.judge()
-        lines = self.kept.read_bytes().count(b"\n")
+        lines = sum(len(tills.requests_in(path)) for path in tills.journals(self.kept))
         changes = sum(len(times) for times in self.seconds.values())
         each = [f"{kind} {len(times)} ({tell(times)})" for kind, times in sorted(self.seconds.items())]
         waited = sum(Path(machine.log).read_text().count("in use, waits") for machine in self.bridges)
@@ -252,7 +251,7 @@ class Two(tills.Trial):
         print(f"  {told}; {self.noise.old} old messages sent again", flush=True)
         if self.given.disk != "local":
             print(f"  the lock of a machine that was cut off fell after {self.fenced:.1f} s, and it wrote no more")
-        done = f"{counted} wishes of {self.given.tills} tills answered in {seconds:.0f} s, {lines} lines taken"
+        done = f"{counted} wishes of {self.given.tills} tills answered in {seconds:.0f} s, {lines} in the journal"
         how = f"{self.given.over}, disk {self.given.disk}"
         print(f"{how}: {changes} changes of hands between two machines; {done}: no difference", flush=True)
 

@@ -1,6 +1,8 @@
 """Starts, stops and kills the units of examples/tills, as the first process's own child: `tests/units.sh` runs it in a
 container. Each unit is verified; a till asks through the bridge while the bridge is killed, its `serve` is killed, it is
-stopped and started, and its broker goes away and comes back; what a keeper has to look at isn't started again."""
+stopped and started, and its broker goes away and comes back; what a keeper has to look at isn't started again, and the
+alarm's unit says so. The brokers run the configuration of examples/tills, and the units get their accounts as
+credentials."""
 
 import os
 import shutil
@@ -17,7 +19,8 @@ sys.path.insert(0, str(INSTALLED))
 import brokers
 from served import sure, want
 
-UNITS = Path("/etc/systemd/system")
+UNITS, OWN = Path("/etc/systemd/system"), Path("/etc/ledger")
+ALARM = Path("/var/lib/ledger/alarms")
 SHOPS, SMALL = Path("/var/lib/ledger"), Path("/small")
 LONGEST = 60
 
@@ -56,7 +59,7 @@ class Shop:
         self.count = 0
         sure("/usr/bin/ledger", "format", self.image, "--tills", 64)
         shutil.chown(self.image, "ledger", "ledger")
-        self.kills = 0
+        self.kills = self.alarms = 0
 
     def main(self):
         return int(shown(self.bridge, "MainPID")[0])
@@ -126,16 +129,19 @@ class Shop:
         time.sleep(3)
         told = shown(self.bridge, "ActiveState", "ExecMainStatus")
         want(told == ["failed", str(status)], f"{self.bridge} with {what}: {told}")
+        self.alarms += 1
+        wanted = f"{self.bridge}.service {status}"
+        told = ALARM.read_text().splitlines() if ALARM.exists() else []
+        want(told[self.alarms - 1 :] == [wanted], f"the alarm with {what}: {told}, not {wanted}")
         systemctl("reset-failed", self.bridge)
 
 
 class Mqtt:
     """A mosquitto."""
 
-    def __init__(self, folder):
+    def __init__(self, folder, number):
         self.broker = brokers.Mosquitto(folder)
-        (Path("/etc/ledger") / "bridge-mqtt.env").write_text(f"BROKER={self.broker.place}\n")
-        self.till = f"TILL={INSTALLED}/till_mqtt.py\nSHOP=1\nBROKER={self.broker.place}\n"
+        configure(self.broker, "bridge-mqtt.env", "till_mqtt.py", number)
         self.start = self.back = self.broker.start
         self.strike = self.stop = self.broker.stop
 
@@ -143,10 +149,9 @@ class Mqtt:
 class Rabbit:
     """A RabbitMQ node."""
 
-    def __init__(self, folder):
+    def __init__(self, folder, number):
         self.broker = brokers.Rabbit(folder, 1)
-        (Path("/etc/ledger") / "bridge.env").write_text(f'BROKERS="--broker {self.broker.urls[0]}"\n')
-        self.till = f"TILL={INSTALLED}/till.py\nSHOP=1\nBROKER={self.broker.urls[0]}\n"
+        configure(self.broker, "bridge.env", "till.py", number)
         self.start, self.stop = self.broker.start, self.broker.stop
 
     def strike(self):
@@ -154,6 +159,17 @@ class Rabbit:
 
     def back(self):
         self.broker.start_node(0)
+
+
+def configure(broker, bridge, till, number):
+    """The files in /etc/ledger, as the units' first lines say. Only root can read the accounts."""
+    shutil.copy(broker.ca, OWN / "ca.crt")
+    for name, user in [("bridge-1", "bridge-1"), (f"till-{number}", f"till-1-{number}")]:
+        shutil.copy(broker.accounts.file(user), OWN / f"{name}.account")
+        (OWN / f"{name}.account").chmod(0o600)
+    brokers = f'BROKERS="--broker {broker.places[0]} --ca {OWN}/ca.crt"\n'
+    (OWN / bridge).write_text(brokers)
+    (OWN / "till.env").write_text(f"TILL={INSTALLED}/{till}\nSHOP=1\n{brokers}")
 
 
 def verified(unit):
@@ -164,10 +180,9 @@ def verified(unit):
 
 def trial(kind, bridge, till):
     with tempfile.TemporaryDirectory() as folder:
-        broker = kind(Path(folder))
-        Path("/etc/ledger/till.env").write_text(broker.till)
-        for unit in (f"{bridge}@1.service", f"ledger-till@{till}.service"):
-            verified(UNITS / unit.replace(unit.partition("@")[2], ".service"))
+        broker = kind(Path(folder), till)
+        for unit in (bridge, "ledger-till", "ledger-alarm"):
+            verified(UNITS / f"{unit}@.service")
         broker.start()
         shop = Shop("1", bridge, till)
         shop.started()
@@ -196,6 +211,7 @@ def unfit(shop):
     shop.ask(340)
     shop.left(78, "an image that is no shop")
     moved.rename(image)
+    older(shop, Path("/var/lib/backup.d64"))
     for path, what in [(image, "its image"), (kept, "its lines")]:
         path.rename(moved)
         fill(path, moved)
@@ -209,13 +225,24 @@ def unfit(shop):
     systemctl("start", shop.bridge)
     shop.heard()
     systemctl("stop", shop.bridge)
-    print("  status 78 (no shop) and 74 (the disk of the image or of the lines is full): not started again, and served")
-    print("  when a keeper had looked", flush=True)
+    print("  status 78 (no shop, or older than its journal) and 74 (the disk of the image or of the journal is full): not")
+    print("  started again, an alarm, and served when a keeper had looked", flush=True)
+
+
+def older(shop, backup):
+    """A backup in the image's place is refused."""
+    moved = SHOPS / "moved"
+    shop.image.rename(moved)
+    shutil.copy(backup, shop.image)
+    shutil.chown(shop.image, "ledger", "ledger")
+    systemctl("start", shop.bridge)
+    shop.left(78, "an image that is older than its journal")
+    shop.image.unlink()
+    moved.rename(shop.image)
 
 
 def fill(path, file):
     """The file is on a small disk now, and where it has holes there is no room to fill them."""
-    SMALL.mkdir(exist_ok=True)
     subprocess.run(["mount", "-t", "tmpfs", "-o", "size=1m,mode=777", "tmpfs", SMALL], check=True)
     subprocess.run(["cp", "--sparse=always", "--preserve=ownership", file, SMALL / path.name], check=True)
     path.symlink_to(SMALL / path.name)
@@ -227,7 +254,20 @@ def fill(path, file):
             pass
 
 
+def prepare():
+    """A keeper's own alarm, and an image and a journal that may lie on another disk."""
+    (OWN / "alarm").write_text(f'#!/bin/sh\necho "$1 $MONITOR_EXIT_STATUS" >>{ALARM}\n')
+    (OWN / "alarm").chmod(0o755)
+    SMALL.mkdir()
+    for unit in ("ledger-bridge", "ledger-bridge-mqtt"):
+        folder = UNITS / f"{unit}@.service.d"
+        folder.mkdir()
+        (folder / "small.conf").write_text(f"[Service]\nReadWritePaths={SMALL}\n")
+    systemctl("daemon-reload")
+
+
 def main():
+    prepare()
     trial(Mqtt, "ledger-bridge-mqtt", 7)
     trial(Rabbit, "ledger-bridge", 8)
     print("units: no difference")

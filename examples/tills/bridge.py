@@ -1,32 +1,44 @@
 #!/usr/bin/python3
 """Carries a shop's messages between RabbitMQ and `serve` (Debian's package python3-pika).
 
-    bridge.py shop1.d64 --shop 1 --broker amqp://one.example/ --broker amqp://two.example/
+    bridge.py shop1.d64 --shop 1 --keep shop1.lines --account bridge-1.account --ca ca.crt \\
+        --broker amqps://one.example/ --broker amqps://two.example/
 
-The asks lie in the quorum queue `shop.1.asks`, which has a single active consumer: of several bridges one serves, and
-the others stand by. A message is acknowledged when the broker has confirmed its reply; a bridge that dies before
-leaves it to the next, whose repeat has no second effect. Replies go out over the exchange `shop.1.replies`, with the
-till's number as key. Where the connection is lost, `serve` is ended before another is sought: it may be that another
-bridge is the active one by then. How soon that is noticed is said by the URL (`?heartbeat=10`). Where no message comes
-for some seconds it is ended too, and started again by the next: when nodes of a cluster lose each other for a moment,
-another bridge may become the active one, and the one before isn't told.
+Tills ask through the exchange `shop.1.asks`, each with its number as key. The asks lie in the quorum queue
+`shop.1.bridge`, which has a single active consumer: of several bridges one serves, and the others stand by. A message is
+acknowledged when the broker has confirmed or refused its reply; a bridge that dies before leaves it to the next, whose repeat has
+no second effect. Replies go out through the exchange `shop.1.replies`, with the till's number as key. If the connection
+is lost, `serve` is ended before another is sought: another bridge may be the active one by then. How soon that is
+noticed is said by the broker's place (`?heartbeat=10`). If no message comes for some seconds `serve` is ended too, and
+started again by the next: when nodes of a cluster lose each other for a moment, another bridge may become the active
+one, and the one before isn't told.
 
 With --pipes it takes messages as lines of standard input and prints their replies, without a broker.
 
-Exit status: 74 where the image couldn't be written (a keeper has to look), 75 where it is to be started again, 78
-where the image is no shop."""
+Exit status: 74 if the image or the journal couldn't be written (a keeper has to look), 75 if it is to be started again,
+78 if the image is no shop, or isn't the journal's, or an argument is unfit."""
 
 import argparse
 import sys
 import time
 
+import account
 import shop
 
+# how many asks wait at the broker: a till whose ask is refused asks again
+MOST = 1000
+QUEUE = {"x-queue-type": "quorum", "x-single-active-consumer": True, "x-max-length": MOST, "x-overflow": "reject-publish"}
 
-def declare(channel, asks, replies):
-    """A shop's queue, of which one consumer is served at a time, and where the replies to it go."""
-    channel.queue_declare(asks, durable=True, arguments={"x-queue-type": "quorum", "x-single-active-consumer": True})
-    channel.exchange_declare(replies, "direct", durable=True)
+
+def declare(channel, name):
+    """A shop's queue, of which one consumer is served at a time, how asks come to it, and how replies go out. Returns
+    the names of the queue and of the replies' exchange."""
+    asks, replies, queue = (f"shop.{name}.{what}" for what in ("asks", "replies", "bridge"))
+    channel.exchange_declare(asks, "topic", durable=True)
+    channel.exchange_declare(replies, "topic", durable=True)
+    channel.queue_declare(queue, durable=True, arguments=QUEUE)
+    channel.queue_bind(queue, asks, "*")
+    return queue, replies
 
 
 class Bridge:
@@ -35,9 +47,9 @@ class Bridge:
     # how many messages are on their way to a bridge at a time, and seconds without one until it lets the image go
     AHEAD, IDLE = 16, 10
 
-    def __init__(self, urls, name, serve):
-        self.urls, self.serve = urls, serve
-        self.asks, self.replies = f"shop.{name}.asks", f"shop.{name}.replies"
+    def __init__(self, parameters, name, serve):
+        self.parameters, self.name, self.serve = parameters, name, serve
+        self.title = f"shop {name}"
 
     def run(self):
         """Serves over one connection after another."""
@@ -48,14 +60,14 @@ class Bridge:
             try:
                 self.connected()
             except (AMQPError, AMQPConnectorException, OSError) as fault:
-                shop.say(f"{self.asks}: the broker is away ({type(fault).__name__})")
+                shop.say(f"{self.title}: the broker is away ({type(fault).__name__} {fault})".rstrip())
             self.let_go()
             time.sleep(1)
 
     def idle(self):
         if self.serve.is_open():
             self.let_go()
-            shop.say(f"{self.asks}: stands by")
+            shop.say(f"{self.title}: stands by")
 
     def let_go(self):
         """Ends `serve`, so that another bridge may have the image."""
@@ -63,26 +75,38 @@ class Bridge:
         if gone.status != 0:
             raise gone
 
+    def reply_to(self, message, key, wait):
+        """The reply to a message. Only a request opens the image."""
+        line = self.serve.request(message, shop.till_of(key))
+        if not line:
+            return shop.SYNTAX
+        if not self.serve.is_open():
+            self.serve.start(wait)
+            shop.say(f"{self.title}: serving")
+        return self.serve.take(line)
+
     def connected(self):
         """Serves over one connection, until it breaks."""
         import pika
+        from pika.exceptions import NackError
 
-        connection = pika.BlockingConnection([pika.URLParameters(url) for url in self.urls])
+        connection = pika.BlockingConnection(self.parameters)
         try:
             channel = connection.channel()
-            declare(channel, self.asks, self.replies)
+            queue, replies = declare(channel, self.name)
             channel.confirm_delivery()
             channel.basic_qos(prefetch_count=self.AHEAD)
-            shop.say(f"{self.asks}: stands by")
-            for method, _, message in channel.consume(self.asks, inactivity_timeout=self.IDLE):
+            shop.say(f"{self.title}: stands by")
+            for method, _, message in channel.consume(queue, inactivity_timeout=self.IDLE):
                 if method is None:
                     self.idle()
                     continue
-                if not self.serve.is_open():
-                    self.serve.start(connection.sleep)
-                    shop.say(f"{self.asks}: serving")
-                reply = self.serve.hand(message)
-                channel.basic_publish(self.replies, shop.key_of(reply), reply)
+                reply = self.reply_to(message, method.routing_key, connection.sleep)
+                try:
+                    channel.basic_publish(replies, shop.key_of(reply), reply)
+                except NackError:
+                    # a queue behind the exchange is full: the reply is lost, and its till asks again
+                    self.serve.refusals.add(shop.till_of(method.routing_key))
                 channel.basic_ack(method.delivery_tag)
         finally:
             if connection.is_open:
@@ -98,13 +122,22 @@ def over_pipes(serve):
     serve.end()
 
 
+def over_broker(given, serve):
+    """Over RabbitMQ, with the account and at the places that are given."""
+    import till
+
+    places = [account.Place(text, "amqp", given.plain) for text in given.broker or ["amqp://127.0.0.1/"]]
+    parameters = till.parameters(places, account.account_of(given.account), account.context_of(given.ca))
+    Bridge(parameters, given.shop, serve).run()
+
+
 def main():
     parser = shop.words(argparse.ArgumentParser(description=__doc__.splitlines()[0]))
-    parser.add_argument("--broker", action="append", help="an AMQP URL; more than once for the nodes of a cluster")
+    several = "amqps://HOST:PORT; more than once for the nodes of a cluster"
+    parser.add_argument("--broker", action="append", help=several)
     parser.add_argument("--pipes", action="store_true", help="take messages from standard input, without a broker")
     given = parser.parse_args()
-    brokers = given.broker or ["amqp://127.0.0.1/"]
-    shop.served(given, over_pipes if given.pipes else lambda serve: Bridge(brokers, given.shop, serve).run())
+    shop.served(given, over_pipes if given.pipes else lambda serve: over_broker(given, serve))
 
 
 if __name__ == "__main__":

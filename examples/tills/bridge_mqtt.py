@@ -1,103 +1,99 @@
 #!/usr/bin/python3
 """Carries a shop's messages between an MQTT broker and `serve` (Debian's package python3-paho-mqtt).
 
-    bridge_mqtt.py shop1.d64 --shop 1 --broker shop.example:1883
+    bridge_mqtt.py shop1.d64 --shop 1 --keep shop1.lines --account bridge-1.account --ca ca.crt \\
+        --broker mqtts://shop.example
 
-It subscribes to `shops/1/asks` with QoS 1 and a session that the broker keeps. A message is acknowledged (PUBACK)
-when its reply is published: by a second client, for one can't wait for the broker within its own loop. Replies go out
-on `shops/1/replies/TILL`. Of several bridges the one that has the image has the session: each seeks the image only
-while it has a connection, and takes the session only when it has the image. A bridge that loses a connection ends,
-and `serve` with it: so the image is free for one that can reach the broker. A supervisor starts it again.
+It subscribes to `shops/1/asks/+` with QoS 1 and a session that the broker keeps. Replies go out on
+`shops/1/replies/TILL`, and each before the acknowledgement (PUBACK) of its message, over the same connection: so a broker
+that has the acknowledgement has the reply. Of several bridges the one that has the image has the session: each seeks the
+image only while it reaches the broker, and takes the session only when it has the image. A bridge that loses its
+connection ends, and `serve` with it: so the image is free for one that can reach the broker. A supervisor starts it
+again. The retained topic `shops/1/bridge` says whether a bridge serves.
 
-Exit status: 74 where the image couldn't be written (a keeper has to look), 75 where it is to be started again, 78
-where the image is no shop."""
+Exit status: 74 if the image or the journal couldn't be written (a keeper has to look), 75 if it is to be started again,
+78 if the image is no shop, or isn't the journal's, or an argument is unfit."""
 
 import argparse
 import os
-import threading
 import time
 
 import paho.mqtt.client as mqtt
 
+import account
 import shop
-from till_mqtt import at_once
+from till_mqtt import SERVING, client_of
+
+AWAY = b"away"
 
 
 class Bridge:
-    """A subscriber to one shop's asks, and a second client that publishes the replies."""
+    """A subscriber to one shop's asks, which publishes the replies."""
 
-    def __init__(self, place, name, serve, silence):
-        self.host, _, self.port = place.partition(":")
-        self.name, self.serve, self.silence = name, serve, silence
-        self.out = self.client("", True)
-        self.asks = self.client(f"ledger-{name}-asks", False)
-        self.reached = threading.Event()
-        self.out.on_connect = self.on_out
-        self.asks.on_connect = self.on_asks
-        self.asks.on_message = self.on_message
-
-    def client(self, name, clean):
-        client = mqtt.Client(name, clean_session=clean)
-        client.on_socket_open = at_once
-        client.on_disconnect = lambda *_: self.ended("the connection is lost")
-        return client
+    def __init__(self, place, user, context, name, serve, silence):
+        self.place, self.context, self.name, self.serve, self.silence = place, context, name, serve, silence
+        self.topic, self.title = f"shops/{name}", f"shop {name}"
+        self.client = client_of(f"bridge-{name}", place, user, context, clean=False, kind=mqtt.Client)
+        self.client.will_set(f"{self.topic}/bridge", AWAY, qos=1, retain=True)
+        # no reply waits for the acknowledgement of another: each has to go out before that of its own message
+        self.client.max_inflight_messages_set(0)
+        self.client.on_disconnect = lambda *_: self.ended("the connection is lost")
+        self.client.on_connect = self.on_connect
+        self.client.on_message = self.on_message
 
     def ended(self, why, status=shop.AGAIN):
         """Ends this process at once, whatever it is doing; `serve` ends with its input."""
-        shop.say(f"shops/{self.name}: {why}")
+        shop.say(f"{self.title}: {why}")
         os._exit(status)
 
-    def on_out(self, _client, _data, _flags, refused):
+    def on_connect(self, client, _data, _flags, refused):
         if refused:
-            self.ended("the broker refuses the connection")
-        self.reached.set()
+            self.ended(f"the broker at {self.place} refuses the account ({mqtt.connack_string(refused)})")
+        client.subscribe(f"{self.topic}/asks/+", qos=1)
+        client.publish(f"{self.topic}/bridge", SERVING, qos=1, retain=True)
 
-    def on_asks(self, client, _data, _flags, refused):
-        if refused:
-            self.ended("the broker refuses the session")
-        client.subscribe(f"shops/{self.name}/asks", qos=1)
-
-    def on_message(self, _client, _data, message):
-        """PUBACK follows when this returns; where it doesn't, the broker keeps the message."""
+    def on_message(self, client, _data, message):
+        """PUBACK follows when this returns; if it doesn't, the broker keeps the message."""
         try:
-            reply = self.serve.hand(message.payload)
-            self.out.publish(f"shops/{self.name}/replies/{shop.key_of(reply)}", reply, qos=1).wait_for_publish()
+            reply = self.serve.hand(message.payload, shop.till_of(message.topic.rpartition("/")[2]))
+            client.publish(f"{self.topic}/replies/{shop.key_of(reply)}", reply, qos=1)
         except shop.Gone as gone:
             self.ended(gone, gone.exit_status())
-        except (RuntimeError, ValueError) as fault:
-            self.ended(f"the reply couldn't be published ({fault})")
 
-    def connect(self, client):
-        """Connects when the broker is there. A broker that is silent for up to twice so long is taken for gone."""
-        while True:
-            try:
-                client.connect(self.host, int(self.port or 1883), self.silence)
-                return
-            except OSError as fault:
-                shop.say(f"shops/{self.name}: the broker is away ({type(fault).__name__})")
-                time.sleep(1)
+    def reach(self):
+        """Waits until the broker can be reached."""
+        told = None
+        while fault := account.fault_at(self.place, self.context):
+            if fault != told:
+                shop.say(f"{self.title}: {fault}")
+            told = fault
+            time.sleep(1)
 
     def run(self):
-        self.connect(self.out)
-        self.out.loop_start()
-        self.reached.wait()
-        shop.say(f"shops/{self.name}: stands by")
+        self.reach()
+        shop.say(f"{self.title}: stands by")
+        self.serve.start()
+        shop.say(f"{self.title}: serving")
         try:
-            self.serve.start()
-        except shop.Gone as gone:
-            # at once, for the end of a connection has a status of its own
-            self.ended(gone, gone.exit_status())
-        shop.say(f"shops/{self.name}: serving")
-        self.connect(self.asks)
-        self.asks.loop_forever()
+            # a broker that is silent for up to twice so long is taken for gone
+            self.client.connect(self.place.host, self.place.port, self.silence)
+            self.client.loop_forever()
+        except OSError as fault:
+            self.ended(f"the broker is away ({type(fault).__name__})")
+
+
+def over_broker(given, serve):
+    place = account.Place(given.broker, "mqtt", given.plain)
+    user, context = account.account_of(given.account), account.context_of(given.ca)
+    Bridge(place, user, context, given.shop, serve, given.silence).run()
 
 
 def main():
     parser = shop.words(argparse.ArgumentParser(description=__doc__.splitlines()[0]))
-    parser.add_argument("--broker", default="127.0.0.1:1883", help="HOST:PORT of the MQTT broker")
+    parser.add_argument("--broker", default="127.0.0.1:1883", help="mqtts://HOST:PORT of the MQTT broker")
     parser.add_argument("--silence", type=int, default=10, help="seconds without a word from the broker (default 10)")
     given = parser.parse_args()
-    shop.served(given, lambda serve: Bridge(given.broker, given.shop, serve, given.silence).run())
+    shop.served(given, lambda serve: over_broker(given, serve))
 
 
 if __name__ == "__main__":

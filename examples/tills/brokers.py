@@ -1,24 +1,33 @@
 """Brokers of one's own, for trials: on the loopback address or another of this machine, started as child processes, and
-stopped by their ids."""
+stopped by their ids. They run the configuration files of this folder, with accounts and certificates of their own. Beside
+the shops' accounts there is `trial`, which may do everything, and whose password is as random as the others'."""
 
 import getpass
 import importlib.util
+import json
 import os
+import secrets
+import shutil
 import signal
 import socket
 import subprocess
 import time
 from pathlib import Path
 
+import make_accounts
+
 RABBIT = "/usr/lib/rabbitmq/bin/rabbitmq-server"
 RABBIT_CONTROL = "/usr/lib/rabbitmq/bin/rabbitmqctl"
 MOSQUITTO = "/usr/sbin/mosquitto"
 LOOPBACK = "127.0.0.1"
+HERE = Path(__file__).resolve().parent
+TRIAL = "trial"
 
 
 def missing(*packages):
     """Which of these Debian packages aren't installed."""
     there = {"rabbitmq-server": os.path.exists(RABBIT), "mosquitto": os.path.exists(MOSQUITTO)}
+    there["openssl"] = shutil.which("openssl") is not None
     for package, module in [("python3-pika", "pika"), ("python3-paho-mqtt", "paho.mqtt.client")]:
         there[package] = importlib.util.find_spec(module.partition(".")[0]) is not None
     return [package for package in packages if not there[package]]
@@ -69,35 +78,121 @@ class Child:
             self.process.wait()
 
 
-class Rabbit:
-    """A RabbitMQ cluster of so many nodes, which takes a client for gone that says nothing for some heartbeats. `parted`
+def set_in(text, joint, **settings):
+    """A configuration file's text with other values for some of its settings, each of which it has."""
+    lines = text.splitlines()
+    for name, value in settings.items():
+        name = name.replace("__", ".")
+        found = [index for index, line in enumerate(lines) if line.split(joint)[0] == name]
+        if len(found) != 1:
+            raise SystemExit(f"brokers: {len(found)} settings {name}")
+        lines[found[0]] = f"{name}{joint}{value}"
+    return "\n".join(lines) + "\n"
+
+
+def kept_secret(path, text):
+    """A file that only its owner can read, from its first byte on."""
+    with open(os.open(path, os.O_WRONLY | os.O_CREAT | os.O_EXCL, 0o600), "w", encoding="ascii") as out:
+        out.write(text)
+
+
+def certify(folder, address):
+    """A certificate for this address and the loopback, signed by an authority of the folder's own."""
+
+    def openssl(*words):
+        subprocess.run(["openssl", *words], cwd=folder, check=True, capture_output=True)
+
+    (folder / "openssl.conf").write_text("[req]\ndistinguished_name=name\n[name]\n[ca]\nbasicConstraints=critical,CA:TRUE\n")
+    key = ["-newkey", "ec", "-pkeyopt", "ec_paramgen_curve:prime256v1", "-nodes"]
+    made = ["-config", "openssl.conf"]
+    authority = ["-x509", "-extensions", "ca", "-days", "2", "-subj", "/CN=trial of ledger"]
+    openssl("req", *made, *authority, *key, "-keyout", "ca.key", "-out", "ca.crt")
+    openssl("req", *made, *key, "-keyout", "broker.key", "-out", "broker.csr", "-subj", "/CN=broker")
+    (folder / "names").write_text(f"subjectAltName=DNS:localhost,IP:{LOOPBACK},IP:{address}\n")
+    signed = ["-CA", "ca.crt", "-CAkey", "ca.key", "-CAcreateserial", "-days", "2", "-extfile", "names"]
+    openssl("x509", "-req", "-in", "broker.csr", "-out", "broker.crt", *signed)
+
+
+class Accounts:
+    """The accounts of some shops, each with so many tills, and that of the trial itself."""
+
+    def __init__(self, folder, shops):
+        self.folder = folder / "accounts"
+        self.passwords = make_accounts.make(self.folder, shops)
+        self.passwords[TRIAL] = secrets.token_urlsafe(24)
+        kept_secret(self.file(TRIAL), f"{TRIAL}:{self.passwords[TRIAL]}\n")
+        with open(self.folder / "ledger.passwords", "a", encoding="ascii") as file:
+            file.write(make_accounts.mosquitto_line(TRIAL, self.passwords[TRIAL]))
+        with open(self.folder / "ledger.acl", "a", encoding="ascii") as file:
+            file.write(f"user {TRIAL}\ntopic readwrite #\n")
+        definitions = self.folder / "ledger.definitions.json"
+        known = json.loads(definitions.read_text())
+        known["users"].append({**make_accounts.rabbit_user(TRIAL, self.passwords[TRIAL]), "limits": {}})
+        every = {name: ".*" for name in ("configure", "write", "read")}
+        known["permissions"].append({"user": TRIAL, "vhost": "/", **every})
+        definitions.write_text(json.dumps(known))
+
+    def file(self, user):
+        return self.folder / f"{user}.account"
+
+
+class Secure:
+    """What both kinds of broker have: accounts, certificates, and the arguments with which a client comes in."""
+
+    def __init__(self, folder, address, shops):
+        self.folder, self.address = folder, address
+        self.accounts = Accounts(folder, shops or {"1": 64})
+        certify(folder, address)
+        self.ca = folder / "ca.crt"
+
+    def words(self, user, first=0):
+        """The arguments of a bridge or a till with this account, which takes the `first` broker first."""
+        places = self.places[first:] + self.places[:first]
+        brokers = [word for place in places for word in ("--broker", place)]
+        return [*brokers, "--ca", self.ca, "--account", self.accounts.file(user)]
+
+
+class Rabbit(Secure):
+    """A RabbitMQ cluster of so many nodes, which takes a client for gone that is silent for some heartbeats. `parted`
     is what nodes do that lose each other."""
 
-    def __init__(self, folder, count=3, address=LOOPBACK, heartbeat=10, parted="pause_minority"):
-        self.folder, self.count, self.address, self.parted = folder, count, address, parted
+    def __init__(self, folder, count=3, address=LOOPBACK, heartbeat=10, parted="pause_minority", shops=None):
+        super().__init__(folder, address, shops)
+        self.count, self.parted = count, parted
         names, ports = free_ports(count), free_ports(2 * count + 1)
         self.names = [f"ledger{name}@localhost" for name in names]
         self.ports, self.between, self.mapper = ports[:count], ports[count:-1], ports[-1]
         limits = f"heartbeat={heartbeat}&blocked_connection_timeout=30"
-        self.urls = [f"amqp://guest:guest@{address}:{port}/?{limits}" for port in self.ports]
+        self.places = [f"amqps://{address}:{port}/?{limits}" for port in self.ports]
         self.nodes, self.epmd = [None] * count, None
         self.prepare()
 
     def prepare(self):
-        cookie = self.folder / ".erlang.cookie"
-        cookie.write_text("A" * 20)
-        cookie.chmod(0o400)
+        kept_secret(self.folder / ".erlang.cookie", secrets.token_hex(20))
         (self.folder / "plugins").write_text("[].\n")
-        settings = [
+        environment = (HERE / "rabbitmq-env.conf").read_text()
+        # one scheduler a node, which sleeps when it has nothing to do
+        environment += 'SERVER_ADDITIONAL_ERL_ARGS="$SERVER_ADDITIONAL_ERL_ARGS +S 1:1 +sbwt none"\n'
+        (self.folder / "rabbitmq-env.conf").write_text(environment)
+        more = [
             "cluster_formation.peer_discovery_backend = classic_config",
             "cluster_formation.discovery_retry_limit = 2",
-            f"cluster_partition_handling = {self.parted}",
             "vm_memory_high_watermark.absolute = 800MB",
             "log.file.level = warning",
-            "loopback_users = none",
         ]
-        settings += [f"cluster_formation.classic_config.nodes.{n} = {name}" for n, name in enumerate(self.names, 1)]
-        (self.folder / "rabbitmq.conf").write_text("\n".join(settings) + "\n")
+        more += [f"cluster_formation.classic_config.nodes.{n} = {name}" for n, name in enumerate(self.names, 1)]
+        for index, port in enumerate(self.ports):
+            settings = set_in(
+                (HERE / "rabbitmq.conf").read_text(),
+                " = ",
+                listeners__ssl__default=f"{self.address}:{port}",
+                ssl_options__cacertfile=self.ca,
+                ssl_options__certfile=self.folder / "broker.crt",
+                ssl_options__keyfile=self.folder / "broker.key",
+                load_definitions=self.accounts.folder / "ledger.definitions.json",
+                cluster_partition_handling=self.parted,
+            )
+            (self.folder / f"rabbitmq{index}.conf").write_text(settings + "\n".join(more) + "\n")
 
     def environment(self, index=0):
         set_here = {
@@ -105,16 +200,13 @@ class Rabbit:
             "ERL_EPMD_PORT": str(self.mapper),
             "ERL_EPMD_ADDRESS": LOOPBACK,
             "RABBITMQ_NODENAME": self.names[index],
-            "RABBITMQ_NODE_IP_ADDRESS": self.address,
-            "RABBITMQ_NODE_PORT": str(self.ports[index]),
             "RABBITMQ_DIST_PORT": str(self.between[index]),
             "RABBITMQ_MNESIA_BASE": str(self.folder / "mnesia"),
             "RABBITMQ_LOG_BASE": str(self.folder / "log"),
-            "RABBITMQ_CONFIG_FILE": str(self.folder / "rabbitmq.conf"),
+            "RABBITMQ_CONFIG_FILE": str(self.folder / f"rabbitmq{index}.conf"),
+            "RABBITMQ_CONF_ENV_FILE": str(self.folder / "rabbitmq-env.conf"),
             "RABBITMQ_ENABLED_PLUGINS_FILE": str(self.folder / "plugins"),
             "RABBITMQ_PID_FILE": str(self.folder / f"{index}.pid"),
-            # one scheduler a node, which sleeps when it has nothing to do
-            "RABBITMQ_SERVER_ADDITIONAL_ERL_ARGS": "+S 1:1 +sbwt none +sbwtdcpu none +sbwtdio none",
         }
         return {**os.environ, **set_here}
 
@@ -146,25 +238,27 @@ class Rabbit:
             child.end()
 
 
-class Mosquitto:
+class Mosquitto(Secure):
     """An MQTT broker that keeps its sessions on the disk."""
 
-    def __init__(self, folder, address=LOOPBACK):
-        self.folder, self.address, self.port = folder, address, free_ports(1)[0]
-        self.child = None
-        self.place = f"{address}:{self.port}"
-        settings = [
-            f"listener {self.port} {address}",
-            "allow_anonymous true",
-            "set_tcp_nodelay true",
-            f"user {getpass.getuser()}",
-            "persistence true",
-            f"persistence_location {folder}/",
-            "autosave_on_changes true",
-            "autosave_interval 1",
-            "max_queued_messages 0",
-        ]
-        (folder / "mosquitto.conf").write_text("\n".join(settings) + "\n")
+    def __init__(self, folder, address=LOOPBACK, shops=None):
+        super().__init__(folder, address, shops)
+        self.port, self.child = free_ports(1)[0], None
+        self.places = [f"mqtts://{address}:{self.port}"]
+        (folder / "conf.d").mkdir()
+        settings = set_in(
+            (HERE / "mosquitto.conf").read_text(),
+            " ",
+            listener=f"{self.port} {address}",
+            certfile=folder / "broker.crt",
+            keyfile=folder / "broker.key",
+            password_file=self.accounts.folder / "ledger.passwords",
+            acl_file=self.accounts.folder / "ledger.acl",
+        )
+        (folder / "conf.d" / "ledger.conf").write_text(settings)
+        # what Debian's own file has
+        main = ["persistence true", f"persistence_location {folder}/", f"user {getpass.getuser()}", f"include_dir {folder}/conf.d"]
+        (folder / "mosquitto.conf").write_text("\n".join(main) + "\n")
 
     def start(self):
         command = [MOSQUITTO, "-c", str(self.folder / "mosquitto.conf")]

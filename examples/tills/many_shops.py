@@ -5,7 +5,7 @@
 
 Each shop has an image, a queue, a bridge and a `serve` of its own; they share nothing but the cluster. One process is
 all the tills. At the end each shop's `show` has what its own tills were told, and nothing else. It prints what it
-took. It wants Debian's packages rabbitmq-server and python3-pika."""
+took. It wants Debian's packages rabbitmq-server, python3-pika and openssl."""
 
 import argparse
 import signal
@@ -17,8 +17,10 @@ from pathlib import Path
 
 import pika
 
+import account
 import bridge
 import brokers
+import till as over_rabbit
 import wishes
 
 HERE = Path(__file__).resolve().parent
@@ -56,8 +58,8 @@ class Town:
 
     def __init__(self, given, folder):
         self.given, self.folder = given, folder
-        self.cluster = brokers.Rabbit(folder)
         self.bridges = []
+        self.cluster = brokers.Rabbit(folder, shops={str(shop): given.tills for shop in range(1, given.shops + 1)})
         self.shops, self.numbers = range(1, given.shops + 1), range(1, given.tills + 1)
         self.desks = {(shop, till): Desk(shop, till, given.wishes) for shop in self.shops for till in self.numbers}
 
@@ -69,25 +71,28 @@ class Town:
         for shop in self.shops:
             words = [self.given.program, "format", self.image(shop), "--tills", self.given.tills]
             subprocess.run(list(map(str, words)), check=True, stdout=subprocess.DEVNULL)
-            first = shop % len(self.cluster.urls)
-            urls = [word for url in self.cluster.urls[first:] + self.cluster.urls[:first] for word in ("--broker", url)]
-            command = [HERE / "bridge.py", self.image(shop), "--shop", shop, "--program", self.given.program, *urls]
+            words = self.cluster.words(f"bridge-{shop}", shop % self.cluster.count)
+            command = [HERE / "bridge.py", self.image(shop), "--shop", shop, "--program", self.given.program, *words]
             self.bridges.append(brokers.Child(command, self.folder / f"bridge{shop}.log"))
 
     def connect(self):
-        """One queue of replies for all the tills; the shops' queues are there before the first ask."""
-        self.connection = pika.BlockingConnection(pika.URLParameters(self.cluster.urls[0]))
+        """One queue of replies for all the tills; the shops' queues are there before the first ask. The account is the
+        trial's, which may do everything."""
+        place = account.Place(self.cluster.places[0], "amqp")
+        user = account.account_of(self.cluster.accounts.file(brokers.TRIAL))
+        context = account.context_of(self.cluster.ca)
+        self.connection = pika.BlockingConnection(over_rabbit.parameters([place], user, context))
         self.channel = self.connection.channel()
         mine = self.channel.queue_declare("", exclusive=True).method.queue
         for shop in self.shops:
-            bridge.declare(self.channel, f"shop.{shop}.asks", f"shop.{shop}.replies")
+            bridge.declare(self.channel, str(shop))
         for shop, till in self.desks:
             self.channel.queue_bind(mine, f"shop.{shop}.replies", str(till))
         self.channel.basic_consume(mine, self.on_reply, auto_ack=True)
 
     def on_reply(self, _channel, method, _properties, reply):
         shop, till = int(method.exchange.split(".")[1]), int(method.routing_key)
-        self.desks[shop, till].hear(reply.decode())
+        self.desks[shop, till].hear(reply.decode("ascii", "replace"))
 
     def serve(self):
         """Asks until each till is done."""
@@ -96,10 +101,10 @@ class Town:
             now = time.monotonic()
             if now > end:
                 sys.exit(f"many_shops: after {self.given.longest} s {left} tills aren't done")
-            for (shop, _), desk in self.desks.items():
+            for (shop, till), desk in self.desks.items():
                 message = desk.due(now)
                 if message:
-                    self.channel.basic_publish("", f"shop.{shop}.asks", message.encode())
+                    self.channel.basic_publish(f"shop.{shop}.asks", str(till), message.encode())
             self.connection.process_data_events(time_limit=0.01)
 
     def memory(self):
@@ -146,7 +151,7 @@ def words():
 
 
 def main():
-    absent = brokers.missing("rabbitmq-server", "python3-pika")
+    absent = brokers.missing("rabbitmq-server", "python3-pika", "openssl")
     if absent:
         sys.exit(f"many_shops: not tried, for want of Debian's {', '.join(absent)}")
     given = words()

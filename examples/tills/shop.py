@@ -1,16 +1,24 @@
-"""A shop behind a bridge, whatever carries its messages: one `serve`, and the lines that it took."""
+"""A shop behind a bridge, whatever carries its messages: one `serve`, and the journal of what it took."""
 
-import fcntl
 import os
 import subprocess
 import sys
+import tempfile
 import time
+from contextlib import contextmanager
 
-from wishes import opened
+import account
+import journal
+from account import Unfit
+from wishes import request_of, say
 
 # exit statuses of a bridge, after sysexits.h
 DEVICE, AGAIN, NO_SHOP = 74, 75, 78
 MOST = 64
+# the reply to a message that is no request
+SYNTAX = b"30,SYNTAX ERROR,00,00"
+# the key of that reply, the till that no message is from, and the seconds between two reports of refused messages
+REFUSED, NOBODY, REPORT = "refused", -1, 60
 
 
 class Gone(Exception):
@@ -31,95 +39,69 @@ class Gone(Exception):
 
 
 class Unkept(Gone):
-    """The file of kept lines failed, and `serve` doesn't get the line in hand."""
+    """The journal failed, and `serve` doesn't get the request in hand."""
 
     def __init__(self, fault):
-        Exception.__init__(self, f"lines can't be kept: {fault}")
+        Exception.__init__(self, f"the journal can't be written: {fault}")
 
     def exit_status(self):
         return DEVICE
 
 
+class Stale(Gone):
+    """The image isn't the one that the journal tells of, and isn't served. Or the journal is none."""
+
+    def __init__(self, text):
+        Exception.__init__(self, text)
+
+    def exit_status(self):
+        return NO_SHOP
+
+
 def line_of(message):
-    """The one line that stands for a message: its own LF falls, an LF within becomes a space, and what is longer than
-    any request is cut. A line that begins with `@` gets a `?` before it: a kept line is no reset when it is
-    played."""
-    line = message.removesuffix(b"\n").removesuffix(b"\r")[:MOST].replace(b"\n", b" ")
-    return b"?" + line if line.startswith(b"@") else line
+    """A message without the end of its line, as text; what isn't ASCII, or is too long, can't be a request."""
+    line = message.removesuffix(b"\n").removesuffix(b"\r")
+    return line.decode("ascii", "replace") if len(line) <= MOST else ""
 
 
 def key_of(reply):
-    """Where a reply goes: to its till by number, or where it names none to `refused`."""
-    till = reply.partition(b",")[0]
-    return "refused" if reply.startswith(b"30,SYNTAX ERROR") else till.decode()
+    """Where a reply goes: to its till by number, or if it names none to `refused`."""
+    return REFUSED if reply == SYNTAX else reply.partition(b",")[0].decode()
 
 
-class Kept:
-    """A file with every line that `serve` took, in that order; a line is on the disk before `serve` gets it. It is a
-    script for `play`, which makes the same shop of it on a fresh disk. Its lock keeps away a bridge whose `serve` has
-    died and that hasn't seen it yet: no line comes behind the last one that the next bridge hands over."""
+def till_of(key):
+    """The till whose routing key or topic this is; NOBODY if it is none's."""
+    return int(key) if key.isascii() and key.isdigit() and len(key) < 3 else NOBODY
 
-    def __init__(self, path):
-        self.path, self.file = path, None
 
-    def is_mine(self):
-        """Whether the lock could be had."""
-        try:
-            fcntl.flock(self.file, fcntl.LOCK_EX | fcntl.LOCK_NB)
-            return True
-        except BlockingIOError:
-            return False
+class Refusals:
+    """Counts the messages that are refused, by the till whose account sent them, and reports them now and then."""
 
-    def open(self, wait):
-        """Waits while another bridge has it, drops what broke off at the end, and gives the last line, or None."""
-        self.close()
-        try:
-            self.file = opened(self.path)
-            while not self.is_mine():
-                wait(0.2)
-            return self.last()
-        except OSError as fault:
-            raise Unkept(fault) from fault
+    def __init__(self):
+        self.counts, self.reported = {}, 0.0
 
-    def last(self):
-        size = self.file.seek(0, os.SEEK_END)
-        self.file.seek(max(size - 4 * MOST, 0))
-        text = self.file.read()
-        whole = text[: text.rfind(b"\n") + 1]
-        self.file.truncate(size - len(text) + len(whole))
-        return whole[:-1].split(b"\n")[-1] if whole else None
-
-    def add(self, line):
-        try:
-            self.file.write(line + b"\n")
-            self.file.flush()
-            os.fdatasync(self.file.fileno())
-        except OSError as fault:
-            raise Unkept(fault) from fault
-
-    def close(self):
-        """Lets it go; a fault says nothing new here, for each line was on the disk or is told."""
-        file, self.file = self.file, None
-        try:
-            if file:
-                file.close()
-        except OSError:
-            pass
+    def add(self, till):
+        self.counts[till] = self.counts.get(till, 0) + 1
+        if time.monotonic() < self.reported + REPORT:
+            return
+        by = ", ".join(f"{count} of {'nobody' if till in (None, NOBODY) else f'till {till}'}" for till, count in self.counts.items())
+        say(f"messages that are no request: {by}")
+        self.counts, self.reported = {}, time.monotonic()
 
 
 class Serve:
     """The one `serve` of an image, whose lock keeps every other away."""
 
     def __init__(self, program, image, words=(), kept=None):
-        self.command, self.kept, self.process = [program, "serve", image, *words], kept, None
+        self.command, self.journal, self.process = [program, "serve", image, *words], kept, None
+        self.numbers, self.strangers, self.refusals = {}, set(), Refusals()
 
     def is_open(self):
         return self.process is not None
 
     def start(self, wait=time.sleep):
         """Starts it, and waits while another holds the image. A first empty line has its reply once the shop is open;
-        then the last line that was kept is handed over again, for the bridge before may have died before it did
-        that."""
+        then the image is compared with the journal. Raises Stale if the image is another or an older one."""
         waits = False
         while not self.is_open():
             pipes = {"stdin": subprocess.PIPE, "stdout": subprocess.PIPE, "stderr": subprocess.PIPE}
@@ -133,12 +115,70 @@ class Serve:
                     say(f"{self.command[2]}: in use, waits")
                 waits = True
                 wait(0.2)
-        last = self.kept.open(wait) if self.kept else None
-        if last is not None:
-            self.turn(last)
+        if self.journal:
+            with self.keeping():
+                self.agree(self.journal.open(wait))
+
+    @contextmanager
+    def keeping(self):
+        """Work on the journal, which ends `serve` if it fails."""
+        try:
+            yield
+        except OSError as fault:
+            self.end()
+            raise Unkept(fault) from fault
+        except Unfit as fault:
+            self.end()
+            raise Stale(str(fault)) from fault
+        except Gone:
+            self.end()
+            raise
+
+    def agree(self, entries):
+        """Compares the image with what the journal has. The request that the journal ends with is handed over once more:
+        the bridge before may have died before it did that."""
+        shown = self.shown()
+        self.numbers = {till: int(line.split(",")[1]) for till, line in shown.items()}
+        for till, number in sorted(entries.numbers.items()):
+            self.compare(till, number, shown.get(till), entries.shown.get(till))
+        expected = dict(entries.numbers)
+        if entries.open:
+            till, number = journal.key_of(entries.open)
+            self.compare(till, number - 1, shown.get(till), None)
+            expected[till] = number
+        is_ahead = any(number > expected.get(till, 0) for till, number in self.numbers.items())
+        if entries.open:
+            reply = self.turn(entries.open.encode())
+            self.journal.reply(reply)
+            self.count(entries.open, reply.decode("latin-1"))
+        if is_ahead and entries.size:
+            say(f"{self.command[2]}: served without its journal meanwhile: make a backup now, older ones don't lead on")
+        if is_ahead or not entries.size:
+            self.journal.begin(self.numbers)
+
+    def compare(self, till, number, image, kept):
+        """Raises Stale if the image's last request of a till is older than the journal's, or another one."""
+        has = int(image.split(",")[1]) if image else 0
+        cure = "Make the image anew of a backup and the journal: rebuild.py"
+        if has < number:
+            raise Stale(f"the image is older than its journal (till {till}: {has}, journal {number}). {cure}")
+        if has == number and kept and image != kept:
+            raise Stale(f"the image isn't its journal's (till {till}: {image}, journal {kept}). {cure}")
+
+    def shown(self):
+        """Each till's last request and its answer, as `show` prints them of a copy: `serve` has the image's lock, and has
+        brought it to rest."""
+        with open(self.command[2], "rb") as image, tempfile.NamedTemporaryFile() as copy:
+            copy.write(image.read())
+            copy.flush()
+            told = subprocess.run([self.command[0], "show", copy.name], capture_output=True, text=True)
+        if told.returncode != 0:
+            raise Gone(told.returncode, told.stderr.strip())
+        lines = (line.removeprefix("TILL ") for line in told.stdout.splitlines() if line.startswith("TILL "))
+        return {int(line.partition(",")[0]): line for line in lines}
 
     def turn(self, line):
-        """The reply to a line, told as soon as the shop is on the disk."""
+        """The reply to a line, which `serve` gives as soon as the shop is on the disk."""
         try:
             self.process.stdin.write(line + b"\n")
             self.process.stdin.flush()
@@ -149,15 +189,45 @@ class Serve:
             raise self.end()
         return reply[:-1]
 
-    def hand(self, message):
-        """Hands over a message as one line, which is kept before; its reply."""
+    def request(self, message, till=None):
+        """The request that a message is, or None. A message that came by a till's key has to be that till's."""
         line = line_of(message)
-        if self.kept:
-            self.kept.add(line)
-        return self.turn(line)
+        found = request_of(line)
+        if found and till in (None, found[0]):
+            return line
+        self.refusals.add(till)
+        return None
+
+    def hand(self, message, till=None):
+        """The reply to a message. One that is no request isn't handed over."""
+        line = self.request(message, till)
+        return self.take(line) if line else SYNTAX
+
+    def take(self, line):
+        """Hands over a request. If its number is its till's next one, the journal has it before. All others change
+        nothing, and aren't kept."""
+        till, number = request_of(line)
+        is_next = number == self.numbers.get(till, 0) + 1 and till not in self.strangers
+        if not self.journal or not is_next:
+            return self.turn(line.encode())
+        with self.keeping():
+            self.journal.request(line)
+            reply = self.turn(line.encode())
+            self.journal.reply(reply)
+            self.count(line, reply.decode("latin-1"))
+            if self.journal.is_full():
+                say(f"{self.journal.path}: goes on in a new file, the one before is {self.journal.turn(self.numbers)}")
+        return reply
+
+    def count(self, line, reply):
+        till, number = request_of(line)
+        if journal.counts(line, reply):
+            self.numbers[till] = number
+        elif reply.endswith(",NO TILL"):
+            self.strangers.add(till)
 
     def end(self):
-        """Ends its input and waits for it, and tells how it ended."""
+        """Ends its input and waits for it, and returns how it ended."""
         process, self.process = self.process, None
         if process is None:
             return Gone(0, "")
@@ -170,28 +240,27 @@ class Serve:
         gone = Gone(process.wait(), text)
         process.stdout.close()
         process.stderr.close()
-        if self.kept:
-            self.kept.close()
+        if self.journal:
+            self.journal.close()
         return gone
 
 
 def words(parser):
-    """The words that each bridge takes."""
+    """The arguments that each bridge takes."""
     parser.add_argument("image", help="the shop's image; of several bridges that have it one serves at a time")
     parser.add_argument("--shop", default="1", help="the shop's name at the broker")
-    parser.add_argument("--program", default="ledger", help="the program that has the word serve")
-    parser.add_argument("--keep", metavar="FILE", help="keep every line that serve takes in this file")
+    parser.add_argument("--program", default="ledger", help="the program that has the command serve")
+    parser.add_argument("--keep", metavar="FILE", help="the shop's journal: who asked what, when, and the reply")
+    size = f"bytes after which a new journal is begun (default {journal.SIZE})"
+    parser.add_argument("--keep-size", type=int, default=journal.SIZE, metavar="BYTES", help=size)
     parser.add_argument("--unsynced", action="store_true", help="serve without syncing")
-    return parser
+    return account.words(parser)
 
 
 def serve_of(given):
     unsynced = ["--unsynced"] if given.unsynced else []
-    return Serve(given.program, given.image, unsynced, Kept(given.keep) if given.keep else None)
-
-
-def say(text):
-    print(text, file=sys.stderr, flush=True)
+    kept = journal.Journal(given.keep, given.keep_size) if given.keep else None
+    return Serve(given.program, given.image, unsynced, kept)
 
 
 def served(given, work):
@@ -203,5 +272,8 @@ def served(given, work):
     except Gone as gone:
         say(f"{given.image}: {gone}")
         sys.exit(gone.exit_status())
+    except Unfit as unfit:
+        say(f"{os.path.basename(sys.argv[0])}: {unfit}")
+        sys.exit(NO_SHOP)
     except KeyboardInterrupt:
         serve.end()

@@ -1,16 +1,23 @@
 #!/usr/bin/python3
 """A till over MQTT: takes wishes as lines and prints their answers (Debian's package python3-paho-mqtt).
 
-    till_mqtt.py 7 --shop 1 --book till7.book --broker shop.example:1883
+    till_mqtt.py 7 --shop 1 --book till7.book --broker mqtts://shop.example --account till-1-7.account --ca ca.crt
 
-Its asks go to the topic `shops/1/asks`, the replies to it come on `shops/1/replies/7`, both with QoS 1."""
+It asks on the topic `shops/1/asks/7`, the replies to it come on `shops/1/replies/7`, both with QoS 1. The topic
+`shops/1/bridge` says whether a bridge serves."""
 
 import queue
 import socket
+import time
 
 import paho.mqtt.client as mqtt
 
+import account
 import wishes
+
+# MQTT's codes of a refused account
+DENIED = (4, 5)
+SERVING = b"serving"
 
 
 def at_once(_client, _data, link):
@@ -18,23 +25,70 @@ def at_once(_client, _data, link):
     link.setsockopt(socket.IPPROTO_TCP, socket.TCP_NODELAY, 1)
 
 
+class Client(mqtt.Client):
+    """A client that connects again also when TLS ends in a way that paho raises as a fault."""
+
+    is_closed = False
+
+    def loop_forever(self, *words, **more):
+        while not self.is_closed:
+            try:
+                return super().loop_forever(*words, **more)
+            except OSError:
+                self.return_to_broker()
+        return mqtt.MQTT_ERR_SUCCESS
+
+    def return_to_broker(self):
+        while not self.is_closed:
+            time.sleep(1)
+            try:
+                self.reconnect()
+                return
+            except OSError:
+                pass
+
+    def disconnect(self, *words, **more):
+        self.is_closed = True
+        return super().disconnect(*words, **more)
+
+
+def client_of(name, place, user, context, clean=True, kind=Client):
+    """A client with this account. If a broker lets clients choose their identifier, it is the account's name too."""
+    client = kind(user[0] if user else name, clean_session=clean)
+    client.on_socket_open = at_once
+    if user:
+        client.username_pw_set(*user)
+    if place.is_secure:
+        client.tls_set_context(context)
+    return client
+
+
 class Broker:
     """Carries messages over a broker, to which it connects again by itself."""
 
-    def __init__(self, place, shop, till):
-        host, _, port = place.partition(":")
-        self.asks, self.replies = f"shops/{shop}/asks", f"shops/{shop}/replies/{till}"
-        self.heard = queue.Queue()
-        self.client = mqtt.Client(f"till-{shop}-{till}", clean_session=True)
+    def __init__(self, place, shop, till, user=None, ca=None):
+        self.place, self.context, self.shop = place, account.context_of(ca), shop
+        self.asks, self.replies = f"shops/{shop}/asks/{till}", f"shops/{shop}/replies/{till}"
+        self.bridge, self.serving = f"shops/{shop}/bridge", None
+        self.heard, self.refused = queue.Queue(), 0
+        self.client = client_of(f"till-{shop}-{till}", place, user, self.context)
         self.client.reconnect_delay_set(1, 4)
-        self.client.on_socket_open = at_once
-        self.client.on_connect = lambda client, *_: client.subscribe(self.replies, qos=1)
+        self.client.on_connect = self.on_connect
         self.client.on_message = self.on_message
-        self.client.connect_async(host, int(port or 1883))
+        self.client.connect_async(place.host, place.port)
         self.client.loop_start()
 
+    def on_connect(self, client, _data, _flags, refused):
+        self.refused, self.serving = refused, None
+        if not refused:
+            client.subscribe([(self.replies, 1), (self.bridge, 1)])
+
     def on_message(self, _client, _data, message):
-        self.heard.put(message.payload.decode("ascii", "replace"))
+        """A reply is never retained: one that is may be old, or nobody's."""
+        if message.topic == self.bridge:
+            self.serving = message.payload
+        elif not message.retain:
+            self.heard.put(message.payload.decode("ascii", "replace"))
 
     def send(self, text):
         if not self.client.is_connected():
@@ -47,16 +101,35 @@ class Broker:
         except queue.Empty:
             return None
 
+    def trouble(self):
+        """What a till waits for, in words."""
+        if self.refused in DENIED:
+            return f"the broker at {self.place} refuses the account"
+        if not self.client.is_connected():
+            return account.fault_at(self.place, self.context) or f"the connection to {self.place} is lost"
+        if self.serving is None:
+            return f"the broker knows no shop {self.shop} for this account: its bridge hasn't been there"
+        if self.serving != SERVING:
+            return f"no bridge of shop {self.shop} is at the broker"
+        return "no answer yet from the bridge"
+
     def close(self):
-        self.client.disconnect()
+        try:
+            self.client.disconnect()
+        except OSError:
+            pass
         self.client.loop_stop()
+
+
+def connected(given):
+    place = account.Place(given.broker, "mqtt", given.plain)
+    return Broker(place, given.shop, given.till, account.account_of(given.account), given.ca)
 
 
 def main():
     parser = wishes.words(__doc__.splitlines()[0])
-    parser.add_argument("--broker", default="127.0.0.1:1883", help="HOST:PORT of the MQTT broker")
-    given = parser.parse_args()
-    wishes.run(given, wishes.Pipe(given.pipe) if given.pipe else Broker(given.broker, given.shop, given.till))
+    parser.add_argument("--broker", default="127.0.0.1:1883", help="mqtts://HOST:PORT of the MQTT broker")
+    wishes.run(parser.parse_args(), connected)
 
 
 if __name__ == "__main__":

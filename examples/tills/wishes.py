@@ -5,20 +5,35 @@ The rules are those of `Till` in crates/request_cards/src/till.rt (`wish`, `ask`
 they do each wish once and hear each answer once, whatever is lost, late, doubled or out of order (`both_ends`)."""
 
 import argparse
+import fcntl
 import os
 import re
+import select
 import subprocess
 import sys
 import time
 
-MOST = 999_999_999
-COUNT, NUMBER = "([1-9][0-9]{0,8})", "(?:0|[1-9][0-9]{0,8})"
-WISH = re.compile(f"(?:[RIS],{COUNT},{NUMBER}|M,{COUNT},{NUMBER},{COUNT})", re.ASCII)
-ANSWER = re.compile("DONE,|SHORT,|OVER,|NO CARD$|72,DISK FULL$|52,FILE TOO LARGE$")
-# what no till is told that keeps these rules on a shop that it has always asked
+import account
+from account import Unfit
+
+MOST, MOST_ITEM, MOST_TILL = 999_999_999, 65535, 64
+COUNT, NUMBER = "[1-9][0-9]{0,8}", "(?:0|[1-9][0-9]{0,8})"
+WISH = re.compile(f"(?:[RIS],({COUNT}),{NUMBER}|M,({COUNT}),{NUMBER},({COUNT}))", re.ASCII)
+REQUEST = re.compile(f"({COUNT}),({COUNT}),(.*)", re.ASCII)
+# the answers of docs/MESSAGES.md, by the wish's kind
+ANSWERS = {
+    "S": f"DONE,{NUMBER}|72,DISK FULL|52,FILE TOO LARGE",
+    "R": f"DONE,{NUMBER}|OVER,{NUMBER}|NO CARD",
+    "I": f"DONE,{NUMBER}|SHORT,{NUMBER}|NO CARD",
+    "M": f"DONE,{NUMBER},{NUMBER}|OVER,{NUMBER}|SHORT,{NUMBER}|NO CARD",
+}
+ANSWER = {kind: re.compile(form, re.ASCII) for kind, form in ANSWERS.items()}
+# what no till hears that keeps these rules on a shop that it has always asked
 REFUSALS = ("NO TILL", "CLASH", "STALE", "AHEAD")
-# seconds until a wish is asked again: at first, and at most
-FIRST, LONGEST = 2.0, 8.0
+# seconds until a wish is asked again: at first, and at most; and until the till says what it waits for
+FIRST, LONGEST, PATIENCE = 2.0, 8.0, 4.0
+# the exit status of a till that a keeper has to look at
+LOOK = 4
 
 
 class Refused(Exception):
@@ -29,33 +44,99 @@ class Away(Exception):
     """What carries the messages isn't there."""
 
 
+def say(text):
+    print(text, file=sys.stderr, flush=True)
+
+
 def is_wish(text):
     """Whether this is kind, item and quantity of a request, and for a move the item to go to."""
     found = WISH.fullmatch(text)
     items = [int(item) for item in found.groups() if item] if found else []
-    return bool(items) and max(items) <= 65535 and len(set(items)) == len(items)
+    return bool(items) and max(items) <= MOST_ITEM and len(set(items)) == len(items)
+
+
+def request_of(text):
+    """The till and the number of a request, or None if this is none."""
+    found = REQUEST.fullmatch(text)
+    if not found or int(found[1]) > MOST_TILL or not is_wish(found[3]):
+        return None
+    return int(found[1]), int(found[2])
+
+
+def is_answer(wish, text):
+    """Whether this is an answer that the trade rule has for the wish."""
+    return bool(ANSWER[wish[0]].fullmatch(text))
 
 
 def opened(path):
-    """A file to add lines to, which is made where it isn't there, and is then in its folder for good."""
+    """A file to add lines to. If it is made, its name is on the disk when this returns."""
     file = open(path, "a+b")
+    sync_folder(path)
+    return file
+
+
+def sync_folder(path):
+    """Brings the names in a file's folder to the disk."""
     folder = os.open(os.path.dirname(os.path.abspath(path)), os.O_RDONLY)
     os.fsync(folder)
     os.close(folder)
-    return file
 
 
 class Book:
     """A till's file. It has a line `? NUMBER,WISH` for each wish that was opened and `= NUMBER,ANSWER` for each
-    answer that was heard; a line counts once it has its LF, and is on the disk before the till goes on."""
+    answer that was heard; a line counts once it has its LF, and is on the disk before the till goes on. A keeper may add
+    `= NUMBER,lost`. Its lock keeps away a second till. Raises Unfit, and leaves the file as it is, if it isn't a book, if
+    its last line is damaged, or if another till has it."""
+
+    LINE = re.compile(f"([?=]) ({COUNT}),(.*)", re.ASCII)
+    # what a line can have that broke off: no line is longer, or has other characters
+    LONGEST, BROKEN = 80, re.compile(rb"(?:[?=] ?[0-9A-Z, ]*)?\0*")
 
     def __init__(self, path):
-        self.file = opened(path)
+        self.path, self.file = path, opened(path)
+        try:
+            fcntl.flock(self.file, fcntl.LOCK_EX | fcntl.LOCK_NB)
+        except BlockingIOError:
+            raise Unfit(f"{path} is in use: another till has this book open") from None
         self.file.seek(0)
         text = self.file.read()
         whole = text[: text.rfind(b"\n") + 1]
+        lines = whole.decode("ascii", "replace").split("\n")[:-1]
+        self.last, self.open = self.read(lines)
+        rest = text[len(whole) :].rstrip(b"\0")
+        if len(rest) > self.LONGEST or not self.BROKEN.fullmatch(rest):
+            raise Unfit(f"{path} isn't a till's book: {rest[:40]!r}")
         self.file.truncate(len(whole))
-        self.lines = whole.decode().splitlines()[-2:]
+
+    def read(self, lines):
+        """The number of the last wish that was answered, and the open wish or None, by the last two lines."""
+        entries = [self.entry(line) for line in lines]
+        damaged = [number for number, entry in enumerate(entries, 1) if entry is None]
+        if not lines:
+            return 0, None
+        if damaged and damaged[-1] == len(lines):
+            raise Unfit(self.damaged(len(lines), lines[-1]))
+        if damaged:
+            say(f"{self.path}: line {damaged[-1]} is damaged; the lines after it are good, so the till goes on")
+        mark, number, text = entries[-1]
+        before = entries[-2] if len(entries) > 1 else ("=", 0, "")
+        if before and text != "lost" and before[:2] != (("=", number - 1) if mark == "?" else ("?", number)):
+            raise Unfit(self.damaged(len(lines), lines[-1]))
+        return (number, None) if mark == "=" else (number - 1, text)
+
+    def entry(self, line):
+        """Mark, number and text of a line, or None."""
+        found = self.LINE.fullmatch(line)
+        if not found:
+            return None
+        mark, number, text = found[1], int(found[2]), found[3]
+        answers = any(form.fullmatch(text) for form in ANSWER.values()) or text == "lost"
+        return (mark, number, text) if (answers if mark == "=" else is_wish(text)) else None
+
+    def damaged(self, number, line):
+        told = f"{self.path}, line {number}, is damaged or doesn't follow the line before: {line[:60]!r}."
+        cure = "Look for this till's last number at the shop (`show` prints TILL 7,17,..),"
+        return f"{told} {cure} and add it to the book as a line `= 17,lost`."
 
     def add(self, line):
         self.file.write(line.encode() + b"\n")
@@ -68,17 +149,14 @@ class Till:
 
     def __init__(self, till, book=None):
         self.till, self.book = till, book
-        self.last, self.open = 0, None
-        for line in book.lines if book else []:
-            mark, number, text = line[0], *line[2:].split(",", 1)
-            self.last, self.open = (int(number), None) if mark == "=" else (int(number) - 1, text)
+        self.last, self.open = (book.last, book.open) if book else (0, None)
 
     def note(self, line):
         if self.book:
             self.book.add(line)
 
     def wish(self, text):
-        """Opens this wish, where none is open and a number is left; says whether it did."""
+        """Opens this wish, if none is open and a number is left; returns whether it did."""
         if self.open or self.last >= MOST:
             return False
         self.note(f"? {self.last + 1},{text}")
@@ -90,14 +168,15 @@ class Till:
         return f"{self.till},{self.last + 1},{self.open}"
 
     def hear(self, reply):
-        """The answer that this reply brings to the open wish, which it closes, or None."""
+        """The answer that this reply brings to the open wish, which it closes, or None. A reply counts only if all of it
+        is this till, this number and an answer to this wish: nothing more, and no control bytes."""
         begin = f"{self.till},{self.last + 1},"
         if not self.open or not reply.startswith(begin):
             return None
         word = reply[len(begin) :]
         if word in REFUSALS:
             raise Refused(reply)
-        if not ANSWER.match(word):
+        if not is_answer(self.open, word):
             return None
         self.note(f"= {self.last + 1},{word}")
         self.last, self.open = self.last + 1, None
@@ -105,96 +184,150 @@ class Till:
 
 
 def answer_to(till, link):
-    """Asks for the open wish until its answer is heard."""
-    wait = FIRST
+    """Asks for the open wish until its answer is heard. After some seconds it says what it waits for."""
+    wait, began, told = FIRST, time.monotonic(), None
     while True:
+        until = time.monotonic() + wait
         try:
             link.send(till.ask())
-            until = time.monotonic() + wait
             while (left := until - time.monotonic()) > 0:
-                reply = link.reply(left)
+                reply = link.reply(min(left, 1))
                 answer = till.hear(reply) if reply else None
                 if answer:
                     return answer
+                told = complain(till, link, began, told)
         except Away:
+            told = complain(till, link, began, told)
             time.sleep(min(wait, 1))
         wait = min(2 * wait, LONGEST)
 
 
+def complain(till, link, began, told):
+    """Says what a till waits for, if it has waited for long and this is another trouble than the last that was said."""
+    if time.monotonic() - began < PATIENCE:
+        return told
+    trouble = link.trouble()
+    if trouble != told:
+        say(f"till {till.till}: {trouble}; it asks on")
+    return trouble
+
+
 class Pipe:
-    """Carries messages to a command that answers a line with a line, and is started again where it has ended."""
+    """Carries messages to a command that answers a line with a line, and is started again if it has ended."""
 
     def __init__(self, command):
-        self.command, self.process = command, None
+        self.command, self.process, self.heard = command, None, b""
 
     def send(self, text):
         try:
             if not self.process:
-                self.process = subprocess.Popen(self.command, shell=True, stdin=subprocess.PIPE, stdout=subprocess.PIPE)
+                pipes = {"stdin": subprocess.PIPE, "stdout": subprocess.PIPE}
+                self.process = subprocess.Popen(self.command, shell=True, bufsize=0, **pipes)
             self.process.stdin.write(text.encode() + b"\n")
-            self.process.stdin.flush()
         except OSError as fault:
             self.close()
             raise Away from fault
 
-    def reply(self, _seconds):
-        line = self.process.stdout.readline()
-        if not line.endswith(b"\n"):
-            self.close()
-            raise Away
-        return line[:-1].decode()
+    def reply(self, seconds):
+        """The next line, or None after so many seconds."""
+        until = time.monotonic() + seconds
+        while b"\n" not in self.heard:
+            if not select.select([self.process.stdout], [], [], max(until - time.monotonic(), 0))[0]:
+                return None
+            more = os.read(self.process.stdout.fileno(), 4096)
+            if not more:
+                self.close()
+                raise Away
+            self.heard += more
+        line, _, self.heard = self.heard.partition(b"\n")
+        return line.decode("ascii", "replace")
+
+    def trouble(self):
+        return "the command gives no answer" if self.process else "the command ends"
 
     def close(self):
         if self.process:
             self.process.kill()
             self.process.wait()
-        self.process = None
+        self.process, self.heard = None, b""
 
 
-def wishes_of(path, till):
-    """The wishes to come: of a file, whose line n is the wish of number n; or, as they come, of standard input."""
-    if path == "-":
-        yield from sys.stdin
-        return
-    with open(path) as file:
-        for number, line in enumerate(file, 1):
-            if number > till.last:
+class Wishes:
+    """The wishes to come: of a file, whose line n is the wish of number n; or, as they come, of standard input, where a
+    line that is no wish is asked for again."""
+
+    def __init__(self, path, till):
+        self.path, self.till, self.wrong = path, till, 0
+        self.is_asked = path == "-" and sys.stdin.isatty()
+
+    def lines(self):
+        if self.path == "-":
+            while line := self.typed():
                 yield line
+            return
+        with open(self.path, encoding="ascii", errors="replace") as file:
+            for number, line in enumerate(file, 1):
+                if number > self.till.last:
+                    yield line
+
+    def typed(self):
+        if self.is_asked:
+            print(f"till {self.till.till}, wish {self.till.last + 1}: ", end="", file=sys.stderr, flush=True)
+        return sys.stdin.readline()
+
+    def __iter__(self):
+        for line in self.lines():
+            wish = line.strip()
+            if is_wish(wish):
+                yield wish
+                continue
+            fault = f"{wish[:60]!r} is no wish: KIND,ITEM,QUANTITY with R, I or S, or M,ITEM,QUANTITY,TO"
+            if self.path != "-":
+                sys.exit(fault)
+            say(fault)
+            self.wrong += not self.is_asked
 
 
 def words(description):
-    """The words that each till takes."""
+    """The arguments that each till takes."""
     parser = argparse.ArgumentParser(description=description)
     parser.add_argument("till", type=int, choices=range(1, 65), metavar="TILL", help="the till's number, 1 to 64")
     parser.add_argument("--shop", default="1", help="the shop's name at the broker")
     parser.add_argument("--book", required=True, help="the file that keeps the till's number and its open wish")
-    parser.add_argument("--wishes", default="-", help="a file, line n of which is wish n; else standard input")
+    parser.add_argument("--wishes", default="-", help="a file, line n of which is wish n; default: standard input")
     parser.add_argument("--pipe", metavar="COMMAND", help="no broker: a command that answers a line with a line")
-    return parser
+    return account.words(parser)
 
 
-def run(given, link):
-    """Does wish after wish, each a line `R,42,5` or `M,42,5,43`, and prints number, wish and answer of each."""
-    till = Till(given.till, Book(given.book))
-
-    def done():
-        number, wish = till.last + 1, till.open
-        print(number, wish, answer_to(till, link), flush=True)
-
+def run(given, connect):
+    """Does wish after wish, each a line `R,42,5` or `M,42,5,43`, and prints number, wish and answer of each. `connect`
+    makes what carries its messages, unless that is a pipe. Status 1: a line of the file, or of a standard input that is
+    no terminal, is no wish. 4: a keeper has to look."""
+    link = None
     try:
+        till = Till(given.till, Book(given.book))
+        link = Pipe(given.pipe) if given.pipe else connect(given)
+        wishes = Wishes(given.wishes, till)
+
+        def done():
+            number, wish = till.last + 1, till.open
+            print(number, wish, answer_to(till, link), flush=True)
+
         if till.open:
             done()
-        for line in wishes_of(given.wishes, till):
-            wish = line.strip()
-            if not is_wish(wish):
-                sys.exit(f"{wish!r} is no wish: KIND,ITEM,QUANTITY with R, I or S, or M,ITEM,QUANTITY,TO")
+        for wish in wishes:
             if not till.wish(wish):
                 sys.exit("no number is left")
             done()
+        sys.exit(1 if wishes.wrong else 0)
     except Refused as refused:
-        print(f"{refused}: another till has this number, or the shop isn't the one asked before", file=sys.stderr)
-        sys.exit(4)
+        say(f"{refused}: another till has this number, or the shop isn't the one asked before")
+        sys.exit(LOOK)
+    except Unfit as unfit:
+        say(f"till {given.till}: {unfit}")
+        sys.exit(LOOK)
     except KeyboardInterrupt:
         pass
     finally:
-        link.close()
+        if link:
+            link.close()
