@@ -14,7 +14,7 @@ use Rattle.disk_pictures.specs.Pictures.{Show, block_arc, dashes, drawing_text, 
 use Rattle.disk_pictures.specs.Pictures.{is_blocks, is_sides, legend_text, link_text, own_block, own_side, page_text}
 use Rattle.disk_pictures.specs.Pictures.{ring_of, row_text, side_arc, style, title_text, told_text, verdict_class}
 use Rattle.disk_layout.specs.View.{blocks_free}
-use Rattle.disk_pictures.specs.Texts.{numbered, sentence_text, verdict_text}
+use Rattle.disk_pictures.specs.Texts.{numbered, summary_text, verdict_text}
 
 -- the two have the same markup
 pub record IsSameMarkup (a b : List ℕ) : Type 0 where
@@ -90,10 +90,9 @@ module _ (f g : Show) (same : (bytes : List ℕ) → IsSameMarkup (f bytes) (g b
       let name = disk_name map in
       both (f id) (g id) _ _ (same id) (behind (codes " ") _ _ (both (f version) (g version) _ _ (same version)
       (behind (codes "</p>\n<p class=\"") _ _ (behind (verdict_class v) _ _ (behind (codes "\"><b>") _ _
-      (behind (verdict_text v) _ _ (behind (codes "</b> ") _ _ (behind (sentence_text v) _ _
-      (behind (decimal files) _ _ (behind (codes " files, ") _ _ (behind (decimal (blocks_free map)) _ _
-      (behind (codes " of 664 blocks free</p>\n<main>\n<svg viewBox=\"-36600 -36600 73200 73200\" role=\"img\" aria-label=\"The disk as 35 rings of sectors, each in the colour of its file; the table lists the files\">\n<svg x=\"-6900\" y=\"-1200\" width=\"13800\" height=\"2400\" viewBox=\"-6900 -1200 13800 2400\"><text y=\"400\">") _ _
-      (before (f name) (g name) (codes "</text></svg>\n<g transform=\"rotate(-90)\">\n") (same name))))))))))))))
+      (behind (verdict_text v) _ _ (behind (codes "</b> ") _ _ (behind (summary_text v files (blocks_free map)) _ _
+      (behind (codes "</p>\n<main>\n<svg viewBox=\"-36600 -36600 73200 73200\" role=\"img\" aria-label=\"The disk as 35 rings of sectors, each in the colour of its file; the table lists the files\">\n<svg x=\"-6900\" y=\"-1200\" width=\"13800\" height=\"2400\" viewBox=\"-6900 -1200 13800 2400\"><text y=\"400\">") _ _
+      (before (f name) (g name) (codes "</text></svg>\n<g transform=\"rotate(-90)\">\n") (same name)))))))))))
 
   on-link : (k : ℕ) (name : List ℕ) → IsSameMarkup (link_text f k name) (link_text g k name)
   unfolding link_text

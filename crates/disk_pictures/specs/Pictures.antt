@@ -16,7 +16,7 @@ use Rattle.disk_pictures.specs.Html.{html_of}
 use Rattle.disk_pictures.specs.Names.{disk_name, name_of}
 use Rattle.disk_pictures.specs.Texts.{any_below, at_place, each_below, has_records, is_at_place, is_free, numbered}
 use Rattle.disk_pictures.specs.Texts.{place_of, records_in}
-use Rattle.disk_pictures.specs.Texts.{sentence_text, type_text, verdict_text}
+use Rattle.disk_pictures.specs.Texts.{summary_text, type_text, verdict_text}
 use Rattle.disk_pictures.specs.declared.owners.Owner.{Owner}
 use Rattle.disk_pictures.specs.declared.owners.Owner.TheVariants as owner
 
@@ -203,10 +203,9 @@ unfoldable pub told_text : Show → Option Fault → ℕ → Sector → List ℕ
 told_text show v files map =
     show (slice_range map 162 164)
     ++ (codes " " ++ (show (slice_range map 165 167) ++ (codes "</p>\n<p class=\"" ++ (verdict_class v
-    ++ (codes "\"><b>" ++ (verdict_text v ++ (codes "</b> " ++ (sentence_text v ++ (decimal files
-    ++ (codes " files, " ++ (decimal (blocks_free map)
-    ++ (codes " of 664 blocks free</p>\n<main>\n<svg viewBox=\"-36600 -36600 73200 73200\" role=\"img\" aria-label=\"The disk as 35 rings of sectors, each in the colour of its file; the table lists the files\">\n<svg x=\"-6900\" y=\"-1200\" width=\"13800\" height=\"2400\" viewBox=\"-6900 -1200 13800 2400\"><text y=\"400\">"
-    ++ (show (disk_name map) ++ codes "</text></svg>\n<g transform=\"rotate(-90)\">\n"))))))))))))))
+    ++ (codes "\"><b>" ++ (verdict_text v ++ (codes "</b> "
+    ++ (summary_text v files (blocks_free map) ++ (codes "</p>\n<main>\n<svg viewBox=\"-36600 -36600 73200 73200\" role=\"img\" aria-label=\"The disk as 35 rings of sectors, each in the colour of its file; the table lists the files\">\n<svg x=\"-6900\" y=\"-1200\" width=\"13800\" height=\"2400\" viewBox=\"-6900 -1200 13800 2400\"><text y=\"400\">"
+    ++ (show (disk_name map) ++ codes "</text></svg>\n<g transform=\"rotate(-90)\">\n"))))))))))
 
 -- the end of the drawing, with the numbers of tracks and an arrow from sector 0 to 1; the meaning of the colours; and the
 -- head of the table

@@ -1,7 +1,7 @@
 -- What is printed of a disk beside its sectors. All of it is our own but the types (1541 User's Guide, directory
 -- format).
 use Rattle.std.specs.Prelude.{ℕ, zero, suc, ◌+◌, ◌*◌, ◌-◌, ◌/◌, ◌%◌, ◌&&◌, ◌||◌, Bool, false, not, List, [], ◌∷◌, ◌++◌}
-use Rattle.std.specs.Prelude.{Option, Some, None, if◌then◌else◌, codes, length, max, nat_eq, nat_lt}
+use Rattle.std.specs.Prelude.{Option, Some, None, if◌then◌else◌, codes, decimal, length, max, nat_eq, nat_lt}
 use Rattle.std.specs.Int.{bit_at}
 use Rattle.d64_image.specs.Images.{Sector}
 use Rattle.d64_image.specs.declared.place.Place.{Place}
@@ -86,9 +86,14 @@ words_after (fault.MapWrong p) = codes "; "
 words_after (fault.Device p) = codes "; "
 
 -- what a verdict says, as the beginning of a sentence
-unfoldable pub sentence_text : Option Fault → List ℕ
+abbrev pub sentence_text : Option Fault → List ℕ
 sentence_text None = codes "Sound: "
 sentence_text (Some f) = words_before f ++ (place_text (place_of f) ++ words_after f)
+
+-- and with the number of files and of free blocks
+unfoldable pub summary_text : Option Fault → ℕ → ℕ → List ℕ
+summary_text v files free =
+    sentence_text v ++ (decimal files ++ (codes " files, " ++ (decimal free ++ codes " of 664 blocks free")))
 
 -- what a check told: OK where nothing is wrong
 abbrev pub verdict_text : Option Fault → List ℕ

@@ -8,7 +8,7 @@ use crate::arcs::Look;
 use crate::drawn_file::DrawnFile;
 use crate::html::Html;
 use crate::names::{entry_name, header_name};
-use crate::texts::{Sentence, TypeText, VerdictText};
+use crate::texts::{Summary, TypeText, VerdictText};
 use disk_layout::{BamView, EntryView, Fault};
 use std::fmt::{self, Display, Formatter};
 
@@ -143,9 +143,14 @@ impl Display for Told<'_> {
 
     fn fmt<W: fmt::Write>(&self, f: &mut Formatter<W>) -> fmt::Result {
         let view = BamView::new(self.map);
+        let summary = Summary {
+            found: self.found,
+            files: self.files,
+            free: view.blocks_free(),
+        };
         write!(
             f,
-            "{} {}</p>\n<p class=\"{}\"><b>{}</b> {}{} files, {} of 664 blocks free</p>\n<main>\n\
+            "{} {}</p>\n<p class=\"{}\"><b>{}</b> {summary}</p>\n<main>\n\
             <svg viewBox=\"-36600 -36600 73200 73200\" role=\"img\" aria-label=\"The disk as 35 rings of sectors, each in \
             the colour of its file; the table lists the files\">\n\
             <svg x=\"-6900\" y=\"-1200\" width=\"13800\" height=\"2400\" viewBox=\"-6900 -1200 13800 2400\">\
@@ -154,9 +159,6 @@ impl Display for Told<'_> {
             Html(view.version()),
             class_of(self.found),
             VerdictText(self.found),
-            Sentence(self.found),
-            self.files,
-            view.blocks_free(),
             Html(header_name(self.map))
         )
     }

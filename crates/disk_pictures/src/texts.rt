@@ -2,8 +2,8 @@
 ghost use Rattle.std.specs.Prelude.{◌≡◌, None, Some, if◌then◌else◌};
 ghost use Rattle.disk_layout.specs.Layout.{record_length};
 ghost use Rattle.disk_pictures.specs.Drawings.{file_in};
-ghost use Rattle.disk_pictures.specs.Texts.{has_records, records_in, sentence_text, type_text, verdict_text};
-ghost use Rattle.disk_pictures.specs.Texts.{words_after, words_before};
+ghost use Rattle.disk_pictures.specs.Texts.{has_records, records_in, sentence_text, summary_text, type_text};
+ghost use Rattle.disk_pictures.specs.Texts.{verdict_text, words_after, words_before};
 ghost use Rattle.disk_pictures.specs.Texts.{is_fault_at as fault_at, place_of, type_name as name_of_type};
 
 use crate::arcs::PlaceText;
@@ -61,7 +61,7 @@ pub(crate) fn is_fault_at(found: Option<Fault>, place: Place) -> bool
 
 /// What a verdict says, as the beginning of a sentence.
 #[derive(Clone, Copy)]
-pub(crate) struct Sentence(pub Option<Fault>);
+struct Sentence(Option<Fault>);
 
 impl Display for Sentence {
     ghost output = { λ said. Some (sentence_text said.0) };
@@ -74,6 +74,31 @@ impl Display for Sentence {
                 write!(f, "{begin}{}{end}", PlaceText(fault_place(fault)))
             }
         }
+    }
+}
+
+/// What a verdict says, the number of files, and the number of free blocks, as a sentence.
+#[derive(Clone, Copy)]
+pub(crate) struct Summary {
+    /// What a check reports.
+    pub found: Option<Fault>,
+    /// How many files the directory has.
+    pub files: usize,
+    /// How many of the 664 blocks are free, as the map counts them.
+    pub free: u16,
+}
+
+impl Display for Summary {
+    ghost output = { λ said. Some (summary_text said.found said.files said.free) };
+
+    fn fmt<W: fmt::Write>(&self, f: &mut Formatter<W>) -> fmt::Result {
+        write!(
+            f,
+            "{}{} files, {} of 664 blocks free",
+            Sentence(self.found),
+            self.files,
+            self.free
+        )
     }
 }
 

@@ -1,6 +1,7 @@
 -- The head, the drawing, the legend, the rows and the end are the page.
-use Rattle.std.proofs.Common.{◌≡◌, List, ℕ, length, map, subst}
+use Rattle.std.proofs.Common.{◌≡◌, ◌∙◌, ap, List, ℕ, length, map, subst, sym}
 use Rattle.std.specs.Prelude.{Option}
+use Rattle.std.proofs.lemmas.List.{length-map}
 use Rattle.std.specs.Io.KnownBytes.{Appends, Keeps}
 use Rattle.std.proofs.KnownBytes.{Appends-kept, Appends-trans}
 use Rattle.d64_image.specs.Images.{Sector}
@@ -34,9 +35,11 @@ pub returns-clause-ok : goal.returns-clause-ok
 unfolding end_text legend_text
 returns-clause-ok g c =
     let d = c.args.drawing.now in
+    let many : length c.as_slice-files.result.now ≡ length (map file_in d.files.items) =
+    ap length c.as_slice-files.ensures.value ∙ sym (length-map d.files.items file_in) in
     let rows = subst (λ fs. Appends (g.W.Write.contents c.put-3.new.out) (g.W.Write.contents c.put_rows.new.out)
-    (numbered (row_text html_of) 0 (map file_in fs))) c.as_slice-2.ensures.value c.in_ok-put_rows.ensures.ok in
-    at-ok c.flush.result (all-printed _ _ _ _ _ _ _ _ c.args.found c.told.files d.map (drawn_in d) many
+    (numbered (row_text html_of) 0 (map file_in fs))) c.as_slice.ensures.value c.in_ok-put_rows.ensures.ok in
+    at-ok c.flush.result (all-printed _ _ _ _ _ _ _ _ c.args.found _ d.map (drawn_in d) many
     c.in_ok-put.ensures.ok
     c.in_ok-put-2.ensures.ok
     c.in_ok-put_drawing.ensures.ok c.in_ok-put-3.ensures.ok rows c.in_ok-put-4.ensures.ok c.flush.ensures.kept)
