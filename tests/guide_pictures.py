@@ -37,17 +37,24 @@ class Page:
     """What a page of `picture` has: its style, words, table and drawing."""
 
     def __init__(self, page):
-        text = page.decode("ascii").replace('<meta charset="utf-8">', "").replace("<br>", "<br/>") + "</html>"
+        text = re.sub("<meta [^>]*>", "", page.decode("ascii")) + "</html>"
         self.tree = ElementTree.fromstring(re.sub("^<!DOCTYPE html>", "", text))
-        self.style = self.tree.findtext("style")
-        self.name, self.words = self.tree.findtext("h1"), self.tree.find("p").text.rstrip(", ")
-        self.verdict = self.tree.findtext("p/span")
+        # the rules for light screens
+        self.style, _, self.more = self.tree.findtext("style").partition("@media")
+        self.name = self.tree.findtext("h1")
+        self.verdict, self.words = self.tree.findtext("p/b"), self.tree.find("p/b").tail.strip()
         self.drawing = self.tree.find(".//svg")
         self.rows = [row for row in self.tree.iter("tr") if row.find("td") is not None]
-        self.dashes = dict(re.findall(r'\[r="(\d+)"\]\{stroke-dasharray:([\d ]+)\}', self.style))
+        self.dashes = dict(re.findall(r'\[r="(\d+)"\]\{stroke-dasharray:([\d ]+)\}', self.more))
 
     def colour(self, kind):
         return re.search(r"\.%s\{stroke:([^;}]*)" % kind, self.style).group(1)
+
+    def file_colour(self, classes, is_side=False):
+        """The colour of an entry of these classes, and that of its side sectors. The documents' disks have few files."""
+        colour, width = classes.split()
+        want(width == "w0", f"more than twelve files: {classes}")
+        return re.search(r"\.%s%s\{stroke:([^;}]*)" % (colour, " \\.s" if is_side else ""), self.style).group(1)
 
     def groups(self):
         """The drawing's groups, each a list of circles, with the dash of its ring and the look of its group."""
@@ -58,11 +65,10 @@ class Page:
         if "style" in attributes:
             dashes = attributes["style"].removeprefix("stroke-dasharray:").strip()
             return {"r": attributes["r"], "stroke-dasharray": dashes, "stroke-dashoffset": "0", "class": group.get("class")}
-        if attributes.get("class") == "s":
-            attributes = {name: value for name, value in attributes.items() if name != "class"} | {"stroke": group.get("color")}
-        elif "class" not in attributes:
-            name = look_name(group)
-            attributes = {**attributes, name: group.get(name)}
+        is_side = attributes.get("class") == "s"
+        if is_side or "class" not in attributes:
+            plain = {name: value for name, value in attributes.items() if name != "class"}
+            attributes = {**plain, "stroke": self.file_colour(group.get("class"), is_side)}
         return {"stroke-dasharray": self.dashes.get(attributes["r"]), **attributes}
 
 
@@ -116,7 +122,7 @@ def drawing_text(page):
     circles = "".join(circle_text(circle) for group in page.groups() for circle in joined(group))
     return (f'<svg x="10" y="10" width="{SIDE}" height="{SIDE}" viewBox="{page.drawing.get("viewBox")}">\n'
             f'<g transform="{page.drawing.find("g").get("transform")}">\n{circles}</g>\n'
-            f'<text class="disk" y="400">{escape(page.drawing.findtext("text"))}</text>\n</svg>\n')
+            f'<text class="disk" y="400">{escape(page.drawing.findtext("svg/text"))}</text>\n</svg>\n')
 
 
 def style_text(page):
@@ -149,7 +155,7 @@ def words_text(page):
     y += 16
     for row in page.rows:
         cells = row.findall("td")
-        colour = re.search("background:(.*)", cells[0].find("i").get("style")).group(1)
+        colour = page.file_colour(cells[0].find("i").get("class"))
         name, kind = cells[2].findtext("a"), cells[3].text
         records = f", {cells[5].text} records of {cells[4].text}" if cells[5].text else ""
         made += key_text(x, y, colour, f"{cells[1].text:>4} {name} {kind}{records}")

@@ -13,8 +13,8 @@ PROGRAM is what `tools/program` prints. The images, each of 174,848 bytes:
 Of each are run `map`, `picture`, `check`, and `picture` of the image without names. Either the directory's sectors are no
 chain on track 18: then all are refused with the fault that `check` tells, and nothing is printed. Or:
 - the map's marks are the rules', and `!` stands at the fault that `check` tells;
-- the page, read by a strict XML parser, has each of the 683 sectors once, with the title and the class or colour of its
-  owner, in order; a white line over each in use that the map calls free; the fault; and the names;
+- the page, read by a strict XML parser, has each of the 683 sectors once, with the title and the classes of its owner,
+  in order; a white line over each in use that the map calls free; the fault; and the names;
 - its tags are, in order and to the byte, those of the page without names, and outside of them stands no `<` and no `>`.
 The status is 1 at the first difference, whose image is kept. The whole run is of 24,288 images, of which 14,314 are drawn
 and 9,974 refused. It takes some eight minutes of processor time, mostly to read the pages."""
@@ -34,7 +34,8 @@ from drawn import DIRECTORY, MAP, PLACES, SIZE, Disk, sectors_on, start
 
 JOBS = 2
 # tags that HTML lets stand open, as XML has them
-OPEN_TAGS = ((b'<meta charset="utf-8">', b'<meta charset="utf-8"/>', 1), (b"<br>", b"<br/>", 2))
+VIEWPORT = b'<meta name="viewport" content="width=device-width,initial-scale=1"'
+OPEN_TAGS = ((b'<meta charset="utf-8">', b'<meta charset="utf-8"/>', 1), (VIEWPORT + b">", VIEWPORT + b"/>", 1))
 TAG = re.compile(rb"<[^<>]*>")
 STYLE = re.compile(rb"<style>.*?</style>", re.S)
 CLASSES = {"*": "map", "=": "dir", ".": "free", "?": "lost"}
@@ -61,8 +62,9 @@ def without_names(image, disk):
     return bytes(blank)
 
 
-def file_colour(number, side):
-    return "hsl(%d,62%%,%d%%)" % (30 + (170 + 137 * number) % 300, (38, 54, 46)[number % 3] - (18 if side else 0))
+def file_class(number, side):
+    """The classes of an entry's group: one of twelve colours and one of four widths; a side sector has `s` too."""
+    return f"c{number % 12} w{number // 12 % 4}" + (" s" if side else "")
 
 
 def ring(place, radius=None):
@@ -121,7 +123,7 @@ class Page:
             place = radius, dash or DASH_OF.get(radius), attributes.pop("stroke-dashoffset")
             name, *looks = self._group[-1]
             if attributes == {"class": "s"}:
-                attributes = {"stroke": dict(looks)["color"]}
+                attributes = {"class": dict(looks)["class"] + " s"}
             (look,) = attributes.items() or looks[-1:]
             self.circles.append([name, place, look, None])
 
@@ -131,7 +133,7 @@ class Page:
             self.circles[-1][3] = self._text
         elif tag == "a" and self._path[-1:] == ["td"]:
             self.names.append(self._text)
-        elif tag in ("h1", "title", "text", "span"):
+        elif tag in ("h1", "title", "b") or tag == "text" and not self._group:
             self.heads.append(self._text)
         elif tag == "g":
             self._group.pop()
@@ -146,7 +148,7 @@ def wanted_circle(disk, place):
     if mark in CLASSES:
         return ["m" if mark in "*=" else "r", RINGS[place], ("class", CLASSES[mark]), disk.title(place)]
     number, kind, _ = disk.owner[place]
-    return [f"f{number}", RINGS[place], ("stroke", file_colour(number, kind == "side")), disk.title(place)]
+    return [f"f{number}", RINGS[place], ("class", file_class(number, kind == "side")), disk.title(place)]
 
 
 def wanted_circles(disk, verdict):

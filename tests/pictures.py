@@ -5,7 +5,6 @@
 
 In FOLDER, where it is given, the pages and what the browser shows of them are kept."""
 
-import colorsys
 import json
 import math
 import re
@@ -20,6 +19,7 @@ from PIL import Image
 import disks
 from browser import Browser, Proxy
 from drawn import MAP, PLACES, Disk, sectors_on
+from palette import DARKER, LIGHT, rgb
 from served import run, want
 
 LARGEST = 150_000
@@ -35,26 +35,25 @@ BESIDE = 225
 # how far two colours may be from each other, of 255
 NEAR = 2
 
-SYSTEM = {"*": (0x11, 0x11, 0x11), "=": (0x5B, 0x5B, 0x5B), ".": (0xE2, 0xDE, 0xD3), "?": (0x9A, 0x93, 0x84)}
-RED, WHITE = (0xE0, 0, 0), (255, 255, 255)
+SYSTEM = {"*": (0x16, 0x16, 0x16), "=": (0x5E, 0x5E, 0x5E), ".": (0xE8, 0xE4, 0xD9), "?": (0x7B, 0x75, 0x67)}
+RED, WHITE = (0xD4, 0, 0), (255, 255, 255)
 
 # what the page's own markup is: each element's attributes, sorted
 MARKUP = {
-    "html": ["lang"], "head": [], "meta": ["charset"], "title": [], "style": [], "body": [], "h1": [], "p": [],
-    "main": [], "div": [], "ul": [], "table": [], "tbody": [], "tr": [], "th": [], "td": [], "br": [], "text": ["y"],
-    "span": ["class"], "li": ["class"], "a": ["href"], "svg": ["viewBox"]}
+    "html": ["lang"], "head": [], "title": [], "style": [], "body": [], "h1": [], "b": [], "main": [], "div": [], "ul": [],
+    "table": [], "tbody": [], "tr": [], "th": [], "td": [], "text": ["y"], "path": ["d"], "li": ["class"], "a": ["href"]}
 RING_ATTRIBUTES = ["r", "stroke-dashoffset"]
-VARIED = {"g": [["transform"], ["id"], ["color", "id", "stroke"], ["class"]], "i": [[], ["style"]],
+VARIED = {"g": [["transform"], ["id"], ["class", "id"], ["class"]], "i": [[], ["class"]], "p": [[], ["class"]],
+          "meta": [["charset"], ["content", "name"]],
+          "svg": [["aria-label", "role", "viewBox"], ["height", "viewBox", "width", "x", "y"]],
           "circle": [RING_ATTRIBUTES, ["class", *RING_ATTRIBUTES], ["r", "style"],
                      ["class", "r", "stroke-dasharray", "stroke-dashoffset"]]}
 
 
 def file_colour(number, side):
     """The colour of an entry, and darker that of its side sectors."""
-    hue = 30 + (170 + 137 * number) % 300
-    light = (38, 54, 46)[number % 3] - (18 if side else 0)
-    parts = colorsys.hls_to_rgb(hue / 360, light / 100, 0.62)
-    return tuple(round(255 * part) for part in parts)
+    colour = rgb(LIGHT[number % len(LIGHT)])
+    return tuple(round(DARKER * part) for part in colour) if side else colour
 
 
 def middle(place, radius_more=0, radius=None):
@@ -199,7 +198,7 @@ def drawn_in(browser, url):
 def svg_of(page):
     """The drawing of a page as a file of its own, with the page's style."""
     text = page.decode()
-    drawing = re.search(r"<svg (.*?)</svg>", text, re.S).group(1)
+    drawing = re.search(r"<svg (.*)</svg>\n<div>", text, re.S).group(1)
     style = re.search(r"<style>(.*?)</style>", text, re.S).group(1)
     head, _, rest = drawing.partition(">")
     return f'<svg xmlns="http://www.w3.org/2000/svg" {head}><style>{style}</style>{rest}</svg>'
@@ -229,7 +228,7 @@ def see_page(program, browser, proxy, name, path, folder):
     want(done.returncode == status and status == (0 if lines[-1] == "OK" else 1), f"{name}: statuses")
     want(len(page) < LARGEST, f"{name}: {len(page)} bytes")
     references = re.findall(rb"(?:src|href|url|import|action|data)\s*[=(]\s*\"?([^\">]*)", page)
-    want(all(re.fullmatch(rb"#f\d+", found) for found in references), f"{name}: leads out of the page: {references}")
+    want(all(re.fullmatch(rb"#(f\d+|all)", found) for found in references), f"{name}: leads out of the page: {references}")
     wanted = Wanted(name, path.read_bytes(), lines)
     file = folder / f"{name}.html"
     file.write_bytes(page)

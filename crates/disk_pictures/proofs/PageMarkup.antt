@@ -10,11 +10,11 @@ use Rattle.disk_layout.specs.declared.faults.Fault.{Fault}
 use Rattle.disk_pictures.specs.Drawings.{owner_of}
 use Rattle.disk_pictures.specs.Markup.{is_markup, markup_of}
 use Rattle.disk_pictures.specs.Names.{disk_name, name_of}
-use Rattle.disk_pictures.specs.Pictures.{Show, block_arc, colour, dashes, drawing_text, file_group, group_head}
+use Rattle.disk_pictures.specs.Pictures.{Show, block_arc, dashes, drawing_text, file_group, group_head, look}
 use Rattle.disk_pictures.specs.Pictures.{is_blocks, is_sides, legend_text, link_text, own_block, own_side, page_text}
 use Rattle.disk_pictures.specs.Pictures.{ring_of, row_text, side_arc, style, title_text, told_text, verdict_class}
 use Rattle.disk_layout.specs.View.{blocks_free}
-use Rattle.disk_pictures.specs.Texts.{numbered, verdict_text}
+use Rattle.disk_pictures.specs.Texts.{numbered, summary_text, verdict_text}
 
 -- the two have the same markup
 pub record IsSameMarkup (a b : List ℕ) : Type 0 where
@@ -76,23 +76,23 @@ module _ (f g : Show) (same : (bytes : List ℕ) → IsSameMarkup (f bytes) (g b
   unfolding title_text
   on-title map =
       let name = disk_name map in
-      behind (codes "<!DOCTYPE html>\n<html lang=\"en\">\n<meta charset=\"utf-8\">\n<title>") _ _
+      behind (codes "<!DOCTYPE html>\n<html lang=\"en\">\n<meta charset=\"utf-8\">\n<meta name=\"viewport\" content=\"width=device-width,initial-scale=1\">\n<title>") _ _
       (both (f name) (g name) _ _ (same name)
       (behind (codes "</title>\n<style>") _ _ (behind style _ _ (behind dashes _ _ (behind (codes "</style>\n<h1>") _ _
       (before (f name) (g name) _ (same name)))))))
 
-  on-told : (v : Option Fault) (map : Sector) → IsSameMarkup (told_text f v map) (told_text g v map)
+  on-told : (v : Option Fault) (files : ℕ) (map : Sector)
+      → IsSameMarkup (told_text f v files map) (told_text g v files map)
   unfolding told_text
-  on-told v map =
+  on-told v files map =
       let id = slice_range map 162 164 in
       let version = slice_range map 165 167 in
       let name = disk_name map in
       both (f id) (g id) _ _ (same id) (behind (codes " ") _ _ (both (f version) (g version) _ _ (same version)
-      (behind (codes ", ") _ _ (behind (decimal (blocks_free map)) _ _
-      (behind (codes " blocks free, <span class=\"") _ _ (behind (verdict_class v) _ _
-      (behind (codes "\">") _ _ (behind (verdict_text v) _ _
-      (behind (codes "</span></p>\n<main>\n<svg viewBox=\"-36600 -36600 73200 73200\">\n<text y=\"400\">") _ _
-      (before (f name) (g name) (codes "</text>\n<g transform=\"rotate(-90)\">\n") (same name)))))))))))
+      (behind (codes "</p>\n<p class=\"") _ _ (behind (verdict_class v) _ _ (behind (codes "\"><b>") _ _
+      (behind (verdict_text v) _ _ (behind (codes "</b> ") _ _ (behind (summary_text v files (blocks_free map)) _ _
+      (behind (codes "</p>\n<main>\n<svg viewBox=\"-36600 -36600 73200 73200\" role=\"img\" aria-label=\"The disk as 35 rings of sectors, each in the colour of its file; the table lists the files\">\n<svg x=\"-6900\" y=\"-1200\" width=\"13800\" height=\"2400\" viewBox=\"-6900 -1200 13800 2400\"><text y=\"400\">") _ _
+      (before (f name) (g name) (codes "</text></svg>\n<g transform=\"rotate(-90)\">\n") (same name)))))))))))
 
   on-link : (k : ℕ) (name : List ℕ) → IsSameMarkup (link_text f k name) (link_text g k name)
   unfolding link_text
@@ -103,13 +103,13 @@ module _ (f g : Show) (same : (bytes : List ℕ) → IsSameMarkup (f bytes) (g b
   on-row : (k : ℕ) (d : File) → IsSameMarkup (row_text f k d) (row_text g k d)
   unfolding row_text
   on-row k d =
-      behind (codes "<tr><td><i style=\"background:") _ _
-      (behind (colour k 0) _ _ (behind (codes "\"></i></td><td>") _ _
+      behind (codes "<tr><td><i class=\"") _ _
+      (behind (look k) _ _ (behind (codes "\"></i></td><td>") _ _
       (behind (decimal (count_field d.slot)) _ _ (behind (codes "</td><td>") _ _
       (before (link_text f k (name_of d.slot)) (link_text g k (name_of d.slot)) _ (on-link k (name_of d.slot)))))))
 
   pub on-page : (v : Option Fault) (map : Sector) (l : Layout)
       → IsSameMarkup (page_text f v map l) (page_text g v map l)
   unfolding page_text
-  on-page v map l = both _ _ _ _ (on-title map) (both _ _ _ _ (on-told v map) (both _ _ _ _ (on-drawing v map l)
+  on-page v map l = both _ _ _ _ (on-title map) (both _ _ _ _ (on-told v (length l.files) map) (both _ _ _ _ (on-drawing v map l)
       (behind legend_text _ _ (before _ _ _ (each (row_text f) (row_text g) on-row 0 l.files)))))

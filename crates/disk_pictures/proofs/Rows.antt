@@ -5,13 +5,13 @@ use Rattle.disk_layout.specs.Directory.{type_byte}
 use Rattle.disk_layout.specs.Layout.{File, count_field}
 use Rattle.disk_pictures.specs.Html.{html_of}
 use Rattle.disk_pictures.specs.Names.{name_of}
-use Rattle.disk_pictures.specs.Pictures.{cells_text, colour, link_text, row_text}
+use Rattle.disk_pictures.specs.Pictures.{cells_text, link_text, look, row_text}
 use Rattle.disk_pictures.specs.Texts.{type_text}
 
 pub row-written : (k : ℕ) (f : File) (count byte : ℕ) (name : List ℕ) → count ≡ count_field f.slot
     → byte ≡ type_byte f.slot
     → name ≡ name_of f.slot
-    → codes "<tr><td><i style=\"background:" ++ (colour k 0 ++ (codes "\"></i></td><td>" ++ (decimal count
+    → codes "<tr><td><i class=\"" ++ (look k ++ (codes "\"></i></td><td>" ++ (decimal count
     ++ (codes "</td><td>" ++ (link_text html_of k name ++ (codes "</td><td>"
     ++ (type_text (codes "&lt;") byte ++ (codes "</td><td>" ++ (cells_text f ++ codes "</td></tr>\n"))))))))) ≡ row_text
     html_of k f

@@ -16,7 +16,7 @@ use Rattle.disk_pictures.specs.Html.{html_of}
 use Rattle.disk_pictures.specs.Names.{disk_name, name_of}
 use Rattle.disk_pictures.specs.Texts.{any_below, at_place, each_below, has_records, is_at_place, is_free, numbered}
 use Rattle.disk_pictures.specs.Texts.{place_of, records_in}
-use Rattle.disk_pictures.specs.Texts.{type_text, verdict_text}
+use Rattle.disk_pictures.specs.Texts.{summary_text, type_text, verdict_text}
 use Rattle.disk_pictures.specs.declared.owners.Owner.{Owner}
 use Rattle.disk_pictures.specs.declared.owners.Owner.TheVariants as owner
 
@@ -24,15 +24,9 @@ use Rattle.disk_pictures.specs.declared.owners.Owner.TheVariants as owner
 abbrev pub Show : Type 0
 Show = List ℕ → List ℕ
 
--- the colour of entry k, less bright by this: hues far from each other for neighbours, three brightnesses
-abbrev pub hue : ℕ → ℕ
-hue k = 30 + (170 + 137 * (k % 300)) % 300
-
-abbrev pub brightness : ℕ → ℕ
-brightness k = if nat_eq (k % 3) 0 then 38 else (if nat_eq (k % 3) 1 then 54 else 46)
-
-unfoldable pub colour : ℕ → ℕ → List ℕ
-colour k less = codes "hsl(" ++ (decimal (hue k) ++ (codes ",62%," ++ (decimal (brightness k - less) ++ codes "%)")))
+-- the classes of entry k: one of twelve colours, and one of four widths for entries of one colour
+unfoldable pub look : ℕ → List ℕ
+look k = codes "c" ++ (decimal (k % 12) ++ (codes " w" ++ decimal (k / 12 % 4)))
 
 -- how long the arc of a sector is on a ring of this radius with n sectors: 355/113 is pi
 abbrev pub arc : ℕ → ℕ → ℕ
@@ -68,7 +62,7 @@ block_arc show name o n p =
     ring_of p ++ (codes "><title>" ++ (place_text p ++ (codes " " ++ (show name
     ++ (codes ", block " ++ (decimal o ++ (codes " of " ++ (decimal n ++ codes "</title></circle>\n"))))))))
 
--- side sector j of an entry of this name, in the darker colour of its group
+-- side sector j of an entry of this name, in another shade of its group's colour
 unfoldable pub side_arc : Show → List ℕ → ℕ → Place → List ℕ
 side_arc show name j p =
     ring_of p ++ (codes " class=\"s\"><title>" ++ (place_text p ++ (codes " " ++ (show name
@@ -103,11 +97,9 @@ own_block show l k f n p = if is_blocks k (owner_of l p) then block_arc show (na
 abbrev pub own_side : Show → Layout → ℕ → File → ℕ → Place → List ℕ
 own_side show l k f n p = if is_sides k (owner_of l p) then side_arc show (name_of f.slot) n p else []
 
--- the beginning of the group of entry k, in its colour, and with the darker one for side sectors
+-- the beginning of the group of entry k, with its classes
 unfoldable pub group_head : ℕ → List ℕ
-group_head k =
-    codes "<g id=\"f" ++ (decimal k ++ (codes "\" color=\"" ++ (colour k 18 ++ (codes "\" stroke=\"" ++ (colour k 0
-    ++ codes "\">\n")))))
+group_head k = codes "<g id=\"f" ++ (decimal k ++ (codes "\" class=\"" ++ (look k ++ codes "\">\n")))
 
 -- the group of entry k: its blocks in their order, then its side sectors
 unfoldable pub file_group : Show → Layout → ℕ → File → List ℕ
@@ -186,7 +178,7 @@ fault_group (Some f) = fault_sector f
 -- the page's style
 unfoldable pub style : List ℕ
 style = codes
-    "body{margin:24px;background:#fbfaf7;color:#222;font:14px/1.4 ui-monospace,Menlo,Consolas,\"DejaVu Sans Mono\",monospace}h1{font-size:20px;margin:0}p{margin:4px 0 16px}main{display:flex;flex-wrap:wrap;gap:32px;align-items:flex-start}svg{width:720px;max-width:100%;height:auto}main>div{max-width:440px}circle{fill:none;stroke-width:700}.free{stroke:#e2ded3}.lost{stroke:#9a9384}.map{stroke:#111}.dir{stroke:#5b5b5b}.s{stroke:currentColor}.edge{stroke:#fff;stroke-width:1500}.fault{stroke:#e00000;stroke-width:1100}.open circle{stroke:#fff;stroke-width:200;pointer-events:none}.bad{color:#d00;font-weight:bold}.good{color:#17692b;font-weight:bold}text{font:1100px ui-monospace,Menlo,Consolas,\"DejaVu Sans Mono\",monospace;fill:#444;text-anchor:middle}table{border-collapse:collapse}td,th{padding:1px 8px;text-align:right;white-space:pre}tr>:nth-child(3),tr>:nth-child(4){text-align:left}i{display:inline-block;width:12px;height:12px;margin:0 4px 0 0}ul{list-style:none;padding:0;margin:0 0 12px}li{margin:0 0 2px}.map i{background:#111}.dir i{background:#5b5b5b}.free i{background:#e2ded3}.lost i{background:#9a9384}tr a{color:inherit;text-decoration:none}tr a:hover{text-decoration:underline}g:target circle{stroke-width:800}svg:has(g:target) g g:not(:target):not(#f){opacity:.15}"
+    ":root{color-scheme:light dark}body{margin:24px;background:#fbfaf7;color:#222;font:14px/1.4 ui-monospace,Menlo,Consolas,\"DejaVu Sans Mono\",monospace}h1{font-size:20px;margin:0}p{margin:4px 0 12px}a{color:inherit}main{display:grid;gap:16px 32px;grid-template-columns:minmax(0,720px) minmax(0,1fr)}main>div{max-height:calc(100vh - 130px);overflow:auto}main>svg{width:100%;height:auto}table{border-collapse:collapse}td,th{padding:1px 8px;text-align:right;white-space:pre}tr>:nth-child(3),tr>:nth-child(4){text-align:left}td a{display:inline-block;max-width:20ch;overflow:hidden;text-overflow:ellipsis;vertical-align:bottom;text-decoration:none}td a:hover,td a:focus{max-width:none;text-decoration:underline}ul{list-style:none;padding:0;margin:0 0 12px}li{margin:0 0 2px}i{display:inline-block;box-sizing:border-box;width:12px;height:12px;margin:0 6px 0 0;background:currentColor;background-clip:content-box;vertical-align:-1px}.bad b{color:#b00000}.good b{color:#17692b}circle{fill:none;stroke-width:700}.w1 circle{stroke-width:540}.w2 circle{stroke-width:390}.w3 circle{stroke-width:240}i.w1{padding:1.5px 0}i.w2{padding:3px 0}i.w3{padding:4px 0}text{font:1100px ui-monospace,Menlo,Consolas,\"DejaVu Sans Mono\",monospace;fill:#444;text-anchor:middle}.n{pointer-events:none;fill:none;stroke:#444;stroke-width:120}.n text{paint-order:stroke;stroke:#fbfaf7;stroke-width:300}.free{stroke:#e8e4d9}.lost{stroke:#7b7567}.map{stroke:#161616}.dir{stroke:#5e5e5e}.edge{stroke:#fff;stroke-width:1500}.fault{stroke:#d40000;stroke-width:1100}.open circle{stroke:#fff;stroke-width:200;pointer-events:none}.free i{color:#e8e4d9}.lost i{color:#7b7567}.map i{color:#161616}.dir i{color:#5e5e5e}.fault i{color:#d40000}.side i{background:linear-gradient(90deg,#999 50%,#444 50%)}.open i{background:linear-gradient(#999 40%,#fff 40%,#fff 60%,#999 60%)}.c0{stroke:#8c8259;color:#8c8259}.c0 .s{stroke:#4d4831}.c1{stroke:#1c9182;color:#1c9182}.c1 .s{stroke:#0f5048}.c2{stroke:#4b75ff;color:#4b75ff}.c2 .s{stroke:#29408c}.c3{stroke:#e320ba;color:#e320ba}.c3 .s{stroke:#7d1266}.c4{stroke:#406c83;color:#406c83}.c4 .s{stroke:#233b48}.c5{stroke:#716046;color:#716046}.c5 .s{stroke:#3e3526}.c6{stroke:#3a4353;color:#3a4353}.c6 .s{stroke:#20252e}.c7{stroke:#4a3934;color:#4a3934}.c7 .s{stroke:#291f1d}.c8{stroke:#0c0bca;color:#0c0bca}.c8 .s{stroke:#07066f}.c9{stroke:#5d0476;color:#5d0476}.c9 .s{stroke:#330241}.c10{stroke:#630a00;color:#630a00}.c10 .s{stroke:#360600}.c11{stroke:#041c33;color:#041c33}.c11 .s{stroke:#020f1c}g:target circle{stroke-width:800}svg:has(g:target) g g:not(:target):not(#f){opacity:.15}.all{visibility:hidden}main:has(g:target) .all{visibility:visible}main:not(:has(circle.free)) li.free{display:none}main:not(:has(circle.lost)) li.lost{display:none}main:not(:has(circle.s)) li.side{display:none}main:not(:has(.open circle)) li.open{display:none}main:not(:has(circle.fault)) li.fault{display:none}@media(max-width:900px){body{margin:12px}main{display:block}main>div{max-height:none}}@media screen and (prefers-color-scheme:dark){body{background:#15171b;color:#e6e6e6}text{fill:#c8c8c8}.n{stroke:#c8c8c8}.n text{stroke:#15171b}.free{stroke:#2a2d34}.lost{stroke:#8b8d92}.map{stroke:#fff}.dir{stroke:#9aa0aa}.edge{stroke:#15171b}.fault{stroke:#ff4a3d}.bad b{color:#ff7a70}.good b{color:#6fd08c}.free i{color:#2a2d34}.lost i{color:#8b8d92}.map i{color:#fff}.dir i{color:#9aa0aa}.fault i{color:#ff4a3d}.c0{stroke:#627c6e;color:#627c6e}.c0 .s{stroke:#b0beb6}.c1{stroke:#85748f;color:#85748f}.c1 .s{stroke:#c2bac7}.c2{stroke:#aa46f5;color:#aa46f5}.c2 .s{stroke:#d4a2fa}.c3{stroke:#2fa067;color:#2fa067}.c3 .s{stroke:#97d0b3}.c4{stroke:#7b92c5;color:#7b92c5}.c4 .s{stroke:#bdc8e2}.c5{stroke:#2fcd81;color:#2fcd81}.c5 .s{stroke:#97e6c0}.c6{stroke:#96baff;color:#96baff}.c6 .s{stroke:#cadcff}.c7{stroke:#d2bf02;color:#d2bf02}.c7 .s{stroke:#e8df80}.c8{stroke:#c9c5be;color:#c9c5be}.c8 .s{stroke:#e4e2de}.c9{stroke:#c4d2e6;color:#c4d2e6}.c9 .s{stroke:#e2e8f2}.c10{stroke:#a5fdbe;color:#a5fdbe}.c10 .s{stroke:#d2fede}.c11{stroke:#fff700;color:#fff700}.c11 .s{stroke:#fffb80}}@page{size:A4;margin:10mm}@media print{*{print-color-adjust:exact;-webkit-print-color-adjust:exact}body{margin:0;font-size:10px}main{display:block}main>svg{display:block;width:150mm;margin:0 auto}main>div{max-height:none;overflow:visible;columns:60mm;font-size:8px}.hint,.all{display:none}}"
 
 -- the dash of each ring: the arc of a sector less 200, and then nothing
 unfoldable pub dashes : List ℕ
@@ -201,24 +193,25 @@ verdict_class (Some f) = codes "bad"
 -- the head of the page: the disk's name and the style
 unfoldable pub title_text : Show → Sector → List ℕ
 title_text show map =
-    codes "<!DOCTYPE html>\n<html lang=\"en\">\n<meta charset=\"utf-8\">\n<title>" ++ (show (disk_name map)
+    codes "<!DOCTYPE html>\n<html lang=\"en\">\n<meta charset=\"utf-8\">\n<meta name=\"viewport\" content=\"width=device-width,initial-scale=1\">\n<title>" ++ (show (disk_name map)
     ++ (codes "</title>\n<style>"
-    ++ (style ++ (dashes ++ (codes "</style>\n<h1>" ++ (show (disk_name map) ++ codes "</h1>\n<p>"))))))
+    ++ (style ++ (dashes ++ (codes "</style>\n<h1>" ++ (show (disk_name map) ++ codes "</h1>\n<p>1541 disk, id "))))))
 
--- what follows: id, version, free blocks as the map counts them, what a check told, and the beginning of the drawing,
--- with the disk's name beneath the sectors
-unfoldable pub told_text : Show → Option Fault → Sector → List ℕ
-told_text show v map =
+-- what follows: id and version; the verdict and what it says, the number of files, and free blocks as the map counts
+-- them; and the beginning of the drawing, with the disk's name in the middle
+unfoldable pub told_text : Show → Option Fault → ℕ → Sector → List ℕ
+told_text show v files map =
     show (slice_range map 162 164)
-    ++ (codes " " ++ (show (slice_range map 165 167) ++ (codes ", " ++ (decimal (blocks_free map)
-    ++ (codes " blocks free, <span class=\"" ++ (verdict_class v ++ (codes "\">" ++ (verdict_text v
-    ++ (codes "</span></p>\n<main>\n<svg viewBox=\"-36600 -36600 73200 73200\">\n<text y=\"400\">"
-    ++ (show (disk_name map) ++ codes "</text>\n<g transform=\"rotate(-90)\">\n"))))))))))
+    ++ (codes " " ++ (show (slice_range map 165 167) ++ (codes "</p>\n<p class=\"" ++ (verdict_class v
+    ++ (codes "\"><b>" ++ (verdict_text v ++ (codes "</b> "
+    ++ (summary_text v files (blocks_free map) ++ (codes "</p>\n<main>\n<svg viewBox=\"-36600 -36600 73200 73200\" role=\"img\" aria-label=\"The disk as 35 rings of sectors, each in the colour of its file; the table lists the files\">\n<svg x=\"-6900\" y=\"-1200\" width=\"13800\" height=\"2400\" viewBox=\"-6900 -1200 13800 2400\"><text y=\"400\">"
+    ++ (show (disk_name map) ++ codes "</text></svg>\n<g transform=\"rotate(-90)\">\n"))))))))))
 
--- the end of the drawing, the meaning of the colours, and the head of the table
+-- the end of the drawing, with the numbers of tracks and an arrow from sector 0 to 1; the meaning of the colours; and the
+-- head of the table
 unfoldable pub legend_text : List ℕ
 legend_text = codes
-    "</g>\n</svg>\n<div>\n<ul>\n<li class=\"map\"><i></i>map</li>\n<li class=\"dir\"><i></i>directory</li>\n<li class=\"free\"><i></i>free</li>\n<li class=\"lost\"><i></i>taken in the map, of no file</li>\n</ul>\n<table>\n<tr><th></th><th>blocks</th><th>name</th><th>type</th><th>length</th><th>records</th></tr>\n"
+    "</g>\n<g class=\"n\">\n<text y=\"-34220\">1</text>\n<text y=\"-31020\">5</text>\n<text y=\"-27020\">10</text>\n<text y=\"-23020\">15</text>\n<text y=\"-20620\">18</text>\n<text y=\"-19020\">20</text>\n<text y=\"-15020\">25</text>\n<text y=\"-11020\">30</text>\n<text y=\"-7020\">35</text>\n<path d=\"M300-36250h3000l-600-250m600 250l-600 250\"/>\n</g>\n</svg>\n<div>\n<ul>\n<li class=\"map\"><i></i>map of free sectors</li>\n<li class=\"dir\"><i></i>directory</li>\n<li class=\"free\"><i></i>free</li>\n<li class=\"lost\"><i></i>taken in the map, in no file</li>\n<li class=\"side\"><i></i>side sector, in another shade of its file (right)</li>\n<li class=\"open\"><i></i>in use, but free in the map</li>\n<li class=\"fault\"><i></i>the fault, with a mark at the rim</li>\n</ul>\n<table>\n<tr><th></th><th>blocks</th><th>name</th><th>type</th><th>length</th><th>records</th></tr>\n"
 
 -- record length and number of records in two cells, where they are told
 abbrev pub cells_text : File → List ℕ
@@ -233,7 +226,7 @@ link_text show k name = codes "<a href=\"#f" ++ (decimal k ++ (codes "\">" ++ (s
 -- the row of entry k in the table
 unfoldable pub row_text : Show → ℕ → File → List ℕ
 row_text show k f =
-    codes "<tr><td><i style=\"background:" ++ (colour k 0 ++ (codes "\"></i></td><td>" ++ (decimal (count_field f.slot)
+    codes "<tr><td><i class=\"" ++ (look k ++ (codes "\"></i></td><td>" ++ (decimal (count_field f.slot)
     ++ (codes "</td><td>" ++ (link_text show k (name_of f.slot) ++ (codes "</td><td>"
     ++ (type_text (codes "&lt;") (type_byte f.slot)
     ++ (codes "</td><td>" ++ (cells_text f ++ codes "</td></tr>\n")))))))))
@@ -241,7 +234,7 @@ row_text show k f =
 -- the end of the page
 unfoldable pub end_text : List ℕ
 end_text = codes
-    "</table>\n<p>Track 1 is outside, 35 inside; sector 0 begins at the top, clockwise.<br>A darker piece is a side sector, a white line a sector in use that the map calls free.<br>Point at a sector for its place, file and block; click a name to see its file alone.</p>\n</div>\n</main>\n"
+    "</table>\n<p class=\"all\"><a href=\"#all\">Show all files</a></p>\n<p>The numbers in the drawing are tracks. Sector 0 begins at the top; the arrow shows where sector 1 follows.</p>\n<p class=\"hint\">Point at a sector for its place, file and block. Click a name to see its file alone.</p>\n</div>\n</main>\n"
 
 -- the groups of the drawing
 unfoldable pub drawing_text : Show → Option Fault → Sector → Layout → List ℕ
@@ -252,7 +245,7 @@ drawing_text show v map l =
 -- the page
 unfoldable pub page_text : Show → Option Fault → Sector → Layout → List ℕ
 page_text show v map l =
-    title_text show map ++ (told_text show v map ++ (drawing_text show v map l ++ (legend_text
+    title_text show map ++ (told_text show v (length l.files) map ++ (drawing_text show v map l ++ (legend_text
     ++ (numbered (row_text show) 0 l.files ++ end_text))))
 
 -- the picture of a disk

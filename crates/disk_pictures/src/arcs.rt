@@ -4,8 +4,8 @@ ghost use Rattle.d64_image.specs.Geometry.{sectors_on};
 ghost use Rattle.d64_image.specs.Places.{track_of};
 ghost use Rattle.disk_layout.specs.Texts.{place_text};
 ghost use Rattle.disk_pictures.specs.Html.{html_of};
-ghost use Rattle.disk_pictures.specs.Pictures.{arc, block_arc, brightness as brightness_of, colour};
-ghost use Rattle.disk_pictures.specs.Pictures.{fault_sector, hue as hue_of, dash_text, radius as radius_of, rim_mark};
+ghost use Rattle.disk_pictures.specs.Pictures.{arc, block_arc, look};
+ghost use Rattle.disk_pictures.specs.Pictures.{fault_sector, dash_text, radius as radius_of, rim_mark};
 ghost use Rattle.disk_pictures.specs.Pictures.{ring_of, ring_text, side_arc};
 
 use crate::html::Html;
@@ -47,7 +47,7 @@ pub(crate) fn radius(track: u8) -> u16
 
 /// A sector's place.
 #[derive(Clone, Copy)]
-struct PlaceText(Place);
+pub(crate) struct PlaceText(pub Place);
 
 impl Display for PlaceText {
     ghost output = { λ text. Some (place_text text.0) };
@@ -91,43 +91,15 @@ impl Display for Ring {
     }
 }
 
-/// The hue of an entry's colour.
-fn hue(number: usize) -> usize
-    ensures { result ≡ hue_of number }
-{
-    30 + (170 + 137 * (number % 300)) % 300
-}
-
-/// The brightness of an entry's colour.
-fn brightness(number: usize) -> u8
-    ensures { result ≡ brightness_of number }
-{
-    match number % 3 {
-        0 => 38,
-        1 => 54,
-        _ => 46,
-    }
-}
-
-/// The colour of an entry, less bright by this.
+/// The classes of an entry: one of twelve colours, and one of four widths for entries of one colour.
 #[derive(Clone, Copy)]
-pub(crate) struct Colour {
-    /// The entry's number.
-    pub number: usize,
-    /// How much less bright.
-    pub less: u8,
-}
+pub(crate) struct Look(pub usize);
 
-impl Display for Colour {
-    ghost output = { λ entry. Some (colour entry.number entry.less) };
+impl Display for Look {
+    ghost output = { λ entry. Some (look entry.0) };
 
     fn fmt<W: fmt::Write>(&self, f: &mut Formatter<W>) -> fmt::Result {
-        let (hue, brightness) = (hue(self.number), brightness(self.number));
-        write!(
-            f,
-            "hsl({hue},62%,{}%)",
-            brightness.saturating_sub(self.less)
-        )
+        write!(f, "c{} w{}", self.0 % 12, self.0 / 12 % 4)
     }
 }
 
@@ -188,7 +160,7 @@ impl Display for BlockArc<'_> {
     }
 }
 
-/// A side sector of an entry, in the darker colour of the entry's group.
+/// A side sector of an entry, in another shade of the entry's colour.
 #[derive(Clone, Copy)]
 pub(crate) struct SideArc<'a> {
     /// The entry's name.

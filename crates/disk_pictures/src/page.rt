@@ -4,30 +4,59 @@ ghost use Rattle.disk_pictures.specs.Drawings.{file_in};
 ghost use Rattle.disk_pictures.specs.Html.{html_of};
 ghost use Rattle.disk_pictures.specs.Pictures.{cells_text, link_text, row_text, title_text, told_text, verdict_class};
 
-use crate::arcs::Colour;
+use crate::arcs::Look;
 use crate::drawn_file::DrawnFile;
 use crate::html::Html;
 use crate::names::{entry_name, header_name};
-use crate::texts::{TypeText, VerdictText};
+use crate::texts::{Summary, TypeText, VerdictText};
 use disk_layout::{BamView, EntryView, Fault};
 use std::fmt::{self, Display, Formatter};
 
-/// The page's style.
-const STYLE: &str = "body{margin:24px;background:#fbfaf7;color:#222;\
+/// The page's style: light and dark, for wide and narrow screens, and for paper. A file has one of twelve colours, which
+/// stay apart for people who are colour-blind, and one of four widths.
+const STYLE: &str = ":root{color-scheme:light dark}body{margin:24px;background:#fbfaf7;color:#222;\
     font:14px/1.4 ui-monospace,Menlo,Consolas,\"DejaVu Sans Mono\",monospace}h1{font-size:20px;margin:0}\
-    p{margin:4px 0 16px}main{display:flex;flex-wrap:wrap;gap:32px;align-items:flex-start}\
-    svg{width:720px;max-width:100%;height:auto}main>div{max-width:440px}circle{fill:none;stroke-width:700}\
-    .free{stroke:#e2ded3}.lost{stroke:#9a9384}.map{stroke:#111}.dir{stroke:#5b5b5b}.s{stroke:currentColor}\
-    .edge{stroke:#fff;stroke-width:1500}.fault{stroke:#e00000;stroke-width:1100}\
-    .open circle{stroke:#fff;stroke-width:200;pointer-events:none}.bad{color:#d00;font-weight:bold}\
-    .good{color:#17692b;font-weight:bold}\
+    p{margin:4px 0 12px}a{color:inherit}main{display:grid;gap:16px 32px;\
+    grid-template-columns:minmax(0,720px) minmax(0,1fr)}main>div{max-height:calc(100vh - 130px);overflow:auto}\
+    main>svg{width:100%;height:auto}table{border-collapse:collapse}td,th{padding:1px 8px;text-align:right;\
+    white-space:pre}tr>:nth-child(3),tr>:nth-child(4){text-align:left}td a{display:inline-block;max-width:20ch;\
+    overflow:hidden;text-overflow:ellipsis;vertical-align:bottom;text-decoration:none}\
+    td a:hover,td a:focus{max-width:none;text-decoration:underline}ul{list-style:none;padding:0;margin:0 0 12px}\
+    li{margin:0 0 2px}i{display:inline-block;box-sizing:border-box;width:12px;height:12px;margin:0 6px 0 0;\
+    background:currentColor;background-clip:content-box;vertical-align:-1px}.bad b{color:#b00000}.good b{color:#17692b}\
+    circle{fill:none;stroke-width:700}.w1 circle{stroke-width:540}.w2 circle{stroke-width:390}\
+    .w3 circle{stroke-width:240}i.w1{padding:1.5px 0}i.w2{padding:3px 0}i.w3{padding:4px 0}\
     text{font:1100px ui-monospace,Menlo,Consolas,\"DejaVu Sans Mono\",monospace;fill:#444;text-anchor:middle}\
-    table{border-collapse:collapse}td,th{padding:1px 8px;text-align:right;white-space:pre}\
-    tr>:nth-child(3),tr>:nth-child(4){text-align:left}i{display:inline-block;width:12px;height:12px;margin:0 4px 0 0}\
-    ul{list-style:none;padding:0;margin:0 0 12px}li{margin:0 0 2px}.map i{background:#111}.dir i{background:#5b5b5b}\
-    .free i{background:#e2ded3}.lost i{background:#9a9384}tr a{color:inherit;text-decoration:none}\
-    tr a:hover{text-decoration:underline}g:target circle{stroke-width:800}\
-    svg:has(g:target) g g:not(:target):not(#f){opacity:.15}";
+    .n{pointer-events:none;fill:none;stroke:#444;stroke-width:120}.n text{paint-order:stroke;stroke:#fbfaf7;\
+    stroke-width:300}.free{stroke:#e8e4d9}.lost{stroke:#7b7567}.map{stroke:#161616}.dir{stroke:#5e5e5e}\
+    .edge{stroke:#fff;stroke-width:1500}.fault{stroke:#d40000;stroke-width:1100}.open circle{stroke:#fff;\
+    stroke-width:200;pointer-events:none}.free i{color:#e8e4d9}.lost i{color:#7b7567}.map i{color:#161616}\
+    .dir i{color:#5e5e5e}.fault i{color:#d40000}.side i{background:linear-gradient(90deg,#999 50%,#444 50%)}\
+    .open i{background:linear-gradient(#999 40%,#fff 40%,#fff 60%,#999 60%)}.c0{stroke:#8c8259;color:#8c8259}\
+    .c0 .s{stroke:#4d4831}.c1{stroke:#1c9182;color:#1c9182}.c1 .s{stroke:#0f5048}.c2{stroke:#4b75ff;color:#4b75ff}\
+    .c2 .s{stroke:#29408c}.c3{stroke:#e320ba;color:#e320ba}.c3 .s{stroke:#7d1266}.c4{stroke:#406c83;color:#406c83}\
+    .c4 .s{stroke:#233b48}.c5{stroke:#716046;color:#716046}.c5 .s{stroke:#3e3526}.c6{stroke:#3a4353;color:#3a4353}\
+    .c6 .s{stroke:#20252e}.c7{stroke:#4a3934;color:#4a3934}.c7 .s{stroke:#291f1d}.c8{stroke:#0c0bca;color:#0c0bca}\
+    .c8 .s{stroke:#07066f}.c9{stroke:#5d0476;color:#5d0476}.c9 .s{stroke:#330241}.c10{stroke:#630a00;color:#630a00}\
+    .c10 .s{stroke:#360600}.c11{stroke:#041c33;color:#041c33}.c11 .s{stroke:#020f1c}g:target circle{stroke-width:800}\
+    svg:has(g:target) g g:not(:target):not(#f){opacity:.15}.all{visibility:hidden}\
+    main:has(g:target) .all{visibility:visible}main:not(:has(circle.free)) li.free{display:none}\
+    main:not(:has(circle.lost)) li.lost{display:none}main:not(:has(circle.s)) li.side{display:none}\
+    main:not(:has(.open circle)) li.open{display:none}main:not(:has(circle.fault)) li.fault{display:none}\
+    @media(max-width:900px){body{margin:12px}main{display:block}main>div{max-height:none}}\
+    @media screen and (prefers-color-scheme:dark){body{background:#15171b;color:#e6e6e6}text{fill:#c8c8c8}\
+    .n{stroke:#c8c8c8}.n text{stroke:#15171b}.free{stroke:#2a2d34}.lost{stroke:#8b8d92}.map{stroke:#fff}\
+    .dir{stroke:#9aa0aa}.edge{stroke:#15171b}.fault{stroke:#ff4a3d}.bad b{color:#ff7a70}.good b{color:#6fd08c}\
+    .free i{color:#2a2d34}.lost i{color:#8b8d92}.map i{color:#fff}.dir i{color:#9aa0aa}.fault i{color:#ff4a3d}\
+    .c0{stroke:#627c6e;color:#627c6e}.c0 .s{stroke:#b0beb6}.c1{stroke:#85748f;color:#85748f}.c1 .s{stroke:#c2bac7}\
+    .c2{stroke:#aa46f5;color:#aa46f5}.c2 .s{stroke:#d4a2fa}.c3{stroke:#2fa067;color:#2fa067}.c3 .s{stroke:#97d0b3}\
+    .c4{stroke:#7b92c5;color:#7b92c5}.c4 .s{stroke:#bdc8e2}.c5{stroke:#2fcd81;color:#2fcd81}.c5 .s{stroke:#97e6c0}\
+    .c6{stroke:#96baff;color:#96baff}.c6 .s{stroke:#cadcff}.c7{stroke:#d2bf02;color:#d2bf02}.c7 .s{stroke:#e8df80}\
+    .c8{stroke:#c9c5be;color:#c9c5be}.c8 .s{stroke:#e4e2de}.c9{stroke:#c4d2e6;color:#c4d2e6}.c9 .s{stroke:#e2e8f2}\
+    .c10{stroke:#a5fdbe;color:#a5fdbe}.c10 .s{stroke:#d2fede}.c11{stroke:#fff700;color:#fff700}.c11 .s{stroke:#fffb80}}\
+    @page{size:A4;margin:10mm}@media print{*{print-color-adjust:exact;-webkit-print-color-adjust:exact}body{margin:0;\
+    font-size:10px}main{display:block}main>svg{display:block;width:150mm;margin:0 auto}main>div{max-height:none;\
+    overflow:visible;columns:60mm;font-size:8px}.hint,.all{display:none}}";
 
 /// The dash of each ring: the arc of a sector less 200, and then nothing.
 const DASHES: &str =
@@ -50,17 +79,25 @@ const DASHES: &str =
     [r=\"9000\"]{stroke-dasharray:3126 300000}[r=\"8200\"]{stroke-dasharray:2830 300000}\
     [r=\"7400\"]{stroke-dasharray:2535 300000}";
 
-/// The end of the drawing, the meaning of the colours, and the head of the table.
+/// The end of the drawing, with the numbers of tracks and an arrow from sector 0 to 1; the meaning of the colours; and
+/// the head of the table.
 pub(crate) const LEGEND: &str =
-    "</g>\n</svg>\n<div>\n<ul>\n<li class=\"map\"><i></i>map</li>\n<li class=\"dir\"><i></i>directory</li>\n\
-    <li class=\"free\"><i></i>free</li>\n<li class=\"lost\"><i></i>taken in the map, of no file</li>\n</ul>\n<table>\n\
+    "</g>\n<g class=\"n\">\n<text y=\"-34220\">1</text>\n<text y=\"-31020\">5</text>\n<text y=\"-27020\">10</text>\n\
+    <text y=\"-23020\">15</text>\n<text y=\"-20620\">18</text>\n<text y=\"-19020\">20</text>\n\
+    <text y=\"-15020\">25</text>\n<text y=\"-11020\">30</text>\n<text y=\"-7020\">35</text>\n\
+    <path d=\"M300-36250h3000l-600-250m600 250l-600 250\"/>\n</g>\n</svg>\n<div>\n<ul>\n\
+    <li class=\"map\"><i></i>map of free sectors</li>\n<li class=\"dir\"><i></i>directory</li>\n\
+    <li class=\"free\"><i></i>free</li>\n<li class=\"lost\"><i></i>taken in the map, in no file</li>\n\
+    <li class=\"side\"><i></i>side sector, in another shade of its file (right)</li>\n\
+    <li class=\"open\"><i></i>in use, but free in the map</li>\n\
+    <li class=\"fault\"><i></i>the fault, with a mark at the rim</li>\n</ul>\n<table>\n\
     <tr><th></th><th>blocks</th><th>name</th><th>type</th><th>length</th><th>records</th></tr>\n";
 
 /// The end of the page.
-pub(crate) const END: &str = "</table>\n\
-    <p>Track 1 is outside, 35 inside; sector 0 begins at the top, clockwise.<br>\
-    A darker piece is a side sector, a white line a sector in use that the map calls free.<br>\
-    Point at a sector for its place, file and block; click a name to see its file alone.</p>\n</div>\n</main>\n";
+pub(crate) const END: &str = "</table>\n<p class=\"all\"><a href=\"#all\">Show all files</a></p>\n\
+    <p>The numbers in the drawing are tracks. Sector 0 begins at the top; the arrow shows where sector 1 follows.</p>\n\
+    <p class=\"hint\">Point at a sector for its place, file and block. Click a name to see its file alone.</p>\n\
+    </div>\n</main>\n";
 
 /// How what a check told is styled.
 fn class_of(found: Option<Fault>) -> &'static str
@@ -83,8 +120,9 @@ impl Display for Title<'_> {
         let name = Html(header_name(self.0));
         write!(
             f,
-            "<!DOCTYPE html>\n<html lang=\"en\">\n<meta charset=\"utf-8\">\n<title>{name}</title>\n\
-            <style>{STYLE}{DASHES}</style>\n<h1>{name}</h1>\n<p>"
+            "<!DOCTYPE html>\n<html lang=\"en\">\n<meta charset=\"utf-8\">\n\
+            <meta name=\"viewport\" content=\"width=device-width,initial-scale=1\">\n<title>{name}</title>\n\
+            <style>{STYLE}{DASHES}</style>\n<h1>{name}</h1>\n<p>1541 disk, id "
         )
     }
 }
@@ -94,22 +132,31 @@ impl Display for Title<'_> {
 pub(crate) struct Told<'a> {
     /// 18/0.
     pub map: &'a [u8; 256],
-    /// What a check told.
+    /// What a check reports.
     pub found: Option<Fault>,
+    /// How many files the directory has.
+    pub files: usize,
 }
 
 impl Display for Told<'_> {
-    ghost output = { λ told. Some (told_text html_of told.found told.map.now) };
+    ghost output = { λ told. Some (told_text html_of told.found told.files told.map.now) };
 
     fn fmt<W: fmt::Write>(&self, f: &mut Formatter<W>) -> fmt::Result {
         let view = BamView::new(self.map);
+        let summary = Summary {
+            found: self.found,
+            files: self.files,
+            free: view.blocks_free(),
+        };
         write!(
             f,
-            "{} {}, {} blocks free, <span class=\"{}\">{}</span></p>\n<main>\n\
-            <svg viewBox=\"-36600 -36600 73200 73200\">\n<text y=\"400\">{}</text>\n<g transform=\"rotate(-90)\">\n",
+            "{} {}</p>\n<p class=\"{}\"><b>{}</b> {summary}</p>\n<main>\n\
+            <svg viewBox=\"-36600 -36600 73200 73200\" role=\"img\" aria-label=\"The disk as 35 rings of sectors, each in \
+            the colour of its file; the table lists the files\">\n\
+            <svg x=\"-6900\" y=\"-1200\" width=\"13800\" height=\"2400\" viewBox=\"-6900 -1200 13800 2400\">\
+            <text y=\"400\">{}</text></svg>\n<g transform=\"rotate(-90)\">\n",
             Html(view.id()),
             Html(view.version()),
-            view.blocks_free(),
             class_of(self.found),
             VerdictText(self.found),
             Html(header_name(self.map))
@@ -169,8 +216,8 @@ impl Display for Row<'_> {
         };
         writeln!(
             f,
-            "<tr><td><i style=\"background:{}\"></i></td><td>{}</td><td>{}</td><td>{kind}</td><td>{}</td></tr>",
-            Colour { number, less: 0 },
+            "<tr><td><i class=\"{}\"></i></td><td>{}</td><td>{}</td><td>{kind}</td><td>{}</td></tr>",
+            Look(number),
             entry.block_count(),
             Link { number, name },
             Cells(self.file)

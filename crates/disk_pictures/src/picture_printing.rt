@@ -12,7 +12,7 @@ ghost use Rattle.disk_pictures.specs.Pictures.{own_block, own_side, picture_page
 ghost use Rattle.disk_pictures.specs.Texts.{numbered};
 ghost use Rattle.disk_pictures.specs.declared.faults.PictureFault.TheVariants as faults;
 
-use crate::arcs::{BlockArc, Colour, FaultGroup, PlainArc, SideArc};
+use crate::arcs::{BlockArc, FaultGroup, Look, PlainArc, SideArc};
 use crate::drawing::Drawing;
 use crate::drawn_file::DrawnFile;
 use crate::faults::PictureFault;
@@ -141,7 +141,7 @@ fn put_sides<W: Write>(
     Ok(())
 }
 
-/// The beginning of an entry's group, in its colour, and with the darker one for side sectors.
+/// The beginning of an entry's group, with its classes.
 #[derive(Clone, Copy)]
 struct GroupHead(usize);
 
@@ -150,12 +150,7 @@ impl Display for GroupHead {
 
     fn fmt<W: fmt::Write>(&self, f: &mut Formatter<W>) -> fmt::Result {
         let number = self.0;
-        writeln!(
-            f,
-            "<g id=\"f{number}\" color=\"{}\" stroke=\"{}\">",
-            Colour { number, less: 18 },
-            Colour { number, less: 0 }
-        )
+        writeln!(f, "<g id=\"f{number}\" class=\"{}\">", Look(number))
     }
 }
 
@@ -241,7 +236,8 @@ fn put_page<W: Write>(
 {
     let map = &drawing.map;
     put(out, Title(map))?;
-    put(out, Told { map, found })?;
+    let files = drawing.files.as_slice().len();
+    put(out, Told { map, found, files })?;
     put_drawing(out, found, drawing)?;
     put(out, LEGEND)?;
     put_rows(out, drawing.files.as_slice())?;
@@ -249,9 +245,9 @@ fn put_page<W: Write>(
     flush(out)
 }
 
-/// Prints the disk as one HTML page with an SVG drawing: 35 rings, an arc for each sector, a colour for each entry, its
-/// side sectors darker, the fault in red. Each sector tells its place and whose it is where one points at it, and a
-/// click on a name shows that entry alone. The page has no script and loads nothing, and names of the disk stand in it
+/// Prints the disk as one HTML page with an SVG drawing: 35 rings, an arc for each sector, a colour and a width for each
+/// entry, its side sectors in another shade, the fault in red. If you point at a sector, it shows its place and its
+/// owner; a click on a name shows that entry alone. The page has no script and loads nothing, and names of the disk stand in it
 /// as text alone. What a check of the disk tells stands in it, and is answered too. A disk that is hurt is drawn as far
 /// as its links go; of a sound one it is the page of its layout.
 ///

@@ -11,30 +11,30 @@ use std::process::Abort;
 /// program file whose block links to itself; a name with all that HTML escapes beside a free bit of a block; an open
 /// entry; a name of the disk that would be a script, beside a sector that is taken and of no file.
 const DRAWN: [(&[Change], &str, (usize, u32), (usize, u32)); 5] = [
-    (&[], "", (953, 1142270344), (66960, 1649146560)),
+    (&[], "", (953, 1142270344), (70773, 2634940174)),
     (
         &[(18, 1, 34, &[0x82]), (17, 2, 0, &[17, 2])],
         "LOOP 17/2",
         (939, 2397676979),
-        (67253, 898979009),
+        (71105, 199386631),
     ),
     (
         &[(18, 1, 5, b"<B>&\"\xC1"), (18, 0, 69, &[0xF1])],
         "MAPWRONG 17/0",
         (969, 1940827406),
-        (67500, 3503918535),
+        (71355, 186097723),
     ),
     (
         &[(18, 1, 34, &[0x44])],
         "UNCLOSED 18/1",
         (945, 2130552632),
-        (67276, 4099366197),
+        (71137, 3057349103),
     ),
     (
         &[(18, 0, 0x90, b"&<SCRIPT>"), (18, 0, 4, &[20, 0xFE])],
         "MAPWRONG 1/0",
         (963, 3336612860),
-        (67300, 1495229721),
+        (71154, 501839702),
     ),
 ];
 

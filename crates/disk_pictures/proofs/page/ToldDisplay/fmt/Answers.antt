@@ -5,7 +5,7 @@ use Rattle.disk_pictures.proofs.page.ToldDisplay.fmt.Goals as goal
 
 pub returns-clause-writes : goal.returns-clause-writes
 returns-clause-writes g c = λ plain done. has_written_of_eq _ _ _ _ _
-    (told-written c.args.self.now.found c.args.self.now.map.now c.id.result.now c.version.result.now
+    (told-written c.args.self.now.found c.args.self.now.files c.args.self.now.map.now c.id.result.now c.version.result.now
     c.blocks_free.result c.class_of.result.now c.header_name.result.now
     (rw c.new-view.ensures at c.id.ensures) (rw c.new-view.ensures at c.version.ensures)
     (rw c.new-view.ensures at c.blocks_free.ensures) c.class_of.ensures c.header_name.ensures)
