@@ -40,7 +40,7 @@ pub(crate) fn told<T>(taken: io::Result<T>) -> Result<T, Refusal>
 }
 
 /// What came of a run, as a job's end.
-fn job_end(ended: Result<Option<Fault>, RunFault>) -> Result<Option<Fault>, Refusal>
+pub fn job_end(ended: Result<Option<Fault>, RunFault>) -> Result<Option<Fault>, Refusal>
     ensures { result ≡ as_job ended }
 {
     match ended {
@@ -50,7 +50,7 @@ fn job_end(ended: Result<Option<Fault>, RunFault>) -> Result<Option<Fault>, Refu
 }
 
 /// What came of a run over the files of an image, as a job's end.
-pub(crate) fn kept_end(ended: Result<(), KeepFault>) -> Result<Option<Fault>, Refusal>
+pub fn kept_end(ended: Result<(), KeepFault>) -> Result<Option<Fault>, Refusal>
     ensures { result ≡ as_kept ended }
 {
     match ended {
@@ -60,7 +60,7 @@ pub(crate) fn kept_end(ended: Result<(), KeepFault>) -> Result<Option<Fault>, Re
 }
 
 /// What came of a drawing, as a job's end.
-fn drawn_end(ended: Result<Option<Fault>, PictureFault>) -> Result<Option<Fault>, Refusal>
+pub fn drawn_end(ended: Result<Option<Fault>, PictureFault>) -> Result<Option<Fault>, Refusal>
     ensures { result ≡ as_drawn ended }
 {
     match ended {

@@ -17,7 +17,7 @@ mod serving_files;
 mod serving_runs;
 mod telling;
 
-pub use doing::{do_job, do_over};
+pub use doing::{do_job, do_over, drawn_end, job_end, kept_end};
 pub use drawing::drawing_run;
 pub use durable_runs::{play_durably, serve_durably};
 pub use explaining::{announce, explain};
