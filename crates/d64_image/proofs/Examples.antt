@@ -1,4 +1,5 @@
 -- Worked examples of this crate's definitions, each named by what it shows. The numbers are those of the D64 layout.
+use Rattle.std.proofs.lemmas.Option.{none-some, same_Some}
 use Rattle.std.proofs.Common.{
   ◌+◌,
   ◌≡◌,
@@ -32,10 +33,13 @@ use Rattle.d64_image.specs.Memory.{memory}
 use Rattle.d64_image.specs.Keeps.{Agrees, put_kept}
 use Rattle.d64_image.specs.Mirrors.{IsMirrored, is_broken, mirror, mirror_file, mirror_writes}
 use Rattle.d64_image.specs.Offsets.{offset_of, overwritten}
+use Rattle.d64_image.specs.OneFaults.{calls_left, fault_place, is_due, one_fault}
+use Rattle.d64_image.specs.Streams.{IsWrittenAt, stream}
 use Rattle.d64_image.specs.declared.sector_file.SectorFile.{Ghosts}
 use Rattle.d64_image.specs.declared.fuse.Fuse.{Fuse}
 use Rattle.d64_image.specs.declared.mem_disk.MemDisk.{MemDisk}
 use Rattle.d64_image.specs.declared.mirror.Mirror.{Mirror}
+use Rattle.d64_image.specs.declared.one_fault.OneFault.{OneFault}
 use Rattle.d64_image.proofs.Places.{place_at-none, place_at-self}
 
 -- the map's sector, and the last sector of the disk
@@ -159,6 +163,15 @@ unknown_agrees_with_each_image img = refl
 pub unknown_stays_unknown : (p : Place) (bytes : Sector) → put_kept None p bytes ≡ None
 unknown_stays_unknown p bytes = refl
 
+-- so does a file that is written and sought
+pub stream_agrees_with_each_image : {F : Type 0} (file : F) (img : Image) → Agrees (stream.kept file) img
+stream_agrees_with_each_image file img = refl
+
+-- a file of which this is known: it stands at 256, and its bytes; a seek and a write brought the byte 7 there
+pub sector_is_written_where_it_was_sought : IsWrittenAt (λ _. Some 256) (λ _. None) (λ bytes. Some bytes) [] (7 ∷ [])
+    256 (7 ∷ [])
+sector_is_written_where_it_was_sought = record { there = []; moved = refl; kept = tt; appended = refl }
+
 -- and one that keeps an image agrees with no other
 pub known_agrees_with_its_image : (img other : Image) → Agrees (Some img) other → img ≡ other
 known_agrees_with_its_image img other agrees = agrees
@@ -174,3 +187,15 @@ module _ {F : Type 0} {G : Ghosts F} where
       → ¬ (is_broken new) → mirror_file new ≡ mirror_file old
   mirror_that_took_nothing_left_its_file old new x none still whole =
       ⊎_elim (λ broken. absurd (whole broken)) (λ same. same) (x.quiet (still ∙ sym none) (omega (arith, still)))
+
+-- a fault that comes at the next call but one isn't due, and neither is one that is past
+pub fault_after_one_call_is_not_due : {D : Type 0} (f : OneFault D) → calls_left f ≡ 1 → ¬ (is_due f)
+fault_after_one_call_is_not_due f one due = omega (arith, one, due.1)
+
+pub past_fault_is_not_due : {D : Type 0} (f : OneFault D) (p : Place) → fault_place f ≡ Some p → ¬ (is_due f)
+past_fault_is_not_due f p past due = none-some p (sym due.0 ∙ past)
+
+-- over memory it fails at one place alone
+pub one_fault_fails_at_one_place : (f : OneFault MemDisk) (p q : Place) → fault_place f ≡ Some p
+    → (one_fault memory).failed_at f q → q ≡ p
+one_fault_fails_at_one_place f p q past = ⊎_elim (λ there. same_Some q p (sym there ∙ past)) (λ never. absurd never)

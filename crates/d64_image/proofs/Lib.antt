@@ -7,6 +7,9 @@ pub mod Images
 pub mod MirrorCalls
 pub mod Moments
 pub mod Offsets
+pub mod Once
+pub mod OneCalls
 pub mod Places
 pub mod Rows
+pub mod Streams
 pub mod Told

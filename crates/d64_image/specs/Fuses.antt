@@ -47,10 +47,10 @@ fused_same h f = record {
   cause = inl refl;
 }
 
-failed_from : {D : Type 0} (h : History D) (a b c : D) → h.failures a ≤ h.failures b → Failed h b c → Failed h a c
+pub failed_from : {D : Type 0} (h : History D) (a b c : D) → h.failures a ≤ h.failures b → Failed h b c → Failed h a c
 failed_from h a b c le f = record { later = omega (arith, le, f.later); rose = λ lt. omega (arith, le, f.rose lt) }
 
-failed_to : {D : Type 0} (h : History D) (a b c : D) → Failed h a b → h.failures b ≤ h.failures c → Failed h a c
+pub failed_to : {D : Type 0} (h : History D) (a b c : D) → Failed h a b → h.failures b ≤ h.failures c → Failed h a c
 failed_to h a b c f le = record {
   later = omega (arith, f.later, le);
   rose = λ lt. omega (arith, f.rose (omega (arith, lt, le)), le);

@@ -10,6 +10,9 @@ pub mod Images
 pub mod Keeps
 pub mod KeptDisks
 pub mod Memory
+pub mod Meters
 pub mod Mirrors
 pub mod Offsets
+pub mod OneFaults
 pub mod Places
+pub mod Streams

@@ -8,6 +8,10 @@ use crate::place::Place;
 
 /// A disk of 683 sectors of 256 bytes. Its history names what it holds, what it may have held since an earlier
 /// moment, how many calls passed and failed, and where it failed.
+///
+/// An implementer who knows nothing but the image now answers: `moment` 0, `held` that image alone, `reads`, `writes`,
+/// `failures` and `last` 0 (the count of failures is spent from the start), `reached` between any two devices, and
+/// `failed_at` at each place. If it never fails, `last` is 1 and `failed_at` holds nowhere, as for `MemDisk`.
 pub trait Sectors {
     /// What a device of this type holds and held, and how often it failed.
     ghost history: { History Self };

@@ -1,4 +1,5 @@
 pub mod lemmas
+pub mod ExampleBlank
 pub mod ExampleChanges
 pub mod ExampleDisk
 pub mod ExampleDeleted

@@ -7,3 +7,4 @@ pub mod records
 pub mod growth
 pub mod counts
 pub mod kept
+pub mod blank

@@ -1,4 +1,7 @@
 pub mod AsFar
+pub mod Blank
+pub mod BlankLayout
+pub mod BlankWritten
 pub mod Chain
 pub mod Clean
 pub mod Directory
@@ -12,6 +15,7 @@ pub mod Map
 pub mod Number
 pub mod Records
 pub mod Rest
+pub mod Room
 pub mod Same
 pub mod Side
 pub mod Texts

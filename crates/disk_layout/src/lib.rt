@@ -1,9 +1,12 @@
-//! What lies on a 1541 disk and where: the map of free sectors, the directory, chains and side sectors.
+//! What lies on a 1541 disk and where: the map, the directory, chains and side sectors; and the blank image.
 #![tactic(auto)]
 
 mod access;
 mod as_far;
 mod bam;
+mod blank;
+mod blank_laws;
+mod blank_map;
 mod chain;
 mod directory;
 mod entries;
@@ -17,6 +20,8 @@ mod visited;
 pub use access::{read_sector, write_other, write_sector};
 pub use as_far::walk_as_far;
 pub use bam::Bam;
+pub use blank::blank_image;
+pub use blank_laws::{blank_has_top, blank_is_clean};
 pub use chain::walk_chain;
 pub use directory::{directory_start, map_place, read_directory};
 pub use entries::{padded_name, put_count, relative_entry};

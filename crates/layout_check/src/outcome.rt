@@ -74,9 +74,9 @@ impl Survey {
     }
 
     /// How many of the 664 sectors outside track 18 no other entry owns: those that are free, and those of the entry
-    /// with this number, which is its place among the used entries, from 0.
+    /// with this number, which is its place among the used entries, from 0. If there is no such entry, the sectors that
+    /// no entry owns.
     pub fn outside(&self, entry: usize) -> u16
-        requires { entry < entries_of self.now }
         ensures { (l : Layout) → IsSurveyOf l self.now → result + taken_by_others l entry ≡ 664 }
     {
         let mut count = 0;

@@ -8,7 +8,7 @@ use Rattle.d64_image.specs.Chunks.{length-bytes_of, sectors_in-bytes_of}
 use Rattle.d64_image.specs.History.{History}
 use Rattle.d64_image.specs.Images.{Image}
 use Rattle.d64_image.specs.Memory.{sectors_in}
-use Rattle.blank_shop.specs.BlankLayout.{blank_top}
+use Rattle.disk_layout.specs.BlankLayout.{blank_top}
 use Rattle.host_session.proofs.lemmas.runs.PlainRuns.{plain_played}
 use Rattle.host_session.proofs.lemmas.shop.BlankShops.{blank-shop}
 use Rattle.host_session.proofs.lemmas.shop.Shops.{IsShop-one}

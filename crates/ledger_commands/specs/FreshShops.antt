@@ -3,7 +3,7 @@ use Rattle.std.specs.Prelude.{◌≡◌, ◌↔◌, ◌≤◌, ℕ, List, [], No
 use Rattle.d64_image.specs.History.{History}
 use Rattle.d64_image.specs.Images.{Image}
 use Rattle.d64_image.specs.Memory.{sectors_in}
-use Rattle.blank_shop.specs.BlankLayout.{blank_top}
+use Rattle.disk_layout.specs.BlankLayout.{blank_top}
 use Rattle.host_session.specs.events.Events.{HasNoReset, messages_of}
 use Rattle.host_session.specs.runs.Runs.{IsPlayedWhole}
 use Rattle.host_session.specs.shop.Blank.{blank_shop}

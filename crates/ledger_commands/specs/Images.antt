@@ -4,7 +4,7 @@ use Rattle.std.specs.Io.KnownBytes.{Appends}
 use Rattle.d64_image.specs.Images.{Image, IsImage, sector}
 use Rattle.d64_image.specs.Memory.{bytes_of, sectors_in}
 use Rattle.d64_image.specs.declared.place.Place.{Place}
-use Rattle.blank_shop.specs.Blank.{IsBlank}
+use Rattle.disk_layout.specs.Blank.{IsBlank}
 use Rattle.disk_layout.specs.Directory.{IsDirectory, map_place}
 use Rattle.disk_layout.specs.Clean.{IsClean}
 use Rattle.disk_layout.specs.Fault.{HoldsOfClean, HoldsOfDirectory, nowhere}

@@ -6,7 +6,7 @@ ghost use Rattle.ledger_commands.specs.declared.faults.RunFault.TheVariants as f
 
 use crate::bytes::put_whole;
 use crate::faults::RunFault;
-use blank_shop::blank_image;
+use disk_layout::blank_image;
 use d64_image::MemDisk;
 use std::alloc::Global;
 use std::io::Write;

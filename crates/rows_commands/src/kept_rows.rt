@@ -2,19 +2,19 @@
 ghost use Rattle.std.specs.Prelude.{◌≡◌};
 ghost use Rattle.d64_image.specs.KeptDisks.{kept_disk};
 ghost use Rattle.d64_image.specs.Memory.{disk_image, sectors_in};
-ghost use Rattle.tool_devices.specs.OneFaults.{faulty_disk};
+ghost use Rattle.d64_image.specs.OneFaults.{faulty_disk};
 ghost use Rattle.tool_devices.specs.Recorder.{recorder_disk};
 
 use crate::comparing::{holds, same_at};
 use crate::files::blank_paper;
 use crate::images::formatted;
 use crate::runs::{is_printed, is_shown, shows};
-use d64_image::{KeptDisk, MemDisk};
+use d64_image::{KeptDisk, MemDisk, OneFault};
 use host_session::Printer;
 use ledger_commands::{RunFault, play_file};
 use std::io::Write;
 use std::process::Abort;
-use tool_devices::{OneFault, Recorder};
+use tool_devices::Recorder;
 
 /// A device that records each image, and of which one call fails, in the place of a file.
 type Kept = KeptDisk<OneFault<Recorder<MemDisk>>>;

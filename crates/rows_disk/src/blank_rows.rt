@@ -4,11 +4,11 @@ ghost use Rattle.std.specs.Prelude.{◌≤◌};
 use crate::comparing::{same, same_at};
 use crate::disks::{at, empty_map, fresh, put_four, sector, zeroed};
 use arrayvec::ArrayVec;
-use blank_shop::blank_image;
-use d64_image::{MemDisk, Place};
-use disk_layout::{Bam, BamView, DirView, EntryView, Slot, read_directory, walk_chain};
+use d64_image::{MemDisk, Meter, Place};
+use disk_layout::{
+    Bam, BamView, DirView, EntryView, Slot, blank_image, read_directory, walk_chain,
+};
 use std::process::Abort;
-use tool_devices::Meter;
 
 /// What 18/0 holds for one block of requests.
 fn map_for_two_tills() -> [u8; 256] {

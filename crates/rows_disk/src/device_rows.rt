@@ -1,9 +1,8 @@
 //! Each public call once, with values of the D64 layout.
 use crate::comparing::{same, same_at};
 use crate::disks::{at, sector, zeroed};
-use d64_image::{DeviceFault, Fuse, ImageFault, MemDisk, Place, Sectors};
+use d64_image::{DeviceFault, Fuse, ImageFault, MemDisk, Meter, Place, Sectors};
 use std::process::Abort;
-use tool_devices::Meter;
 
 /// So many zeros.
 fn zeros(rt: &(impl Abort + AllocGlobal), size: usize) -> Vec<u8> {

@@ -2,9 +2,8 @@
 use crate::comparing::{same, same_at};
 use crate::disks::{at, fresh, zeroed};
 use arrayvec::ArrayVec;
-use blank_shop::blank_image;
 use d64_image::{DeviceFault, Fuse, MemDisk, Sectors};
-use disk_layout::{Fault, Slot, read_directory};
+use disk_layout::{Fault, Slot, blank_image, read_directory};
 use std::process::Abort;
 
 /// Writes a directory sector with this link, whose slots have the type byte of the row each.

@@ -1,7 +1,7 @@
 //! The places, sectors and disks of the rows. A disk in memory doesn't fail, so nothing here asks whether it did: each
 //! `?` of a row would be proved with all that stands before it.
-use blank_shop::blank_image;
 use d64_image::{MemDisk, Place, Sectors};
+use disk_layout::blank_image;
 use std::process::Abort;
 
 /// The place. One that the disk lacks is 1/0.

@@ -2,11 +2,10 @@
 use crate::comparing::{same, same_at};
 use crate::disks::{at, change, fresh};
 use arrayvec::ArrayVec;
-use d64_image::{MemDisk, Sectors};
+use d64_image::{MemDisk, Meter, Sectors};
 use drive_channels::{Dead, Drive};
 use layout_check::repair;
 use std::process::Abort;
-use tool_devices::Meter;
 
 /// A call, with what it is handed; of a read, what it gives.
 #[derive(Clone, Copy)]

@@ -1,9 +1,9 @@
 //! A mirror over a file in memory, also where that fails, and a disk of which one call fails.
 use crate::comparing::{same, same_at};
 use crate::disks::{at, sector, zeroed};
-use d64_image::{DeviceFault, KeptDisk, MemDisk, Mirror, Place, Sectors};
+use d64_image::{DeviceFault, KeptDisk, MemDisk, Mirror, OneFault, Place, Sectors};
 use std::process::Abort;
-use tool_devices::{OneFault, Recorder};
+use tool_devices::Recorder;
 
 /// A disk that is mirrored in a device that records each image, and of which one call fails.
 type Mirrored = Mirror<KeptDisk<OneFault<Recorder<MemDisk>>>>;

@@ -1,11 +1,10 @@
 //! Disks that are repaired, and what that writes.
 use crate::comparing::{same, same_at};
 use crate::disks::{at, change, fresh};
-use d64_image::{Fuse, MemDisk, Sectors};
+use d64_image::{Fuse, MemDisk, Meter, Sectors};
 use disk_layout::Fault;
 use layout_check::{check, repair, survey};
 use std::process::Abort;
-use tool_devices::Meter;
 
 /// A fresh disk with a bit and a count of the map, a block count and the end of a side sector wrong.
 fn worn(rt: &(impl Abort + AllocGlobal)) -> MemDisk {

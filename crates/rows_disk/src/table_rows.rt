@@ -2,10 +2,9 @@
 //! status, and the sectors it writes.
 use crate::disks::fresh;
 use crate::drives::{Call, broken_chain, counted, full, program, rows, session, wrong_count};
-use d64_image::MemDisk;
+use d64_image::{MemDisk, Meter};
 use drive_channels::Drive;
 use std::process::Abort;
-use tool_devices::Meter;
 
 /// What stands before a call.
 #[derive(Clone, Copy)]

@@ -2,12 +2,11 @@
 use crate::comparing::{holds, same_at};
 use crate::disks::{clean, loaded};
 use crate::sessions::{ran, ran_of_events};
-use d64_image::MemDisk;
+use d64_image::{MemDisk, Meter};
 use host_session::Event;
 use request_cards::Reply;
 use script_lines::event_at;
 use std::process::Abort;
-use tool_devices::Meter;
 
 /// A line of a day as a script has it, its reply, and how many sectors are written. Where power goes in it, `@`, that
 /// is after so many writes of the message, and behind each `/` after so many of a recovery's; what the whole recovery

@@ -7,12 +7,11 @@ ghost use Rattle.disk_layout.specs.Layout.{IsSound};
 ghost use Rattle.rel_records.specs.File.{IsOf};
 
 use crate::comparing::same_at;
-use blank_shop::blank_image;
-use d64_image::{Fuse, MemDisk, Place, Sectors};
+use disk_layout::blank_image;
+use d64_image::{Fuse, MemDisk, Meter, Place, Sectors};
 use layout_check::{check, survey};
 use rel_records::{RelFile, find};
 use std::process::Abort;
-use tool_devices::Meter;
 
 /// The blank disk for so many tills.
 pub(crate) fn blank(rt: &(impl Abort + AllocGlobal), tills: u8) -> MemDisk

@@ -2,11 +2,10 @@
 use crate::comparing::{holds, same_at};
 use crate::disks::{INTENT, changed, fresh, loaded};
 use crate::sessions::{handed, one_reply, open, opening, ran, ran_of_events, says, sent_to};
-use d64_image::{Fuse, MemDisk, Sectors};
+use d64_image::{Fuse, MemDisk, Meter, OneFault, Sectors};
 use host_session::{Event, OpenFault, PlayFault, ScriptFault};
 use request_cards::{Reply, Word};
 use std::process::Abort;
-use tool_devices::{Meter, OneFault};
 
 /// The number of the fault, 0 for none.
 fn number_of(fault: Option<OpenFault>) -> u8 {

@@ -2,9 +2,8 @@
 use crate::comparing::{holds, same, same_at};
 use crate::disks::{fresh, loaded};
 use crate::sessions::{handed, handled, mirrored, ran, says, unmirrored};
-use d64_image::{KeptDisk, MemDisk, Mirror};
+use d64_image::{KeptDisk, MemDisk, Mirror, OneFault};
 use std::process::Abort;
-use tool_devices::OneFault;
 
 /// Lines of days, and their replies.
 const LINES: [(&[u8], &[u8]); 4] = [

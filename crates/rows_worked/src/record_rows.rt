@@ -4,10 +4,9 @@ use crate::disks::{found, fresh, put, stands};
 use crate::growth_rows::grown;
 use crate::records::{read, write};
 use arrayvec::ArrayVec;
-use d64_image::MemDisk;
+use d64_image::{MemDisk, Meter};
 use rel_records::{RelFault, read_record};
 use std::process::Abort;
-use tool_devices::Meter;
 
 /// What a write of a record did: its answer, how many sectors it wrote, and how many records the file has then.
 type Written = (Result<(), RelFault>, u64, u32);

@@ -4,11 +4,10 @@ ghost use Rattle.std.specs.Prelude.{◌≤◌, length};
 use crate::comparing::holds;
 use crate::disks::{WHOLE, clean, found, fused, loaded, passed};
 use arrayvec::ArrayVec;
-use d64_image::{Fuse, MemDisk};
+use d64_image::{Fuse, MemDisk, Meter};
 use layout_check::repair;
 use rel_records::{RelFault, create, grow_to, read_record, records, write_record};
 use std::process::Abort;
-use tool_devices::Meter;
 
 /// Creates a file, where power goes after so many writes: the disk then, the answer, and how many sectors were written.
 pub(crate) fn make(

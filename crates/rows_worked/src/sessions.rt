@@ -1,11 +1,10 @@
 //! Sessions on copies of a disk, also where power goes in them.
 use crate::comparing::{holds, same_at};
 use crate::disks::{clean, fresh, fused, loaded, passed};
-use d64_image::{KeptDisk, MemDisk, Mirror, Sectors};
+use d64_image::{KeptDisk, MemDisk, Meter, Mirror, Sectors};
 use host_session::{Event, OpenFault, PlayFault, Printer, ScriptFault, Session, play, run_script};
 use request_cards::Reply;
 use std::process::Abort;
-use tool_devices::Meter;
 
 /// The session on a disk that is opened.
 pub(crate) fn open<D: Sectors>(rt: &impl Abort, disk: D) -> Session<D> {

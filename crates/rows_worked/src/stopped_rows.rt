@@ -3,12 +3,11 @@ use crate::comparing::{holds, same, same_at};
 use crate::days::{Line, events_of, is_played, replies_of, script_of, text_of};
 use crate::disks::{WHOLE, at, changed, fresh, loaded};
 use crate::sessions::{one_reply, open, opened, ran, ran_of_events};
-use d64_image::{Fuse, MemDisk, Sectors};
+use d64_image::{Fuse, MemDisk, Meter, Sectors};
 use disk_layout::Fault;
 use host_session::{OpenFault, PlayFault, ScriptFault, Session};
 use request_cards::{Reply, Word};
 use std::process::Abort;
-use tool_devices::Meter;
 
 /// MEDIA, told to till 1.
 fn media(number: u32) -> Reply {

@@ -12,7 +12,7 @@ mod records;
 mod requests;
 mod sectors;
 
-use blank_shop::blank_image;
+use disk_layout::blank_image;
 use checks::count_clean;
 use d64_image::MemDisk;
 use drive_channels::Drive;

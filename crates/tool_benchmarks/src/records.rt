@@ -7,7 +7,7 @@ ghost use Rattle.rel_records.specs.Faults.{TellsRelFault};
 ghost use Rattle.rel_records.specs.File.{IsOf, records_in};
 
 use arrayvec::ArrayVec;
-use blank_shop::blank_image;
+use disk_layout::blank_image;
 use d64_image::Sectors;
 use rel_records::{RelFault, RelFile, find, grow_to, read_record, write_record};
 

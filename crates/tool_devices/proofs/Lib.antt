@@ -1,4 +1,1 @@
-pub mod Examples
-pub mod Once
-pub mod OneCalls
 pub mod Recorded

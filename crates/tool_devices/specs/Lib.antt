@@ -1,3 +1,1 @@
-pub mod Meters
-pub mod OneFaults
 pub mod Recorder

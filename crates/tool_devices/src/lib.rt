@@ -1,12 +1,9 @@
-//! Devices for tests: one that keeps each image that it held, one of which a call fails, and one that counts.
+//! A device for tests that keeps each image that it held; beside it those of `d64_image` that tests use.
 #![tactic(auto)]
 
 mod change;
-mod meter;
-mod one_fault;
 mod recorder;
 
 pub use change::Change;
-pub use meter::Meter;
-pub use one_fault::OneFault;
+pub use d64_image::{Meter, OneFault};
 pub use recorder::Recorder;

@@ -3,7 +3,7 @@ ghost use Rattle.std.specs.Prelude.{◌≤◌};
 
 use crate::found::{Found, or_say};
 use crate::ledger::Ledger;
-use blank_shop::blank_image;
+use disk_layout::blank_image;
 use d64_image::{MemDisk, Sectors};
 use drive_channels::{Dead, Drive};
 use host_session::Session;

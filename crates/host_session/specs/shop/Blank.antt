@@ -1,8 +1,8 @@
 -- The shop that a blank image stands for. All of it is our own.
 use Rattle.std.specs.Prelude.{ℕ, ◌≤◌, ◌*◌, List, [], ◌∷◌, ◌++◌}
 use Rattle.d64_image.specs.Images.{Image, IsImage}
-use Rattle.blank_shop.specs.Blank.{IsBlank, names_of, request_blocks}
-use Rattle.blank_shop.specs.BlankLayout.{blank_top}
+use Rattle.disk_layout.specs.Blank.{IsBlank, names_of, request_blocks}
+use Rattle.disk_layout.specs.BlankLayout.{blank_top}
 use Rattle.disk_layout.specs.Rest.{Rest}
 use Rattle.request_cards.specs.Ledgers.{nothing}
 use Rattle.host_session.specs.shop.Shop.{IsSettled, Shop}

@@ -2,7 +2,7 @@
 ghost use Rattle.std.specs.Prelude.{◌≡◌, ◌<◌, IfErr, IfNone, IfOk, IfSome};
 ghost use Rattle.d64_image.specs.History.{Failed, OnlyReads, TellsFailure};
 ghost use Rattle.disk_layout.specs.Layout.{IsLayout, IsSound, Layout};
-ghost use Rattle.blank_shop.specs.Room.{IsTop};
+ghost use Rattle.disk_layout.specs.Room.{IsTop};
 ghost use Rattle.host_session.specs.declared.faults.OpenFault.TheVariants.{Device};
 ghost use Rattle.host_session.specs.session.Opening.{LacksFileOf, Refuses, TellsJudging};
 ghost use Rattle.host_session.specs.shop.Channels.{length_of, name_of};

@@ -4,8 +4,8 @@ use Rattle.std.specs.Prelude.{codes}
 use Rattle.std.proofs.lemmas.List.{length-append}
 use Rattle.d64_image.specs.Images.{Image, sector}
 use Rattle.disk_layout.proofs.lemmas.layouts.Layouts.{IsLayout-one}
-use Rattle.blank_shop.proofs.FreeAndOwned.{Fits-free}
-use Rattle.blank_shop.proofs.Tops.{Fits-below}
+use Rattle.disk_layout.proofs.lemmas.blank.FreeAndOwned.{Fits-free}
+use Rattle.disk_layout.proofs.lemmas.blank.Tops.{Fits-below}
 use Rattle.disk_layout.proofs.lemmas.records.Pieces.{row-le}
 use Rattle.disk_layout.specs.Clean.{IsClean, IsCleanLayout}
 use Rattle.disk_layout.specs.Directory.{map_place}

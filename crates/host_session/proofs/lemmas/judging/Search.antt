@@ -8,10 +8,10 @@ use Rattle.host_session.specs.declared.shop.finding.LedgerFiles.{LedgerFiles}
 use Rattle.host_session.specs.shop.Files.{Files}
 use Rattle.std.proofs.Common.{ℕ, ◌≡◌, ◌≢◌, ◌<◌, ◌+◌, ◌-◌, ◌/◌, List, arith, refl, subst, sym, ◌∙◌, ap}
 use Rattle.d64_image.specs.Images.{Image}
-use Rattle.blank_shop.proofs.Tops.{IsTop-last}
+use Rattle.disk_layout.proofs.lemmas.blank.Tops.{IsTop-last}
 use Rattle.disk_layout.proofs.lemmas.layouts.Uniques.{IsFirst-one}
 use Rattle.disk_layout.specs.Layout.{File, IsLayout, Layout, record_length}
-use Rattle.blank_shop.specs.Room.{IsTop}
+use Rattle.disk_layout.specs.Room.{IsTop}
 use Rattle.disk_layout.specs.Rest.{IsFirst, rest_of, taken_by_others}
 use Rattle.rel_records.specs.File.{IsFileOf, entry_of, length_of}
 use Rattle.rel_records.specs.declared.rel_file.RelFile.{RelFile}

@@ -7,20 +7,20 @@ use Rattle.std.proofs.lemmas.List.{drop_all, length-replicate, take_all}
 use Rattle.std.proofs.lemmas.Option.{none-some, same_Some}
 use Rattle.d64_image.specs.Images.{Image, sector}
 use Rattle.d64_image.specs.declared.place.Place.{Place}
-use Rattle.blank_shop.proofs.BlankClean.{blank-clean}
-use Rattle.blank_shop.proofs.BlankTop.{blank-has_top}
+use Rattle.disk_layout.proofs.lemmas.blank.BlankClean.{blank-clean}
+use Rattle.disk_layout.proofs.lemmas.blank.BlankTop.{blank-has_top}
 use Rattle.disk_layout.proofs.lemmas.layouts.Layouts.{IsLayout-one}
 use Rattle.disk_layout.proofs.lemmas.layouts.Uniques.{IsFirst-one}
 use Rattle.disk_layout.proofs.lemmas.lists.Once.{Contains-nil}
-use Rattle.blank_shop.specs.Blank.{IsBlankMap, blank_directory, request_blocks}
+use Rattle.disk_layout.specs.Blank.{IsBlankMap, blank_directory, request_blocks}
 use Rattle.disk_layout.specs.Entries.{rel_entry}
-use Rattle.blank_shop.specs.BlankLayout.{IsCleanBlank, blank_layout, blank_top, requests_file, stock_file}
+use Rattle.disk_layout.specs.BlankLayout.{IsCleanBlank, blank_layout, blank_top, requests_file, stock_file}
 use Rattle.disk_layout.specs.Directory.{map_place}
 use Rattle.disk_layout.specs.Layout.{File, IsLayout, Layout}
 use Rattle.disk_layout.specs.Records.{empty_record}
-use Rattle.blank_shop.specs.Room.{IsTop}
+use Rattle.disk_layout.specs.Room.{IsTop}
 use Rattle.disk_layout.specs.Rest.{IsFirst, rest_of}
-use Rattle.blank_shop.specs.Room.{IsTopOf}
+use Rattle.disk_layout.specs.Room.{IsTopOf}
 use Rattle.request_cards.specs.CardReading.{request_card_of}
 use Rattle.request_cards.specs.CardTexts.{Card}
 use Rattle.request_cards.specs.Ledgers.{nothing}

@@ -6,10 +6,10 @@ use Rattle.std.proofs.lemmas.Option.{none-some}
 use Rattle.d64_image.specs.Images.{Image}
 use Rattle.disk_layout.proofs.lemmas.layouts.Layouts.{IsLayout-one}
 use Rattle.disk_layout.proofs.lemmas.layouts.Uniques.{IsFirst-one}
-use Rattle.blank_shop.proofs.Tops.{IsTop-one}
+use Rattle.disk_layout.proofs.lemmas.blank.Tops.{IsTop-one}
 use Rattle.disk_layout.specs.Layout.{File, Layout}
 use Rattle.disk_layout.specs.Records.{records}
-use Rattle.blank_shop.specs.Room.{IsTop}
+use Rattle.disk_layout.specs.Room.{IsTop}
 use Rattle.disk_layout.specs.Rest.{IsFirst, rest_of}
 use Rattle.request_cards.proofs.LastTwo.{keeps_last_two}
 use Rattle.request_cards.specs.CardTexts.{Card}

@@ -11,7 +11,7 @@ use Rattle.disk_layout.specs.Directory.{type_byte}
 use Rattle.disk_layout.specs.Entries.{SameEntries, uncounted}
 use Rattle.disk_layout.specs.Layout.{File, Layout, file_owns, record_length}
 use Rattle.disk_layout.specs.Records.{joined, pieces, record_count, records}
-use Rattle.blank_shop.specs.Room.{Fits, IsTop}
+use Rattle.disk_layout.specs.Room.{Fits, IsTop}
 use Rattle.disk_layout.specs.Rest.{IsFirst, IsNamed, kept_of, others, slot_name, taken_by_others}
 use Rattle.disk_layout.specs.declared.slot.Slot.{Slot}
 use Rattle.disk_layout.proofs.lemmas.kept.Kept.{joined-sectors}

@@ -25,11 +25,12 @@ use Rattle.std.proofs.Common.{
   ◌≤◌,
 }
 use Rattle.std.proofs.Math.ListN.{get_or-append}
-use Rattle.std.proofs.Math.Seq.{take-append-add}
+use Rattle.std.proofs.Math.Seq.{drop-append-add, take-append-add}
 use Rattle.std.proofs.lemmas.Bool.{cases_lt}
 use Rattle.std.proofs.lemmas.List.{
   drop-append-le,
   drop-drop,
+  drop_all,
   get_or-append_right,
   get_or-replicate,
   get_or-take,
@@ -40,6 +41,7 @@ use Rattle.std.proofs.lemmas.List.{
   same_lists,
   take-append-le,
   take_all,
+  take_min,
 }
 use Rattle.std.specs.Prelude.{min, replicate}
 use Rattle.std.proofs.lemmas.Slice.{drop-put_mid, take-put_mid}
@@ -83,42 +85,76 @@ padded n f text is = same_bytes _ _ (left ∙ sym right) (λ i h. each i (omega 
           ∙ sym (get_or_past text i 0 (omega (arith, h, high, is)))
     ]
 
--- a record in the data of two blocks
-pub parts-joined : (a b : List ℕ) (start size here j k : ℕ) → length a ≡ 256 → start < 254
-    → here ≡ min size (254 - start) → j ≡ here → k ≡ size - here → take j (drop (2 + start) a) ++ take k (drop 2 b)
-    ≡ take size (drop start (drop 2 a ++ drop 2 b))
-parts-joined a b start size here j k long lt is ej ek =
-    ap (λ (n : ℕ). take n X ++ take k Y) ej ∙ ap (λ (n : ℕ). take here X ++ take n Y) ek ∙ split
-    ∙ sym (ap (take size) whole)
+-- what lies past the end is neither dropped nor there
+cut : (n m : ℕ) (xs : List ℕ) → m ≡ min n (length xs) → drop m xs ≡ drop n xs
+cut n m xs is = elim (cases_lt n (length xs)) [
+  | inl low ↦ ap (λ (k : ℕ). drop k xs) (omega (arith, is, low))
+  | inr past ↦ drop_all m xs (omega (arith, is, past)) ∙ sym (drop_all n xs past)
+]
+
+-- a record in the data of two blocks, cut off where the second ends
+pub parts-joined : (a b : List ℕ) (start size from here next there j k : ℕ) → length a ≡ 256 → length b ≡ 256
+    → from ≡ min start 254 → here ≡ min size (254 - from) → next ≡ min (start - from) 254
+    → there ≡ min (size - here) (254 - next) → j ≡ here → k ≡ there
+    → take j (drop (2 + from) a) ++ take k (drop (2 + next) b) ≡ take size (drop start (drop 2 a ++ drop 2 b))
+parts-joined a b start size from here next there j k long_a long_b ef eh en et ej ek =
+    ap₂ (λ (us vs : List ℕ). us ++ vs) first second ∙ sym (ap (take size) whole ∙ split)
   where
+    A : List ℕ
+    A = drop 2 a
+
+    B : List ℕ
+    B = drop 2 b
+
+    all_a : length A ≡ 254
+    all_a = length-drop 2 a ∙ omega (arith, long_a)
+
+    all_b : length B ≡ 254
+    all_b = length-drop 2 b ∙ omega (arith, long_b)
+
     X : List ℕ
-    X = drop (2 + start) a
+    X = drop start A
 
     Y : List ℕ
-    Y = drop 2 b
-
-    rest : length (drop 2 a) ≡ 254
-    rest = length-drop 2 a ∙ omega (arith, long)
+    Y = drop (start - 254) B
 
     many : length X ≡ 254 - start
-    many = length-drop (2 + start) a ∙ omega (arith, long)
+    many = length-drop start A ∙ omega (arith, all_a)
 
-    whole : drop start (drop 2 a ++ drop 2 b) ≡ X ++ Y
-    whole = drop-append-le start (drop 2 a) (drop 2 b) (omega (arith, rest, lt))
-        ∙ ap (λ (xs : List ℕ). xs ++ Y) (drop-drop start 2 a)
+    rest : length Y ≡ 254 - (start - 254)
+    rest = length-drop (start - 254) B ∙ omega (arith, all_b)
 
-    split : take here X ++ take (size - here) Y ≡ take size (X ++ Y)
-    split = elim (cases_lt (254 - start) size) [
+    first : take j (drop (2 + from) a) ≡ take size X
+    first = ap₂ take (omega (arith, ej, eh, ef, many))
+        (sym (drop-drop from 2 a) ∙ cut start from A (omega (arith, ef, all_a)))
+        ∙ take_min size X
+
+    second : take k (drop (2 + next) b) ≡ take (size - length X) Y
+    second = ap₂ take (omega (arith, ek, et, en, eh, ef, many, rest))
+        (sym (drop-drop next 2 b) ∙ cut (start - 254) next B (omega (arith, en, ef, all_b)))
+        ∙ take_min (size - length X) Y
+
+    whole : drop start (A ++ B) ≡ X ++ Y
+    whole = elim (cases_lt 254 start) [
+      | inl past ↦
+          let n : start ≡ length A + (start - 254) = omega (arith, all_a, past) in
+          ap (λ (m : ℕ). drop m (A ++ B)) n ∙ drop-append-add A B (start - 254)
+          ∙ ap (λ (xs : List ℕ). xs ++ Y) (sym (drop_all start A (omega (arith, all_a, past))))
+      | inr near ↦
+          let none : 0 ≡ start - 254 = omega (arith, near) in
+          drop-append-le start A B (omega (arith, all_a, near)) ∙ ap (λ (m : ℕ). X ++ drop m B) none
+    ]
+
+    split : take size (X ++ Y) ≡ take size X ++ take (size - length X) Y
+    split = elim (cases_lt (length X) size) [
       | inl more ↦
-          let all : here ≡ length X = omega (arith, is, many, more) in
-          let n : length X + (size - here) ≡ size = omega (arith, is, many, more) in
-          ap (λ (xs : List ℕ). xs ++ take (size - here) Y) (take_all here X (omega (arith, all)))
-          ∙ sym (take-append-add X Y (size - here)) ∙ ap (λ (m : ℕ). take m (X ++ Y)) n
+          let n : size ≡ length X + (size - length X) = omega (arith, more) in
+          ap (λ (m : ℕ). take m (X ++ Y)) n ∙ take-append-add X Y (size - length X)
+          ∙ ap (λ (xs : List ℕ). xs ++ take (size - length X) Y) (sym (take_all size X (omega (arith, more))))
       | inr fits ↦
-          let e : here ≡ size = omega (arith, is, fits) in
-          let none : size - here ≡ 0 = omega (arith, e) in
-          ap (λ (m : ℕ). take here X ++ take m Y) none ∙ append-nil (take here X) ∙ ap (λ (m : ℕ). take m X) e
-          ∙ sym (take-append-le size X Y (omega (arith, many, fits)))
+          let none : 0 ≡ size - length X = omega (arith, fits) in
+          take-append-le size X Y fits ∙ sym (append-nil (take size X))
+          ∙ ap (λ (m : ℕ). take size X ++ take m Y) none
     ]
 
 -- a block in which the bytes of a text were put, and zeros behind them

@@ -11,9 +11,6 @@ parts-long here there first second start size ef es low few joined =
     sym (length-append here there) ∙ ap length joined
     ∙ simp (length-take, length-drop, length-append) (omega arith)
 
-pub record_parts-requires : goal.record_parts-requires
-record_parts-requires c = record { start = c.requires.start; size = c.requires.size }
-
 pub as_mut_slice-requires : goal.as_mut_slice-requires
 as_mut_slice-requires c = lit< tt
 

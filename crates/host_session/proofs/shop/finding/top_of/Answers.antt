@@ -1,6 +1,6 @@
 -- What is open and what others own are the 664 sectors outside track 18.
 use Rattle.std.proofs.Common.{arith, sym, subst}
-use Rattle.blank_shop.specs.Room.{IsTop}
+use Rattle.disk_layout.specs.Room.{IsTop}
 use Rattle.host_session.proofs.lemmas.judging.Search.{top-of}
 use Rattle.host_session.proofs.shop.finding.top_of.Goals as goal
 

@@ -1,9 +1,0 @@
-pub mod BlankClean
-pub mod BlankParts
-pub mod BlankPlaces
-pub mod BlankTop
-pub mod Blanks
-pub mod Examples
-pub mod FreeAndOwned
-pub mod Freeing
-pub mod Tops

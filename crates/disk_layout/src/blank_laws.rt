@@ -1,0 +1,15 @@
+//! Laws of the definitions: the contracts of functions that do nothing.
+ghost use Rattle.std.specs.Prelude.{◌≡◌};
+ghost use Rattle.disk_layout.specs.BlankLayout.{BlankHasTop, BlankIsClean, blank_top};
+
+/// The blank image is clean, whatever the disk held before: its directory, its two files and its map agree, each file
+/// is found by its name, and all its records are empty.
+pub fn blank_is_clean()
+    ensures { BlankIsClean }
+{}
+
+/// On the blank image STOCK can grow to record `blank_top tills`, and no further: to 8819 with 64 tills.
+pub fn blank_has_top()
+    ensures top { BlankHasTop }
+    ensures of_64 { blank_top 64 ≡ 8819 }
+{}
