@@ -41,9 +41,12 @@ module _ {F T U : Type 0} (K : Keeps F) (f : T → U) (o : Output U) (image scri
 
   stopped_in : IsStopped K (output_in f o) image script file after old new
       → IsStopped K o image script file after (f old) (f new)
-  stopped_in x = (x.0, ⊎_elim (λ whole. inl (played_over_in (λ left. Ok left) whole))
-      (λ part. inr (part.0, played_over_in (λ left. Err (part.0, left)) part.1))
-      x.1)
+  stopped_in x = (
+    x.0,
+    ⊎_elim (λ whole. inl (played_over_in (λ left. Ok left) whole))
+        (λ part. inr (part.0, played_over_in (λ left. Err (part.0, left)) part.1))
+        x.1,
+  )
 
   untouched_in : IsUntouched file after old new → IsUntouched file after (f old) (f new)
   untouched_in x = (x.0, ap f x.1)

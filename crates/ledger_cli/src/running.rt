@@ -166,7 +166,9 @@ fn done<F: Write + Seek + Drop, W: Write>(
         Job::Serve { .. } => served(alloc, image, script, file, out),
         Job::Repair { .. } => repaired(alloc, image, file, out),
         Job::Make {
-            ref name, length, ..
+            ref name,
+            length,
+            ..
         } => made(alloc, image, name, length, file, out),
         Job::Store { ref name, .. } => stored(alloc, image, name, script, file, out),
         Job::Take { what, ref name, .. } => {

@@ -14,9 +14,13 @@ fn request(rt: &impl Abort, message: &[u8]) -> Request {
 #[test]
 fn requests_are_read(rt: HostRuntime) {
     let asked = request(&rt, b"1,2,S,42,120");
-    same(&rt, (asked.till(), asked.number(), asked.kind()), (1, 2, Kind::Set));
+    same(
+        &rt,
+        (asked.till(), asked.number(), asked.kind()),
+        (1, 2, Kind::Set),
+    );
     same(&rt, (asked.item(), asked.quantity()), (42, 120));
-    same(&rt, asked.print().as_slice() == b"1,2,S,42,120", true);
+    same(&rt, asked.print().as_slice(), b"1,2,S,42,120".as_slice());
     same(&rt, request(&rt, b"1,1,R,1,0").kind(), Kind::Receive);
     same(&rt, request(&rt, b"1,1,I,1,0").kind(), Kind::Issue);
     same(&rt, Request::parse(b"01,1,S,1,0").is_none(), true);
@@ -37,11 +41,23 @@ fn request_cards_have_127_bytes(rt: HostRuntime) {
     let asked = request(&rt, b"1,1,S,15,7");
     let card: Option<RequestCard> = RequestCard::new(true, asked, Answer::Done(7));
     let text: [u8; 127] = card.expect(&rt, "it is a card").print();
-    same(&rt, text.starts_with(b"I,000000001,S,00015,000000007,0,000000007\r"), true);
+    same(
+        &rt,
+        text.starts_with(b"I,000000001,S,00015,000000007,0,000000007\r"),
+        true,
+    );
     let card: Option<RequestCard> = RequestCard::parse(&text);
     let card = card.expect(&rt, "it is a card");
-    same(&rt, (card.pending(), card.answer()), (true, Answer::Done(7)));
-    same(&rt, (card.request(1), card.request(65)), (Some(asked), None));
+    same(
+        &rt,
+        (card.pending(), card.answer()),
+        (true, Answer::Done(7)),
+    );
+    same(
+        &rt,
+        (card.request(1), card.request(65)),
+        (Some(asked), None),
+    );
 }
 
 /// What the trade rule says of a message: the answer, and the new quantity.
@@ -53,15 +69,39 @@ fn traded(rt: &impl Abort, on: Option<u32>, room: Room, message: &[u8]) -> (Answ
 #[test]
 fn the_trade_rule_decides(rt: HostRuntime) {
     let set = b"1,1,S,1,5";
-    same(&rt, traded(&rt, None, Room::Fits, set), (Answer::Done(5), Some(5)));
-    same(&rt, traded(&rt, None, Room::Full, set), (Answer::DiskFull, None));
-    same(&rt, traded(&rt, None, Room::TooLarge, set), (Answer::TooLarge, None));
+    same(
+        &rt,
+        traded(&rt, None, Room::Fits, set),
+        (Answer::Done(5), Some(5)),
+    );
+    same(
+        &rt,
+        traded(&rt, None, Room::Full, set),
+        (Answer::DiskFull, None),
+    );
+    same(
+        &rt,
+        traded(&rt, None, Room::TooLarge, set),
+        (Answer::TooLarge, None),
+    );
     let issue = b"1,1,I,1,5";
-    same(&rt, traded(&rt, Some(4), Room::Fits, issue), (Answer::Short(4), None));
-    same(&rt, traded(&rt, None, Room::Fits, issue), (Answer::NoCard, None));
+    same(
+        &rt,
+        traded(&rt, Some(4), Room::Fits, issue),
+        (Answer::Short(4), None),
+    );
+    same(
+        &rt,
+        traded(&rt, None, Room::Fits, issue),
+        (Answer::NoCard, None),
+    );
     let receive = b"1,1,R,1,1";
     let most = 999_999_999;
-    same(&rt, traded(&rt, Some(most), Room::Fits, receive), (Answer::Over(most), None));
+    same(
+        &rt,
+        traded(&rt, Some(most), Room::Fits, receive),
+        (Answer::Over(most), None),
+    );
 }
 
 /// Whether the reply with this word has this text.
@@ -77,8 +117,12 @@ fn says(word: Word, text: &[u8]) -> bool {
 
 #[test]
 fn replies_are_printed(rt: HostRuntime) {
-    same(&rt, Reply::Syntax.print().as_slice() == b"30,SYNTAX ERROR,00,00", true);
-    same(&rt, Reply::Cut.print().as_slice() == b"CUT", true);
+    same(
+        &rt,
+        Reply::Syntax.print().as_slice(),
+        b"30,SYNTAX ERROR,00,00".as_slice(),
+    );
+    same(&rt, Reply::Cut.print().as_slice(), b"CUT".as_slice());
     let said = [
         says(Word::Media, b"1,2,MEDIA"),
         says(Word::NoTill, b"1,2,NO TILL"),

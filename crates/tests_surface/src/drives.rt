@@ -29,7 +29,11 @@ fn a_drive_is_asked(rt: HostRuntime) {
     let _ = drive.command(&[b'P', 0x62, 15, 0, 1]);
     let mut text: ArrayVec<u8, 254> = ArrayVec::new();
     let asked: Result<(), Dead> = drive.read(2, &mut text);
-    same(&rt, (told(&mut drive, asked), text.as_slice()[0]), (0, b'A'));
+    same(
+        &rt,
+        (told(&mut drive, asked), text.as_slice()[0]),
+        (0, b'A'),
+    );
     let asked: Result<(), Dead> = drive.close(2);
     same(&rt, told(&mut drive, asked), 0);
     same(&rt, drive.into_disk().bytes().len(), 174_848);

@@ -38,12 +38,13 @@ fn parts<'a>(job: &Job<'a>) -> (&'static str, &'a str, &'a str, u8) {
 fn ends(
     rt: &(impl Abort + AllocGlobal),
     job: &Job<'_>,
-    (image, script): (&[u8], &[u8]),
+    bytes: (&[u8], &[u8]),
     file: Option<&mut Cursor<Vec<u8>>>,
     wanted: (u8, &str, &str),
 )
     requires { IsFit job.now }
 {
+    let (image, script) = bytes;
     let mut out: Vec<u8> = Vec::new(rt.alloc());
     let mut err: Vec<u8> = Vec::new(rt.alloc());
     let status: u8 = run(rt.alloc(), job, image, script, file, &mut out, &mut err);
@@ -66,21 +67,52 @@ fn formatted(rt: &(impl Abort + AllocGlobal)) -> Cursor<Vec<u8>> {
         image: "a.d64",
         tills: 2,
     };
-    ends(rt, &job, (b"", b""), Some(&mut file), (0, "FORMATTED\n", ""));
+    ends(
+        rt,
+        &job,
+        (b"", b""),
+        Some(&mut file),
+        (0, "FORMATTED\n", ""),
+    );
     file
 }
 
-const LISTED: &str = "0 \"STOCK LEDGER\" 01 2A\n2 \"STOCK\" REL\n2 \"REQUESTS\" REL\n660 BLOCKS FREE\n";
+const LISTED: &str =
+    "0 \"STOCK LEDGER\" 01 2A\n2 \"STOCK\" REL\n2 \"REQUESTS\" REL\n660 BLOCKS FREE\n";
 
 #[test]
 fn images_are_made_and_read(rt: HostRuntime) {
     let image = formatted(&rt).into_inner();
     let bytes = (image.as_slice(), b"".as_slice());
-    ends(&rt, &Job::List { image: "a.d64" }, bytes, None, (0, LISTED, ""));
-    ends(&rt, &Job::Check { image: "a.d64" }, bytes, None, (0, "OK\n", ""));
-    ends(&rt, &Job::Show { image: "a.d64" }, bytes, None, (0, "TOP 9256\n", ""));
+    ends(
+        &rt,
+        &Job::List { image: "a.d64" },
+        bytes,
+        None,
+        (0, LISTED, ""),
+    );
+    ends(
+        &rt,
+        &Job::Check { image: "a.d64" },
+        bytes,
+        None,
+        (0, "OK\n", ""),
+    );
+    ends(
+        &rt,
+        &Job::Show { image: "a.d64" },
+        bytes,
+        None,
+        (0, "TOP 9256\n", ""),
+    );
     let short = (b"D64".as_slice(), b"".as_slice());
-    ends(&rt, &Job::Check { image: "a.d64" }, short, None, (1, "", "IMAGE SIZE\n"));
+    ends(
+        &rt,
+        &Job::Check { image: "a.d64" },
+        short,
+        None,
+        (1, "", "IMAGE SIZE\n"),
+    );
 }
 
 const PLAY: Job<'static> = Job::Play {
@@ -92,7 +124,8 @@ const SCRIPT: &[u8] = b"1,1,S,42,120\n1,2,I,42,121\n";
 
 const REPLIES: &str = "1,1,DONE,120\n1,2,SHORT,120\n";
 
-const SHOWN: &str = "TOP 9256\nCARD 42,120\nTILL 1,2,I,42,121,SHORT,120\nPRIOR 1,1,S,42,120,DONE,120\n";
+const SHOWN: &str =
+    "TOP 9256\nCARD 42,120\nTILL 1,2,I,42,121,SHORT,120\nPRIOR 1,1,S,42,120,DONE,120\n";
 
 #[test]
 fn scripts_are_played(rt: HostRuntime) {
@@ -103,7 +136,13 @@ fn scripts_are_played(rt: HostRuntime) {
     ends(&rt, &PLAY, bytes, Some(&mut file), (0, REPLIES, ""));
     let left = file.into_inner();
     let bytes = (left.as_slice(), b"".as_slice());
-    ends(&rt, &Job::Show { image: "a.d64" }, bytes, None, (0, SHOWN, ""));
+    ends(
+        &rt,
+        &Job::Show { image: "a.d64" },
+        bytes,
+        None,
+        (0, SHOWN, ""),
+    );
     let bad = (left.as_slice(), b"x\n@x 1,1,S,1,0\n".as_slice());
     let mut file = file_of(&rt, b"");
     ends(&rt, &PLAY, bad, Some(&mut file), (1, "", "SCRIPT LINE 2\n"));
@@ -117,7 +156,19 @@ fn scripts_are_played_without_a_disk(rt: HostRuntime) {
     let mut out: Vec<u8> = Vec::new(rt.alloc());
     let done: Result<(), DryFault> = dry(b"1,1,S,8819,4\n1,2,S,8820,4\n", &mut out);
     same(&rt, done, Ok(()));
-    same(&rt, out.as_slice() == b"1,1,DONE,4\n1,2,72,DISK FULL\n", true);
-    same(&rt, dry(b"@0 1,1,S,1,0\n", &mut out), Err(DryFault::BadLine(1)));
-    same(&rt, (DryFault::BadLine(1).number(), DryFault::Output.number()), (2, 3));
+    same(
+        &rt,
+        out.as_slice(),
+        b"1,1,DONE,4\n1,2,72,DISK FULL\n".as_slice(),
+    );
+    same(
+        &rt,
+        dry(b"@0 1,1,S,1,0\n", &mut out),
+        Err(DryFault::BadLine(1)),
+    );
+    same(
+        &rt,
+        (DryFault::BadLine(1).number(), DryFault::Output.number()),
+        (2, 3),
+    );
 }

@@ -22,15 +22,31 @@ fn sectors_are_seen(rt: HostRuntime) {
     let mut disk = fresh(&rt);
     let (map, list) = (sector(&mut disk, at(18, 0)), sector(&mut disk, at(18, 1)));
     let view: BamView<'_> = BamView::new(&map);
-    same(&rt, (view.name(), view.id()), (b"STOCK LEDGER".as_slice(), b"01".as_slice()));
+    same(
+        &rt,
+        (view.name(), view.id()),
+        (b"STOCK LEDGER".as_slice(), b"01".as_slice()),
+    );
     same(&rt, (view.free_on(17), view.blocks_free()), (17, 660));
     let view: DirView<'_> = DirView::new(&list);
     let entry = view.entry(0);
-    same(&rt, (entry.name(), entry.record_length()), (b"STOCK".as_slice(), 18));
+    same(
+        &rt,
+        (entry.name(), entry.record_length()),
+        (b"STOCK".as_slice(), 18),
+    );
     let side = sector(&mut disk, at(17, 1));
     let view: SideView<'_> = SideView::new(&side);
-    same(&rt, (view.record_length(), view.block(0)), (18, Some(at(17, 0))));
-    same(&rt, side_bytes(0, &[at(17, 0)], &[at(17, 1)], 18) == side, true);
+    same(
+        &rt,
+        (view.record_length(), view.block(0)),
+        (18, Some(at(17, 0))),
+    );
+    same(
+        &rt,
+        side_bytes(0, &[at(17, 0)], &[at(17, 1)], 18) == side,
+        true,
+    );
 }
 
 /// The first free sector, and the first of the directory; both taken, and the first given back.
@@ -47,7 +63,11 @@ fn picked(bam: &mut Bam) -> (Option<Place>, Option<Place>, bool, bool) {
 fn the_map_gives_sectors(rt: HostRuntime) {
     let mut disk = fresh(&rt);
     let mut bam = Bam::new(sector(&mut disk, at(18, 0)));
-    same(&rt, picked(&mut bam), (Some(at(17, 4)), Some(at(18, 2)), true, true));
+    same(
+        &rt,
+        picked(&mut bam),
+        (Some(at(17, 4)), Some(at(18, 2)), true, true),
+    );
 }
 
 #[test]
@@ -57,7 +77,11 @@ fn directories_and_chains_are_walked(rt: HostRuntime) {
     let read: Result<(), Fault> = read_directory(&mut disk, &mut slots);
     same(&rt, (read, slots.len()), (Ok(()), 2));
     let slot = &slots.as_slice()[1];
-    same(&rt, (slot.sector, slot.number, slot.bytes[3]), (at(18, 1), 1, 17));
+    same(
+        &rt,
+        (slot.sector, slot.number, slot.bytes[3]),
+        (at(18, 1), 1, 17),
+    );
     let mut places: ArrayVec<Place, 720> = ArrayVec::new();
     let walked: Result<u8, Fault> = walk_chain(&mut disk, at(17, 0), &mut places);
     same(&rt, (walked, places.len()), (Ok(253), 1));

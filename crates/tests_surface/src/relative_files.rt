@@ -86,11 +86,16 @@ fn files_are_made(rt: HostRuntime) {
     same(&rt, none.is_err(), true);
 }
 
+// Record 1694 of 18 bytes begins behind 119 blocks of 254 bytes and 248 more.
 #[test]
 fn records_have_parts(rt: HostRuntime) {
     let (a, b): ([u8; 256], [u8; 256]) = ([1; 256], [2; 256]);
-    let (first, second): (&[u8], &[u8]) = record_parts(&a, &b, 250, 18);
-    same(&rt, (first.len(), second.len(), first[0], second[0]), (6, 12, 1, 2));
+    let (first, second): (&[u8], &[u8]) = record_parts(&a, &b, 248, 18);
+    same(
+        &rt,
+        (first.len(), second.len(), first[0], second[0]),
+        (6, 12, 1, 2),
+    );
 }
 
 #[test]
