@@ -4,8 +4,8 @@ ghost use Rattle.d64_image.specs.Memory.{disk_image};
 ghost use Rattle.disk_layout.specs.Clean.{IsClean};
 ghost use Rattle.rel_records.specs.File.{IsOf};
 
-use disk_layout::blank_image;
 use d64_image::{MemDisk, Place, Sectors};
+use disk_layout::blank_image;
 use layout_check::check;
 use rel_records::{RelFile, create, find, write_record};
 use std::process::Abort;

@@ -7,8 +7,8 @@ ghost use Rattle.disk_layout.specs.Layout.{IsSound};
 ghost use Rattle.rel_records.specs.File.{IsOf};
 
 use crate::comparing::same_at;
-use disk_layout::blank_image;
 use d64_image::{Fuse, MemDisk, Meter, Place, Sectors};
+use disk_layout::blank_image;
 use layout_check::{check, survey};
 use rel_records::{RelFile, find};
 use std::process::Abort;

@@ -12,9 +12,9 @@ mod records;
 mod requests;
 mod sectors;
 
-use disk_layout::blank_image;
 use checks::count_clean;
 use d64_image::MemDisk;
+use disk_layout::blank_image;
 use drive_channels::Drive;
 use printing::put_file;
 use std::io::{BufWriter, Write};

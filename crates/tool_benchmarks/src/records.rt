@@ -7,8 +7,8 @@ ghost use Rattle.rel_records.specs.Faults.{TellsRelFault};
 ghost use Rattle.rel_records.specs.File.{IsOf, records_in};
 
 use arrayvec::ArrayVec;
-use disk_layout::blank_image;
 use d64_image::Sectors;
+use disk_layout::blank_image;
 use rel_records::{RelFault, RelFile, find, grow_to, read_record, write_record};
 
 /// How many records STOCK has when it fills the disk.

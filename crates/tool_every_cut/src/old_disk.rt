@@ -3,8 +3,8 @@ ghost use Rattle.std.specs.Prelude.{◌≤◌};
 
 use crate::found::{Found, or_say};
 use crate::ledger::Ledger;
-use disk_layout::blank_image;
 use d64_image::{MemDisk, Sectors};
+use disk_layout::blank_image;
 use drive_channels::{Dead, Drive};
 use host_session::Session;
 use request_cards::RequestCard;

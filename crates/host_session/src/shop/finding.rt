@@ -1,5 +1,5 @@
 //! The two files of a ledger on a disk, and how far STOCK can grow.
-ghost use Rattle.std.specs.Prelude.{◌≡◌, ◌<◌, IfErr, IfNone, IfOk, IfSome};
+ghost use Rattle.std.specs.Prelude.{◌≡◌, IfErr, IfNone, IfOk, IfSome};
 ghost use Rattle.d64_image.specs.History.{Failed, OnlyReads, TellsFailure};
 ghost use Rattle.disk_layout.specs.Layout.{IsLayout, IsSound, Layout};
 ghost use Rattle.disk_layout.specs.Room.{IsTop};
@@ -8,7 +8,7 @@ ghost use Rattle.host_session.specs.session.Opening.{LacksFileOf, Refuses, Tells
 ghost use Rattle.host_session.specs.shop.Channels.{length_of, name_of};
 ghost use Rattle.host_session.specs.shop.Files.{Files};
 ghost use Rattle.host_session.specs.shop.Found.{AreFilesOf, IsFileNamed};
-ghost use Rattle.layout_check.specs.Survey.{IsSurveyOf, entries_of};
+ghost use Rattle.layout_check.specs.Survey.{IsSurveyOf};
 
 use crate::faults::OpenFault;
 use crate::shop::shop_drive::ShopFile;
@@ -68,7 +68,6 @@ fn find_shop_file<D: Sectors>(disk: &mut D, file: ShopFile) -> Result<Option<Rel
 /// their side sectors, into the sectors outside track 18 that no other file owns. 120 blocks take one side sector.
 fn top_of(found: &Survey, entry: usize) -> u16
     requires told { (l : Layout) × IsSurveyOf l found.now }
-    requires entry { entry < entries_of found.now }
     ensures { (l : Layout) → IsSurveyOf l found.now → IsTop l entry result }
 {
     let outside = found.outside(entry);

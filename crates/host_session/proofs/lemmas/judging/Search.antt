@@ -1,12 +1,10 @@
 -- What opening finds before it writes: files by their names, the top, and faults of the layout.
 use Rattle.std.specs.Prelude.{IfNone, IfSome, None, Option, Some, codes, length}
-use Rattle.std.proofs.lemmas.Option.{slice_get_within}
 use Rattle.disk_layout.specs.Records.{records}
-use Rattle.layout_check.specs.Survey.{IsSurveyOf, entries_of}
 use Rattle.layout_check.specs.declared.outcome.Survey.{Survey}
 use Rattle.host_session.specs.declared.shop.finding.LedgerFiles.{LedgerFiles}
 use Rattle.host_session.specs.shop.Files.{Files}
-use Rattle.std.proofs.Common.{ℕ, ◌≡◌, ◌≢◌, ◌<◌, ◌+◌, ◌-◌, ◌/◌, List, arith, refl, subst, sym, ◌∙◌, ap}
+use Rattle.std.proofs.Common.{ℕ, ◌≡◌, ◌≢◌, ◌+◌, ◌-◌, ◌/◌, List, arith, refl, subst, sym, ◌∙◌, ap}
 use Rattle.d64_image.specs.Images.{Image}
 use Rattle.disk_layout.proofs.lemmas.blank.Tops.{IsTop-last}
 use Rattle.disk_layout.proofs.lemmas.layouts.Uniques.{IsFirst-one}
@@ -52,11 +50,6 @@ has-file img l name long v h x = record {
       x.first;
   is_long = x.is_long;
 }
-
-pub entry-below : (img : Image) (l : Layout) (name : List ℕ) (long : ℕ) (v : RelFile) (s : Survey)
-    → IsFileNamed img l name long v → IsSurveyOf l s → entry_of v < entries_of s
-entry-below img l name long v s x told =
-    omega (arith, told.entries, slice_get_within l.files (entry_of v) x.file x.first.file)
 
 -- the files of both, with the records that they have
 pub files-found : (img : Image) (l : Layout) (x : LedgerFiles) → IsLayout img l

@@ -3,7 +3,7 @@ mod Refused
 use Rattle.std.proofs.Common.{arith, ◌∙◌}
 use Rattle.std.specs.Prelude.{codes}
 use Rattle.d64_image.proofs.Moments.{reads_then}
-use Rattle.host_session.proofs.lemmas.judging.Search.{entry-below, files-found, has-file, lacks-none, named-some}
+use Rattle.host_session.proofs.lemmas.judging.Search.{files-found, has-file, lacks-none, named-some}
 use Rattle.host_session.proofs.lemmas.judging.Search.{top-at}
 use Rattle.host_session.proofs.shop.finding.find_files.Goals as goal
 use Rattle.host_session.proofs.shop.finding.find_files.Answers.Refused as refused
@@ -50,15 +50,6 @@ returns-in_default-2 g c =
           c.find_shop_file-2.ensures.reads;
       failures = c.in_ok-requests.ensures.failures ∙ c.in_ok-stock.ensures.failures ∙ c.in_ok-found.ensures.failures;
     }
-
-pub top_of-top-requires-clause-entry : goal.top_of-top-requires-clause-entry
-top_of-top-requires-clause-entry g c =
-    let S = g.D.Sectors.history in
-    let old = S.image c.args.disk.now in
-    let (l, h, told) = c.in_ok-found.ensures.ok in
-    let stock = named-some old (S.image c.survey_disk.new.disk) l (codes "STOCK") 18 c.in_ok-stock.field-0
-    c.in-Some.stock c.survey_disk.ensures.reads.image c.in-Some.is h c.in_ok-stock.ensures.found in
-    omega (arith, c.entry.ensures, entry-below old l (codes "STOCK") 18 c.in-Some.stock c.in_ok-found.found stock told)
 
 pub returns : goal.returns
 returns g c =
