@@ -3,11 +3,12 @@ use Rattle.std.proofs.Common.{Err, List, Ok, Result, ap, inl, inr, ⊎_elim, ℕ
 use Rattle.d64_image.specs.FileDisks.{FileDisk, in_run}
 use Rattle.d64_image.specs.History.{History}
 use Rattle.d64_image.specs.Keeps.{Keeps}
-use Rattle.host_session.proofs.lemmas.runs.OutputsWithin.{script_in}
-use Rattle.host_session.specs.events.Telling.{Output, output_in}
+use Rattle.host_session.specs.events.Telling.{Output}
 use Rattle.ledger_commands.specs.Plays.{IsFileFault, IsPlayEnd, IsPlayedFile, IsPlayedOver, IsStopped, IsUntouched}
 use Rattle.ledger_commands.specs.declared.faults.RunFault.{RunFault}
 use Rattle.ledger_commands.specs.declared.faults.RunFault.TheVariants as run
+use Rattle.ledger_cli.proofs.Scripts.{script_in}
+use Rattle.ledger_cli.specs.Written.{output_in}
 use Rattle.ledger_program.specs.Ends.{Ended}
 use Rattle.ledger_program.specs.Runs.{IsPlayRun}
 use Rattle.std.specs.Prelude.{IfErr}
