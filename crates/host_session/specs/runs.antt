@@ -6,3 +6,4 @@ pub mod Chains
 pub mod Loops
 pub mod EventPlays
 pub mod Outputs
+pub mod Lent

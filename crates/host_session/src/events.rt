@@ -2,6 +2,7 @@
 pub(crate) mod asking;
 pub(crate) mod cutting;
 pub(crate) mod hearing;
+pub(crate) mod lines;
 mod listing;
 pub(crate) mod noting;
 pub(crate) mod printing;

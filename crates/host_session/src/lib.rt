@@ -21,6 +21,6 @@ pub use faults::OpenFault;
 pub use laws::{blank_is_a_shop, both_ends, last_two, one_shop, only_grows, refused_no_shop};
 pub use runs::looping::{LoopFault, run};
 pub use runs::playing::{PlayFault, play};
-pub use runs::running::{ScriptFault, run_script};
+pub use runs::running::{ScriptFault, play_script, run_script};
 pub use script_lines::{Cut, Event};
 pub use session::Session;

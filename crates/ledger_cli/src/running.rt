@@ -43,7 +43,7 @@ fn formatted<F: Write + Drop, W: Write>(
 ) -> Result<Option<Fault>, Refusal>
     requires some { 1 ≤ tills }
     requires few { tills ≤ 64 }
-    ensures { IsFormatted F.contents W.contents tills file.entry out.old out.new result }
+    ensures { IsFormatted F.contents W.contents tills file out.old out.new result }
 {
     let Some(mut file) = file else {
         return Err(NO_FILE);
@@ -59,7 +59,7 @@ fn played<F: Write + Seek + Drop, W: Write>(
     file: Option<F>,
     out: &mut W,
 ) -> Result<Option<Fault>, Refusal>
-    ensures { IsPlayed W.contents image.now script.now file.entry out.old out.new result }
+    ensures { IsPlayed W.contents image.now script.now file out.old out.new result }
 {
     let Some(file) = file else {
         return Err(NO_FILE);
@@ -77,7 +77,7 @@ fn served<F: Write + Seek + Drop, W: Write>(
     file: Option<F>,
     out: &mut W,
 ) -> Result<Option<Fault>, Refusal>
-    ensures { IsServed image.now file.entry out.old out.new result }
+    ensures { IsServed image.now file out.old out.new result }
 {
     let Some(file) = file else {
         return Err(NO_FILE);
@@ -95,7 +95,7 @@ fn repaired<F: Write + Seek + Drop, W: Write>(
     file: Option<F>,
     out: &mut W,
 ) -> Result<Option<Fault>, Refusal>
-    ensures { IsRepaired W.contents image.now file.entry out.old out.new result }
+    ensures { IsRepaired W.contents image.now file out.old out.new result }
 {
     let Some(file) = file else {
         return Err(NO_FILE);
@@ -115,7 +115,7 @@ fn made<F: Write + Seek + Drop, W: Write>(
 ) -> Result<Option<Fault>, Refusal>
     requires name { IsNewName (name_bytes name.now) }
     requires length { IsLength length }
-    ensures { IsMade W.contents image.now (name_bytes name.now) length file.entry out.old out.new result }
+    ensures { IsMade W.contents image.now (name_bytes name.now) length file out.old out.new result }
 {
     let Some(file) = file else {
         return Err(NO_FILE);
@@ -133,7 +133,7 @@ fn stored<F: Write + Seek + Drop, W: Write>(
     file: Option<F>,
     out: &mut W,
 ) -> Result<Option<Fault>, Refusal>
-    ensures { IsStored W.contents image.now (name_bytes name.now) records.now file.entry out.old out.new result }
+    ensures { IsStored W.contents image.now (name_bytes name.now) records.now file out.old out.new result }
 {
     let Some(file) = file else {
         return Err(NO_FILE);
@@ -152,7 +152,7 @@ fn done<F: Write + Seek + Drop, W: Write>(
     out: &mut W,
 ) -> Result<Option<Fault>, Refusal>
     requires { IsFit job.now }
-    ensures { IsJobRun F.contents W.contents job.now image.now script.now file.entry out.old out.new result }
+    ensures { IsJobRun F.contents W.contents job.now image.now script.now file out.old out.new result }
 {
     match *job {
         Job::Format { tills, .. } | Job::FormatNew { tills, .. } => {
@@ -193,7 +193,7 @@ pub fn run<F: Write + Seek + Drop, W: Write, E: Write>(
     err: &mut E,
 ) -> u8
     requires { IsFit job.now }
-    ensures { IsRun F.contents W.contents E.contents job.now image.now script.now file.entry out.old out.new
+    ensures { IsRun F.contents W.contents E.contents job.now image.now script.now file out.old out.new
         err.old err.new result }
 {
     end(done(alloc, job, image, script, file, out), err).status

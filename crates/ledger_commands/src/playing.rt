@@ -11,7 +11,7 @@ ghost use Rattle.ledger_commands.specs.declared.faults.RunFault.TheVariants as f
 use crate::bytes::load;
 use crate::faults::RunFault;
 use d64_image::{Mirror, SectorFile, Sectors};
-use host_session::{ScriptFault, Tells, run_script};
+use host_session::{ScriptFault, Tells, play_script};
 use std::alloc::Global;
 
 /// What is told of a run that this fault ended. Replies that were told before it are handed on.
@@ -43,7 +43,7 @@ pub fn play_image<D: Sectors, T: Tells<D>>(
 ) -> Result<D, (RunFault, D)>
     ensures { IsPlayEnd D.history T.output disk script.now out.old out.new result }
 {
-    match run_script(disk, script, out) {
+    match play_script(disk, script, out) {
         Ok(left) => match out.hand_on() {
             Ok(()) => Ok(left),
             Err(_) => Err((RunFault::File, left)),

@@ -2,7 +2,7 @@
 use crate::comparing::same_at;
 use crate::disks::{fresh, loaded};
 use crate::sessions::{asked, says};
-use host_session::{Heard, Noted, OfScript, ScriptFault, Turn, run, run_script};
+use host_session::{Heard, Noted, OfScript, ScriptFault, Turn, play_script, run};
 use std::process::Abort;
 
 /// A day on which power goes once: line 2 is cut behind its first write, and asked again.
@@ -19,7 +19,7 @@ fn holds(rt: &(impl Abort + AllocGlobal), turn: &Turn, message: &[u8], reply: &[
 #[test]
 fn each_reply_is_told_over_its_own_disk(rt: HostRuntime) {
     let mut out = Heard::new(rt.alloc(), 9);
-    let played = run_script(fresh(&rt), DAY, &mut out).is_ok();
+    let played = play_script(fresh(&rt), DAY, &mut out).is_ok();
     same_at(&rt, (played, out.turns().len()), (true, 4), "told");
     let [first, cut, again, short] = out.turns() else {
         return;
@@ -61,7 +61,7 @@ fn each_line_is_asked_for_over_what_the_last_one_left(rt: HostRuntime) {
 #[test]
 fn an_output_takes_one_reply(rt: HostRuntime) {
     let mut out = Heard::new(rt.alloc(), 1);
-    let Err((fault, left)) = run_script(fresh(&rt), DAY, &mut out) else {
+    let Err((fault, left)) = play_script(fresh(&rt), DAY, &mut out) else {
         return;
     };
     same_at(

@@ -3,7 +3,7 @@ use crate::comparing::{holds, same_at};
 use crate::disks::fresh;
 use crate::sessions::{after, asked, says};
 use d64_image::MemDisk;
-use host_session::{Printer, ScriptFault, run_script};
+use host_session::{ScriptFault, run_script};
 use std::io::{self, Write};
 use std::process::Abort;
 
@@ -32,14 +32,14 @@ impl Write for Stopping {
 
 /// Plays the script into an output that takes as many bytes as this reply, and gives what is on the disk then.
 fn stopped(rt: &(impl Abort + AllocGlobal), script: &[u8], reply: &[u8]) -> MemDisk {
-    let mut out = Printer::new(Stopping {
+    let mut out = Stopping {
         taken: Vec::new(rt.alloc()),
         room: reply.len(),
-    });
+    };
     match run_script(fresh(rt), script, &mut out) {
         Ok(_) => panic!(rt; "the script is played"),
         Err((fault, left)) => {
-            let printed = out.into_inner().taken;
+            let printed = out.taken;
             let told = (fault, fault.number(), printed.as_slice() == reply);
             same_at(rt, told, (ScriptFault::Output, 3, true), "fault");
             left

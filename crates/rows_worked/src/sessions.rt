@@ -2,7 +2,7 @@
 use crate::comparing::{holds, same_at};
 use crate::disks::{clean, fresh, fused, loaded, passed};
 use d64_image::{KeptDisk, MemDisk, Meter, Mirror, Sectors};
-use host_session::{Event, OpenFault, PlayFault, Printer, ScriptFault, Session, play, run_script};
+use host_session::{Event, OpenFault, PlayFault, ScriptFault, Session, play, run_script};
 use request_cards::Reply;
 use std::process::Abort;
 
@@ -45,10 +45,10 @@ pub(crate) fn ran<D: Sectors>(
     disk: D,
     script: &[u8],
 ) -> (Result<(), ScriptFault>, Vec<u8>, D) {
-    let mut out = Printer::new(Vec::new(rt.alloc()));
+    let mut out = Vec::new(rt.alloc());
     match run_script(disk, script, &mut out) {
-        Ok(disk) => (Ok(()), out.into_inner(), disk),
-        Err((fault, disk)) => (Err(fault), out.into_inner(), disk),
+        Ok(disk) => (Ok(()), out, disk),
+        Err((fault, disk)) => (Err(fault), out, disk),
     }
 }
 

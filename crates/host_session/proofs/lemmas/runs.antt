@@ -14,3 +14,4 @@ pub mod EventEnds
 pub mod RunOpenings
 pub mod PlainRuns
 pub mod ScriptFaults
+pub mod LentRuns

@@ -16,6 +16,16 @@ pub record Output (T : Type 0) : Type 1 where
   pub room : T → ℕ
   pub none : (x : T) → told x x []
 
+-- what an output says that stands in another
+abbrev pub output_in : {T U : Type 0} → (T → U) → Output U → Output T
+output_in f o = record {
+  told = λ old new. o.told (f old) (f new);
+  broken_off = λ old new. o.broken_off (f old) (f new);
+  is_handed_on = λ x. o.is_handed_on (f x);
+  room = λ x. o.room (f x);
+  none = λ x. o.none (f x);
+}
+
 -- this reply was told over a disk at this instant, and nothing else
 abbrev pub TellsOne : {T : Type 0} → Output T → T → T → Reply → Instant → Type 0
 TellsOne {T} o old new reply at = (first : T) (xs : List (Reply × Instant)) → o.told first old xs

@@ -13,7 +13,7 @@ use Rattle.host_session.specs.declared.events.hearing.Heard.{Heard}
 use Rattle.host_session.specs.declared.events.hearing.Turn.{Turn}
 use Rattle.host_session.specs.declared.events.printing.Printer.{Printer}
 use Rattle.host_session.specs.events.Instants.{Instant}
-use Rattle.host_session.specs.events.Telling.{Output}
+use Rattle.host_session.specs.events.Telling.{Output, output_in}
 use Rattle.host_session.specs.runs.Chains.{told_in}
 
 -- the writer of a printer
@@ -28,18 +28,21 @@ line_of reply = reply_text reply ++ codes "\n"
 abbrev pub AppendsPart : Option (List ℕ) → Option (List ℕ) → List ℕ → Type 0
 AppendsPart old new bytes = (n : ℕ) × Appends old new (take n bytes)
 
--- Replies were printed, each on a line of its own. A last one that was broken off is there up to some byte. What a
+-- Replies were written, each on a line of its own. A last one that was broken off is there up to some byte. What a
 -- writer holds back no contract of it says.
-abbrev pub printed : {W : Type 0} → (W → Option (List ℕ)) → Output (Printer W)
-printed contents = record {
-  told = λ old new turns. Appends (contents (printer_out old)) (contents (printer_out new)) (report (told_in turns));
+abbrev pub written : {W : Type 0} → (W → Option (List ℕ)) → Output W
+written contents = record {
+  told = λ old new turns. Appends (contents old) (contents new) (report (told_in turns));
   broken_off = λ old new turns last. (n : ℕ)
-      × Appends (contents (printer_out old)) (contents (printer_out new))
-      (report (told_in turns) ++ take n (line_of last.0));
+      × Appends (contents old) (contents new) (report (told_in turns) ++ take n (line_of last.0));
   is_handed_on = λ _. ⊤;
   room = λ _. 0;
-  none = λ p. Appends-nil (contents (printer_out p));
+  none = λ w. Appends-nil (contents w);
 }
+
+-- so were those of a printer, to its writer
+abbrev pub printed : {W : Type 0} → (W → Option (List ℕ)) → Output (Printer W)
+printed contents = output_in printer_out (written contents)
 
 -- Replies were put in a list, behind those that it had, and nowhere else.
 abbrev pub listed : Output (Vec Reply Global)

@@ -1,7 +1,7 @@
 //! Replies that are printed.
 ghost use Rattle.std.specs.Prelude.{◌≡◌, OnErr, OnOk};
 ghost use Rattle.std.specs.Io.KnownBytes.{Appends};
-ghost use Rattle.host_session.specs.runs.Outputs.{AppendsPart, printed, printer_out};
+ghost use Rattle.host_session.specs.runs.Outputs.{AppendsPart, line_of, printed, printer_out};
 
 use crate::events::telling::{NotTaken, Tells};
 use d64_image::Sectors;
@@ -55,13 +55,22 @@ pub fn write_whole<W: Write>(out: &mut W, bytes: &[u8]) -> Result<(), NotTaken>
     Err(NotTaken)
 }
 
+/// Writes a reply on a line of its own, with its LF, in one write.
+#[inline(always)]
+pub(crate) fn write_line<W: Write>(out: &mut W, reply: &Reply) -> Result<(), NotTaken>
+    ensures ok { OnOk result (Appends (W.contents out.old) (W.contents out.new) (line_of reply.now)) }
+    ensures err { OnErr result (AppendsPart (W.contents out.old) (W.contents out.new) (line_of reply.now)) }
+{
+    let mut room = [b'\n'; 44];
+    let start = reply.write(&mut room, 43);
+    write_whole(out, &room[start..])
+}
+
 impl<D: Sectors, W: Write> Tells<D> for Printer<W> {
     ghost output = { printed W.contents };
 
     fn tell(&mut self, reply: &Reply, _disk: &D) -> Result<(), NotTaken> {
-        let mut room = [b'\n'; 44];
-        let start = reply.write(&mut room, 43);
-        write_whole(&mut self.out, &room[start..])
+        write_line(&mut self.out, reply)
     }
 
     // What a flush does with what the writer holds back no contract says.

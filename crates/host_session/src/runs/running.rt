@@ -1,14 +1,17 @@
 //! Runs of scripts.
 ghost use Rattle.std.specs.Prelude.{◌≡◌};
+ghost use Rattle.host_session.specs.runs.Outputs.{written};
 ghost use Rattle.host_session.specs.runs.Faults.{script_fault_of, script_number};
 ghost use Rattle.host_session.specs.runs.ScriptRuns.{IsScriptRun};
 
 use crate::events::asking::OfScript;
+use crate::events::lines::Lines;
 use crate::events::telling::Tells;
 use crate::faults::OpenFault;
 use crate::runs::looping::{LoopFault, run};
 use d64_image::Sectors;
 use script_lines::first_bad_line;
+use std::io::Write;
 use thiserror::Error;
 
 /// Why a script wasn't played to its end.
@@ -54,12 +57,12 @@ fn fault_of(fault: LoopFault) -> ScriptFault
 }
 
 /// Plays the lines of a script one after another, as `play` plays events, and tells each reply before the next line is
-/// played. What comes of it are the clauses of `IsScriptRun`.
+/// played. What comes of it are the clauses of `IsScriptRun`. `run_script` does the same over a writer.
 ///
 /// All lines are judged before anything else is done. It takes no memory. After `Output` the lines played stand, the
 /// one whose reply wasn't taken whole among them. Where the device failed, the last reply is told before `Device` is,
 /// and whether the output took it isn't. It takes up to 430 kB of stack, with resets 940 kB, as measured.
-pub fn run_script<D: Sectors, T: Tells<D>>(
+pub fn play_script<D: Sectors, T: Tells<D>>(
     disk: D,
     script: &[u8],
     out: &mut T,
@@ -74,4 +77,22 @@ pub fn run_script<D: Sectors, T: Tells<D>>(
         Ok(disk) => Ok(disk),
         Err((fault, disk)) => Err((fault_of(fault), disk)),
     }
+}
+
+/// Plays the lines of a script one after another, and writes each reply, on a line that ends with LF, before the next
+/// line is played. The disk is handed back.
+///
+/// `BadLine` of the first bad line, before anything else is done; `Open` where the disk isn't opened: neither writes
+/// anything. `Output` where the writer fails or takes no more: the lines handled so far stand. `Device` where the device
+/// failed: it stops after the first MEDIA, or after a `CUT` whose whole recovery failed, and comes before `Output`. It
+/// takes no memory, and as much stack as `play_script`.
+pub fn run_script<D: Sectors, W: Write>(
+    disk: D,
+    script: &[u8],
+    out: &mut W,
+) -> Result<D, (ScriptFault, D)>
+    ensures { IsScriptRun D.history (written W.contents) disk script.now out.old out.new result }
+{
+    let mut lines = Lines::new(out);
+    play_script(disk, script, &mut lines)
 }

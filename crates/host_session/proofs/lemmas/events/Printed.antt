@@ -8,11 +8,13 @@ use Rattle.std.proofs.KnownBytes.{Appends-trans}
 use Rattle.request_cards.specs.Ledgers.{report}
 use Rattle.request_cards.specs.declared.reply.Reply.{Reply}
 use Rattle.host_session.proofs.lemmas.events.Reports.{written_more}
+use Rattle.host_session.specs.declared.events.lines.Lines.{Lines}
 use Rattle.host_session.specs.declared.events.printing.Printer.{Printer}
 use Rattle.host_session.specs.events.Instants.{Instant}
 use Rattle.host_session.specs.events.Telling.{IsTold}
 use Rattle.host_session.specs.runs.Chains.{told_in}
-use Rattle.host_session.specs.runs.Outputs.{line_of, printed, printer_out}
+use Rattle.host_session.specs.runs.Lent.{written_to}
+use Rattle.host_session.specs.runs.Outputs.{line_of, printed, printer_out, written}
 
 -- so many bytes, and so many more of the rest
 pub take_more : (n m : ℕ) (xs : List ℕ) → take (n + m) xs ≡ take n xs ++ take m (drop n xs)
@@ -27,24 +29,35 @@ pub told_more : {X : Type 0} (xs : List (Reply × X)) (x : Reply × X) → told_
 told_more [] x = refl
 told_more (y ∷ xs) x = ap (λ rs. y.0 ∷ rs) (told_more xs x)
 
--- what a printer was told, by what its writer took
-pub is_printed : {W E : Type 0} (contents : W → Option (List ℕ)) (old new : Printer W) (reply : Reply) (i : Instant)
-    (r : Result Unit E)
-    → OnOk r (Appends (contents (printer_out old)) (contents (printer_out new)) (line_of reply))
-    → OnErr r ((n : ℕ) × Appends (contents (printer_out old)) (contents (printer_out new)) (take n (line_of reply)))
-    → IsTold (printed contents) old new reply i r
-is_printed contents old new reply i (Ok x) wrote failed = (
-  λ first xs before. subst (λ rs. Appends (contents (printer_out first)) (contents (printer_out new)) (report rs))
+-- what a writer was told, by what it took
+pub is_written : {W E : Type 0} (contents : W → Option (List ℕ)) (old new : W) (reply : Reply) (i : Instant)
+    (r : Result Unit E) → OnOk r (Appends (contents old) (contents new) (line_of reply))
+    → OnErr r ((n : ℕ) × Appends (contents old) (contents new) (take n (line_of reply)))
+    → IsTold (written contents) old new reply i r
+is_written contents old new reply i (Ok x) wrote failed = (
+  λ first xs before. subst (λ rs. Appends (contents first) (contents new) (report rs))
       (sym (told_more xs (reply, i)))
-      (written_more (contents (printer_out first)) (contents (printer_out old)) (contents (printer_out new))
-      (told_in xs) reply before wrote),
+      (written_more (contents first) (contents old) (contents new) (told_in xs) reply before wrote),
   omega arith,
 )
-is_printed contents old new reply i (Err x) wrote failed = (
+is_written contents old new reply i (Err x) wrote failed = (
   λ first xs before. (
     failed.0,
-    Appends-trans (contents (printer_out first)) (contents (printer_out old)) (contents (printer_out new))
-        (report (told_in xs)) (take failed.0 (line_of reply)) before failed.1,
+    Appends-trans (contents first) (contents old) (contents new) (report (told_in xs)) (take failed.0 (line_of reply))
+        before failed.1,
   ),
   refl,
 )
+
+-- so a printer, and a writer that is lent
+pub is_printed : {W E : Type 0} (contents : W → Option (List ℕ)) (old new : Printer W) (reply : Reply) (i : Instant)
+    (r : Result Unit E) → IsTold (written contents) (printer_out old) (printer_out new) reply i r
+    → IsTold (printed contents) old new reply i r
+is_printed contents old new reply i (Ok x) told = (λ first xs k. told.0 (printer_out first) xs k, told.1)
+is_printed contents old new reply i (Err x) told = (λ first xs k. told.0 (printer_out first) xs k, told.1)
+
+pub is_lent : {W E : Type 0} (contents : W → Option (List ℕ)) (old new : Lines W) (reply : Reply) (i : Instant)
+    (r : Result Unit E) → new.out.ghost_name ≡ old.out.ghost_name
+    → IsTold (written contents) old.out.now new.out.now reply i r → IsTold (written_to contents) old new reply i r
+is_lent contents old new reply i (Ok x) same told = (λ first xs k. (same ∙ k.0, told.0 first.out.now xs k.1), told.1)
+is_lent contents old new reply i (Err x) same told = (λ first xs k. (same ∙ k.0, told.0 first.out.now xs k.1), told.1)
