@@ -3,8 +3,7 @@ use Rattle.std.specs.Prelude.{◌≡◌, ◌≢◌, ◌⊎◌, ℕ, List, Option
 use Rattle.d64_image.specs.Memory.{sectors_in}
 use Rattle.d64_image.specs.Streams.{stream}
 use Rattle.disk_layout.specs.declared.faults.Fault.{Fault}
-use Rattle.host_session.specs.runs.Outputs.{AppendsPart}
-use Rattle.ledger_cli.specs.Written.{written}
+use Rattle.host_session.specs.runs.Outputs.{AppendsPart, written}
 use Rattle.host_session.specs.session.Opening.{IsAShop}
 use Rattle.ledger_commands.specs.Plays.{IsUntouched}
 use Rattle.ledger_commands.specs.declared.faults.RunFault.TheVariants as run

@@ -1,6 +1,7 @@
 //! The program's commands for other programs: the job that words ask for, and its run over the bytes of its files.
 #![tactic(auto)]
 
+mod playing;
 mod running;
 
 pub use ledger_commands::{DryFault, dry};

@@ -1,6 +1,5 @@
 //! Jobs run over the bytes of their files.
 ghost use Rattle.std.specs.Prelude.{◌≡◌};
-ghost use Rattle.d64_image.specs.Streams.{stream};
 ghost use Rattle.ledger_cli.specs.Runs.{IsFormatted, IsJobRun, IsMade, IsPlayed, IsRead, IsRepaired, IsRun, IsServed};
 ghost use Rattle.ledger_cli.specs.Runs.{IsStored};
 ghost use Rattle.keeper_commands.specs.Makes.{IsNewName};
@@ -9,12 +8,13 @@ ghost use Rattle.ledger_program.specs.Names.{name_bytes};
 ghost use Rattle.rel_records.specs.File.{IsLength};
 ghost use Rattle.std.specs.Prelude.{◌≤◌};
 
+use crate::playing::play_written;
 use disk_layout::Fault;
 use host_session::Printer;
 use ledger_commands::RunFault;
 use ledger_program::{
     Job, Name, Reading, Refusal, drawing_run, drawn_end, end, format_run, job_end, kept_end,
-    make_run, play_run, reading_run, repair_run, serve_run, store_run, taking_run,
+    make_run, reading_run, repair_run, serve_run, store_run, taking_run,
 };
 use std::alloc::Global;
 use std::io::{Seek, Write};
@@ -64,8 +64,7 @@ fn played<F: Write + Seek + Drop, W: Write>(
     let Some(file) = file else {
         return Err(NO_FILE);
     };
-    let mut printer = Printer::new(out);
-    let (_, ended) = play_run(alloc, image, script, file, &mut printer);
+    let (_, ended) = play_written(alloc, image, script, file, out);
     job_end(ended)
 }
 
