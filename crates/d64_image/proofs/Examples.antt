@@ -34,7 +34,6 @@ use Rattle.d64_image.specs.Keeps.{Agrees, put_kept}
 use Rattle.d64_image.specs.Mirrors.{IsMirrored, is_broken, mirror, mirror_file, mirror_writes}
 use Rattle.d64_image.specs.Offsets.{offset_of, overwritten}
 use Rattle.d64_image.specs.OneFaults.{calls_left, fault_place, is_due, one_fault}
-use Rattle.d64_image.specs.Streams.{IsWrittenAt, stream}
 use Rattle.d64_image.specs.declared.sector_file.SectorFile.{Ghosts}
 use Rattle.d64_image.specs.declared.fuse.Fuse.{Fuse}
 use Rattle.d64_image.specs.declared.mem_disk.MemDisk.{MemDisk}
@@ -162,15 +161,6 @@ unknown_agrees_with_each_image img = refl
 
 pub unknown_stays_unknown : (p : Place) (bytes : Sector) → put_kept None p bytes ≡ None
 unknown_stays_unknown p bytes = refl
-
--- so does a file that is written and sought
-pub stream_agrees_with_each_image : {F : Type 0} (file : F) (img : Image) → Agrees (stream.kept file) img
-stream_agrees_with_each_image file img = refl
-
--- a file of which this is known: it stands at 256, and its bytes; a seek and a write brought the byte 7 there
-pub sector_is_written_where_it_was_sought : IsWrittenAt (λ _. Some 256) (λ _. None) (λ bytes. Some bytes) [] (7 ∷ [])
-    256 (7 ∷ [])
-sector_is_written_where_it_was_sought = record { there = []; moved = refl; kept = tt; appended = refl }
 
 -- and one that keeps an image agrees with no other
 pub known_agrees_with_its_image : (img other : Image) → Agrees (Some img) other → img ≡ other

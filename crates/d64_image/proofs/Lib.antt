@@ -11,5 +11,4 @@ pub mod Once
 pub mod OneCalls
 pub mod Places
 pub mod Rows
-pub mod Streams
 pub mod Told

@@ -15,4 +15,3 @@ pub mod Mirrors
 pub mod Offsets
 pub mod OneFaults
 pub mod Places
-pub mod Streams

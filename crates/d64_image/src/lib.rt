@@ -12,7 +12,6 @@ mod one_fault;
 mod place;
 mod sector_file;
 mod sectors;
-mod stream;
 
 pub use count::Count;
 pub use faults::{DeviceFault, ImageFault};

@@ -27,8 +27,7 @@ impl<F: SectorFile> Mirror<F> {
     ghost use Rattle.std.specs.Prelude.{◌↔◌};
     ghost use Rattle.d64_image.specs.Mirrors.{mirror_file, is_broken, mirror_disk, mirror_writes};
 
-    /// A mirror of a disk in a file that keeps the same image, or of which that isn't known, such as any `Write + Seek`:
-    /// then `agrees` holds of itself. Neither is touched.
+    /// A mirror of a disk in a file that keeps the same image, or of which that isn't known. Neither is touched.
     pub fn new(file: F, disk: MemDisk) -> Mirror<F>
         requires agrees { Agrees (F.keeps.kept file) (disk_image disk) }
         ensures file { mirror_file result ≡ file }

@@ -36,6 +36,4 @@ mod recorder_rows;
 #[cfg(test)]
 mod repair_rows;
 #[cfg(test)]
-mod stream_rows;
-#[cfg(test)]
 mod table_rows;
