@@ -1,7 +1,8 @@
 -- What comes of a job that is run over the bytes of its files. All of it is our own.
 use Rattle.std.specs.Prelude.{◌≡◌, ◌≢◌, ◌⊎◌, ℕ, List, Option, None, Some, Result, Ok, Err, IfErr, IsOk, length}
 use Rattle.d64_image.specs.Memory.{sectors_in}
-use Rattle.d64_image.specs.Streams.{stream}
+use Rattle.ledger_cli.specs.Streams.{stream}
+use Rattle.ledger_cli.specs.declared.stream.Stream.{Stream}
 use Rattle.disk_layout.specs.declared.faults.Fault.{Fault}
 use Rattle.host_session.specs.runs.Outputs.{AppendsPart, written}
 use Rattle.host_session.specs.session.Opening.{IsAShop}
@@ -29,6 +30,11 @@ abbrev pub IsOver : {F W : Type 0} → Option F → W → W → JobEnd → (F �
 IsOver None old new end P = (new ≡ old) × (end ≡ Err (refusals.Run run.File))
 IsOver {F} (Some file) old new end P = (after : F) × P file after
 
+-- the same, over its sectors
+abbrev pub IsOverSectors : {F W : Type 0} → Option F → W → W → JobEnd → (Stream F → Stream F → Type 0) → Type 0
+IsOverSectors None old new end P = (new ≡ old) × (end ≡ Err (refusals.Run run.File))
+IsOverSectors {F} (Some file) old new end P = (before after : Stream F) × (before.file ≡ file) × P before after
+
 -- what was asked of these bytes ended so
 abbrev pub IsRead : {W : Type 0} → (W → Option (List ℕ)) → Reading → List ℕ → W → W → JobEnd → Type 0
 IsRead contents what bytes old new end = EndsAs as_job end (IsReadingEnd contents what bytes old new)
@@ -42,7 +48,7 @@ IsFormatted into contents tills file old new end = IsOver file old new end
 -- the play of a script did; of what its file keeps nothing is known
 abbrev pub IsPlayed : {F W : Type 0} → (W → Option (List ℕ)) → (image script : List ℕ) → Option F → W → W → JobEnd
     → Type 0
-IsPlayed contents image script file old new end = IsOver file old new end
+IsPlayed contents image script file old new end = IsOverSectors file old new end
     (λ f after. EndsAs as_job end (IsPlayRun stream (written contents) image script f after old new))
 
 -- A service ended with 1 exactly where the image is no shop's, and then nothing was printed; with 3 where the file or
@@ -56,24 +62,24 @@ pub record IsServiceEnd {F W : Type 0} (image : List ℕ) (file after : F) (old 
   pub quiet : IsOk ended → exit_status ended ≡ 0
 
 abbrev pub IsServed : {F W : Type 0} → List ℕ → Option F → W → W → JobEnd → Type 0
-IsServed image file old new end = IsOver file old new end
+IsServed image file old new end = IsOverSectors file old new end
     (λ f after. EndsAs as_job end (IsServiceEnd image f after old new))
 
 -- a repair did
 abbrev pub IsRepaired : {F W : Type 0} → (W → Option (List ℕ)) → List ℕ → Option F → W → W → JobEnd → Type 0
-IsRepaired contents image file old new end = IsOver file old new end
+IsRepaired contents image file old new end = IsOverSectors file old new end
     (λ f after. EndsAs as_kept end (IsRepairOver stream contents image f after old new))
 
 -- the making of a relative file did
 abbrev pub IsMade : {F W : Type 0} → (W → Option (List ℕ)) → (image name : List ℕ) → ℕ → Option F → W → W → JobEnd
     → Type 0
-IsMade contents image name L file old new end = IsOver file old new end
+IsMade contents image name L file old new end = IsOverSectors file old new end
     (λ f after. EndsAs as_kept end (IsMakeOver stream contents image name L f after old new))
 
 -- the storing of records in one did
 abbrev pub IsStored : {F W : Type 0} → (W → Option (List ℕ)) → (image name text : List ℕ) → Option F → W → W → JobEnd
     → Type 0
-IsStored contents image name text file old new end = IsOver file old new end
+IsStored contents image name text file old new end = IsOverSectors file old new end
     (λ f after. EndsAs as_kept end (IsStoreOver stream contents image name text f after old new))
 
 -- what comes of each job: its run over the bytes that it reads, and over the file that it writes

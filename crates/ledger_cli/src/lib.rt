@@ -3,6 +3,7 @@
 
 mod playing;
 mod running;
+mod stream;
 
 pub use ledger_commands::{DryFault, dry};
 pub use ledger_program::Job;

@@ -9,6 +9,7 @@ ghost use Rattle.rel_records.specs.File.{IsLength};
 ghost use Rattle.std.specs.Prelude.{◌≤◌};
 
 use crate::playing::play_written;
+use crate::stream::Stream;
 use disk_layout::Fault;
 use host_session::Printer;
 use ledger_commands::RunFault;
@@ -64,7 +65,7 @@ fn played<F: Write + Seek + Drop, W: Write>(
     let Some(file) = file else {
         return Err(NO_FILE);
     };
-    let (_, ended) = play_written(alloc, image, script, file, out);
+    let (_, ended) = play_written(alloc, image, script, Stream::new(file), out);
     job_end(ended)
 }
 
@@ -83,7 +84,7 @@ fn served<F: Write + Seek + Drop, W: Write>(
     };
     let mut lines = input;
     let mut printer = Printer::new(out);
-    let (_, ended) = serve_run(alloc, image, file, &mut lines, &mut printer);
+    let (_, ended) = serve_run(alloc, image, Stream::new(file), &mut lines, &mut printer);
     job_end(ended)
 }
 
@@ -99,7 +100,7 @@ fn repaired<F: Write + Seek + Drop, W: Write>(
     let Some(file) = file else {
         return Err(NO_FILE);
     };
-    let (_, ended) = repair_run(alloc, image, file, out);
+    let (_, ended) = repair_run(alloc, image, Stream::new(file), out);
     kept_end(ended)
 }
 
@@ -119,7 +120,14 @@ fn made<F: Write + Seek + Drop, W: Write>(
     let Some(file) = file else {
         return Err(NO_FILE);
     };
-    let (_, ended) = make_run(alloc, image, name.as_bytes(), length, file, out);
+    let (_, ended) = make_run(
+        alloc,
+        image,
+        name.as_bytes(),
+        length,
+        Stream::new(file),
+        out,
+    );
     kept_end(ended)
 }
 
@@ -137,7 +145,14 @@ fn stored<F: Write + Seek + Drop, W: Write>(
     let Some(file) = file else {
         return Err(NO_FILE);
     };
-    let (_, ended) = store_run(alloc, image, name.as_bytes(), records, file, out);
+    let (_, ended) = store_run(
+        alloc,
+        image,
+        name.as_bytes(),
+        records,
+        Stream::new(file),
+        out,
+    );
     kept_end(ended)
 }
 

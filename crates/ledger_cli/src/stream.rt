@@ -1,4 +1,6 @@
 //! Any file that is written and sought, as a file of sectors: what it keeps isn't known.
+ghost use Rattle.std.specs.Prelude.{◌≡◌};
+
 use d64_image::{Place, SectorFile};
 use std::io::{self, Seek, SeekFrom, Write};
 
@@ -10,7 +12,9 @@ pub(crate) struct Stream<F> {
 
 impl<F> Stream<F> {
     /// Sectors go to this file.
-    pub(crate) fn new(file: F) -> Stream<F> {
+    pub(crate) fn new(file: F) -> Stream<F>
+        ensures { result.file ≡ file }
+    {
         Stream { file }
     }
 }
@@ -25,8 +29,7 @@ impl<F: Write + Seek> SectorFile for Stream<F> {
     fn keep(&mut self, place: Place, from: &[u8; 256]) -> io::Result<()>
         ensures { KeepsSector stream self.old self.new place from.now result }
     {
-        self.file
-            .seek(SeekFrom::Start(256 * place.index() as u64))?;
+        self.file.seek(SeekFrom::Start(256 * place.index() as u64))?;
         self.file.write_all(from)?;
         self.file.flush()
     }

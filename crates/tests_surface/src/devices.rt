@@ -1,8 +1,9 @@
 //! Places, images and devices.
 use crate::comparing::same;
-use crate::disks::{at, fresh, zeroed};
-use d64_image::{DeviceFault, Fuse, ImageFault, MemDisk, Meter, Mirror, OneFault, Place, Sectors};
-use std::io::{Cursor, Seek, Write};
+use crate::disks::{at, zeroed};
+use d64_image::{
+    DeviceFault, Fuse, ImageFault, KeptDisk, MemDisk, Meter, Mirror, OneFault, Place, Sectors,
+};
 use std::process::Abort;
 
 /// The parts of a place that the disk has.
@@ -62,18 +63,14 @@ fn devices_stand_on_disks(rt: HostRuntime) {
     same(&rt, fault.into_inner().bytes()[256], 7);
 }
 
-/// Writes a sector through a mirror in this file, and hands both back.
-fn mirrored<F: Write + Seek>(file: F, disk: MemDisk) -> (F, MemDisk) {
-    let mut mirror: Mirror<F> = Mirror::new(file, disk);
-    let _ = mirror.write(at(1, 1), &[5; 256]);
-    mirror.into_inner()
-}
-
+// The file is a disk in memory too.
 #[test]
 fn a_mirror_is_a_file_and_a_disk(rt: HostRuntime) {
-    let bytes = vec![in rt.alloc(); 0; 174_848].expect(&rt, "there is memory");
-    let (file, disk) = mirrored(Cursor::new(bytes), fresh(&rt));
+    let file: KeptDisk<MemDisk> = KeptDisk::new(zeroed(&rt));
+    let mut mirror: Mirror<KeptDisk<MemDisk>> = Mirror::new(file, zeroed(&rt));
+    same(&rt, written(&mut mirror, at(1, 1), 5), (Ok(()), 5));
+    let (file, disk) = mirror.into_inner();
     same(&rt, (disk.bytes()[255], disk.bytes()[256]), (0, 5));
-    let bytes = file.into_inner();
-    same(&rt, (bytes[255], bytes[256]), (0, 5));
+    let kept = file.into_inner();
+    same(&rt, (kept.bytes()[255], kept.bytes()[256]), (0, 5));
 }
