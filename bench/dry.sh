@@ -3,7 +3,7 @@
 #   bench/dry.sh [LINES] [RUNS]
 source "$(dirname "$0")/common.sh"
 lines="${1:-200000}"
-prepare ledger_cli
+prepare ledger
 awk -v lines="$lines" -f "$top/bench/script.awk" >"$work/script.txt"
 
 # a run is short, so twenty are timed together

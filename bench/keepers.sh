@@ -130,6 +130,6 @@ part_pictures() {
 for part in $parts; do
     [ "$chosen" = all ] || [ "$chosen" = "$part" ] || continue
     name="keepers_$part"
-    prepare ledger_cli
+    prepare ledger
     "part_$part"
 done

@@ -6,7 +6,7 @@
 # Both write each sector to the file; the kernel's time is counted too, since most of the work is there.
 source "$(dirname "$0")/common.sh"
 requests="${1:-10000}"
-prepare ledger_cli
+prepare ledger
 "$proved" format "$work/blank.d64" --tills 64 >/dev/null
 awk -v lines="$requests" -f "$top/bench/script.awk" >"$work/requests.txt"
 echo "1,1,S,8819,1" >"$work/growth.txt"

@@ -12,7 +12,7 @@ times=10
 runs="${2:-5}"
 folder="$(mktemp -d "${3:-/var/tmp}/serve.XXXXXX")"
 trap 'rm -rf "$work" "$folder"' EXIT
-prepare ledger_cli
+prepare ledger
 "$top/bench/serve_turns.py" day "$requests" >"$work/day.txt"
 "$proved" format "$work/blank.d64" --tills 64 >/dev/null
 

@@ -1,7 +1,7 @@
 //! A retry-safe stock ledger: the program.
 #![tactic(auto)]
 
-use ledger_words::{Told, program};
+use ledger_cli::{Told, program};
 use std::io::IsTerminal;
 use std::process::ExitCode;
 

@@ -1,0 +1,174 @@
+//! The program's jobs, run over the bytes of their files.
+ghost use Rattle.ledger_program.specs.Jobs.{IsFit};
+
+use crate::comparing::{same, same_at};
+use ledger_cli::{DryFault, Job, JobFault, dry, job, run};
+use std::io::Cursor;
+use std::process::Abort;
+
+/// The number of the fault of words that ask for no job; 0 of others.
+fn fault_of(job: Result<Job<'_>, JobFault>) -> u8 {
+    match job {
+        Ok(_) => 0,
+        Err(fault) => fault.number(),
+    }
+}
+
+#[test]
+fn words_are_refused(rt: HostRuntime) {
+    same(&rt, fault_of(job(rt.alloc(), &["ledger", "list"])), 1);
+    let words = ["ledger", "format", "a.d64", "--tills", "01"];
+    same(&rt, fault_of(job(rt.alloc(), &words)), 2);
+}
+
+/// The parts of a job: its subcommand, its files, and its tills.
+fn parts<'a>(job: &Job<'a>) -> (&'static str, &'a str, &'a str, u8) {
+    match *job {
+        Job::Format { image, tills } => ("format", image, "", tills),
+        Job::List { image } => ("list", image, "", 0),
+        Job::Check { image } => ("check", image, "", 0),
+        Job::Show { image } => ("show", image, "", 0),
+        Job::Play { image, script } => ("play", image, script, 0),
+        Job::Dry { script } => ("dry", "", script, 0),
+        _ => ("another", "", "", 0),
+    }
+}
+
+/// Sees that a job ends with this status, having printed this and told that. What it did to its file is left there.
+fn ends(
+    rt: &(impl Abort + AllocGlobal),
+    job: &Job<'_>,
+    bytes: (&[u8], &[u8]),
+    file: Option<&mut Cursor<Vec<u8>>>,
+    wanted: (u8, &str, &str),
+)
+    requires { IsFit job.now }
+{
+    let (image, script) = bytes;
+    let mut out: Vec<u8> = Vec::new(rt.alloc());
+    let mut err: Vec<u8> = Vec::new(rt.alloc());
+    let status: u8 = run(rt.alloc(), job, image, script, file, &mut out, &mut err);
+    let printed = std::str::from_utf8(out.as_slice()).unwrap_or_default();
+    let told = std::str::from_utf8(err.as_slice()).unwrap_or_default();
+    same_at(rt, (status, printed, told), wanted, parts(job));
+}
+
+/// A file of these bytes, at its start.
+fn file_of(rt: &(impl Abort + AllocGlobal), bytes: &[u8]) -> Cursor<Vec<u8>> {
+    let mut copy = Vec::new(rt.alloc());
+    let _ = copy.extend_from_slice(bytes);
+    Cursor::new(copy)
+}
+
+/// The image of a fresh shop for two tills, as a file.
+fn formatted(rt: &(impl Abort + AllocGlobal)) -> Cursor<Vec<u8>> {
+    let mut file = file_of(rt, b"");
+    let job = Job::Format {
+        image: "a.d64",
+        tills: 2,
+    };
+    ends(
+        rt,
+        &job,
+        (b"", b""),
+        Some(&mut file),
+        (0, "FORMATTED\n", ""),
+    );
+    file
+}
+
+const LISTED: &str =
+    "0 \"STOCK LEDGER\" 01 2A\n2 \"STOCK\" REL\n2 \"REQUESTS\" REL\n660 BLOCKS FREE\n";
+
+#[test]
+fn images_are_made_and_read(rt: HostRuntime) {
+    let image = formatted(&rt).into_inner();
+    let bytes = (image.as_slice(), b"".as_slice());
+    ends(
+        &rt,
+        &Job::List { image: "a.d64" },
+        bytes,
+        None,
+        (0, LISTED, ""),
+    );
+    ends(
+        &rt,
+        &Job::Check { image: "a.d64" },
+        bytes,
+        None,
+        (0, "OK\n", ""),
+    );
+    ends(
+        &rt,
+        &Job::Show { image: "a.d64" },
+        bytes,
+        None,
+        (0, "TOP 9256\n", ""),
+    );
+    let short = (b"D64".as_slice(), b"".as_slice());
+    ends(
+        &rt,
+        &Job::Check { image: "a.d64" },
+        short,
+        None,
+        (1, "", "IMAGE SIZE\n"),
+    );
+}
+
+const PLAY: Job<'static> = Job::Play {
+    image: "a.d64",
+    script: "s.txt",
+};
+
+const SCRIPT: &[u8] = b"1,1,S,42,120\n1,2,I,42,121\n";
+
+const REPLIES: &str = "1,1,DONE,120\n1,2,SHORT,120\n";
+
+const SHOWN: &str =
+    "TOP 9256\nCARD 42,120\nTILL 1,2,I,42,121,SHORT,120\nPRIOR 1,1,S,42,120,DONE,120\n";
+
+#[test]
+fn scripts_are_played(rt: HostRuntime) {
+    let image = formatted(&rt).into_inner();
+    let mut file = file_of(&rt, image.as_slice());
+    let bytes = (image.as_slice(), SCRIPT);
+    ends(&rt, &PLAY, bytes, None, (3, "", "FILE\n"));
+    ends(&rt, &PLAY, bytes, Some(&mut file), (0, REPLIES, ""));
+    let left = file.into_inner();
+    let bytes = (left.as_slice(), b"".as_slice());
+    ends(
+        &rt,
+        &Job::Show { image: "a.d64" },
+        bytes,
+        None,
+        (0, SHOWN, ""),
+    );
+    let bad = (left.as_slice(), b"x\n@x 1,1,S,1,0\n".as_slice());
+    let mut file = file_of(&rt, b"");
+    ends(&rt, &PLAY, bad, Some(&mut file), (1, "", "SCRIPT LINE 2\n"));
+    same(&rt, file.into_inner().len(), 0);
+}
+
+#[test]
+fn scripts_are_played_without_a_disk(rt: HostRuntime) {
+    let asked = Job::Dry { script: "s.txt" };
+    ends(&rt, &asked, (b"", SCRIPT), None, (0, REPLIES, ""));
+    let mut out: Vec<u8> = Vec::new(rt.alloc());
+    let done: Result<(), DryFault> = dry(b"1,1,S,8819,4\n1,2,S,8820,4\n", &mut out);
+    same(&rt, done, Ok(()));
+    same(
+        &rt,
+        out.as_slice(),
+        b"1,1,DONE,4\n1,2,72,DISK FULL\n".as_slice(),
+    );
+    same(
+        &rt,
+        dry(b"@0 1,1,S,1,0\n", &mut out),
+        Err(DryFault::BadLine(1)),
+    );
+    same(
+        &rt,
+        (DryFault::BadLine(1).number(), DryFault::Output.number()),
+        (2, 3),
+    );
+}
