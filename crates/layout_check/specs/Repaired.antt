@@ -7,8 +7,7 @@ use Rattle.disk_layout.specs.InOrder.{GoesOver}
 use Rattle.disk_layout.specs.Layout.{IsLayout, IsSound, Layout, owners}
 use Rattle.disk_layout.specs.Same.{SameFiles}
 use Rattle.disk_layout.specs.declared.faults.Fault.{Fault}
-use Rattle.layout_check.specs.Mended.{IsMended, TellsDevice}
-use Rattle.layout_check.specs.Reads.{ReadsFew}
+use Rattle.layout_check.specs.Mended.{IsMended}
 use Rattle.layout_check.specs.RepairOrder.{ClearsSpare, IsRight, repair_order}
 use Rattle.layout_check.specs.Survey.{IsSurveyOf}
 use Rattle.layout_check.specs.declared.outcome.Survey.{Survey}
@@ -26,17 +25,6 @@ pub record IsRepaired (old new : Image) (s : Survey) : Type 0 where
 -- a call that makes at most n writes: each image held has the files of the old one, if that is sound
 abbrev pub MendsFrom : {D : Type 0} → History D → D → D → ℕ → Type 0
 MendsFrom S old new n = (l : Layout) → IsLayout (S.image old) l → Changes S old new n (IsMended (S.image old) l)
-
--- What comes of mending a sound disk that was surveyed.
-pub record MakesClean {D T : Type 0} (S : History D) (old new : D) (s : Survey) (result : Result T Fault) : Type 0 where
-  pub clean : OnOk result (IsRepaired (S.image old) (S.image new) s)
-  pub moments : MendsFrom S old new 883
-  pub order : (l : Layout) → IsLayout (S.image old) l → GoesOver S old new (IsRight l) (repair_order l)
-  pub spare : ClearsSpare (S.image old) (S.image new)
-  pub failures : TellsDevice S old new result
-  -- a disk that is clean is not written
-  pub quiet : IsClean (S.image old) → WritesNothing S old new
-  pub reads : (l : Layout) → IsLayout (S.image old) l → ReadsFew S old new (19 + 5 * length (owners l)) result
 
 -- What comes of a repair: a sound disk is made clean, and any other is left as it is.
 pub record Repairs {D : Type 0} (S : History D) (old new : D) (result : Result Survey Fault) : Type 0 where

@@ -11,3 +11,4 @@ pub mod RightSides
 pub mod RightSlots
 pub mod RightWrites
 pub mod Rights
+pub mod Strays
