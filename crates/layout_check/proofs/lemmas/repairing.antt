@@ -1,4 +1,5 @@
 -- A repair, and what is right after it.
+pub mod KeepRuns
 pub mod OwnedSums
 pub mod RepairOrder
 pub mod RepairReads
