@@ -9,7 +9,7 @@ use Rattle.disk_layout.specs.Chain.{EachOnce}
 use Rattle.disk_layout.specs.Clean.{IsExactFile}
 use Rattle.disk_layout.specs.Directory.{map_place}
 use Rattle.disk_layout.specs.Fault.{Holds, TellsFault}
-use Rattle.disk_layout.specs.InOrder.{GoesOver}
+use Rattle.disk_layout.specs.InOrder.{AreMade, GoesOver}
 use Rattle.disk_layout.specs.Layout.{IsLayout, IsSound, Layout, is_rel, owners}
 use Rattle.disk_layout.specs.Map.{IsFree, IsMapOf}
 use Rattle.disk_layout.specs.Same.{SameFiles}
@@ -76,6 +76,9 @@ pub record MakesCleanBut {D T : Type 0} (strays : List Place) (S : History D) (o
   pub clean : OnOk result (IsMendedBut strays (S.image old) (S.image new))
   pub moments : MendsFrom S old new 883
   pub order : (l : Layout) → IsLayout (S.image old) l → GoesOver S old new (IsRightBut strays l) (repair_order l)
+  -- at Ok all of these are right, and every other sector is as it was
+  pub made : (l : Layout) → IsLayout (S.image old) l
+      → OnOk result (AreMade (IsRightBut strays l) (repair_order l) (S.image old) (S.image new))
   pub spare : ClearsSpare (S.image old) (S.image new)
   pub failures : TellsDevice S old new result
   -- a disk that is so is not written
@@ -106,6 +109,9 @@ pub record RepairsKeeping {D : Type 0} (S : History D) (old new : D) (result : R
   -- no sector that is right is written, the others once, the map first, then the side sectors, then the directory
   pub order : (l : Layout) (strays : List Place) → IsLayout (S.image old) l → AreStray (S.image old) l strays
       → GoesOver S old new (IsRightBut strays l) (repair_order l)
+  -- at Ok all of these are right, and every other sector is as it was
+  pub made : (l : Layout) (strays : List Place) → IsLayout (S.image old) l → AreStray (S.image old) l strays
+      → OnOk result (AreMade (IsRightBut strays l) (repair_order l) (S.image old) (S.image new))
   pub spare : ClearsSpare (S.image old) (S.image new)
   -- a disk that isn't sound is not written
   pub unsound : (IsSound (S.image old) → ⊥) → OnlyReads S old new 2114

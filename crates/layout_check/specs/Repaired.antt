@@ -3,7 +3,7 @@ use Rattle.d64_image.specs.History.{Changes, History, NeverFailed, OnlyReads, Wr
 use Rattle.d64_image.specs.Images.{Image}
 use Rattle.disk_layout.specs.Clean.{IsClean, IsCleanLayout}
 use Rattle.disk_layout.specs.Fault.{Holds, TellsFault}
-use Rattle.disk_layout.specs.InOrder.{GoesOver}
+use Rattle.disk_layout.specs.InOrder.{AreMade, GoesOver}
 use Rattle.disk_layout.specs.Layout.{IsLayout, IsSound, Layout, owners}
 use Rattle.disk_layout.specs.Same.{SameFiles}
 use Rattle.disk_layout.specs.declared.faults.Fault.{Fault}
@@ -35,6 +35,9 @@ pub record Repairs {D : Type 0} (S : History D) (old new : D) (result : Result S
   pub moments : MendsFrom S old new 883
   -- no sector that is right is written, the others once, the map first, then the side sectors, then the directory
   pub order : (l : Layout) → IsLayout (S.image old) l → GoesOver S old new (IsRight l) (repair_order l)
+  -- at Ok all of these are right, and every other sector is as it was
+  pub made : (l : Layout) → IsLayout (S.image old) l
+      → OnOk result (AreMade (IsRight l) (repair_order l) (S.image old) (S.image new))
   pub spare : ClearsSpare (S.image old) (S.image new)
   -- a disk that isn't sound is not written
   pub unsound : (IsSound (S.image old) → ⊥) → OnlyReads S old new 2114

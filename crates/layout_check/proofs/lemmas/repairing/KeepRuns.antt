@@ -1,14 +1,16 @@
 -- A repair that leaves the strays taken, behind the reads that found them.
 use Rattle.std.proofs.Common.{ℕ, ◌≡◌, ◌+◌, ◌*◌, ◌≤◌, List, Result, length, refl, sym, subst}
+use Rattle.std.specs.Prelude.{OnOk}
+use Rattle.std.proofs.lemmas.Result.{on_ok_weaker}
 use Rattle.d64_image.proofs.Moments.{no_write_then, reads_no_write}
 use Rattle.d64_image.specs.History.{Changes, History, OnlyReads, WritesNothing}
 use Rattle.d64_image.specs.Images.{Image}
 use Rattle.d64_image.specs.declared.place.Place.{Place}
 use Rattle.disk_layout.proofs.lemmas.layouts.Layouts.{IsLayout-one}
-use Rattle.disk_layout.specs.InOrder.{GoesOver}
+use Rattle.disk_layout.specs.InOrder.{AreMade, GoesOver}
 use Rattle.disk_layout.specs.Layout.{IsLayout, Layout, owners}
 use Rattle.disk_layout.specs.declared.faults.Fault.{Fault}
-use Rattle.layout_check.proofs.lemmas.repairing.RepairOrder.{order_after, spare_after}
+use Rattle.layout_check.proofs.lemmas.repairing.RepairOrder.{made_after, order_after, spare_after}
 use Rattle.layout_check.proofs.lemmas.repairing.RepairRuns.{clean_after, mends_after}
 use Rattle.layout_check.proofs.lemmas.repairing.Strays.{frees_over, marks-any}
 use Rattle.layout_check.specs.Keeping.{
@@ -32,6 +34,8 @@ pub record IsKeepRun {D : Type 0} (S : History D) (a b c : D) (result : Result (
   pub frees : Changes S a c 883 (FreesNothing (S.image a))
   pub order : (l : Layout) (strays : List Place) → IsLayout (S.image a) l → AreStray (S.image a) l strays
       → GoesOver S a c (IsRightBut strays l) (repair_order l)
+  pub made : (l : Layout) (strays : List Place) → IsLayout (S.image a) l → AreStray (S.image a) l strays
+      → OnOk result (AreMade (IsRightBut strays l) (repair_order l) (S.image a) (S.image c))
   pub spare : ClearsSpare (S.image a) (S.image c)
   pub quiet : (l : Layout) (strays : List Place) → AreStray (S.image a) l strays
       → IsCleanBut strays (S.image a) l → WritesNothing S a c
@@ -83,6 +87,8 @@ module _ {D : Type 0} (S : History D) (a b : D) (n : ℕ) (reads : OnlyReads S a
       frees = frees_over (S.image a) table.layout table.strays table.are S a c refl
           (moments table.layout table.sound).writes (order table.layout table.strays table.sound table.are);
       order = order;
+      made = λ l strays is are. on_ok_weaker result (λ made. made_after (IsRightBut strays l) l (S.image a) (S.image b)
+          (S.image c) reads.image is made) ((at l strays is are).made l (layout_after l is));
       spare = spare_after S a b c n reads base.spare;
       quiet = λ l strays are clean. no_write_then S a b c (reads_no_write S a b n reads)
           ((at l strays clean.layout are).quiet l (clean_after S strays a b l n reads clean));

@@ -6,7 +6,7 @@ use Rattle.d64_image.proofs.Moments.{at_end}
 use Rattle.d64_image.specs.History.{History, OnlyReads}
 use Rattle.d64_image.specs.Images.{Image, Sector, sector}
 use Rattle.d64_image.specs.declared.place.Place.{Place}
-use Rattle.disk_layout.proofs.lemmas.kept.Orders.{over_more, over_read, over_then}
+use Rattle.disk_layout.proofs.lemmas.kept.Orders.{made_then, over_more, over_read, over_then}
 use Rattle.disk_layout.specs.Directory.{map_place}
 use Rattle.disk_layout.specs.InOrder.{AreMade, GoesOver, IsUnderWay}
 use Rattle.disk_layout.specs.Layout.{IsLayout, Layout}
@@ -30,6 +30,24 @@ spare-later a b c same h changed = let P : Sector → Type 0 = λ x. (track : �
 pub spare_after : {D : Type 0} (S : History D) (a b c : D) (n : ℕ) → OnlyReads S a b n
     → ClearsSpare (S.image b) (S.image c) → ClearsSpare (S.image a) (S.image c)
 spare_after S a b c n reads h = let P : Image → Type 0 = λ i. ClearsSpare i (S.image c) in subst P reads.image h
+
+-- all that is gone over was made right, in three parts
+pub made_all : (Right : Place → Sector → Type 0) (l : Layout) (a b c d : Image) → IsLayout a l
+    → AreMade Right (map_place ∷ []) a b → AreMade Right (sides_of l.files) b c → AreMade Right l.directory c d
+    → AreMade Right (repair_order l) a d
+made_all Right l a b c d is map sides counts =
+    made_then Right (map_place ∷ []) (sides_of l.files ++ l.directory) a b d (order-once a l is) map
+    (made_then Right (sides_of l.files) l.directory b c d (order-once a l is).1 sides counts)
+
+-- made right of the image before the reads
+pub made_after : (Right : Place → Sector → Type 0) (l : Layout) (a b c : Image) → b ≡ a → IsLayout a l
+    → AreMade Right (repair_order l) b c → AreMade Right (repair_order l) a c
+made_after Right l a b c same is made = let Q : Image → Type 0 = λ i. AreMade Right (repair_order l) i c in
+    subst Q same made
+
+-- a layout of the image before the reads is one of the image after them
+pub layout_at : (a b : Image) (l : Layout) → b ≡ a → IsLayout a l → IsLayout b l
+layout_at a b l same is = let P : Image → Type 0 = λ i. IsLayout i l in subst P (sym same) is
 
 module _ {D : Type 0} (S : History D) (Right : Place → Sector → Type 0) (l : Layout) where
   -- after the map, it goes over the side sectors

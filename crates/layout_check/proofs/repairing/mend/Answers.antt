@@ -8,7 +8,7 @@ use Rattle.layout_check.specs.Reads.{owned_by}
 use Rattle.layout_check.specs.RepairOrder.{IsRight, IsRightBut, sides_of}
 use Rattle.layout_check.proofs.lemmas.repairing.OwnedSums.{length-owners}
 use Rattle.layout_check.proofs.lemmas.repairing.RepairReads.{few_after}
-use Rattle.layout_check.proofs.lemmas.repairing.RepairOrder.{order_all, order_map, order_sides, spare_counts}
+use Rattle.layout_check.proofs.lemmas.repairing.RepairOrder.{made_all, order_all, order_map, order_sides, spare_counts}
 use Rattle.layout_check.proofs.lemmas.repairing.RepairOrder.{spare_sides}
 use Rattle.layout_check.proofs.lemmas.repairing.RepairRuns.{counts-at, counts_mend, mends_from, repaired}
 use Rattle.layout_check.proofs.lemmas.repairing.RepairRuns.{sides-at}
@@ -35,6 +35,7 @@ returns-in_err-mend_map g c l strays is marks =
       clean = rw p.1 tt;
       moments = mends_from g.D.Sectors.history _ _ 1 (omega arith) map.mending.mends;
       order = λ m also. order_map g.D.Sectors.history (IsRightBut strays m) m _ _ (map.right m also).over;
+      made = λ m also. rw p.1 tt;
       spare = map.spare;
       failures = rw (p.1, p.2) (c.in_err-mend_map.ensures l strays is marks).mending.failures;
       quiet = λ m clean. map.quiet (clean-map strays _ m clean);
@@ -57,6 +58,7 @@ returns-in_err-mend_entries g c l strays is marks =
           order_sides S (IsRightBut strays m) m _ _ _ also (map.right m also).over (mapped.right m also).made
           (puts_right_but strays m (sides_of m.files) (side-not_map _ m also) S _ _ c.mend_entries.result
           (c.mend_entries.ensures.right m after_map)).over;
+      made = λ m also. rw p.1 tt;
       spare = let after_map = mapped.mending.layouts l is in
           spare_sides S (IsRight l) l _ _ _ after_map map.spare (c.mend_entries.ensures.right l after_map).over;
       failures = rw (p.1, p.2) (device_later S (Unit {0}) c.args.disk.now c.mend_map.new.disk c.mend_entries.new.disk
@@ -106,6 +108,16 @@ returns g c l strays is marks =
           (c.mend_counts.ensures.right m after_sides) in
           order_all S (IsRightBut strays m) m _ _ _ _ also (map.right m also).over (mapped.right m also).made
           sides.over sides.made counts.over;
+      made = λ m also.
+          let after_map = mapped.mending.layouts m also in
+          let after_sides = c.in_ok-mend_entries.ensures.mending.layouts m after_map in
+          on_ok_weaker c.mend_counts.result (λ counted. made_all (IsRightBut strays m) m _ _ _ _ also
+          (mapped.right m also).made
+          (puts_right_but strays m (sides_of m.files) (side-not_map _ m also) S _ _ _
+          (c.in_ok-mend_entries.ensures.right m after_map)).made
+          counted)
+          (puts_right_but strays m m.directory (directory-not_map _ m also) S _ _ c.mend_counts.result
+          (c.mend_counts.ensures.right m after_sides)).made;
       spare = let after_map = mapped.mending.layouts l is in
           let after_sides = c.in_ok-mend_entries.ensures.mending.layouts l after_map in
           spare_counts S (IsRight l) l _ _ _ after_sides

@@ -6,7 +6,7 @@ use Rattle.d64_image.specs.Images.{sector}
 use Rattle.disk_layout.proofs.lemmas.kept.Orders.{over_none}
 use Rattle.disk_layout.specs.Directory.{map_place}
 use Rattle.layout_check.specs.RepairOrder.{IsRight, repair_order}
-use Rattle.layout_check.proofs.lemmas.repairing.RepairOrder.{order_after, spare_after}
+use Rattle.layout_check.proofs.lemmas.repairing.RepairOrder.{layout_at, made_after, order_after, spare_after}
 use Rattle.layout_check.proofs.lemmas.repairing.RepairReads.{repair_few, repair_reads}
 use Rattle.layout_check.proofs.lemmas.repairing.RepairRuns.{
   clean_after,
@@ -39,6 +39,7 @@ returns-in_err-found g c =
       sound = λ never. rw p.1 (c.in_err-found.ensures.sound never);
       moments = mends_none S _ _ 2114 reads;
       order = λ l is. over_none S (IsRight l) (repair_order l) _ _ 2114 reads;
+      made = λ m also. rw p.1 tt;
       spare = λ changed. absurd (changed (ap (λ i. sector i map_place) reads.image));
       unsound = λ not_sound. reads;
       quiet = λ clean. reads_no_write S _ _ 2114 reads;
@@ -61,6 +62,9 @@ returns g c =
       sound = λ never. let l = c.in_ok-found.ensures.ok in (λ _. (l.0, l.1), λ _. refl);
       moments = mends_after S _ _ _ 2114 c.in_ok-found.ensures.reads mends.moments;
       order = λ m also. order_after S (IsRight m) m _ _ _ 2114 also c.survey.ensures.reads (mends.order m);
+      made = λ m also.
+          let same = c.survey.ensures.reads.image in
+          made_after (IsRight m) m _ _ _ same also (mended.made m (layout_at _ _ m same also));
       spare = spare_after S _ _ _ 2114 c.survey.ensures.reads mends.spare;
       unsound = λ not_sound. let l = c.in_ok-found.ensures.ok in absurd (not_sound (l.0, l.1));
       quiet = λ clean.
@@ -88,6 +92,7 @@ returns-in_err-mend g c =
           never);
       moments = mends_after S _ _ _ 2114 c.in_ok-found.ensures.reads mends.moments;
       order = λ m also. order_after S (IsRight m) m _ _ _ 2114 also c.survey.ensures.reads (mends.order m);
+      made = λ m also. rw p.1 tt;
       spare = spare_after S _ _ _ 2114 c.survey.ensures.reads mends.spare;
       unsound = λ not_sound. let l = c.in_ok-found.ensures.ok in absurd (not_sound (l.0, l.1));
       quiet = λ clean.
