@@ -6,6 +6,7 @@ mod byte_printing;
 mod chains;
 mod faults;
 mod judging;
+mod kinds;
 mod last_lines;
 mod laws;
 mod loading;
