@@ -164,11 +164,12 @@ module _ {D : Type 0} (S : History D) where
 
   -- a fault that isn't the device's: the disk isn't sound, and nothing was written
   module _ {W : Type 0} (free : Bool) (image : List ℕ) (a b : D) (w : W) (size : length image ≡ 174848)
-      (unsound : (IsSound (S.image a) → ⊥) → OnlyReads S a b 2114) where
+      (plain : IsPlainDisk (sector (S.image a) map_place)) (unsound : (IsSound (S.image a) → ⊥) → OnlyReads S a b 2114) where
     not-sound : (fault : Fault) → ((p : Place) → fault ≢ faults.Device p) → Holds (S.failed_at b) (S.image a) fault
         → Holds nowhere (S.image a) fault → IsRepairFault free S image a b w w (keep.Layout fault)
     not-sound fault other told holds = (
       size,
+      plain,
       holds,
       reads_no_write S a b 2114 (unsound (λ sound.
           let device = told-sound (S.failed_at b) (S.image a) fault told sound in

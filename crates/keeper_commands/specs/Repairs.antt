@@ -138,7 +138,8 @@ IsRepairFault free S image old new before after keep.Geos =
 IsRepairFault free S image old new before after keep.Format =
     (length image ≡ 174848) × ¬ (HasFormatByte (sector (S.image old) map_place)) × (new ≡ old) × (after ≡ before)
 IsRepairFault free S image old new before after (keep.Layout fault) =
-    (length image ≡ 174848) × Holds nowhere (S.image old) fault × WritesNothing S old new × (after ≡ before)
+    (length image ≡ 174848) × IsPlainDisk (sector (S.image old) map_place) × Holds nowhere (S.image old) fault
+    × WritesNothing S old new × (after ≡ before)
 -- the output failed: the disk is mended
 IsRepairFault free S image old new before after keep.File = (n : ℕ) × IsMendedDisk free S image old new n
 IsRepairFault free S image old new before after keep.Device = IsRepairRun free S image old new × Failed S old new

@@ -40,7 +40,7 @@ returns-in-Err-clause-err g c =
     let run = run-only S c.args.free c.args.image.now c.args.disk.now c.mended.new.disk loaded.0 plain c.mended.result
     c.mended.ensures in
     rw c.refusal.ensures (refused S c.args.free c.args.image.now c.args.disk.now c.mended.new.disk c.args.out.now
-    loaded.0 c.mended.ensures.unsound run c.in-Err.fault c.in-Err.ensures.err c.in-Err.ensures.failures)
+    loaded.0 plain c.mended.ensures.unsound run c.in-Err.fault c.in-Err.ensures.err c.in-Err.ensures.failures)
 
 pub returns-in-Err-put_mended-clause-err : goal.returns-in-Err-put_mended-clause-err
 returns-in-Err-put_mended-clause-err g c =
