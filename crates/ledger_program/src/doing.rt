@@ -66,7 +66,7 @@ pub(crate) fn repaired_end(ended: Result<u16, KeepFault>) -> Result<Option<Fault
     match ended {
         Ok(0) => Ok(None),
         Ok(left) => Err(Refusal::Kept(left)),
-        Err(fault) => Err(Refusal::Keep(fault)),
+        Err(why) => Err(Refusal::Keep(why)),
     }
 }
 
