@@ -49,9 +49,10 @@ Example: ledger serve shop.d64 < messages.txt";
 
 /// What `repair` prints, its statuses, and an example.
 pub(crate) const REPAIR: &str =
-    "Prints MENDED and the place of each sector that it wrote, then OK. All files stay as they are.\n\
-Status 0: clean. 1: the disk isn't sound (LAYOUT, IMAGE SIZE), and wasn't touched. 3: a file, the output or memory\n\
-failed, or IN USE.\n\
+    "Prints MENDED and the place of each sector that it wrote, then OK. All files stay as they are. KEPT n in place of OK\n\
+says that n sectors are taken that no file owns; --free frees them, and prints FREED and the place of each.\n\
+Status 0: clean. 1: KEPT; or the disk isn't sound (LAYOUT, IMAGE SIZE), or is of another kind (GEOS, FORMAT), and wasn't\n\
+touched. 3: a file, the output or memory failed, or IN USE.\n\
 Example: ledger repair old.d64";
 
 /// What `records` prints, its statuses, and an example.
