@@ -1,7 +1,7 @@
 -- What comes of a repair over the file of a mirror, from that over the mirror and whether it is broken.
-use Rattle.std.proofs.Common.{◌≡◌, ◌≢◌, ◌<◌, ◌≤◌, ◌+◌, ◌⊎◌, ℕ, zero, suc, Bool, List, Option, Result, Ok, Err, ap, arith}
+use Rattle.std.proofs.Common.{◌≡◌, ◌≢◌, ◌<◌, ◌≤◌, ◌+◌, ◌⊎◌, ℕ, Bool, true, false, List, Option, Result, Ok, Err, ap, arith}
 use Rattle.std.proofs.Common.{inl, inr, length, refl, subst}
-use Rattle.std.specs.Prelude.{IfErr, IfOk}
+use Rattle.std.specs.Prelude.{IfErr, IfOk, if◌then◌else◌, nat_eq}
 use Rattle.d64_image.proofs.FileRuns.{file_disk, file_failed, held_by_file}
 use Rattle.d64_image.specs.FileDisks.{FileDisk, in_run}
 use Rattle.d64_image.specs.History.{Changes, History, WritesNothing}
@@ -54,12 +54,13 @@ module _ {F W : Type 0} (free : Bool) (K : Keeps F) (contents : W → Option (Li
     size = λ other. absurd (other size);
     refused = tt;
     untouched = tt;
-    statuses = ended n;
+    statuses = ended (nat_eq n 0) refl;
   }
     where
-      ended : (k : ℕ) → (repair_end (Ok k) ≡ 0) ⊎ ((repair_end (Ok k) ≡ 1) ⊎ (repair_end (Ok k) ≡ 3))
-      ended zero = inl refl
-      ended (suc k) = inr (inl refl)
+      ended : (b : Bool) → nat_eq n 0 ≡ b
+          → (repair_end (Ok n) ≡ 0) ⊎ ((repair_end (Ok n) ≡ 1) ⊎ (repair_end (Ok n) ≡ 3))
+      ended true e = inl (ap (λ (is : Bool). if is then 0 else 1) e)
+      ended false e = inr (inl (ap (λ (is : Bool). if is then 0 else 1) e))
 
   -- an image that is refused: nothing was done
   refused : (fault : KeepFault) → keep_status fault ≡ 1 → length image ≡ 174848
