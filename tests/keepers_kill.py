@@ -4,9 +4,9 @@
     tests/keepers_kill.py PROGRAM [KILLS] [SEED] [FOLDER]
 
 PROGRAM is what `tools/program` prints. It is killed (SIGKILL) at random moments, a
-third of KILLS in `repair`, in `store` and in `make`, on a disk with other files; images lie in FOLDER (/var/tmp), which
+third of KILLS in `repair --free`, in `store` and in `make`, on a disk with other files; images lie in FOLDER (/var/tmp), which
 has to be on a disk, so that each sync takes its time. After each kill
-- `check` says OK, or `repair` makes it so, and is killed some times itself before; nobody is told IN USE;
+- `check` says OK, or `repair --free` makes it so, and is killed some times itself before; nobody is told IN USE;
 - all other files are as they were, byte for byte;
 - `repair`: each sector is the old one or the mended one; `make`: the file isn't there, or has empty records;
 - `store`: the records are those of before, grown by empty ones at the most, or some first lines are stored and the next
@@ -57,16 +57,16 @@ class Killer:
         return Disk(self.image.read_bytes())
 
     def heal(self, seconds):
-        """`check` says OK, or `repair` makes it so."""
+        """`check` says OK, or `repair --free` makes it so."""
         status, out, err = run(self.program, "check", self.image)
         if (status, out) == (0, ["OK"]):
             return
         self.healings += 1
         want(status == 1 and not err, f"check ends with {status}, {err}")
         for _ in range(self.draw.choice([0, 0, 1, 2])):
-            _, dead = self.killed(seconds, "repair", self.image)
+            _, dead = self.killed(seconds, "repair", "--free", self.image)
             self.repairs_killed += dead
-        want(sure(self.program, "repair", self.image)[-1:] == ["OK"], "repair doesn't end in OK")
+        want(sure(self.program, "repair", "--free", self.image)[-1:] == ["OK"], "repair doesn't end in OK")
         want(sure(self.program, "check", self.image) == ["OK"], "check isn't OK behind a repair")
 
 
@@ -118,7 +118,7 @@ class Repairs(Killer):
             sector = self.draw.randrange(sectors_of(track))
             self.hurt.put((18, 0), 4 * track + 1 + sector // 8, self.draw.randbytes(1))
         self.image.write_bytes(self.hurt.image)
-        _, self.seconds = self.timed("repair", self.image)
+        _, self.seconds = self.timed("repair", "--free", self.image)
         want(self.without_spare(self.held()) == self.without_spare(self.right), "the mended disk isn't that of before")
         self.right = self.held()
         self.moved = self.right.moved(self.hurt)
@@ -134,7 +134,7 @@ class Repairs(Killer):
 
     def kill(self):
         self.image.write_bytes(self.hurt.image)
-        out, dead = self.killed(1.1 * self.seconds, "repair", self.image)
+        out, dead = self.killed(1.1 * self.seconds, "repair", "--free", self.image)
         held = self.held()
         done = [place for place in self.moved if held.sector(place) == self.right.sector(place)]
         want(all(held.sector(place) == self.hurt.sector(place) for place in self.moved if place not in done),
@@ -146,7 +146,7 @@ class Repairs(Killer):
         self.kills += dead
         self.amid += dead and 0 < len(done) < len(self.moved)
         self.heal(self.seconds)
-        again = sure(self.program, "repair", self.image)
+        again = sure(self.program, "repair", "--free", self.image)
         want(again == ["OK"], f"repair again prints {again}")
         want(self.held().image == self.right.image, f"repaired again, {left} aren't as of a run without a kill")
 

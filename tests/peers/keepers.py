@@ -35,6 +35,16 @@ def sure(*words):
     return out
 
 
+def every_place():
+    return [(track, sector) for track in range(1, 36) for sector in range(sectors_of(track))]
+
+
+def marks_free(disk, place):
+    """Whether the disk's map calls the sector free."""
+    track, sector = place
+    return disk.sector((18, 0))[4 * track + 1 + sector // 8] >> sector % 8 & 1 == 1
+
+
 class Folder:
     """A fresh folder."""
 
@@ -279,8 +289,13 @@ class Keepers:
         moved = right.moved(hurt)
         status, out, _ = run(self.program, "check", image)
         want((status == 0, out == b"OK\n") == (not moved, not moved), f"check of a hurt disk says {out}")
-        told = "".join(f"MENDED {track}/{sector}\n" for track, sector in moved) + "OK\n"
-        want(self.ledger("repair", image) == told.encode(), f"repair tells other sectors than {moved}")
+        freed = [place for place in every_place() if marks_free(right, place) and not marks_free(hurt, place)]
+        lines = sorted([(place, "MENDED") for place in moved] + [(place, "FREED") for place in freed])
+        told = "".join(f"{word} {track}/{sector}\n" for (track, sector), word in lines) + "OK\n"
+        dry = self.ledger("repair", "--free", "--dry-run", image)
+        want(dry == told.encode(), f"a dry repair prints other sectors than {moved} and {freed}")
+        want(image.read_bytes() == bytes(hurt.image), "a dry repair wrote to the image")
+        want(self.ledger("repair", "--free", image) == told.encode(), f"repair prints other sectors than {moved}")
         want(image.read_bytes() == bytes(right.image), "the mended disk isn't that of before")
         want(listed(image) == shown and extracted(image) == files, "a peer reads the mended disk otherwise")
         self.mended += 1

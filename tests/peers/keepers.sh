@@ -4,7 +4,7 @@
 # - relative files of cbmconvert, of each record length from 1 to 254 and of a whole disk, are taken out by `records`, put
 #   by `make` and `store` on a blank disk of cc1541, and taken out again by `records` and by cbmconvert;
 # - files of all types that both made are taken out by `bytes` and by cbmconvert;
-# - disks of both with wrong maps, block counts and side sectors are mended by `repair`, and read again by both;
+# - disks of both with wrong maps, block counts and side sectors are mended by `repair --free`, and read again by both;
 # - names with any bytes are read from disks of cbmconvert, and written for it.
 # What is wanted is made by keepers.py from the bytes that went in. Images lie in memory, since `store` waits for the disk
 # at each sector. Not part of the gate. Run it from anywhere; it wants python3.

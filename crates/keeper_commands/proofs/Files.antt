@@ -63,6 +63,8 @@ load-refused image name (keep.BadLine k) told = absurd told
 load-refused image name keep.DiskFull told = absurd told
 load-refused image name keep.File told = absurd told
 load-refused image name keep.Device told = absurd told
+load-refused image name keep.Geos told = absurd told
+load-refused image name keep.Format told = absurd told
 
 -- where an entry stands among the others in memory
 pub slot-offset : (n count : ℕ) → n < count → count ≤ 144 → n * 35 < 2 ^ 64

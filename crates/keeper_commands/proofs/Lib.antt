@@ -19,5 +19,6 @@ pub mod Printing
 pub mod Reached
 pub mod Repairs
 pub mod Returned
+pub mod SameRepairs
 pub mod TextGrown
 pub mod TextStored

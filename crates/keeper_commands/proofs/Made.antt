@@ -73,3 +73,5 @@ make-unclean S image name L a w (keep.BadLine n) told = absurd told
 make-unclean S image name L a w keep.DiskFull told = absurd told
 make-unclean S image name L a w keep.File told = absurd told
 make-unclean S image name L a w keep.Device told = absurd told
+make-unclean S image name L a w keep.Geos told = absurd told
+make-unclean S image name L a w keep.Format told = absurd told

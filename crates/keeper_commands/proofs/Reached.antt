@@ -25,6 +25,8 @@ store-unclean S image name text a o (keep.BadLine n) told = absurd told
 store-unclean S image name text a o keep.DiskFull told = absurd told
 store-unclean S image name text a o keep.File told = absurd told
 store-unclean S image name text a o keep.Device told = absurd told
+store-unclean S image name text a o keep.Geos told = absurd told
+store-unclean S image name text a o keep.Format told = absurd told
 
 -- the greatest number that lines give is one that the file can have
 greatest-can : (L had : ℕ) (ls : List (List ℕ)) (xs : List NewRecord) → AreLinesOf L had ls xs

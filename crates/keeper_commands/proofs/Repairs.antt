@@ -1,22 +1,27 @@
 -- What comes of the repair of a disk, from what the repair tells and what is read afterwards.
-use Rattle.std.proofs.Common.{◌≡◌, ◌≢◌, ◌≤◌, ◌+◌, ℕ, List, Result, Ok, Err, arith, length, refl, subst, sym}
+use Rattle.std.proofs.Common.{◌≡◌, ◌≢◌, ◌≤◌, ◌+◌, ℕ, Bool, true, false, List, [], Result, Ok, Err, arith, length, refl, subst, sym}
 use Rattle.std.specs.Prelude.{IfErr}
+use Rattle.std.proofs.lemmas.Bool.{false≢true}
 use Rattle.d64_image.proofs.Moments.{at_end, failed_later, reads_no_write, then, weaker}
 use Rattle.d64_image.specs.History.{Changes, HeldOnly, History, OnlyReads, WritesNothing}
 use Rattle.d64_image.specs.Images.{Image, Sector, sector}
 use Rattle.d64_image.specs.declared.place.Place.{Place}
 use Rattle.disk_layout.proofs.lemmas.layouts.Twice.{told-sound}
+use Rattle.disk_layout.specs.Directory.{map_place}
 use Rattle.disk_layout.specs.Fault.{Holds, TellsFault, nowhere}
 use Rattle.disk_layout.specs.InOrder.{GoesOver, IsUnderWay}
 use Rattle.disk_layout.specs.Layout.{IsLayout, IsSound, Layout}
 use Rattle.disk_layout.specs.declared.faults.Fault.{Fault}
 use Rattle.disk_layout.specs.declared.faults.Fault.TheVariants as faults
 use Rattle.layout_check.specs.Mended.{IsMended}
-use Rattle.layout_check.specs.RepairOrder.{ClearsSpare, IsRight, repair_order}
-use Rattle.layout_check.specs.Repaired.{IsRepaired, MendsFrom}
+use Rattle.layout_check.specs.Keeping.{FreesNothing, RepairsKeeping}
+use Rattle.layout_check.specs.RepairOrder.{ClearsSpare, IsRightBut, repair_order}
+use Rattle.layout_check.specs.Repaired.{Repairs}
 use Rattle.layout_check.specs.declared.outcome.Survey.{Survey}
 use Rattle.keeper_commands.specs.Faults.{IsLoadFault}
-use Rattle.keeper_commands.specs.Repairs.{IsMendedDisk, IsRepairFault, IsRepairRun, TellsKeep, repair_fault}
+use Rattle.keeper_commands.specs.Kinds.{IsKindFault, IsPlainDisk}
+use Rattle.keeper_commands.specs.Repairs.{GoesInOrder, IsMendedAs, IsMendedDisk, IsRepairFault, IsRepairRun, MendsAs, TellsKeep}
+use Rattle.keeper_commands.specs.Repairs.{repair_fault}
 use Rattle.keeper_commands.specs.declared.faults.KeepFault.{KeepFault}
 use Rattle.keeper_commands.specs.declared.faults.KeepFault.TheVariants as keep
 
@@ -46,44 +51,125 @@ module _ {D : Type 0} (S : History D) where
     };
   }
 
-  module _ (image : List ℕ) (a b : D) (size : length image ≡ 174848) (moments : MendsFrom S a b 883)
-      (order : (l : Layout) → IsLayout (S.image a) l → GoesOver S a b (IsRight l) (repair_order l))
-      (unsound : (IsSound (S.image a) → ⊥) → OnlyReads S a b 2114) where
+  -- a repair that frees nothing, and one that frees what nobody owns
+  pub kept-mends : (a b : D) (r : Result ℕ Fault) → RepairsKeeping S a b r → MendsAs false S a b r
+  kept-mends a b (Ok n) h = record {
+    ok = record {
+      before = h.ok.before;
+      after = h.ok.after;
+      sound = h.ok.sound;
+      strays = h.ok.strays;
+      are = h.ok.are;
+      count = h.ok.count;
+      clean = h.ok.clean;
+      same = h.ok.same;
+      made = h.made h.ok.before h.ok.strays h.ok.sound h.ok.are;
+    };
+    err = tt;
+    moments = h.moments;
+    frees = λ _. h.frees;
+    order = h.order;
+    spare = h.spare;
+    unsound = h.unsound;
+    failures = h.failures;
+  }
+  kept-mends a b (Err fault) h = record {
+    ok = tt;
+    err = h.err;
+    moments = h.moments;
+    frees = λ _. h.frees;
+    order = h.order;
+    spare = h.spare;
+    unsound = h.unsound;
+    failures = h.failures;
+  }
+
+  freed-order : (a b : D) → ((l : Layout) → IsLayout (S.image a) l
+      → GoesOver S a b (IsRightBut [] l) (repair_order l)) → GoesInOrder true S a b
+  freed-order a b order l strays is are = subst (λ (xs : List Place). GoesOver S a b (IsRightBut xs l) (repair_order l))
+      (sym are) (order l is)
+
+  pub freed-ok : (a b : D) (s : Survey) → Repairs S a b (Ok s) → MendsAs true S a b (Ok 0)
+  freed-ok a b s h = record {
+    ok = record {
+      before = h.ok.before;
+      after = h.ok.after;
+      sound = h.ok.sound;
+      strays = [];
+      are = refl;
+      count = refl;
+      clean = record { layout = h.ok.clean.layout; files = h.ok.clean.files; map = h.ok.clean.map };
+      same = h.ok.same;
+      made = h.made h.ok.before h.ok.sound;
+    };
+    err = tt;
+    moments = h.moments;
+    frees = λ e. absurd (false≢true (sym e));
+    order = freed-order a b h.order;
+    spare = h.spare;
+    unsound = h.unsound;
+    failures = h.failures;
+  }
+
+  pub freed-err : (a b : D) (fault : Fault) → Repairs S a b (Err fault) → MendsAs true S a b (Err fault)
+  freed-err a b fault h = record {
+    ok = tt;
+    err = h.err;
+    moments = h.moments;
+    frees = λ e. absurd (false≢true (sym e));
+    order = freed-order a b h.order;
+    spare = h.spare;
+    unsound = h.unsound;
+    failures = h.failures;
+  }
+
+  module _ (free : Bool) (image : List ℕ) (a b : D) (size : length image ≡ 174848)
+      (plain : IsPlainDisk (sector (S.image a) map_place)) (r : Result ℕ Fault) (mends : MendsAs free S a b r) where
     -- a disk that isn't sound is only read
     left-alone : (IsSound (S.image a) → ⊥) → Changes S a b 0 (λ c. c ≡ S.image a)
     left-alone no_layout =
-        let reads = unsound no_layout in
+        let reads = mends.unsound no_layout in
         let same : S.writes b ≡ S.writes a = reads.writes in
         record { held = reads.held; writes = omega (arith, same) }
 
     -- a repair, and what was read afterwards
-    pub run-quiet : (c : D) → WritesNothing S b c → IsRepairRun S image a c
+    pub run-quiet : (c : D) → WritesNothing S b c → IsRepairRun free S image a c
     run-quiet c quiet = record {
       size = size;
-      moments = λ l is. changes-quiet a b c 883 (IsMended (S.image a) l) (moments l is) quiet;
-      order = λ l is. over-quiet a b c (IsRight l) (repair_order l) (order l is) quiet;
+      plain = plain;
+      moments = λ l is. changes-quiet a b c 883 (IsMended (S.image a) l) (mends.moments l is) quiet;
+      frees = λ kept. changes-quiet a b c 883 (FreesNothing (S.image a)) (mends.frees kept) quiet;
+      order = λ l strays is are. over-quiet a b c (IsRightBut strays l) (repair_order l) (mends.order l strays is are)
+          quiet;
       unsound = λ no_layout. changes-quiet a b c 0 (λ i. i ≡ S.image a) (left-alone no_layout) quiet;
     }
 
-    pub run-only : IsRepairRun S image a b
-    run-only = record { size = size; moments = moments; order = order; unsound = left-alone }
+    pub run-only : IsRepairRun free S image a b
+    run-only = record {
+      size = size;
+      plain = plain;
+      moments = mends.moments;
+      frees = mends.frees;
+      order = mends.order;
+      unsound = left-alone;
+    }
 
-    pub mended-quiet : (c : D) → WritesNothing S b c → (s : Survey) → IsRepaired (S.image a) (S.image b) s
-        → ClearsSpare (S.image a) (S.image b) → IsMendedDisk S image a c
-    mended-quiet c quiet s repaired spare = record {
+    pub mended-quiet : (c : D) → WritesNothing S b c → (n : ℕ) → IsMendedAs free (S.image a) (S.image b) n
+        → IsMendedDisk free S image a c n
+    mended-quiet c quiet n mended = record {
       run = run-quiet c quiet;
-      survey = s;
-      repaired = subst (λ (img : Image). IsRepaired (S.image a) img s) (sym quiet.image) repaired;
-      spare = subst (ClearsSpare (S.image a)) (sym quiet.image) spare;
+      mended = subst (λ (img : Image). IsMendedAs free (S.image a) img n) (sym quiet.image) mended;
+      spare = subst (ClearsSpare (S.image a)) (sym quiet.image) mends.spare;
     }
 
   -- a fault that isn't the device's: the disk isn't sound, and nothing was written
-  module _ {W : Type 0} (image : List ℕ) (a b : D) (w : W) (size : length image ≡ 174848)
-      (unsound : (IsSound (S.image a) → ⊥) → OnlyReads S a b 2114) where
+  module _ {W : Type 0} (free : Bool) (image : List ℕ) (a b : D) (w : W) (size : length image ≡ 174848)
+      (plain : IsPlainDisk (sector (S.image a) map_place)) (unsound : (IsSound (S.image a) → ⊥) → OnlyReads S a b 2114) where
     not-sound : (fault : Fault) → ((p : Place) → fault ≢ faults.Device p) → Holds (S.failed_at b) (S.image a) fault
-        → Holds nowhere (S.image a) fault → IsRepairFault S image a b w w (keep.Layout fault)
+        → Holds nowhere (S.image a) fault → IsRepairFault free S image a b w w (keep.Layout fault)
     not-sound fault other told holds = (
       size,
+      plain,
       holds,
       reads_no_write S a b 2114 (unsound (λ sound.
           let device = told-sound (S.failed_at b) (S.image a) fault told sound in
@@ -91,8 +177,8 @@ module _ {D : Type 0} (S : History D) where
       refl,
     )
 
-    pub refused : (run : IsRepairRun S image a b) (fault : Fault) → Holds (S.failed_at b) (S.image a) fault
-        → TellsFault {T = Survey} S a b (Err fault) → IsRepairFault S image a b w w (repair_fault fault)
+    pub refused : (run : IsRepairRun free S image a b) (fault : Fault) → Holds (S.failed_at b) (S.image a) fault
+        → TellsFault {T = ℕ} S a b (Err fault) → IsRepairFault free S image a b w w (repair_fault fault)
     refused run (faults.BadLink p) told failures = not-sound (faults.BadLink p) (λ q e. cc) told told
     refused run (faults.Loop p) told failures = not-sound (faults.Loop p) (λ q e. cc) told told
     refused run (faults.OwnedTwice p) told failures = not-sound (faults.OwnedTwice p) (λ q e. cc) told told
@@ -105,29 +191,49 @@ module _ {D : Type 0} (S : History D) where
     refused run (faults.Device p) told failures = (run, failures)
 
   -- the image wasn't taken into memory
-  pub load-refused : {W : Type 0} (image : List ℕ) (a : D) (w : W) (fault : KeepFault) → IsLoadFault image fault
-      → IsRepairFault S image a a w w fault
-  load-refused image a w keep.ImageSize told = (told, refl, refl)
-  load-refused image a w keep.NoMemory told = (told, refl, refl)
-  load-refused image a w (keep.Layout fault) told = absurd told
-  load-refused image a w keep.NoFile told = absurd told
-  load-refused image a w keep.FileExists told = absurd told
-  load-refused image a w (keep.BadLine n) told = absurd told
-  load-refused image a w keep.DiskFull told = absurd told
-  load-refused image a w keep.File told = absurd told
-  load-refused image a w keep.Device told = absurd told
+  pub load-refused : {W : Type 0} (free : Bool) (image : List ℕ) (a : D) (w : W) (fault : KeepFault) → IsLoadFault image fault
+      → IsRepairFault free S image a a w w fault
+  load-refused free image a w keep.ImageSize told = (told, refl, refl)
+  load-refused free image a w keep.NoMemory told = (told, refl, refl)
+  load-refused free image a w (keep.Layout fault) told = absurd told
+  load-refused free image a w keep.NoFile told = absurd told
+  load-refused free image a w keep.FileExists told = absurd told
+  load-refused free image a w (keep.BadLine n) told = absurd told
+  load-refused free image a w keep.DiskFull told = absurd told
+  load-refused free image a w keep.File told = absurd told
+  load-refused free image a w keep.Device told = absurd told
+  load-refused free image a w keep.Geos told = absurd told
+  load-refused free image a w keep.Format told = absurd told
+
+  -- the disk is of another kind
+  pub kind-refused : {W : Type 0} (free : Bool) (image : List ℕ) (a : D) (w : W) (fault : KeepFault)
+      → length image ≡ 174848 → IsKindFault (sector (S.image a) map_place) fault
+      → IsRepairFault free S image a a w w fault
+  kind-refused free image a w keep.Geos size told = (size, told, refl, refl)
+  kind-refused free image a w keep.Format size told = (size, told, refl, refl)
+  kind-refused free image a w keep.ImageSize size told = absurd told
+  kind-refused free image a w keep.NoMemory size told = absurd told
+  kind-refused free image a w (keep.Layout fault) size told = absurd told
+  kind-refused free image a w keep.NoFile size told = absurd told
+  kind-refused free image a w keep.FileExists size told = absurd told
+  kind-refused free image a w (keep.BadLine n) size told = absurd told
+  kind-refused free image a w keep.DiskFull size told = absurd told
+  kind-refused free image a w keep.File size told = absurd told
+  kind-refused free image a w keep.Device size told = absurd told
 
   -- the disk was mended, and the output or the device failed then
-  pub print-refused : {W : Type 0} (image : List ℕ) (a b c : D) (v w : W) (r : Result Unit KeepFault)
-      → IsMendedDisk S image a c
-      → S.failures b ≡ S.failures a → TellsKeep S b c r → IfErr r (IsRepairFault S image a c v w)
-  print-refused image a b c v w (Ok x) mended same told = tt
-  print-refused image a b c v w (Err keep.File) mended same told = mended
-  print-refused image a b c v w (Err keep.Device) mended same told = (mended.run, failed_later S a b c same told)
-  print-refused image a b c v w (Err keep.ImageSize) mended same told = absurd told
-  print-refused image a b c v w (Err (keep.Layout fault)) mended same told = absurd told
-  print-refused image a b c v w (Err keep.NoFile) mended same told = absurd told
-  print-refused image a b c v w (Err keep.FileExists) mended same told = absurd told
-  print-refused image a b c v w (Err (keep.BadLine n)) mended same told = absurd told
-  print-refused image a b c v w (Err keep.DiskFull) mended same told = absurd told
-  print-refused image a b c v w (Err keep.NoMemory) mended same told = absurd told
+  pub print-refused : {W : Type 0} (free : Bool) (image : List ℕ) (a b c : D) (v w : W) (r : Result Unit KeepFault)
+      → (n : ℕ) → IsMendedDisk free S image a c n
+      → S.failures b ≡ S.failures a → TellsKeep S b c r → IfErr r (IsRepairFault free S image a c v w)
+  print-refused free image a b c v w (Ok x) n mended same told = tt
+  print-refused free image a b c v w (Err keep.File) n mended same told = (n, mended)
+  print-refused free image a b c v w (Err keep.Device) n mended same told = (mended.run, failed_later S a b c same told)
+  print-refused free image a b c v w (Err keep.ImageSize) n mended same told = absurd told
+  print-refused free image a b c v w (Err (keep.Layout fault)) n mended same told = absurd told
+  print-refused free image a b c v w (Err keep.NoFile) n mended same told = absurd told
+  print-refused free image a b c v w (Err keep.FileExists) n mended same told = absurd told
+  print-refused free image a b c v w (Err (keep.BadLine line)) n mended same told = absurd told
+  print-refused free image a b c v w (Err keep.DiskFull) n mended same told = absurd told
+  print-refused free image a b c v w (Err keep.NoMemory) n mended same told = absurd told
+  print-refused free image a b c v w (Err keep.Geos) n mended same told = absurd told
+  print-refused free image a b c v w (Err keep.Format) n mended same told = absurd told

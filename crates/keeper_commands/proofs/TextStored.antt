@@ -166,6 +166,10 @@ module _ {D W : Type 0} (S : History D) (image name text : List ℕ) (a b : D) (
       absurd (then-stored contents d q u (Err keep.DiskFull) stores).told
   store-refused contents d q u keep.NoMemory stores =
       absurd (then-stored contents d q u (Err keep.NoMemory) stores).told
+  store-refused contents d q u keep.Geos stores =
+      absurd (then-stored contents d q u (Err keep.Geos) stores).told
+  store-refused contents d q u keep.Format stores =
+      absurd (then-stored contents d q u (Err keep.Format) stores).told
 
   module _ (contents : W → Option (List ℕ)) (d : D) (p q : W)
       (u : RelFile)

@@ -19,6 +19,8 @@ keep_status keep.DiskFull = 1
 keep_status keep.File = 3
 keep_status keep.NoMemory = 3
 keep_status keep.Device = 3
+keep_status keep.Geos = 1
+keep_status keep.Format = 1
 
 -- what is told
 abbrev pub keep_text : KeepFault → List ℕ
@@ -31,6 +33,8 @@ keep_text keep.DiskFull = codes "DISK FULL"
 keep_text keep.File = codes "FILE"
 keep_text keep.NoMemory = codes "NO MEMORY"
 keep_text keep.Device = codes "DEVICE"
+keep_text keep.Geos = codes "GEOS"
+keep_text keep.Format = codes "FORMAT"
 
 -- what is told where a call on a relative file isn't done for this fault
 abbrev pub keep_fault : RelFault → KeepFault

@@ -1,20 +1,24 @@
 -- What comes of the repair of a disk, and what is printed of it. Our own.
-use Rattle.std.specs.Prelude.{◌≡◌, ◌≢◌, ℕ, zero, suc, ◌-◌, ◌++◌, List, [], Option, Some, None, Result, Ok, Err}
-use Rattle.std.specs.Prelude.{if◌then◌else◌, codes, length, bytes_eq}
+use Rattle.std.specs.Prelude.{◌≡◌, ◌≢◌, ℕ, zero, suc, ◌-◌, ◌++◌, Bool, true, false, ◌&&◌, not, List, [], Option, Some}
+use Rattle.std.specs.Prelude.{None, Result, Ok, Err, IfErr, IfOk, if◌then◌else◌, codes, decimal, length, bytes_eq, nat_eq}
 use Rattle.std.specs.Io.KnownBytes.{Appends}
-use Rattle.d64_image.specs.History.{Changes, Failed, History, WritesNothing}
-use Rattle.d64_image.specs.Images.{Image, sector}
+use Rattle.d64_image.specs.History.{Changes, Failed, History, OnlyReads, WritesNothing}
+use Rattle.d64_image.specs.Images.{Image, Sector, sector}
 use Rattle.d64_image.specs.Places.{place_at}
 use Rattle.d64_image.specs.declared.place.Place.{Place}
-use Rattle.disk_layout.specs.Fault.{Holds, nowhere}
-use Rattle.disk_layout.specs.InOrder.{GoesOver}
+use Rattle.disk_layout.specs.Directory.{map_place}
+use Rattle.disk_layout.specs.Fault.{Holds, TellsFault, nowhere}
+use Rattle.disk_layout.specs.InOrder.{AreMade, GoesOver}
 use Rattle.disk_layout.specs.Layout.{IsLayout, IsSound, Layout}
+use Rattle.disk_layout.specs.Map.{map_bit}
+use Rattle.disk_layout.specs.Same.{SameFiles}
 use Rattle.disk_layout.specs.Texts.{place_text}
 use Rattle.disk_layout.specs.declared.faults.Fault.{Fault}
 use Rattle.disk_layout.specs.declared.faults.Fault.TheVariants.{Device}
-use Rattle.layout_check.specs.RepairOrder.{ClearsSpare, IsRight, repair_order}
-use Rattle.layout_check.specs.Repaired.{IsRepaired, MendsFrom}
-use Rattle.layout_check.specs.declared.outcome.Survey.{Survey}
+use Rattle.layout_check.specs.Keeping.{AreStray, FreesNothing, IsCleanBut}
+use Rattle.layout_check.specs.RepairOrder.{ClearsSpare, IsRightBut, repair_order}
+use Rattle.layout_check.specs.Repaired.{MendsFrom}
+use Rattle.keeper_commands.specs.Kinds.{HasFormatByte, HasGeosSign, IsPlainDisk}
 use Rattle.keeper_commands.specs.declared.faults.KeepFault.{KeepFault}
 use Rattle.keeper_commands.specs.declared.faults.KeepFault.TheVariants as keep
 
@@ -23,19 +27,32 @@ unfoldable pub up_to : ℕ → (ℕ → List ℕ) → List ℕ
 up_to zero line = []
 up_to (suc n) line = up_to n line ++ line (suc n)
 
--- the line of a sector that the two images have otherwise: MENDED 18/0
-abbrev pub mended_at : Image → Image → Option Place → List ℕ
-mended_at old new None = []
-mended_at old new (Some p) = if bytes_eq (sector old p) (sector new p) then [] else codes "MENDED " ++ place_text p
-    ++ codes "\n"
+-- the one map calls the sector taken, and the other free
+abbrev pub is_freed : Sector → Sector → Place → Bool
+is_freed had has p = not (nat_eq (map_bit had p.track p.sector) 1) && nat_eq (map_bit has p.track p.sector) 1
+
+-- the line of a sector that became free: FREED 2/5
+abbrev pub freed_at : Sector → Sector → Place → List ℕ
+freed_at had has p = if is_freed had has p then codes "FREED " ++ place_text p ++ codes "\n" else []
+
+-- the line of a sector that the two images have otherwise, MENDED 18/0, or that became free by these two maps
+abbrev pub mended_at : Image → Image → Sector → Sector → Option Place → List ℕ
+mended_at old new had has None = []
+mended_at old new had has (Some p) = if bytes_eq (sector old p) (sector new p) then freed_at had has p
+    else codes "MENDED " ++ place_text p ++ codes "\n"
 
 -- the lines of a track's sectors: no track has more than 21
-abbrev pub mended_on : Image → Image → ℕ → List ℕ
-mended_on old new track = up_to 21 (λ n. mended_at old new (place_at track (n - 1)))
+abbrev pub mended_on : Image → Image → Sector → Sector → ℕ → List ℕ
+mended_on old new had has track = up_to 21 (λ n. mended_at old new had has (place_at track (n - 1)))
 
--- what is printed of a repair: a line for each sector that was mended, by track and sector, and then OK
-unfoldable pub mended_text : Image → Image → List ℕ
-mended_text old new = up_to 35 (mended_on old new) ++ codes "OK\n"
+-- how it ends: OK, or KEPT 3 where so many sectors stay taken that nobody owns
+abbrev pub kept_text : ℕ → List ℕ
+kept_text n = if nat_eq n 0 then codes "OK\n" else codes "KEPT " ++ decimal n ++ codes "\n"
+
+-- what is printed of a repair: a line for each sector that was mended or freed, by track and sector, and then how it
+-- ends
+unfoldable pub mended_text : Image → Image → ℕ → List ℕ
+mended_text old new n = up_to 35 (mended_on old new (sector old map_place) (sector new map_place)) ++ kept_text n
 
 -- the output alone is told as File, and a failure of the device alone as Device
 abbrev pub TellsKeep : {D T : Type 0} → History D → D → D → Result T KeepFault → Type 0
@@ -49,35 +66,81 @@ abbrev pub repair_fault : Fault → KeepFault
 repair_fault (Device p) = keep.Device
 repair_fault fault = keep.Layout fault
 
--- Whatever the disk held on the way is sound and has the same files, no right sector was written, the others once at
--- most, in the order of a repair. A disk that isn't sound was left as it is.
-pub record IsRepairRun {D : Type 0} (S : History D) (image : List ℕ) (old new : D) : Type 0 where
-  pub size : length image ≡ 174848
+-- the sectors that stay taken though nobody owns them: none where these are freed, and otherwise all that there are
+abbrev pub AreLeft : (free : Bool) → Image → Layout → List Place → Type 0
+AreLeft true img l strays = strays ≡ []
+AreLeft false img l strays = AreStray img l strays
+
+-- no image held calls a sector free that wasn't, where none is to be freed
+abbrev pub FreesAsAsked : {D : Type 0} → (free : Bool) → History D → D → D → Type 0
+FreesAsAsked free S old new = free ≡ false → Changes S old new 883 (FreesNothing (S.image old))
+
+-- the new image has the files of the old one; it is clean but for the n sectors that are left
+pub record IsMendedAs (free : Bool) (old new : Image) (n : ℕ) : Type 0 where
+  pub before : Layout
+  pub after : Layout
+  pub sound : IsLayout old before
+  pub strays : List Place
+  pub are : AreLeft free old before strays
+  pub count : n ≡ length strays
+  pub clean : IsCleanBut strays new after
+  pub same : SameFiles old new before after
+  -- each sector of a repair is right, and all others, also those that were right, are as they were
+  pub made : AreMade (IsRightBut strays before) (repair_order before) old new
+
+-- no right sector is written, the others once at most, in the order of a repair
+abbrev pub GoesInOrder : {D : Type 0} → (free : Bool) → History D → D → D → Type 0
+GoesInOrder free S old new = (l : Layout) (strays : List Place) → IsLayout (S.image old) l
+    → AreLeft free (S.image old) l strays → GoesOver S old new (IsRightBut strays l) (repair_order l)
+
+-- What comes of mending a disk, its unowned sectors freed or left.
+pub record MendsAs {D : Type 0} (free : Bool) (S : History D) (old new : D) (result : Result ℕ Fault) : Type 0 where
+  pub ok : IfOk result (IsMendedAs free (S.image old) (S.image new))
+  pub err : IfErr result (Holds (S.failed_at new) (S.image old))
   pub moments : MendsFrom S old new 883
-  pub order : (l : Layout) → IsLayout (S.image old) l → GoesOver S old new (IsRight l) (repair_order l)
+  pub frees : FreesAsAsked free S old new
+  pub order : GoesInOrder free S old new
+  pub spare : ClearsSpare (S.image old) (S.image new)
+  pub unsound : (IsSound (S.image old) → ⊥) → OnlyReads S old new 2114
+  pub failures : TellsFault S old new result
+
+-- Whatever the disk held on the way is sound and has the same files, no right sector was written, the others once at
+-- most, in the order of a repair, and no sector became free that wasn't to. A disk that isn't sound was left as it is.
+pub record IsRepairRun {D : Type 0} (free : Bool) (S : History D) (image : List ℕ) (old new : D) : Type 0 where
+  pub size : length image ≡ 174848
+  pub plain : IsPlainDisk (sector (S.image old) map_place)
+  pub moments : MendsFrom S old new 883
+  pub frees : FreesAsAsked free S old new
+  pub order : GoesInOrder free S old new
   pub unsound : ¬ (IsSound (S.image old)) → Changes S old new 0 (λ c. c ≡ S.image old)
 
--- And the disk is clean, with the same files.
-pub record IsMendedDisk {D : Type 0} (S : History D) (image : List ℕ) (old new : D) : Type 0 where
-  pub run : IsRepairRun S image old new
-  pub survey : Survey
-  pub repaired : IsRepaired (S.image old) (S.image new) survey
+-- And the disk is clean but for the n sectors that are left, with the same files.
+pub record IsMendedDisk {D : Type 0} (free : Bool) (S : History D) (image : List ℕ) (old new : D) (n : ℕ) : Type 0 where
+  pub run : IsRepairRun free S image old new
+  pub mended : IsMendedAs free (S.image old) (S.image new) n
   pub spare : ClearsSpare (S.image old) (S.image new)
 
--- the disk was repaired, and what was mended was printed
-pub record IsRepairDone {D W : Type 0} (S : History D) (contents : W → Option (List ℕ)) (image : List ℕ) (old new : D)
-    (before after : W) : Type 0 where
-  pub mended : IsMendedDisk S image old new
-  pub printed : Appends (contents before) (contents after) (mended_text (S.image old) (S.image new))
+-- the disk was repaired, and what was mended and what is left was printed
+pub record IsRepairDone {D W : Type 0} (free : Bool) (S : History D) (contents : W → Option (List ℕ)) (image : List ℕ)
+    (old new : D) (before after : W) (n : ℕ) : Type 0 where
+  pub mended : IsMendedDisk free S image old new n
+  pub printed : Appends (contents before) (contents after) (mended_text (S.image old) (S.image new) n)
 
 -- why a disk isn't repaired, or that not told. Only where the output or the device failed something may have been
 -- printed
-abbrev pub IsRepairFault : {D W : Type 0} → History D → List ℕ → D → D → W → W → KeepFault → Type 0
-IsRepairFault S image old new before after keep.ImageSize = (length image ≢ 174848) × (new ≡ old) × (after ≡ before)
-IsRepairFault S image old new before after keep.NoMemory = (length image ≡ 174848) × (new ≡ old) × (after ≡ before)
-IsRepairFault S image old new before after (keep.Layout fault) =
-    (length image ≡ 174848) × Holds nowhere (S.image old) fault × WritesNothing S old new × (after ≡ before)
+abbrev pub IsRepairFault : {D W : Type 0} → Bool → History D → List ℕ → D → D → W → W → KeepFault → Type 0
+IsRepairFault free S image old new before after keep.ImageSize =
+    (length image ≢ 174848) × (new ≡ old) × (after ≡ before)
+IsRepairFault free S image old new before after keep.NoMemory =
+    (length image ≡ 174848) × (new ≡ old) × (after ≡ before)
+IsRepairFault free S image old new before after keep.Geos =
+    (length image ≡ 174848) × HasGeosSign (sector (S.image old) map_place) × (new ≡ old) × (after ≡ before)
+IsRepairFault free S image old new before after keep.Format =
+    (length image ≡ 174848) × ¬ (HasFormatByte (sector (S.image old) map_place)) × (new ≡ old) × (after ≡ before)
+IsRepairFault free S image old new before after (keep.Layout fault) =
+    (length image ≡ 174848) × IsPlainDisk (sector (S.image old) map_place) × Holds nowhere (S.image old) fault
+    × WritesNothing S old new × (after ≡ before)
 -- the output failed: the disk is mended
-IsRepairFault S image old new before after keep.File = IsMendedDisk S image old new
-IsRepairFault S image old new before after keep.Device = IsRepairRun S image old new × Failed S old new
-IsRepairFault S image old new before after _ = ⊥
+IsRepairFault free S image old new before after keep.File = (n : ℕ) × IsMendedDisk free S image old new n
+IsRepairFault free S image old new before after keep.Device = IsRepairRun free S image old new × Failed S old new
+IsRepairFault free S image old new before after _ = ⊥

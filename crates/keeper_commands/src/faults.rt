@@ -28,6 +28,10 @@ pub enum KeepFault {
     NoMemory,
     /// A sector couldn't be read or written. A disk in memory has no such fault.
     Device,
+    /// The disk is one of GEOS, which keeps sectors that no file owns.
+    Geos,
+    /// The disk's format byte isn't $41, that of the 1541.
+    Format,
 }
 
 impl KeepFault {
@@ -39,6 +43,7 @@ impl KeepFault {
             KeepFault::ImageSize | KeepFault::Layout(_) | KeepFault::NoFile => 1,
             KeepFault::FileExists | KeepFault::BadLine(_) | KeepFault::DiskFull => 1,
             KeepFault::File | KeepFault::NoMemory | KeepFault::Device => 3,
+            KeepFault::Geos | KeepFault::Format => 1,
         }
     }
 }
@@ -57,6 +62,8 @@ impl Display for KeepFault {
             KeepFault::File => f.write_str("FILE"),
             KeepFault::NoMemory => f.write_str("NO MEMORY"),
             KeepFault::Device => f.write_str("DEVICE"),
+            KeepFault::Geos => f.write_str("GEOS"),
+            KeepFault::Format => f.write_str("FORMAT"),
         }
     }
 }

@@ -1,12 +1,14 @@
-//! Laws of records that are stored, each the contract of a function that does nothing.
-ghost use Rattle.std.specs.Prelude.{◌≡◌, ◌≤◌, ◌⊎◌, ◌++◌, ℕ, List, [], drop, length};
+//! Laws of records that are stored, and of repairs, each the contract of a function that does nothing.
+ghost use Rattle.std.specs.Prelude.{◌≡◌, ◌≤◌, ◌⊎◌, ◌++◌, ℕ, Bool, List, [], drop, length};
 ghost use Rattle.std.specs.Io.KnownBytes.{Appends};
 ghost use Rattle.byte_text.specs.Texts.{AreBytes};
 ghost use Rattle.d64_image.specs.History.{WritesNothing};
+ghost use Rattle.d64_image.specs.Images.{Image};
 ghost use Rattle.d64_image.specs.Memory.{sectors_in};
 ghost use Rattle.disk_layout.specs.Layout.{File, record_length};
 ghost use Rattle.disk_layout.specs.Records.{records};
 ghost use Rattle.keeper_commands.specs.Records.{AreRecordsPrinted, IsRecordFile, records_text};
+ghost use Rattle.keeper_commands.specs.Repairs.{IsMendedAs, mended_text};
 ghost use Rattle.keeper_commands.specs.Stores.{
   AreApart,
   AreLinesOf,
@@ -84,6 +86,15 @@ pub fn records_come_back<D: Sectors, W: Write>()
         → (records_had f ≡ length rs)
         ⊎ (length rs ≡ full (record_length f.slot) (blocks_for (record_length f.slot) (length rs)))
         → put_over rs (D.history.image d) f ≡ rs }
+{}
+
+/// Two repairs of one image print the same, and leave as many sectors: what a repair of a copy prints, one of the disk
+/// prints.
+pub fn repairs_print_the_same()
+    ensures text { (free : Bool) (image one other : Image) (m n : ℕ) → IsMendedAs free image one m
+        → IsMendedAs free image other n → mended_text image one m ≡ mended_text image other n }
+    ensures left { (free : Bool) (image one other : Image) (m n : ℕ) → IsMendedAs free image one m
+        → IsMendedAs free image other n → m ≡ n }
 {}
 
 /// A text that was stored, stored once more on the disk that was left, writes and prints nothing.

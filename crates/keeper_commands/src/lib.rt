@@ -6,6 +6,7 @@ mod byte_printing;
 mod chains;
 mod faults;
 mod judging;
+mod kinds;
 mod last_lines;
 mod laws;
 mod loading;
@@ -20,8 +21,8 @@ mod storing;
 pub use byte_printing::bytes_image;
 pub use faults::KeepFault;
 pub use laws::{
-    last_lines_count, printed_records_are_stored, records_come_back, stored_again_is_quiet,
-    stored_records_are_so,
+    last_lines_count, printed_records_are_stored, records_come_back, repairs_print_the_same,
+    stored_again_is_quiet, stored_records_are_so,
 };
 pub use loading::load;
 pub use making::{is_new_name, make_image};

@@ -1,18 +1,23 @@
 //! The repair of a disk, and what is printed of it.
-ghost use Rattle.std.specs.Prelude.{◌≡◌, IfErr, OnOk, Some};
+ghost use Rattle.std.specs.Prelude.{◌≡◌, IfErr, IfOk, OnOk, Some};
 ghost use Rattle.std.specs.Io.KnownBytes.{Appends};
 ghost use Rattle.d64_image.specs.History.{WritesNothing};
+ghost use Rattle.d64_image.specs.Images.{sector};
 ghost use Rattle.d64_image.specs.Memory.{disk_image, sectors_in};
 ghost use Rattle.d64_image.specs.Places.{place_at};
-ghost use Rattle.keeper_commands.specs.Repairs.{IsRepairDone, IsRepairFault, TellsKeep, mended_at, mended_on};
-ghost use Rattle.keeper_commands.specs.Repairs.{mended_text, repair_fault, up_to};
+ghost use Rattle.disk_layout.specs.Directory.{map_place};
+ghost use Rattle.keeper_commands.specs.Repairs.{IsRepairDone, IsRepairFault, MendsAs, TellsKeep, freed_at, kept_text};
+ghost use Rattle.keeper_commands.specs.Repairs.{is_freed as freed, mended_at, mended_on, mended_text, repair_fault};
+ghost use Rattle.keeper_commands.specs.Repairs.{up_to};
+ghost use Rattle.keeper_commands.specs.declared.faults.KeepFault.TheVariants as faults;
 
 use crate::faults::KeepFault;
+use crate::kinds::judge_kind;
 use crate::loading::load;
 use crate::output::{flush, put};
 use d64_image::{MemDisk, Place, Sectors};
-use disk_layout::Fault;
-use layout_check::repair;
+use disk_layout::{BamView, Fault, map_place};
+use layout_check::{repair, repair_keeping};
 use std::alloc::Global;
 use std::io::Write;
 
@@ -22,15 +27,61 @@ const TRACKS: u8 = 35;
 /// How many sectors a track has at most.
 const SECTORS: u8 = 21;
 
-/// Prints the line of a sector, where the two disks have it otherwise.
+/// The maps of a disk before and after its repair: 18/0 as it was, and as it is.
+#[derive(Clone, Copy)]
+struct Maps {
+    had: [u8; 256],
+    has: [u8; 256],
+}
+
+/// The maps of the two disks. `Device` where the second couldn't be read.
+fn maps_of<D: Sectors>(before: &mut MemDisk, after: &mut D) -> Result<Maps, KeepFault>
+    ensures ok { IfOk result (λ maps. (maps.had ≡ sector (disk_image before.old) map_place)
+        × (maps.has ≡ sector (D.history.image after.old) map_place)) }
+    ensures same { disk_image before.new ≡ disk_image before.old }
+    ensures quiet { WritesNothing D.history after.old after.new }
+    ensures told { TellsKeep D.history after.old after.new result }
+{
+    let (mut had, mut has) = ([0; 256], [0; 256]);
+    let _ = before.read(map_place(), &mut had);
+    if after.read(map_place(), &mut has).is_err() {
+        return Err(KeepFault::Device);
+    }
+    Ok(Maps { had, has })
+}
+
+/// Whether the sector was taken and is free now.
+fn is_freed(maps: &Maps, place: Place) -> bool
+    ensures { result ≡ freed maps.now.had maps.now.has place }
+{
+    !BamView::new(&maps.had).is_free(place) && BamView::new(&maps.has).is_free(place)
+}
+
+/// Prints the line of a sector that became free, where it did.
+fn put_freed<W: Write>(out: &mut W, maps: &Maps, place: Place) -> Result<(), KeepFault>
+    ensures ok { OnOk result (Appends (W.contents out.old) (W.contents out.new)
+        (freed_at maps.now.had maps.now.has place)) }
+    ensures err { IfErr result (λ fault. fault ≡ faults.File) }
+{
+    if !is_freed(maps, place) {
+        return Ok(());
+    }
+    if writeln!(out, "FREED {}/{}", place.track(), place.sector()).is_err() {
+        return Err(KeepFault::File);
+    }
+    Ok(())
+}
+
+/// Prints the line of a sector, where the two disks have it otherwise, or where it became free.
 fn put_place<D: Sectors, W: Write>(
     out: &mut W,
     before: &mut MemDisk,
     after: &mut D,
+    maps: &Maps,
     place: Place,
 ) -> Result<(), KeepFault>
     ensures ok { OnOk result (Appends (W.contents out.old) (W.contents out.new)
-        (mended_at (disk_image before.old) (D.history.image after.old) (Some place))) }
+        (mended_at (disk_image before.old) (D.history.image after.old) maps.now.had maps.now.has (Some place))) }
     ensures same { disk_image before.new ≡ disk_image before.old }
     ensures quiet { WritesNothing D.history after.old after.new }
     ensures told { TellsKeep D.history after.old after.new result }
@@ -41,7 +92,7 @@ fn put_place<D: Sectors, W: Write>(
         return Err(KeepFault::Device);
     }
     if old == new {
-        return Ok(());
+        return put_freed(out, maps, place);
     }
     if writeln!(out, "MENDED {}/{}", place.track(), place.sector()).is_err() {
         return Err(KeepFault::File);
@@ -54,17 +105,19 @@ fn put_sector<D: Sectors, W: Write>(
     out: &mut W,
     before: &mut MemDisk,
     after: &mut D,
+    maps: &Maps,
     track: u8,
     sector: u8,
 ) -> Result<(), KeepFault>
     ensures ok { OnOk result (Appends (W.contents out.old) (W.contents out.new)
-        (mended_at (disk_image before.old) (D.history.image after.old) (place_at track sector))) }
+        (mended_at (disk_image before.old) (D.history.image after.old) maps.now.had maps.now.has
+        (place_at track sector))) }
     ensures same { disk_image before.new ≡ disk_image before.old }
     ensures quiet { WritesNothing D.history after.old after.new }
     ensures told { TellsKeep D.history after.old after.new result }
 {
     match Place::new(track, sector) {
-        Some(place) => put_place(out, before, after, place),
+        Some(place) => put_place(out, before, after, maps, place),
         None => Ok(()),
     }
 }
@@ -74,51 +127,69 @@ fn put_track<D: Sectors, W: Write>(
     out: &mut W,
     before: &mut MemDisk,
     after: &mut D,
+    maps: &Maps,
     track: u8,
 ) -> Result<(), KeepFault>
     ensures ok { OnOk result (Appends (W.contents out.old) (W.contents out.new)
-        (mended_on (disk_image before.old) (D.history.image after.old) track)) }
+        (mended_on (disk_image before.old) (D.history.image after.old) maps.now.had maps.now.has track)) }
     ensures same { disk_image before.new ≡ disk_image before.old }
     ensures quiet { WritesNothing D.history after.old after.new }
     ensures told { TellsKeep D.history after.old after.new result }
 {
     for sector in 0..SECTORS {
-        put_sector(out, before, after, track, sector)?;
+        put_sector(out, before, after, maps, track, sector)?;
     }
     Ok(())
 }
 
-/// Prints a line for each sector that the two disks have otherwise, by track and sector.
+/// Prints a line for each sector that the two disks have otherwise or that became free, by track and sector.
 fn put_tracks<D: Sectors, W: Write>(
     out: &mut W,
     before: &mut MemDisk,
     after: &mut D,
+    maps: &Maps,
 ) -> Result<(), KeepFault>
     ensures ok { OnOk result (Appends (W.contents out.old) (W.contents out.new)
-        (up_to 35 (mended_on (disk_image before.old) (D.history.image after.old)))) }
+        (up_to 35 (mended_on (disk_image before.old) (D.history.image after.old) maps.now.had maps.now.has))) }
     ensures same { disk_image before.new ≡ disk_image before.old }
     ensures quiet { WritesNothing D.history after.old after.new }
     ensures told { TellsKeep D.history after.old after.new result }
 {
     for below in 0..TRACKS {
-        put_track(out, before, after, below + 1)?;
+        put_track(out, before, after, maps, below + 1)?;
     }
     Ok(())
 }
 
-/// Prints what was mended, and hands it over.
+/// Prints how a repair ends: `OK`, or `KEPT` and how many sectors stay taken that nobody owns. `File` where it failed.
+fn put_kept<W: Write>(out: &mut W, kept: u16) -> Result<(), KeepFault>
+    ensures ok { OnOk result (Appends (W.contents out.old) (W.contents out.new) (kept_text kept)) }
+    ensures err { IfErr result (λ fault. fault ≡ faults.File) }
+{
+    if kept == 0 {
+        return put(out, b"OK\n");
+    }
+    if writeln!(out, "KEPT {kept}").is_err() {
+        return Err(KeepFault::File);
+    }
+    Ok(())
+}
+
+/// Prints what was mended and what is left, and hands it over.
 fn put_mended<D: Sectors, W: Write>(
     out: &mut W,
     before: &mut MemDisk,
     after: &mut D,
+    kept: u16,
 ) -> Result<(), KeepFault>
     ensures ok { OnOk result (Appends (W.contents out.old) (W.contents out.new)
-        (mended_text (disk_image before.old) (D.history.image after.old))) }
+        (mended_text (disk_image before.old) (D.history.image after.old) kept)) }
     ensures quiet { WritesNothing D.history after.old after.new }
     ensures told { TellsKeep D.history after.old after.new result }
 {
-    put_tracks(out, before, after)?;
-    put(out, b"OK\n")?;
+    let maps = maps_of(before, after)?;
+    put_tracks(out, before, after, &maps)?;
+    put_kept(out, kept)?;
     flush(out)
 }
 
@@ -132,26 +203,48 @@ fn refusal(fault: Fault) -> KeepFault
     }
 }
 
-/// Repairs the disk, and prints `MENDED t/s` for each sector that it changed, by track and sector, and then `OK`.
-/// `image` is what the disk holds: its 174,848 bytes. A sound disk is made clean, with the same files: each sector
-/// that isn't right is written once, and every image that the disk holds on the way is sound and has the same files.
+/// Repairs the disk, its unowned sectors freed or left taken: how many are left.
+fn mended<D: Sectors>(disk: &mut D, free: bool) -> Result<u16, Fault>
+    ensures { MendsAs free D.history disk.old disk.new result }
+{
+    if !free {
+        return repair_keeping(disk);
+    }
+    repair(disk)?;
+    Ok(0)
+}
+
+/// Repairs the disk, and prints `MENDED t/s` for each sector that it changed, and `FREED t/s` for each that it freed, by
+/// track and sector, and then `OK`; or `KEPT n` if n sectors stay taken that no file owns. Returns their number. `image`
+/// is what the disk holds: its 174,848 bytes.
 ///
-/// `ImageSize`, `NoMemory`, and `Layout` where the disk isn't sound, for a fault that holds: nothing was written or
-/// printed then. `Device` where the device failed; what was mended until then stays, and what was printed is open.
-/// `File` where the output failed: the disk is mended.
+/// If `free` is false no sector becomes free: those that the map calls taken and no file owns are left. If it is true
+/// these become free, and none is left. But for what is left a sound disk is made clean, with the same files: each
+/// sector that isn't right is written once, and every image that the disk holds on the way is sound and has the same
+/// files.
+///
+/// `ImageSize`, `NoMemory`, `Geos` if 18/0 has GEOS's signature, `Format` if its format byte isn't $41, and `Layout` if
+/// the disk isn't sound, for a fault that holds: then nothing was written or printed. `Device` if the device failed; what
+/// was mended until then stays, and what was printed is open. `File` if the output failed: the disk is mended.
 pub fn repair_image<D: Sectors, W: Write>(
     alloc: Global,
     image: &[u8],
+    free: bool,
     disk: &mut D,
     out: &mut W,
-) -> Result<(), KeepFault>
+) -> Result<u16, KeepFault>
     requires holds { D.history.image disk.old ≡ sectors_in image.now }
-    ensures ok { OnOk result (IsRepairDone D.history W.contents image.now disk.old disk.new out.old out.new) }
-    ensures err { IfErr result (IsRepairFault D.history image.now disk.old disk.new out.old out.new) }
+    ensures ok { IfOk result
+        (IsRepairDone free D.history W.contents image.now disk.old disk.new out.old out.new) }
+    ensures err { IfErr result (IsRepairFault free D.history image.now disk.old disk.new out.old out.new) }
 {
     let mut before = load(alloc, image)?;
-    if let Err(fault) = repair(disk) {
-        return Err(refusal(fault));
+    judge_kind(&mut before)?;
+    match mended(disk, free) {
+        Err(fault) => Err(refusal(fault)),
+        Ok(kept) => match put_mended(out, &mut before, disk, kept) {
+            Err(fault) => Err(fault),
+            Ok(()) => Ok(kept),
+        },
     }
-    put_mended(out, &mut before, disk)
 }

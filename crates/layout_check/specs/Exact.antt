@@ -7,6 +7,7 @@ use Rattle.std.specs.Prelude.{
   ◌<◌,
   ◌∷◌,
   ◌++◌,
+  [],
   Contains,
   Err,
   IsTrue,
@@ -105,6 +106,10 @@ abbrev pub ToldOfFiles : Image → List File → Option Fault → Type 0
 ToldOfFiles img fs (Some fault) = IsFirstInexactFile img fs fault
 ToldOfFiles img fs None = AllByRecursion (IsCleanFile img) fs
 
+-- the map is that of what is owned, and of the strays
+abbrev pub HasMapBut : List Place → Image → Type 0
+HasMapBut strays img = (l : Layout) → IsLayout img l → IsMapOf (sector img map_place) (strays ++ map_place ∷ owners l)
+
 -- the map is that of what is owned
 abbrev pub HasMap : Image → Type 0
-HasMap img = (l : Layout) → IsLayout img l → IsMapOf (sector img map_place) (map_place ∷ owners l)
+HasMap img = HasMapBut [] img

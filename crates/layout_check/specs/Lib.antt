@@ -1,6 +1,7 @@
 pub mod Calls
 pub mod Entry
 pub mod Exact
+pub mod Keeping
 pub mod Made
 pub mod Marked
 pub mod Mended

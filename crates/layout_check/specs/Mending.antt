@@ -8,11 +8,11 @@ use Rattle.disk_layout.specs.InOrder.{AreMade, GoesOver, WritesOther}
 use Rattle.disk_layout.specs.Layout.{File, IsLayout, Layout, file_owns, owners}
 use Rattle.disk_layout.specs.declared.faults.Fault.{Fault}
 use Rattle.disk_layout.specs.declared.slot.Slot.{Slot}
-use Rattle.layout_check.specs.Exact.{AreExactSides, HasMap}
+use Rattle.layout_check.specs.Exact.{AreExactSides, HasMapBut}
 use Rattle.layout_check.specs.Mended.{AreExactFor, IsExactFor, KeepsBeside, KeepsLayouts, Mends, SameMap, TellsDevice}
 use Rattle.layout_check.specs.Recounted.{AreCounted, AreRightIn, KeepsButCounts, OldOrMended}
 use Rattle.layout_check.specs.Reads.{ReadsFew, is_in, owned_by, owned_if}
-use Rattle.layout_check.specs.RepairOrder.{ClearsSpare, IsRight, sides_of}
+use Rattle.layout_check.specs.RepairOrder.{ClearsSpare, IsRightBut, sides_of}
 
 -- at most n sectors are written, and each image held is mended from the old one; at Ok the layout is the same
 pub record MendsDisk {D T : Type 0} (S : History D) (old new : D) (n : ℕ)
@@ -23,20 +23,25 @@ pub record MendsDisk {D T : Type 0} (S : History D) (old new : D) (n : ℕ)
 
 -- these sectors of an image of this layout are gone over in order, each written once and only where it isn't right,
 -- also where the device fails; at Ok all of them are right, and nothing else changed
-pub record PutsRight {D T : Type 0} (S : History D) (old new : D) (l : Layout) (ps : List Place)
-    (result : Result T Fault) : Type 0 where
-  pub over : GoesOver S old new (IsRight l) ps
-  pub made : OnOk result (AreMade (IsRight l) ps (S.image old) (S.image new))
+pub record PutsRightBut {D T : Type 0} (strays : List Place) (S : History D) (old new : D) (l : Layout)
+    (ps : List Place) (result : Result T Fault) : Type 0 where
+  pub over : GoesOver S old new (IsRightBut strays l) ps
+  pub made : OnOk result (AreMade (IsRightBut strays l) ps (S.image old) (S.image new))
 
--- the map was made right
-pub record MendsMap {D T : Type 0} (S : History D) (old new : D) (result : Result T Fault) : Type 0 where
-  pub map : OnOk result (HasMap (S.image new))
+-- with no strays
+abbrev pub PutsRight : {D T : Type 0} → History D → D → D → Layout → List Place → Result T Fault → Type 0
+PutsRight S old new l ps result = PutsRightBut [] S old new l ps result
+
+-- the map was made right, with these strays
+pub record MendsMap {D T : Type 0} (strays : List Place) (S : History D) (old new : D)
+    (result : Result T Fault) : Type 0 where
+  pub map : OnOk result (HasMapBut strays (S.image new))
   pub mending : MendsDisk S old new 1 result
-  pub right : (l : Layout) → IsLayout (S.image old) l → PutsRight S old new l (map_place ∷ []) result
+  pub right : (l : Layout) → IsLayout (S.image old) l → PutsRightBut strays S old new l (map_place ∷ []) result
   -- in a map that is written, the bits past the tracks' last sectors are 0
   pub spare : ClearsSpare (S.image old) (S.image new)
   -- a map that is right is not written
-  pub quiet : HasMap (S.image old) → WritesNothing S old new
+  pub quiet : HasMapBut strays (S.image old) → WritesNothing S old new
   pub reads : S.reads new ≤ S.reads old + 1
 
 -- the side sectors of a relative entry with these parts were made exact

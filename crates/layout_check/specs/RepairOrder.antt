@@ -1,5 +1,5 @@
 -- Which sectors a repair makes right, and in which order. Our own.
-use Rattle.std.specs.Prelude.{ℕ, ◌≡◌, ◌≢◌, ◌≤◌, ◌++◌, ◌∷◌, List, Some, Contains, IsTrue, flat_map, slice_get}
+use Rattle.std.specs.Prelude.{ℕ, ◌≡◌, ◌≢◌, ◌≤◌, ◌++◌, ◌∷◌, [], List, Some, Contains, IsTrue, flat_map, slice_get}
 use Rattle.d64_image.specs.Images.{Image, Sector, sector}
 use Rattle.d64_image.specs.declared.place.Place.{Place}
 use Rattle.disk_layout.specs.Directory.{map_place, slot_in}
@@ -9,14 +9,18 @@ use Rattle.disk_layout.specs.Side.{side_sector}
 use Rattle.layout_check.specs.Made.{HasNoSpare}
 use Rattle.layout_check.specs.Recounted.{owned_count}
 
--- a check finds nothing wrong in these bytes at p, in an image of this layout: neither in a map, nor in a side sector,
--- nor in the block counts of a directory sector
-pub record IsRight (l : Layout) (p : Place) (bytes : Sector) : Type 0 where
-  pub map : p ≡ map_place → IsMapOf bytes (map_place ∷ owners l)
+-- these bytes at p are right in an image of this layout whose map calls the strays taken too: as a map, as a side
+-- sector, and in the block counts of a directory sector
+pub record IsRightBut (strays : List Place) (l : Layout) (p : Place) (bytes : Sector) : Type 0 where
+  pub map : p ≡ map_place → IsMapOf bytes (strays ++ map_place ∷ owners l)
   pub side : (f : File) (j : ℕ) → Contains l.files f → IsTrue (is_rel f.slot) → slice_get f.sides j ≡ Some p
       → bytes ≡ side_sector j f.blocks f.sides (record_length f.slot)
   pub counts : (f : File) → Contains l.files f → IsTrue (is_rel f.slot) → f.slot.sector ≡ p
       → count_field (slot_in p bytes f.slot.number) ≡ owned_count f
+
+-- a check finds nothing wrong in these bytes at p, in an image of this layout
+abbrev pub IsRight : Layout → Place → Sector → Type 0
+IsRight l p bytes = IsRightBut [] l p bytes
 
 -- the side sectors of these files, in the order of the directory and by number
 abbrev pub sides_of : List File → List Place

@@ -3,12 +3,11 @@ use Rattle.d64_image.specs.History.{Changes, History, NeverFailed, OnlyReads, Wr
 use Rattle.d64_image.specs.Images.{Image}
 use Rattle.disk_layout.specs.Clean.{IsClean, IsCleanLayout}
 use Rattle.disk_layout.specs.Fault.{Holds, TellsFault}
-use Rattle.disk_layout.specs.InOrder.{GoesOver}
+use Rattle.disk_layout.specs.InOrder.{AreMade, GoesOver}
 use Rattle.disk_layout.specs.Layout.{IsLayout, IsSound, Layout, owners}
 use Rattle.disk_layout.specs.Same.{SameFiles}
 use Rattle.disk_layout.specs.declared.faults.Fault.{Fault}
-use Rattle.layout_check.specs.Mended.{IsMended, TellsDevice}
-use Rattle.layout_check.specs.Reads.{ReadsFew}
+use Rattle.layout_check.specs.Mended.{IsMended}
 use Rattle.layout_check.specs.RepairOrder.{ClearsSpare, IsRight, repair_order}
 use Rattle.layout_check.specs.Survey.{IsSurveyOf}
 use Rattle.layout_check.specs.declared.outcome.Survey.{Survey}
@@ -27,17 +26,6 @@ pub record IsRepaired (old new : Image) (s : Survey) : Type 0 where
 abbrev pub MendsFrom : {D : Type 0} → History D → D → D → ℕ → Type 0
 MendsFrom S old new n = (l : Layout) → IsLayout (S.image old) l → Changes S old new n (IsMended (S.image old) l)
 
--- What comes of mending a sound disk that was surveyed.
-pub record MakesClean {D T : Type 0} (S : History D) (old new : D) (s : Survey) (result : Result T Fault) : Type 0 where
-  pub clean : OnOk result (IsRepaired (S.image old) (S.image new) s)
-  pub moments : MendsFrom S old new 883
-  pub order : (l : Layout) → IsLayout (S.image old) l → GoesOver S old new (IsRight l) (repair_order l)
-  pub spare : ClearsSpare (S.image old) (S.image new)
-  pub failures : TellsDevice S old new result
-  -- a disk that is clean is not written
-  pub quiet : IsClean (S.image old) → WritesNothing S old new
-  pub reads : (l : Layout) → IsLayout (S.image old) l → ReadsFew S old new (19 + 5 * length (owners l)) result
-
 -- What comes of a repair: a sound disk is made clean, and any other is left as it is.
 pub record Repairs {D : Type 0} (S : History D) (old new : D) (result : Result Survey Fault) : Type 0 where
   pub ok : IfOk result (IsRepaired (S.image old) (S.image new))
@@ -47,6 +35,9 @@ pub record Repairs {D : Type 0} (S : History D) (old new : D) (result : Result S
   pub moments : MendsFrom S old new 883
   -- no sector that is right is written, the others once, the map first, then the side sectors, then the directory
   pub order : (l : Layout) → IsLayout (S.image old) l → GoesOver S old new (IsRight l) (repair_order l)
+  -- at Ok all of these are right, and every other sector is as it was
+  pub made : (l : Layout) → IsLayout (S.image old) l
+      → OnOk result (AreMade (IsRight l) (repair_order l) (S.image old) (S.image new))
   pub spare : ClearsSpare (S.image old) (S.image new)
   -- a disk that isn't sound is not written
   pub unsound : (IsSound (S.image old) → ⊥) → OnlyReads S old new 2114

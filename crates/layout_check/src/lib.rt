@@ -5,6 +5,7 @@ mod blocks;
 mod checking;
 mod entry;
 mod files;
+mod keeping;
 mod maps;
 mod mending;
 mod outcome;
@@ -17,5 +18,5 @@ mod surveying;
 
 pub use checking::check;
 pub use outcome::Survey;
-pub use repairing::repair;
+pub use repairing::{repair, repair_keeping};
 pub use surveying::survey;

@@ -1,15 +1,15 @@
 //! The map and the side sectors that a sound disk is to have, each written where the disk has another.
-ghost use Rattle.std.specs.Prelude.{◌≤◌, IsTrue, length};
+ghost use Rattle.std.specs.Prelude.{◌≤◌, IsTrue, List, length};
+ghost use Rattle.d64_image.specs.declared.place.Place.{Place};
 ghost use Rattle.disk_layout.specs.Free.{IsWithoutFree};
-ghost use Rattle.disk_layout.specs.Layout.{IsSound, is_rel};
+ghost use Rattle.disk_layout.specs.Layout.{IsLayout, IsSound, Layout, is_rel};
 ghost use Rattle.layout_check.specs.Exact.{IsFiled};
+ghost use Rattle.layout_check.specs.Keeping.{MarksTaken};
 ghost use Rattle.layout_check.specs.Made.{IsMadeMap, IsMadeTrack};
 ghost use Rattle.layout_check.specs.Mended.{IsPartsOf};
 ghost use Rattle.layout_check.specs.Mending.{MendsEntries, MendsEntry, MendsMap, MendsSides};
-ghost use Rattle.layout_check.specs.Survey.{IsToldBy};
 
 use crate::maps::check_bits;
-use crate::outcome::Survey;
 use crate::owners::Owners;
 use crate::parts::Parts;
 use crate::sides::find_parts;
@@ -47,17 +47,17 @@ fn map_of(old: &[u8; 256], owners: &Owners) -> [u8; 256]
     map.bytes
 }
 
-/// Gives a sound disk that was surveyed the map that it is to have, where it has another.
-pub(crate) fn mend_map<D: Sectors>(disk: &mut D, found: &Survey) -> Result<(), Fault>
-    requires { IsToldBy (D.history.image disk.old) found.now }
-    ensures { MendsMap D.history disk.old disk.new result }
+/// Gives a sound disk the map that calls the sectors taken which have an owner in this table, where it has another.
+pub(crate) fn mend_map<D: Sectors>(disk: &mut D, taken: &Owners) -> Result<(), Fault>
+    ensures { (l : Layout) (strays : List Place) → IsLayout (D.history.image disk.old) l
+        → MarksTaken taken.now l strays → MendsMap strays D.history disk.old disk.new result }
 {
     let mut map = [0u8; 256];
     read_sector(disk, map_place(), &mut map)?;
-    if check_bits(&map, found.owners()).is_ok() {
+    if check_bits(&map, taken).is_ok() {
         return Ok(());
     }
-    let wanted = map_of(&map, found.owners());
+    let wanted = map_of(&map, taken);
     write_other(disk, map_place(), &map, &wanted)
 }
 

@@ -51,6 +51,13 @@ impl Survey {
         Survey { owners, entries }
     }
 
+    /// The table of owners, for the caller.
+    pub(crate) fn into_owners(self) -> Owners
+        ensures { result ≡ self.owners }
+    {
+        self.owners
+    }
+
     /// The table of owners.
     pub(crate) fn owners(&self) -> &Owners
         ensures { result.now ≡ self.now.owners }

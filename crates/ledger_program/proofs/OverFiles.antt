@@ -101,13 +101,13 @@ module _ {F : Type 0} {G : Ghosts F} (start : Mirror F G) (sound : is_broken sta
       }
 
 -- what holds of the file that is handed back, and of what is told of it, by whether the mirror broke
-pub handed-back : {F : Type 0} {G : Ghosts F} (P : F → F → Result Unit KeepFault → Type 0) (start b : Mirror F G)
+pub handed-back : {F T : Type 0} {G : Ghosts F} (P : F → F → Result T KeepFault → Type 0) (start b : Mirror F G)
     (file : F)
-    (r : Result Unit KeepFault) (out : F × Result Unit KeepFault) → start.file ≡ file → out.0 ≡ b.file
+    (r : Result T KeepFault) (out : F × Result T KeepFault) → start.file ≡ file → out.0 ≡ b.file
     → (is_broken b → P start.file b.file (Err keep.Device)) → ((is_broken b → ⊥) → P start.file b.file r)
     → (is_broken b × (out.1 ≡ Err keep.Device)) ⊎ ((is_broken b → ⊥) × (out.1 ≡ r)) → P file out.0 out.1
-handed-back P start b file r out first after broken whole end =
-    let from : (e : Result Unit KeepFault) → out.1 ≡ e → P start.file b.file e → P file out.0 out.1 =
+handed-back {F} {T} P start b file r out first after broken whole end =
+    let from : (e : Result T KeepFault) → out.1 ≡ e → P start.file b.file e → P file out.0 out.1 =
     λ e is p. subst (λ f. P f out.0 out.1) first
     (subst (λ a. P start.file a out.1) (sym after) (subst (λ x. P start.file b.file x) (sym is) p)) in
     ⊎_elim (λ x. from _ x.1 (broken x.0)) (λ x. from r x.1 (whole x.0)) end

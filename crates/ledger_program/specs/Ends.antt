@@ -1,5 +1,6 @@
 -- How a job ends, and the program's exit status then. All of it is our own.
-use Rattle.std.specs.Prelude.{ℕ, List, ◌++◌, Option, Some, None, Result, Ok, Err, codes}
+use Rattle.std.specs.Prelude.{ℕ, Bool, true, false, if◌then◌else◌, List, [], ◌++◌, Option, Some, None}
+use Rattle.std.specs.Prelude.{Result, Ok, Err, codes, decimal, nat_eq}
 use Rattle.std.specs.IoError.{error_kind}
 use Rattle.std.specs.declared.fs.locks.TryLockError.{TryLockError}
 use Rattle.std.specs.declared.fs.locks.TryLockError.TheVariants as locks
@@ -24,6 +25,7 @@ refusal_status (refusals.Run fault) = run_status fault
 refusal_status (refusals.Keep fault) = keep_status fault
 refusal_status (refusals.Draw fault) = picture_status fault
 refusal_status refusals.InUse = 3
+refusal_status (refusals.Kept n) = 1
 
 -- what is told of it
 abbrev pub refusal_text : Refusal → List ℕ
@@ -31,10 +33,19 @@ refusal_text (refusals.Run fault) = run_text fault
 refusal_text (refusals.Keep fault) = keep_text fault
 refusal_text (refusals.Draw fault) = picture_text fault
 refusal_text refusals.InUse = codes "IN USE"
+refusal_text (refusals.Kept n) = codes "KEPT " ++ decimal n
+
+-- it is told on standard error: all but what the output has told
+abbrev pub is_told : Refusal → Bool
+is_told (refusals.Run fault) = true
+is_told (refusals.Keep fault) = true
+is_told (refusals.Draw fault) = true
+is_told refusals.InUse = true
+is_told (refusals.Kept n) = false
 
 -- the line in which it is told
 abbrev pub refusal_line : Refusal → List ℕ
-refusal_line refusal = refusal_text refusal ++ codes "\n"
+refusal_line refusal = if is_told refusal then refusal_text refusal ++ codes "\n" else []
 
 -- what is told where a file isn't locked
 abbrev pub lock_refusal : TryLockError → Refusal
@@ -87,6 +98,11 @@ as_job (Err fault) = Err (refusals.Run fault)
 abbrev pub as_kept : Result Unit KeepFault → JobEnd
 as_kept (Ok _) = Ok None
 as_kept (Err fault) = Err (refusals.Keep fault)
+
+-- what came of a repair, as a job's end: so many sectors are left, or it wasn't done
+abbrev pub as_repaired : Result ℕ KeepFault → JobEnd
+as_repaired (Ok n) = if nat_eq n 0 then Ok None else Err (refusals.Kept n)
+as_repaired (Err fault) = Err (refusals.Keep fault)
 
 -- what came of a drawing, as a job's end
 abbrev pub as_drawn : Result (Option Fault) PictureFault → JobEnd

@@ -3,7 +3,7 @@ ghost use Rattle.std.specs.Prelude.{◌≡◌, ◌≤◌, IfErr, IfOk, IfSome, E
 ghost use Rattle.std.specs.IoError.{error_kind};
 ghost use Rattle.ledger_commands.specs.Durable.{IsSynced};
 ghost use Rattle.ledger_commands.specs.Faults.{io_fault};
-ghost use Rattle.ledger_program.specs.Ends.{as_drawn, as_job, as_kept, told_of};
+ghost use Rattle.ledger_program.specs.Ends.{as_drawn, as_job, as_kept, as_repaired, told_of};
 ghost use Rattle.ledger_program.specs.Jobs.{IsFit, needed};
 ghost use Rattle.ledger_program.specs.Runs.{IsReadingEnd, IsReadingOf};
 
@@ -56,6 +56,17 @@ pub fn kept_end(ended: Result<(), KeepFault>) -> Result<Option<Fault>, Refusal>
     match ended {
         Ok(()) => Ok(None),
         Err(fault) => Err(Refusal::Keep(fault)),
+    }
+}
+
+/// What came of a repair, as a job's end: so many sectors are left.
+pub(crate) fn repaired_end(ended: Result<u16, KeepFault>) -> Result<Option<Fault>, Refusal>
+    ensures { result ≡ as_repaired ended }
+{
+    match ended {
+        Ok(0) => Ok(None),
+        Ok(left) => Err(Refusal::Kept(left)),
+        Err(why) => Err(Refusal::Keep(why)),
     }
 }
 
@@ -242,7 +253,7 @@ where
 }
 
 /// The bytes of the image at a path, which nobody writes while it is read, or of standard input.
-fn image_at<F, R>(rt: &R, path: &str) -> Result<Vec<u8>, Refusal>
+pub(crate) fn image_at<F, R>(rt: &R, path: &str) -> Result<Vec<u8>, Refusal>
 where
     F: Read + Locks + Drop,
     R: Files<File = F> + Input + AllocGlobal,
@@ -315,7 +326,12 @@ where
             durability,
             ..
         } => do_serving(rt, image, durability, out),
-        Job::Repair { image, .. } => do_repair(rt, image, out),
+        Job::Repair {
+            image,
+            unowned,
+            effect,
+            ..
+        } => do_repair(rt, image, unowned, effect, out),
         Job::Make {
             image,
             ref name,

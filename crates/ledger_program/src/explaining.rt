@@ -33,6 +33,8 @@ const NO_SHOP: &str = "it is no shop of this program, or another program wrote t
 const UNWRITTEN: &str =
     "it couldn't be written; copy it to another medium, check the copy, and go on there";
 
+const KEPT: &str = "no file owns what is kept, but another program may; `repair --free` frees it";
+
 const BAD_LINE: &str = "nothing was done; mend the line, and run it again";
 
 fn about_run(fault: RunFault) -> About {
@@ -58,6 +60,12 @@ fn about_keep(fault: KeepFault) -> About {
         KeepFault::BadLine(_) => About::Text(BAD_LINE),
         KeepFault::Device => About::Image(UNWRITTEN),
         KeepFault::NoMemory => About::Nothing,
+        KeepFault::Geos => About::Image(
+            "it is a disk of GEOS, which keeps sectors that no file owns",
+        ),
+        KeepFault::Format => About::Image(
+            "its format byte isn't $41; it may be no disk of the 1541",
+        ),
     }
 }
 
@@ -70,6 +78,7 @@ fn subject_of(refusal: Refusal) -> About {
         Refusal::Draw(PictureFault::NoMemory) => About::Nothing,
         Refusal::Draw(_) => About::Image(JUDGED),
         Refusal::InUse => About::Image("another program has it; end that one first"),
+        Refusal::Kept(_) => About::Image(KEPT),
     }
 }
 

@@ -4,7 +4,7 @@ ghost use Rattle.d64_image.specs.Keeps.{Agrees};
 ghost use Rattle.d64_image.specs.Memory.{sectors_in};
 ghost use Rattle.d64_image.specs.Mirrors.{is_broken, mirror_file};
 ghost use Rattle.keeper_commands.specs.declared.faults.KeepFault.TheVariants as faults;
-ghost use Rattle.ledger_program.specs.Keeping.{IsRepairOver, IsTakingRun};
+ghost use Rattle.ledger_program.specs.Keeping.{IsDryRepair, IsRepairOver, IsTakingRun};
 ghost use Rattle.ledger_program.specs.Kept.{IsMakeOver, IsStoreOver};
 ghost use Rattle.keeper_commands.specs.Makes.{IsNewName};
 ghost use Rattle.rel_records.specs.File.{IsLength};
@@ -34,10 +34,10 @@ pub fn taking_run<W: Write>(
 }
 
 /// The file of a mirror whose repair ended so: `Device` where the file failed.
-fn file_of<F: SectorFile>(
+fn file_of<F: SectorFile, T: Drop>(
     mirror: Mirror<F>,
-    ended: Result<(), KeepFault>,
-) -> (F, Result<(), KeepFault>)
+    ended: Result<T, KeepFault>,
+) -> (F, Result<T, KeepFault>)
     ensures file { result.0 ≡ mirror_file mirror }
     ensures end { (is_broken mirror × (result.1 ≡ Err faults.Device)) ⊎ ((is_broken mirror → ⊥) × (result.1 ≡ ended)) }
 {
@@ -49,25 +49,40 @@ fn file_of<F: SectorFile>(
     (file, ended)
 }
 
-/// Repairs the disk of the image that the file keeps, prints what was mended, and hands the file back. Each sector is
-/// handed to the file before memory takes it. `Device` where the file failed, `File` where the output did.
+/// Repairs the disk of the image that the file keeps as `repair_image` does, prints what was mended, and hands the file
+/// back, with the number of sectors that stay taken though no file owns them. Each sector is handed to the file before
+/// memory takes it. `Device` where the file failed, `File` where the output did.
 pub fn repair_run<F: SectorFile, W: Write>(
     alloc: Global,
     image: &[u8],
+    free: bool,
     file: F,
     out: &mut W,
-) -> (F, Result<(), KeepFault>)
+) -> (F, Result<u16, KeepFault>)
     // where it is known what the file keeps, it is this image
     requires agrees { Agrees (F.keeps.kept file) (sectors_in image.now) }
-    ensures run { IsRepairOver F.keeps W.contents image.now file result.0 out.old out.new result.1 }
+    ensures run { IsRepairOver free F.keeps W.contents image.now file result.0 out.old out.new result.1 }
 {
     let disk = match load(alloc, image) {
         Ok(disk) => disk,
         Err(fault) => return (file, Err(fault)),
     };
     let mut mirror = Mirror::new(file, disk);
-    let ended = repair_image(alloc, image, &mut mirror, out);
+    let ended = repair_image(alloc, image, free, &mut mirror, out);
     file_of(mirror, ended)
+}
+
+/// Repairs a copy of the image in memory, and prints what `repair_run` would print. Nothing else is written.
+pub fn dry_repair_run<W: Write>(
+    alloc: Global,
+    image: &[u8],
+    free: bool,
+    out: &mut W,
+) -> Result<u16, KeepFault>
+    ensures run { IsDryRepair free W.contents image.now out.old out.new result }
+{
+    let mut copy = load(alloc, image)?;
+    repair_image(alloc, image, free, &mut copy, out)
 }
 
 /// Makes a relative file with records of `length` bytes on the clean disk of the image that the file keeps, prints

@@ -7,9 +7,10 @@ ghost use Rattle.ledger_commands.specs.Placed.{is_synced, placed};
 ghost use Rattle.ledger_program.specs.Names.{name_bytes};
 ghost use Rattle.rel_records.specs.File.{IsLength};
 
-use crate::doing::{kept_end, told};
+use crate::doing::{image_at, kept_end, repaired_end, told};
 use crate::files::{opened, script_at};
-use crate::keeping::{make_run, repair_run, store_run};
+use crate::jobs::{Effect, Unowned};
+use crate::keeping::{dry_repair_run, make_run, repair_run, store_run};
 use crate::names::Name;
 use crate::owning::own_image;
 use crate::refusals::Refusal;
@@ -35,15 +36,41 @@ where
 }
 
 /// Repairs the image at a path, over its file.
-pub(crate) fn do_repair<F, R, W>(rt: &R, path: &str, out: &mut W) -> Result<Option<Fault>, Refusal>
+fn do_written_repair<F, R, W>(
+    rt: &R,
+    path: &str,
+    free: bool,
+    out: &mut W,
+) -> Result<Option<Fault>, Refusal>
 where
     F: Read + Locks + Drop,
     R: Files<File = F> + AllocGlobal,
     W: Write,
 {
     let (image, file) = image_to_keep(rt, path)?;
-    let (_, ended) = repair_run(rt.alloc(), image.as_slice(), file, out);
-    kept_end(ended)
+    let (_, ended) = repair_run(rt.alloc(), image.as_slice(), free, file, out);
+    repaired_end(ended)
+}
+
+/// Repairs the image at a path, over its file, or a copy of it in memory alone.
+pub(crate) fn do_repair<F, R, W>(
+    rt: &R,
+    path: &str,
+    unowned: Unowned,
+    effect: Effect,
+    out: &mut W,
+) -> Result<Option<Fault>, Refusal>
+where
+    F: Read + Locks + Drop,
+    R: Files<File = F> + Input + AllocGlobal,
+    W: Write,
+{
+    let free = unowned == Unowned::Freed;
+    if effect == Effect::Written {
+        return do_written_repair(rt, path, free, out);
+    }
+    let image = image_at(rt, path)?;
+    repaired_end(dry_repair_run(rt.alloc(), image.as_slice(), free, out))
 }
 
 /// Makes a relative file on the disk of the image at a path, over its file.

@@ -22,7 +22,7 @@ pub use drawing::drawing_run;
 pub use durable_runs::{play_durably, serve_durably};
 pub use explaining::{announce, explain};
 pub use jobs::{Drawing, Effect, Job, Loss, Reading, Taking, Unowned};
-pub use keeping::{make_run, repair_run, store_run, taking_run};
+pub use keeping::{dry_repair_run, make_run, repair_run, store_run, taking_run};
 pub use names::Name;
 pub use refusals::Refusal;
 pub use running::{format_run, play_run, reading_run};

@@ -1,6 +1,6 @@
 //! Why a job isn't done.
 ghost use Rattle.std.specs.Prelude.{◌≡◌, Some};
-ghost use Rattle.ledger_program.specs.Ends.{lock_refusal, refusal_status, refusal_text};
+ghost use Rattle.ledger_program.specs.Ends.{is_told as told_there, lock_refusal, refusal_status, refusal_text};
 
 use disk_pictures::PictureFault;
 use keeper_commands::KeepFault;
@@ -20,6 +20,8 @@ pub enum Refusal {
     Draw(PictureFault),
     /// Another program has the image. Nothing was read or changed.
     InUse,
+    /// The disk is repaired but for so many sectors, which stay taken though no file owns them. The output says so.
+    Kept(u16),
 }
 
 impl Refusal {
@@ -32,6 +34,17 @@ impl Refusal {
             Refusal::Keep(fault) => fault.status(),
             Refusal::Draw(fault) => fault.status(),
             Refusal::InUse => 3,
+            Refusal::Kept(_) => 1,
+        }
+    }
+
+    /// Whether it is told on standard error: all but what the output has told.
+    pub(crate) fn is_told(&self) -> bool
+        ensures { result ≡ told_there self.now }
+    {
+        match self {
+            Refusal::Run(_) | Refusal::Keep(_) | Refusal::Draw(_) | Refusal::InUse => true,
+            Refusal::Kept(_) => false,
         }
     }
 
@@ -56,6 +69,7 @@ impl Display for Refusal {
             Refusal::Keep(fault) => fault.fmt(f),
             Refusal::Draw(fault) => fault.fmt(f),
             Refusal::InUse => f.write_str("IN USE"),
+            Refusal::Kept(count) => write!(f, "KEPT {count}"),
         }
     }
 }

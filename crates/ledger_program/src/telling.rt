@@ -10,12 +10,15 @@ use disk_layout::Fault;
 use host_session::{NotTaken, write_whole};
 use std::io::Write;
 
-/// Tells a refusal in one line. Its error where standard error failed, which then has a beginning of the line: there is
-/// nobody left to tell.
+/// Tells a refusal in one line; of what the output has told, nothing. Its error where standard error failed, which then
+/// has a beginning of the line: there is nobody left to tell.
 pub fn tell<E: Write>(err: &mut E, refusal: Refusal) -> Result<(), NotTaken>
     ensures told { OnOk result (Appends (E.contents err.old) (E.contents err.new) (refusal_line refusal)) }
     ensures part { OnErr result (AppendsPart (E.contents err.old) (E.contents err.new) (refusal_line refusal)) }
 {
+    if !refusal.is_told() {
+        return Ok(());
+    }
     // the longest is `SCRIPT LINE` with a number of 20 digits
     let mut line = ArrayVec::<u8, 40>::new();
     if writeln!(line, "{refusal}").is_err() {

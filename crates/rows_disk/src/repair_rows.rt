@@ -3,7 +3,7 @@ use crate::comparing::{same, same_at};
 use crate::disks::{at, change, fresh};
 use d64_image::{Fuse, MemDisk, Meter, Sectors};
 use disk_layout::Fault;
-use layout_check::{check, repair, survey};
+use layout_check::{check, repair, repair_keeping, survey};
 use std::process::Abort;
 
 /// A fresh disk with a bit and a count of the map, a block count and the end of a side sector wrong.
@@ -97,4 +97,21 @@ fn a_disk_that_is_not_sound_stays(rt: HostRuntime) {
     stays(&rt, (17, 0), ((0, 17), (1, 0)), back);
     let open = Fault::Unclosed(at(18, 1));
     stays(&rt, (18, 1), ((2, 4), (2, 4)), open);
+}
+
+// Nobody owns 2/5, which the map calls taken: it stays so, and what else is wrong is written, three sectors. Then nothing
+// is written, and the disk is clean but for it.
+#[test]
+fn a_repair_that_frees_nothing(rt: HostRuntime) {
+    let mut disk = worn(&rt);
+    change(&mut disk, at(18, 0), (8, 20), (9, 0xDF));
+    let mut disk = Meter::new(disk);
+    for round in 0..2u8 {
+        let left = repair_keeping(&mut disk);
+        same_at(&rt, (disk.writes(), left), (3, Ok(1)), round);
+        same(&rt, check(&mut disk).err(), Some(Fault::MapWrong(at(2, 5))));
+    }
+    let mut left = disk.into_inner();
+    change(&mut left, at(18, 0), (8, 21), (9, 0xFF));
+    is_fresh(&rt, &left);
 }

@@ -7,6 +7,9 @@ use keeper_commands::{KeepFault, repair_image};
 use std::io::Write;
 use std::process::Abort;
 
+/// A sector that the map calls taken and nobody owns: 2/5, whose bit is one of byte 9, with the count of track 2.
+const STRAY: Change = (18, 0, 8, &[20, 0xDF]);
+
 /// Changes, what is printed, and what is told: a clean disk; track 1's count in the map, the block count of STOCK, a
 /// pointer of its side sector behind those to its blocks, and all three; a loop; an open entry beside a wrong map.
 const REPAIRED: [(&[Change], &str, &str); 7] = [
@@ -31,34 +34,135 @@ const REPAIRED: [(&[Change], &str, &str); 7] = [
 fn repaired<W: Write>(
     rt: &(impl Abort + AllocGlobal),
     image: &[u8],
+    free: bool,
     out: &mut W,
-) -> (Result<(), KeepFault>, MemDisk) {
+) -> (Result<u16, KeepFault>, MemDisk) {
     match MemDisk::load(rt.alloc(), image) {
         Ok(disk) => {
             let mut disk = disk;
-            let ended = repair_image(rt.alloc(), image, &mut disk, out);
+            let ended = repair_image(rt.alloc(), image, free, &mut disk, out);
             (ended, disk)
         }
         Err(fault) => panic!(rt; "the image isn't taken: {fault:?}"),
     }
 }
 
-/// Sees that this is printed and told of each disk. Where it is mended it is the blank disk again, else it is as it
-/// was.
+/// Sees that a repair ended so: with this told; or done, with so many sectors left, where nothing is told.
+fn is_ended(rt: &(impl Abort + AllocGlobal), ended: Result<u16, KeepFault>, told: &str, left: u16) {
+    let (ended, count) = match ended {
+        Ok(count) => (Ok(()), count),
+        Err(fault) => (Err(fault), left),
+    };
+    is_told(rt, ended, told);
+    same_at(rt, count, left, told);
+}
+
+/// Sees that this is printed and told of a disk with these changes, and that it becomes that with those.
+fn becomes(
+    rt: &(impl Abort + AllocGlobal),
+    changes: &[Change],
+    free: bool,
+    (printed, told, left): (&str, &str, u16),
+    wanted: &[Change],
+) {
+    let before = changed(rt, changes);
+    let mut out = Vec::new(rt.alloc());
+    let (ended, after) = repaired(rt, before.bytes(), free, &mut out);
+    is_ended(rt, ended, told, left);
+    same_at(rt, out.as_slice(), printed.as_bytes(), told);
+    let same = after.bytes() == changed(rt, wanted).bytes();
+    same_at(rt, same, true, printed);
+}
+
+/// Sees that this is printed and told of each disk, whatever is asked of unowned sectors: there are none. Where it is
+/// mended it is the blank disk again, else it is as it was.
 fn are_repaired(rt: &(impl Abort + AllocGlobal), rows: &[(&[Change], &str, &str)]) {
-    let blank = changed(rt, &[]);
     for &(changes, printed, told) in rows {
-        let before = changed(rt, changes);
-        let mut out = Vec::new(rt.alloc());
-        let (ended, after) = repaired(rt, before.bytes(), &mut out);
-        is_told(rt, ended, told);
-        same_at(rt, out.as_slice(), printed.as_bytes(), told);
-        let wanted = if told == "" { &blank } else { &before };
-        same_at(rt, after.bytes() == wanted.bytes(), true, printed);
+        for free in [false, true] {
+            let wanted = if told == "" { &[][..] } else { changes };
+            becomes(rt, changes, free, (printed, told, 0), wanted);
+        }
     }
 }
 
 #[test]
 fn disks_are_repaired(rt: HostRuntime) {
     are_repaired(&rt, &REPAIRED);
+}
+
+/// Changes of disks with sectors that the map calls taken and nobody owns; what is printed, how many are left, and the
+/// changes that are left; and what is printed where they are freed: one; one whose track's count is of before; one
+/// beside a free block of REQUESTS, 17/2; two on track 35, behind 18/0; ten on track 1.
+const STRAYS: [(&[Change], &str, u16, &[Change], &str); 5] = [
+    (
+        &[STRAY],
+        "KEPT 1\n",
+        1,
+        &[STRAY],
+        "FREED 2/5\nMENDED 18/0\nOK\n",
+    ),
+    (
+        &[(18, 0, 9, &[0xDF])],
+        "MENDED 18/0\nKEPT 1\n",
+        1,
+        &[STRAY],
+        "FREED 2/5\nMENDED 18/0\nOK\n",
+    ),
+    (
+        &[STRAY, (18, 0, 68, &[18, 0xF4])],
+        "MENDED 18/0\nKEPT 1\n",
+        1,
+        &[STRAY],
+        "FREED 2/5\nMENDED 18/0\nOK\n",
+    ),
+    (
+        &[(18, 0, 140, &[15, 0xFC])],
+        "KEPT 2\n",
+        2,
+        &[(18, 0, 140, &[15, 0xFC])],
+        "MENDED 18/0\nFREED 35/0\nFREED 35/1\nOK\n",
+    ),
+    (
+        &[(18, 0, 4, &[11, 0x00, 0xFC]), (18, 1, 30, &[3])],
+        "MENDED 18/1\nKEPT 10\n",
+        10,
+        &[(18, 0, 4, &[11, 0x00, 0xFC])],
+        "FREED 1/0\nFREED 1/1\nFREED 1/2\nFREED 1/3\nFREED 1/4\nFREED 1/5\nFREED 1/6\nFREED 1/7\nFREED 1/8\n\
+FREED 1/9\nMENDED 18/0\nMENDED 18/1\nOK\n",
+    ),
+];
+
+// What nobody owns stays taken, or is freed where that is asked for, and the disk is the blank one then.
+#[test]
+fn unowned_sectors_are_left_or_freed(rt: HostRuntime) {
+    for &(changes, printed, left, kept, freed) in &STRAYS {
+        becomes(&rt, changes, false, (printed, "", left), kept);
+        becomes(&rt, changes, true, (freed, "", 0), &[]);
+    }
+}
+
+/// Disks that are refused as they are, and what is told: GEOS's signature, of two versions, and beside a loop; a format
+/// byte of another drive, and of none.
+const REFUSED: [(&[Change], &str); 5] = [
+    (&[STRAY, (18, 0, 173, b"GEOS format V1.0")], "GEOS"),
+    (&[(18, 0, 173, b"GEOS format V1.1")], "GEOS"),
+    (
+        &[(18, 0, 173, b"GEOS format V1.0"), (17, 2, 0, &[17, 2])],
+        "GEOS",
+    ),
+    (&[STRAY, (18, 0, 2, &[0x42])], "FORMAT"),
+    (&[(18, 0, 2, &[0])], "FORMAT"),
+];
+
+// A disk of GEOS, and one of another format, are refused also where unowned sectors are to be freed. A name that is like
+// the signature is none.
+#[test]
+fn disks_of_other_kinds_are_refused(rt: HostRuntime) {
+    for &(changes, told) in &REFUSED {
+        for free in [false, true] {
+            becomes(&rt, changes, free, ("", told, 0), changes);
+        }
+    }
+    let like: &[Change] = &[STRAY, (18, 0, 173, b"GEOS FORMAT V1.0")];
+    becomes(&rt, like, false, ("KEPT 1\n", "", 1), like);
 }

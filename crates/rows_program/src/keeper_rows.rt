@@ -66,6 +66,58 @@ fn images_are_repaired(rt: HostRuntime) {
     each(&rt, REPAIRED);
 }
 
+/// Images with a sector that nobody owns, which stays or is freed; what a person is told of it; and a repair that writes
+/// nothing: it reads the image as `show` does, and ends as the other.
+const UNOWNED: &[u8] = b"
+hurt COUNT
+hurt UNOWNED
+$ ledger_cli repair a.d64 --dry-run
+prints MENDED 18/1|KEPT 1|
+ends 1
+
+hurt COUNT
+hurt UNOWNED
+$ ledger_cli repair a.d64 --dry-run --free
+prints FREED 2/5|MENDED 18/0|MENDED 18/1|OK|
+
+hurt UNOWNED
+person ledger_cli repair a.d64
+prints KEPT 1|
+tells ledger: a.d64: no file owns what is kept, but another program may; `repair --free` frees it|
+ends 1
+
+hurt COUNT
+hurt UNOWNED
+$ ledger_cli repair --free a.d64
+prints FREED 2/5|MENDED 18/0|MENDED 18/1|OK|
+leaves the shop
+synced
+syncs 3
+reads-behind 1 sync
+
+hurt UNOWNED
+hurt GEOS
+$ ledger_cli repair --free a.d64
+tells GEOS|
+ends 1
+
+hurt UNOWNED
+hurt GEOS
+$ ledger_cli repair a.d64 --dry-run
+tells GEOS|
+ends 1
+
+hurt FORMAT
+person ledger_cli repair a.d64
+tells FORMAT|ledger: a.d64: its format byte isn't $41; it may be no disk of the 1541|
+ends 1
+";
+
+#[test]
+fn unowned_sectors_stay_or_are_freed(rt: HostRuntime) {
+    each(&rt, UNOWNED);
+}
+
 /// What is taken out of images. A sound disk needn't be clean; the layout is judged before the name.
 const TAKEN: &[u8] = b"
 $ ledger_cli records a.d64 REQUESTS

@@ -54,11 +54,16 @@ pub(crate) struct Scene {
 }
 
 /// Changes of an image: a name, where bytes stand, and these bytes.
-const HURTS: [(&[u8], u64, &[u8]); 13] = [
+const HURTS: [(&[u8], u64, &[u8]); 16] = [
     // 17/0 links to itself.
     (b"LOOP", 86016, b"\x11\x00"),
     // Track 1 has a free sector too few in the map at 18/0.
     (b"WRONG MAP", 91396, b"\x14"),
+    // 2/5, which nobody owns, is taken in the map.
+    (b"UNOWNED", 91400, b"\x14\xDF"),
+    // GEOS wrote its signature into 18/0; and the format byte is another drive's.
+    (b"GEOS", 91565, b"GEOS format V1.0"),
+    (b"FORMAT", 91394, b"B"),
     // The entry of STOCK in 18/1 has a block too many.
     (b"COUNT", 91678, b"\x03"),
     // 18/1 links to a sector outside track 18, so that the directory's sectors are no chain on it.

@@ -3,3 +3,4 @@ pub mod Claims
 pub mod Clashes
 pub mod Counting
 pub mod Ranks
+pub mod Marking

@@ -1,4 +1,5 @@
 -- A repair, and what is right after it.
+pub mod KeepRuns
 pub mod OwnedSums
 pub mod RepairOrder
 pub mod RepairReads
@@ -11,3 +12,4 @@ pub mod RightSides
 pub mod RightSlots
 pub mod RightWrites
 pub mod Rights
+pub mod Strays

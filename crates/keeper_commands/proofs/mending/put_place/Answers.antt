@@ -1,7 +1,8 @@
 -- The two sectors were compared, and the line was printed where they are otherwise.
 use Rattle.std.proofs.Common.{lit≤, sym}
+use Rattle.std.proofs.lemmas.Result.{on_ok_weaker}
 use Rattle.d64_image.proofs.Moments.{reads_no_write}
-use Rattle.keeper_commands.proofs.Mendings.{as-told, failed-there, same-there}
+use Rattle.keeper_commands.proofs.Mendings.{as-told, failed-there, same-there, tells-output}
 use Rattle.keeper_commands.proofs.Printing.{at-answer, not-err}
 use Rattle.keeper_commands.proofs.mending.put_place.Goals as goal
 
@@ -18,11 +19,14 @@ eq-requires g c = lit≤ tt
 
 pub returns-then-eq : goal.returns-then-eq
 returns-then-eq g c = record {
-  ok = same-there _ _ _ _ _ _ (at-answer c.read.result c.read.ensures.never_fails c.read.ensures.device.sector)
-      (not-err c.read-2.result (sym c.if-is_err.ensures.value) c.read-2.ensures.sector) c.if-eq.ensures;
+  ok = on_ok_weaker c.put_freed.result (λ freed. same-there _ _ _ _ _ _ _ _ _
+      (at-answer c.read.result c.read.ensures.never_fails c.read.ensures.device.sector)
+      (not-err c.read-2.result (sym c.if-is_err.ensures.value) c.read-2.ensures.sector) c.if-eq.ensures freed)
+      c.put_freed.ensures.ok;
   same = c.read.ensures.device.reads.image;
   quiet = reads_no_write g.D.Sectors.history _ _ 1 c.read-2.ensures.reads;
-  told = as-told g.D.Sectors.history _ _ c.read-2.result (sym c.if-is_err.ensures.value) c.read-2.ensures.failures;
+  told = tells-output g.D.Sectors.history _ _ c.put_freed.result (as-told g.D.Sectors.history _ _ c.read-2.result
+      (sym c.if-is_err.ensures.value) c.read-2.ensures.failures) c.put_freed.ensures.err;
 }
 
 pub returns-then-is_err-2 : goal.returns-then-is_err-2

@@ -18,7 +18,7 @@ pub loop-sector-preserved : goal.loop-sector-preserved
 loop-sector-preserved g c =
     let so_far = c.loop-sector.invariant in
     let done = c.in_ok-put_sector.ensures in record {
-      printed = sector-more _ _ _ _ _ _ _ so_far.same so_far.quiet.image c.args.track c.loop-sector.sector
+      printed = sector-more _ _ _ _ _ _ _ _ _ so_far.same so_far.quiet.image c.args.track c.loop-sector.sector
           so_far.printed done.ok;
       same = done.same ∙ so_far.same;
       quiet = no_write_then g.D.Sectors.history _ _ _ so_far.quiet done.quiet;

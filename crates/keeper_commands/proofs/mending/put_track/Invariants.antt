@@ -11,7 +11,7 @@ abbrev pub invariant-loop-sector : goal.invariant-loop-sector
 invariant-loop-sector g l = record {
   printed : Appends (g.W.Write.contents l.fn.out) (g.W.Write.contents l.out)
       (up_to l.sector (λ n. mended_at (disk_image l.fn.before) (g.D.Sectors.history.image l.fn.after)
-      (place_at l.track (n - 1))));
+      l.maps.had l.maps.has (place_at l.track (n - 1))));
   same : disk_image l.before ≡ disk_image l.fn.before;
   quiet : WritesNothing g.D.Sectors.history l.fn.after l.after;
   failures : g.D.Sectors.history.failures l.after ≡ g.D.Sectors.history.failures l.fn.after;

@@ -18,7 +18,7 @@ pub loop-below-preserved : goal.loop-below-preserved
 loop-below-preserved g c =
     let so_far = c.loop-below.invariant in
     let done = c.in_ok-put_track.ensures in record {
-      printed = track-more _ _ _ _ _ _ _ so_far.same so_far.quiet.image c.loop-below.below so_far.printed done.ok;
+      printed = track-more _ _ _ _ _ _ _ _ _ so_far.same so_far.quiet.image c.loop-below.below so_far.printed done.ok;
       same = done.same ∙ so_far.same;
       quiet = no_write_then g.D.Sectors.history _ _ _ so_far.quiet done.quiet;
       failures = done.told ∙ so_far.failures;

@@ -1,9 +1,11 @@
 -- The disk was repaired and what was mended was printed; or why not.
 use Rattle.std.proofs.Common.{Err, ap, sym, subst, ◌∙◌}
-use Rattle.std.proofs.lemmas.Result.{err_from_is_err_and, on_ok_weaker}
+use Rattle.std.proofs.lemmas.Result.{err_from_is_err_and}
 use Rattle.std.specs.Io.KnownBytes.{Appends}
-use Rattle.d64_image.specs.Images.{Image}
-use Rattle.keeper_commands.proofs.Repairs.{load-refused, mended-quiet, print-refused, refused, run-only}
+use Rattle.d64_image.specs.Images.{Image, sector}
+use Rattle.disk_layout.specs.Directory.{map_place}
+use Rattle.keeper_commands.proofs.Repairs.{kind-refused, load-refused, mended-quiet, print-refused, refused, run-only}
+use Rattle.keeper_commands.specs.Kinds.{IsKindFault, IsPlainDisk}
 use Rattle.keeper_commands.specs.Repairs.{mended_text}
 use Rattle.keeper_commands.proofs.mending.repair_image.Goals as goal
 
@@ -12,51 +14,60 @@ returns-in_err-before g c =
     let p = err_from_is_err_and c.from_residual.result c.from_residual.ensures.1 in
     record {
       ok = rw (p.1 ∙ ap Err p.2) tt;
-      err = rw (p.1 ∙ ap Err p.2) (load-refused g.D.Sectors.history c.args.image.now c.args.disk.now c.args.out.now _
-          c.in_err-before.ensures.err);
+      err = rw (p.1 ∙ ap Err p.2) (load-refused g.D.Sectors.history c.args.free c.args.image.now c.args.disk.now
+          c.args.out.now _ c.in_err-before.ensures.err);
     }
 
-pub returns-in-Err : goal.returns-in-Err
-returns-in-Err g c =
+pub returns-in_err-judge_kind : goal.returns-in_err-judge_kind
+returns-in_err-judge_kind g c =
     let S = g.D.Sectors.history in
-    let size = c.in_ok-before.ensures.ok.0 in
-    let run = run-only S c.args.image.now c.args.disk.now c.repair.new.disk size c.repair.ensures.moments
-    c.repair.ensures.order c.repair.ensures.unsound in
+    let loaded = c.in_ok-before.ensures.ok in
+    let p = err_from_is_err_and c.from_residual-in_err-judge_kind.result
+    c.from_residual-in_err-judge_kind.ensures.1 in
     record {
-      ok = tt;
-      err = rw c.refusal.ensures
-          (refused S c.args.image.now c.args.disk.now c.repair.new.disk c.args.out.now size c.repair.ensures.unsound run
-          c.in-Err.fault
-          c.in-Err.ensures.err c.in-Err.ensures.failures);
+      ok = rw (p.1 ∙ ap Err p.2) tt;
+      err = rw (p.1 ∙ ap Err p.2) (kind-refused S c.args.free c.args.image.now c.args.disk.now c.args.out.now _ loaded.0
+          (subst (λ (img : Image). IsKindFault (sector img map_place) c.in_err-judge_kind.field-0.0)
+          (loaded.1 ∙ sym c.requires.holds) c.in_err-judge_kind.ensures.other));
     }
+
+pub returns-in-Err-clause-err : goal.returns-in-Err-clause-err
+returns-in-Err-clause-err g c =
+    let S = g.D.Sectors.history in
+    let loaded = c.in_ok-before.ensures.ok in
+    let plain = subst (λ (img : Image). IsPlainDisk (sector img map_place)) (loaded.1 ∙ sym c.requires.holds)
+    c.in_ok-judge_kind.ensures.plain in
+    let run = run-only S c.args.free c.args.image.now c.args.disk.now c.mended.new.disk loaded.0 plain c.mended.result
+    c.mended.ensures in
+    rw c.refusal.ensures (refused S c.args.free c.args.image.now c.args.disk.now c.mended.new.disk c.args.out.now
+    loaded.0 plain c.mended.ensures.unsound run c.in-Err.fault c.in-Err.ensures.err c.in-Err.ensures.failures)
+
+pub returns-in-Err-put_mended-clause-err : goal.returns-in-Err-put_mended-clause-err
+returns-in-Err-put_mended-clause-err g c =
+    let S = g.D.Sectors.history in
+    let loaded = c.in_ok-before.ensures.ok in
+    let plain = subst (λ (img : Image). IsPlainDisk (sector img map_place)) (loaded.1 ∙ sym c.requires.holds)
+    c.in_ok-judge_kind.ensures.plain in
+    print-refused S c.args.free c.args.image.now c.args.disk.now c.mended.new.disk c.put_mended.new.after
+    c.args.out.now c.put_mended.new.out (Err c.in-Err-put_mended.fault) c.in-Ok.kept
+    (mended-quiet S c.args.free c.args.image.now c.args.disk.now c.mended.new.disk loaded.0 plain c.mended.result
+    c.mended.ensures c.put_mended.new.after c.put_mended.ensures.quiet c.in-Ok.kept c.in-Ok.ensures.ok)
+    c.in-Ok.ensures.failures c.in-Err-put_mended.ensures.told
 
 pub returns-clause-ok : goal.returns-clause-ok
 returns-clause-ok g c =
     let S = g.D.Sectors.history in
     let loaded = c.in_ok-before.ensures.ok in
-    on_ok_weaker c.put_mended.result
-    (λ printed. record {
-      mended = mended-quiet S c.args.image.now c.args.disk.now c.repair.new.disk loaded.0 c.repair.ensures.moments
-          c.repair.ensures.order c.repair.ensures.unsound
-          c.put_mended.new.after c.put_mended.ensures.quiet c.in_default.field-0 c.in_default.ensures.ok
-          c.repair.ensures.spare;
+    let same = c.in_ok-judge_kind.ensures.same ∙ loaded.1 ∙ sym c.requires.holds in
+    let plain = subst (λ (img : Image). IsPlainDisk (sector img map_place)) (loaded.1 ∙ sym c.requires.holds)
+    c.in_ok-judge_kind.ensures.plain in
+    record {
+      mended = mended-quiet S c.args.free c.args.image.now c.args.disk.now c.mended.new.disk loaded.0 plain
+          c.mended.result c.mended.ensures c.put_mended.new.after c.put_mended.ensures.quiet c.in-Ok.kept
+          c.in-Ok.ensures.ok;
       printed = subst (λ (img : Image). Appends (g.W.Write.contents c.args.out.now)
-          (g.W.Write.contents c.put_mended.new.out) (mended_text (S.image c.args.disk.now) img))
+          (g.W.Write.contents c.put_mended.new.out) (mended_text (S.image c.args.disk.now) img c.in-Ok.kept))
           (sym c.put_mended.ensures.quiet.image)
           (subst (λ (img : Image). Appends (g.W.Write.contents c.args.out.now) (g.W.Write.contents c.put_mended.new.out)
-          (mended_text img (S.image c.repair.new.disk)))
-          (loaded.1 ∙ sym c.requires.holds) printed);
-    })
-    c.put_mended.ensures.ok
-
-pub returns-clause-err : goal.returns-clause-err
-returns-clause-err g c =
-    let S = g.D.Sectors.history in
-    let loaded = c.in_ok-before.ensures.ok in
-    print-refused S c.args.image.now c.args.disk.now c.repair.new.disk c.put_mended.new.after c.args.out.now
-    c.put_mended.new.out c.put_mended.result
-    (mended-quiet S c.args.image.now c.args.disk.now c.repair.new.disk loaded.0 c.repair.ensures.moments
-    c.repair.ensures.order c.repair.ensures.unsound
-    c.put_mended.new.after c.put_mended.ensures.quiet c.in_default.field-0 c.in_default.ensures.ok
-    c.repair.ensures.spare)
-    c.in_default.ensures.failures c.put_mended.ensures.told
+          (mended_text img (S.image c.mended.new.disk) c.in-Ok.kept)) same c.in-Ok-put_mended.ensures.ok);
+    }

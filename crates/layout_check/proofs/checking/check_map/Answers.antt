@@ -6,7 +6,7 @@ use Rattle.d64_image.specs.declared.place.Place.{Place}
 use Rattle.d64_image.proofs.Told.{at-ok}
 use Rattle.layout_check.proofs.lemmas.judging.Calls.{passes_read, tells_read}
 use Rattle.layout_check.proofs.lemmas.judging.Inexact.{clean_tells}
-use Rattle.layout_check.proofs.lemmas.judging.Verdict.{map-right, map_tells}
+use Rattle.layout_check.proofs.lemmas.judging.Verdict.{map_tells, told-right}
 use Rattle.layout_check.proofs.checking.check_map.Goals as goal
 
 pub returns-in_err-read_sector : goal.returns-in_err-read_sector
@@ -27,7 +27,7 @@ returns g c =
     record {
       map = let e = c.in_ok-read_sector.ensures.sector
           ∙ ap (λ (p : Place). sector (S.image c.args.disk.now) p) c.map_place.ensures in
-          on_ok_weaker c.check_bits.result (λ h. map-right _ c.args.found.now c.read_sector.new.to c.requires e
+          on_ok_weaker c.check_bits.result (λ h. told-right _ c.args.found.now c.read_sector.new.to c.requires e
           (rw (← c.owners.ensures) h)) c.check_bits.ensures.ok;
       ok = at-ok c.check_bits.result (passes_read S c.args.disk.now c.read_sector.new.disk
           c.in_ok-read_sector.ensures.reads c.in_ok-read_sector.ensures.failures);

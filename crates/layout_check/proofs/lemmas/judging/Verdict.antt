@@ -12,6 +12,7 @@ use Rattle.std.proofs.Common.{
   List,
   [],
   ◌∷◌,
+  ◌++◌,
   length,
   get_or,
   map,
@@ -35,7 +36,7 @@ use Rattle.disk_layout.proofs.lemmas.lists.Once.{Contains-here, Contains-there, 
 use Rattle.disk_layout.specs.Clean.{IsClean, IsCleanLayout}
 use Rattle.disk_layout.specs.Directory.{IsDirectory, map_place}
 use Rattle.disk_layout.specs.Fault.{HoldsOfClean, TellsFault}
-use Rattle.disk_layout.specs.Layout.{File, IsSound, Layout, owners}
+use Rattle.disk_layout.specs.Layout.{File, IsLayout, IsSound, Layout, owners}
 use Rattle.disk_layout.specs.Map.{IsFree, IsMapOf, map_count}
 use Rattle.disk_layout.specs.declared.faults.Fault.{Fault}
 use Rattle.disk_layout.specs.declared.faults.Fault.TheVariants.{MapWrong}
@@ -43,12 +44,14 @@ use Rattle.disk_layout.specs.declared.slot.Slot.{Slot}
 use Rattle.layout_check.proofs.lemmas.judging.Inexact.{clean_alone}
 use Rattle.layout_check.proofs.lemmas.finding.Progress.{told}
 use Rattle.layout_check.specs.Calls.{Passes}
-use Rattle.layout_check.specs.Exact.{HasMap, IsFiled, TellsUnclean, ToldOfFiles}
+use Rattle.layout_check.specs.Exact.{HasMap, HasMapBut, IsFiled, TellsUnclean, ToldOfFiles}
+use Rattle.layout_check.specs.Keeping.{MarksTaken}
 use Rattle.layout_check.specs.Marked.{IsMarked, IsRightMap, IsWrongMap, ones_on}
 use Rattle.layout_check.specs.Owners.{owner_of}
 use Rattle.layout_check.specs.Survey.{IsSurveyOf, IsToldBy, Surveys}
 use Rattle.layout_check.specs.declared.outcome.Findings.{Findings}
 use Rattle.layout_check.specs.declared.outcome.Survey.{Survey}
+use Rattle.layout_check.specs.declared.owners.Owners.{Owners}
 
 -- what holds of each that is in the list
 pub all-of : {X : Type 0} (P : X → Type 0) (xs : List X) → ((x : X) → Contains xs x → P x) → AllByRecursion P xs
@@ -70,37 +73,42 @@ filed-at img now ps items k s same sound d below read =
     let P : Image → Type 0 = λ i. IsFiled i s in
     subst P (sym same) (filed img ps items s sound d (k, below, sym read))
 
--- the bit of a sector, by its owner and by the list of what is owned
-pub marked-of : (bytes : List ℕ) (l : Layout) (s : Survey) (p : Place) → IsSurveyOf l s → IsMarked bytes s.owners p
-    → IsFree bytes p ↔ ¬ (Contains (map_place ∷ owners l) p)
+-- the table of a survey has an owner for what is owned
+pub marks-of : (l : Layout) (s : Survey) → IsSurveyOf l s → MarksTaken s.owners l []
 unfolding owners
-marked-of bytes l s p h m = (
-  λ free c. (h.table.owned p).1 c (m.0 free),
-  λ none. m.1 (elim (cases_eq (owner_of s.owners p) 255) [
-    | inl e ↦ e
-    | inr ne ↦ absurd (none ((h.table.owned p).0 ne))
-  ]),
+marks-of l s of = of.table.owned
+
+-- the bit of a sector, by its owner and by the list of what has an owner
+pub marked-of : (bytes : List ℕ) (l : Layout) (strays : List Place) (t : Owners) (p : Place) → MarksTaken t l strays
+    → IsMarked bytes t p → IsFree bytes p ↔ ¬ (Contains (strays ++ map_place ∷ owners l) p)
+marked-of bytes l strays t p h m = (
+  λ free c. (h p).1 c (m.0 free),
+  λ none. m.1 (elim (cases_eq (owner_of t p) 255) [ inl e ↦ e | inr ne ↦ absurd (none ((h p).0 ne)) ]),
 )
 
-pub unmarked-of : (bytes : List ℕ) (l : Layout) (s : Survey) (p : Place) → IsSurveyOf l s
-    → IsFree bytes p ↔ ¬ (Contains (map_place ∷ owners l) p) → IsMarked bytes s.owners p
-unfolding owners
-unmarked-of bytes l s p h m = (
-  λ free. elim (cases_eq (owner_of s.owners p) 255) [ inl e ↦ e | inr ne ↦ absurd (m.0 free ((h.table.owned p).0 ne)) ],
-  λ e. m.1 (λ c. (h.table.owned p).1 c e),
+pub unmarked-of : (bytes : List ℕ) (l : Layout) (strays : List Place) (t : Owners) (p : Place) → MarksTaken t l strays
+    → IsFree bytes p ↔ ¬ (Contains (strays ++ map_place ∷ owners l) p) → IsMarked bytes t p
+unmarked-of bytes l strays t p h m = (
+  λ free. elim (cases_eq (owner_of t p) 255) [ inl e ↦ e | inr ne ↦ absurd (m.0 free ((h p).0 ne)) ],
+  λ e. m.1 (λ c. (h p).1 c e),
 )
 
-pub map-right : (img : Image) (s : Survey) (bytes : List ℕ) → IsToldBy img s → bytes ≡ sector img map_place
-    → IsRightMap bytes s.owners → HasMap img
-map-right img s bytes (l, is, of) read right m also =
+pub map-right : (img : Image) (t : Owners) (bytes : List ℕ) (l : Layout) (strays : List Place) → IsLayout img l
+    → MarksTaken t l strays → bytes ≡ sector img map_place → IsRightMap bytes t → HasMapBut strays img
+map-right img t bytes l strays is marks read right m also =
     let one : l ≡ m = IsLayout-one img l m is also in
-    let P : Layout → Type 0 = λ x. IsMapOf (sector img map_place) (map_place ∷ owners x) in
-    let Q : List ℕ → Type 0 = λ b. IsMapOf b (map_place ∷ owners l) in
+    let P : Layout → Type 0 = λ x. IsMapOf (sector img map_place) (strays ++ map_place ∷ owners x) in
+    let Q : List ℕ → Type 0 = λ b. IsMapOf b (strays ++ map_place ∷ owners l) in
     subst P one (subst Q read (record {
-      marked = λ p. marked-of bytes l s p of ((right p.track (track_from_1 p) (omega (arith, track_fits p))).marked p
-          refl);
-      counts = λ t low high. (right t low high).count;
+      marked = λ p. marked-of bytes l strays t p marks ((right p.track (track_from_1 p)
+          (omega (arith, track_fits p))).marked p refl);
+      counts = λ n low high. (right n low high).count;
     }))
+
+-- by the table of a survey
+pub told-right : (img : Image) (s : Survey) (bytes : List ℕ) → IsToldBy img s → bytes ≡ sector img map_place
+    → IsRightMap bytes s.owners → HasMap img
+told-right img s bytes (l, is, of) = map-right img s.owners bytes l [] is (marks-of l s of)
 
 pub map-wrong : (failed : Place → Type 0) (img : Image) (s : Survey) (bytes : List ℕ) (f : Fault) → IsToldBy img s
     → bytes ≡ sector img map_place → IsWrongMap bytes s.owners f → HoldsOfClean failed img f
@@ -114,7 +122,7 @@ map-wrong failed img s bytes f (l, is, of) read (p, e, wrong) =
         ⊎ ((p ≡ map_place) × ((track : ℕ) × (1 ≤ track) × (track ≤ 35)
         × (map_count (sector img map_place) track ≢ ones_on (sector img map_place) track)))
         → HoldsOfClean failed img (MapWrong p)
-    step (inl n) = (l, is, inl (λ m. n (unmarked-of (sector img map_place) l s p of m)))
+    step (inl n) = (l, is, inl (λ m. n (unmarked-of (sector img map_place) l [] s.owners p (marks-of l s of) m)))
     step (inr (at, count)) = (l, is, inr (at, count))
 
 -- the layout of a clean image

@@ -34,11 +34,11 @@ use Rattle.disk_layout.specs.Layout.{IsLayout, Layout}
 use Rattle.disk_layout.specs.declared.faults.Fault.{Fault}
 use Rattle.disk_layout.specs.declared.faults.Fault.TheVariants.{Device}
 use Rattle.layout_check.proofs.lemmas.judging.Verdict.{map-right, unmarked-of}
-use Rattle.layout_check.specs.Exact.{HasMap}
+use Rattle.layout_check.specs.Exact.{HasMapBut}
+use Rattle.layout_check.specs.Keeping.{MarksTaken}
 use Rattle.layout_check.specs.Marked.{IsRightMap, IsWrongMap}
 use Rattle.layout_check.specs.Mended.{IsMended, KeepsLayouts, Mends, TellsDevice}
-use Rattle.layout_check.specs.Survey.{IsToldBy}
-use Rattle.layout_check.specs.declared.outcome.Survey.{Survey}
+use Rattle.layout_check.specs.declared.owners.Owners.{Owners}
 
 pub ok-holds : {T E : Type 0} (r : Result T E) (P : Type 0) → is_ok r ≡ true → OnOk r P → P
 ok-holds (Ok x) P is h = h
@@ -54,23 +54,24 @@ pub written : (P : Image → Type 0) (now c : Image) (q : Place) (w : List ℕ) 
 written P now c q w is at h = subst P (sym (is ∙ ap (λ (x : Place). put c x w) at)) h
 
 -- the map written
-pub map-put : (c : Image) (s : Survey) (w : List ℕ) → length c ≡ 683 → IsToldBy c s → IsRightMap w s.owners
-    → HasMap (put c map_place w)
-map-put c s w size (l, is, of) right = map-right (put c map_place w) s w (l, IsLayout-put_map c l w is, of)
-    (sym (sector-put_same c map_place w size)) right
+pub map-put : (c : Image) (t : Owners) (w : List ℕ) (l : Layout) (strays : List Place) → length c ≡ 683 → IsLayout c l
+    → MarksTaken t l strays → IsRightMap w t → HasMapBut strays (put c map_place w)
+map-put c t w l strays size is marks right = map-right (put c map_place w) t w l strays (IsLayout-put_map c l w is)
+    marks (sym (sector-put_same c map_place w size)) right
 
 pub layouts-put : (a c : Image) (w : List ℕ) → c ≡ a → KeepsLayouts a (put c map_place w)
 layouts-put a c w same l h = IsLayout-put_map c l w (let P : Image → Type 0 = λ i. IsLayout i l in subst P (sym same) h)
 
 -- a map that is right is told wrong by nothing
-pub right-map : (img : Image) (s : Survey) (bytes : List ℕ) (f : Fault) → IsToldBy img s → HasMap img
-    → bytes ≡ sector img map_place → ¬ (IsWrongMap bytes s.owners f)
-right-map img s bytes f (l, is, of) has read wrong = step (let P : List ℕ → Type 0 = λ b. IsWrongMap b s.owners f in
+pub right-map : (img : Image) (t : Owners) (bytes : List ℕ) (f : Fault) (l : Layout) (strays : List Place)
+    → IsLayout img l → MarksTaken t l strays → HasMapBut strays img → bytes ≡ sector img map_place
+    → ¬ (IsWrongMap bytes t f)
+right-map img t bytes f l strays is marks has read wrong = step (let P : List ℕ → Type 0 = λ b. IsWrongMap b t f in
     subst P read wrong)
   where
-    step : ¬ (IsWrongMap (sector img map_place) s.owners f)
-    step (p, e, inl n) = n (unmarked-of (sector img map_place) l s p of ((has l is).marked p))
-    step (p, e, inr (at, (t, low, high, ne))) = ne ((has l is).counts t low high)
+    step : ¬ (IsWrongMap (sector img map_place) t f)
+    step (p, e, inl n) = n (unmarked-of (sector img map_place) l strays t p marks ((has l is).marked p))
+    step (p, e, inr (at, (n, low, high, ne))) = ne ((has l is).counts n low high)
 
 module _ {D : Type 0} (S : History D) where
   pub mends_read : (a b : D) (k n : ℕ) → OnlyReads S a b k → Mends S a b n

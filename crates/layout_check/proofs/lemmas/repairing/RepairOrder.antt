@@ -6,12 +6,12 @@ use Rattle.d64_image.proofs.Moments.{at_end}
 use Rattle.d64_image.specs.History.{History, OnlyReads}
 use Rattle.d64_image.specs.Images.{Image, Sector, sector}
 use Rattle.d64_image.specs.declared.place.Place.{Place}
-use Rattle.disk_layout.proofs.lemmas.kept.Orders.{over_more, over_read, over_then}
+use Rattle.disk_layout.proofs.lemmas.kept.Orders.{made_then, over_more, over_read, over_then}
 use Rattle.disk_layout.specs.Directory.{map_place}
 use Rattle.disk_layout.specs.InOrder.{AreMade, GoesOver, IsUnderWay}
 use Rattle.disk_layout.specs.Layout.{IsLayout, Layout}
 use Rattle.layout_check.proofs.lemmas.repairing.Rights.{directory-not_map, order-once, side-not_map}
-use Rattle.layout_check.specs.RepairOrder.{ClearsSpare, IsRight, repair_order, sides_of}
+use Rattle.layout_check.specs.RepairOrder.{ClearsSpare, repair_order, sides_of}
 use Rattle.layout_check.specs.Made.{HasNoSpare}
 
 -- a sector that isn't gone over stays
@@ -31,48 +31,66 @@ pub spare_after : {D : Type 0} (S : History D) (a b c : D) (n : ℕ) → OnlyRea
     → ClearsSpare (S.image b) (S.image c) → ClearsSpare (S.image a) (S.image c)
 spare_after S a b c n reads h = let P : Image → Type 0 = λ i. ClearsSpare i (S.image c) in subst P reads.image h
 
-module _ {D : Type 0} (S : History D) (l : Layout) where
+-- all that is gone over was made right, in three parts
+pub made_all : (Right : Place → Sector → Type 0) (l : Layout) (a b c d : Image) → IsLayout a l
+    → AreMade Right (map_place ∷ []) a b → AreMade Right (sides_of l.files) b c → AreMade Right l.directory c d
+    → AreMade Right (repair_order l) a d
+made_all Right l a b c d is map sides counts =
+    made_then Right (map_place ∷ []) (sides_of l.files ++ l.directory) a b d (order-once a l is) map
+    (made_then Right (sides_of l.files) l.directory b c d (order-once a l is).1 sides counts)
+
+-- made right of the image before the reads
+pub made_after : (Right : Place → Sector → Type 0) (l : Layout) (a b c : Image) → b ≡ a → IsLayout a l
+    → AreMade Right (repair_order l) b c → AreMade Right (repair_order l) a c
+made_after Right l a b c same is made = let Q : Image → Type 0 = λ i. AreMade Right (repair_order l) i c in
+    subst Q same made
+
+-- a layout of the image before the reads is one of the image after them
+pub layout_at : (a b : Image) (l : Layout) → b ≡ a → IsLayout a l → IsLayout b l
+layout_at a b l same is = let P : Image → Type 0 = λ i. IsLayout i l in subst P (sym same) is
+
+module _ {D : Type 0} (S : History D) (Right : Place → Sector → Type 0) (l : Layout) where
   -- after the map, it goes over the side sectors
-  pub order_map : (a b : D) → GoesOver S a b (IsRight l) (map_place ∷ []) → GoesOver S a b (IsRight l) (repair_order l)
-  order_map a b h = over_more S (IsRight l) (map_place ∷ []) (sides_of l.files ++ l.directory) a b h
+  pub order_map : (a b : D) → GoesOver S a b Right (map_place ∷ []) → GoesOver S a b Right (repair_order l)
+  order_map a b h = over_more S Right (map_place ∷ []) (sides_of l.files ++ l.directory) a b h
 
   -- and after these, over the directory
-  pub order_sides : (a b c : D) → IsLayout (S.image a) l → GoesOver S a b (IsRight l) (map_place ∷ [])
-      → AreMade (IsRight l) (map_place ∷ []) (S.image a) (S.image b)
-      → GoesOver S b c (IsRight l) (sides_of l.files) → GoesOver S a c (IsRight l) (repair_order l)
+  pub order_sides : (a b c : D) → IsLayout (S.image a) l → GoesOver S a b Right (map_place ∷ [])
+      → AreMade Right (map_place ∷ []) (S.image a) (S.image b)
+      → GoesOver S b c Right (sides_of l.files) → GoesOver S a c Right (repair_order l)
   order_sides a b c is map made sides =
-      over_then S (IsRight l) (map_place ∷ []) (sides_of l.files ++ l.directory) a b c (order-once (S.image a) l is) map
+      over_then S Right (map_place ∷ []) (sides_of l.files ++ l.directory) a b c (order-once (S.image a) l is) map
       made
-      (over_more S (IsRight l) (sides_of l.files) l.directory b c sides)
+      (over_more S Right (sides_of l.files) l.directory b c sides)
 
-  pub order_all : (a b c d : D) → IsLayout (S.image a) l → GoesOver S a b (IsRight l) (map_place ∷ [])
-      → AreMade (IsRight l) (map_place ∷ []) (S.image a) (S.image b)
-      → GoesOver S b c (IsRight l) (sides_of l.files) → AreMade (IsRight l) (sides_of l.files) (S.image b) (S.image c)
-      → GoesOver S c d (IsRight l) l.directory → GoesOver S a d (IsRight l) (repair_order l)
+  pub order_all : (a b c d : D) → IsLayout (S.image a) l → GoesOver S a b Right (map_place ∷ [])
+      → AreMade Right (map_place ∷ []) (S.image a) (S.image b)
+      → GoesOver S b c Right (sides_of l.files) → AreMade Right (sides_of l.files) (S.image b) (S.image c)
+      → GoesOver S c d Right l.directory → GoesOver S a d Right (repair_order l)
   order_all a b c d is map made sides made_sides counts =
-      over_then S (IsRight l) (map_place ∷ []) (sides_of l.files ++ l.directory) a b d (order-once (S.image a) l is) map
+      over_then S Right (map_place ∷ []) (sides_of l.files ++ l.directory) a b d (order-once (S.image a) l is) map
       made
-      (over_then S (IsRight l) (sides_of l.files) l.directory b c d (order-once (S.image a) l is).1 sides made_sides
+      (over_then S Right (sides_of l.files) l.directory b c d (order-once (S.image a) l is).1 sides made_sides
       counts)
 
   -- reads before it
   pub order_after : (a b c : D) (n : ℕ) → IsLayout (S.image a) l → OnlyReads S a b n
-      → ((m : Layout) → IsLayout (S.image b) m → GoesOver S b c (IsRight m) (repair_order m))
-      → GoesOver S a c (IsRight l) (repair_order l)
+      → (IsLayout (S.image b) l → GoesOver S b c Right (repair_order l))
+      → GoesOver S a c Right (repair_order l)
   order_after a b c n is reads h =
       let P : Image → Type 0 = λ i. IsLayout i l in
-      over_read S (IsRight l) (repair_order l) a b c n (order-once (S.image a) l is) reads
-      (h l (subst P (sym reads.image) is))
+      over_read S Right (repair_order l) a b c n (order-once (S.image a) l is) reads
+      (h (subst P (sym reads.image) is))
 
   -- the map of a repair that went on
   pub spare_sides : (a b c : D) → IsLayout (S.image b) l → ClearsSpare (S.image a) (S.image b)
-      → GoesOver S b c (IsRight l) (sides_of l.files) → ClearsSpare (S.image a) (S.image c)
+      → GoesOver S b c Right (sides_of l.files) → ClearsSpare (S.image a) (S.image c)
   spare_sides a b c is h sides =
-      spare-later (S.image a) (S.image b) (S.image c) (untouched (IsRight l) (sides_of l.files) (S.image b) (S.image c)
+      spare-later (S.image a) (S.image b) (S.image c) (untouched Right (sides_of l.files) (S.image b) (S.image c)
       map_place (side-not_map (S.image b) l is) (at_end S b c _ sides.held)) h
 
   pub spare_counts : (a b c : D) → IsLayout (S.image b) l → ClearsSpare (S.image a) (S.image b)
-      → GoesOver S b c (IsRight l) l.directory → ClearsSpare (S.image a) (S.image c)
+      → GoesOver S b c Right l.directory → ClearsSpare (S.image a) (S.image c)
   spare_counts a b c is h counts =
-      spare-later (S.image a) (S.image b) (S.image c) (untouched (IsRight l) l.directory (S.image b) (S.image c)
+      spare-later (S.image a) (S.image b) (S.image c) (untouched Right l.directory (S.image b) (S.image c)
       map_place (directory-not_map (S.image b) l is) (at_end S b c _ counts.held)) h

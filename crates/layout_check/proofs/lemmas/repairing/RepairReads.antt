@@ -117,3 +117,23 @@ module _ {D : Type 0} (S : History D) where
     owners-few (S.image a) m has,
     (repair_few a b c r m has s (m, has, of, reads) mend).any,
   )
+
+  -- the same behind one read more, of the map
+  pub keeping_few : (a b c d : D) (r : Result (Unit {0}) Fault) (l : Layout) → IsLayout (S.image a) l
+      → (s : Survey) → ((m : Layout) × IsLayout (S.image a) m × IsSurveyOf m s
+      × OnlyReads S a b (18 + 2 * length (owners m))) → S.reads c ≤ S.reads b + 1
+      → ReadsFew S c d (19 + 5 * length (owners l)) r → ReadsFew S a d (38 + 7 * length (owners l)) r
+  keeping_few a b c d r l is s (m, has, of, reads) one mend =
+      few_after a c d (19 + 2 * length (owners m)) (19 + 5 * length (owners l)) _ r
+      (omega (arith, ap (λ x. length (owners x)) (IsLayout-one (S.image a) m l has is)))
+      (omega (arith, reads.reads, one)) mend
+
+  pub keeping_reads : (a b c d : D) (r : Result (Unit {0}) Fault) (s : Survey)
+      → (found : (m : Layout) × IsLayout (S.image a) m × IsSurveyOf m s
+      × OnlyReads S a b (18 + 2 * length (owners m))) → S.reads c ≤ S.reads b + 1
+      → ReadsFew S c d (19 + 5 * length (owners found.0)) r → S.reads d ≤ S.reads a + 5544
+  keeping_reads a b c d r s (m, has, of, reads) one mend = omega (
+    arith,
+    owners-few (S.image a) m has,
+    (keeping_few a b c d r m has s (m, has, of, reads) one mend).any,
+  )

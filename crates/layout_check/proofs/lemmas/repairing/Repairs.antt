@@ -37,7 +37,7 @@ use Rattle.disk_layout.proofs.lemmas.layouts.Layouts.{IsLayout-one, get-contains
 use Rattle.disk_layout.proofs.lemmas.lists.Lists.{alike, contains-get}
 use Rattle.disk_layout.proofs.lemmas.lists.Once.{EachOnce-apart, all-in, flat_map-in}
 use Rattle.disk_layout.specs.Chain.{EachOnce}
-use Rattle.disk_layout.specs.Clean.{IsClean, IsCleanLayout, IsExactFile}
+use Rattle.disk_layout.specs.Clean.{IsExactFile}
 use Rattle.disk_layout.specs.Directory.{map_place}
 use Rattle.disk_layout.specs.Layout.{File, IsLayout, Layout, file_owns, is_rel, owners, record_length}
 use Rattle.disk_layout.specs.Map.{IsMapOf}
@@ -45,7 +45,8 @@ use Rattle.disk_layout.specs.Same.{SameFiles, Stays, stays_of}
 use Rattle.disk_layout.specs.Side.{side_sector}
 use Rattle.disk_layout.specs.declared.slot.Slot.{Slot}
 use Rattle.layout_check.proofs.lemmas.judging.Verdict.{all-of}
-use Rattle.layout_check.specs.Exact.{HasMap}
+use Rattle.layout_check.specs.Exact.{HasMapBut}
+use Rattle.layout_check.specs.Keeping.{IsCleanBut}
 use Rattle.layout_check.specs.Owners.{owner_of}
 use Rattle.layout_check.specs.Mended.{AreExactFor, KeepsLayouts, SameMap}
 use Rattle.layout_check.specs.Recounted.{AreCounted, IsSameButCounts}
@@ -115,8 +116,8 @@ survey-same a c l m s same once h = record {
     owned : flat_map file_owns m.files ≡ flat_map file_owns l.files
     owned = owned-stays c a m.files l.files same.files
 
--- b has a right map, c exact side sectors besides, d right counts: d is clean
-module _ (b c d : Image) (l : Layout) (is : IsLayout b l) (map-right : HasMap b) (kept : KeepsLayouts b c)
+-- b has a right map, with strays, c exact side sectors besides, d right counts: d is clean but for these
+module _ (strays : List Place) (b c d : Image) (l : Layout) (is : IsLayout b l) (map-right : HasMapBut strays b) (kept : KeepsLayouts b c)
     (same-map : SameMap b c) (exact : AreExactFor b c)
     (h : IsSameButCounts c d l) (counted : AreCounted d) where
   abbrev pub mended : Layout
@@ -159,31 +160,28 @@ module _ (b c d : Image) (l : Layout) (is : IsLayout b l) (map-right : HasMap b)
         count = counted mended f h.sound own rel;
       }
 
-  pub clean-after : IsCleanLayout d mended
+  pub clean-after : IsCleanBut strays d mended
   clean-after = record {
     layout = h.sound;
     files = all-of (λ f. IsTrue (is_rel f.slot) → IsExactFile d f) mended.files file-exact;
-    map = let P : List ℕ → Type 0 = λ x. IsMapOf x (map_place ∷ owners mended) in
-        let Q : List Place → Type 0 = λ ps. IsMapOf (sector b map_place) (map_place ∷ ps) in
+    map = let P : List ℕ → Type 0 = λ x. IsMapOf x (strays ++ map_place ∷ owners mended) in
+        let Q : List Place → Type 0 = λ ps. IsMapOf (sector b map_place) (strays ++ map_place ∷ ps) in
         subst P (sym same-map ∙ sym (sector-left map_place is.directory.not_map))
         (subst Q (sym (owners-same c d l mended h.files)) (map-right l is));
   }
 
--- on a clean image the map, the side sectors and the counts are right
-module _ (a : Image) (clean : IsClean a) where
-  abbrev l : Layout
-  l = clean.0
-
+-- on an image that is clean but for strays the map, the side sectors and the counts are right
+module _ (strays : List Place) (a : Image) (l : Layout) (clean : IsCleanBut strays a l) where
   only : (m : Layout) → IsLayout a m → l ≡ m
-  only m is = IsLayout-one a l m clean.1.layout is
+  only m is = IsLayout-one a l m clean.layout is
 
-  pub clean-map : HasMap a
-  clean-map m is = let P : Layout → Type 0 = λ x. IsMapOf (sector a map_place) (map_place ∷ owners x) in
-      subst P (only m is) clean.1.map
+  pub clean-map : HasMapBut strays a
+  clean-map m is = let P : Layout → Type 0 = λ x. IsMapOf (sector a map_place) (strays ++ map_place ∷ owners x) in
+      subst P (only m is) clean.map
 
   file-of : (m : Layout) (f : File) → IsLayout a m → Contains m.files f → IsTrue (is_rel f.slot) → IsExactFile a f
   file-of m f is own rel =
-      all-in (λ x. IsTrue (is_rel x.slot) → IsExactFile a x) l.files f clean.1.files (let P : Layout
+      all-in (λ x. IsTrue (is_rel x.slot) → IsExactFile a x) l.files f clean.files (let P : Layout
       → Type 0 = λ x. Contains x.files f in subst P (sym (only m is)) own) rel
 
   pub clean-counts : AreCounted a

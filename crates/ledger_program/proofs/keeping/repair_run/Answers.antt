@@ -8,7 +8,7 @@ use Rattle.ledger_program.proofs.keeping.repair_run.Goals as goal
 
 pub returns-in-Err : goal.returns-in-Err
 returns-in-Err g c = record {
-  run = not-loaded g.F.SectorFile.keeps g.W.Write.contents c.args.image.now c.args.file
+  run = not-loaded c.args.free g.F.SectorFile.keeps g.W.Write.contents c.args.image.now c.args.file
       c.args.out.now c.in-Err.fault c.in-Err.ensures.err;
 }
 
@@ -22,7 +22,7 @@ returns g c =
     (ap disk_image c.new-mirror.ensures.disk ∙ loaded.1) ∙ c.requires.agrees in
     record {
       run = file-ended start c.new-mirror.ensures.whole c.new-mirror.ensures.untaken c.repair_image-ended.new.disk
-          g.W.Write.contents image loaded.0 holds
+          c.args.free g.W.Write.contents image loaded.0 holds
           c.args.out.now c.repair_image-ended.new.out c.args.file c.repair_image-ended.result c.file_of.result
           c.new-mirror.ensures.file
           c.file_of.ensures.file c.repair_image-ended.ensures.ok c.repair_image-ended.ensures.err c.file_of.ensures.end;

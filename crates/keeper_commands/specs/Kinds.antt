@@ -1,0 +1,25 @@
+-- Which disks are no 1541 disk of files alone, by 18/0 (GEOS: the disk's signature, in its own ASCII, behind the directory
+-- header; the 1541's format byte: Inside Commodore DOS).
+use Rattle.std.specs.Prelude.{◌≡◌, ◌≢◌, codes, slice_index, slice_range}
+use Rattle.d64_image.specs.Images.{Sector}
+use Rattle.keeper_commands.specs.declared.faults.KeepFault.{KeepFault}
+use Rattle.keeper_commands.specs.declared.faults.KeepFault.TheVariants as keep
+
+-- GEOS wrote its signature from byte 173 on: GEOS format V1.0, or another version
+abbrev pub HasGeosSign : Sector → Type 0
+HasGeosSign bytes = slice_range bytes 173 186 ≡ codes "GEOS format V"
+
+-- byte 2 is the format byte of the 1541, an A
+abbrev pub HasFormatByte : Sector → Type 0
+HasFormatByte bytes = slice_index bytes 2 ≡ 65
+
+-- a disk of the 1541 that isn't one of GEOS
+pub record IsPlainDisk (bytes : Sector) : Type 0 where
+  pub geos : ¬ (HasGeosSign bytes)
+  pub format : HasFormatByte bytes
+
+-- why a disk with this 18/0 is none
+abbrev pub IsKindFault : Sector → KeepFault → Type 0
+IsKindFault bytes keep.Geos = HasGeosSign bytes
+IsKindFault bytes keep.Format = ¬ (HasFormatByte bytes)
+IsKindFault bytes _ = ⊥

@@ -1,0 +1,37 @@
+//! What kind of disk an image is, by its 18/0: whether a repair understands it.
+ghost use Rattle.std.specs.Prelude.{◌≡◌, ◌↔◌, IfErr, IsTrue, OnOk};
+ghost use Rattle.d64_image.specs.Images.{sector};
+ghost use Rattle.d64_image.specs.Memory.{disk_image};
+ghost use Rattle.disk_layout.specs.Directory.{map_place};
+ghost use Rattle.keeper_commands.specs.Kinds.{HasFormatByte, HasGeosSign, IsKindFault, IsPlainDisk};
+
+use crate::faults::KeepFault;
+use d64_image::{MemDisk, Sectors};
+use disk_layout::map_place;
+
+/// Where in 18/0 GEOS's signature stands, up to the version's number.
+const GEOS_SIGN: &[u8; 13] = b"GEOS format V";
+
+/// Whether 18/0 has GEOS's signature.
+fn has_geos_sign(bytes: &[u8; 256]) -> bool
+    ensures { IsTrue result ↔ HasGeosSign bytes.now }
+{
+    &bytes[173..186] == &GEOS_SIGN[..]
+}
+
+/// Judges by 18/0 whether the disk is one of the 1541, and none of GEOS: `Geos` or `Format` where it isn't.
+pub(crate) fn judge_kind(disk: &mut MemDisk) -> Result<(), KeepFault>
+    ensures plain { OnOk result (IsPlainDisk (sector (disk_image disk.old) map_place)) }
+    ensures other { IfErr result (IsKindFault (sector (disk_image disk.old) map_place)) }
+    ensures same { disk_image disk.new ≡ disk_image disk.old }
+{
+    let mut bytes = [0; 256];
+    let _ = disk.read(map_place(), &mut bytes);
+    if has_geos_sign(&bytes) {
+        return Err(KeepFault::Geos);
+    }
+    if bytes[2] != b'A' {
+        return Err(KeepFault::Format);
+    }
+    Ok(())
+}
