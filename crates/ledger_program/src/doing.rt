@@ -9,7 +9,7 @@ ghost use Rattle.ledger_program.specs.Runs.{IsReadingEnd, IsReadingOf};
 
 use crate::drawing::drawing_run;
 use crate::durable_runs::{play_durably, serve_durably};
-use crate::files::{AtPath, STANDARD_INPUT, opened, room_for, script_at};
+use crate::files::{AtPath, STANDARD_INPUT, opened, opened_to_read, room_for, script_at};
 use crate::jobs::{Drawing, Job, Reading, Taking};
 use crate::keeping::taking_run;
 use crate::keeping_files::{do_make, do_repair, do_store};
@@ -129,6 +129,14 @@ fn lock_opened<F: Locks>(what: Reading, opened: &mut io::Result<F>) -> Result<()
     }
 }
 
+/// The file that is read for this. An image is a regular file; a script may be a pipe.
+fn opened_for<R: Files>(rt: &R, what: Reading, path: &str) -> io::Result<R::File> {
+    match what {
+        Reading::Dry => File::open(rt, path),
+        Reading::List | Reading::Check | Reading::Show => opened_to_read(rt, path),
+    }
+}
+
 /// Does what is asked of the file at a path, or of standard input.
 fn do_reading<F, R, W>(
     rt: &R,
@@ -144,7 +152,7 @@ where
     if path == STANDARD_INPUT {
         return job_end(do_over(rt.alloc(), what, Ok(rt.reader()), 0, out));
     }
-    let mut opened = File::open(rt, path);
+    let mut opened = opened_for(rt, what, path);
     lock_opened(what, &mut opened)?;
     let room = room_for(&opened);
     job_end(do_over(rt.alloc(), what, opened, room, out))
@@ -153,7 +161,7 @@ where
 /// Makes the image at a path.
 fn do_format<F, R, W>(rt: &R, path: &str, tills: u8, out: &mut W) -> Result<Option<Fault>, Refusal>
 where
-    F: EndedFile + Locks + Drop,
+    F: EndedFile + Locks + OpenFile + Drop,
     R: Files<File = F> + AllocGlobal,
     W: Write,
     requires some { 1 ≤ tills }
@@ -250,7 +258,7 @@ where
     if path == STANDARD_INPUT {
         return told(read_image(rt.alloc(), rt.reader()));
     }
-    let mut file = told(File::open(rt, path))?;
+    let mut file = told(opened_to_read(rt, path))?;
     share(&mut file)?;
     told(read_shared(rt.alloc(), &mut file))
 }

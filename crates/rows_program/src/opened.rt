@@ -122,11 +122,7 @@ impl Seek for Opened<'_> {
 
 impl OpenFile for Opened<'_> {
     fn metadata(&self) -> io::Result<Metadata> {
-        match self.stored.kind.get() {
-            Kind::Folder => Ok(Metadata::of_dir()),
-            Kind::Stream => Ok(Metadata::of_file(0)),
-            _ => Ok(Metadata::of_file(self.stored.size() as u64)),
-        }
+        self.stored.found()
     }
 
     fn set_len(&self, size: u64) -> io::Result<()> {

@@ -4,6 +4,7 @@ ghost use Rattle.std.specs.Io.{ReadsAtMost, WritesAtMost};
 
 use std::alloc::Global;
 use std::cell::{Cell, RefCell};
+use std::fs::Metadata;
 use std::io::{self, Cursor, ErrorKind, Read, Write};
 
 /// What stands at a path.
@@ -198,6 +199,17 @@ impl Stored {
         match self.bytes.try_borrow() {
             Ok(held) => held.get_ref().len(),
             Err(_) => 0,
+        }
+    }
+
+    /// What a system says of what stands there. Of the types that the kit can name a link is the one for a stream that
+    /// is no regular file.
+    pub(crate) fn found(&self) -> io::Result<Metadata> {
+        match self.kind.get() {
+            Kind::Missing => failed(ErrorKind::NotFound),
+            Kind::Folder => Ok(Metadata::of_dir()),
+            Kind::Stream => Ok(Metadata::of_symlink(0)),
+            Kind::Plain | Kind::ReadOnly => Ok(Metadata::of_file(self.size() as u64)),
         }
     }
 
