@@ -9,7 +9,7 @@ ghost use Rattle.ledger_program.specs.Runs.{IsReadingEnd, IsReadingOf};
 
 use crate::drawing::drawing_run;
 use crate::durable_runs::{play_durably, serve_durably};
-use crate::files::{AtPath, STANDARD_INPUT, opened, opened_to_read, room_for, script_at};
+use crate::files::{AtPath, STANDARD_INPUT, room_for, script_at};
 use crate::jobs::{Drawing, Job, Reading, Taking};
 use crate::keeping::taking_run;
 use crate::keeping_files::{do_make, do_repair, do_store};
@@ -28,6 +28,7 @@ use std::alloc::Global;
 use std::fs::{File, OpenFile};
 use std::io::{self, BufReader, Read, Write};
 use std::rt::Files;
+use system_files::{opened_to_change, opened_to_read};
 
 /// What came of the system's part of a job, as it is told.
 pub(crate) fn told<T>(taken: io::Result<T>) -> Result<T, Refusal>
@@ -188,7 +189,7 @@ where
     R: Files<File = F> + Input + AllocGlobal,
     W: Write,
 {
-    let mut file = told(opened(rt, path))?;
+    let mut file = told(opened_to_change(rt, path))?;
     let image = own_image(rt.alloc(), &mut file, durability)?;
     let script = told(script_at(rt, script))?;
     let mut printer = Printer::new(out);
@@ -244,7 +245,7 @@ where
     R: Files<File = F> + Input + AllocGlobal,
     W: Write,
 {
-    let mut file = told(opened(rt, path))?;
+    let mut file = told(opened_to_change(rt, path))?;
     let image = own_image(rt.alloc(), &mut file, durability)?;
     serve_input(rt, image.as_slice(), file, durability, out)
 }

@@ -1,9 +1,8 @@
 //! What a person at a terminal is told: what is going to be replaced, and below a refusal which file it is about, what
 //! the system says of it, and what to do.
-use crate::files::{STANDARD_INPUT, opened, opened_to_read, regular_at};
+use crate::files::STANDARD_INPUT;
 use crate::jobs::{Job, Reading};
 use crate::refusals::Refusal;
-use crate::shown_paths::ShownPath;
 use disk_pictures::PictureFault;
 use keeper_commands::KeepFault;
 use ledger_commands::RunFault;
@@ -11,6 +10,7 @@ use std::fmt::Display;
 use std::fs::{File, OpenFile, OpenOptions};
 use std::io::{self, Write};
 use std::rt::Files;
+use system_files::{ShownPath, opened_to_change, opened_to_read, regular_at};
 
 /// What a refusal is about.
 enum About {
@@ -129,7 +129,7 @@ fn opened_for<R: Files>(rt: &R, job: &Job<'_>, image: &str) -> io::Result<R::Fil
             regular_at(rt, image)?;
             OpenOptions::new().write(true).open(rt, image)
         }
-        _ if writes(job) => opened(rt, image),
+        _ if writes(job) => opened_to_change(rt, image),
         _ => opened_to_read(rt, image),
     }
 }

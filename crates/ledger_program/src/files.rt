@@ -1,12 +1,10 @@
 //! The files that a job names, opened and read.
-ghost use Rattle.std.specs.Prelude.{IfOk};
-ghost use Rattle.std.specs.Fs.{IsFile, file_type};
-
 use crate::refusals::Refusal;
 use ledger_commands::{EndedFile, Locks, OpensFile, read_script};
-use std::fs::{File, Metadata, OpenFile, OpenOptions};
+use std::fs::{File, OpenFile, OpenOptions};
 use std::io;
 use std::rt::Files;
+use system_files::{regular, regular_at};
 
 /// The name under which standard input is read. It is read as it is, since the program may not be allowed to open it
 /// again.
@@ -31,39 +29,6 @@ pub(crate) fn script_at<R: Files + Input + AllocGlobal>(rt: &R, path: &str) -> i
     let opened = File::open(rt, path);
     let room = room_for(&opened);
     read_script(rt.alloc(), opened?, room)
-}
-
-/// What the system says of a file. An error if it isn't a regular file but a pipe, a device or a folder: opening such a
-/// thing may wait, and writing to it may harm.
-fn regular(found: io::Result<Metadata>) -> io::Result<Metadata>
-    ensures { IfOk result (λ found. IsFile (file_type found)) }
-{
-    let found = found?;
-    if found.is_file() {
-        return Ok(found);
-    }
-    let said = "it is a pipe, a device or a folder";
-    Err(io::Error::new(io::ErrorKind::InvalidInput, said))
-}
-
-/// What the system says of the file at a path, which isn't opened. An error if it isn't a regular file, or there is none.
-pub(crate) fn regular_at<R: Files>(rt: &R, path: &str) -> io::Result<Metadata>
-    ensures { IfOk result (λ found. IsFile (file_type found)) }
-{
-    regular(rt.metadata(path))
-}
-
-/// The file of an image that is only read. An error if it isn't a regular file; such a thing isn't opened.
-pub(crate) fn opened_to_read<R: Files>(rt: &R, path: &str) -> io::Result<R::File> {
-    regular_at(rt, path)?;
-    File::open(rt, path)
-}
-
-/// The file of an image that is read and then written, and neither made nor cut. An error if it isn't a regular file;
-/// such a thing isn't opened.
-pub(crate) fn opened<R: Files>(rt: &R, path: &str) -> io::Result<R::File> {
-    regular_at(rt, path)?;
-    OpenOptions::new().read(true).write(true).open(rt, path)
 }
 
 /// Sees that nothing stands at a path but a regular file, or nothing at all, before a file is made there.

@@ -28,4 +28,5 @@ pub use refusals::Refusal;
 pub use running::{format_run, play_run, reading_run};
 pub use serving_files::serve_file;
 pub use serving_runs::serve_run;
+pub use system_files::ClosedStreams;
 pub use telling::{Ending, end, tell};
