@@ -5,7 +5,7 @@ use Rattle.std.specs.Io.KnownBytes.{Appends}
 use Rattle.host_session.specs.runs.Outputs.{AppendsPart}
 use Rattle.system_files.specs.Remains.{Remains}
 use Rattle.system_files.specs.Replacing.{IsReplaced}
-use Rattle.ledger_commands.specs.Images.{AreFreshBytes, IsFormatted, IsHandedOver, IsWritten}
+use Rattle.ledger_commands.specs.Images.{AreFreshBytes, IsFormatted, IsHandedOver, IsHandedPart, IsWritten}
 use Rattle.ledger_commands.specs.declared.faults.RunFault.{RunFault}
 use Rattle.ledger_commands.specs.declared.faults.RunFault.TheVariants as run
 
@@ -21,17 +21,18 @@ no_memory into tills file result fault told is =
     subst (IsWritten into tills file file) (sym told)
     (subst (λ f. IsWritten into tills file file (Err f)) (sym is) refl)
 
--- the bytes of a disk were written whole, or a part of them
+-- the bytes of a disk were written whole
 pub written : {F E : Type 0} (into : Remains F) (tills : ℕ) (file new_file : F) (bytes : List ℕ)
-    → AreFreshBytes tills bytes → (put : Result Unit E) → IsReplaced into file new_file bytes put → IsOk put
-    → IsWritten into tills file new_file (Ok tt)
-written into tills file new_file bytes fresh (Ok _) is ok =
-    record { bytes = bytes; fresh = fresh; held = is.held; lasting = is.ok; remain = is.remain }
-written into tills file new_file bytes fresh (Err _) is never = absurd never
+    → AreFreshBytes tills bytes → (put : Result Unit E) → put ≡ Ok tt → IsReplaced into file new_file bytes put
+    → IsHandedOver into tills file new_file
+written {F} {E} into tills file new_file bytes fresh put ok is =
+    let whole = subst (λ (x : Result Unit E). IsReplaced into file new_file bytes x) ok is in
+    record { bytes = bytes; fresh = fresh; held = whole.held; lasting = whole.ok; remain = whole.remain }
 
+-- or a part of them
 pub written_part : {F E : Type 0} (into : Remains F) (tills : ℕ) (file new_file : F) (bytes : List ℕ)
     → AreFreshBytes tills bytes → (put : Result Unit E) → IsReplaced into file new_file bytes put
-    → IsWritten into tills file new_file (Err run.File)
+    → IsHandedPart into tills file new_file
 written_part into tills file new_file bytes fresh put is =
     record { bytes = bytes; fresh = fresh; remain = is.remain }
 

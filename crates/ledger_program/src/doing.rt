@@ -9,7 +9,7 @@ ghost use Rattle.ledger_program.specs.Runs.{IsReadingEnd, IsReadingOf};
 
 use crate::drawing::drawing_run;
 use crate::durable_runs::{play_durably, serve_durably};
-use crate::files::{AtPath, STANDARD_INPUT, room_for, script_at};
+use crate::files::{AtPath, Older, STANDARD_INPUT, room_for, script_at};
 use crate::jobs::{Drawing, Job, Reading, Taking};
 use crate::keeping::taking_run;
 use crate::keeping_files::{do_make, do_repair, do_store};
@@ -160,7 +160,13 @@ where
 }
 
 /// Makes the image at a path.
-fn do_format<F, R, W>(rt: &R, path: &str, tills: u8, out: &mut W) -> Result<Option<Fault>, Refusal>
+fn do_format<F, R, W>(
+    rt: &R,
+    path: &str,
+    tills: u8,
+    older: Older,
+    out: &mut W,
+) -> Result<Option<Fault>, Refusal>
 where
     F: EndedFile + Locks + OpenFile + Drop,
     R: Files<File = F> + AllocGlobal,
@@ -168,9 +174,9 @@ where
     requires some { 1 ≤ tills }
     requires few { tills ≤ 64 }
 {
-    let mut file = Replaced::new(AtPath::new(rt, path));
+    let mut file = Replaced::new(AtPath::new(rt, path, older));
     let ended = format_run(rt.alloc(), tills, &mut file, out);
-    match file.opener().unlocked() {
+    match file.opener().refused() {
         Some(refusal) => Err(refusal),
         None => job_end(ended),
     }
@@ -309,24 +315,33 @@ where
     requires { IsFit job.now }
 {
     match *job {
-        Job::Format { image, tills } => do_format(rt, image, tills, out),
-        Job::Read { what, path } => do_reading(rt, what, path, out),
-        Job::Play {
+        Job::Format { image, tills } => do_format(rt, image, tills, Older::Replaced, out),
+        Job::FormatNew { image, tills } => do_format(rt, image, tills, Older::Kept, out),
+        Job::List { image } => do_reading(rt, Reading::List, image, out),
+        Job::Check { image } => do_reading(rt, Reading::Check, image, out),
+        Job::Show { image } => do_reading(rt, Reading::Show, image, out),
+        Job::Dry { script } => do_reading(rt, Reading::Dry, script, out),
+        Job::Play { image, script } => do_playing(rt, image, script, Durability::AtEnd, out),
+        Job::PlaySynced { image, script } => {
+            do_playing(rt, image, script, Durability::EachSector, out)
+        }
+        Job::Serve {
             image,
-            script,
             durability,
-        } => do_playing(rt, image, script, durability, out),
-        Job::Serve { image, durability } => do_serving(rt, image, durability, out),
-        Job::Repair { image } => do_repair(rt, image, out),
+            ..
+        } => do_serving(rt, image, durability, out),
+        Job::Repair { image, .. } => do_repair(rt, image, out),
         Job::Make {
             image,
             ref name,
             length,
+            ..
         } => do_make(rt, image, name, length, out),
         Job::Store {
             image,
             ref name,
             records,
+            ..
         } => do_store(rt, image, name, records, out),
         Job::Take {
             what,

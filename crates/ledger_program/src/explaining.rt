@@ -1,7 +1,7 @@
 //! What a person at a terminal is told: what is going to be replaced, and below a refusal which file it is about, what
 //! the system says of it, and what to do.
 use crate::files::STANDARD_INPUT;
-use crate::jobs::{Job, Reading};
+use crate::jobs::Job;
 use crate::refusals::Refusal;
 use disk_pictures::PictureFault;
 use keeper_commands::KeepFault;
@@ -71,28 +71,28 @@ fn subject_of(refusal: Refusal) -> About {
         Refusal::Draw(PictureFault::NoMemory) => About::Nothing,
         Refusal::Draw(_) => About::Image(JUDGED),
         Refusal::InUse => About::Image("another program has it; end that one first"),
+        Refusal::Exists => About::Image("it is there already; `format` without `--new` replaces it"),
     }
 }
 
 /// The file that a job reads or writes first.
 fn image_of<'a>(job: &Job<'a>) -> &'a str {
     match job {
-        Job::Format { image, .. } | Job::Play { image, .. } | Job::Serve { image, .. } => image,
-        Job::Repair { image } | Job::Take { image, .. } | Job::Draw { image, .. } => image,
+        Job::Format { image, .. } | Job::FormatNew { image, .. } => image,
+        Job::List { image } | Job::Check { image } | Job::Show { image } => image,
+        Job::Play { image, .. } | Job::PlaySynced { image, .. } | Job::Serve { image, .. } => image,
+        Job::Repair { image, .. } | Job::Take { image, .. } | Job::Draw { image, .. } => image,
         Job::Make { image, .. } | Job::Store { image, .. } => image,
-        Job::Read { path, .. } => path,
+        Job::Dry { script } => script,
     }
 }
 
 /// The script, or the records, that it reads behind that.
 fn text_of<'a>(job: &Job<'a>) -> Option<&'a str> {
     match job {
-        Job::Play { script, .. } => Some(script),
+        Job::Play { script, .. } | Job::PlaySynced { script, .. } => Some(script),
         Job::Store { records, .. } => Some(records),
-        Job::Read {
-            what: Reading::Dry,
-            path,
-        } => Some(path),
+        Job::Dry { script } => Some(script),
         _ => None,
     }
 }
@@ -100,9 +100,11 @@ fn text_of<'a>(job: &Job<'a>) -> Option<&'a str> {
 /// Whether it writes its first file.
 fn writes(job: &Job<'_>) -> bool {
     match job {
-        Job::Format { .. } | Job::Play { .. } | Job::Serve { .. } => true,
+        Job::Format { .. } | Job::FormatNew { .. } => true,
+        Job::Play { .. } | Job::PlaySynced { .. } | Job::Serve { .. } => true,
         Job::Repair { .. } | Job::Make { .. } | Job::Store { .. } => true,
-        Job::Read { .. } | Job::Take { .. } | Job::Draw { .. } => false,
+        Job::List { .. } | Job::Check { .. } | Job::Show { .. } | Job::Dry { .. } => false,
+        Job::Take { .. } | Job::Draw { .. } => false,
     }
 }
 
@@ -125,7 +127,7 @@ fn told_unopened<T: Drop, E: Write>(err: &mut E, path: &str, tried: io::Result<T
 /// Opens the file of an image as its job does. An error if it isn't a regular file; such a thing isn't opened.
 fn opened_for<R: Files>(rt: &R, job: &Job<'_>, image: &str) -> io::Result<R::File> {
     match job {
-        Job::Format { .. } => {
+        Job::Format { .. } | Job::FormatNew { .. } => {
             regular_at(rt, image)?;
             OpenOptions::new().write(true).open(rt, image)
         }
@@ -137,9 +139,7 @@ fn opened_for<R: Files>(rt: &R, job: &Job<'_>, image: &str) -> io::Result<R::Fil
 /// Whether this is the first file of a job, and an image.
 fn is_image(job: &Job<'_>, path: &str) -> bool {
     match job {
-        Job::Read {
-            what: Reading::Dry, ..
-        } => false,
+        Job::Dry { .. } => false,
         _ => path != STANDARD_INPUT,
     }
 }

@@ -20,6 +20,8 @@ pub enum Refusal {
     Draw(PictureFault),
     /// Another program has the image. Nothing was read or changed.
     InUse,
+    /// A file is to be made under a name that exists. Nothing was changed.
+    Exists,
 }
 
 impl Refusal {
@@ -32,6 +34,7 @@ impl Refusal {
             Refusal::Keep(fault) => fault.status(),
             Refusal::Draw(fault) => fault.status(),
             Refusal::InUse => 3,
+            Refusal::Exists => 1,
         }
     }
 
@@ -56,6 +59,7 @@ impl Display for Refusal {
             Refusal::Keep(fault) => fault.fmt(f),
             Refusal::Draw(fault) => fault.fmt(f),
             Refusal::InUse => f.write_str("IN USE"),
+            Refusal::Exists => f.write_str("FILE EXISTS"),
         }
     }
 }

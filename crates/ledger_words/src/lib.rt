@@ -10,4 +10,4 @@ mod words;
 pub use faults::JobFault;
 pub use obeying::{Told, program};
 pub use starting::hold_streams;
-pub use words::job;
+pub use words::{CommandLine, command_line, job};

@@ -13,4 +13,15 @@ returns-in_err-disk g c =
     ∙ ap Err p.2) c.in_err-disk.ensures.err
 
 pub returns : goal.returns
-returns g c = ?
+returns g c =
+    let fresh : AreFreshBytes c.args.tills c.bytes.result.now =
+    record { disk = disk_image c.in_ok-disk.disk; fresh = c.in_ok-disk.ensures.ok; bytes_of = c.bytes.ensures.value } in
+    written_part g.F.EndedFile.remains c.args.tills c.args.file.now c.replace_image.new.file c.bytes.result.now fresh
+    c.replace_image.result c.replace_image.ensures
+
+pub returns-in-Ok : goal.returns-in-Ok
+returns-in-Ok g c =
+    let fresh : AreFreshBytes c.args.tills c.bytes.result.now =
+    record { disk = disk_image c.in_ok-disk.disk; fresh = c.in_ok-disk.ensures.ok; bytes_of = c.bytes.ensures.value } in
+    written g.F.EndedFile.remains c.args.tills c.args.file.now c.replace_image.new.file c.bytes.result.now fresh
+    c.replace_image.result c.in-Ok.is c.replace_image.ensures
