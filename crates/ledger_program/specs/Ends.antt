@@ -24,6 +24,7 @@ refusal_status (refusals.Run fault) = run_status fault
 refusal_status (refusals.Keep fault) = keep_status fault
 refusal_status (refusals.Draw fault) = picture_status fault
 refusal_status refusals.InUse = 3
+refusal_status refusals.Exists = 1
 
 -- what is told of it
 abbrev pub refusal_text : Refusal → List ℕ
@@ -31,6 +32,7 @@ refusal_text (refusals.Run fault) = run_text fault
 refusal_text (refusals.Keep fault) = keep_text fault
 refusal_text (refusals.Draw fault) = picture_text fault
 refusal_text refusals.InUse = codes "IN USE"
+refusal_text refusals.Exists = codes "FILE EXISTS"
 
 -- the line in which it is told
 abbrev pub refusal_line : Refusal → List ℕ

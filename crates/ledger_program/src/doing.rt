@@ -1,14 +1,13 @@
 //! Doing a job: its files are opened and read, and what is printed goes to an output.
-ghost use Rattle.std.specs.Prelude.{◌≡◌, ◌≤◌, IfErr, IfOk, IfSome, Err, take, vec_items};
+ghost use Rattle.std.specs.Prelude.{◌≡◌, ◌≤◌, IfErr, IfOk, IfSome, Err, vec_items};
 ghost use Rattle.std.specs.IoError.{error_kind};
-ghost use Rattle.ledger_commands.specs.Durable.{IsSynced};
 ghost use Rattle.ledger_commands.specs.Faults.{io_fault};
 ghost use Rattle.ledger_program.specs.Ends.{as_drawn, as_job, as_kept, told_of};
 ghost use Rattle.ledger_program.specs.Jobs.{IsFit, needed};
 ghost use Rattle.ledger_program.specs.Runs.{IsReadingEnd, IsReadingOf};
 
 use crate::drawing::drawing_run;
-use crate::durable_runs::{play_durably, serve_durably};
+use crate::durable_runs::play_durably;
 use crate::files::{AtPath, Older, STANDARD_INPUT, room_for, script_at};
 use crate::jobs::{Drawing, Job, Reading, Taking};
 use crate::keeping::taking_run;
@@ -17,16 +16,17 @@ use crate::names::Name;
 use crate::owning::{own_image, read_shared, share};
 use crate::refusals::Refusal;
 use crate::running::{format_run, reading_run};
+use crate::serving_images::do_serving;
 use disk_layout::Fault;
 use disk_pictures::PictureFault;
 use host_session::Printer;
 use keeper_commands::KeepFault;
 use ledger_commands::{
-    Durability, EndedFile, Locks, Replaced, RunFault, WritesAt, read_image, read_script,
+    Durability, EndedFile, Locks, Replaced, RunFault, read_image, read_script,
 };
 use std::alloc::Global;
 use std::fs::{File, OpenFile};
-use std::io::{self, BufReader, Read, Write};
+use std::io::{self, Read, Write};
 use std::rt::Files;
 use system_files::{opened_to_change, opened_to_read};
 
@@ -208,52 +208,6 @@ where
         &mut printer,
     );
     job_end(ended)
-}
-
-/// Serves the shop of this image, over its file, to what comes on standard input.
-fn serve_input<F, R, W>(
-    rt: &R,
-    image: &[u8],
-    file: F,
-    durability: Durability,
-    out: &mut W,
-) -> Result<Option<Fault>, Refusal>
-where
-    F: WritesAt + Drop,
-    R: Input + AllocGlobal,
-    W: Write,
-    requires synced { IsSynced F.held F.lasting durability file }
-    requires image { IfSome (F.held file) (λ all. image.now ≡ take 174849 all) }
-{
-    // A bare reader of standard input reads a byte a call.
-    let mut input = told(BufReader::new(rt.alloc(), rt.reader()))?;
-    let mut printer = Printer::new(out);
-    let (_, ended) = serve_durably(
-        rt.alloc(),
-        image,
-        file,
-        durability,
-        &mut input,
-        &mut printer,
-    );
-    job_end(ended)
-}
-
-/// Serves the shop of the image at a path, over its file, to what comes on standard input.
-fn do_serving<F, R, W>(
-    rt: &R,
-    path: &str,
-    durability: Durability,
-    out: &mut W,
-) -> Result<Option<Fault>, Refusal>
-where
-    F: Read + Locks + Drop,
-    R: Files<File = F> + Input + AllocGlobal,
-    W: Write,
-{
-    let mut file = told(opened_to_change(rt, path))?;
-    let image = own_image(rt.alloc(), &mut file, durability)?;
-    serve_input(rt, image.as_slice(), file, durability, out)
 }
 
 /// The bytes of the image at a path, which nobody writes while it is read, or of standard input.

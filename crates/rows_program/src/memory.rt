@@ -166,8 +166,8 @@ impl<'a> Files for Runtime<'a> {
 
     fn metadata(&self, path: &str) -> io::Result<Metadata> {
         match path {
-            "a.d64" => self.memory.image.found(),
-            "s.txt" => self.memory.script.found(),
+            "a.d64" => self.memory.image.looked_at(),
+            "s.txt" => self.memory.script.looked_at(),
             "." => self.memory.folder.found(),
             _ => failed(ErrorKind::NotFound),
         }

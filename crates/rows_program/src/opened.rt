@@ -142,6 +142,10 @@ impl OpenFile for Opened<'_> {
 }
 
 impl EndedFile for Opened<'_> {
+    fn put_over(&mut self, bytes: &[u8], at: u64) -> io::Result<()> {
+        FileExt::write_all_at(self, bytes, at)
+    }
+
     fn end_at(&mut self, bytes: u64) -> io::Result<()> {
         self.set_len(bytes)
     }
@@ -155,8 +159,11 @@ impl EndedFile for Opened<'_> {
 pub(crate) fn open_stored<'a>(stored: &'a Stored, how: &OpenOptions) -> io::Result<Opened<'a>> {
     how.check()?;
     match stored.kind.get() {
-        Kind::Missing if !how.asks_create() => return failed(ErrorKind::NotFound),
+        Kind::Missing if !how.asks_create() && !how.asks_create_new() => {
+            return failed(ErrorKind::NotFound);
+        }
         Kind::Missing => stored.kind.set(Kind::Plain),
+        _ if how.asks_create_new() => return failed(ErrorKind::AlreadyExists),
         Kind::Folder if how.asks_write() => return failed(ErrorKind::IsADirectory),
         Kind::ReadOnly if how.asks_write() => return failed(ErrorKind::PermissionDenied),
         _ => {}
