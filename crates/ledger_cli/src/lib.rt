@@ -7,5 +7,5 @@ mod stream;
 
 pub use ledger_commands::{DryFault, dry};
 pub use ledger_program::Job;
-pub use ledger_words::{JobFault, Told, job, program};
+pub use ledger_words::{JobFault, Told, hold_streams, job, program};
 pub use running::run;

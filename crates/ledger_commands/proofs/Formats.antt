@@ -1,9 +1,11 @@
 -- An image that is made and said to be, by how its two steps ended.
 use Rattle.std.proofs.Common.{◌≡◌, ℕ, List, Option, Result, Ok, Err, inl, inr, refl, subst, sym}
-use Rattle.std.specs.Prelude.{IfErr, OnOk, codes}
+use Rattle.std.specs.Prelude.{IfErr, IsOk, OnOk, codes}
 use Rattle.std.specs.Io.KnownBytes.{Appends}
 use Rattle.host_session.specs.runs.Outputs.{AppendsPart}
-use Rattle.ledger_commands.specs.Images.{AreFreshBytes, IsFormatted, IsHandedOver, IsWritten}
+use Rattle.system_files.specs.Remains.{Remains}
+use Rattle.system_files.specs.Replacing.{IsReplaced}
+use Rattle.ledger_commands.specs.Images.{AreFreshBytes, IsFormatted, IsHandedOver, IsHandedPart, IsWritten}
 use Rattle.ledger_commands.specs.declared.faults.RunFault.{RunFault}
 use Rattle.ledger_commands.specs.declared.faults.RunFault.TheVariants as run
 
@@ -13,25 +15,29 @@ on_ok (Ok _) P holds = holds
 on_ok (Err _) P holds = tt
 
 -- there was no memory for the disk
-pub no_memory : {F : Type 0} (into : F → Option (List ℕ)) (tills : ℕ) (file : F) (result : Result Unit RunFault)
+pub no_memory : {F : Type 0} (into : Remains F) (tills : ℕ) (file : F) (result : Result Unit RunFault)
     (fault : RunFault) → result ≡ Err fault → fault ≡ run.NoMemory → IsWritten into tills file file result
 no_memory into tills file result fault told is =
     subst (IsWritten into tills file file) (sym told)
     (subst (λ f. IsWritten into tills file file (Err f)) (sym is) refl)
 
--- the bytes of a disk were handed over, or a part of them
-pub written : {F : Type 0} (into : F → Option (List ℕ)) (tills : ℕ) (file new_file : F) (bytes : List ℕ)
-    → AreFreshBytes tills bytes → (result : Result Unit RunFault)
-    → OnOk result (Appends (into file) (into new_file) bytes)
-    → IfErr result (λ fault. (fault ≡ run.File) × AppendsPart (into file) (into new_file) bytes)
-    → IsWritten into tills file new_file result
-written into tills file new_file bytes fresh (Ok _) all part = record { bytes = bytes; fresh = fresh; appended = all }
-written into tills file new_file bytes fresh (Err fault) all part =
-    subst (λ f. IsWritten into tills file new_file (Err f)) (sym part.0)
-    (record { bytes = bytes; fresh = fresh; appended = part.1 })
+-- the bytes of a disk were written whole
+pub written : {F E : Type 0} (into : Remains F) (tills : ℕ) (file new_file : F) (bytes : List ℕ)
+    → AreFreshBytes tills bytes → (put : Result Unit E) → put ≡ Ok tt → IsReplaced into file new_file bytes put
+    → IsHandedOver into tills file new_file
+written {F} {E} into tills file new_file bytes fresh put ok is =
+    let whole = subst (λ (x : Result Unit E). IsReplaced into file new_file bytes x) ok is in
+    record { bytes = bytes; fresh = fresh; held = whole.held; lasting = whole.ok; remain = whole.remain }
+
+-- or a part of them
+pub written_part : {F E : Type 0} (into : Remains F) (tills : ℕ) (file new_file : F) (bytes : List ℕ)
+    → AreFreshBytes tills bytes → (put : Result Unit E) → IsReplaced into file new_file bytes put
+    → IsHandedPart into tills file new_file
+written_part into tills file new_file bytes fresh put is =
+    record { bytes = bytes; fresh = fresh; remain = is.remain }
 
 -- the image wasn't written whole, and nothing was said
-pub not_written : {F W : Type 0} (into : F → Option (List ℕ)) (contents : W → Option (List ℕ)) (tills : ℕ)
+pub not_written : {F W : Type 0} (into : Remains F) (contents : W → Option (List ℕ)) (tills : ℕ)
     (file new_file : F) (out : W) (result : Result Unit RunFault) (fault : RunFault) → result ≡ Err fault
     → IsWritten into tills file new_file (Err fault) → IsFormatted into contents tills file new_file out out result
 not_written {F} {W} into contents tills file new_file out result fault told is =
@@ -52,7 +58,7 @@ not_written {F} {W} into contents tills file new_file out result fault told is =
     so run.Device never = absurd never
 
 -- it was, and that was said, or a part of it
-pub formatted : {F W : Type 0} (into : F → Option (List ℕ)) (contents : W → Option (List ℕ)) (tills : ℕ)
+pub formatted : {F W : Type 0} (into : Remains F) (contents : W → Option (List ℕ)) (tills : ℕ)
     (file new_file : F) (old new : W) → IsHandedOver into tills file new_file → (result : Result Unit RunFault)
     → OnOk result (Appends (contents old) (contents new) (codes "FORMATTED\n"))
     → IfErr result (λ fault. (fault ≡ run.File) × AppendsPart (contents old) (contents new) (codes "FORMATTED\n"))

@@ -11,6 +11,8 @@ use Rattle.disk_layout.specs.Fault.{HoldsOfClean, HoldsOfDirectory, nowhere}
 use Rattle.disk_layout.specs.declared.faults.Fault.{Fault}
 use Rattle.disk_layout.specs.declared.slot.Slot.{Slot}
 use Rattle.host_session.specs.runs.Outputs.{AppendsPart}
+use Rattle.system_files.specs.Remains.{Remains}
+use Rattle.system_files.specs.Replacing.{IsNoDisk, NowAll, Since}
 use Rattle.ledger_commands.specs.Texts.{listing}
 use Rattle.ledger_commands.specs.declared.faults.RunFault.{RunFault}
 use Rattle.ledger_commands.specs.declared.faults.RunFault.TheVariants as run
@@ -33,36 +35,39 @@ pub record AreFreshBytes (tills : ℕ) (bytes : List ℕ) : Type 0 where
   pub fresh : IsFreshDisk disk tills
   pub bytes_of : bytes ≡ bytes_of disk
 
--- a file that held `old` and holds `new` was handed the whole image of such a disk, and nothing else
-pub record IsHandedOver {F : Type 0} (contents : F → Option (List ℕ)) (tills : ℕ) (old new : F) : Type 0 where
+-- The whole image of such a disk was written over a file that said this of itself: it holds that, and that remains if
+-- power goes. If power went on the way, there remained what could remain before, or no sound disk, or that image.
+pub record IsHandedOver {F : Type 0} (r : Remains F) (tills : ℕ) (old new : F) : Type 0 where
   pub bytes : List ℕ
   pub fresh : AreFreshBytes tills bytes
-  pub appended : Appends (contents old) (contents new) bytes
+  pub held : (all : List ℕ) → r.held old ≡ Some all → r.held new ≡ Some bytes
+  pub lasting : NowAll r new (λ s. s ≡ bytes)
+  pub remain : Since r old new (λ s. IsNoDisk s ⊎ (s ≡ bytes))
 
--- it was handed a beginning of such an image, or all of it, and nothing else
-pub record IsHandedPart {F : Type 0} (contents : F → Option (List ℕ)) (tills : ℕ) (old new : F) : Type 0 where
+-- such an image was written in part, or whole
+pub record IsHandedPart {F : Type 0} (r : Remains F) (tills : ℕ) (old new : F) : Type 0 where
   pub bytes : List ℕ
   pub fresh : AreFreshBytes tills bytes
-  pub appended : AppendsPart (contents old) (contents new) bytes
+  pub remain : Since r old new (λ s. IsNoDisk s ⊎ (s ≡ bytes))
 
 -- what writing such an image came to: it was handed over whole, or in part where the file failed, or there was no
 -- memory, and nothing was done
-abbrev pub IsWritten : {F : Type 0} → (F → Option (List ℕ)) → ℕ → F → F → Result Unit RunFault → Type 0
-IsWritten contents tills old new (Ok _) = IsHandedOver contents tills old new
-IsWritten contents tills old new (Err run.File) = IsHandedPart contents tills old new
-IsWritten contents tills old new (Err run.NoMemory) = new ≡ old
-IsWritten contents tills old new (Err _) = ⊥
+abbrev pub IsWritten : {F : Type 0} → Remains F → ℕ → F → F → Result Unit RunFault → Type 0
+IsWritten r tills old new (Ok _) = IsHandedOver r tills old new
+IsWritten r tills old new (Err run.File) = IsHandedPart r tills old new
+IsWritten r tills old new (Err run.NoMemory) = new ≡ old
+IsWritten r tills old new (Err _) = ⊥
 
 -- the file or the output failed: the file was handed a part of the image, and nothing was said; or all of it, and a
 -- part of what is said then
-abbrev pub IsFormattedPart : {F W : Type 0} → (F → Option (List ℕ)) → (W → Option (List ℕ)) → ℕ → F → F → W → W → Type 0
+abbrev pub IsFormattedPart : {F W : Type 0} → Remains F → (W → Option (List ℕ)) → ℕ → F → F → W → W → Type 0
 IsFormattedPart into contents tills file new_file old new =
     (IsHandedPart into tills file new_file × (new ≡ old))
     ⊎ (IsHandedOver into tills file new_file × AppendsPart (contents old) (contents new) (codes "FORMATTED\n"))
 
 -- what making such an image and saying so came to: the file was handed all of it, and that was said; or in part; or
 -- there was no memory, and nothing was done
-abbrev pub IsFormatted : {F W : Type 0} → (F → Option (List ℕ)) → (W → Option (List ℕ)) → ℕ → F → F → W → W
+abbrev pub IsFormatted : {F W : Type 0} → Remains F → (W → Option (List ℕ)) → ℕ → F → F → W → W
     → Result Unit RunFault → Type 0
 IsFormatted into contents tills file new_file old new (Ok _) =
     IsHandedOver into tills file new_file × Appends (contents old) (contents new) (codes "FORMATTED\n")

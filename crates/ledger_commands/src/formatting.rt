@@ -10,6 +10,7 @@ use disk_layout::blank_image;
 use d64_image::MemDisk;
 use std::alloc::Global;
 use std::io::Write;
+use system_files::{EndedFile, replace_image};
 
 /// The name of a fresh disk.
 const NAME: &[u8] = b"STOCK LEDGER";
@@ -33,23 +34,27 @@ fn fresh_disk(alloc: Global, tills: u8) -> Result<MemDisk, RunFault>
     }
 }
 
-/// Makes the disk of an empty shop with 1 to 64 tills, and hands all 174,848 bytes of its image to the file. An odd
+/// Makes the disk of an empty shop with 1 to 64 tills, and writes the 174,848 bytes of its image over the file. An odd
 /// number of tills gives one more.
-fn write_image<F: Write>(alloc: Global, tills: u8, file: &mut F) -> Result<(), RunFault>
+fn write_image<F: EndedFile>(alloc: Global, tills: u8, file: &mut F) -> Result<(), RunFault>
     requires some { 1 ≤ tills }
     requires few { tills ≤ 64 }
-    ensures { IsWritten F.contents tills file.old file.new result }
+    ensures { IsWritten F.remains tills file.old file.new result }
 {
     let disk = fresh_disk(alloc, tills)?;
-    put_whole(file, disk.bytes())
+    match replace_image(file, disk.bytes()) {
+        Ok(()) => Ok(()),
+        Err(_) => Err(RunFault::File),
+    }
 }
 
-/// Makes the disk of an empty shop with 1 to 64 tills (an odd number gives one more), hands all 174,848 bytes of its
-/// image to the file, and says so on `out` once the file has all of them.
+/// Makes the disk of an empty shop with 1 to 64 tills (an odd number gives one more), writes the 174,848 bytes of its
+/// image over all that the file held, brings them to the disk, and prints so on `out`. If power goes on the way, the file
+/// has what it could have before, or is no sound disk's, or has the image.
 ///
-/// `NoMemory` before anything is written; `File` where the file failed, which then has a beginning of the image and
-/// nothing is said, or `out`, which then has a beginning of what is said.
-pub fn format_image<F: Write, W: Write>(
+/// `NoMemory` before anything is written; `File` if the file failed, which then has a part of the image and nothing is
+/// printed, or `out`, which then has a beginning of what is printed.
+pub fn format_image<F: EndedFile, W: Write>(
     alloc: Global,
     tills: u8,
     file: &mut F,
@@ -57,7 +62,7 @@ pub fn format_image<F: Write, W: Write>(
 ) -> Result<(), RunFault>
     requires some { 1 ≤ tills }
     requires few { tills ≤ 64 }
-    ensures { IsFormatted F.contents W.contents tills file.old file.new out.old out.new result }
+    ensures { IsFormatted F.remains W.contents tills file.old file.new out.old out.new result }
 {
     write_image(alloc, tills, file)?;
     put_whole(out, b"FORMATTED\n")

@@ -1,6 +1,7 @@
 -- An image made, from how the command ended.
 use Rattle.std.proofs.Common.{◌≡◌, ℕ, List, Result, Ok, Err, refl, ap, arith, inl, inr, ⊎_elim}
 use Rattle.std.specs.Prelude.{Option}
+use Rattle.system_files.specs.Remains.{Remains}
 use Rattle.ledger_commands.specs.Images.{IsFormatted}
 use Rattle.ledger_program.specs.Ends.{end_of}
 use Rattle.ledger_program.specs.Runs.{IsFormatRun}
@@ -9,7 +10,7 @@ use Rattle.ledger_commands.specs.declared.faults.RunFault.{RunFault}
 use Rattle.ledger_commands.specs.declared.faults.RunFault.TheVariants as run
 
 -- an image made
-pub format-run : {F W : Type 0} (into : F → Option (List ℕ)) (contents : W → Option (List ℕ)) (tills : ℕ)
+pub format-run : {F W : Type 0} (into : Remains F) (contents : W → Option (List ℕ)) (tills : ℕ)
     (file new_file : F)
     (old new : W) (ended : Result Unit RunFault) → IsFormatted into contents tills file new_file old new ended
     → IsFormatRun into contents tills file new_file old new (end_of ended)

@@ -26,6 +26,7 @@ refusal_status (refusals.Keep fault) = keep_status fault
 refusal_status (refusals.Draw fault) = picture_status fault
 refusal_status refusals.InUse = 3
 refusal_status (refusals.Kept n) = 1
+refusal_status refusals.Exists = 1
 
 -- what is told of it
 abbrev pub refusal_text : Refusal → List ℕ
@@ -34,6 +35,7 @@ refusal_text (refusals.Keep fault) = keep_text fault
 refusal_text (refusals.Draw fault) = picture_text fault
 refusal_text refusals.InUse = codes "IN USE"
 refusal_text (refusals.Kept n) = codes "KEPT " ++ decimal n
+refusal_text refusals.Exists = codes "FILE EXISTS"
 
 -- it is told on standard error: all but what the output has told
 abbrev pub is_told : Refusal → Bool
@@ -42,6 +44,7 @@ is_told (refusals.Keep fault) = true
 is_told (refusals.Draw fault) = true
 is_told refusals.InUse = true
 is_told (refusals.Kept n) = false
+is_told refusals.Exists = true
 
 -- the line in which it is told
 abbrev pub refusal_line : Refusal → List ℕ

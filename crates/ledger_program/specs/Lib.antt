@@ -8,3 +8,4 @@ pub mod Kept
 pub mod Names
 pub mod Runs
 pub mod Serves
+pub mod WatchedFiles

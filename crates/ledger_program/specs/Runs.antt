@@ -13,6 +13,7 @@ use Rattle.ledger_commands.specs.Images.{IsCheckFault, IsFormatFault, IsFormatte
 use Rattle.ledger_commands.specs.Images.{IsListed}
 use Rattle.ledger_commands.specs.Plays.{IsFileFault, IsPlayedFile, IsUntouched}
 use Rattle.ledger_commands.specs.Shops.{IsShowFault, IsShown}
+use Rattle.system_files.specs.Remains.{Remains}
 use Rattle.script_lines.specs.Lines.{first_reset, lines}
 use Rattle.script_lines.specs.Resets.{first_bad}
 use Rattle.ledger_commands.specs.Texts.{verdict_text}
@@ -35,9 +36,9 @@ pub record IsDryRun {W : Type 0} (contents : W → Option (List ℕ)) (script : 
     pub statuses : (status ≡ 0) ⊎ ((status ≡ 1) ⊎ (status ≡ 3))
 
 -- a run that makes an image for so many tills, over the file that was handed in, and that ended so
-pub record IsFormatRun {F W : Type 0} (into : F → Option (List ℕ)) (contents : W → Option (List ℕ)) (tills : ℕ)
+pub record IsFormatRun {F W : Type 0} (into : Remains F) (contents : W → Option (List ℕ)) (tills : ℕ)
     (file new_file : F) (old new : W) (ended : Ended) : Type 0 where
-  -- 0: the file was handed the whole image, and that it is made was said
+  -- 0: the whole image was written over the file, and that it is made was said
   pub done : exit_status ended ≡ 0
       → IsHandedOver into tills file new_file × Appends (contents old) (contents new) (codes "FORMATTED\n")
   -- nothing is said before

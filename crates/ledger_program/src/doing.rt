@@ -1,15 +1,14 @@
 //! Doing a job: its files are opened and read, and what is printed goes to an output.
-ghost use Rattle.std.specs.Prelude.{◌≡◌, ◌≤◌, IfErr, IfOk, IfSome, Err, take, vec_items};
+ghost use Rattle.std.specs.Prelude.{◌≡◌, ◌≤◌, IfErr, IfOk, IfSome, Err, vec_items};
 ghost use Rattle.std.specs.IoError.{error_kind};
-ghost use Rattle.ledger_commands.specs.Durable.{IsSynced};
 ghost use Rattle.ledger_commands.specs.Faults.{io_fault};
 ghost use Rattle.ledger_program.specs.Ends.{as_drawn, as_job, as_kept, as_repaired, told_of};
 ghost use Rattle.ledger_program.specs.Jobs.{IsFit, needed};
 ghost use Rattle.ledger_program.specs.Runs.{IsReadingEnd, IsReadingOf};
 
 use crate::drawing::drawing_run;
-use crate::durable_runs::{play_durably, serve_durably};
-use crate::files::{AtPath, STANDARD_INPUT, opened, room_for, script_at};
+use crate::durable_runs::play_durably;
+use crate::files::{AtPath, Older, STANDARD_INPUT, room_for, script_at};
 use crate::jobs::{Drawing, Job, Reading, Taking};
 use crate::keeping::taking_run;
 use crate::keeping_files::{do_make, do_repair, do_store};
@@ -17,17 +16,19 @@ use crate::names::Name;
 use crate::owning::{own_image, read_shared, share};
 use crate::refusals::Refusal;
 use crate::running::{format_run, reading_run};
+use crate::serving_images::do_serving;
 use disk_layout::Fault;
 use disk_pictures::PictureFault;
 use host_session::Printer;
 use keeper_commands::KeepFault;
 use ledger_commands::{
-    Durability, EndedFile, Locks, Replaced, RunFault, WritesAt, read_image, read_script,
+    Durability, EndedFile, Locks, Replaced, RunFault, read_image, read_script,
 };
 use std::alloc::Global;
 use std::fs::{File, OpenFile};
-use std::io::{self, BufReader, Read, Write};
+use std::io::{self, Read, Write};
 use std::rt::Files;
+use system_files::{opened_to_change, opened_to_read};
 
 /// What came of the system's part of a job, as it is told.
 pub(crate) fn told<T>(taken: io::Result<T>) -> Result<T, Refusal>
@@ -140,6 +141,14 @@ fn lock_opened<F: Locks>(what: Reading, opened: &mut io::Result<F>) -> Result<()
     }
 }
 
+/// The file that is read for this. An image is a regular file; a script may be a pipe.
+fn opened_for<R: Files>(rt: &R, what: Reading, path: &str) -> io::Result<R::File> {
+    match what {
+        Reading::Dry => File::open(rt, path),
+        Reading::List | Reading::Check | Reading::Show => opened_to_read(rt, path),
+    }
+}
+
 /// Does what is asked of the file at a path, or of standard input.
 fn do_reading<F, R, W>(
     rt: &R,
@@ -155,24 +164,30 @@ where
     if path == STANDARD_INPUT {
         return job_end(do_over(rt.alloc(), what, Ok(rt.reader()), 0, out));
     }
-    let mut opened = File::open(rt, path);
+    let mut opened = opened_for(rt, what, path);
     lock_opened(what, &mut opened)?;
     let room = room_for(&opened);
     job_end(do_over(rt.alloc(), what, opened, room, out))
 }
 
 /// Makes the image at a path.
-fn do_format<F, R, W>(rt: &R, path: &str, tills: u8, out: &mut W) -> Result<Option<Fault>, Refusal>
+fn do_format<F, R, W>(
+    rt: &R,
+    path: &str,
+    tills: u8,
+    older: Older,
+    out: &mut W,
+) -> Result<Option<Fault>, Refusal>
 where
-    F: EndedFile + Locks + Drop,
+    F: EndedFile + Locks + OpenFile + Drop,
     R: Files<File = F> + AllocGlobal,
     W: Write,
     requires some { 1 ≤ tills }
     requires few { tills ≤ 64 }
 {
-    let mut file = Replaced::new(AtPath::new(rt, path));
+    let mut file = Replaced::new(AtPath::new(rt, path, older));
     let ended = format_run(rt.alloc(), tills, &mut file, out);
-    match file.opener().unlocked() {
+    match file.opener().refused() {
         Some(refusal) => Err(refusal),
         None => job_end(ended),
     }
@@ -191,7 +206,7 @@ where
     R: Files<File = F> + Input + AllocGlobal,
     W: Write,
 {
-    let mut file = told(opened(rt, path))?;
+    let mut file = told(opened_to_change(rt, path))?;
     let image = own_image(rt.alloc(), &mut file, durability)?;
     let script = told(script_at(rt, script))?;
     let mut printer = Printer::new(out);
@@ -206,52 +221,6 @@ where
     job_end(ended)
 }
 
-/// Serves the shop of this image, over its file, to what comes on standard input.
-fn serve_input<F, R, W>(
-    rt: &R,
-    image: &[u8],
-    file: F,
-    durability: Durability,
-    out: &mut W,
-) -> Result<Option<Fault>, Refusal>
-where
-    F: WritesAt + Drop,
-    R: Input + AllocGlobal,
-    W: Write,
-    requires synced { IsSynced F.held F.lasting durability file }
-    requires image { IfSome (F.held file) (λ all. image.now ≡ take 174849 all) }
-{
-    // A bare reader of standard input reads a byte a call.
-    let mut input = told(BufReader::new(rt.alloc(), rt.reader()))?;
-    let mut printer = Printer::new(out);
-    let (_, ended) = serve_durably(
-        rt.alloc(),
-        image,
-        file,
-        durability,
-        &mut input,
-        &mut printer,
-    );
-    job_end(ended)
-}
-
-/// Serves the shop of the image at a path, over its file, to what comes on standard input.
-fn do_serving<F, R, W>(
-    rt: &R,
-    path: &str,
-    durability: Durability,
-    out: &mut W,
-) -> Result<Option<Fault>, Refusal>
-where
-    F: Read + Locks + Drop,
-    R: Files<File = F> + Input + AllocGlobal,
-    W: Write,
-{
-    let mut file = told(opened(rt, path))?;
-    let image = own_image(rt.alloc(), &mut file, durability)?;
-    serve_input(rt, image.as_slice(), file, durability, out)
-}
-
 /// The bytes of the image at a path, which nobody writes while it is read, or of standard input.
 pub(crate) fn image_at<F, R>(rt: &R, path: &str) -> Result<Vec<u8>, Refusal>
 where
@@ -261,7 +230,7 @@ where
     if path == STANDARD_INPUT {
         return told(read_image(rt.alloc(), rt.reader()));
     }
-    let mut file = told(File::open(rt, path))?;
+    let mut file = told(opened_to_read(rt, path))?;
     share(&mut file)?;
     told(read_shared(rt.alloc(), &mut file))
 }
@@ -311,8 +280,8 @@ where
     requires { IsFit job.now }
 {
     match *job {
-        Job::Format { image, tills } => do_format(rt, image, tills, out),
-        Job::FormatNew { image, tills } => do_format(rt, image, tills, out),
+        Job::Format { image, tills } => do_format(rt, image, tills, Older::Replaced, out),
+        Job::FormatNew { image, tills } => do_format(rt, image, tills, Older::Kept, out),
         Job::List { image } => do_reading(rt, Reading::List, image, out),
         Job::Check { image } => do_reading(rt, Reading::Check, image, out),
         Job::Show { image } => do_reading(rt, Reading::Show, image, out),

@@ -1,6 +1,6 @@
 //! What a person at a terminal is told: what is going to be replaced, and below a refusal which file it is about, what
 //! the system says of it, and what to do.
-use crate::files::{STANDARD_INPUT, opened};
+use crate::files::STANDARD_INPUT;
 use crate::jobs::Job;
 use crate::refusals::Refusal;
 use disk_pictures::PictureFault;
@@ -10,6 +10,7 @@ use std::fmt::Display;
 use std::fs::{File, OpenFile, OpenOptions};
 use std::io::{self, Write};
 use std::rt::Files;
+use system_files::{ShownPath, opened_to_change, opened_to_read, regular_at};
 
 /// What a refusal is about.
 enum About {
@@ -79,6 +80,7 @@ fn subject_of(refusal: Refusal) -> About {
         Refusal::Draw(_) => About::Image(JUDGED),
         Refusal::InUse => About::Image("another program has it; end that one first"),
         Refusal::Kept(_) => About::Image(KEPT),
+        Refusal::Exists => About::Image("it is there already; `format` without `--new` replaces it"),
     }
 }
 
@@ -117,7 +119,7 @@ fn writes(job: &Job<'_>) -> bool {
 
 /// Tells this of the file at a path. Where it can't be told there is nobody left to tell.
 fn tell_of<E: Write, T: Display + Drop>(err: &mut E, path: &str, said: T) {
-    let _ = writeln!(err, "ledger: {path}: {said}");
+    let _ = writeln!(err, "ledger: {}: {said}", ShownPath(path));
 }
 
 /// Tells what the system says of a file that can't be opened. False where it can.
@@ -131,22 +133,36 @@ fn told_unopened<T: Drop, E: Write>(err: &mut E, path: &str, tried: io::Result<T
     }
 }
 
-/// Opens the file of an image as its job does.
-fn opened_for<F, R>(rt: &R, job: &Job<'_>, image: &str) -> io::Result<F>
-where
-    F: Drop,
-    R: Files<File = F>,
-{
+/// Opens the file of an image as its job does. An error if it isn't a regular file; such a thing isn't opened.
+fn opened_for<R: Files>(rt: &R, job: &Job<'_>, image: &str) -> io::Result<R::File> {
     match job {
         Job::Format { .. } | Job::FormatNew { .. } => {
+            regular_at(rt, image)?;
             OpenOptions::new().write(true).open(rt, image)
         }
-        _ if writes(job) => opened(rt, image),
-        _ => File::open(rt, image),
+        _ if writes(job) => opened_to_change(rt, image),
+        _ => opened_to_read(rt, image),
     }
 }
 
-/// Tells which of a job's files can't be opened. Standard input isn't tried: a pipe whose writer is gone would wait.
+/// Whether this is the first file of a job, and an image.
+fn is_image(job: &Job<'_>, path: &str) -> bool {
+    match job {
+        Job::Dry { .. } => false,
+        _ => path != STANDARD_INPUT,
+    }
+}
+
+/// Whether opening a script or records may wait, as for a pipe whose writer is gone.
+fn may_wait<R: Files>(rt: &R, path: &str) -> bool {
+    match rt.metadata(path) {
+        Ok(found) => !found.is_file(),
+        Err(_) => false,
+    }
+}
+
+/// Prints which of a job's files can't be opened. Standard input isn't opened, nor a script that is no regular file:
+/// that may wait.
 fn tell_files<F, R, E>(rt: &R, job: &Job<'_>, err: &mut E)
 where
     F: Drop,
@@ -154,11 +170,12 @@ where
     E: Write,
 {
     let image = image_of(job);
-    if image != STANDARD_INPUT && told_unopened(err, image, opened_for(rt, job, image)) {
+    if is_image(job, image) && told_unopened(err, image, opened_for(rt, job, image)) {
         return;
     }
     if let Some(text) = text_of(job) {
-        if text != STANDARD_INPUT && told_unopened(err, text, File::open(rt, text)) {
+        let tried = text != STANDARD_INPUT && !may_wait(rt, text);
+        if tried && told_unopened(err, text, File::open(rt, text)) {
             return;
         }
     }
@@ -168,31 +185,19 @@ where
     );
 }
 
-/// How many bytes a file has. None of standard input, which isn't opened, nor where the system doesn't say.
-fn size_of<F, R>(rt: &R, path: &str) -> Option<u64>
-where
-    F: OpenFile + Drop,
-    R: Files<File = F>,
-{
+/// How many bytes a regular file has. None of standard input and if the system doesn't say; nothing is opened.
+fn size_of<R: Files>(rt: &R, path: &str) -> Option<u64> {
     if path == STANDARD_INPUT {
         return None;
     }
-    match File::open(rt, path) {
-        Ok(file) => match file.metadata() {
-            Ok(found) => Some(found.len()),
-            Err(_) => None,
-        },
+    match regular_at(rt, path) {
+        Ok(found) => Some(found.len()),
         Err(_) => None,
     }
 }
 
 /// Tells how many bytes an image has, which format has so many, and how to get one of 35 tracks without error bytes.
-fn tell_size<F, R, E>(rt: &R, image: &str, err: &mut E)
-where
-    F: OpenFile + Drop,
-    R: Files<File = F>,
-    E: Write,
-{
+fn tell_size<R: Files, E: Write>(rt: &R, image: &str, err: &mut E) {
     const WANTED: &str = "an image of 35 tracks without error bytes has 174848";
     const ERROR_BYTES: &str =
         "35 tracks and error bytes; `head -c 174848 OLD > NEW` leaves the error bytes out";
@@ -203,6 +208,7 @@ where
     let said = match size_of(rt, image) {
         None => return tell_of(err, image, WANTED),
         Some(bytes) => {
+            let image = ShownPath(image);
             let _ = write!(err, "ledger: {image} has {bytes} bytes; ");
             match bytes {
                 175_531 => ERROR_BYTES,
@@ -228,6 +234,7 @@ where
         return;
     };
     if let Some(bytes) = size_of(rt, image) {
+        let image = ShownPath(image);
         let _ = writeln!(err, "ledger: replacing {image}, which has {bytes} bytes");
     }
 }

@@ -8,7 +8,7 @@ ghost use Rattle.ledger_program.specs.Names.{name_bytes};
 ghost use Rattle.rel_records.specs.File.{IsLength};
 
 use crate::doing::{image_at, kept_end, repaired_end, told};
-use crate::files::{opened, script_at};
+use crate::files::script_at;
 use crate::jobs::{Effect, Unowned};
 use crate::keeping::{dry_repair_run, make_run, repair_run, store_run};
 use crate::names::Name;
@@ -18,6 +18,7 @@ use disk_layout::Fault;
 use ledger_commands::{Durability, Locks, Placed};
 use std::io::{Read, Write};
 use std::rt::Files;
+use system_files::opened_to_change;
 
 /// The file at a path that a keeper's job writes, and its bytes: it is this program's alone, and what it holds is on
 /// the disk. Each sector is brought to the disk before the next is written.
@@ -29,7 +30,7 @@ where
     ensures agrees { IfOk result (λ taken. Agrees (placed.kept taken.1) (sectors_in (vec_items taken.0))) }
 {
     let durability = Durability::EachSector;
-    let mut file = told(opened(rt, path))?;
+    let mut file = told(opened_to_change(rt, path))?;
     let image = own_image(rt.alloc(), &mut file, durability)?;
     let placed = Placed::of_image(file, durability, image.as_slice());
     Ok((image, placed))

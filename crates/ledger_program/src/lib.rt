@@ -14,8 +14,10 @@ mod owning;
 mod refusals;
 mod running;
 mod serving_files;
+mod serving_images;
 mod serving_runs;
 mod telling;
+mod watched_files;
 
 pub use doing::{do_job, do_over, drawn_end, job_end, kept_end};
 pub use drawing::drawing_run;
@@ -28,4 +30,6 @@ pub use refusals::Refusal;
 pub use running::{format_run, play_run, reading_run};
 pub use serving_files::serve_file;
 pub use serving_runs::serve_run;
+pub use system_files::ClosedStreams;
 pub use telling::{Ending, end, tell};
+pub use watched_files::WhileThere;

@@ -22,6 +22,8 @@ pub enum Refusal {
     InUse,
     /// The disk is repaired but for so many sectors, which stay taken though no file owns them. The output says so.
     Kept(u16),
+    /// A file is to be made under a name that exists. Nothing was changed.
+    Exists,
 }
 
 impl Refusal {
@@ -35,6 +37,7 @@ impl Refusal {
             Refusal::Draw(fault) => fault.status(),
             Refusal::InUse => 3,
             Refusal::Kept(_) => 1,
+            Refusal::Exists => 1,
         }
     }
 
@@ -43,7 +46,8 @@ impl Refusal {
         ensures { result ≡ told_there self.now }
     {
         match self {
-            Refusal::Run(_) | Refusal::Keep(_) | Refusal::Draw(_) | Refusal::InUse => true,
+            Refusal::Run(_) | Refusal::Keep(_) | Refusal::Draw(_) => true,
+            Refusal::InUse | Refusal::Exists => true,
             Refusal::Kept(_) => false,
         }
     }
@@ -70,6 +74,7 @@ impl Display for Refusal {
             Refusal::Draw(fault) => fault.fmt(f),
             Refusal::InUse => f.write_str("IN USE"),
             Refusal::Kept(count) => write!(f, "KEPT {count}"),
+            Refusal::Exists => f.write_str("FILE EXISTS"),
         }
     }
 }

@@ -10,7 +10,7 @@ use d64_image::{Mirror, SectorFile};
 use disk_layout::Fault;
 use host_session::Tells;
 use ledger_commands::{
-    DryFault, RunFault, check_image, dry, format_image, list_image, play_file, show_image,
+    DryFault, EndedFile, RunFault, check_image, dry, format_image, list_image, play_file, show_image,
 };
 use std::alloc::Global;
 use std::io::Write;
@@ -60,7 +60,7 @@ pub fn reading_run<W: Write>(
 
 /// Makes the file the image of an empty shop with so many tills, and says so on `out`. `File` where the file or the
 /// output failed, `NoMemory` before anything is written.
-pub fn format_run<F: Write, W: Write>(
+pub fn format_run<F: EndedFile, W: Write>(
     alloc: Global,
     tills: u8,
     file: &mut F,
@@ -68,7 +68,7 @@ pub fn format_run<F: Write, W: Write>(
 ) -> Result<Option<Fault>, RunFault>
     requires some { 1 ≤ tills }
     requires few { tills ≤ 64 }
-    ensures run { IsFormatRun F.contents W.contents tills file.old file.new out.old out.new result }
+    ensures run { IsFormatRun F.remains W.contents tills file.old file.new out.old out.new result }
 {
     ended(format_image(alloc, tills, file, out))
 }

@@ -3,9 +3,11 @@
 
 mod faults;
 mod obeying;
+mod starting;
 mod watching;
 mod words;
 
 pub use faults::JobFault;
 pub use obeying::{Told, program};
+pub use starting::hold_streams;
 pub use words::{CommandLine, command_line, job};

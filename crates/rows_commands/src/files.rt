@@ -50,14 +50,21 @@ impl Write for Full {
     }
 }
 
-/// A file in memory that takes so many bytes and then fails.
+/// A file in memory that takes so many bytes and then fails, or fails to be brought to the disk.
 #[derive(Drop)]
 pub(crate) struct Tape {
     bytes: Cursor<Vec<u8>>,
     room: usize,
+    /// How many calls that bring it to the disk pass.
+    pub(crate) syncs: usize,
 }
 
 impl Tape {
+    /// All that the file holds.
+    pub(crate) fn into_bytes(self) -> Vec<u8> {
+        self.bytes.into_inner()
+    }
+
     /// All that the file holds.
     pub(crate) fn bytes(&self) -> &[u8] {
         self.bytes.get_ref().as_slice()
@@ -70,6 +77,7 @@ pub(crate) fn new_tape(rt: &(impl AllocGlobal + Abort), image: &[u8], room: usiz
     Tape {
         bytes: Cursor::new(bytes),
         room,
+        syncs: usize::MAX,
     }
 }
 
@@ -105,20 +113,42 @@ impl WritesAt for Tape {
     }
 
     fn sync(&mut self) -> io::Result<()> {
+        if self.syncs == 0 {
+            return Err(io::Error::from(io::ErrorKind::Other));
+        }
+        self.syncs -= 1;
         Ok(())
     }
 }
 
-impl EndedFile for &mut Tape {
+impl EndedFile for Tape {
+    fn put_over(&mut self, bytes: &[u8], at: u64) -> io::Result<()> {
+        self.write_all_at(bytes, at)
+    }
+
     fn end_at(&mut self, bytes: u64) -> io::Result<()> {
         if let Ok(length) = usize::try_from(bytes) {
-            self.bytes.get_mut().truncate(length);
+            self.bytes.get_mut().resize(length, 0)?;
         }
         Ok(())
     }
 
     fn sync_whole(&mut self) -> io::Result<()> {
-        Ok(())
+        self.sync()
+    }
+}
+
+impl EndedFile for &mut Tape {
+    fn put_over(&mut self, bytes: &[u8], at: u64) -> io::Result<()> {
+        (**self).put_over(bytes, at)
+    }
+
+    fn end_at(&mut self, bytes: u64) -> io::Result<()> {
+        (**self).end_at(bytes)
+    }
+
+    fn sync_whole(&mut self) -> io::Result<()> {
+        (**self).sync_whole()
     }
 }
 

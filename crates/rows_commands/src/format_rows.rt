@@ -1,6 +1,6 @@
 //! The images that `format` makes, byte by byte, and files and outputs that don't take them.
 use crate::comparing::{holds, same};
-use crate::files::{Full, filled};
+use crate::files::{Full, filled, new_tape};
 use crate::images::{
     Bytes, S17_0, S17_1, S17_2, S17_3, S17_4, S18_0, S18_1, S19_13, formatted, patch, put,
 };
@@ -107,10 +107,17 @@ fn disks_for_other_tills_have_these_bytes(rt: HostRuntime) {
     all_stand(&rt, &OTHER_TILLS);
 }
 
-/// Sees that a file that takes so many bytes, or an output, ends the command, and how much more the output then would
-/// take: nothing is printed before the file has all.
-fn is_not_formatted(rt: &(impl AllocGlobal + Abort), file: Full, out: Full, left: usize) {
-    let (mut file, mut out) = (file, out);
+/// Sees that a file that takes so many bytes and is brought to the disk so often, or an output, ends the command, and
+/// how much more the output then would take: nothing is printed before the file is there.
+fn is_not_formatted(
+    rt: &(impl AllocGlobal + Abort),
+    (room, syncs): (usize, usize),
+    out: Full,
+    left: usize,
+) {
+    let mut file = new_tape(rt, b"", room);
+    file.syncs = syncs;
+    let mut out = out;
     let ended = format_image(rt.alloc(), 2, &mut file, &mut out);
     same(rt, (ended, out.room), (Err(RunFault::File), left));
 }
@@ -120,10 +127,13 @@ fn full(room: usize, flushes: bool) -> Full {
     Full { room, flushes }
 }
 
+// The first sector of the directory is written twice: 256 bytes more than an image has.
 #[test]
 fn a_file_or_an_output_that_fails_is_told(rt: HostRuntime) {
-    is_not_formatted(&rt, full(174847, true), full(100, true), 100);
-    is_not_formatted(&rt, full(174848, false), full(100, true), 100);
-    is_not_formatted(&rt, full(174848, true), full(9, true), 0);
-    is_not_formatted(&rt, full(174848, true), full(10, false), 0);
+    is_not_formatted(&rt, (175103, 3), full(100, true), 100);
+    is_not_formatted(&rt, (175104, 0), full(100, true), 100);
+    is_not_formatted(&rt, (175104, 1), full(100, true), 100);
+    is_not_formatted(&rt, (175104, 2), full(100, true), 100);
+    is_not_formatted(&rt, (175104, 3), full(9, true), 0);
+    is_not_formatted(&rt, (175104, 3), full(10, false), 0);
 }

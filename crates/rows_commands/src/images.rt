@@ -1,5 +1,6 @@
 //! The images of the rows: those that `format` makes, with bytes changed.
 use crate::comparing::same;
+use crate::files::new_tape;
 use ledger_commands::format_image;
 use std::process::Abort;
 
@@ -26,11 +27,11 @@ pub(crate) type Bytes = (usize, &'static [u8]);
 /// The image that `format` makes for so many tills; for two where that is none of 1 to 64.
 pub(crate) fn formatted(rt: &(impl AllocGlobal + Abort), tills: u8) -> Vec<u8> {
     let tills = if tills >= 1 && tills <= 64 { tills } else { 2 };
-    let mut file = Vec::new(rt.alloc());
+    let mut file = new_tape(rt, b"", usize::MAX);
     let mut out = Vec::new(rt.alloc());
     let ended = format_image(rt.alloc(), tills, &mut file, &mut out);
     same(rt, (ended, out.as_slice()), (Ok(()), b"FORMATTED\n"));
-    file
+    file.into_bytes()
 }
 
 /// Writes the bytes over the image from there on.

@@ -1,7 +1,8 @@
 //! Days on files whose disks are known: played whole, and with a call that fails.
+use crate::images::formatted;
 use disk_layout::Fault;
 use host_session::Printer;
-use ledger_commands::{RunFault, format_image, show_image};
+use ledger_commands::{RunFault, show_image};
 use std::process::Abort;
 use tool_disk_file::{Bringing, DiskFile, IMAGE_BYTES, WholeFile, play_in_file, play_on_disk};
 
@@ -16,10 +17,7 @@ pub(crate) const SHOPS: [&[u8]; 3] = [
 
 /// The image of a fresh shop.
 pub(crate) fn fresh(rt: &(impl AllocGlobal + Abort)) -> Vec<u8> {
-    let mut image = Vec::new(rt.alloc());
-    let mut out = Vec::new(rt.alloc());
-    let _ = format_image(rt.alloc(), 2, &mut image, &mut out);
-    image
+    formatted(rt, 2)
 }
 
 /// Plays the script on a file of this image, of which so many calls pass: how that ends, and the file then.

@@ -26,6 +26,8 @@ mod lock_rows;
 #[cfg(test)]
 mod memory;
 #[cfg(test)]
+mod moved_rows;
+#[cfg(test)]
 mod opened;
 #[cfg(test)]
 mod output_rows;

@@ -164,8 +164,13 @@ impl<'a> Files for Runtime<'a> {
         failed(ErrorKind::Unsupported)
     }
 
-    fn metadata(&self, _path: &str) -> io::Result<Metadata> {
-        failed(ErrorKind::Unsupported)
+    fn metadata(&self, path: &str) -> io::Result<Metadata> {
+        match path {
+            "a.d64" => self.memory.image.looked_at(),
+            "s.txt" => self.memory.script.looked_at(),
+            "." => self.memory.folder.found(),
+            _ => failed(ErrorKind::NotFound),
+        }
     }
 
     fn symlink_metadata(&self, _path: &str) -> io::Result<Metadata> {

@@ -122,11 +122,7 @@ impl Seek for Opened<'_> {
 
 impl OpenFile for Opened<'_> {
     fn metadata(&self) -> io::Result<Metadata> {
-        match self.stored.kind.get() {
-            Kind::Folder => Ok(Metadata::of_dir()),
-            Kind::Stream => Ok(Metadata::of_file(0)),
-            _ => Ok(Metadata::of_file(self.stored.size() as u64)),
-        }
+        self.stored.found()
     }
 
     fn set_len(&self, size: u64) -> io::Result<()> {
@@ -146,6 +142,10 @@ impl OpenFile for Opened<'_> {
 }
 
 impl EndedFile for Opened<'_> {
+    fn put_over(&mut self, bytes: &[u8], at: u64) -> io::Result<()> {
+        FileExt::write_all_at(self, bytes, at)
+    }
+
     fn end_at(&mut self, bytes: u64) -> io::Result<()> {
         self.set_len(bytes)
     }
@@ -159,8 +159,11 @@ impl EndedFile for Opened<'_> {
 pub(crate) fn open_stored<'a>(stored: &'a Stored, how: &OpenOptions) -> io::Result<Opened<'a>> {
     how.check()?;
     match stored.kind.get() {
-        Kind::Missing if !how.asks_create() => return failed(ErrorKind::NotFound),
+        Kind::Missing if !how.asks_create() && !how.asks_create_new() => {
+            return failed(ErrorKind::NotFound);
+        }
         Kind::Missing => stored.kind.set(Kind::Plain),
+        _ if how.asks_create_new() => return failed(ErrorKind::AlreadyExists),
         Kind::Folder if how.asks_write() => return failed(ErrorKind::IsADirectory),
         Kind::ReadOnly if how.asks_write() => return failed(ErrorKind::PermissionDenied),
         _ => {}

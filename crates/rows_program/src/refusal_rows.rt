@@ -80,7 +80,7 @@ others alone
 sync 1 fails
 no script
 $ ledger_cli picture a.d64
-tells IN USE|
+tells FILE|
 ends 3
 ";
 

@@ -16,6 +16,7 @@
 //! - `sync`, `folder-sync`: the call of this number that brings the image, or the folder, to the disk
 //! - `disk-takes`, `output-takes`: so many bytes are taken; `input-fails`: behind its bytes
 //! - `others`: another program has the image `alone`, or is `reading` it
+//! - `gone`, `cut`: from this look at its name on the image is elsewhere, or has half of its bytes
 //!
 //! The run, by a command line as a shell splits it: `$` with standard error that no person reads, `person` with one who
 //! does, `waiting` with one who doesn't see the output. `job` only prints which job the command line asks for.
@@ -141,6 +142,8 @@ fn fails(memory: &Memory, word: &[u8], text: &[u8]) -> bool {
         b"disk-takes" => memory.image.room.set(number),
         b"output-takes" => memory.room.set(number),
         b"input-fails" => memory.fails.set(true),
+        b"gone" => memory.image.gone_at.set(number),
+        b"cut" => memory.image.cut_at.set(number),
         b"others" if text == b"alone".as_slice() => memory.image.others.set(Others::Alone),
         b"others" => memory.image.others.set(Others::Reading),
         _ => return false,

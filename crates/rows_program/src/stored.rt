@@ -4,6 +4,7 @@ ghost use Rattle.std.specs.Io.{ReadsAtMost, WritesAtMost};
 
 use std::alloc::Global;
 use std::cell::{Cell, RefCell};
+use std::fs::Metadata;
 use std::io::{self, Cursor, ErrorKind, Read, Write};
 
 /// What stands at a path.
@@ -34,6 +35,11 @@ pub(crate) struct Stored {
     pub(crate) others: Cell<Others>,
     /// How it is locked by whoever opened it.
     pub(crate) lock: Cell<Lock>,
+    /// How often its name was looked at, and the look at which it leads nowhere from then on, and at which the file is
+    /// found cut.
+    pub(crate) looks: Cell<usize>,
+    pub(crate) gone_at: Cell<usize>,
+    pub(crate) cut_at: Cell<usize>,
     /// Whether it was read or changed without a lock that allows it.
     pub(crate) unlocked: Cell<bool>,
     /// How often it was brought to the disk, also before it was read first, and the number of the call that fails.
@@ -82,6 +88,9 @@ impl Stored {
             room: Cell::new(usize::MAX),
             others: Cell::new(Others::Away),
             lock: Cell::new(Lock::None),
+            looks: Cell::new(0),
+            gone_at: Cell::new(usize::MAX),
+            cut_at: Cell::new(usize::MAX),
             unlocked: Cell::new(false),
             syncs: Cell::new(0),
             syncs_before: Cell::new(0),
@@ -96,6 +105,7 @@ impl Stored {
     pub(crate) fn forget(&self) {
         self.taken.set(0);
         self.lock.set(Lock::None);
+        self.looks.set(0);
         self.unlocked.set(false);
         self.syncs.set(0);
         self.syncs_before.set(0);
@@ -108,6 +118,8 @@ impl Stored {
     pub(crate) fn mend(&self) {
         self.room.set(usize::MAX);
         self.others.set(Others::Away);
+        self.gone_at.set(usize::MAX);
+        self.cut_at.set(usize::MAX);
         self.bad_sync.set(0);
     }
 
@@ -199,6 +211,30 @@ impl Stored {
             Ok(held) => held.get_ref().len(),
             Err(_) => 0,
         }
+    }
+
+    /// What a system says of what stands there. Of the types that the kit can name a link is the one for a stream that
+    /// is no regular file.
+    pub(crate) fn found(&self) -> io::Result<Metadata> {
+        match self.kind.get() {
+            Kind::Missing => failed(ErrorKind::NotFound),
+            Kind::Folder => Ok(Metadata::of_dir()),
+            Kind::Stream => Ok(Metadata::of_symlink(0)),
+            Kind::Plain | Kind::ReadOnly => Ok(Metadata::of_file(self.size() as u64)),
+        }
+    }
+
+    /// What a system says of what its name leads to. The file may have gone from there, or be cut by then.
+    pub(crate) fn looked_at(&self) -> io::Result<Metadata> {
+        let looks = self.looks.get().saturating_add(1);
+        self.looks.set(looks);
+        if looks >= self.gone_at.get() {
+            return failed(ErrorKind::NotFound);
+        }
+        if looks >= self.cut_at.get() {
+            return Ok(Metadata::of_file((self.size() / 2) as u64));
+        }
+        self.found()
     }
 
     /// Cuts what stands there, or adds zeros to it.

@@ -27,7 +27,7 @@ no script
 image
 folder image
 person ledger_cli check a.d64
-tells FILE|ledger: a file couldn't be read to its end, or the output not be written|
+tells FILE|ledger: a.d64: it is a pipe, a device or a folder|
 ends 3
 
 no script

@@ -7,7 +7,7 @@ use Rattle.ledger_program.proofs.running.format_run.Goals as goal
 
 pub returns : goal.returns
 returns g c = record {
-  run = subst (λ (e : Ended). IsFormatRun g.F.Write.contents g.W.Write.contents c.args.tills c.args.file.now
+  run = subst (λ (e : Ended). IsFormatRun g.F.EndedFile.remains g.W.Write.contents c.args.tills c.args.file.now
       c.format_image.new.file c.args.out.now c.format_image.new.out e)
       (sym c.ended.ensures)
       (format-run _ _ c.args.tills _ _ _ _ c.format_image.result c.format_image.ensures);

@@ -1,0 +1,167 @@
+//! Images that go from their names, or are cut, while they are served; images that are no regular files; and names of which
+//! a terminal would obey a part.
+use crate::scenes::each;
+
+/// A name is looked at before its file is opened, once more behind the lock, and then before each reply.
+const GONE: &[u8] = b"
+gone 2
+$ ledger_cli serve a.d64
+tells DEVICE|
+ends 3
+
+cut 2
+$ ledger_cli serve a.d64
+tells DEVICE|
+ends 3
+
+gone 2
+$ ledger_cli serve --unsynced a.d64
+tells DEVICE|
+ends 3
+
+input 1,1,S,1,5|1,2,I,1,2|
+gone 3
+$ ledger_cli serve a.d64
+prints 1,1,MEDIA|
+tells DEVICE|
+ends 3
+written
+
+input 1,1,S,1,5|1,2,I,1,2|
+cut 4
+$ ledger_cli serve a.d64
+prints 1,1,DONE,5|1,2,MEDIA|
+tells DEVICE|
+ends 3
+written
+
+# What is known from memory isn't told, either.
+input 1,1,S,1,5|1,1,S,1,5|2,7,R,1,1|
+gone 4
+$ ledger_cli serve a.d64
+prints 1,1,DONE,5|1,1,MEDIA|
+tells DEVICE|
+ends 3
+written
+
+input 1,1,S,1,5|x|
+gone 4
+$ ledger_cli serve --unsynced a.d64
+prints 1,1,DONE,5|SYNTAX|
+tells DEVICE|
+ends 3
+written
+
+input 1,1,S,1,5|
+gone 4
+$ ledger_cli serve a.d64
+prints 1,1,DONE,5|
+written
+";
+
+#[test]
+fn a_file_that_goes_is_noticed(rt: HostRuntime) {
+    each(&rt, GONE);
+}
+
+/// What is no regular file is neither opened nor written, also to explain why.
+const NO_FILE: &[u8] = b"
+pipe image
+$ ledger_cli check a.d64
+tells FILE|
+ends 3
+
+pipe image
+$ ledger_cli show a.d64
+tells FILE|
+ends 3
+
+pipe image
+$ ledger_cli records a.d64 STOCK
+tells FILE|
+ends 3
+
+pipe image
+$ ledger_cli picture a.d64
+tells FILE|
+ends 3
+
+pipe image
+$ ledger_cli serve a.d64
+tells FILE|
+ends 3
+
+pipe image
+$ ledger_cli play a.d64 s.txt
+tells FILE|
+ends 3
+
+pipe image
+$ ledger_cli repair a.d64
+tells FILE|
+ends 3
+
+pipe image
+$ ledger_cli format a.d64 --tills 2
+tells FILE|
+ends 3
+
+pipe image
+$ ledger_cli format a.d64 --tills 2 --new
+tells FILE EXISTS|
+ends 1
+
+pipe image
+person ledger_cli repair a.d64
+tells FILE|ledger: a.d64: it is a pipe, a device or a folder|
+ends 3
+
+pipe image
+person ledger_cli format a.d64 --tills 2
+tells FILE|ledger: a.d64: it is a pipe, a device or a folder|
+ends 3
+
+script 1,1,S,1,5|
+pipe script
+output-takes 2 bytes
+person ledger_cli dry s.txt
+prints 1,
+tells FILE|ledger: a file couldn't be read to its end, or the output not be written|
+ends 3
+";
+
+#[test]
+fn what_is_no_file_is_refused(rt: HostRuntime) {
+    each(&rt, NO_FILE);
+}
+
+/// A new image is made only under a name that is free.
+const NEW: &[u8] = b"
+$ ledger_cli format a.d64 --tills 2 --new
+tells FILE EXISTS|
+ends 1
+
+image
+$ ledger_cli format a.d64 --tills 2 --new
+tells FILE EXISTS|
+ends 1
+
+folder image
+$ ledger_cli format a.d64 --tills 2 --new
+tells FILE EXISTS|
+ends 1
+
+person ledger_cli format a.d64 --tills 2 --new
+tells FILE EXISTS|ledger: a.d64: it is there already; `format` without `--new` replaces it|
+ends 1
+
+no image
+$ ledger_cli format a.d64 --tills 2 --new
+prints FORMATTED|
+leaves the shop
+";
+
+#[test]
+fn a_new_image_replaces_nothing(rt: HostRuntime) {
+    each(&rt, NEW);
+}

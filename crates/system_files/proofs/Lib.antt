@@ -1,0 +1,5 @@
+pub mod Indices
+pub mod Sinces
+pub mod Spoiled
+pub mod Filled
+pub mod Steps

@@ -1,0 +1,20 @@
+//! What the program asks of the system's files: which may be opened, whether they are still there, and how one is written
+//! over so that power loss leaves no third disk.
+#![tactic(auto)]
+
+mod names;
+mod opening;
+
+mod remaining;
+mod replaced;
+mod replacing;
+mod shown_paths;
+mod streams;
+
+pub use names::{FileName, Stays};
+pub use opening::{opened_to_change, opened_to_read, regular, regular_at};
+pub use remaining::EndedFile;
+pub use replaced::{OpensFile, Replaced};
+pub use replacing::replace_image;
+pub use shown_paths::ShownPath;
+pub use streams::ClosedStreams;

@@ -1,0 +1,62 @@
+//! Names that may come to lead elsewhere while a file is open.
+ghost use Rattle.std.specs.Prelude.{◌≡◌};
+
+use std::fs::{Metadata, OpenFile};
+use std::io;
+use std::os::unix::fs::MetadataExt;
+use std::rt::Files;
+
+/// Which file it is: its device, its number on that, and how many bytes it has.
+#[derive(Clone, Copy, Debug, PartialEq, Eq)]
+struct Identity {
+    device: u64,
+    number: u64,
+    bytes: u64,
+}
+
+impl Identity {
+    /// The file of which the system says this.
+    fn of(found: &Metadata) -> Identity {
+        Identity {
+            device: found.dev(),
+            number: found.ino(),
+            bytes: found.len(),
+        }
+    }
+}
+
+/// Something that may go.
+pub trait Stays {
+    /// Whether it is still there.
+    fn is_there(&self) -> bool;
+}
+
+/// The name of an open file, by which others find it.
+#[derive(Drop)]
+pub struct FileName<'a, R> {
+    rt: &'a R,
+    path: &'a str,
+    file: Identity,
+}
+
+impl<'a, R: Files> FileName<'a, R> {
+    /// The name of a file that was opened by this path, as long as the file is now.
+    pub fn of<F: OpenFile>(rt: &'a R, path: &'a str, file: &F) -> io::Result<FileName<'a, R>> {
+        let found = file.metadata()?;
+        Ok(FileName {
+            rt,
+            path,
+            file: Identity::of(&found),
+        })
+    }
+}
+
+impl<R: Files> Stays for FileName<'_, R> {
+    /// Whether the path leads to the same file, and that has as many bytes. False if the system can't say.
+    fn is_there(&self) -> bool {
+        match self.rt.metadata(self.path) {
+            Ok(found) => Identity::of(&found) == self.file,
+            Err(_) => false,
+        }
+    }
+}

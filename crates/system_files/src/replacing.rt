@@ -1,0 +1,60 @@
+//! An image written over a file, so that power loss leaves the old bytes, no disk, or the new one.
+ghost use Rattle.std.specs.Prelude.{◌≡◌, length};
+ghost use Rattle.system_files.specs.Replacing.{AllAreFilled, AllAreSpoiled, IsFilling, IsReplaced, IsSealing, IsSpoiling};
+
+use crate::remaining::EndedFile;
+use std::io;
+
+/// How many bytes an image has.
+const IMAGE_BYTES: u64 = 174_848;
+
+/// Where the first sector of the directory begins, 18/1, and where the one behind it does.
+const DIRECTORY: usize = 91_648;
+
+const BEHIND: usize = 91_904;
+
+/// A first sector of a directory that links to track 255, which no disk has.
+const SPOILED: [u8; 256] = [255; 256];
+
+/// Spoils the directory of the image that a file may hold, and brings that to the disk.
+fn spoil<F: EndedFile>(file: &mut F) -> io::Result<()>
+    ensures { IsSpoiling F.remains file.old file.new result }
+{
+    file.put_over(&SPOILED, DIRECTORY as u64)?;
+    file.sync_whole()
+}
+
+/// Writes all of an image but the first sector of its directory over a file in which that sector is spoiled, and brings
+/// that to the disk.
+fn fill<F: EndedFile>(file: &mut F, image: &[u8]) -> io::Result<()>
+    requires size { length image.now ≡ 174848 }
+    requires spoiled { AllAreSpoiled F.remains file.old }
+    ensures { IsFilling F.remains file.old file.new image.now result }
+{
+    file.put_over(&image[..DIRECTORY], 0)?;
+    file.put_over(&image[BEHIND..], BEHIND as u64)?;
+    file.end_at(IMAGE_BYTES)?;
+    file.sync_whole()
+}
+
+/// Writes the first sector of an image's directory, of which all else is there, and brings it to the disk.
+fn seal<F: EndedFile>(file: &mut F, image: &[u8]) -> io::Result<()>
+    requires size { length image.now ≡ 174848 }
+    requires filled { AllAreFilled F.remains file.old image.now }
+    ensures { IsSealing F.remains file.old file.new image.now result }
+{
+    file.put_over(&image[DIRECTORY..BEHIND], DIRECTORY as u64)?;
+    file.sync_whole()
+}
+
+/// Replaces all that a file holds with an image. If power goes on the way there remains what could remain before, or bytes
+/// that aren't the image of a sound disk, or the image. At Ok the image remains. At an error any of these does: the file
+/// may be spoiled.
+pub fn replace_image<F: EndedFile>(file: &mut F, image: &[u8]) -> io::Result<()>
+    requires size { length image.now ≡ 174848 }
+    ensures { IsReplaced F.remains file.old file.new image.now result }
+{
+    spoil(file)?;
+    fill(file, image)?;
+    seal(file, image)
+}

@@ -1,0 +1,50 @@
+//! The standard streams that were closed when the program started.
+ghost use Rattle.std.specs.Prelude.{◌≡◌, ℤ, IfOk, IfSome, Option, pos};
+ghost use Rattle.system_files.specs.Streams.{AreStreams, IsAt};
+
+use std::fs::{File, OpenOptions};
+use std::io;
+use std::os::fd::AsRawFd;
+use std::rt::Files;
+
+/// What can be read and written whatever comes, and holds nothing.
+const NOTHING: &str = "/dev/null";
+
+/// The files that stand in for standard streams that were closed when the program started: reading standard input fails
+/// then, and so does writing to the outputs. Without them the next file that is opened would take a closed stream's
+/// number, and what is printed would be written to it. They are held until the program ends.
+#[derive(Drop)]
+pub struct ClosedStreams<F> {
+    input: Option<F>,
+    output: Option<F>,
+    errors: Option<F>,
+}
+
+/// The file, if its number is this stream's.
+fn if_stream<F: AsRawFd + Drop>(file: F, stream: i32) -> Option<F>
+    ensures { IfSome result (IsAt F.raw_fd stream) }
+{
+    if file.as_raw_fd() == stream {
+        return Some(file);
+    }
+    None
+}
+
+impl<F: AsRawFd + Drop> ClosedStreams<F> {
+    /// Opens `/dev/null` in the place of each closed stream: as standard input for writing alone, as an output for
+    /// reading alone. A system gives a file the lowest number that is free, so a file with another number than the
+    /// stream's shows that the stream is open, and is closed again. An error if `/dev/null` can't be opened.
+    pub fn hold<R: Files<File = F>>(rt: &R) -> io::Result<ClosedStreams<F>>
+        ensures { IfOk result (AreStreams F.raw_fd) }
+    {
+        let input = OpenOptions::new().write(true).open(rt, NOTHING)?;
+        let input = if_stream(input, 0);
+        let output = if_stream(File::open(rt, NOTHING)?, 1);
+        let errors = if_stream(File::open(rt, NOTHING)?, 2);
+        Ok(ClosedStreams {
+            input,
+            output,
+            errors,
+        })
+    }
+}

@@ -1,0 +1,121 @@
+#!/usr/bin/env python3
+"""Moves, replaces, removes and cuts the image of a running `serve`, and sees that it says so:
+
+    tests/moved_files.py PROGRAM
+
+Behind each change the next line hears MEDIA, standard error has DEVICE, and the status is 3; also a line that is repeated and known
+from memory. Of two `serve`s under one name only the one whose file the name leads to answers. It ends by itself and uses no network."""
+
+import os
+import shutil
+import subprocess
+import sys
+import tempfile
+from pathlib import Path
+
+PROGRAM = Path(sys.argv[1]).resolve()
+
+
+def want(what, got, wanted):
+    if got != wanted:
+        print(f"moved_files: {what}: {got!r} and not {wanted!r}", file=sys.stderr)
+        sys.exit(1)
+
+
+class Served:
+    def __init__(self, folder, *words):
+        self.process = subprocess.Popen(
+            [PROGRAM, "serve", "s.d64", *words], cwd=folder,
+            stdin=subprocess.PIPE, stdout=subprocess.PIPE, stderr=subprocess.PIPE,
+        )
+
+    def ask(self, line):
+        self.process.stdin.write(line + b"\n")
+        self.process.stdin.flush()
+        return self.process.stdout.readline().rstrip(b"\n")
+
+    def end(self):
+        self.process.stdin.close()
+        told = self.process.stderr.read()
+        return self.process.wait(timeout=20), told
+
+
+def moved(folder):
+    (folder / "s.d64").rename(folder / "t.d64")
+
+
+def replaced(folder):
+    shutil.copy(folder / "backup.d64", folder / "new.d64")
+    (folder / "new.d64").rename(folder / "s.d64")
+
+
+def removed(folder):
+    (folder / "s.d64").unlink()
+
+
+def emptied(folder):
+    os.truncate(folder / "s.d64", 0)
+
+
+def cut(folder):
+    os.truncate(folder / "s.d64", 174_847)
+
+
+def longer(folder):
+    with (folder / "s.d64").open("ab") as file:
+        file.write(b"x")
+
+
+def made_a_folder(folder):
+    removed(folder)
+    (folder / "s.d64").mkdir()
+
+
+CHANGES = [moved, replaced, removed, emptied, cut, longer, made_a_folder]
+
+
+def fresh(folder):
+    for old in folder.iterdir():
+        old.rmdir() if old.is_dir() else old.unlink()
+    subprocess.run([PROGRAM, "format", "s.d64", "--tills", "4"], cwd=folder, check=True, stdout=subprocess.DEVNULL)
+    shutil.copy(folder / "s.d64", folder / "backup.d64")
+
+
+def main():
+    tried = 0
+    with tempfile.TemporaryDirectory() as place:
+        folder = Path(place)
+        for change in CHANGES:
+            for words in ([], ["--unsynced"]):
+                for line in (b"1,2,I,15,1", b"1,1,S,15,7", b"2,1,R,15,1"):
+                    fresh(folder)
+                    served = Served(folder, *words)
+                    want("the first line", served.ask(b"1,1,S,15,7"), b"1,1,DONE,7")
+                    change(folder)
+                    name = f"{change.__name__} {words} {line}"
+                    want(name, served.ask(line), b",".join(line.split(b",")[:2]) + b",MEDIA")
+                    want(name, served.end(), (3, b"DEVICE\n"))
+                    tried += 1
+        # the goods of a shop whose copy came in its place are sold once
+        fresh(folder)
+        first = Served(folder)
+        want("stock", first.ask(b"1,1,S,15,10"), b"1,1,DONE,10")
+        shutil.copy(folder / "s.d64", folder / "copy.d64")
+        (folder / "copy.d64").rename(folder / "s.d64")
+        second = Served(folder)
+        want("the second sells", second.ask(b"2,1,I,15,10"), b"2,1,DONE,0")
+        want("the first doesn't", first.ask(b"3,1,I,15,3"), b"3,1,MEDIA")
+        want("the first", first.end(), (3, b"DEVICE\n"))
+        want("the second", second.end(), (0, b""))
+        # what stays in its place goes on
+        fresh(folder)
+        served = Served(folder)
+        (folder / "s.d64").rename(folder / "t.d64")
+        (folder / "t.d64").rename(folder / "s.d64")
+        os.link(folder / "s.d64", folder / "other.d64")
+        want("a file that came back", served.ask(b"1,1,S,15,7"), b"1,1,DONE,7")
+        want("its end", served.end(), (0, b""))
+    print(f"moved_files: {tried + 2} changes under a running serve: each was noticed, and what stayed went on")
+
+
+main()
