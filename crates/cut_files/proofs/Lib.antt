@@ -1,0 +1,6 @@
+-- The lemmas of this crate.
+mod Chains
+mod Entries
+mod Places
+mod Shorts
+mod Sides
