@@ -22,9 +22,10 @@ flag word = record (new_rule word) { long = Some word; action = Some SetTrue }
 abbrev pub over_image : Text → App
 over_image name = with_rule (new_app name) (required (codes "IMAGE"))
 
--- format IMAGE --tills T
+-- format IMAGE --tills T [--new]
 abbrev pub format : App
-format = with_rule (over_image (codes "format")) (required_behind (codes "tills") (codes "T"))
+format = with_rule (with_rule (over_image (codes "format")) (required_behind (codes "tills") (codes "T")))
+    (flag (codes "new"))
 
 -- list IMAGE
 abbrev pub list : App
@@ -42,13 +43,18 @@ show = over_image (codes "show")
 abbrev pub play : App
 play = with_rule (with_rule (over_image (codes "play")) (required (codes "SCRIPT"))) (flag (codes "sync"))
 
--- serve IMAGE [--unsynced]
-abbrev pub serve : App
-serve = with_rule (over_image (codes "serve")) (flag (codes "unsynced"))
+-- a subcommand that goes on where a disk has lost a part of a file, if --accept-loss is given
+abbrev pub may_accept_loss : App → App
+may_accept_loss a = with_rule a (flag (codes "accept-loss"))
 
--- repair IMAGE
+-- serve IMAGE [--unsynced] [--accept-loss]
+abbrev pub serve : App
+serve = may_accept_loss (with_rule (over_image (codes "serve")) (flag (codes "unsynced")))
+
+-- repair IMAGE [--accept-loss] [--free] [--dry-run]
 abbrev pub repair : App
-repair = over_image (codes "repair")
+repair = with_rule (with_rule (may_accept_loss (over_image (codes "repair"))) (flag (codes "free")))
+    (flag (codes "dry-run"))
 
 -- records IMAGE NAME
 abbrev pub records : App
@@ -58,14 +64,15 @@ records = with_rule (over_image (codes "records")) (required (codes "NAME"))
 abbrev pub bytes : App
 bytes = with_rule (over_image (codes "bytes")) (required (codes "NAME"))
 
--- make IMAGE NAME --length L
+-- make IMAGE NAME --length L [--accept-loss]
 abbrev pub make : App
-make = with_rule (with_rule (over_image (codes "make")) (required (codes "NAME")))
-    (required_behind (codes "length") (codes "L"))
+make = may_accept_loss (with_rule (with_rule (over_image (codes "make")) (required (codes "NAME")))
+    (required_behind (codes "length") (codes "L")))
 
--- store IMAGE NAME RECORDS
+-- store IMAGE NAME RECORDS [--accept-loss]
 abbrev pub store : App
-store = with_rule (with_rule (over_image (codes "store")) (required (codes "NAME"))) (required (codes "RECORDS"))
+store = may_accept_loss (with_rule (with_rule (over_image (codes "store")) (required (codes "NAME")))
+    (required (codes "RECORDS")))
 
 -- map IMAGE
 abbrev pub map : App
@@ -87,23 +94,31 @@ with_required_subcommand a = record { top = record a.top { subcommand_required =
 abbrev pub with_version : App → App
 with_version a = record { top = record a.top { has_version = true }; subs = a.subs }
 
+-- the same, but with --explain its words ask for more of what isn't done
+abbrev pub explainable : App → App
+explainable a = with_rule a (flag (codes "explain"))
+
 -- the program without its subcommands
 abbrev pub bare : App
-bare = with_required_subcommand (with_version (new_app (codes "ledger")))
+bare = explainable (with_required_subcommand (with_version (new_app (codes "ledger"))))
+
+-- a program with this subcommand more, behind which --explain may stand too
+abbrev pub with_command : App → App → App
+with_command a command = with_subcommand a (explainable command).top
 
 -- a program that has the subcommands for a shop too
 abbrev pub with_shop : App → App
-with_shop a = with_subcommand (with_subcommand (with_subcommand (with_subcommand (with_subcommand (with_subcommand
-    a format.top) list.top) check.top) show.top) play.top) serve.top
+with_shop a = with_command (with_command (with_command (with_command (with_command (with_command
+    a format) list) check) show) play) serve
 
 -- a program that has the subcommands for the files of a disk too
 abbrev pub with_files : App → App
-with_files a = with_subcommand (with_subcommand (with_subcommand (with_subcommand (with_subcommand
-    a repair.top) records.top) bytes.top) make.top) store.top
+with_files a = with_command (with_command (with_command (with_command (with_command
+    a repair) records) bytes) make) store
 
 -- the program with its subcommands
 abbrev pub ledger : App
-ledger = with_subcommand (with_subcommand (with_subcommand (with_files (with_shop bare)) map.top) picture.top) dry.top
+ledger = with_command (with_command (with_command (with_files (with_shop bare)) map) picture) dry
 
 -- this is that subcommand, and none of its values is one of the program's
 pub record IsSubcommand (app : App) (c : Command) : Type 0 where

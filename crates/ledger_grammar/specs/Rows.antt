@@ -1,7 +1,8 @@
 -- What the table of subcommands says of the words (our own).
 use Rattle.std.specs.Prelude.{None, Some, fold, if◌then◌else◌, not, option_map}
-use Rattle.clap.specs.Words.{App, Rule, new_app, new_rule, with_rule, with_subcommand}
+use Rattle.clap.specs.Words.{App, Rule, new_app, new_rule, with_rule}
 use Rattle.clap.specs.declared.builder.action.ArgAction.TheVariants.{SetTrue}
+use Rattle.ledger_grammar.specs.Grammar.{with_command}
 use Rattle.ledger_grammar.specs.declared.subcommands.Subcommand.{Subcommand}
 use Rattle.ledger_grammar.specs.declared.subcommands.Value.{Value}
 
@@ -23,4 +24,4 @@ app s = fold with_value (new_app s.name.now) s.values.now
 
 -- the program with a subcommand more
 abbrev pub with_row : App → Subcommand → App
-with_row a s = with_subcommand a (app s).top
+with_row a s = with_command a (app s)

@@ -6,7 +6,7 @@ ghost use Rattle.ledger_grammar.specs.Grammar as grammar;
 ghost use Rattle.ledger_grammar.specs.Rows as rows;
 
 use crate::help_texts::MORE;
-use crate::subcommands::{SUBCOMMANDS, Subcommand, Value};
+use crate::subcommands::{EXPLAIN, SUBCOMMANDS, Subcommand, Value};
 use clap::{Arg, ArgAction, Command};
 use std::alloc::{AllocError, Global};
 
@@ -38,7 +38,7 @@ fn arg_of<'a>(alloc: Global, value: &Value) -> Arg<'a>
     }
 }
 
-/// A subcommand with its values and flags.
+/// A subcommand with its values and its own flags.
 fn subcommand_of<'a>(alloc: Global, subcommand: &Subcommand) -> Result<Command<'a>, AllocError>
     ensures { IfOk result (grammar.IsSubcommand (rows.app subcommand.now)) }
 {
@@ -47,6 +47,13 @@ fn subcommand_of<'a>(alloc: Global, subcommand: &Subcommand) -> Result<Command<'
         command = command.arg(arg_of(alloc, value))?;
     }
     Ok(command)
+}
+
+/// A subcommand that takes --explain too.
+fn explainable_of<'a>(alloc: Global, subcommand: &Subcommand) -> Result<Command<'a>, AllocError>
+    ensures { IfOk result (grammar.IsSubcommand (grammar.explainable (rows.app subcommand.now))) }
+{
+    subcommand_of(alloc, subcommand)?.arg(arg_of(alloc, &EXPLAIN))
 }
 
 /// The program's name, and what help says of it.
@@ -58,19 +65,22 @@ fn described<'a>(alloc: Global) -> Command<'a>
 }
 
 /// The program without its subcommands.
-fn bare<'a>(alloc: Global) -> Command<'a>
-    ensures { app_of result ≡ grammar.bare }
+fn bare<'a>(alloc: Global) -> Result<Command<'a>, AllocError>
+    ensures { IfOk result (λ c. app_of c ≡ grammar.bare) }
 {
-    described(alloc).version(VERSION).subcommand_required(true)
+    described(alloc)
+        .version(VERSION)
+        .subcommand_required(true)
+        .arg(arg_of(alloc, &EXPLAIN))
 }
 
 /// The program's command line.
 pub fn ledger_command<'a>(alloc: Global) -> Result<Command<'a>, AllocError>
     ensures { IfOk result (λ c. app_of c ≡ grammar.ledger) }
 {
-    let mut program = bare(alloc);
+    let mut program = bare(alloc)?;
     for subcommand in &SUBCOMMANDS {
-        program = program.subcommand(subcommand_of(alloc, subcommand)?)?;
+        program = program.subcommand(explainable_of(alloc, subcommand)?)?;
     }
     Ok(program)
 }

@@ -53,9 +53,25 @@ const RECORD_LINES: Value = Value {
     help: "The records, a line each, as records prints them; /dev/stdin is standard input",
 };
 
+/// The flag of all subcommands, which may stand before the name of one too.
+pub(crate) const EXPLAIN: Value = Value {
+    name: "explain",
+    word: Some("explain"),
+    is_flag: true,
+    help: "Prints a second line on standard error where a job isn't done, as on a terminal",
+};
+
+/// The flag of those that write a disk that may have lost a part of a file.
+const ACCEPT_LOSS: Value = Value {
+    name: "accept-loss",
+    word: Some("accept-loss"),
+    is_flag: true,
+    help: "Goes on where a file has lost its end (SHORT), which stays lost",
+};
+
 /// All subcommands, in the order in which help lists them.
 pub(crate) const SUBCOMMANDS: [Subcommand; 14] = [
-    // format IMAGE --tills T
+    // format IMAGE --tills T [--new]
     Subcommand {
         name: "format",
         about: "Makes the image of an empty shop, or replaces it",
@@ -67,6 +83,12 @@ pub(crate) const SUBCOMMANDS: [Subcommand; 14] = [
                 word: Some("tills"),
                 is_flag: false,
                 help: "How many tills the shop has, 1 to 64",
+            },
+            Value {
+                name: "new",
+                word: Some("new"),
+                is_flag: true,
+                help: "Refuses an image that is there already",
             },
         ],
     },
@@ -107,7 +129,7 @@ pub(crate) const SUBCOMMANDS: [Subcommand; 14] = [
             },
         ],
     },
-    // serve IMAGE [--unsynced]
+    // serve IMAGE [--unsynced] [--accept-loss]
     Subcommand {
         name: "serve",
         about: "Answers the messages that come on standard input, each before the next is read",
@@ -120,14 +142,30 @@ pub(crate) const SUBCOMMANDS: [Subcommand; 14] = [
                 is_flag: true,
                 help: "Leaves it to the system when sectors come to the disk",
             },
+            ACCEPT_LOSS,
         ],
     },
-    // repair IMAGE
+    // repair IMAGE [--accept-loss] [--free] [--dry-run]
     Subcommand {
         name: "repair",
         about: "Makes the map, the side sectors and the block counts of a sound disk right",
         more: REPAIR,
-        values: &[IMAGE],
+        values: &[
+            IMAGE,
+            ACCEPT_LOSS,
+            Value {
+                name: "free",
+                word: Some("free"),
+                is_flag: true,
+                help: "Frees the sectors that the map calls taken and no file owns",
+            },
+            Value {
+                name: "dry-run",
+                word: Some("dry-run"),
+                is_flag: true,
+                help: "Prints what it would write, and writes nothing",
+            },
+        ],
     },
     // records IMAGE NAME
     Subcommand {
@@ -143,7 +181,7 @@ pub(crate) const SUBCOMMANDS: [Subcommand; 14] = [
         more: BYTES,
         values: &[IMAGE, NAME],
     },
-    // make IMAGE NAME --length L
+    // make IMAGE NAME --length L [--accept-loss]
     Subcommand {
         name: "make",
         about: "Makes a relative file with a block of empty records",
@@ -157,14 +195,15 @@ pub(crate) const SUBCOMMANDS: [Subcommand; 14] = [
                 is_flag: false,
                 help: "How many bytes a record has, 1 to 254",
             },
+            ACCEPT_LOSS,
         ],
     },
-    // store IMAGE NAME RECORDS
+    // store IMAGE NAME RECORDS [--accept-loss]
     Subcommand {
         name: "store",
         about: "Stores records in a relative file, and prints the lines of those that were otherwise",
         more: STORE,
-        values: &[IMAGE, NAME, RECORD_LINES],
+        values: &[IMAGE, NAME, RECORD_LINES, ACCEPT_LOSS],
     },
     // map IMAGE
     Subcommand {

@@ -12,7 +12,8 @@ use Rattle.rel_records.specs.File.{IsLength}
 -- and a new file can have its name
 abbrev pub IsFit : Job → Type 0
 IsFit (jobs.Format image tills) = (1 ≤ tills) × (tills ≤ 64)
-IsFit (jobs.Make image name length) = IsNewName (name_bytes name) × IsLength length
+IsFit (jobs.FormatNew image tills) = (1 ≤ tills) × (tills ≤ 64)
+IsFit (jobs.Make image name length loss) = IsNewName (name_bytes name) × IsLength length
 IsFit _ = ⊤
 
 -- what is read of a file: a script whole, and of an image one byte more than a disk has at most

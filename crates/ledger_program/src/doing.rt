@@ -301,23 +301,32 @@ where
 {
     match *job {
         Job::Format { image, tills } => do_format(rt, image, tills, out),
-        Job::Read { what, path } => do_reading(rt, what, path, out),
-        Job::Play {
+        Job::FormatNew { image, tills } => do_format(rt, image, tills, out),
+        Job::List { image } => do_reading(rt, Reading::List, image, out),
+        Job::Check { image } => do_reading(rt, Reading::Check, image, out),
+        Job::Show { image } => do_reading(rt, Reading::Show, image, out),
+        Job::Dry { script } => do_reading(rt, Reading::Dry, script, out),
+        Job::Play { image, script } => do_playing(rt, image, script, Durability::AtEnd, out),
+        Job::PlaySynced { image, script } => {
+            do_playing(rt, image, script, Durability::EachSector, out)
+        }
+        Job::Serve {
             image,
-            script,
             durability,
-        } => do_playing(rt, image, script, durability, out),
-        Job::Serve { image, durability } => do_serving(rt, image, durability, out),
-        Job::Repair { image } => do_repair(rt, image, out),
+            ..
+        } => do_serving(rt, image, durability, out),
+        Job::Repair { image, .. } => do_repair(rt, image, out),
         Job::Make {
             image,
             ref name,
             length,
+            ..
         } => do_make(rt, image, name, length, out),
         Job::Store {
             image,
             ref name,
             records,
+            ..
         } => do_store(rt, image, name, records, out),
         Job::Take {
             what,

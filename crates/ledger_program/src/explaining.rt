@@ -1,7 +1,7 @@
 //! What a person at a terminal is told: what is going to be replaced, and below a refusal which file it is about, what
 //! the system says of it, and what to do.
 use crate::files::{STANDARD_INPUT, opened};
-use crate::jobs::{Job, Reading};
+use crate::jobs::Job;
 use crate::refusals::Refusal;
 use disk_pictures::PictureFault;
 use keeper_commands::KeepFault;
@@ -76,22 +76,21 @@ fn subject_of(refusal: Refusal) -> About {
 /// The file that a job reads or writes first.
 fn image_of<'a>(job: &Job<'a>) -> &'a str {
     match job {
-        Job::Format { image, .. } | Job::Play { image, .. } | Job::Serve { image, .. } => image,
-        Job::Repair { image } | Job::Take { image, .. } | Job::Draw { image, .. } => image,
+        Job::Format { image, .. } | Job::FormatNew { image, .. } => image,
+        Job::List { image } | Job::Check { image } | Job::Show { image } => image,
+        Job::Play { image, .. } | Job::PlaySynced { image, .. } | Job::Serve { image, .. } => image,
+        Job::Repair { image, .. } | Job::Take { image, .. } | Job::Draw { image, .. } => image,
         Job::Make { image, .. } | Job::Store { image, .. } => image,
-        Job::Read { path, .. } => path,
+        Job::Dry { script } => script,
     }
 }
 
 /// The script, or the records, that it reads behind that.
 fn text_of<'a>(job: &Job<'a>) -> Option<&'a str> {
     match job {
-        Job::Play { script, .. } => Some(script),
+        Job::Play { script, .. } | Job::PlaySynced { script, .. } => Some(script),
         Job::Store { records, .. } => Some(records),
-        Job::Read {
-            what: Reading::Dry,
-            path,
-        } => Some(path),
+        Job::Dry { script } => Some(script),
         _ => None,
     }
 }
@@ -99,9 +98,11 @@ fn text_of<'a>(job: &Job<'a>) -> Option<&'a str> {
 /// Whether it writes its first file.
 fn writes(job: &Job<'_>) -> bool {
     match job {
-        Job::Format { .. } | Job::Play { .. } | Job::Serve { .. } => true,
+        Job::Format { .. } | Job::FormatNew { .. } => true,
+        Job::Play { .. } | Job::PlaySynced { .. } | Job::Serve { .. } => true,
         Job::Repair { .. } | Job::Make { .. } | Job::Store { .. } => true,
-        Job::Read { .. } | Job::Take { .. } | Job::Draw { .. } => false,
+        Job::List { .. } | Job::Check { .. } | Job::Show { .. } | Job::Dry { .. } => false,
+        Job::Take { .. } | Job::Draw { .. } => false,
     }
 }
 
@@ -128,7 +129,9 @@ where
     R: Files<File = F>,
 {
     match job {
-        Job::Format { .. } => OpenOptions::new().write(true).open(rt, image),
+        Job::Format { .. } | Job::FormatNew { .. } => {
+            OpenOptions::new().write(true).open(rt, image)
+        }
         _ if writes(job) => opened(rt, image),
         _ => File::open(rt, image),
     }

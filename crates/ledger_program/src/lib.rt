@@ -21,7 +21,7 @@ pub use doing::{do_job, do_over};
 pub use drawing::drawing_run;
 pub use durable_runs::{play_durably, serve_durably};
 pub use explaining::{announce, explain};
-pub use jobs::{Drawing, Job, Reading, Taking};
+pub use jobs::{Drawing, Effect, Job, Loss, Reading, Taking, Unowned};
 pub use keeping::{make_run, repair_run, store_run, taking_run};
 pub use names::Name;
 pub use refusals::Refusal;

@@ -1,13 +1,14 @@
 -- What a job is where its words are parsed.
 use Rattle.std.proofs.Common.{◌≡◌, Bor, List, Option, Some, true, inl, inr, refl, ap, sym, ◌∙◌, subst, []}
+use Rattle.std.specs.Prelude.{◌≤◌, ℕ, Bool, false, if◌then◌else◌}
 use Rattle.std.specs.Prelude.{Result, Ok, Err, IfErr, IfOk, MatchResult, codes, option_map}
 use Rattle.clap.specs.Words.{App, FailsBy, HasKind, HasMatchesOf, Kinds, Row, Text, fault_of, found_of, is_simple}
-use Rattle.clap.specs.Words.{is_simple_and_free, rows_of, subcommand_of}
+use Rattle.clap.specs.Words.{is_simple_and_free, matches_of, rows_of, subcommand_of}
 use Rattle.clap.specs.declared.error.Error.{Error}
 use Rattle.clap.specs.declared.parser.matches.ArgMatches.{ArgMatches}
 use Rattle.ledger_grammar.specs.Grammar.{ledger, value}
-use Rattle.ledger_words.specs.Jobs.{Has, HasNoName, HasNoNewName, IsJob, IsMakingJob, IsNoJob, IsParse, IsStoringJob}
-use Rattle.ledger_words.specs.Jobs.{IsTakingJob, word_of_taking}
+use Rattle.ledger_words.specs.Jobs.{Has, HasNoName, HasNoNewName, IsHeard, IsJob, IsMakingJob, IsNoJob, IsParse}
+use Rattle.ledger_words.specs.Jobs.{IsStoringJob, IsTakingJob, is_given, tills_in, word_of_taking}
 use Rattle.ledger_program.specs.Jobs.{IsFit}
 use Rattle.ledger_program.specs.Names.{IsNameOf, name_bytes}
 use Rattle.ledger_program.specs.declared.jobs.Job.{Job}
@@ -19,9 +20,11 @@ use Rattle.ledger_words.specs.declared.faults.JobFault.TheVariants as faults
 -- the command line is a simple one, so words are refused for one of its reasons
 parse-known : (app : App) (texts : List Text) (r : Result ArgMatches Error) → is_simple app ≡ true
     → FailsBy (fault_of app texts) r
-    → IfOk r (HasMatchesOf app texts) → MatchResult r (IsParse (fault_of app texts) (subcommand_of app texts))
+    → IfOk r (HasMatchesOf app texts)
+    → MatchResult r (IsParse (fault_of app texts) (matches_of app texts) (subcommand_of app texts))
     (HasKind (fault_of app texts))
-parse-known app texts (Ok m) simple fails has = record { fine = fails; is = (has simple).1 }
+parse-known app texts (Ok m) simple fails has =
+    record { fine = fails; before = (has simple).0; is = (has simple).1 }
 parse-known app texts (Err e) simple fails has = fails
 
 free : is_simple_and_free ledger ≡ true
@@ -32,9 +35,11 @@ simple = refl
 
 pub ledger-parse : (app : App) (texts : List Text) (r : Result ArgMatches Error) → app ≡ ledger
     → (is_simple_and_free app ≡ true → FailsBy (fault_of app texts) r) → IfOk r (HasMatchesOf app texts)
-    → MatchResult r (IsParse (fault_of ledger texts) (subcommand_of ledger texts)) (HasKind (fault_of ledger texts))
+    → MatchResult r (IsParse (fault_of ledger texts) (matches_of ledger texts) (subcommand_of ledger texts))
+    (HasKind (fault_of ledger texts))
 ledger-parse app texts r same fails has =
-    subst (λ (a : App). MatchResult r (IsParse (fault_of a texts) (subcommand_of a texts)) (HasKind (fault_of a texts)))
+    subst (λ (a : App). MatchResult r (IsParse (fault_of a texts) (matches_of a texts) (subcommand_of a texts))
+    (HasKind (fault_of a texts)))
     same
     (parse-known app texts r (ap is_simple same ∙ simple) (fails (ap is_simple_and_free same ∙ free)) has)
 
@@ -52,19 +57,64 @@ no-job-found kinds found at (Ok j) fine same is = tt
 no-job-found kinds found at (Err e) fine same is =
     subst (λ ks. IsNoJob ks at e) (sym fine) (subst (λ f. IsNoJob [] f e) same is)
 
--- the subcommand that was met is this one, and this holds of its values
+-- the subcommand that was met is this one
+pub met-is : (o : Option (Bor Text × Bor ArgMatches)) (found : Option (Text × List Row)) (name : Bor Text)
+    (at : Bor ArgMatches) (word : Text)
+    → option_map (λ (p : Bor Text × Bor ArgMatches). (p.0.now, rows_of (found_of p.1.now))) o ≡ found
+    → o ≡ Some (name, at) → name.now ≡ word → found ≡ Some (word, rows_of (found_of at.now))
+met-is o found name at word told some is =
+    let f : Bor Text × Bor ArgMatches → Text × List Row = λ p. (p.0.now, rows_of (found_of p.1.now)) in
+    sym told ∙ ap (option_map f) some ∙ ap (λ (n : Text). Some (n, rows_of (found_of at.now))) is
+
+-- and this holds of its values
 pub met-has : (o : Option (Bor Text × Bor ArgMatches)) (found : Option (Text × List Row)) (name : Bor Text)
     (at : Bor ArgMatches) (word : Text)
     (P : List Row → Type 0) → option_map (λ (p : Bor Text × Bor ArgMatches). (p.0.now, rows_of (found_of p.1.now)))
     o ≡ found → o ≡ Some (name, at) → name.now ≡ word
     → P (rows_of (found_of at.now)) → Has found word P
-met-has o found name at word P told some is holds =
-    let f : Bor Text × Bor ArgMatches → Text × List Row = λ p. (p.0.now, rows_of (found_of p.1.now)) in
-    record {
-      rows = rows_of (found_of at.now);
-      is = sym told ∙ ap (option_map f) some ∙ ap (λ (n : Text). Some (n, rows_of (found_of at.now))) is;
-      holds = holds;
-    }
+met-has o found name at word P told some is holds = record {
+  rows = rows_of (found_of at.now);
+  is = met-is o found name at word told some is;
+  holds = holds;
+}
+
+-- with --new or without, the job of `format` is that of its values
+pub format-met : (found : Option (Text × List Row)) (rows : List Row) (image : Bor Text) (tills : ℕ) (new : Bool)
+    → is_given (codes "new") rows ≡ new → found ≡ Some (codes "format", rows)
+    → image.now ≡ value (codes "IMAGE") rows → tills_in rows ≡ Some tills
+    → IsJob found (if new then jobs.FormatNew image tills else jobs.Format image tills)
+format-met found rows image tills true given is by-image by-tills =
+    record { rows = rows; is = is; holds = (by-image, by-tills, given) }
+format-met found rows image tills false given is by-image by-tills =
+    record { rows = rows; is = is; holds = (by-image, by-tills, given) }
+
+pub format-fit : (image : Bor Text) (tills : ℕ) (new : Bool) → (1 ≤ tills) × (tills ≤ 64)
+    → IsFit (if new then jobs.FormatNew image tills else jobs.Format image tills)
+format-fit image tills true fit = fit
+format-fit image tills false fit = fit
+
+-- and with --sync or without that of `play`
+pub play-met : (found : Option (Text × List Row)) (rows : List Row) (image script : Bor Text) (synced : Bool)
+    → is_given (codes "sync") rows ≡ synced → found ≡ Some (codes "play", rows)
+    → image.now ≡ value (codes "IMAGE") rows → script.now ≡ value (codes "SCRIPT") rows
+    → IsJob found (if synced then jobs.PlaySynced image script else jobs.Play image script)
+play-met found rows image script true given is by-image by-script =
+    record { rows = rows; is = is; holds = (by-image, by-script, given) }
+play-met found rows image script false given is by-image by-script =
+    record { rows = rows; is = is; holds = (by-image, by-script, given) }
+
+pub play-fit : (image script : Bor Text) (synced : Bool)
+    → IsFit (if synced then jobs.PlaySynced image script else jobs.Play image script)
+play-fit image script true = tt
+play-fit image script false = tt
+
+-- what was heard is what the words ask for
+pub heard-as-asked : (r : Result Job JobFault) (asked heard : Bool) → heard ≡ asked → IsHeard r asked heard
+heard-as-asked (Ok j) asked heard same = same
+heard-as-asked (Err (faults.Words e)) asked heard same = λ is. sym same ∙ is
+heard-as-asked (Err faults.Tills) asked heard same = same
+heard-as-asked (Err faults.Name) asked heard same = same
+heard-as-asked (Err faults.Length) asked heard same = same
 
 -- what it takes out of an image is the job of a subcommand that was met, or its name is none
 pub taking-met : (o : Option (Bor Text × Bor ArgMatches)) (found : Option (Text × List Row)) (name : Bor Text)
@@ -82,13 +132,21 @@ taking-met o found name at what image (Ok (jobs.Take asked path text)) told some
   tt,
 )
 taking-met o found name at what image (Ok (jobs.Format path tills)) told some is by-image taking = absurd taking
-taking-met o found name at what image (Ok (jobs.Read asked path)) told some is by-image taking = absurd taking
-taking-met o found name at what image (Ok (jobs.Play path script durability)) told some is by-image taking =
+taking-met o found name at what image (Ok (jobs.FormatNew path tills)) told some is by-image taking = absurd taking
+taking-met o found name at what image (Ok (jobs.List path)) told some is by-image taking = absurd taking
+taking-met o found name at what image (Ok (jobs.Check path)) told some is by-image taking = absurd taking
+taking-met o found name at what image (Ok (jobs.Show path)) told some is by-image taking = absurd taking
+taking-met o found name at what image (Ok (jobs.Play path script)) told some is by-image taking = absurd taking
+taking-met o found name at what image (Ok (jobs.PlaySynced path script)) told some is by-image taking = absurd taking
+taking-met o found name at what image (Ok (jobs.Dry path)) told some is by-image taking = absurd taking
+taking-met o found name at what image (Ok (jobs.Serve path durability loss)) told some is by-image taking =
     absurd taking
-taking-met o found name at what image (Ok (jobs.Serve path durability)) told some is by-image taking = absurd taking
-taking-met o found name at what image (Ok (jobs.Repair path)) told some is by-image taking = absurd taking
-taking-met o found name at what image (Ok (jobs.Make path text length)) told some is by-image taking = absurd taking
-taking-met o found name at what image (Ok (jobs.Store path text records)) told some is by-image taking = absurd taking
+taking-met o found name at what image (Ok (jobs.Repair path loss unowned effect)) told some is by-image taking =
+    absurd taking
+taking-met o found name at what image (Ok (jobs.Make path text length loss)) told some is by-image taking =
+    absurd taking
+taking-met o found name at what image (Ok (jobs.Store path text records loss)) told some is by-image taking =
+    absurd taking
 taking-met o found name at what image (Ok (jobs.Draw asked path)) told some is by-image taking = absurd taking
 taking-met o found name at what image (Err faults.Name) told some is by-image taking =
     ((refl, inl (what, met-has o found name at (word_of_taking what) HasNoName told some is taking)), tt)
@@ -103,15 +161,22 @@ pub making-met : (o : Option (Bor Text × Bor ArgMatches)) (found : Option (Text
     → option_map (λ (p : Bor Text × Bor ArgMatches). (p.0.now, rows_of (found_of p.1.now))) o ≡ found
     → o ≡ Some (name, at) → name.now ≡ codes "make" → image ≡ value (codes "IMAGE") (rows_of (found_of at.now))
     → IsMakingJob (rows_of (found_of at.now)) image r → MatchResult r (IsJob found) (IsNoJob [] found) × IfOk r IsFit
-making-met o found name at image (Ok (jobs.Make path text length)) told some is by-image job =
-    (met-has o found name at (codes "make") _ told some is (job.0 ∙ by-image, job.1, job.2), (job.3, job.4))
+making-met o found name at image (Ok (jobs.Make path text length loss)) told some is by-image job = (
+  met-has o found name at (codes "make") _ told some is (job.0 ∙ by-image, job.1, job.2, job.5),
+  (job.3, job.4),
+)
 making-met o found name at image (Ok (jobs.Format path tills)) told some is by-image job = absurd job
-making-met o found name at image (Ok (jobs.Read asked path)) told some is by-image job = absurd job
-making-met o found name at image (Ok (jobs.Play path script durability)) told some is by-image job = absurd job
-making-met o found name at image (Ok (jobs.Serve path durability)) told some is by-image job = absurd job
-making-met o found name at image (Ok (jobs.Repair path)) told some is by-image job = absurd job
+making-met o found name at image (Ok (jobs.FormatNew path tills)) told some is by-image job = absurd job
+making-met o found name at image (Ok (jobs.List path)) told some is by-image job = absurd job
+making-met o found name at image (Ok (jobs.Check path)) told some is by-image job = absurd job
+making-met o found name at image (Ok (jobs.Show path)) told some is by-image job = absurd job
+making-met o found name at image (Ok (jobs.Play path script)) told some is by-image job = absurd job
+making-met o found name at image (Ok (jobs.PlaySynced path script)) told some is by-image job = absurd job
+making-met o found name at image (Ok (jobs.Dry path)) told some is by-image job = absurd job
+making-met o found name at image (Ok (jobs.Serve path durability loss)) told some is by-image job = absurd job
+making-met o found name at image (Ok (jobs.Repair path loss unowned effect)) told some is by-image job = absurd job
 making-met o found name at image (Ok (jobs.Take asked path text)) told some is by-image job = absurd job
-making-met o found name at image (Ok (jobs.Store path text records)) told some is by-image job = absurd job
+making-met o found name at image (Ok (jobs.Store path text records loss)) told some is by-image job = absurd job
 making-met o found name at image (Ok (jobs.Draw asked path)) told some is by-image job = absurd job
 making-met o found name at image (Err faults.Name) told some is by-image job =
     ((refl, inr (inr (met-has o found name at (codes "make") HasNoNewName told some is job))), tt)
@@ -127,15 +192,20 @@ pub storing-met : (o : Option (Bor Text × Bor ArgMatches)) (found : Option (Tex
     → option_map (λ (p : Bor Text × Bor ArgMatches). (p.0.now, rows_of (found_of p.1.now))) o ≡ found
     → o ≡ Some (name, at) → name.now ≡ codes "store" → image ≡ value (codes "IMAGE") (rows_of (found_of at.now))
     → IsStoringJob (rows_of (found_of at.now)) image r → MatchResult r (IsJob found) (IsNoJob [] found) × IfOk r IsFit
-storing-met o found name at image (Ok (jobs.Store path text records)) told some is by-image job =
-    (met-has o found name at (codes "store") _ told some is (job.0 ∙ by-image, job.1, job.2), tt)
+storing-met o found name at image (Ok (jobs.Store path text records loss)) told some is by-image job =
+    (met-has o found name at (codes "store") _ told some is (job.0 ∙ by-image, job.1, job.2, job.3), tt)
 storing-met o found name at image (Ok (jobs.Format path tills)) told some is by-image job = absurd job
-storing-met o found name at image (Ok (jobs.Read asked path)) told some is by-image job = absurd job
-storing-met o found name at image (Ok (jobs.Play path script durability)) told some is by-image job = absurd job
-storing-met o found name at image (Ok (jobs.Serve path durability)) told some is by-image job = absurd job
-storing-met o found name at image (Ok (jobs.Repair path)) told some is by-image job = absurd job
+storing-met o found name at image (Ok (jobs.FormatNew path tills)) told some is by-image job = absurd job
+storing-met o found name at image (Ok (jobs.List path)) told some is by-image job = absurd job
+storing-met o found name at image (Ok (jobs.Check path)) told some is by-image job = absurd job
+storing-met o found name at image (Ok (jobs.Show path)) told some is by-image job = absurd job
+storing-met o found name at image (Ok (jobs.Play path script)) told some is by-image job = absurd job
+storing-met o found name at image (Ok (jobs.PlaySynced path script)) told some is by-image job = absurd job
+storing-met o found name at image (Ok (jobs.Dry path)) told some is by-image job = absurd job
+storing-met o found name at image (Ok (jobs.Serve path durability loss)) told some is by-image job = absurd job
+storing-met o found name at image (Ok (jobs.Repair path loss unowned effect)) told some is by-image job = absurd job
 storing-met o found name at image (Ok (jobs.Take asked path text)) told some is by-image job = absurd job
-storing-met o found name at image (Ok (jobs.Make path text length)) told some is by-image job = absurd job
+storing-met o found name at image (Ok (jobs.Make path text length loss)) told some is by-image job = absurd job
 storing-met o found name at image (Ok (jobs.Draw asked path)) told some is by-image job = absurd job
 storing-met o found name at image (Err faults.Name) told some is by-image job =
     ((refl, inr (inl (met-has o found name at (codes "store") HasNoName told some is job))), tt)

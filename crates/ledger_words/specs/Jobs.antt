@@ -1,7 +1,9 @@
 -- What the words of a command line ask for (our own).
-use Rattle.std.specs.Prelude.{◌≡◌, ◌⊎◌, ℕ, Bool, List, Option, Some, None, Result, Ok, Err, [], bytes_eq, codes}
-use Rattle.std.specs.Prelude.{if◌then◌else◌}
-use Rattle.clap.specs.Words.{HasKind, Kinds, Row, Text, subcommand_rows_of}
+use Rattle.std.specs.Prelude.{◌≡◌, ◌⊎◌, ◌||◌, ℕ, Bool, true, false, List, Option, Some, None, Result, Ok, Err, []}
+use Rattle.std.specs.Prelude.{bytes_eq, codes, if◌then◌else◌}
+use Rattle.std.specs.Option.{option_map_or}
+use Rattle.std.specs.Borrow.{Bor}
+use Rattle.clap.specs.Words.{HasKind, Kinds, Row, Text, found_of, rows_of, subcommand_rows_of}
 use Rattle.clap.specs.declared.parser.matches.ArgMatches.{ArgMatches}
 use Rattle.byte_text.specs.Texts.{AreBytes}
 use Rattle.request_cards.specs.Reading.{number_in}
@@ -12,13 +14,17 @@ use Rattle.rel_records.specs.File.{IsLength}
 use Rattle.ledger_grammar.specs.Grammar.{value}
 use Rattle.ledger_program.specs.declared.jobs.Drawing.{Drawing}
 use Rattle.ledger_program.specs.declared.jobs.Drawing.TheVariants as drawings
+use Rattle.ledger_program.specs.declared.jobs.Effect.{Effect}
+use Rattle.ledger_program.specs.declared.jobs.Effect.TheVariants as effects
 use Rattle.ledger_program.specs.declared.jobs.Job.{Job}
 use Rattle.ledger_program.specs.declared.jobs.Job.TheVariants as jobs
-use Rattle.ledger_program.specs.Names.{IsNameOf, name_bytes}
-use Rattle.ledger_program.specs.declared.jobs.Reading.{Reading}
-use Rattle.ledger_program.specs.declared.jobs.Reading.TheVariants as readings
+use Rattle.ledger_program.specs.declared.jobs.Loss.{Loss}
+use Rattle.ledger_program.specs.declared.jobs.Loss.TheVariants as losses
 use Rattle.ledger_program.specs.declared.jobs.Taking.{Taking}
 use Rattle.ledger_program.specs.declared.jobs.Taking.TheVariants as takings
+use Rattle.ledger_program.specs.declared.jobs.Unowned.{Unowned}
+use Rattle.ledger_program.specs.declared.jobs.Unowned.TheVariants as unowneds
+use Rattle.ledger_program.specs.Names.{IsNameOf, name_bytes}
 use Rattle.ledger_words.specs.declared.faults.JobFault.{JobFault}
 use Rattle.ledger_words.specs.declared.faults.JobFault.TheVariants as faults
 
@@ -28,10 +34,13 @@ pub record Has (found : Option (Text × List Row)) (name : Text) (P : List Row �
   pub is : found ≡ Some (name, rows)
   pub holds : P rows
 
--- a parse of words in which nothing is wrong, and whose subcommand and values are these
-pub record IsParse (kinds : Kinds) (found : Option (Text × List Row)) (matches : ArgMatches) : Type 0 where
-  pub fine : kinds ≡ []
-  pub is : subcommand_rows_of matches ≡ found
+-- a parse of words in which nothing is wrong, and whose flags before the subcommand, and subcommand with its values,
+-- are these
+pub record IsParse (kinds : Kinds) (top : List Row) (found : Option (Text × List Row)) (matches : ArgMatches) : Type 0
+  where
+    pub fine : kinds ≡ []
+    pub before : rows_of (found_of matches) ≡ top
+    pub is : subcommand_rows_of matches ≡ found
 
 -- the number of tills that the words give: 1 to 64, without leading zeros
 abbrev pub tills_in : List Row → Option ℕ
@@ -40,18 +49,6 @@ tills_in rows = number_in 1 64 (value (codes "T") rows)
 -- the length of a record that they give: 1 to 254, without leading zeros
 abbrev pub length_in : List Row → Option ℕ
 length_in rows = number_in 1 254 (value (codes "L") rows)
-
--- the subcommand that asks this of a file
-abbrev pub word_of : Reading → Text
-word_of readings.List = codes "list"
-word_of readings.Check = codes "check"
-word_of readings.Show = codes "show"
-word_of readings.Dry = codes "dry"
-
--- what its value is called: the file is an image, and a dry run's a script
-abbrev pub file_of : Reading → Text
-file_of readings.Dry = codes "SCRIPT"
-file_of _ = codes "IMAGE"
 
 -- the subcommand that takes this out of an image
 abbrev pub word_of_taking : Taking → Text
@@ -67,13 +64,41 @@ word_of_drawing drawings.Picture = codes "picture"
 abbrev pub is_given : Text → List Row → Bool
 is_given flag rows = bytes_eq (value flag rows) (codes "true")
 
--- when the image of a play is brought to the disk: at its end, but with --sync behind each sector
-abbrev pub play_durability : List Row → Durability
-play_durability rows = if is_given (codes "sync") rows then durabilities.EachSector else durabilities.AtEnd
-
--- and that of a shop that is served: behind each sector, but with --unsynced at the end
+-- when the image of a shop that is served is brought to the disk: behind each sector, but with --unsynced at the end
 abbrev pub serve_durability : List Row → Durability
 serve_durability rows = if is_given (codes "unsynced") rows then durabilities.AtEnd else durabilities.EachSector
+
+-- what is done where a disk has lost a part of a file: the job is refused, but with --accept-loss it goes on
+abbrev pub loss_in : List Row → Loss
+loss_in rows = if is_given (codes "accept-loss") rows then losses.Accepted else losses.Refused
+
+-- what a repair does with sectors that are taken and no file's: they are kept, but with --free they are freed
+abbrev pub unowned_in : List Row → Unowned
+unowned_in rows = if is_given (codes "free") rows then unowneds.Freed else unowneds.Kept
+
+-- whether it writes the image: it does, but with --dry-run it prints alone
+abbrev pub effect_in : List Row → Effect
+effect_in rows = if is_given (codes "dry-run") rows then effects.Printed else effects.Written
+
+-- the job that makes the image of a shop: with --new it is refused where the image is there
+abbrev pub format_job : List Row → Bor Text → ℕ → Job
+format_job rows image tills =
+    if is_given (codes "new") rows then jobs.FormatNew image tills else jobs.Format image tills
+
+-- the job that plays a script: with --sync each sector is brought to the disk before the next is written
+abbrev pub play_job : List Row → Bor Text → Bor Text → Job
+play_job rows image script =
+    if is_given (codes "sync") rows then jobs.PlaySynced image script else jobs.Play image script
+
+-- the words ask for more of what isn't done, before the subcommand or behind it
+abbrev pub is_explained : List Row → Option (Text × List Row) → Bool
+is_explained top found =
+    is_given (codes "explain") top || option_map_or (λ f. is_given (codes "explain") f.1) found false
+
+-- that they ask for it was heard; where they are refused it is passed over
+abbrev pub IsHeard : Result Job JobFault → (asked heard : Bool) → Type 0
+IsHeard (Err (faults.Words e)) asked heard = heard ≡ true → asked ≡ true
+IsHeard _ asked heard = heard ≡ asked
 
 -- the text of NAME is no file's name
 abbrev pub HasNoName : List Row → Type 0
@@ -90,22 +115,34 @@ HasNewName rows = (bytes : List ℕ) × IsNameOf (value (codes "NAME") rows) byt
 -- the job of a subcommand and its values
 abbrev pub IsJob : Option (Text × List Row) → Job → Type 0
 IsJob found (jobs.Format image tills) = Has found (codes "format")
-    (λ rows. (image.now ≡ value (codes "IMAGE") rows) × (tills_in rows ≡ Some tills))
-IsJob found (jobs.Read what path) = Has found (word_of what) (λ rows. path.now ≡ value (file_of what) rows)
-IsJob found (jobs.Play image script durability) = Has found (codes "play")
+    (λ rows. (image.now ≡ value (codes "IMAGE") rows) × (tills_in rows ≡ Some tills)
+    × (is_given (codes "new") rows ≡ false))
+IsJob found (jobs.FormatNew image tills) = Has found (codes "format")
+    (λ rows. (image.now ≡ value (codes "IMAGE") rows) × (tills_in rows ≡ Some tills)
+    × (is_given (codes "new") rows ≡ true))
+IsJob found (jobs.List image) = Has found (codes "list") (λ rows. image.now ≡ value (codes "IMAGE") rows)
+IsJob found (jobs.Check image) = Has found (codes "check") (λ rows. image.now ≡ value (codes "IMAGE") rows)
+IsJob found (jobs.Show image) = Has found (codes "show") (λ rows. image.now ≡ value (codes "IMAGE") rows)
+IsJob found (jobs.Play image script) = Has found (codes "play")
     (λ rows. (image.now ≡ value (codes "IMAGE") rows) × (script.now ≡ value (codes "SCRIPT") rows)
-    × (durability ≡ play_durability rows))
-IsJob found (jobs.Serve image durability) = Has found (codes "serve")
-    (λ rows. (image.now ≡ value (codes "IMAGE") rows) × (durability ≡ serve_durability rows))
-IsJob found (jobs.Repair image) = Has found (codes "repair") (λ rows. image.now ≡ value (codes "IMAGE") rows)
+    × (is_given (codes "sync") rows ≡ false))
+IsJob found (jobs.PlaySynced image script) = Has found (codes "play")
+    (λ rows. (image.now ≡ value (codes "IMAGE") rows) × (script.now ≡ value (codes "SCRIPT") rows)
+    × (is_given (codes "sync") rows ≡ true))
+IsJob found (jobs.Dry script) = Has found (codes "dry") (λ rows. script.now ≡ value (codes "SCRIPT") rows)
+IsJob found (jobs.Serve image durability loss) = Has found (codes "serve")
+    (λ rows. (image.now ≡ value (codes "IMAGE") rows) × (durability ≡ serve_durability rows) × (loss ≡ loss_in rows))
+IsJob found (jobs.Repair image loss unowned effect) = Has found (codes "repair")
+    (λ rows. (image.now ≡ value (codes "IMAGE") rows) × (loss ≡ loss_in rows) × (unowned ≡ unowned_in rows)
+    × (effect ≡ effect_in rows))
 IsJob found (jobs.Take what image name) = Has found (word_of_taking what)
     (λ rows. (image.now ≡ value (codes "IMAGE") rows) × IsNameOf (value (codes "NAME") rows) (name_bytes name))
-IsJob found (jobs.Make image name length) = Has found (codes "make")
+IsJob found (jobs.Make image name length loss) = Has found (codes "make")
     (λ rows. (image.now ≡ value (codes "IMAGE") rows) × IsNameOf (value (codes "NAME") rows) (name_bytes name)
-    × (length_in rows ≡ Some length))
-IsJob found (jobs.Store image name records) = Has found (codes "store")
+    × (length_in rows ≡ Some length) × (loss ≡ loss_in rows))
+IsJob found (jobs.Store image name records loss) = Has found (codes "store")
     (λ rows. (image.now ≡ value (codes "IMAGE") rows) × IsNameOf (value (codes "NAME") rows) (name_bytes name)
-    × (records.now ≡ value (codes "RECORDS") rows))
+    × (records.now ≡ value (codes "RECORDS") rows) × (loss ≡ loss_in rows))
 IsJob found (jobs.Draw what image) = Has found (word_of_drawing what) (λ rows. image.now ≡ value (codes "IMAGE") rows)
 
 -- the job, or why there is none, of a subcommand that takes this out of an image and has these values
@@ -118,9 +155,9 @@ IsTakingJob rows what image (Err _) = ⊥
 
 -- the same of the one that makes a relative file
 abbrev pub IsMakingJob : List Row → Text → Result Job JobFault → Type 0
-IsMakingJob rows image (Ok (jobs.Make path name length)) =
+IsMakingJob rows image (Ok (jobs.Make path name length loss)) =
     (path.now ≡ image) × IsNameOf (value (codes "NAME") rows) (name_bytes name) × (length_in rows ≡ Some length)
-    × IsNewName (name_bytes name) × IsLength length
+    × IsNewName (name_bytes name) × IsLength length × (loss ≡ loss_in rows)
 IsMakingJob rows image (Ok _) = ⊥
 IsMakingJob rows image (Err faults.Name) = HasNoNewName rows
 IsMakingJob rows image (Err faults.Length) = HasNewName rows × (length_in rows ≡ None)
@@ -128,9 +165,9 @@ IsMakingJob rows image (Err _) = ⊥
 
 -- and of the one that stores records in one
 abbrev pub IsStoringJob : List Row → Text → Result Job JobFault → Type 0
-IsStoringJob rows image (Ok (jobs.Store path name records)) =
+IsStoringJob rows image (Ok (jobs.Store path name records loss)) =
     (path.now ≡ image) × IsNameOf (value (codes "NAME") rows) (name_bytes name)
-    × (records.now ≡ value (codes "RECORDS") rows)
+    × (records.now ≡ value (codes "RECORDS") rows) × (loss ≡ loss_in rows)
 IsStoringJob rows image (Ok _) = ⊥
 IsStoringJob rows image (Err faults.Name) = HasNoName rows
 IsStoringJob rows image (Err _) = ⊥

@@ -8,4 +8,4 @@ mod words;
 
 pub use faults::JobFault;
 pub use obeying::{Told, program};
-pub use words::job;
+pub use words::{CommandLine, command_line, job};

@@ -1,11 +1,11 @@
 //! The whole program, over a runtime.
-ghost use Rattle.std.specs.Prelude.{◌≡◌, if◌then◌else◌};
+ghost use Rattle.std.specs.Prelude.{◌≡◌, ◌≢◌, if◌then◌else◌};
 ghost use Rattle.ledger_program.specs.Jobs.{IsFit};
 ghost use Rattle.ledger_words.specs.declared.obeying.Told.TheVariants.{Person, Program, Waiting};
 
 use crate::faults::JobFault;
 use crate::watching::{Watched, is_long};
-use crate::words::job;
+use crate::words::command_line;
 use disk_layout::Fault;
 use ledger_commands::{EndedFile, Locks, RunFault};
 use ledger_program::{Job, Refusal, announce, do_job, end, explain};
@@ -26,7 +26,7 @@ const OUTPUT_ROOM: usize = 32768;
 pub enum Told {
     /// A program, or a file: each refusal is one line.
     Program,
-    /// A person at a terminal: a second line says which file, or what to do.
+    /// A person at a terminal, or who asked for it by --explain: a second line says which file, or what to do.
     Person,
     /// A person at a terminal who doesn't see the output: long work says how far it is, too.
     Waiting,
@@ -41,6 +41,16 @@ impl Told {
             (false, _) => Told::Program,
             (true, true) => Told::Person,
             (true, false) => Told::Waiting,
+        }
+    }
+
+    /// The same reader, where the words ask for a second line.
+    fn explained(self) -> Told
+        ensures { result ≢ Program }
+    {
+        match self {
+            Told::Program => Told::Person,
+            Told::Person | Told::Waiting => self,
         }
     }
 }
@@ -158,7 +168,13 @@ where
         Ok(texts) => texts,
         Err(error) => return refuse(err, &io::Error::from(error)),
     };
-    match job(rt.alloc(), texts.as_slice()) {
+    let line = command_line(rt.alloc(), texts.as_slice());
+    let told = if line.is_explained {
+        told.explained()
+    } else {
+        told
+    };
+    match line.job {
         Ok(job) => obey_job(rt, &job, told, err),
         Err(fault) => refuse_words(rt, &fault, told, err),
     }

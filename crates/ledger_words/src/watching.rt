@@ -1,5 +1,5 @@
 //! How far long work is, for a person who waits for it.
-use ledger_program::{Job, Reading};
+use ledger_program::Job;
 use std::io::{self, Write};
 
 /// After how many lines more it is told.
@@ -8,8 +8,8 @@ const STEP: u64 = 100;
 /// Whether a job may go on for so long that a person wonders.
 pub(crate) fn is_long(job: &Job<'_>) -> bool {
     match job {
-        Job::Play { .. } | Job::Store { .. } => true,
-        Job::Read { what, .. } => *what == Reading::Dry,
+        Job::Play { .. } | Job::PlaySynced { .. } => true,
+        Job::Store { .. } | Job::Dry { .. } => true,
         _ => false,
     }
 }

@@ -1,21 +1,22 @@
 //! Reading the words of the command line.
 ghost use Rattle.std.specs.Prelude.{◌≡◌, ◌≤◌, ℕ, IfErr, IfOk, IfSome, IsNone, List, MatchResult, [], map, option_map};
-ghost use Rattle.clap.specs.Words.{HasKind, fault_of, found_of, rows_of, subcommand_of, subcommand_rows_of};
+ghost use Rattle.clap.specs.Words.{HasKind, fault_of, found_of, matches_of, rows_of, subcommand_of, subcommand_rows_of};
 ghost use Rattle.ledger_grammar.specs.Grammar.{ledger, value};
 ghost use Rattle.request_cards.specs.Reading.{number_in};
 ghost use Rattle.byte_text.specs.Texts.{AreBytes};
 ghost use Rattle.keeper_commands.specs.Makes.{IsNewName};
 ghost use Rattle.ledger_program.specs.Jobs.{IsFit};
 ghost use Rattle.ledger_program.specs.Names.{IsNameOf, name_bytes};
-ghost use Rattle.ledger_words.specs.Jobs.{IsJob, IsMakingJob, IsNoJob, IsParse, IsStoringJob, IsTakingJob};
+ghost use Rattle.ledger_words.specs.Jobs.{IsHeard, IsJob, IsMakingJob, IsNoJob, IsParse, IsStoringJob, IsTakingJob};
+ghost use Rattle.ledger_words.specs.Jobs.{effect_in, format_job, loss_in, play_job, unowned_in};
 ghost use Rattle.rel_records.specs.File.{IsLength};
-ghost use Rattle.ledger_words.specs.Jobs.{is_given as given, play_durability as of_play, serve_durability as of_serve};
+ghost use Rattle.ledger_words.specs.Jobs.{is_explained as explained, is_given as given, serve_durability as of_serve};
 
 use crate::faults::JobFault;
 use clap::{ArgMatches, Error};
 use ledger_commands::Durability;
 use ledger_grammar::ledger_command;
-use ledger_program::{Drawing, Job, Name, Reading, Taking};
+use ledger_program::{Drawing, Effect, Job, Loss, Name, Taking, Unowned};
 use request_cards::number;
 use std::alloc::{AllocError, Global};
 
@@ -63,17 +64,6 @@ fn is_given<'a>(matches: &ArgMatches<'a>, flag: &str) -> bool
     value_of(matches, flag) == "true"
 }
 
-/// When the image of a play is brought to the disk.
-fn play_durability<'a>(matches: &ArgMatches<'a>) -> Durability
-    ensures { result ≡ of_play (rows_of (found_of matches.now)) }
-{
-    if is_given(matches, "sync") {
-        Durability::EachSector
-    } else {
-        Durability::AtEnd
-    }
-}
-
 /// When the image that is served is brought to the disk.
 fn serve_durability<'a>(matches: &ArgMatches<'a>) -> Durability
     ensures { result ≡ of_serve (rows_of (found_of matches.now)) }
@@ -82,6 +72,61 @@ fn serve_durability<'a>(matches: &ArgMatches<'a>) -> Durability
         Durability::AtEnd
     } else {
         Durability::EachSector
+    }
+}
+
+/// What is done where the disk has lost a part of a file.
+fn loss<'a>(matches: &ArgMatches<'a>) -> Loss
+    ensures { result ≡ loss_in (rows_of (found_of matches.now)) }
+{
+    if is_given(matches, "accept-loss") {
+        Loss::Accepted
+    } else {
+        Loss::Refused
+    }
+}
+
+/// What a repair does with sectors that are taken and no file's.
+fn unowned<'a>(matches: &ArgMatches<'a>) -> Unowned
+    ensures { result ≡ unowned_in (rows_of (found_of matches.now)) }
+{
+    if is_given(matches, "free") {
+        Unowned::Freed
+    } else {
+        Unowned::Kept
+    }
+}
+
+/// Whether a repair writes the image.
+fn effect<'a>(matches: &ArgMatches<'a>) -> Effect
+    ensures { result ≡ effect_in (rows_of (found_of matches.now)) }
+{
+    if is_given(matches, "dry-run") {
+        Effect::Printed
+    } else {
+        Effect::Written
+    }
+}
+
+/// The job that makes the image of a shop with so many tills.
+fn formatting<'a>(matches: &ArgMatches<'a>, image: &'a str, tills: u8) -> Job<'a>
+    ensures { result ≡ format_job (rows_of (found_of matches.now)) image.entry tills.entry }
+{
+    if is_given(matches, "new") {
+        Job::FormatNew { image, tills }
+    } else {
+        Job::Format { image, tills }
+    }
+}
+
+/// The job that plays a script on an image.
+fn playing<'a>(matches: &ArgMatches<'a>, image: &'a str, script: &'a str) -> Job<'a>
+    ensures { result ≡ play_job (rows_of (found_of matches.now)) image.entry script.entry }
+{
+    if is_given(matches, "sync") {
+        Job::PlaySynced { image, script }
+    } else {
+        Job::Play { image, script }
     }
 }
 
@@ -119,6 +164,7 @@ fn making<'a>(matches: &ArgMatches<'a>, image: &'a str) -> Result<Job<'a>, JobFa
             image,
             name,
             length,
+            loss: loss(matches),
         }),
         None => Err(JobFault::Length),
     }
@@ -134,6 +180,7 @@ fn storing<'a>(matches: &ArgMatches<'a>, image: &'a str) -> Result<Job<'a>, JobF
             image,
             name,
             records,
+            loss: loss(matches),
         }),
         None => Err(JobFault::Name),
     }
@@ -153,31 +200,24 @@ fn chosen<'a>(matches: &ArgMatches<'a>) -> Result<Job<'a>, JobFault>
     let script = value_of(found, "SCRIPT");
     match name {
         "format" => match tills_of(value_of(found, "T")) {
-            Some(tills) => Ok(Job::Format { image, tills }),
+            Some(tills) => Ok(formatting(found, image, tills)),
             None => Err(JobFault::Tills),
         },
-        "list" => Ok(Job::Read {
-            what: Reading::List,
-            path: image,
-        }),
-        "check" => Ok(Job::Read {
-            what: Reading::Check,
-            path: image,
-        }),
-        "show" => Ok(Job::Read {
-            what: Reading::Show,
-            path: image,
-        }),
-        "play" => Ok(Job::Play {
-            image,
-            script,
-            durability: play_durability(found),
-        }),
+        "list" => Ok(Job::List { image }),
+        "check" => Ok(Job::Check { image }),
+        "show" => Ok(Job::Show { image }),
+        "play" => Ok(playing(found, image, script)),
         "serve" => Ok(Job::Serve {
             image,
             durability: serve_durability(found),
+            loss: loss(found),
         }),
-        "repair" => Ok(Job::Repair { image }),
+        "repair" => Ok(Job::Repair {
+            image,
+            loss: loss(found),
+            unowned: unowned(found),
+            effect: effect(found),
+        }),
         "records" => taking(found, Taking::Records, image),
         "bytes" => taking(found, Taking::Bytes, image),
         "make" => making(found, image),
@@ -190,22 +230,64 @@ fn chosen<'a>(matches: &ArgMatches<'a>) -> Result<Job<'a>, JobFault>
             what: Drawing::Picture,
             image,
         }),
-        "dry" => Ok(Job::Read {
-            what: Reading::Dry,
-            path: script,
-        }),
+        "dry" => Ok(Job::Dry { script }),
         // No other subcommand can be met.
         _ => Err(JobFault::Words(Error::from(AllocError))),
+    }
+}
+
+/// Whether --explain is among the words.
+fn is_explained<'a>(matches: &ArgMatches<'a>) -> bool
+    ensures { result ≡ explained (rows_of (found_of matches.now)) (subcommand_rows_of matches.now) }
+{
+    if is_given(matches, "explain") {
+        return true;
+    }
+    match met(matches) {
+        Some((_, found)) => is_given(found, "explain"),
+        None => false,
     }
 }
 
 /// What the command line finds in the words.
 fn parsed<'a>(alloc: Global, words: &'a [&'a str]) -> Result<ArgMatches<'a>, Error>
     ensures { let texts = map (λ word. word.now) words.entry.now in
-        MatchResult result (IsParse (fault_of ledger texts) (subcommand_of ledger texts))
+        MatchResult result (IsParse (fault_of ledger texts) (matches_of ledger texts) (subcommand_of ledger texts))
         (HasKind (fault_of ledger texts)) }
 {
     ledger_command(alloc)?.try_get_matches_from(words)
+}
+
+/// What the words of a command line ask for.
+#[derive(Drop)]
+pub struct CommandLine<'a> {
+    /// The job, or why there is none.
+    pub job: Result<Job<'a>, JobFault>,
+    /// Whether more is to be printed where it isn't done: --explain is among the words. False where they are refused.
+    pub is_explained: bool,
+}
+
+/// What the words ask for. The first word is the program's name.
+pub fn command_line<'a>(alloc: Global, words: &'a [&'a str]) -> CommandLine<'a>
+    ensures ok { let texts = map (λ word. word.now) words.entry.now in
+        IfOk result.job (λ j. (fault_of ledger texts ≡ []) × IsJob (subcommand_of ledger texts) j) }
+    ensures fit { IfOk result.job IsFit }
+    ensures err { let texts = map (λ word. word.now) words.entry.now in
+        IfErr result.job (IsNoJob (fault_of ledger texts) (subcommand_of ledger texts)) }
+    // Words that the command line takes are explained exactly where they ask for it, and others aren't.
+    ensures explained { let texts = map (λ word. word.now) words.entry.now in
+        IsHeard result.job (explained (matches_of ledger texts) (subcommand_of ledger texts)) result.is_explained }
+{
+    match parsed(alloc, words) {
+        Ok(matches) => CommandLine {
+            is_explained: is_explained(&matches),
+            job: chosen(&matches),
+        },
+        Err(e) => CommandLine {
+            is_explained: false,
+            job: Err(JobFault::Words(e)),
+        },
+    }
 }
 
 /// The job that the words ask for. The first word is the program's name.
@@ -220,8 +302,6 @@ pub fn job<'a>(alloc: Global, words: &'a [&'a str]) -> Result<Job<'a>, JobFault>
     ensures err { let texts = map (λ word. word.now) words.entry.now in
         IfErr result (IsNoJob (fault_of ledger texts) (subcommand_of ledger texts)) }
 {
-    match parsed(alloc, words) {
-        Ok(matches) => chosen(&matches),
-        Err(e) => Err(JobFault::Words(e)),
-    }
+    let CommandLine { job, .. } = command_line(alloc, words);
+    job
 }

@@ -20,11 +20,11 @@ prints show, a.d64, , 0
 job ledger play a.d64 s.txt
 prints play, a.d64, s.txt, 0
 job ledger play --sync a.d64 s.txt
-prints play --sync, a.d64, s.txt, 0
+prints play synced, a.d64, s.txt, 0
 job ledger serve a.d64
 prints serve, a.d64, , 0
 job ledger serve a.d64 --unsynced
-prints serve --unsynced, a.d64, , 0
+prints serve, a.d64, , 0, unsynced
 job ledger repair a.d64
 prints repair, a.d64, , 0
 job ledger make a.d64 ADD\\c1 --length 30
@@ -49,9 +49,45 @@ job ledger format --tills=20 a.d64
 prints format, a.d64, , 20
 ";
 
+/// Flags behind the words and before them, in any order.
+const FLAGS: &[u8] = b"
+job ledger format a.d64 --tills 3 --new
+prints format new, a.d64, , 3
+job ledger format --new --tills=3 a.d64
+prints format new, a.d64, , 3
+job ledger serve a.d64 --accept-loss --unsynced
+prints serve, a.d64, , 0, loss accepted, unsynced
+job ledger serve --accept-loss a.d64
+prints serve, a.d64, , 0, loss accepted
+job ledger repair a.d64 --free
+prints repair, a.d64, , 0, freed
+job ledger repair --dry-run a.d64
+prints repair, a.d64, , 0, printed
+job ledger repair a.d64 --dry-run --free --accept-loss
+prints repair, a.d64, , 0, loss accepted, freed, printed
+job ledger make a.d64 A --length 30 --accept-loss
+prints make, a.d64, , 30, loss accepted
+job ledger store a.d64 --accept-loss A r.txt
+prints store, a.d64, r.txt, 1, loss accepted
+job ledger --explain list a.d64
+prints list, a.d64, , 0, explained
+job ledger list a.d64 --explain
+prints list, a.d64, , 0, explained
+job ledger --explain dry s.txt --explain
+prints dry, , s.txt, 0, explained
+job ledger --explain format a.d64 --tills 0
+prints fault 2, status 2, explained
+job ledger records a.d64 \\C1 --explain
+prints fault 3, status 2, explained
+# What the command line refuses, it explains itself.
+job ledger --explain list
+prints fault 1, status 2
+";
+
 #[test]
 fn words_ask_for_a_job(rt: HostRuntime) {
     each(&rt, JOBS);
+    each(&rt, FLAGS);
 }
 
 /// Words that ask for no job.
@@ -85,6 +121,16 @@ prints fault 1, status 2
 job ledger serve a.d64 --sync
 prints fault 1, status 2
 job ledger repair a.d64 --sync
+prints fault 1, status 2
+job ledger play a.d64 s.txt --accept-loss
+prints fault 1, status 2
+job ledger format a.d64 --tills 2 --free
+prints fault 1, status 2
+job ledger check a.d64 --dry-run
+prints fault 1, status 2
+job ledger --new format a.d64 --tills 2
+prints fault 1, status 2
+job ledger repair a.d64 --free --free
 prints fault 1, status 2
 job ledger make a.d64 A
 prints fault 1, status 2

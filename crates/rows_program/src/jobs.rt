@@ -1,8 +1,8 @@
 //! The job that words ask for, told in a line.
 use crate::memory::Errors;
 use ledger_commands::Durability;
-use ledger_program::{Drawing, Job, Reading, Taking};
-use ledger_words::job;
+use ledger_program::{Drawing, Effect, Job, Loss, Taking, Unowned};
+use ledger_words::command_line;
 use std::alloc::Global;
 use std::cell::RefCell;
 use std::io::Write;
@@ -12,59 +12,34 @@ use std::io::Write;
 type Row<'a> = (&'a str, &'a str, &'a str, u8);
 
 /// The row of a job.
-fn row_of(job: Job<'_>) -> Row<'_> {
-    match job {
+fn row_of<'a>(job: &Job<'a>) -> Row<'a> {
+    match *job {
         Job::Format { image, tills } => ("format", image, "", tills),
-        Job::Read {
-            what: Reading::List,
-            path,
-        } => ("list", path, "", 0),
-        Job::Read {
-            what: Reading::Check,
-            path,
-        } => ("check", path, "", 0),
-        Job::Read {
-            what: Reading::Show,
-            path,
-        } => ("show", path, "", 0),
-        Job::Read {
-            what: Reading::Dry,
-            path,
-        } => ("dry", "", path, 0),
-        Job::Play {
-            image,
-            script,
-            durability: Durability::EachSector,
-        } => ("play --sync", image, script, 0),
-        Job::Play {
-            image,
-            script,
-            durability: Durability::AtEnd,
-        } => ("play", image, script, 0),
-        Job::Serve {
-            image,
-            durability: Durability::EachSector,
-        } => ("serve", image, "", 0),
-        Job::Serve {
-            image,
-            durability: Durability::AtEnd,
-        } => ("serve --unsynced", image, "", 0),
-        Job::Repair { image } => ("repair", image, "", 0),
+        Job::FormatNew { image, tills } => ("format new", image, "", tills),
+        Job::List { image } => ("list", image, "", 0),
+        Job::Check { image } => ("check", image, "", 0),
+        Job::Show { image } => ("show", image, "", 0),
+        Job::Dry { script } => ("dry", "", script, 0),
+        Job::Play { image, script } => ("play", image, script, 0),
+        Job::PlaySynced { image, script } => ("play synced", image, script, 0),
+        Job::Serve { image, .. } => ("serve", image, "", 0),
+        Job::Repair { image, .. } => ("repair", image, "", 0),
         Job::Take {
             what: Taking::Records,
             image,
-            name,
+            ref name,
         } => ("records", image, "", name.as_bytes().len() as u8),
         Job::Take {
             what: Taking::Bytes,
             image,
-            name,
+            ref name,
         } => ("bytes", image, "", name.as_bytes().len() as u8),
         Job::Make { image, length, .. } => ("make", image, "", length),
         Job::Store {
             image,
-            name,
+            ref name,
             records,
+            ..
         } => ("store", image, records, name.as_bytes().len() as u8),
         Job::Draw {
             what: Drawing::Map,
@@ -77,6 +52,44 @@ fn row_of(job: Job<'_>) -> Row<'_> {
     }
 }
 
+/// What is said of a disk that has lost a part of a file.
+fn said_of(loss: Loss) -> &'static str {
+    match loss {
+        Loss::Refused => "",
+        Loss::Accepted => ", loss accepted",
+    }
+}
+
+/// What is said of each thing that the flags of a job choose.
+fn chosen_by(job: &Job<'_>) -> [&'static str; 3] {
+    match job {
+        Job::Serve {
+            durability, loss, ..
+        } => match durability {
+            Durability::EachSector => [said_of(*loss), "", ""],
+            Durability::AtEnd => [said_of(*loss), ", unsynced", ""],
+        },
+        Job::Repair {
+            loss,
+            unowned,
+            effect,
+            ..
+        } => {
+            let freed = match unowned {
+                Unowned::Kept => "",
+                Unowned::Freed => ", freed",
+            };
+            let printed = match effect {
+                Effect::Written => "",
+                Effect::Printed => ", printed",
+            };
+            [said_of(*loss), freed, printed]
+        }
+        Job::Make { loss, .. } | Job::Store { loss, .. } => [said_of(*loss), "", ""],
+        _ => ["", "", ""],
+    }
+}
+
 /// Writes what the words ask for, or the number of the fault and the status that they end with. The words are as those
 /// of a runtime. Whether it was written.
 pub(crate) fn asked(alloc: Global, words: &[u8], out: &RefCell<Vec<u8>>) -> bool {
@@ -85,12 +98,17 @@ pub(crate) fn asked(alloc: Global, words: &[u8], out: &RefCell<Vec<u8>>) -> bool
         let _ = texts.push(word);
     }
     let mut out = Errors(out);
-    let told = match job(alloc, texts.as_slice()) {
+    let line = command_line(alloc, texts.as_slice());
+    let told = match &line.job {
         Ok(job) => {
             let (name, image, other, number) = row_of(job);
-            write!(out, "{name}, {image}, {other}, {number}")
+            let [first, second, third] = chosen_by(job);
+            write!(out, "{name}, {image}, {other}, {number}{first}{second}{third}")
         }
         Err(fault) => write!(out, "fault {}, status {}", fault.number(), fault.status()),
     };
+    if line.is_explained {
+        let _ = write!(out, ", explained");
+    }
     told.is_ok()
 }

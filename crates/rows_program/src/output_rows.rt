@@ -3,8 +3,7 @@ ghost use Rattle.ledger_program.specs.Jobs.{IsFit};
 
 use crate::memory::Runtime;
 use crate::scenes::{each, first_scene};
-use ledger_commands::Durability;
-use ledger_program::{Drawing, Job, Reading, do_job, end};
+use ledger_program::{Drawing, Effect, Job, Loss, Unowned, do_job, end};
 use std::io::{self, Write};
 use std::process::Abort;
 
@@ -178,22 +177,18 @@ fn hands_on(rt: &(impl AllocGlobal + Abort), job: &Job<'static>, printed: usize)
     assert_eq!(rt; left, (3, Ok(()), b"FILE\n".as_slice(), printed));
 }
 
-const LIST_JOB: Job<'static> = Job::Read {
-    what: Reading::List,
-    path: "a.d64",
-};
+const LIST_JOB: Job<'static> = Job::List { image: "a.d64" };
 
-const CHECK_JOB: Job<'static> = Job::Read {
-    what: Reading::Check,
-    path: "a.d64",
-};
+const CHECK_JOB: Job<'static> = Job::Check { image: "a.d64" };
 
-const DRY_JOB: Job<'static> = Job::Read {
-    what: Reading::Dry,
-    path: "s.txt",
-};
+const DRY_JOB: Job<'static> = Job::Dry { script: "s.txt" };
 
-const REPAIR_JOB: Job<'static> = Job::Repair { image: "a.d64" };
+const REPAIR_JOB: Job<'static> = Job::Repair {
+    image: "a.d64",
+    loss: Loss::Refused,
+    unowned: Unowned::Kept,
+    effect: Effect::Written,
+};
 
 const MAP_JOB: Job<'static> = Job::Draw {
     what: Drawing::Map,
@@ -208,7 +203,6 @@ const PICTURE_JOB: Job<'static> = Job::Draw {
 const PLAY_JOB: Job<'static> = Job::Play {
     image: "a.d64",
     script: "s.txt",
-    durability: Durability::AtEnd,
 };
 
 #[test]

@@ -61,6 +61,32 @@ tells NAME|ledger: NAME has 1 to 16 bytes; one that isn't plain text is a backsl
 ends 2
 ";
 
+/// A person who reads it later asks for the second line.
+const EXPLAINED: &[u8] = b"
+no script
+no image
+$ ledger_cli --explain list a.d64
+tells FILE|ledger: a.d64: entity not found|
+ends 3
+
+no script
+image short
+$ ledger_cli show a.d64 --explain
+tells IMAGE SIZE|ledger: a.d64 has 5 bytes; an image of 35 tracks without error bytes has 174848|
+ends 1
+
+no script
+image
+$ ledger_cli format a.d64 --tills 65 --explain
+tells TILLS|ledger: T is 1 to 64|
+ends 2
+";
+
+#[test]
+fn the_second_line_is_asked_for(rt: HostRuntime) {
+    each(&rt, EXPLAINED);
+}
+
 #[test]
 fn people_are_told_more(rt: HostRuntime) {
     each(&rt, TOLD);

@@ -16,9 +16,9 @@ loop-subcommand-preserved c =
       more = record { ref_ptr = (0, 0); now = [] };
       values = record { ref_ptr = (0, 0); now = [] };
     } in
-    one-more with_row bare _ at.subcommand-index none (λ a. app_of c.in_ok-program.program ≡ a) c.loop-subcommand-test.true
-    (subcommand-made at.program c.in_ok-subcommand_of.field-0 c.in_ok-program.program _ _ at.invariant
-    c.in_ok-subcommand_of.ensures c.in_ok-program.ensures)
+    one-more with_row bare _ at.subcommand-index none (λ a. app_of c.in_ok-program-2.program ≡ a) c.loop-subcommand-test.true
+    (subcommand-made at.program c.in_ok-explainable_of.field-0 c.in_ok-program-2.program _ _ at.invariant
+    c.in_ok-explainable_of.ensures c.in_ok-program-2.ensures)
 
 -- as many rows as there are
 all_rows : (app : App) (rows : List Subcommand) (i n : ℕ) → i ≡ n → app ≡ fold with_row bare (take i rows)

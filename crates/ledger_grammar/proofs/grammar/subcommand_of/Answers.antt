@@ -1,5 +1,5 @@
 -- Each value is added to those before it.
-use Rattle.std.proofs.Common.{ℕ, None, [], false, fold, subst, take, take_all, le_refl}
+use Rattle.std.proofs.Common.{None, [], false, fold, subst, take_all}
 use Rattle.clap.specs.Words.{new_app}
 use Rattle.ledger_grammar.specs.Grammar.{IsSubcommand}
 use Rattle.ledger_grammar.specs.declared.subcommands.Value.{Value}

@@ -1,8 +1,13 @@
 -- The job is that of the subcommand that was met, with the values of its arguments.
-use Rattle.std.proofs.Common.{ap, inl, refl, sym, ◌∙◌}
+use Rattle.std.proofs.Common.{ap, inl, refl, subst, sym, ◌∙◌}
+use Rattle.std.specs.Prelude.{codes}
+use Rattle.clap.specs.Words.{found_of, rows_of}
 use Rattle.request_cards.specs.Reading.{number_in}
 use Rattle.ledger_program.specs.declared.jobs.Taking.TheVariants as takings
-use Rattle.ledger_words.proofs.Parses.{making-met, met-has, storing-met, taking-met}
+use Rattle.ledger_program.specs.Jobs.{IsFit}
+use Rattle.ledger_words.specs.Jobs.{IsJob, is_given}
+use Rattle.ledger_words.proofs.Parses.{format-fit, format-met, making-met, met-has, met-is, play-fit, play-met}
+use Rattle.ledger_words.proofs.Parses.{storing-met, taking-met}
 use Rattle.ledger_words.proofs.words.chosen.Goals as goal
 
 pub returns-in_default : goal.returns-in_default
@@ -12,11 +17,16 @@ pub returns-in_default-name : goal.returns-in_default-name
 returns-in_default-name c = record { job = inl c.from-in_default-name.ensures; fit = tt }
 
 pub returns-in-Some-tills_of : goal.returns-in-Some-tills_of
-returns-in-Some-tills_of c = record {
-  job = met-has c.met.result _ c.in-Some.name c.in-Some.found _ _ c.met.ensures c.in-Some.is c.in-format.is
-      (c.value_of-image.ensures, ap (number_in 1 64) (sym c.value_of.ensures) ∙ sym c.in-Some-tills_of.ensures.exact);
-  fit = c.in-Some-tills_of.ensures.range;
-}
+returns-in-Some-tills_of c =
+    let new = is_given (codes "new") (rows_of (found_of c.in-Some.found.now)) in
+    let is = met-is c.met.result _ c.in-Some.name c.in-Some.found _ c.met.ensures c.in-Some.is c.in-format.is in
+    let fits = format-fit c.value_of-image.result _ new c.in-Some-tills_of.ensures.range in
+    record {
+      job = subst (IsJob _) (sym c.formatting.ensures) (format-met _ _ c.value_of-image.result _ new refl is
+          c.value_of-image.ensures
+          (ap (number_in 1 64) (sym c.value_of.ensures) ∙ sym c.in-Some-tills_of.ensures.exact));
+      fit = subst IsFit (sym c.formatting.ensures) fits;
+    }
 
 pub returns-in-None : goal.returns-in-None
 returns-in-None c = record {
@@ -50,11 +60,16 @@ returns-in-show c = record {
 }
 
 pub returns-in-play : goal.returns-in-play
-returns-in-play c = record {
-  job = met-has c.met.result _ c.in-Some.name c.in-Some.found _ _ c.met.ensures c.in-Some.is c.in-play.is
-      (c.value_of-image.ensures, c.value_of-script.ensures, c.play_durability.ensures);
-  fit = tt;
-}
+returns-in-play c =
+    let synced = is_given (codes "sync") (rows_of (found_of c.in-Some.found.now)) in
+    let is = met-is c.met.result _ c.in-Some.name c.in-Some.found _ c.met.ensures c.in-Some.is c.in-play.is in
+    record {
+      job = subst (IsJob _) (sym c.playing.ensures)
+          (play-met _ _ c.value_of-image.result c.value_of-script.result synced refl is c.value_of-image.ensures
+          c.value_of-script.ensures);
+      fit = subst IsFit (sym c.playing.ensures)
+          (play-fit c.value_of-image.result c.value_of-script.result synced);
+    }
 
 pub returns-in-dry : goal.returns-in-dry
 returns-in-dry c = record {
@@ -66,14 +81,14 @@ returns-in-dry c = record {
 pub returns-in-serve : goal.returns-in-serve
 returns-in-serve c = record {
   job = met-has c.met.result _ c.in-Some.name c.in-Some.found _ _ c.met.ensures c.in-Some.is c.in-serve.is
-      (c.value_of-image.ensures, c.serve_durability.ensures);
+      (c.value_of-image.ensures, c.serve_durability.ensures, c.loss.ensures);
   fit = tt;
 }
 
 pub returns-in-repair : goal.returns-in-repair
 returns-in-repair c = record {
   job = met-has c.met.result _ c.in-Some.name c.in-Some.found _ _ c.met.ensures c.in-Some.is c.in-repair.is
-      c.value_of-image.ensures;
+      (c.value_of-image.ensures, c.loss-in-repair.ensures, c.unowned.ensures, c.effect.ensures);
   fit = tt;
 }
 
