@@ -4,3 +4,4 @@ mod Entries
 mod Places
 mod Shorts
 mod Sides
+pub mod Told

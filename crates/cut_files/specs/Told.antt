@@ -1,6 +1,7 @@
 -- What is told of the files of a disk that are cut short. Our own.
-use Rattle.std.specs.Prelude.{◌≡◌, ℕ, ◌<◌, List, Option, None, Some, slice_get, slice_range}
+use Rattle.std.specs.Prelude.{◌≡◌, ℕ, ◌<◌, List, Option, None, Some, length, slice_get, slice_range}
 use Rattle.d64_image.specs.Images.{Image}
+use Rattle.d64_image.specs.Memory.{sectors_in}
 use Rattle.d64_image.specs.declared.place.Place.{Place}
 use Rattle.disk_layout.specs.Layout.{File, IsLayout, Layout}
 use Rattle.disk_layout.specs.Rest.{slot_name}
@@ -32,7 +33,17 @@ abbrev pub IsToldOf : Image → Layout → Option (List ℕ) → Option Place �
 IsToldOf img l name (Some p) = IsFirstCut img l name p
 IsToldOf img l name None = HasNoCut img l name
 
--- a file of the image is cut short, and its chain ends at p
-abbrev pub IsCutShort : Image → Place → Type 0
-IsCutShort img p = (l : Layout) × IsLayout img l × (f : File) × (k : ℕ) × (slice_get l.files k ≡ Some f)
-    × IsCutAt img l f p
+-- what is told of an image's bytes: the first of them is cut short there; or none is, where the disk is sound
+abbrev pub IsToldOfImage : List ℕ → Option (List ℕ) → Option Place → Type 0
+IsToldOfImage image name (Some p) = (l : Layout) × IsLayout (sectors_in image) l × IsFirstCut (sectors_in image) l name p
+IsToldOfImage image name None = (l : Layout) → IsLayout (sectors_in image) l → HasNoCut (sectors_in image) l name
+
+-- the image is that of a sound disk, of which a file is cut short at p
+pub record IsCutShort (image : List ℕ) (p : Place) : Type 0 where
+  pub size : length image ≡ 174848
+  pub layout : Layout
+  pub sound : IsLayout (sectors_in image) layout
+  pub number : ℕ
+  pub file : File
+  pub there : slice_get layout.files number ≡ Some file
+  pub cut : IsCutAt (sectors_in image) layout file p

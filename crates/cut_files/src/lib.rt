@@ -2,9 +2,11 @@
 #![tactic(auto)]
 
 mod cuts;
+mod images;
 mod listed;
 mod names;
 mod strays;
 mod tails;
 
 pub use cuts::find_cut;
+pub use images::find_image_cut;

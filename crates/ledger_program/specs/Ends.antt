@@ -4,6 +4,7 @@ use Rattle.std.specs.IoError.{error_kind}
 use Rattle.std.specs.declared.fs.locks.TryLockError.{TryLockError}
 use Rattle.std.specs.declared.fs.locks.TryLockError.TheVariants as locks
 use Rattle.std.specs.declared.io.Error.{Error}
+use Rattle.disk_layout.specs.Texts.{place_text}
 use Rattle.disk_layout.specs.declared.faults.Fault.{Fault}
 use Rattle.disk_pictures.specs.Faults.{picture_status, picture_text}
 use Rattle.disk_pictures.specs.declared.faults.PictureFault.{PictureFault}
@@ -24,6 +25,7 @@ refusal_status (refusals.Run fault) = run_status fault
 refusal_status (refusals.Keep fault) = keep_status fault
 refusal_status (refusals.Draw fault) = picture_status fault
 refusal_status refusals.InUse = 3
+refusal_status (refusals.Short p) = 1
 
 -- what is told of it
 abbrev pub refusal_text : Refusal → List ℕ
@@ -31,6 +33,7 @@ refusal_text (refusals.Run fault) = run_text fault
 refusal_text (refusals.Keep fault) = keep_text fault
 refusal_text (refusals.Draw fault) = picture_text fault
 refusal_text refusals.InUse = codes "IN USE"
+refusal_text (refusals.Short p) = codes "SHORT " ++ place_text p
 
 -- the line in which it is told
 abbrev pub refusal_line : Refusal → List ℕ

@@ -8,11 +8,11 @@ ghost use Rattle.ledger_program.specs.Jobs.{IsFit, needed};
 ghost use Rattle.ledger_program.specs.Runs.{IsReadingEnd, IsReadingOf};
 
 use crate::drawing::drawing_run;
-use crate::durable_runs::{play_durably, serve_durably};
+use crate::durable_runs::play_durably;
 use crate::files::{AtPath, STANDARD_INPUT, opened, room_for, script_at};
-use crate::jobs::{Drawing, Job, Reading, Taking};
-use crate::keeping::taking_run;
+use crate::jobs::{Drawing, Job, Loss, Reading, Taking};
 use crate::keeping_files::{do_make, do_repair, do_store};
+use crate::losses::{serve_guarded, take_told};
 use crate::names::Name;
 use crate::owning::{own_image, read_shared, share};
 use crate::refusals::Refusal;
@@ -40,7 +40,7 @@ pub(crate) fn told<T>(taken: io::Result<T>) -> Result<T, Refusal>
 }
 
 /// What came of a run, as a job's end.
-fn job_end(ended: Result<Option<Fault>, RunFault>) -> Result<Option<Fault>, Refusal>
+pub(crate) fn job_end(ended: Result<Option<Fault>, RunFault>) -> Result<Option<Fault>, Refusal>
     ensures { result ≡ as_job ended }
 {
     match ended {
@@ -201,6 +201,7 @@ fn serve_input<F, R, W>(
     image: &[u8],
     file: F,
     durability: Durability,
+    loss: Loss,
     out: &mut W,
 ) -> Result<Option<Fault>, Refusal>
 where
@@ -213,15 +214,16 @@ where
     // A bare reader of standard input reads a byte a call.
     let mut input = told(BufReader::new(rt.alloc(), rt.reader()))?;
     let mut printer = Printer::new(out);
-    let (_, ended) = serve_durably(
+    let (_, ended) = serve_guarded(
         rt.alloc(),
         image,
         file,
         durability,
+        loss,
         &mut input,
         &mut printer,
     );
-    job_end(ended)
+    ended
 }
 
 /// Serves the shop of the image at a path, over its file, to what comes on standard input.
@@ -229,6 +231,7 @@ fn do_serving<F, R, W>(
     rt: &R,
     path: &str,
     durability: Durability,
+    loss: Loss,
     out: &mut W,
 ) -> Result<Option<Fault>, Refusal>
 where
@@ -238,7 +241,7 @@ where
 {
     let mut file = told(opened(rt, path))?;
     let image = own_image(rt.alloc(), &mut file, durability)?;
-    serve_input(rt, image.as_slice(), file, durability, out)
+    serve_input(rt, image.as_slice(), file, durability, loss, out)
 }
 
 /// The bytes of the image at a path, which nobody writes while it is read, or of standard input.
@@ -269,7 +272,7 @@ where
     W: Write,
 {
     let image = image_at(rt, path)?;
-    kept_end(taking_run(rt.alloc(), what, image.as_slice(), name.as_bytes(), out))
+    take_told(rt.alloc(), what, image.as_slice(), name.as_bytes(), out)
 }
 
 /// Draws the image at a path.
@@ -291,7 +294,7 @@ where
 /// Opens or reads the job's files and does it; what is printed goes to `out`, which is flushed at the end. An image is
 /// locked before anything of it is read or changed: alone where it is written. `InUse` where another program has it;
 /// `File` where a file couldn't be opened or read, and the faults of `reading_run`, `format_run`, `play_durably`,
-/// `serve_durably`, `repair_run`, `make_run`, `store_run`, `taking_run` and `drawing_run`.
+/// `serve_guarded`, `repair_guarded`, `make_guarded`, `store_guarded`, `take_told` and `drawing_run`.
 pub fn do_job<F, R, W>(rt: &R, job: &Job<'_>, out: &mut W) -> Result<Option<Fault>, Refusal>
 where
     F: EndedFile + Read + Locks + OpenFile + Drop,
@@ -313,21 +316,21 @@ where
         Job::Serve {
             image,
             durability,
-            ..
-        } => do_serving(rt, image, durability, out),
-        Job::Repair { image, .. } => do_repair(rt, image, out),
+            loss,
+        } => do_serving(rt, image, durability, loss, out),
+        Job::Repair { image, loss, .. } => do_repair(rt, image, loss, out),
         Job::Make {
             image,
             ref name,
             length,
-            ..
-        } => do_make(rt, image, name, length, out),
+            loss,
+        } => do_make(rt, image, name, length, loss, out),
         Job::Store {
             image,
             ref name,
             records,
-            ..
-        } => do_store(rt, image, name, records, out),
+            loss,
+        } => do_store(rt, image, name, records, loss, out),
         Job::Take {
             what,
             image,

@@ -7,9 +7,10 @@ ghost use Rattle.ledger_commands.specs.Placed.{is_synced, placed};
 ghost use Rattle.ledger_program.specs.Names.{name_bytes};
 ghost use Rattle.rel_records.specs.File.{IsLength};
 
-use crate::doing::{kept_end, told};
+use crate::doing::told;
 use crate::files::{opened, script_at};
-use crate::keeping::{make_run, repair_run, store_run};
+use crate::jobs::Loss;
+use crate::losses::{make_guarded, repair_guarded, store_guarded};
 use crate::names::Name;
 use crate::owning::own_image;
 use crate::refusals::Refusal;
@@ -35,15 +36,20 @@ where
 }
 
 /// Repairs the image at a path, over its file.
-pub(crate) fn do_repair<F, R, W>(rt: &R, path: &str, out: &mut W) -> Result<Option<Fault>, Refusal>
+pub(crate) fn do_repair<F, R, W>(
+    rt: &R,
+    path: &str,
+    loss: Loss,
+    out: &mut W,
+) -> Result<Option<Fault>, Refusal>
 where
     F: Read + Locks + Drop,
     R: Files<File = F> + AllocGlobal,
     W: Write,
 {
     let (image, file) = image_to_keep(rt, path)?;
-    let (_, ended) = repair_run(rt.alloc(), image.as_slice(), file, out);
-    kept_end(ended)
+    let (_, ended) = repair_guarded(rt.alloc(), image.as_slice(), file, loss, out);
+    ended
 }
 
 /// Makes a relative file on the disk of the image at a path, over its file.
@@ -52,6 +58,7 @@ pub(crate) fn do_make<F, R, W>(
     path: &str,
     name: &Name,
     length: u8,
+    loss: Loss,
     out: &mut W,
 ) -> Result<Option<Fault>, Refusal>
 where
@@ -62,15 +69,16 @@ where
     requires length { IsLength length }
 {
     let (image, file) = image_to_keep(rt, path)?;
-    let (_, made) = make_run(
+    let (_, made) = make_guarded(
         rt.alloc(),
         image.as_slice(),
         name.as_bytes(),
         length,
         file,
+        loss,
         out,
     );
-    kept_end(made)
+    made
 }
 
 /// Stores the records of the text at a path in a relative file of the image at another, over its file.
@@ -79,6 +87,7 @@ pub(crate) fn do_store<F, R, W>(
     path: &str,
     name: &Name,
     records: &str,
+    loss: Loss,
     out: &mut W,
 ) -> Result<Option<Fault>, Refusal>
 where
@@ -88,13 +97,14 @@ where
 {
     let (image, file) = image_to_keep(rt, path)?;
     let text = told(script_at(rt, records))?;
-    let (_, ended) = store_run(
+    let (_, ended) = store_guarded(
         rt.alloc(),
         image.as_slice(),
         name.as_bytes(),
         text.as_slice(),
         file,
+        loss,
         out,
     );
-    kept_end(ended)
+    ended
 }

@@ -2,6 +2,7 @@
 ghost use Rattle.std.specs.Prelude.{◌≡◌, Some};
 ghost use Rattle.ledger_program.specs.Ends.{lock_refusal, refusal_status, refusal_text};
 
+use d64_image::Place;
 use disk_pictures::PictureFault;
 use keeper_commands::KeepFault;
 use ledger_commands::RunFault;
@@ -20,6 +21,8 @@ pub enum Refusal {
     Draw(PictureFault),
     /// Another program has the image. Nothing was read or changed.
     InUse,
+    /// A file of the image is cut short: its chain ends at this sector, too early.
+    Short(Place),
 }
 
 impl Refusal {
@@ -32,6 +35,7 @@ impl Refusal {
             Refusal::Keep(fault) => fault.status(),
             Refusal::Draw(fault) => fault.status(),
             Refusal::InUse => 3,
+            Refusal::Short(_) => 1,
         }
     }
 
@@ -56,6 +60,7 @@ impl Display for Refusal {
             Refusal::Keep(fault) => fault.fmt(f),
             Refusal::Draw(fault) => fault.fmt(f),
             Refusal::InUse => f.write_str("IN USE"),
+            Refusal::Short(place) => write!(f, "SHORT {}/{}", place.track(), place.sector()),
         }
     }
 }
