@@ -39,10 +39,11 @@ IsGuarded image loss Untouched IsRun end =
     ((refusal : Refusal) × (end ≡ Err refusal) × (loss ≡ losses.Refused) × IsLossFault image refusal × Untouched)
     ⊎ (MayBeLost image loss × IsRun end)
 
--- a run with this end is told so
+-- a run that ended so is told as this end
 abbrev pub IsEndOf : (Ended → Type 0) → JobEnd → Type 0
 IsEndOf IsRun end = (ended : Ended) × (end ≡ as_job ended) × IsRun ended
 
+-- a run over the files of an image that ended so is told as this end
 abbrev pub IsKeptEndOf : (Result Unit KeepFault → Type 0) → JobEnd → Type 0
 IsKeptEndOf IsRun end = (ended : Result Unit KeepFault) × (end ≡ as_kept ended) × IsRun ended
 
