@@ -5,6 +5,7 @@ use Rattle.std.specs.IoError.{error_kind}
 use Rattle.std.specs.declared.fs.locks.TryLockError.{TryLockError}
 use Rattle.std.specs.declared.fs.locks.TryLockError.TheVariants as locks
 use Rattle.std.specs.declared.io.Error.{Error}
+use Rattle.disk_layout.specs.Texts.{place_text}
 use Rattle.disk_layout.specs.declared.faults.Fault.{Fault}
 use Rattle.disk_pictures.specs.Faults.{picture_status, picture_text}
 use Rattle.disk_pictures.specs.declared.faults.PictureFault.{PictureFault}
@@ -27,6 +28,7 @@ refusal_status (refusals.Draw fault) = picture_status fault
 refusal_status refusals.InUse = 3
 refusal_status (refusals.Kept n) = 1
 refusal_status refusals.Exists = 1
+refusal_status (refusals.Short p) = 1
 
 -- what is told of it
 abbrev pub refusal_text : Refusal → List ℕ
@@ -36,6 +38,7 @@ refusal_text (refusals.Draw fault) = picture_text fault
 refusal_text refusals.InUse = codes "IN USE"
 refusal_text (refusals.Kept n) = codes "KEPT " ++ decimal n
 refusal_text refusals.Exists = codes "FILE EXISTS"
+refusal_text (refusals.Short p) = codes "SHORT " ++ place_text p
 
 -- it is told on standard error: all but what the output has told
 abbrev pub is_told : Refusal → Bool
@@ -45,6 +48,7 @@ is_told (refusals.Draw fault) = true
 is_told refusals.InUse = true
 is_told (refusals.Kept n) = false
 is_told refusals.Exists = true
+is_told (refusals.Short p) = true
 
 -- the line in which it is told
 abbrev pub refusal_line : Refusal → List ℕ

@@ -10,8 +10,8 @@ use crate::drawing::drawing_run;
 use crate::durable_runs::play_durably;
 use crate::files::{AtPath, Older, STANDARD_INPUT, room_for, script_at};
 use crate::jobs::{Drawing, Job, Reading, Taking};
-use crate::keeping::taking_run;
 use crate::keeping_files::{do_make, do_repair, do_store};
+use crate::losses::take_told;
 use crate::names::Name;
 use crate::owning::{own_image, read_shared, share};
 use crate::refusals::Refusal;
@@ -249,7 +249,7 @@ where
     W: Write,
 {
     let image = image_at(rt, path)?;
-    kept_end(taking_run(rt.alloc(), what, image.as_slice(), name.as_bytes(), out))
+    take_told(rt.alloc(), what, image.as_slice(), name.as_bytes(), out)
 }
 
 /// Draws the image at a path.
@@ -271,7 +271,7 @@ where
 /// Opens or reads the job's files and does it; what is printed goes to `out`, which is flushed at the end. An image is
 /// locked before anything of it is read or changed: alone where it is written. `InUse` where another program has it;
 /// `File` where a file couldn't be opened or read, and the faults of `reading_run`, `format_run`, `play_durably`,
-/// `serve_durably`, `repair_run`, `make_run`, `store_run`, `taking_run` and `drawing_run`.
+/// `serve_guarded`, `repair_guarded`, `make_guarded`, `store_guarded`, `take_told` and `drawing_run`.
 pub fn do_job<F, R, W>(rt: &R, job: &Job<'_>, out: &mut W) -> Result<Option<Fault>, Refusal>
 where
     F: EndedFile + Read + Locks + OpenFile + Drop,
@@ -293,26 +293,26 @@ where
         Job::Serve {
             image,
             durability,
-            ..
-        } => do_serving(rt, image, durability, out),
+            loss,
+        } => do_serving(rt, image, durability, loss, out),
         Job::Repair {
             image,
+            loss,
             unowned,
             effect,
-            ..
-        } => do_repair(rt, image, unowned, effect, out),
+        } => do_repair(rt, image, unowned, effect, loss, out),
         Job::Make {
             image,
             ref name,
             length,
-            ..
-        } => do_make(rt, image, name, length, out),
+            loss,
+        } => do_make(rt, image, name, length, loss, out),
         Job::Store {
             image,
             ref name,
             records,
-            ..
-        } => do_store(rt, image, name, records, out),
+            loss,
+        } => do_store(rt, image, name, records, loss, out),
         Job::Take {
             what,
             image,

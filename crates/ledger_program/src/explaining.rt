@@ -2,13 +2,15 @@
 //! the system says of it, and what to do.
 use crate::files::STANDARD_INPUT;
 use crate::jobs::Job;
+use crate::losses::cut_in;
 use crate::refusals::Refusal;
+use d64_image::Place;
 use disk_pictures::PictureFault;
 use keeper_commands::KeepFault;
-use ledger_commands::RunFault;
+use ledger_commands::{RunFault, read_image};
 use std::fmt::Display;
 use std::fs::{File, OpenFile, OpenOptions};
-use std::io::{self, Write};
+use std::io::{self, Read, Write};
 use std::rt::Files;
 use system_files::{ShownPath, opened_to_change, opened_to_read, regular_at};
 
@@ -35,6 +37,7 @@ const UNWRITTEN: &str =
     "it couldn't be written; copy it to another medium, check the copy, and go on there";
 
 const KEPT: &str = "no file owns what is kept, but another program may; `repair --free` frees it";
+const CUT_SHORT: &str = "a file ends at that sector, too early: docs/KEEPERS.md says what to do";
 
 const BAD_LINE: &str = "nothing was done; mend the line, and run it again";
 
@@ -81,6 +84,7 @@ fn subject_of(refusal: Refusal) -> About {
         Refusal::InUse => About::Image("another program has it; end that one first"),
         Refusal::Kept(_) => About::Image(KEPT),
         Refusal::Exists => About::Image("it is there already; `format` without `--new` replaces it"),
+        Refusal::Short(_) => About::Image(CUT_SHORT),
     }
 }
 
@@ -222,20 +226,72 @@ fn tell_size<R: Files, E: Write>(rt: &R, image: &str, err: &mut E) {
     let _ = writeln!(err, "{said}");
 }
 
-/// Tells a person which file a job is going to replace, where there is one. Where it can't be told there is nobody to
-/// tell.
-pub fn announce<F, R, E>(rt: &R, job: &Job<'_>, err: &mut E)
+/// Where the first file of the image at a path is cut short. None also of standard input, and if it can't be read.
+fn cut_at<F, R>(rt: &R, path: &str) -> Option<Place>
 where
-    F: OpenFile + Drop,
-    R: Files<File = F>,
+    F: Read + Drop,
+    R: Files<File = F> + AllocGlobal,
+{
+    if path == STANDARD_INPUT {
+        return None;
+    }
+    let Ok(file) = opened_to_read(rt, path) else {
+        return None;
+    };
+    let Ok(image) = read_image(rt.alloc(), file) else {
+        return None;
+    };
+    cut_in(rt.alloc(), image.as_slice(), None).unwrap_or_default()
+}
+
+/// Prints for a person, after the verdict of a check, where the first file of the image is cut short, if one is: a line
+/// `SHORT t/s`. The image's file is opened and read once more for it. If it can't be printed, there is nobody left to
+/// tell.
+pub fn tell_cut<F, R, E>(rt: &R, job: &Job<'_>, err: &mut E)
+where
+    F: Read + Drop,
+    R: Files<File = F> + AllocGlobal,
     E: Write,
 {
-    let Job::Format { image, .. } = job else {
+    let Job::Check { image } = job else {
         return;
     };
-    if let Some(bytes) = size_of(rt, image) {
+    if let Some(place) = cut_at(rt, image) {
+        let _ = writeln!(err, "SHORT {}/{}", place.track(), place.sector());
+    }
+}
+
+/// Tells a person where the first file of an image is cut short that is going to be played.
+fn warn_of_cut<F, R, E>(rt: &R, image: &str, err: &mut E)
+where
+    F: Read + Drop,
+    R: Files<File = F> + AllocGlobal,
+    E: Write,
+{
+    if let Some(place) = cut_at(rt, image) {
+        let (track, sector) = (place.track(), place.sector());
         let image = ShownPath(image);
-        let _ = writeln!(err, "ledger: replacing {image}, which has {bytes} bytes");
+        let _ = writeln!(err, "ledger: {image}: SHORT {track}/{sector}; {CUT_SHORT}");
+    }
+}
+
+/// Prints for a person which file a job is going to replace, or where the first file of an image that is going to be
+/// played is cut short, if there is one. If it can't be printed, there is nobody left to tell.
+pub fn announce<F, R, E>(rt: &R, job: &Job<'_>, err: &mut E)
+where
+    F: Read + OpenFile + Drop,
+    R: Files<File = F> + AllocGlobal,
+    E: Write,
+{
+    match job {
+        Job::Format { image, .. } => {
+            if let Some(bytes) = size_of(rt, image) {
+                let image = ShownPath(image);
+                let _ = writeln!(err, "ledger: replacing {image}, which has {bytes} bytes");
+            }
+        }
+        Job::Play { image, .. } | Job::PlaySynced { image, .. } => warn_of_cut(rt, image, err),
+        _ => {}
     }
 }
 

@@ -7,10 +7,10 @@ ghost use Rattle.ledger_commands.specs.Placed.{is_synced, placed};
 ghost use Rattle.ledger_program.specs.Names.{name_bytes};
 ghost use Rattle.rel_records.specs.File.{IsLength};
 
-use crate::doing::{image_at, kept_end, repaired_end, told};
+use crate::doing::{image_at, told};
 use crate::files::script_at;
-use crate::jobs::{Effect, Unowned};
-use crate::keeping::{dry_repair_run, make_run, repair_run, store_run};
+use crate::jobs::{Effect, Loss, Unowned};
+use crate::losses::{dry_repair_guarded, make_guarded, repair_guarded, store_guarded};
 use crate::names::Name;
 use crate::owning::own_image;
 use crate::refusals::Refusal;
@@ -41,6 +41,7 @@ fn do_written_repair<F, R, W>(
     rt: &R,
     path: &str,
     free: bool,
+    loss: Loss,
     out: &mut W,
 ) -> Result<Option<Fault>, Refusal>
 where
@@ -49,8 +50,8 @@ where
     W: Write,
 {
     let (image, file) = image_to_keep(rt, path)?;
-    let (_, ended) = repair_run(rt.alloc(), image.as_slice(), free, file, out);
-    repaired_end(ended)
+    let (_, ended) = repair_guarded(rt.alloc(), image.as_slice(), free, file, loss, out);
+    ended
 }
 
 /// Repairs the image at a path, over its file, or a copy of it in memory alone.
@@ -59,6 +60,7 @@ pub(crate) fn do_repair<F, R, W>(
     path: &str,
     unowned: Unowned,
     effect: Effect,
+    loss: Loss,
     out: &mut W,
 ) -> Result<Option<Fault>, Refusal>
 where
@@ -68,10 +70,10 @@ where
 {
     let free = unowned == Unowned::Freed;
     if effect == Effect::Written {
-        return do_written_repair(rt, path, free, out);
+        return do_written_repair(rt, path, free, loss, out);
     }
     let image = image_at(rt, path)?;
-    repaired_end(dry_repair_run(rt.alloc(), image.as_slice(), free, out))
+    dry_repair_guarded(rt.alloc(), image.as_slice(), free, loss, out)
 }
 
 /// Makes a relative file on the disk of the image at a path, over its file.
@@ -80,6 +82,7 @@ pub(crate) fn do_make<F, R, W>(
     path: &str,
     name: &Name,
     length: u8,
+    loss: Loss,
     out: &mut W,
 ) -> Result<Option<Fault>, Refusal>
 where
@@ -90,15 +93,16 @@ where
     requires length { IsLength length }
 {
     let (image, file) = image_to_keep(rt, path)?;
-    let (_, made) = make_run(
+    let (_, made) = make_guarded(
         rt.alloc(),
         image.as_slice(),
         name.as_bytes(),
         length,
         file,
+        loss,
         out,
     );
-    kept_end(made)
+    made
 }
 
 /// Stores the records of the text at a path in a relative file of the image at another, over its file.
@@ -107,6 +111,7 @@ pub(crate) fn do_store<F, R, W>(
     path: &str,
     name: &Name,
     records: &str,
+    loss: Loss,
     out: &mut W,
 ) -> Result<Option<Fault>, Refusal>
 where
@@ -116,13 +121,14 @@ where
 {
     let (image, file) = image_to_keep(rt, path)?;
     let text = told(script_at(rt, records))?;
-    let (_, ended) = store_run(
+    let (_, ended) = store_guarded(
         rt.alloc(),
         image.as_slice(),
         name.as_bytes(),
         text.as_slice(),
         file,
+        loss,
         out,
     );
-    kept_end(ended)
+    ended
 }

@@ -2,6 +2,7 @@
 ghost use Rattle.std.specs.Prelude.{◌≡◌, Some};
 ghost use Rattle.ledger_program.specs.Ends.{is_told as told_there, lock_refusal, refusal_status, refusal_text};
 
+use d64_image::Place;
 use disk_pictures::PictureFault;
 use keeper_commands::KeepFault;
 use ledger_commands::RunFault;
@@ -24,6 +25,8 @@ pub enum Refusal {
     Kept(u16),
     /// A file is to be made under a name that exists. Nothing was changed.
     Exists,
+    /// A file of the image is cut short: its chain ends at this sector, too early.
+    Short(Place),
 }
 
 impl Refusal {
@@ -38,6 +41,7 @@ impl Refusal {
             Refusal::InUse => 3,
             Refusal::Kept(_) => 1,
             Refusal::Exists => 1,
+            Refusal::Short(_) => 1,
         }
     }
 
@@ -47,7 +51,7 @@ impl Refusal {
     {
         match self {
             Refusal::Run(_) | Refusal::Keep(_) | Refusal::Draw(_) => true,
-            Refusal::InUse | Refusal::Exists => true,
+            Refusal::InUse | Refusal::Exists | Refusal::Short(_) => true,
             Refusal::Kept(_) => false,
         }
     }
@@ -75,6 +79,7 @@ impl Display for Refusal {
             Refusal::InUse => f.write_str("IN USE"),
             Refusal::Kept(count) => write!(f, "KEPT {count}"),
             Refusal::Exists => f.write_str("FILE EXISTS"),
+            Refusal::Short(place) => write!(f, "SHORT {}/{}", place.track(), place.sector()),
         }
     }
 }

@@ -3,7 +3,8 @@ ghost use Rattle.std.specs.Prelude.{◌≡◌, IfSome, take};
 ghost use Rattle.ledger_commands.specs.Durable.{IsSynced};
 
 use crate::doing::told;
-use crate::durable_runs::serve_durably;
+use crate::jobs::Loss;
+use crate::losses::serve_guarded;
 use crate::owning::own_image;
 use crate::refusals::Refusal;
 use crate::watched_files::{WhileThere, served_end};
@@ -22,6 +23,7 @@ fn serve_input<F, N, R, W>(
     file: F,
     name: N,
     durability: Durability,
+    loss: Loss,
     out: &mut W,
 ) -> Result<Option<Fault>, Refusal>
 where
@@ -36,11 +38,12 @@ where
     let mut input = told(BufReader::new(rt.alloc(), rt.reader()))?;
     let mut printer = Printer::new(out);
     let mut answers = WhileThere::new(name, &mut printer);
-    let (_, ended) = serve_durably(
+    let (_, ended) = serve_guarded(
         rt.alloc(),
         image,
         file,
         durability,
+        loss,
         &mut input,
         &mut answers,
     );
@@ -66,6 +69,7 @@ pub(crate) fn do_serving<F, R, W>(
     rt: &R,
     path: &str,
     durability: Durability,
+    loss: Loss,
     out: &mut W,
 ) -> Result<Option<Fault>, Refusal>
 where
@@ -76,5 +80,5 @@ where
     let mut file = told(opened_to_change(rt, path))?;
     let image = own_image(rt.alloc(), &mut file, durability)?;
     let name = name_of(rt, path, &file)?;
-    serve_input(rt, image.as_slice(), file, name, durability, out)
+    serve_input(rt, image.as_slice(), file, name, durability, loss, out)
 }

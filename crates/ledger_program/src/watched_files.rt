@@ -1,7 +1,6 @@
 //! Replies that are told only while the shop's file is there.
 ghost use Rattle.std.specs.Prelude.{◌≡◌, if◌then◌else◌, Err};
 ghost use Rattle.ledger_commands.specs.declared.faults.RunFault.TheVariants.{Device};
-ghost use Rattle.ledger_program.specs.Ends.{as_job};
 ghost use Rattle.ledger_program.specs.WatchedFiles.{media_for as media, while_there};
 ghost use Rattle.ledger_program.specs.declared.refusals.Refusal.TheVariants.{Run};
 
@@ -80,16 +79,13 @@ impl<'a, D: Sectors, N: Stays, T: Answers<D>> Tells<D> for WhileThere<'a, N, T> 
 
 /// The end of a service that ended so: `Device` if the file had gone.
 pub(crate) fn served_end(
-    ended: Result<Option<Fault>, RunFault>,
+    ended: Result<Option<Fault>, Refusal>,
     gone: bool,
 ) -> Result<Option<Fault>, Refusal>
-    ensures { result ≡ (if gone then Err (Run Device) else as_job ended) }
+    ensures { result ≡ (if gone then Err (Run Device) else ended) }
 {
     if gone {
         return Err(Refusal::Run(RunFault::Device));
     }
-    match ended {
-        Ok(printed) => Ok(printed),
-        Err(fault) => Err(Refusal::Run(fault)),
-    }
+    ended
 }

@@ -8,7 +8,7 @@ use crate::watching::{Watched, is_long};
 use crate::words::command_line;
 use disk_layout::Fault;
 use ledger_commands::{EndedFile, Locks, RunFault};
-use ledger_program::{Job, Refusal, announce, do_job, end, explain};
+use ledger_program::{Job, Refusal, announce, do_job, end, explain, tell_cut};
 use std::alloc::{AllocError, Global};
 use std::env;
 use std::fs::OpenFile;
@@ -140,8 +140,11 @@ where
     };
     let refusal = ended.err();
     let status = end(ended, err).status;
-    if let (Some(refusal), true) = (refusal, told != Told::Program) {
-        explain(rt, job, refusal, err);
+    if told != Told::Program {
+        match refusal {
+            Some(refusal) => explain(rt, job, refusal, err),
+            None => tell_cut(rt, job, err),
+        }
     }
     status
 }

@@ -8,6 +8,8 @@ mod byte_rows;
 #[cfg(test)]
 mod comparing;
 #[cfg(test)]
+mod cut_rows;
+#[cfg(test)]
 mod disks;
 #[cfg(test)]
 mod line_rows;

@@ -3,6 +3,7 @@ use crate::found::{Found, or_say};
 use crate::ledger::{Kept, Ledger};
 use crate::others::Others;
 use crate::tried::{Tried, count};
+use cut_files::find_image_cut;
 use d64_image::{MemDisk, Sectors};
 use disk_layout::map_place;
 use host_session::Session;
@@ -63,13 +64,23 @@ pub(crate) fn opened(
     }
 }
 
-/// Opens a copy of an image, whose changes are recorded.
+/// Sees that no file of an image is cut short.
+fn is_uncut(alloc: Global, image: &MemDisk) -> Found<()> {
+    match find_image_cut(alloc, image.bytes(), None) {
+        Ok(None) => Ok(()),
+        Ok(Some(_)) => Err("a file of an image that was held is cut short"),
+        Err(_) => Err("no memory for an image"),
+    }
+}
+
+/// Opens a copy of an image that was held, whose changes are recorded; no file of it is cut short.
 pub(crate) fn open(
     alloc: Global,
     image: &MemDisk,
     tried: &mut Tried,
 ) -> Found<Session<Recorder<MemDisk>>> {
     count(&mut tried.openings);
+    is_uncut(alloc, image)?;
     opened(alloc, copy(alloc, image)?, "an image isn't opened")
 }
 

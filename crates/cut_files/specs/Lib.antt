@@ -1,0 +1,3 @@
+-- The definitions of this crate.
+pub mod Cut
+pub mod Told

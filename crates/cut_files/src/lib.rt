@@ -1,0 +1,12 @@
+//! Files of a disk that a lost sector cut short.
+#![tactic(auto)]
+
+mod cuts;
+mod images;
+mod listed;
+mod names;
+mod strays;
+mod tails;
+
+pub use cuts::find_cut;
+pub use images::find_image_cut;

@@ -1,0 +1,48 @@
+//! Sectors that the map calls taken and nobody owns.
+ghost use Rattle.std.specs.Prelude.{◌≡◌, ◌↔◌, ◌≤◌, ◌∷◌, Contains, IsTrue};
+ghost use Rattle.d64_image.specs.declared.place.Place.{Place};
+ghost use Rattle.disk_layout.specs.Directory.{map_place};
+ghost use Rattle.disk_layout.specs.Layout.{Layout, owners};
+ghost use Rattle.disk_layout.specs.Map.{IsFree};
+ghost use Rattle.layout_check.specs.Survey.{IsSurveyOf};
+
+use d64_image::Place;
+use disk_layout::BamView;
+use layout_check::Survey;
+
+/// Whether the map, whose bytes these are, calls the sector taken, and nobody owns it.
+fn is_stray(map: &[u8; 256], found: &Survey, place: Place) -> bool
+    ensures { (l : Layout) → IsSurveyOf l found.now
+        → (IsTrue result ↔ (¬ (IsFree map.now place) × ¬ (Contains (map_place ∷ owners l) place))) }
+{
+    !BamView::new(map).is_free(place) && !found.is_owned(place)
+}
+
+/// Whether a track has such a sector.
+fn has_stray_on(map: &[u8; 256], found: &Survey, track: u8) -> bool
+    ensures { (l : Layout) → IsSurveyOf l found.now
+        → (IsTrue result ↔ ((p : Place) × (p.track ≡ track) × ¬ (IsFree map.now p)
+        × ¬ (Contains (map_place ∷ owners l) p))) }
+{
+    for sector in 0..21u8 {
+        if let Some(place) = Place::new(track, sector) {
+            if is_stray(map, found, place) {
+                return true;
+            }
+        }
+    }
+    false
+}
+
+/// Whether the disk has such a sector.
+pub(crate) fn has_stray(map: &[u8; 256], found: &Survey) -> bool
+    ensures { (l : Layout) → IsSurveyOf l found.now
+        → (IsTrue result ↔ ((p : Place) × ¬ (IsFree map.now p) × ¬ (Contains (map_place ∷ owners l) p))) }
+{
+    for track in 1..=35u8 {
+        if has_stray_on(map, found, track) {
+            return true;
+        }
+    }
+    false
+}

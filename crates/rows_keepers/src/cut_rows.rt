@@ -1,0 +1,93 @@
+//! Where the blank disk for two tills, with bytes changed, is told to have a file that is cut short.
+use crate::comparing::same_at;
+use crate::disks::{Change, changed};
+use cut_files::find_image_cut;
+use std::process::Abort;
+
+/// The entry of a PRG of one block at 17/4, which counts two.
+const ENTRY: Change = (
+    18,
+    1,
+    66,
+    &[
+        0x82, 17, 4, b'A', 0xA0, 0xA0, 0xA0, 0xA0, 0xA0, 0xA0, 0xA0, 0xA0, 0xA0, 0xA0, 0xA0, 0xA0,
+        0xA0, 0xA0, 0xA0, 0, 0, 0, 0, 0, 0, 0, 0, 0, 2, 0,
+    ],
+);
+
+/// The block of that PRG.
+const BLOCK: Change = (17, 4, 0, &[0, 5, 1, 8, 0, 0]);
+
+/// The map with 17/4 and 17/5 taken: 11 F0 FF 1F before.
+const TAKEN: Change = (18, 0, 68, &[0x0F, 0xC0]);
+
+/// The map with 17/4 taken alone.
+const OWNED: Change = (18, 0, 68, &[0x10, 0xE0]);
+
+/// Changes, and where the first file is cut short. STOCK has the block 17/0 and the side sector 17/1, REQUESTS 17/2 and
+/// 17/3. In order: none; of STOCK one pointer more, two more, the second alone, and a link to a next side sector; of
+/// REQUESTS one more, also where STOCK has another record length; a block of zeros, and one whose link alone is zero.
+const LISTED: [(&[Change], Option<(u8, u8)>); 9] = [
+    (&[], None),
+    (&[(17, 1, 18, &[17, 9])], None),
+    (&[(17, 1, 18, &[17, 9, 17, 10])], Some((17, 0))),
+    (&[(17, 1, 20, &[17, 10])], Some((17, 0))),
+    (&[(17, 1, 0, &[17, 9])], Some((17, 0))),
+    (&[(17, 3, 18, &[17, 9])], Some((17, 2))),
+    (
+        &[(17, 3, 18, &[17, 9]), (18, 1, 23, &[19]), (17, 1, 3, &[19])],
+        None,
+    ),
+    (&[(17, 0, 0, &[0; 256])], Some((17, 0))),
+    (&[(17, 0, 0, &[0, 0])], None),
+];
+
+/// The same of a file of another type: its count is greater than its chain with a stray sector and without one, it is
+/// right, and then SEQ, USR, a locked PRG and DEL.
+const COUNTED: [(&[Change], Option<(u8, u8)>); 7] = [
+    (&[BLOCK, TAKEN, ENTRY], Some((17, 4))),
+    (&[BLOCK, OWNED, ENTRY], None),
+    (&[BLOCK, TAKEN, ENTRY, (18, 1, 94, &[1])], None),
+    (&[BLOCK, TAKEN, ENTRY, (18, 1, 66, &[0x81])], Some((17, 4))),
+    (&[BLOCK, TAKEN, ENTRY, (18, 1, 66, &[0x83])], Some((17, 4))),
+    (&[BLOCK, TAKEN, ENTRY, (18, 1, 66, &[0xC2])], Some((17, 4))),
+    (&[BLOCK, TAKEN, ENTRY, (18, 1, 66, &[0x80])], None),
+];
+
+/// Where the first file of this disk is cut short, of all or of a name.
+fn cut(
+    rt: &(impl Abort + AllocGlobal),
+    changes: &[Change],
+    name: Option<&[u8]>,
+) -> Option<(u8, u8)> {
+    let disk = changed(rt, changes);
+    match find_image_cut(rt.alloc(), disk.bytes(), name) {
+        Ok(Some(place)) => Some((place.track(), place.sector())),
+        Ok(None) => None,
+        Err(fault) => panic!(rt; "the image isn't taken: {fault:?}"),
+    }
+}
+
+/// Sees that this is told of each disk.
+fn are_told(rt: &(impl Abort + AllocGlobal), rows: &[(&[Change], Option<(u8, u8)>)]) {
+    for (row, &(changes, wanted)) in rows.iter().enumerate() {
+        same_at(rt, cut(rt, changes, None), wanted, row);
+    }
+}
+
+#[test]
+fn files_that_list_more_are_cut_short(rt: HostRuntime) {
+    are_told(&rt, &LISTED);
+}
+
+#[test]
+fn files_that_count_more_are_cut_short(rt: HostRuntime) {
+    are_told(&rt, &COUNTED);
+}
+
+#[test]
+fn a_name_is_asked_for(rt: HostRuntime) {
+    let one_more: &[Change] = &[(17, 3, 18, &[17, 9])];
+    same_at(&rt, cut(&rt, one_more, Some(b"STOCK")), None, "STOCK");
+    same_at(&rt, cut(&rt, one_more, Some(b"REQUESTS")), Some((17, 2)), "REQUESTS");
+}
