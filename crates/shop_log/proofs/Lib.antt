@@ -1,0 +1,9 @@
+mod Brought
+mod Commits
+mod Counting
+mod Filled
+mod Moments
+mod Runs
+mod Sealed
+mod Torn
+mod Touches

@@ -1,0 +1,5 @@
+pub mod Blocks
+pub mod Files
+pub mod Logs
+pub mod Memory
+pub mod Touched

@@ -1,0 +1,131 @@
+//! A log: its file, and how far its commits reach.
+ghost use Rattle.std.specs.Prelude.{◌≡◌, ◌↔◌, ◌+◌, ◌≤◌, length, true};
+ghost use Rattle.shop_log.specs.Logs.{IsAtRest};
+ghost use Rattle.std.proofs.Props.{props};
+
+use crate::appending::append;
+use crate::blocks::BLOCK;
+use crate::filling::fill;
+use crate::laying_out::lay_out;
+use crate::log_file::LogFile;
+use std::alloc::Global;
+use std::io;
+
+/// How many blocks a log has room for. The mark's block stands behind them.
+pub const BLOCKS: usize = 1024;
+
+/// How many blocks a commit takes at most, with all 683 sectors.
+pub const MOST: usize = 46;
+
+/// A log of a disk's images. Its first commit is the base: all sectors of the image that it begins with.
+#[derive(Drop)]
+pub struct Log<F: LogFile> {
+    file: F,
+    end: usize,
+    closed: bool,
+    // the blocks of a commit while it is made
+    room: Vec<[u8; 4096]>,
+    ghost ends: { end ≤ 1024 },
+    ghost rooms: { length room.items ≡ 46 },
+    ghost rest: { (closed ≡ true → ⊥) → IsAtRest F.history file end } by { Prim.hlevel props },
+}
+
+impl<F: LogFile> Log<F> {
+    ghost use Rattle.std.specs.Prelude.{◌⊎◌, [], IfOk, IsErr, OnErr, OnOk, Some, List, ℕ, false};
+    ghost use Rattle.d64_image.specs.Images.{Image};
+    ghost use Rattle.shop_log.specs.Files.{LeavesOnly};
+    ghost use Rattle.shop_log.specs.Logs.{IsLeft, StandsFor, is_closed, is_marked, log_end, log_file};
+    ghost use Rattle.shop_log.specs.Touched.{Covers, NoneTouched};
+
+    /// Makes a log of an empty file: zeros, synced, and then the image as its base, synced. At an error the file is no
+    /// log yet, or one with this base.
+    pub fn begin(alloc: Global, mut file: F, image: &[[u8; 256]]) -> io::Result<Log<F>>
+        requires sized { length image.now ≡ 683 }
+        requires empty { (f : List ℕ) → F.history.held file ≡ Some f → f ≡ [] }
+        ensures ok { IfOk result (λ log. F.history.held file ≡ Some [] → StandsFor log image.now image.now) }
+    {
+        let mut room = Vec::new(alloc);
+        let Ok(()) = room.resize(MOST, [0; BLOCK]) else {
+            return Err(io::ErrorKind::OutOfMemory.into());
+        };
+        lay_out(&mut file)?;
+        let end = fill(&mut room, image, &[true; 683], 0);
+        append(&mut file, 0, room[..end].as_flattened())?;
+        Ok(Log {
+            file,
+            end,
+            closed: false,
+            room,
+        })
+    }
+
+    /// Whether it is too full for one more commit, whatever that has.
+    pub fn is_full(&self) -> bool
+        ensures { result ≡ false ↔ log_end self.now + 46 ≤ 1024 }
+    {
+        self.end + MOST > BLOCKS
+    }
+
+    /// Makes the image as it is now last, by the sectors that were touched since the last commit. They are written
+    /// behind the commits before, and synced. It writes nothing if none was touched. At an error the log is closed.
+    pub fn commit(&mut self, now: &[[u8; 256]], touched: &[bool; 683]) -> io::Result<()>
+        requires sized { length now.now ≡ 683 }
+        requires room { log_end self.old + 46 ≤ 1024 }
+        requires covers { (base before : Image) → StandsFor self.old base before → Covers touched.now before now.now }
+        ensures ok { OnOk result ((base before : Image) → StandsFor self.old base before → StandsFor self.new base now.now) }
+        // a power loss at any moment leaves the image before the commit or after it
+        ensures any_moment { (base before : Image) → StandsFor self.old base before
+            → LeavesOnly F.history (log_file self.old) (log_file self.new)
+            (λ c. IsLeft base before now.now c × (is_marked c ≡ false)) }
+        ensures refused { is_closed self.old → IsErr result × (log_file self.new ≡ log_file self.old) }
+        ensures quiet { NoneTouched touched.now → log_file self.new ≡ log_file self.old }
+        ensures err { OnErr result (is_closed self.new) }
+        ensures cause { OnErr result (is_closed self.old ⊎ (F.history.has_failed (log_file self.new) ≡ true)) }
+    {
+        if self.closed {
+            return Err(io::ErrorKind::Other.into());
+        }
+        if !touched.contains(&true) {
+            return Ok(());
+        }
+        let n = fill(&mut self.room, now, touched, self.end);
+        self.closed = true;
+        append(&mut self.file, BLOCK * self.end, self.room[..n].as_flattened())?;
+        self.end += n;
+        self.closed = false;
+        Ok(())
+    }
+
+    /// Marks that the image is being brought to its own file from here on, and closes the log.
+    pub fn mark(&mut self) -> io::Result<()>
+        ensures marked { OnOk result ((base image : Image) → StandsFor self.old base image
+            → (c : List ℕ) → F.history.may_leave (log_file self.new) c → is_marked c ≡ true) }
+        // a power loss at any moment leaves the same image
+        ensures any_moment { (base image : Image) → StandsFor self.old base image
+            → LeavesOnly F.history (log_file self.old) (log_file self.new) (IsLeft base image image) }
+        ensures closed { is_closed self.new }
+        ensures refused { is_closed self.old → IsErr result × (log_file self.new ≡ log_file self.old) }
+        ensures cause { OnErr result (is_closed self.old ⊎ (F.history.has_failed (log_file self.new) ≡ true)) }
+    {
+        if self.closed {
+            return Err(io::ErrorKind::Other.into());
+        }
+        self.closed = true;
+        append(&mut self.file, BLOCK * BLOCKS, &[1])
+    }
+
+    /// Its file.
+    pub fn file(&self) -> &F
+        ensures { result.now ≡ log_file self.now }
+    {
+        &self.file
+    }
+
+    /// Its file. The log is over.
+    pub fn into_file(self) -> F
+        ensures { result ≡ log_file self }
+    {
+        let Log { file, .. } = self;
+        file
+    }
+}
