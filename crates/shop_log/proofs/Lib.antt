@@ -1,7 +1,9 @@
 mod Brought
 mod Commits
 mod Counting
+mod Ends
 mod Filled
+mod Marked
 mod Moments
 mod Runs
 mod Sealed

@@ -1,7 +1,7 @@
 -- Blocks one after another: how far whole ones and commits reach, and what they stand for, by the blocks alone.
 use Rattle.std.proofs.Common.{◌≡◌, ◌≢◌, ℕ, zero, suc, ◌+◌, ◌-◌, ◌*◌, ◌<◌, ◌≤◌, Bool, true, false, cond, eqb, List}
 use Rattle.std.proofs.Common.{[], ◌++◌, length, slice_index, get_or, take, drop, sym, refl, ◌∙◌, ap, inl, inr, arith, rules, ext_get_or, get_or-take, get_or-drop}
-use Rattle.std.proofs.lemmas.Bool.{cases_Bool, cases_eq, cond-true, cond-false, eq-eqb, ne_eqb}
+use Rattle.std.proofs.lemmas.Bool.{cases_Bool, cases_eq, cond-true, cond-false, eq-eqb, eqb-true, false≢true, ne_eqb}
 use Rattle.std.proofs.lemmas.List.{places}
 use Rattle.d64_image.specs.Images.{Image}
 use Rattle.shop_log.specs.Blocks.{block_at, committed, first_commit, is_last, is_whole, part, replayed, whole_from, written}
@@ -100,6 +100,13 @@ module _ (B : ℕ → List ℕ) where
   unfolding committed
   committed_more n isnt = cond-false _ _ _ isnt
 
+  pub committed_few : (n : ℕ) → committed B n ≤ n
+  committed_few zero = omega (arith, committed_none)
+  committed_few (suc n) = elim (cases_Bool (is_last (B n))) [
+    | inl is ↦ omega (arith, committed_last n is)
+    | inr isnt ↦ omega (arith, committed_more n isnt, committed_few n)
+  ]
+
   pub first_none : first_commit B 0 ≡ 0
   unfolding first_commit
   first_none = refl
@@ -118,6 +125,36 @@ module _ (B : ℕ → List ℕ) where
     ]
     | inr some ↦ omega (arith, first_few n, first_suc n ∙ cond-false _ _ _ some)
   ]
+
+  -- there is a first commit where there is a last one
+  pub none_committed : (n : ℕ) → first_commit B n ≡ 0 → committed B n ≡ 0
+  none_committed zero none = committed_none
+  none_committed (suc n) none = elim (cases_Bool (eqb (first_commit B n) 0)) [
+    | inl before ↦ elim (cases_Bool (is_last (B n))) [
+      | inl is ↦ absurd (omega (arith, none, first_suc n ∙ cond-true _ _ _ before ∙ cond-true _ (suc n) 0 is))
+      | inr isnt ↦ committed_more n isnt ∙ none_committed n (eqb-true (first_commit B n) 0 before)
+    ]
+    | inr some ↦
+        let same = first_suc n ∙ cond-false _ _ _ some in
+        absurd (false≢true (sym some ∙ eq-eqb (first_commit B n) 0 (sym same ∙ none)))
+  ]
+
+  pub some_committed : (n : ℕ) → 0 < first_commit B n → 0 < committed B n
+  some_committed zero some = absurd (omega (arith, some, first_none))
+  some_committed (suc n) some = elim (cases_Bool (is_last (B n))) [
+    | inl is ↦ omega (arith, committed_last n is)
+    | inr isnt ↦ elim (cases_Bool (eqb (first_commit B n) 0)) [
+      | inl none ↦ absurd (omega (arith, some, first_suc n ∙ cond-true _ _ _ none ∙ cond-false _ (suc n) 0 isnt))
+      | inr before ↦ omega (arith, committed_more n isnt, some_committed n (omega (arith, some, first_suc n ∙ cond-false _ _ _ before)))
+    ]
+  ]
+
+  -- the first block that ends a commit
+  pub first_here : (n : ℕ) → first_commit B n ≡ 0 → is_last (B n) ≡ true → first_commit B (suc n) ≡ suc n
+  first_here n none is = first_suc n ∙ cond-true _ _ _ (eq-eqb (first_commit B n) 0 none) ∙ cond-true _ (suc n) 0 is
+
+  pub first_later : (n : ℕ) → first_commit B n ≡ 0 → is_last (B n) ≡ false → first_commit B (suc n) ≡ 0
+  first_later n none isnt = first_suc n ∙ cond-true _ _ _ (eq-eqb (first_commit B n) 0 none) ∙ cond-false _ (suc n) 0 isnt
 
   -- once there is one it stays
   pub first_stays : (n k : ℕ) → 0 < first_commit B n → first_commit B (n + k) ≡ first_commit B n

@@ -13,6 +13,12 @@ pub same_drop : (x y : List ℕ) (k : ℕ) → length x ≡ length y → ((i : �
 same_drop x y k long same = ext_get_or 0 _ _ (length-drop k x ∙ ap (λ n. n - k) long ∙ sym (length-drop k y)) λ i h.
     get_or-drop k x i 0 ∙ same (k + i) (omega arith) ∙ sym (get_or-drop k y i 0)
 
+pub by_drop : (x y : List ℕ) (k i : ℕ) → drop k x ≡ drop k y → k ≤ i → slice_index x i ≡ slice_index y i
+by_drop x y k i same from =
+    let e : k + (i - k) ≡ i = omega arith in
+    ap (slice_index x) (sym e) ∙ sym (get_or-drop k x (i - k) 0) ∙ ap (λ (b : List ℕ). slice_index b (i - k)) same
+    ∙ get_or-drop k y (i - k) 0 ∙ ap (slice_index y) e
+
 pub behind_is : (b : List ℕ) (n : ℕ) → length b ≡ 4096 → n ≡ 4086 → take n (drop 10 b) ≡ drop 10 b
 behind_is b n long is = take_all n (drop 10 b) (omega (arith, length-drop 10 b))
 

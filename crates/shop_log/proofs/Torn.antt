@@ -5,7 +5,7 @@ use Rattle.std.proofs.lemmas.Bool.{and_parts, cases_lt, cases_Bool}
 use Rattle.d64_image.specs.Images.{Image}
 use Rattle.shop_log.specs.Blocks.{IsCommit, block_at, committed, counts, first_commit, is_last, is_whole, replayed, whole_from}
 use Rattle.shop_log.specs.Files.{Mixed}
-use Rattle.shop_log.specs.Logs.{IsLeft, IsLog, base_end, base_of, blank, recovered, whole_blocks}
+use Rattle.shop_log.specs.Recovered.{IsLeft, IsLog, base_end, base_of, blank, recovered, whole_blocks}
 use Rattle.shop_log.proofs.Counting.{Faint, all_or_nothing, blank_counts}
 use Rattle.shop_log.proofs.Runs.{block_by, committed_last, committed_more, first_alike, first_few, first_stays, length-block, replayed_alike, replayed_behind, same_parts, slice_index-block, whole_add, whole_below, whole_few, committed_alike, block_is}
 
@@ -19,11 +19,14 @@ blank_block f q place zeros is = blank_counts (block_at f q)
     (λ i low. slice_index-block f q i low ∙ zeros (4096 * q + i) (omega arith)) (counts_of place (block_at f q) is)
 
 module _ (f : List ℕ) (end : ℕ) (log : IsLog f end) where
+  was_whole : (q : ℕ) → q < end → is_whole (0 + q) (block_at f (0 + q)) ≡ true
+  was_whole q low = let e : 0 + q ≡ q = omega arith in ap (λ k. is_whole k (block_at f k)) e ∙ log.whole q low
+
   -- no block behind the end is whole
   pub ended_at : whole_blocks f ≡ end
   ended_at =
       let e : end + (1024 - end) ≡ 1024 = omega (arith, log.within) in
-      let all = ap (whole_from (block_at f) 0) (sym e) ∙ whole_add (block_at f) 0 end (1024 - end) (λ q low. log.whole q low) in
+      let all = ap (whole_from (block_at f) 0) (sym e) ∙ whole_add (block_at f) 0 end (1024 - end) was_whole in
       elim (cases_lt 0 (whole_from (block_at f) (0 + end) (1024 - end))) [
         | inl some ↦ absurd (blank_block f (0 + end + 0) (0 + end + 0) (λ i from. log.zeros i (omega arith))
             (whole_below (block_at f) (0 + end) (1024 - end) 0 some))
@@ -63,7 +66,9 @@ module _ (f : List ℕ) (end : ℕ) (log : IsLog f end) (B : ℕ → List ℕ) (
         ]
 
     still_whole : (q : ℕ) → q < end → is_whole (0 + q) (block_at c (0 + q)) ≡ true
-    still_whole q low = ap (is_whole q) (same_before q low) ∙ log.whole q low
+    still_whole q low =
+        let e : 0 + q ≡ q = omega arith in
+        ap (λ k. is_whole k (block_at c k)) e ∙ ap (is_whole q) (same_before q low) ∙ log.whole q low
 
     -- how many of the commit's blocks are there
     abbrev pub behind : ℕ
@@ -88,7 +93,7 @@ module _ (f : List ℕ) (end : ℕ) (log : IsLog f end) (B : ℕ → List ℕ) (
         let e : 0 + end + q ≡ end + q = omega arith in
         let ours = ap (λ k. is_whole k (block_at c k)) (sym e) ∙ whole_below (block_at c) (0 + end) (1024 - end) q low in
         all_or_nothing (block_at c (end + q)) (B q) (length-block c (end + q) (omega (arith, size, room))) (each_long q there)
-        (λ i few. faint q i there few) (counts_of (end + q) _ ours) (counts_of (end + q) (B q) (commit.whole q there))
+        (λ i few. faint q i there few) (counts_of (end + q) (block_at c (end + q)) ours) (counts_of (end + q) (B q) (commit.whole q there))
 
     -- before the commit's last block nothing of it counts
     part_of_it : (k : ℕ) → k < n → k ≤ behind → committed (block_at c) (end + k) ≡ end

@@ -4,7 +4,7 @@ use Rattle.std.specs.Prelude.{Option, Some, Result, OnErr, OnOk, true}
 
 -- the file with these bytes in place of those from `at` on
 abbrev pub overwritten : List ℕ → ℕ → List ℕ → List ℕ
-overwritten file at bytes = take at file ++ bytes ++ drop (at + length bytes) file
+overwritten file at bytes = take at file ++ (bytes ++ drop (at + length bytes) file)
 
 -- What a torn write may leave of a file that it doesn't lengthen: each byte of the range is the old one or the new one,
 -- in any mix, and all other bytes are the old ones.

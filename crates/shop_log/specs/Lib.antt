@@ -2,4 +2,5 @@ pub mod Blocks
 pub mod Files
 pub mod Logs
 pub mod Memory
+pub mod Recovered
 pub mod Touched

@@ -1,55 +1,9 @@
--- What a log's file stands for, and a log at rest. Our own.
-use Rattle.std.specs.Prelude.{ℕ, ◌+◌, ◌*◌, ◌==◌, ◌≡◌, ◌≤◌, ◌<◌, ◌⊎◌, Bool, List, length, not, replicate}
-use Rattle.std.specs.Prelude.{IsTrue, Some, slice_index, true}
+-- An open log, and the image that it stands for. Our own.
+use Rattle.std.specs.Prelude.{ℕ, ◌≡◌, List, Some, true}
 use Rattle.d64_image.specs.Images.{Image}
-use Rattle.shop_log.specs.Blocks.{block_at, committed, first_commit, is_whole, replayed, whole_from}
-use Rattle.shop_log.specs.Files.{FileHistory, Only}
+use Rattle.shop_log.specs.Recovered.{base_of, recovered}
 use Rattle.shop_log.specs.declared.log.Log.{Log}
 use Rattle.shop_log.specs.declared.log_file.LogFile.{Ghosts}
-
--- 683 sectors of zeros, which the base replaces
-abbrev pub blank : Image
-blank = replicate 683 (replicate 256 0)
-
--- how many blocks are whole, up to the first that isn't
-abbrev pub whole_blocks : List ℕ → ℕ
-whole_blocks f = whole_from (block_at f) 0 1024
-
--- the image that the file's whole commits stand for
-abbrev pub recovered : List ℕ → Image
-recovered f = replayed (block_at f) blank (committed (block_at f) (whole_blocks f))
-
--- how many blocks the base takes, which is the first commit; 0 if the file has none
-abbrev pub base_end : List ℕ → ℕ
-base_end f = first_commit (block_at f) (whole_blocks f)
-
--- the image that the log began with
-abbrev pub base_of : List ℕ → Image
-base_of f = replayed (block_at f) blank (base_end f)
-
--- the first byte behind the blocks isn't 0: the image is being brought to its own file
-abbrev pub is_marked : List ℕ → Bool
-is_marked f = not (slice_index f 4194304 == 0)
-
--- A log's bytes: the first `end` blocks are whole, the last of them ends a commit, and the rest is zeros.
-pub record IsLog (f : List ℕ) (end : ℕ) : Type 0 where
-  pub size : length f ≡ 4198400
-  pub within : end ≤ 1024
-  pub whole : (q : ℕ) → q < end → IsTrue (is_whole q (block_at f q))
-  pub ended : committed (block_at f) end ≡ end
-  pub zeros : (i : ℕ) → 4096 * end ≤ i → slice_index f i ≡ 0
-
--- If the file's bytes are known they are a log's, and a power loss leaves them.
-pub record IsAtRest {F : Type 0} (h : FileHistory F) (file : F) (end : ℕ) : Type 0 where
-  pub log : (f : List ℕ) → h.held file ≡ Some f → IsLog f end
-  pub based : (f : List ℕ) → h.held file ≡ Some f → 0 < first_commit (block_at f) end
-  pub durable : (f : List ℕ) → h.held file ≡ Some f → Only f (h.may_leave file)
-
--- After a power loss: a log with this base that stands for one of two images.
-pub record IsLeft (base before after : Image) (f : List ℕ) : Type 0 where
-  pub based : 0 < base_end f
-  pub base : base_of f ≡ base
-  pub image : (recovered f ≡ before) ⊎ (recovered f ≡ after)
 
 module _ {F : Type 0} {G : Ghosts F} where
   -- the file
@@ -65,9 +19,9 @@ module _ {F : Type 0} {G : Ghosts F} where
   is_closed l = l.closed ≡ true
 
   -- An open log whose file is known, with this base, and the image that it stands for.
-  pub record StandsFor (l : Log F G) (base image : Image) : Type 0 where
-    pub open : is_closed l → ⊥
+  pub record StandsFor (l : Log F G) (start now : Image) : Type 0 where
+    pub is_open : is_closed l → ⊥
     pub bytes : List ℕ
     pub held : G.history.held l.file ≡ Some bytes
-    pub base : base_of bytes ≡ base
-    pub image : recovered bytes ≡ image
+    pub base : base_of bytes ≡ start
+    pub image : recovered bytes ≡ now

@@ -1,7 +1,7 @@
 //! A new log's file.
 ghost use Rattle.std.specs.Prelude.{◌≡◌, [], List, OnOk, Some, ℕ};
 ghost use Rattle.shop_log.specs.Files.{Rests};
-ghost use Rattle.shop_log.specs.Logs.{IsLog};
+ghost use Rattle.shop_log.specs.Recovered.{IsLog};
 
 use crate::log_file::LogFile;
 use std::io;

@@ -1,6 +1,6 @@
 //! A log: its file, and how far its commits reach.
 ghost use Rattle.std.specs.Prelude.{◌≡◌, ◌↔◌, ◌+◌, ◌≤◌, length, true};
-ghost use Rattle.shop_log.specs.Logs.{IsAtRest};
+ghost use Rattle.shop_log.specs.Recovered.{IsAtRest};
 ghost use Rattle.std.proofs.Props.{props};
 
 use crate::appending::append;
@@ -34,7 +34,8 @@ impl<F: LogFile> Log<F> {
     ghost use Rattle.std.specs.Prelude.{◌⊎◌, [], IfOk, IsErr, OnErr, OnOk, Some, List, ℕ, false};
     ghost use Rattle.d64_image.specs.Images.{Image};
     ghost use Rattle.shop_log.specs.Files.{LeavesOnly};
-    ghost use Rattle.shop_log.specs.Logs.{IsLeft, StandsFor, is_closed, is_marked, log_end, log_file};
+    ghost use Rattle.shop_log.specs.Logs.{StandsFor, is_closed, log_end, log_file};
+    ghost use Rattle.shop_log.specs.Recovered.{IsLeft, is_marked};
     ghost use Rattle.shop_log.specs.Touched.{Covers, NoneTouched};
 
     /// Makes a log of an empty file: zeros, synced, and then the image as its base, synced. At an error the file is no

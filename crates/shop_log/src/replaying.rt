@@ -1,8 +1,8 @@
 //! What a log's file stands for.
-ghost use Rattle.std.specs.Prelude.{◌≡◌, ◌↔◌, ◌≤◌, ◌<◌, ◌+◌, ◌*◌, IsFalse, IsTrue, length};
+ghost use Rattle.std.specs.Prelude.{◌≡◌, ◌↔◌, ◌≤◌, ◌<◌, ◌+◌, ◌*◌, IsTrue, false, length};
 ghost use Rattle.d64_image.specs.Images.{Image};
-ghost use Rattle.shop_log.specs.Blocks.{block_at, committed as committed_in, first_commit, replayed, written};
-ghost use Rattle.shop_log.specs.Logs.{base_end, base_of, blank, is_marked as marked, recovered, whole_blocks};
+ghost use Rattle.shop_log.specs.Blocks.{block_at, committed as committed_in, first_commit, is_last, replayed, written};
+ghost use Rattle.shop_log.specs.Recovered.{base_end, base_of, blank, is_marked as marked, recovered, whole_blocks};
 
 use crate::blocks::{BLOCK, is_whole_block};
 use crate::log::BLOCKS;
@@ -35,6 +35,14 @@ fn put_block(block: &[u8; 4096], image: &mut [[u8; 256]])
     }
 }
 
+/// Whether a block of the file is the last of its commit.
+fn ends_commit(file: &[u8], q: usize) -> bool
+    requires { 4096 * q + 4096 ≤ length file.now }
+    ensures { result ≡ is_last (block_at file.now q) }
+{
+    file[BLOCK * q + 10] == 2
+}
+
 /// How many of the file's blocks are whole, up to the first that isn't.
 fn count_whole(file: &[u8]) -> usize
     requires { 4194304 ≤ length file.now }
@@ -57,7 +65,7 @@ fn count_committed(file: &[u8], whole: usize) -> usize
 {
     let mut n = whole;
     while n > 0 {
-        if file[BLOCK * (n - 1) + 10] == 2 {
+        if ends_commit(file, n - 1) {
             return n;
         }
         n -= 1;
@@ -72,11 +80,21 @@ fn count_first(file: &[u8], whole: usize) -> usize
     ensures few { result ≤ whole }
 {
     for q in 0..whole {
-        if file[BLOCK * q + 10] == 2 {
+        if ends_commit(file, q) {
             return q + 1;
         }
     }
     0
+}
+
+/// Puts zeros into every sector.
+fn wipe(image: &mut [[u8; 256]])
+    requires { length image.old ≡ 683 }
+    ensures { image.new ≡ blank }
+{
+    for i in 0..image.len() {
+        image[i] = [0; 256];
+    }
 }
 
 /// Brings the sectors of the file's first n blocks into an image of zeros.
@@ -85,7 +103,7 @@ fn replay(file: &[u8], n: usize, image: &mut [[u8; 256]])
     requires sized { length image.old ≡ 683 }
     ensures { image.new ≡ replayed (block_at file.now) blank n }
 {
-    image.fill([0; 256]);
+    wipe(image);
     for q in 0..n {
         put_block(&block(file, q), image);
     }
@@ -95,7 +113,7 @@ fn replay(file: &[u8], n: usize, image: &mut [[u8; 256]])
 /// the image is no disk's. A file of fewer than 1,024 blocks has none.
 pub fn recover(file: &[u8], image: &mut [[u8; 256]]) -> bool
     requires sized { length image.old ≡ 683 }
-    ensures short { length file.now < 4194304 → IsFalse result × (image.new ≡ image.old) }
+    ensures short { length file.now < 4194304 → (result ≡ false) × (image.new ≡ image.old) }
     ensures based { 4194304 ≤ length file.now → (IsTrue result ↔ (0 < base_end file.now)) }
     ensures image { 4194304 ≤ length file.now → image.new ≡ recovered file.now }
 {
@@ -110,7 +128,7 @@ pub fn recover(file: &[u8], image: &mut [[u8; 256]]) -> bool
 /// The image that the log began with. Returns whether the file has one; otherwise the image is no disk's.
 pub fn read_base(file: &[u8], image: &mut [[u8; 256]]) -> bool
     requires sized { length image.old ≡ 683 }
-    ensures short { length file.now < 4194304 → IsFalse result × (image.new ≡ image.old) }
+    ensures short { length file.now < 4194304 → (result ≡ false) × (image.new ≡ image.old) }
     ensures based { 4194304 ≤ length file.now → (IsTrue result ↔ (0 < base_end file.now)) }
     ensures image { 4194304 ≤ length file.now → image.new ≡ base_of file.now }
 {
