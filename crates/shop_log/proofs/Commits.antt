@@ -1,5 +1,5 @@
 -- A commit that is all there: a log that stands for the image after it.
-use Rattle.std.proofs.Common.{◌≡◌, ◌≤◌, ◌<◌, ◌+◌, ◌-◌, ◌*◌, ◌++◌, ◌∙◌, ℕ, zero, suc, List, [], ◌∷◌, ap, arith, drop, false, get_or, inl, inr, length, refl, slice_index, sym, take, true, mul-suc, get_or-take, get_or-drop, length-append, length-drop, length-take-le, not, eqb}
+use Rattle.std.proofs.Common.{◌≡◌, ◌≤◌, ◌<◌, ◌+◌, ◌-◌, ◌*◌, ◌++◌, ◌∙◌, ℕ, zero, suc, List, [], ◌∷◌, ap, arith, drop, false, get_or, inl, inr, length, refl, slice_index, subst, sym, take, true, mul-suc, get_or-take, get_or-drop, length-append, length-drop, length-take-le, not, eqb}
 use Rattle.std.proofs.lemmas.Bool.{cases_lt, eq-eqb}
 use Rattle.std.proofs.lemmas.List.{get_or_append_left, get_or-append_right}
 use Rattle.std.specs.List.{flat_map}
@@ -7,7 +7,7 @@ use Rattle.d64_image.specs.Images.{Image}
 use Rattle.shop_log.specs.Blocks.{IsCommit, block_at, committed, first_commit, is_last, is_whole, replayed}
 use Rattle.shop_log.specs.Files.{Mixed, overwritten}
 use Rattle.shop_log.specs.Recovered.{IsLeft, IsLog, base_end, base_of, blank, is_marked, recovered, whole_blocks}
-use Rattle.shop_log.proofs.Runs.{block_by, committed_last, first_alike, first_few, first_stays, replayed_alike, replayed_behind}
+use Rattle.shop_log.proofs.Runs.{block_by, committed_last, first_alike, first_few, first_here, first_later, first_none, first_stays, none_committed, replayed_alike, replayed_behind}
 use Rattle.shop_log.proofs.Torn.{base_end_is, left, recovered_is, same_before}
 
 step : (k q : ℕ) → k * suc q ≡ k + k * q
@@ -114,8 +114,33 @@ module _ (f : List ℕ) (end : ℕ) (log : IsLog f end) (B : ℕ → List ℕ) (
   first_after : first_commit (block_at new) end ≡ first_commit (block_at f) end
   first_after = first_alike (block_at new) (block_at f) end old_block
 
-  pub based_after : 0 < first_commit (block_at f) end → 0 < first_commit (block_at new) (end + n)
-  based_after some = omega (arith, some, first_after, first_stays (block_at new) end n (omega (arith, some, first_after)))
+  last_block : committed (block_at new) (end + n) ≡ end + n
+  last_block = log_after.ended
+
+  -- there is a base now, this commit at the latest
+  pub based_after : 0 < first_commit (block_at new) (end + n)
+  based_after = elim (cases_lt 0 (first_commit (block_at new) (end + n))) [
+    | inl some ↦ some
+    | inr none ↦ absurd (omega (arith, none_committed (block_at new) (end + n) (omega (arith, none)), last_block, commit.some.1))
+  ]
+
+  -- with no commit before, nothing of this one ends earlier
+  none_yet : end ≡ 0 → (k : ℕ) → k < n → first_commit (block_at new) (end + k) ≡ 0
+  none_yet start zero low = let e : end + zero ≡ 0 = omega (arith, start) in ap (first_commit (block_at new)) e ∙ first_none (block_at new)
+  none_yet start (suc k) low =
+      let e : end + suc k ≡ suc (end + k) = omega arith in
+      ap (first_commit (block_at new)) e ∙ first_later (block_at new) (end + k) (none_yet start k (omega (arith, low)))
+      (ap is_last (new_block k (omega (arith, low))) ∙ commit.more k low)
+
+  pub base_first : end ≡ 0 → base_of new ≡ recovered new
+  base_first start =
+      let q = commit.some.0 in
+      let e : end + n ≡ suc (end + q) = omega (arith, commit.some.1) in
+      let ends : first_commit (block_at new) (end + n) ≡ end + n =
+          ap (first_commit (block_at new)) e
+          ∙ first_here (block_at new) (end + q) (none_yet start q (omega (arith, commit.some.1)))
+          (ap is_last (new_block q (omega (arith, commit.some.1))) ∙ commit.last q (sym commit.some.1)) ∙ sym e in
+      ap (replayed (block_at new) blank) (base_end_is new (end + n) log_after ∙ ends) ∙ sym (recovered_is new (end + n) log_after)
 
   pub base_after : 0 < first_commit (block_at f) end → base_of new ≡ base_of f
   base_after some =

@@ -1,11 +1,11 @@
 -- The sectors of a block that is filled, and of the blocks of a commit.
-use Rattle.std.proofs.Common.{◌≡◌, ◌≢◌, ◌≤◌, ◌<◌, ◌+◌, ◌*◌, ◌-◌, ◌∙◌, ℕ, zero, suc, Bool, List, [], ap, arith, cond, drop, false, get_or, inl, inr, length, refl, replicate, set, slice_index, subst, sym, take, true, ◌++◌, ext_get_or, length-take-le}
+use Rattle.std.proofs.Common.{◌≡◌, ◌≢◌, ◌≤◌, ◌<◌, ◌+◌, ◌*◌, ◌-◌, ◌∙◌, ℕ, zero, suc, Bool, List, [], ap, arith, cond, drop, false, get_or, inl, inr, length, min, refl, replicate, set, slice_index, subst, sym, take, true, ◌++◌, ext_get_or, length-take-le}
 use Rattle.std.proofs.lemmas.Bool.{cases_Bool, cases_eq, cases_lt, cond-false, cond-true}
 use Rattle.std.proofs.lemmas.List.{drop_at, get_or-replicate, get_or-set_other, get_or-set_same, length-replicate, length-set, set_past, take_at}
 use Rattle.d64_image.specs.Images.{Image}
 use Rattle.shop_log.specs.Blocks.{brought, pair_at, part, replayed, with_sectors, written}
-use Rattle.shop_log.specs.Touched.{Covers}
-use Rattle.shop_log.proofs.Runs.{replayed_alike, replayed_suc, same_parts}
+use Rattle.shop_log.specs.Marks.{Covers}
+use Rattle.shop_log.proofs.Runs.{replayed_alike, replayed_none, replayed_suc, same_parts}
 
 pub with_none : (b : List ℕ) (image : Image) → with_sectors b 0 image ≡ image
 unfolding with_sectors
@@ -171,3 +171,13 @@ pub all_same : (image : Image) (x : List ℕ) (n : ℕ) → length image ≡ n �
 all_same image x n long each = ext_get_or [] _ _ (long ∙ sym (length-replicate n x)) λ j h.
     let low : j < n = omega (arith, h, long) in
     each j low ∙ sym (get_or-replicate n j x [] low)
+
+length-with : (b : List ℕ) (n : ℕ) (image : Image) → length (with_sectors b n image) ≡ length image
+length-with b zero image = ap length (with_none b image)
+length-with b (suc n) image = ap length (with_suc b n image)
+    ∙ length-set (with_sectors b n image) (pair_at b (16 + 2 * n)) (part b (64 + 256 * n) 256) ∙ length-with b n image
+
+pub length-replayed : (B : ℕ → List ℕ) (image : Image) (n : ℕ) → length (replayed B image n) ≡ length image
+length-replayed B image zero = ap length (replayed_none B image)
+length-replayed B image (suc n) = ap length (replayed_suc B image n)
+    ∙ length-with (B n) (min 15 (slice_index (B n) 11)) (replayed B image n) ∙ length-replayed B image n

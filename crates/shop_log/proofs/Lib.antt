@@ -1,3 +1,4 @@
+mod Appended
 mod Brought
 mod Commits
 mod Counting

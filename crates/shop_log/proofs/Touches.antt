@@ -8,7 +8,8 @@ use Rattle.d64_image.specs.Images.{Image, Sector, put}
 use Rattle.d64_image.specs.Places.{index_of}
 use Rattle.d64_image.specs.declared.place.Place.{Place}
 use Rattle.d64_image.proofs.Places.{index_below}
-use Rattle.shop_log.specs.Touched.{Covers, KeepsCover, touching, touched_disk, touched_of}
+use Rattle.shop_log.specs.Marks.{Covers}
+use Rattle.shop_log.specs.Touched.{KeepsCover, touching, touched_disk, touched_of}
 use Rattle.shop_log.specs.declared.touched_disk.TouchedDisk.{TouchedDisk}
 
 pub none_marked : (n i : ℕ) → get_or (replicate n false) i false ≡ false

@@ -1,6 +1,6 @@
 -- A file that is written and synced: what it holds, and what a power loss may leave of it. Our own.
 use Rattle.std.specs.Prelude.{ℕ, ◌+◌, ◌≡◌, ◌≤◌, ◌<◌, ◌⊎◌, ◌++◌, Bool, List, length, take, drop, slice_index}
-use Rattle.std.specs.Prelude.{Option, Some, Result, OnErr, OnOk, true}
+use Rattle.std.specs.Prelude.{None, Option, Some, Result, OnErr, OnOk, true}
 
 -- the file with these bytes in place of those from `at` on
 abbrev pub overwritten : List ℕ → ℕ → List ℕ → List ℕ
@@ -64,6 +64,8 @@ pub record NotesFailure {F T E : Type 0} (h : FileHistory F) (old new : F) (resu
 pub record WritesBytes {F T E : Type 0} (h : FileHistory F) (old new : F) (at : ℕ) (bytes : List ℕ)
     (result : Result T E) : Type 0 where
   pub ok : OnOk result ((f : List ℕ) → h.held old ≡ Some f → at ≤ length f → h.held new ≡ Some (overwritten f at bytes))
+  -- a file of which nothing is known stays so
+  pub unknown : h.held old ≡ None → h.held new ≡ None
   pub torn : Follows (Tears at bytes) (h.may_leave old) (h.may_leave new)
   pub time : Elapses h old new
   pub failures : NotesFailure h old new result

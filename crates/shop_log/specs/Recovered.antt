@@ -1,9 +1,9 @@
 -- What a log's bytes stand for, and a log at rest. Our own.
 use Rattle.std.specs.Prelude.{ℕ, ◌+◌, ◌*◌, ◌==◌, ◌≡◌, ◌≤◌, ◌<◌, ◌⊎◌, Bool, List, length, not, replicate}
-use Rattle.std.specs.Prelude.{IsTrue, Some, slice_index, true}
+use Rattle.std.specs.Prelude.{IsTrue, Some, false, slice_index}
 use Rattle.d64_image.specs.Images.{Image}
 use Rattle.shop_log.specs.Blocks.{block_at, committed, first_commit, is_whole, replayed, whole_from}
-use Rattle.shop_log.specs.Files.{FileHistory, Only}
+use Rattle.shop_log.specs.Files.{FileHistory, Only, Rests}
 
 -- 683 sectors of zeros, which the base replaces
 abbrev pub blank : Image
@@ -48,3 +48,19 @@ pub record IsLeft (start before after : Image) (f : List ℕ) : Type 0 where
   pub based : 0 < base_end f
   pub base : base_of f ≡ start
   pub image : (recovered f ≡ before) ⊎ (recovered f ≡ after)
+
+-- What a power loss may leave while a commit is written behind the log f.
+pub record IsTorn (f : List ℕ) (end : ℕ) (after : Image) (c : List ℕ) : Type 0 where
+  pub left : 0 < first_commit (block_at f) end → IsLeft (base_of f) (recovered f) after c
+  pub unmarked : is_marked c ≡ false
+
+-- A commit of n blocks stands behind the log f, and the file rests: its bytes, and what they stand for.
+pub record IsAppended {F : Type 0} (h : FileHistory F) (file : F) (f : List ℕ) (end n : ℕ) (after : Image) : Type 0 where
+  pub bytes : List ℕ
+  pub rests : Rests h file bytes
+  pub log : IsLog bytes (end + n)
+  pub based : 0 < first_commit (block_at bytes) (end + n)
+  pub image : recovered bytes ≡ after
+  -- the base stays, or this is the base
+  pub base : 0 < first_commit (block_at f) end → base_of bytes ≡ base_of f
+  pub first : end ≡ 0 → base_of bytes ≡ after

@@ -1,19 +1,9 @@
 -- Which sectors of a disk were written since a moment. Our own.
-use Rattle.std.specs.Prelude.{ℕ, ◌≡◌, ◌<◌, Bool, List, [], false, slice_index_or, slice_set, true}
+use Rattle.std.specs.Prelude.{Bool, List}
 use Rattle.d64_image.specs.History.{History, through}
 use Rattle.d64_image.specs.Images.{Image}
-use Rattle.d64_image.specs.Places.{index_of}
-use Rattle.d64_image.specs.declared.place.Place.{Place}
+use Rattle.shop_log.specs.Marks.{Covers}
 use Rattle.shop_log.specs.declared.touched_disk.TouchedDisk.{TouchedDisk}
-
--- a sector that isn't marked as touched is the same in both images
-abbrev pub Covers : List Bool → Image → Image → Type 0
-Covers touched before now = (i : ℕ) → i < 683 → slice_index_or touched i false ≡ false
-    → slice_index_or before i [] ≡ slice_index_or now i []
-
--- no sector is marked
-abbrev pub NoneTouched : List Bool → Type 0
-NoneTouched touched = (i : ℕ) → slice_index_or touched i false ≡ false
 
 -- the disk beneath
 abbrev pub touched_disk : {D : Type 0} → TouchedDisk D → D

@@ -1,5 +1,5 @@
 //! Bytes that are written over others and synced.
-ghost use Rattle.std.specs.Prelude.{◌≡◌, ◌+◌, ◌≤◌, List, OnErr, ℕ, length, true};
+ghost use Rattle.std.specs.Prelude.{◌≡◌, ◌+◌, ◌≤◌, List, None, OnErr, ℕ, length, true};
 ghost use Rattle.shop_log.specs.Files.{BringsBytes, Rests};
 
 use crate::log_file::LogFile;
@@ -10,6 +10,7 @@ pub(crate) fn append<F: LogFile>(file: &mut F, at: usize, bytes: &[u8]) -> io::R
     // a file at rest, of which these bytes are no longer
     ensures brings { (f : List ℕ) → Rests F.history file.old f → at + length bytes.now ≤ length f
         → BringsBytes F.history file.old file.new at bytes.now f result }
+    ensures unknown { F.history.held file.old ≡ None → F.history.held file.new ≡ None }
     ensures failed { OnErr result (F.history.has_failed file.new ≡ true) }
 {
     file.write_at(at, bytes)?;

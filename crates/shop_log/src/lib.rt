@@ -4,6 +4,7 @@
 
 mod appending;
 mod blocks;
+mod committing;
 mod filling;
 mod laying_out;
 mod log;

@@ -1,11 +1,12 @@
 //! A log: its file, and how far its commits reach.
-ghost use Rattle.std.specs.Prelude.{◌≡◌, ◌↔◌, ◌+◌, ◌≤◌, length, true};
+ghost use Rattle.std.specs.Prelude.{◌≡◌, ◌↔◌, ◌+◌, ◌≤◌, IsTrue, length, true};
 ghost use Rattle.shop_log.specs.Recovered.{IsAtRest};
+ghost use Rattle.shop_log.specs.Marks.{NoneTouched};
 ghost use Rattle.std.proofs.Props.{props};
 
 use crate::appending::append;
 use crate::blocks::BLOCK;
-use crate::filling::fill;
+use crate::committing::append_commit;
 use crate::laying_out::lay_out;
 use crate::log_file::LogFile;
 use std::alloc::Global;
@@ -30,13 +31,21 @@ pub struct Log<F: LogFile> {
     ghost rest: { (closed ≡ true → ⊥) → IsAtRest F.history file end } by { Prim.hlevel props },
 }
 
+/// Whether no sector was touched.
+fn none_touched(touched: &[bool; 683]) -> bool
+    ensures none { IsTrue result → NoneTouched touched.now }
+    ensures all { NoneTouched touched.now → IsTrue result }
+{
+    !touched.contains(&true)
+}
+
 impl<F: LogFile> Log<F> {
     ghost use Rattle.std.specs.Prelude.{◌⊎◌, [], IfOk, IsErr, OnErr, OnOk, Some, List, ℕ, false};
     ghost use Rattle.d64_image.specs.Images.{Image};
     ghost use Rattle.shop_log.specs.Files.{LeavesOnly};
     ghost use Rattle.shop_log.specs.Logs.{StandsFor, is_closed, log_end, log_file};
     ghost use Rattle.shop_log.specs.Recovered.{IsLeft, is_marked};
-    ghost use Rattle.shop_log.specs.Touched.{Covers, NoneTouched};
+    ghost use Rattle.shop_log.specs.Marks.{Covers};
 
     /// Makes a log of an empty file: zeros, synced, and then the image as its base, synced. At an error the file is no
     /// log yet, or one with this base.
@@ -50,8 +59,7 @@ impl<F: LogFile> Log<F> {
             return Err(io::ErrorKind::OutOfMemory.into());
         };
         lay_out(&mut file)?;
-        let end = fill(&mut room, image, &[true; 683], 0);
-        append(&mut file, 0, room[..end].as_flattened())?;
+        let end = append_commit(&mut file, &mut room, 0, image, &[true; 683])?;
         Ok(Log {
             file,
             end,
@@ -86,12 +94,11 @@ impl<F: LogFile> Log<F> {
         if self.closed {
             return Err(io::ErrorKind::Other.into());
         }
-        if !touched.contains(&true) {
+        if none_touched(touched) {
             return Ok(());
         }
-        let n = fill(&mut self.room, now, touched, self.end);
         self.closed = true;
-        append(&mut self.file, BLOCK * self.end, self.room[..n].as_flattened())?;
+        let n = append_commit(&mut self.file, &mut self.room, self.end, now, touched)?;
         self.end += n;
         self.closed = false;
         Ok(())

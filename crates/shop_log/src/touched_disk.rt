@@ -14,7 +14,8 @@ pub struct TouchedDisk<D> {
 
 impl<D: Sectors> TouchedDisk<D> {
     ghost use Rattle.std.specs.Prelude.{◌≡◌};
-    ghost use Rattle.shop_log.specs.Touched.{NoneTouched, touched_disk, touched_of};
+    ghost use Rattle.shop_log.specs.Marks.{NoneTouched};
+    ghost use Rattle.shop_log.specs.Touched.{touched_disk, touched_of};
 
     /// A disk with no sector marked.
     pub fn new(disk: D) -> TouchedDisk<D>
