@@ -1,7 +1,7 @@
 -- What an open log's file is, and what follows of a commit and of the mark.
 use Rattle.std.proofs.Common.{◌≡◌, ◌⊎◌, ◌≤◌, ◌<◌, ◌+◌, ◌*◌, ◌∙◌, ℕ, List, [], ◌∷◌, Bool, Err, Ok, OnErr, OnOk, None, Option, Result, Some, ap, arith, false, get_or, inl, inr, length, replicate, slice_index, subst, sym, take, true, refl, eqb, not, ext_get_or, get_or-take, length-take-le}
-use Rattle.std.proofs.lemmas.Bool.{eq-eqb}
-use Rattle.std.proofs.lemmas.List.{length-replicate}
+use Rattle.std.proofs.lemmas.Bool.{eq-eqb, false≢true}
+use Rattle.std.proofs.lemmas.List.{get_or-replicate, length-replicate}
 use Rattle.std.proofs.lemmas.Option.{none-some}
 use Rattle.std.specs.List.{flat_map}
 use Rattle.d64_image.specs.Images.{Image}
@@ -152,3 +152,46 @@ module _ {F : Type 0} (h : FileHistory F) (old new : F) (end n : ℕ) (after : L
     based = λ g held. (rest_of g held).1;
     durable = λ g held. (rest_of g held).2;
   }
+
+-- every sector is touched
+pub all_touched : (n i : ℕ) → i < n → get_or (replicate n true) i false ≡ true
+all_touched n i low = get_or-replicate n i true false low
+
+-- a log that begins: zeros, and then the image as the first commit
+module _ {F : Type 0} {G : Ghosts F} (old mid new : F) (image : Image) (touched : List Bool) (n : ℕ) (sized : length image ≡ 683)
+    (all : (i : ℕ) → i < 683 → get_or touched i false ≡ true)
+    (empty : (f : List ℕ) → G.history.held old ≡ Some f → f ≡ [])
+    (laid : G.history.held old ≡ Some [] → (f : List ℕ) × Rests G.history mid f × IsLog f 0)
+    (unlaid : G.history.held old ≡ None → G.history.held mid ≡ None)
+    (unknown : G.history.held mid ≡ None → G.history.held new ≡ None)
+    (ok : (f : List ℕ) → Rests G.history mid f → IsLog f 0 → IsAppended G.history new f 0 n (brought touched image 683 (recovered f))) where
+  known_mid : (f : List ℕ) → G.history.held mid ≡ Some f → IsAppended G.history new f 0 n (brought touched image 683 (recovered f))
+  known_mid f held = elim (held_or_not (G.history.held old)) [
+    | inl none ↦ absurd (none-some f (sym (unlaid none) ∙ held))
+    | inr some ↦
+        let there = laid (some.1 ∙ ap Some (empty some.0 some.1)) in
+        let is = same_some there.0 f (sym there.1.held ∙ held) in
+        ok f (subst (Rests G.history mid) is there.1) (subst (λ (x : List ℕ). IsLog x 0) is there.2)
+  ]
+
+  pub begun_rest : IsAtRest G.history new n
+  begun_rest =
+      let e : 0 + n ≡ n = omega arith in
+      subst (IsAtRest G.history new) e
+      (rest_after G.history mid new 0 n (λ (f : List ℕ). brought touched image 683 (recovered f)) unknown known_mid)
+
+  pub begun_stands : (m : Log F G) → m.file ≡ new → (is_closed m → ⊥) → G.history.held old ≡ Some [] → StandsFor m image image
+  begun_stands m is opened known =
+      let there = laid known in
+      let f = there.0 in
+      let a = ok f there.1 there.2 in
+      let all_of_it : brought touched image 683 (recovered f) ≡ image = brought_all touched image (recovered f)
+          (length-replayed (block_at f) blank (committed (block_at f) (whole_blocks f)) ∙ length-replicate 683 (replicate {A = ℕ} 256 0)) sized
+          (λ i low none. absurd (false≢true (sym none ∙ all i low))) in
+      record {
+        is_open = opened;
+        bytes = a.bytes;
+        held = ap G.history.held is ∙ a.rests.held;
+        base = a.first refl ∙ all_of_it;
+        image = a.image ∙ all_of_it;
+      }

@@ -4,6 +4,7 @@ mod Commits
 mod Counting
 mod Ends
 mod Filled
+mod Laid
 mod Marked
 mod Moments
 mod Runs

@@ -1,6 +1,7 @@
 -- Nothing was touched; or the blocks were made, written behind the others and synced.
-use Rattle.std.proofs.Common.{◌≡◌, ◌∙◌, ℕ, List, sym}
+use Rattle.std.proofs.Common.{◌≡◌, ◌∙◌, ℕ, List, ap, length, sym}
 use Rattle.std.proofs.lemmas.Bool.{false≢true}
+use Rattle.std.proofs.lemmas.List.{with_items_is}
 use Rattle.shop_log.specs.Blocks.{brought}
 use Rattle.shop_log.specs.Recovered.{recovered}
 use Rattle.shop_log.proofs.Ends.{commit_moments, commit_stands, quiet_moments, quiet_stands, rest_after}
@@ -32,3 +33,9 @@ invariant_of-self-2-clause-rest g c whole =
 pub returns-clause-ok : goal.returns-clause-ok
 returns-clause-ok g c = commit_stands c.args.self.now c.args.now.now c.args.touched.now c.requires.sized c.requires.covers
     _ c.in_ok-n.n false≢true c.in_ok-n.ensures.ok
+
+pub invariant_of-self-2-clause-rooms : goal.invariant_of-self-2-clause-rooms
+invariant_of-self-2-clause-rooms g c =
+    let room = c.append_commit.new.room in
+    let is : length room ≡ c.args.self.now.room.len = c.append_commit.auto.room ∙ c.deref_mut.ensures.len in
+    ap length (with_items_is c.args.self.now.room room is) ∙ c.append_commit.ensures.room
