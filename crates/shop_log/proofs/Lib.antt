@@ -7,6 +7,7 @@ mod Filled
 mod Laid
 mod Marked
 mod Moments
+mod Remembered
 mod Runs
 mod Sealed
 mod Torn

@@ -1,7 +1,7 @@
 //! A log's file in memory.
 ghost use Rattle.std.specs.Prelude.{◌≡◌, ◌∷◌, OnErr, OnOk, false};
 ghost use Rattle.shop_log.specs.Files.{overwritten};
-ghost use Rattle.shop_log.specs.Memory.{seen_after};
+ghost use Rattle.shop_log.specs.MemCalls.{seen_after};
 ghost use Rattle.std.proofs.Props.{props};
 
 use crate::log_file::LogFile;
@@ -9,7 +9,7 @@ use std::alloc::Global;
 use std::io;
 
 /// A call on the file.
-#[derive(Debug, Drop)]
+#[derive(Drop)]
 pub enum MemCall {
     /// These bytes were written from that place on.
     Write(usize, Vec<u8>),
@@ -56,10 +56,11 @@ impl MemLog {
         self.bytes.as_slice()
     }
 
-    /// How many times it was synced.
-    pub fn syncs(&self) -> usize
+    /// How many calls it has kept.
+    pub fn calls(&self) -> usize
+        ensures { result ≡ memory.moment self.now }
     {
-        self.calls.iter().filter(|call| matches!(call, MemCall::Sync)).count()
+        self.calls.len()
     }
 }
 
