@@ -1,10 +1,10 @@
 -- The blocks that were made, joined, and what became of the file behind which they were written.
-use Rattle.std.proofs.Common.{◌≡◌, ◌≤◌, ◌<◌, ◌+◌, ◌*◌, ◌∙◌, ℕ, List, [], Result, ap, arith, get_or, refl, length, slice_index, subst, sym, take, get_or-take, length-take-le}
+use Rattle.std.proofs.Common.{◌≡◌, ◌≤◌, ◌<◌, ◌+◌, ◌*◌, ◌∙◌, ℕ, List, [], Result, ap, arith, get_or, refl, length, slice_index, take, get_or-take, length-take-le}
 use Rattle.std.specs.List.{flat_map}
 use Rattle.d64_image.specs.Images.{Image}
-use Rattle.shop_log.specs.Blocks.{IsCommit, block_at, first_commit, replayed}
+use Rattle.shop_log.specs.Blocks.{IsCommit, replayed}
 use Rattle.shop_log.specs.Files.{BringsBytes, FileHistory, LeavesOnly, Mixed, Rests, overwritten}
-use Rattle.shop_log.specs.Recovered.{IsAppended, IsLog, IsTorn, base_of, blank, recovered}
+use Rattle.shop_log.specs.Recovered.{IsAppended, IsLog, IsTorn, base_of, recovered}
 use Rattle.shop_log.proofs.Commits.{base_after, base_first, based_after, flat_at, log_after, recovered_after, unmarked}
 use Rattle.shop_log.proofs.Moments.{weaker}
 use Rattle.shop_log.proofs.Torn.{left}

@@ -1,7 +1,7 @@
 -- A write over a file at rest and a sync: the moments, and what is held at the end.
-use Rattle.std.proofs.Common.{◌≡◌, ◌≤◌, ◌<◌, ◌+◌, ◌∙◌, ℕ, List, OnErr, OnOk, Result, Ok, Err, Some, ap, arith, IsErr, length, slice_index, subst, sym, inl, inr, refl}
+use Rattle.std.proofs.Common.{◌≡◌, ◌≤◌, ◌+◌, ◌∙◌, ℕ, List, OnOk, Result, Ok, Err, Some, arith, IsErr, length, subst, sym, inl, refl}
 use Rattle.std.proofs.lemmas.Bool.{false≢true}
-use Rattle.shop_log.specs.Files.{BringsBytes, FileHistory, Follows, LeavesOnly, Mixed, Only, Rests, SyncsBytes, Tears, WritesBytes, overwritten}
+use Rattle.shop_log.specs.Files.{BringsBytes, FileHistory, LeavesOnly, Mixed, Only, Rests, SyncsBytes, Tears, WritesBytes, overwritten}
 use Rattle.shop_log.proofs.Moments.{goes_on, started}
 
 -- no byte of it came

@@ -1,14 +1,14 @@
 -- A commit that is all there: a log that stands for the image after it.
-use Rattle.std.proofs.Common.{◌≡◌, ◌≤◌, ◌<◌, ◌+◌, ◌-◌, ◌*◌, ◌++◌, ◌∙◌, ℕ, zero, suc, List, [], ◌∷◌, ap, arith, drop, false, get_or, inl, inr, length, refl, slice_index, subst, sym, take, true, mul-suc, get_or-take, get_or-drop, length-append, length-drop, length-take-le, not, eqb}
+use Rattle.std.proofs.Common.{◌≡◌, ◌≤◌, ◌<◌, ◌+◌, ◌-◌, ◌*◌, ◌++◌, ◌∙◌, ℕ, zero, suc, List, [], ◌∷◌, ap, arith, drop, false, get_or, inl, inr, length, refl, slice_index, sym, take, true, mul-suc, get_or-take, get_or-drop, length-append, length-drop, length-take-le, not}
 use Rattle.std.proofs.lemmas.Bool.{cases_lt, eq-eqb}
 use Rattle.std.proofs.lemmas.List.{get_or_append_left, get_or-append_right}
 use Rattle.std.specs.List.{flat_map}
 use Rattle.d64_image.specs.Images.{Image}
 use Rattle.shop_log.specs.Blocks.{IsCommit, block_at, committed, first_commit, is_last, is_whole, replayed}
 use Rattle.shop_log.specs.Files.{Mixed, overwritten}
-use Rattle.shop_log.specs.Recovered.{IsLeft, IsLog, base_end, base_of, blank, is_marked, recovered, whole_blocks}
+use Rattle.shop_log.specs.Recovered.{IsLog, base_end, base_of, blank, is_marked, recovered}
 use Rattle.shop_log.proofs.Runs.{block_by, committed_last, first_alike, first_few, first_here, first_later, first_none, first_stays, none_committed, replayed_alike, replayed_behind}
-use Rattle.shop_log.proofs.Torn.{base_end_is, left, recovered_is, same_before}
+use Rattle.shop_log.proofs.Torn.{base_end_is, recovered_is, same_before}
 
 step : (k q : ℕ) → k * suc q ≡ k + k * q
 step k q = mul-suc k q ∙ (omega arith)

@@ -1,11 +1,10 @@
 -- What an open log's file is, and what follows of a commit and of the mark.
-use Rattle.std.proofs.Common.{◌≡◌, ◌⊎◌, ◌≤◌, ◌<◌, ◌+◌, ◌*◌, ◌∙◌, ℕ, List, [], ◌∷◌, Bool, Err, Ok, OnErr, OnOk, None, Option, Result, Some, ap, arith, false, get_or, inl, inr, length, replicate, slice_index, subst, sym, take, true, refl, eqb, not, ext_get_or, get_or-take, length-take-le}
+use Rattle.std.proofs.Common.{◌≡◌, ◌⊎◌, ◌≤◌, ◌<◌, ◌+◌, ◌∙◌, ℕ, List, [], ◌∷◌, Bool, Err, Ok, OnOk, None, Option, Result, Some, ap, arith, false, get_or, inl, inr, length, replicate, slice_index, subst, sym, true, refl, not, ext_get_or}
 use Rattle.std.proofs.lemmas.Bool.{eq-eqb, false≢true}
 use Rattle.std.proofs.lemmas.List.{get_or-replicate, length-replicate}
 use Rattle.std.proofs.lemmas.Option.{none-some}
-use Rattle.std.specs.List.{flat_map}
 use Rattle.d64_image.specs.Images.{Image}
-use Rattle.shop_log.specs.Blocks.{IsCommit, block_at, brought, committed, first_commit, replayed}
+use Rattle.shop_log.specs.Blocks.{block_at, brought, committed, first_commit}
 use Rattle.shop_log.specs.Files.{BringsBytes, FileHistory, LeavesOnly, Mixed, Only, Rests, overwritten}
 use Rattle.shop_log.specs.Logs.{StandsFor, is_closed}
 use Rattle.shop_log.specs.Recovered.{IsAppended, IsAtRest, IsLeft, IsLog, IsTorn, base_end, base_of, blank, is_marked, recovered, whole_blocks}

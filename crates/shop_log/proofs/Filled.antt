@@ -1,5 +1,5 @@
 -- The sectors of a block that is filled, and of the blocks of a commit.
-use Rattle.std.proofs.Common.{◌≡◌, ◌≢◌, ◌≤◌, ◌<◌, ◌+◌, ◌*◌, ◌-◌, ◌∙◌, ℕ, zero, suc, Bool, List, [], ap, arith, cond, drop, false, get_or, inl, inr, length, min, refl, replicate, set, slice_index, subst, sym, take, true, ◌++◌, ext_get_or, length-take-le}
+use Rattle.std.proofs.Common.{◌≡◌, ◌≤◌, ◌<◌, ◌+◌, ◌*◌, ◌∙◌, ℕ, zero, suc, Bool, List, [], ap, arith, cond, drop, false, get_or, inl, inr, length, min, refl, replicate, set, slice_index, subst, sym, take, true, ◌++◌, ext_get_or, length-take-le}
 use Rattle.std.proofs.lemmas.Bool.{cases_Bool, cases_eq, cases_lt, cond-false, cond-true}
 use Rattle.std.proofs.lemmas.List.{drop_at, get_or-replicate, get_or-set_other, get_or-set_same, length-replicate, length-set, set_past, take_at}
 use Rattle.d64_image.specs.Images.{Image}

@@ -1,5 +1,5 @@
 -- A file of zeros is an empty log.
-use Rattle.std.proofs.Common.{◌≡◌, ◌≤◌, ◌<◌, ◌+◌, ◌*◌, ◌++◌, ◌∙◌, ℕ, List, [], Option, Some, None, Result, Ok, Err, OnOk, ap, arith, drop, inl, inr, length, refl, replicate, slice_index, sym, take, get_or-take, get_or-drop, length-append, length-drop, length-take-le, length-take}
+use Rattle.std.proofs.Common.{◌≡◌, ◌≤◌, ◌+◌, ◌*◌, ◌++◌, ◌∙◌, ℕ, List, [], Option, Some, Result, Ok, Err, OnOk, arith, drop, inl, inr, length, refl, replicate, slice_index, take, get_or-take, get_or-drop, length-append, length-drop, length-take-le, length-take}
 use Rattle.std.proofs.lemmas.Bool.{cases_lt}
 use Rattle.std.proofs.lemmas.List.{get_or-replicate, get_or_append_left, get_or-append_right, get_or_past, length-replicate}
 use Rattle.shop_log.specs.Blocks.{block_at}

@@ -2,10 +2,9 @@
 use Rattle.std.proofs.Common.{◌≡◌, ◌≤◌, ◌<◌, ◌+◌, ◌*◌, ◌∙◌, ℕ, List, [], ◌∷◌, ap, arith, length, slice_index, sym, eqb, true, not, inl}
 use Rattle.shop_log.specs.Blocks.{block_at, committed, first_commit, replayed}
 use Rattle.shop_log.specs.Files.{Mixed, overwritten}
-use Rattle.shop_log.specs.Recovered.{IsLeft, IsLog, base_end, base_of, blank, is_marked, recovered, whole_blocks}
+use Rattle.shop_log.specs.Recovered.{IsLeft, base_end, base_of, blank, is_marked, recovered, whole_blocks}
 use Rattle.shop_log.proofs.Commits.{new_each}
 use Rattle.shop_log.proofs.Runs.{block_is, committed_alike, committed_few, first_alike, first_few, replayed_alike, same_parts, whole_alike, whole_few}
-use Rattle.shop_log.proofs.Torn.{base_end_is}
 
 module _ (f : List ℕ) (size : length f ≡ 4198400) where
   module _ (c : List ℕ) (mixed : Mixed 4194304 (1 ∷ []) f c) where

@@ -1,9 +1,9 @@
 -- What a file in memory keeps of its calls.
-use Rattle.std.proofs.Common.{◌≡◌, ◌⊎◌, ◌≤◌, ◌<◌, ◌+◌, ◌∙◌, ℕ, zero, suc, List, [], ◌∷◌, Bool, Err, None, Ok, IsErr, OnErr, OnOk, Option, Result, Some, Vec, ap, arith, drop, inl, inr, length, refl, subst, sym, true, false}
+use Rattle.std.proofs.Common.{◌≡◌, ◌⊎◌, ◌≤◌, ◌∙◌, ℕ, zero, suc, List, [], ◌∷◌, Err, None, Ok, IsErr, OnErr, OnOk, Option, Result, Some, Vec, ap, arith, inl, inr, length, refl, subst, sym, true, false}
 use Rattle.std.proofs.lemmas.Bool.{false≢true}
 use Rattle.std.proofs.lemmas.Option.{none-some}
 use Rattle.std.specs.declared.alloc.Global.{Global}
-use Rattle.shop_log.specs.Files.{Elapses, Follows, Mixed, NotesFailure, Only, SyncsBytes, Tears, WritesBytes, overwritten}
+use Rattle.shop_log.specs.Files.{Elapses, Follows, SyncsBytes, Tears, WritesBytes, overwritten}
 use Rattle.shop_log.specs.MemCalls.{left_after, leaves, seen_after}
 use Rattle.shop_log.specs.Memory.{memory}
 use Rattle.shop_log.specs.declared.mem_log.MemCall.{MemCall}

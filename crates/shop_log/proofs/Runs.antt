@@ -1,6 +1,6 @@
 -- Blocks one after another: how far whole ones and commits reach, and what they stand for, by the blocks alone.
-use Rattle.std.proofs.Common.{◌≡◌, ◌≢◌, ℕ, zero, suc, ◌+◌, ◌-◌, ◌*◌, ◌<◌, ◌≤◌, Bool, true, false, cond, eqb, List}
-use Rattle.std.proofs.Common.{[], ◌++◌, length, slice_index, get_or, take, drop, sym, refl, ◌∙◌, ap, inl, inr, arith, rules, ext_get_or, get_or-take, get_or-drop}
+use Rattle.std.proofs.Common.{◌≡◌, ℕ, zero, suc, ◌+◌, ◌-◌, ◌*◌, ◌<◌, ◌≤◌, true, false, cond, eqb, List}
+use Rattle.std.proofs.Common.{length, slice_index, drop, sym, refl, ◌∙◌, ap, inl, inr, arith, rules, ext_get_or, get_or-take, get_or-drop}
 use Rattle.std.proofs.lemmas.Bool.{cases_Bool, cases_eq, cond-true, cond-false, eq-eqb, eqb-true, false≢true, ne_eqb}
 use Rattle.std.proofs.lemmas.List.{places}
 use Rattle.d64_image.specs.Images.{Image}

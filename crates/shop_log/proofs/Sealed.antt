@@ -6,7 +6,6 @@ use Rattle.std.specs.Prelude.{bytes_eq}
 use Rattle.sha2.specs.Sha256.{sha256}
 use Rattle.shop_log.specs.Blocks.{counts, matches, pair_at, part, zeros_in}
 use Rattle.shop_log.proofs.Counting.{zeros_alike}
-use Rattle.shop_log.proofs.Runs.{same_parts}
 
 pub same_drop : (x y : List ℕ) (k : ℕ) → length x ≡ length y → ((i : ℕ) → k ≤ i → slice_index x i ≡ slice_index y i)
     → drop k x ≡ drop k y

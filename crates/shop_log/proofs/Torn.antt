@@ -1,13 +1,13 @@
 -- What a torn commit leaves: of its blocks those up to the first that isn't all there, and nothing behind.
-use Rattle.std.proofs.Common.{◌≡◌, ◌⊎◌, ℕ, zero, suc, ◌+◌, ◌-◌, ◌*◌, ◌<◌, ◌≤◌, true, false, List, length, slice_index, sym, ◌∙◌}
+use Rattle.std.proofs.Common.{◌≡◌, ◌⊎◌, ℕ, zero, suc, ◌+◌, ◌-◌, ◌*◌, ◌<◌, ◌≤◌, true, List, length, slice_index, sym, ◌∙◌}
 use Rattle.std.proofs.Common.{ap, inl, inr, arith}
-use Rattle.std.proofs.lemmas.Bool.{and_parts, cases_lt, cases_Bool}
+use Rattle.std.proofs.lemmas.Bool.{and_parts, cases_lt}
 use Rattle.d64_image.specs.Images.{Image}
 use Rattle.shop_log.specs.Blocks.{IsCommit, block_at, committed, counts, first_commit, is_last, is_whole, replayed, whole_from}
 use Rattle.shop_log.specs.Files.{Mixed}
 use Rattle.shop_log.specs.Recovered.{IsLeft, IsLog, base_end, base_of, blank, recovered, whole_blocks}
 use Rattle.shop_log.proofs.Counting.{Faint, all_or_nothing, blank_counts}
-use Rattle.shop_log.proofs.Runs.{block_by, committed_last, committed_more, first_alike, first_few, first_stays, length-block, replayed_alike, replayed_behind, same_parts, slice_index-block, whole_add, whole_below, whole_few, committed_alike, block_is}
+use Rattle.shop_log.proofs.Runs.{committed_last, committed_more, first_alike, first_few, first_stays, length-block, replayed_alike, replayed_behind, same_parts, slice_index-block, whole_add, whole_below, committed_alike, block_is}
 
 counts_of : (place : ℕ) (b : List ℕ) → is_whole place b ≡ true → counts b ≡ true
 counts_of place b is = (and_parts (counts b) _ is).0

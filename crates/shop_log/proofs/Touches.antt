@@ -1,6 +1,6 @@
 -- A sector that is written is marked, and each other one stays as it was.
-use Rattle.std.proofs.Common.{◌≡◌, ◌≢◌, ◌≤◌, ◌<◌, ◌∙◌, ℕ, List, Bool, [], false, true, OnErr, OnOk, Result, Ok, Err, ap, arith, get_or, inl, inr, length, replicate, set, subst, sym}
-use Rattle.std.proofs.lemmas.Bool.{cases_eq, cases_lt, false≢true}
+use Rattle.std.proofs.Common.{◌≡◌, ◌≢◌, ◌<◌, ◌∙◌, ℕ, List, Bool, [], false, true, OnErr, OnOk, Result, Ok, Err, ap, arith, get_or, inl, inr, length, replicate, set, subst, sym}
+use Rattle.std.proofs.lemmas.Bool.{cases_lt, false≢true}
 use Rattle.std.proofs.lemmas.List.{get_or-replicate, get_or-set_other, get_or-set_same, get_or_past, length-replicate}
 use Rattle.d64_image.specs.Calls.{WritesSector}
 use Rattle.d64_image.specs.History.{History, OldOr, TellsFailure}

@@ -1,4 +1,4 @@
-use Rattle.std.proofs.Common.{List, ℕ, refl, ap, ◌∙◌}
+use Rattle.std.proofs.Common.{refl, ap, ◌∙◌}
 use Rattle.sha2.specs.Sha256.{sha256}
 use Rattle.shop_log.proofs.Sealed.{behind_is}
 use Rattle.shop_log.proofs.blocks.digest.Goals as goal

@@ -1,5 +1,5 @@
-use Rattle.std.proofs.Common.{rules, arith, ◌∙◌}
-use Rattle.std.proofs.lemmas.Slice.{between-put_mid, drop-put_mid, overwrites}
+use Rattle.std.proofs.Common.{rules}
+use Rattle.std.proofs.lemmas.Slice.{overwrites}
 use Rattle.shop_log.proofs.blocks.put_digest.Goals as goal
 
 pub returns-clause-digest : goal.returns-clause-digest

@@ -1,5 +1,4 @@
 -- The moments of the write and the sync are those of a torn commit.
-use Rattle.std.proofs.Common.{ℕ}
 use Rattle.d64_image.specs.Images.{Image}
 use Rattle.shop_log.specs.Blocks.{brought}
 use Rattle.shop_log.proofs.Appended.{appended, has_room, torn_moments}

@@ -1,7 +1,7 @@
 -- One block more: it stands at the next place, and those before stay.
-use Rattle.std.proofs.Common.{◌+◌, ◌*◌, ◌∙◌, ◌<◌, ◌≡◌, ℕ, List, [], ap, arith, false, length, slice_index_or, sym, true}
+use Rattle.std.proofs.Common.{◌+◌, ◌∙◌, ◌<◌, ◌≡◌, ℕ, List, [], ap, arith, false, length, slice_index_or, sym, true}
 use Rattle.std.proofs.lemmas.List.{length-set}
-use Rattle.shop_log.specs.Blocks.{brought, is_last, is_whole, replayed, written}
+use Rattle.shop_log.specs.Blocks.{brought, is_last, is_whole, written}
 use Rattle.shop_log.proofs.Filled.{all_wide, brought_none, one_more, replayed_more}
 use Rattle.shop_log.proofs.Runs.{replayed_none}
 use Rattle.shop_log.proofs.filling.fill.Goals as goal

@@ -1,7 +1,7 @@
 -- The digest and the count leave what is behind them.
-use Rattle.std.proofs.Common.{◌∙◌, ◌*◌, ◌≤◌, ℕ, List, ap, arith, eqb, sym}
+use Rattle.std.proofs.Common.{◌∙◌, ◌≤◌, ℕ, ap, arith, eqb}
 use Rattle.std.proofs.lemmas.Bool.{and_from, eq-eqb, ne_eqb}
-use Rattle.shop_log.specs.Blocks.{brought, is_last, pair_at, with_sectors}
+use Rattle.shop_log.specs.Blocks.{brought, pair_at, with_sectors}
 use Rattle.shop_log.proofs.Filled.{with_alike}
 use Rattle.shop_log.proofs.Sealed.{by_drop}
 use Rattle.shop_log.proofs.filling.make_block.Goals as goal

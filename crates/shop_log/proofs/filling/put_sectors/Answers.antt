@@ -1,5 +1,5 @@
 -- A touched sector is one more of the block, and one more that is brought.
-use Rattle.std.proofs.Common.{◌+◌, ◌∙◌, ℕ, List, [], ap, arith, slice_index_or, slice_set, sym}
+use Rattle.std.proofs.Common.{◌∙◌, ℕ, List, [], ap, arith, slice_index_or, slice_set, sym}
 use Rattle.d64_image.specs.Images.{Image}
 use Rattle.shop_log.specs.Blocks.{brought, with_sectors}
 use Rattle.shop_log.proofs.Filled.{brought_more, brought_same, with_none}

@@ -1,5 +1,5 @@
 -- One block of zeros more.
-use Rattle.std.proofs.Common.{◌≡◌, ◌∙◌, arith, refl}
+use Rattle.std.proofs.Common.{arith, refl}
 use Rattle.shop_log.proofs.Laid.{laid_more, laid_ok, laid_none}
 use Rattle.shop_log.proofs.laying_out.lay_out.Goals as goal
 

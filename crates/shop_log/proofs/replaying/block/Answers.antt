@@ -1,4 +1,4 @@
-use Rattle.std.proofs.Common.{◌∙◌, ◌*◌, ◌+◌, ◌-◌, ◌≡◌, ℕ, List, ap, arith, drop, take}
+use Rattle.std.proofs.Common.{◌∙◌, ◌*◌, ◌+◌, ◌-◌, ◌≡◌, ℕ, ap, arith, drop, take}
 use Rattle.shop_log.proofs.replaying.block.Goals as goal
 
 pub returns : goal.returns

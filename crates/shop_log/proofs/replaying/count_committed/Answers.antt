@@ -1,5 +1,5 @@
 -- A block that ends no commit is passed over.
-use Rattle.std.proofs.Common.{◌≡◌, ◌-◌, ℕ, suc, sym, ap, ◌∙◌, arith}
+use Rattle.std.proofs.Common.{◌≡◌, ◌-◌, suc, sym, ap, ◌∙◌, arith}
 use Rattle.shop_log.specs.Blocks.{block_at, committed}
 use Rattle.shop_log.proofs.Runs.{committed_last, committed_more, committed_none}
 use Rattle.shop_log.proofs.replaying.count_committed.Goals as goal

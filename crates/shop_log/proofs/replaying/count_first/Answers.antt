@@ -1,5 +1,5 @@
 -- The first block that ends a commit, and after it nothing changes.
-use Rattle.std.proofs.Common.{◌≡◌, ◌<◌, ◌+◌, ◌-◌, ℕ, suc, sym, ap, ◌∙◌, arith}
+use Rattle.std.proofs.Common.{◌≡◌, ◌+◌, ◌-◌, suc, sym, ap, ◌∙◌, arith}
 use Rattle.shop_log.specs.Blocks.{block_at, first_commit}
 use Rattle.shop_log.proofs.Runs.{first_here, first_later, first_none, first_stays}
 use Rattle.shop_log.proofs.replaying.count_first.Goals as goal

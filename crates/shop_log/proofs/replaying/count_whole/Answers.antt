@@ -1,5 +1,5 @@
 -- One whole block more, or the first that isn't.
-use Rattle.std.proofs.Common.{◌≡◌, ◌+◌, ◌-◌, ℕ, List, suc, true, false, sym, ◌∙◌, ap, arith}
+use Rattle.std.proofs.Common.{◌≡◌, ◌+◌, ◌-◌, suc, true, false, sym, ◌∙◌, ap, arith}
 use Rattle.shop_log.specs.Blocks.{block_at, is_whole, whole_from}
 use Rattle.shop_log.proofs.Runs.{whole_here, whole_none, whole_stops}
 use Rattle.shop_log.proofs.replaying.count_whole.Goals as goal

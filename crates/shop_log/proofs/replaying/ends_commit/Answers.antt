@@ -1,4 +1,4 @@
-use Rattle.std.proofs.Common.{◌∙◌, ℕ, ap, arith, eqb, sym}
+use Rattle.std.proofs.Common.{ℕ, ap, arith, eqb, sym}
 use Rattle.shop_log.proofs.Runs.{slice_index-block}
 use Rattle.shop_log.proofs.replaying.ends_commit.Goals as goal
 

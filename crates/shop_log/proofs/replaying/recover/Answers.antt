@@ -1,7 +1,7 @@
 -- There is a last commit where there is a first one.
-use Rattle.std.proofs.Common.{◌<◌, ◌≡◌, ◌∙◌, ap, arith, inl, inr}
+use Rattle.std.proofs.Common.{◌≡◌, ◌∙◌, ap, arith, inl, inr}
 use Rattle.std.proofs.lemmas.Bool.{cases_lt, ltb-true, lt-ltb}
-use Rattle.shop_log.specs.Blocks.{block_at, committed, first_commit}
+use Rattle.shop_log.specs.Blocks.{block_at, committed}
 use Rattle.shop_log.specs.Recovered.{base_end, whole_blocks}
 use Rattle.shop_log.proofs.Runs.{none_committed, some_committed}
 use Rattle.shop_log.proofs.replaying.recover.Goals as goal

@@ -1,6 +1,5 @@
 -- One sector of zeros more.
-use Rattle.std.proofs.Common.{◌+◌, ◌<◌, ◌≡◌, ◌∙◌, ℕ, [], arith, ext_get_or, inl, inr, length, refl, replicate, slice_index_or, slice_set, sym}
-use Rattle.std.proofs.lemmas.List.{length-replicate}
+use Rattle.std.proofs.Common.{◌≡◌, ◌∙◌, arith, refl, replicate}
 use Rattle.shop_log.proofs.Filled.{all_same, one_more}
 use Rattle.shop_log.proofs.replaying.wipe.Goals as goal
 

@@ -1,5 +1,5 @@
 -- Zeros, and then the image as the first commit.
-use Rattle.std.proofs.Common.{◌≡◌, ◌∙◌, ◌≤◌, ap, arith, length, refl, replicate, true}
+use Rattle.std.proofs.Common.{◌≡◌, ◌∙◌, ap, length, refl, replicate, true}
 use Rattle.std.proofs.lemmas.Bool.{false≢true}
 use Rattle.std.proofs.lemmas.List.{with_items_is}
 use Rattle.shop_log.proofs.Ends.{all_touched, begun_rest, begun_stands}

@@ -1,7 +1,4 @@
 -- The byte behind the blocks is written, and synced.
-use Rattle.std.proofs.Common.{◌≡◌, ◌∙◌, List, ℕ, [], ◌∷◌, ap, arith, length, subst, sym}
-use Rattle.shop_log.specs.Files.{Mixed}
-use Rattle.shop_log.specs.Recovered.{IsLeft, is_marked}
 use Rattle.shop_log.proofs.Ends.{marks, mark_moments}
 use Rattle.shop_log.proofs.log.Log.mark.Goals as goal
 

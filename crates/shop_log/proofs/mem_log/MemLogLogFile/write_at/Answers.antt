@@ -1,4 +1,4 @@
-use Rattle.std.proofs.Common.{refl, sym, ◌∙◌}
+use Rattle.std.proofs.Common.{refl, sym}
 use Rattle.shop_log.proofs.Remembered.{wrote_err, wrote_ok}
 use Rattle.shop_log.proofs.mem_log.MemLogLogFile.write_at.Goals as goal
 
