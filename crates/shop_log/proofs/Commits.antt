@@ -100,7 +100,7 @@ module _ (f : List ℕ) (end : ℕ) (log : IsLog f end) (B : ℕ → List ℕ) (
         let q = commit.some.0 in
         let e : end + n ≡ suc (end + q) = omega (arith, commit.some.1) in
         let last : is_last (block_at new (end + q)) ≡ true =
-            ap is_last (new_block q (omega (arith, commit.some.1))) ∙ commit.last q (sym commit.some.1) in
+        ap is_last (new_block q (omega (arith, commit.some.1))) ∙ commit.last q (sym commit.some.1) in
         ap (committed (block_at new)) e ∙ committed_last (block_at new) (end + q) last ∙ sym e;
     zeros = λ i from. new_after f (4096 * end) bytes fits i (omega (arith, from, long)) ∙ log.zeros i (omega (arith, from));
   }
@@ -137,15 +137,15 @@ module _ (f : List ℕ) (end : ℕ) (log : IsLog f end) (B : ℕ → List ℕ) (
       let q = commit.some.0 in
       let e : end + n ≡ suc (end + q) = omega (arith, commit.some.1) in
       let ends : first_commit (block_at new) (end + n) ≡ end + n =
-          ap (first_commit (block_at new)) e
-          ∙ first_here (block_at new) (end + q) (none_yet start q (omega (arith, commit.some.1)))
-          (ap is_last (new_block q (omega (arith, commit.some.1))) ∙ commit.last q (sym commit.some.1)) ∙ sym e in
+      ap (first_commit (block_at new)) e
+      ∙ first_here (block_at new) (end + q) (none_yet start q (omega (arith, commit.some.1)))
+      (ap is_last (new_block q (omega (arith, commit.some.1))) ∙ commit.last q (sym commit.some.1)) ∙ sym e in
       ap (replayed (block_at new) blank) (base_end_is new (end + n) log_after ∙ ends) ∙ sym (recovered_is new (end + n) log_after)
 
   pub base_after : 0 < first_commit (block_at f) end → base_of new ≡ base_of f
   base_after some =
       let ends : base_end new ≡ first_commit (block_at f) end =
-          base_end_is new (end + n) log_after ∙ first_stays (block_at new) end n (omega (arith, some, first_after)) ∙ first_after in
+      base_end_is new (end + n) log_after ∙ first_stays (block_at new) end n (omega (arith, some, first_after)) ∙ first_after in
       let few = first_few (block_at f) end in
       ap (replayed (block_at new) blank) ends
       ∙ replayed_alike (block_at new) (block_at f) blank (first_commit (block_at f) end) (λ q low. old_block q (omega (arith, low, few)))

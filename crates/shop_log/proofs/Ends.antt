@@ -65,8 +65,8 @@ module _ {F : Type 0} {G : Ghosts F} (l : Log F G) (now : Image) (touched : List
   quiet : before ≡ now
   quiet =
       let long : length before ≡ 683 = ap length (sym s.image)
-          ∙ length-replayed (block_at s.bytes) blank (committed (block_at s.bytes) (whole_blocks s.bytes))
-          ∙ length-replicate 683 (replicate {A = ℕ} 256 0) in
+      ∙ length-replayed (block_at s.bytes) blank (committed (block_at s.bytes) (whole_blocks s.bytes))
+      ∙ length-replicate 683 (replicate {A = ℕ} 256 0) in
       ext_get_or [] before now (long ∙ sym sized) (λ i low. covers i (omega (arith, low, long)) (none i))
 
   pub quiet_stands : StandsFor l start now
@@ -94,41 +94,41 @@ unfolding the_some
 same_some x y e = ap (the_some x) e
 
 -- a commit over an open log
-module _ {F : Type 0} {G : Ghosts F} (l : Log F G) (now : Image) (touched : List Bool) (sized : length now ≡ 683)
-    (covers : (start before : Image) → StandsFor l start before → Covers touched before now) where
-  made : (start before : Image) (s : StandsFor l start before) → brought touched now 683 (recovered s.bytes) ≡ now
-  made start before s = brought_all touched now (recovered s.bytes)
+module _ {F : Type 0} {G : Ghosts F} (l : Log F G) (now : Image) (touched : List Bool) (sized : length now ≡ 683) where
+  made : (start before : Image) (s : StandsFor l start before) → Covers touched before now
+      → brought touched now 683 (recovered s.bytes) ≡ now
+  made start before s covers = brought_all touched now (recovered s.bytes)
       (length-replayed (block_at s.bytes) blank (committed (block_at s.bytes) (whole_blocks s.bytes))
       ∙ length-replicate 683 (replicate {A = ℕ} 256 0)) sized
-      (subst (λ (i : Image). Covers touched i now) (sym s.image) (covers start before s))
+      (subst (λ (i : Image). Covers touched i now) (sym s.image) covers)
 
   pub commit_moments : (new : F) → ((f : List ℕ) → Rests G.history l.file f → IsLog f l.end
       → LeavesOnly G.history l.file new (IsTorn f l.end (brought touched now 683 (recovered f))))
-      → (start before : Image) → StandsFor l start before
+      → (start before : Image) → StandsFor l start before → Covers touched before now
       → LeavesOnly G.history l.file new (λ c. IsLeft start before now c × (is_marked c ≡ false))
-  commit_moments new moments start before s =
+  commit_moments new moments start before s covers =
       let f = s.bytes in
       weaker G.history l.file new (IsTorn f l.end (brought touched now 683 (recovered f)))
       (λ c. IsLeft start before now c × (is_marked c ≡ false))
       (λ c torn. (
         subst (λ (b : Image). IsLeft b before now c) s.base
-        (subst (λ (i : Image). IsLeft (base_of f) i now c) s.image
-        (subst (λ (i : Image). IsLeft (base_of f) (recovered f) i c) (made start before s) (torn.left (based l start before s)))),
+            (subst (λ (i : Image). IsLeft (base_of f) i now c) s.image
+            (subst (λ (i : Image). IsLeft (base_of f) (recovered f) i c) (made start before s covers) (torn.left (based l start before s)))),
         torn.unmarked,
       ))
       (moments f (at_rest l start before s) (is_log l start before s))
 
   pub commit_stands : (m : Log F G) (n : ℕ) → (is_closed m → ⊥) → ((f : List ℕ) → Rests G.history l.file f → IsLog f l.end
       → IsAppended G.history m.file f l.end n (brought touched now 683 (recovered f)))
-      → (start before : Image) → StandsFor l start before → StandsFor m start now
-  commit_stands m n opened appended start before s =
+      → (start before : Image) → StandsFor l start before → Covers touched before now → StandsFor m start now
+  commit_stands m n opened appended start before s covers =
       let a = appended s.bytes (at_rest l start before s) (is_log l start before s) in
       record {
         is_open = opened;
         bytes = a.bytes;
         held = a.rests.held;
         base = a.base (based l start before s) ∙ s.base;
-        image = a.image ∙ made start before s;
+        image = a.image ∙ made start before s covers;
       }
 
 -- what is known of the file after a commit was known before
@@ -185,8 +185,8 @@ module _ {F : Type 0} {G : Ghosts F} (old mid new : F) (image : Image) (touched 
       let f = there.0 in
       let a = ok f there.1 there.2 in
       let all_of_it : brought touched image 683 (recovered f) ≡ image = brought_all touched image (recovered f)
-          (length-replayed (block_at f) blank (committed (block_at f) (whole_blocks f)) ∙ length-replicate 683 (replicate {A = ℕ} 256 0)) sized
-          (λ i low none. absurd (false≢true (sym none ∙ all i low))) in
+      (length-replayed (block_at f) blank (committed (block_at f) (whole_blocks f)) ∙ length-replicate 683 (replicate {A = ℕ} 256 0)) sized
+      (λ i low none. absurd (false≢true (sym none ∙ all i low))) in
       record {
         is_open = opened;
         bytes = a.bytes;

@@ -28,7 +28,7 @@ with_alike x y long_x long_y (suc n) few pairs bytes image =
     let high = pairs (16 + 2 * n + 1) (omega arith) (omega arith) in
     let index : pair_at x (16 + 2 * n) ≡ pair_at y (16 + 2 * n) = omega (arith, low, high) in
     let same = same_parts x y (64 + 256 * n) (64 + 256 * n) 256 (omega (arith, long_x, few)) (omega (arith, long_y, few))
-        (λ i small. bytes (64 + 256 * n + i) (omega arith) (omega arith)) in
+    (λ i small. bytes (64 + 256 * n + i) (omega arith) (omega arith)) in
     with_suc x n image
     ∙ ap (λ (s : Image). set s (pair_at x (16 + 2 * n)) (part x (64 + 256 * n) 256)) rest
     ∙ ap (λ (k : ℕ). set (with_sectors y n image) k (part x (64 + 256 * n) 256)) index

@@ -31,10 +31,10 @@ module _ (a b : MemLog) (firsts : b.first.items ≡ a.first.items) where
     nothing_else = λ t c le left. elim (more_left a.first.items call a.calls.items t c le
         (subst (λ (calls : List MemCall). left_after a.first.items calls t c) more
         (subst (λ (f : List ℕ). left_after f b.calls.items t c) firsts left))) [
-      | inl was ↦ inl was
-      | inr now ↦ inr (subst (λ (f : List ℕ). leaves f b.calls.items c) (sym firsts)
-          (subst (λ (calls : List MemCall). leaves a.first.items calls c) (sym more) now))
-    ];
+          | inl was ↦ inl was
+          | inr now ↦ inr (subst (λ (f : List ℕ). leaves f b.calls.items c) (sym firsts)
+              (subst (λ (calls : List MemCall). leaves a.first.items calls c) (sym more) now))
+        ];
   }
 
 -- a power loss may leave all that was written
@@ -91,7 +91,7 @@ module _ (a b : MemLog) (firsts : b.first.items ≡ a.first.items) where
       → b.calls.items ≡ Sync ∷ a.calls.items → SyncsBytes {E = E} memory a b (Ok t)
   synced_ok t whole same passed more =
       let here = λ (c : List ℕ) (left : leaves b.first.items b.calls.items c).
-          subst (λ (calls : List MemCall). leaves a.first.items calls c) more (subst (λ (f : List ℕ). leaves f b.calls.items c) firsts left) in
+      subst (λ (calls : List MemCall). leaves a.first.items calls c) more (subst (λ (f : List ℕ). leaves f b.calls.items c) firsts left) in
       record {
         held = ap Some same;
         ok = λ f known c left. here c left ∙ sym (a.seen whole) ∙ same_bytes a.bytes.items f known;

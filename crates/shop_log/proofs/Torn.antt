@@ -111,7 +111,7 @@ module _ (f : List ℕ) (end : ℕ) (log : IsLog f end) (B : ℕ → List ℕ) (
         let q = commit.some.0 in
         let e : end + n ≡ suc (end + q) = omega (arith, commit.some.1) in
         let last : is_last (block_at c (end + q)) ≡ true =
-            ap is_last (same_behind q (omega (arith, commit.some.1, there))) ∙ commit.last q (sym commit.some.1) in
+        ap is_last (same_behind q (omega (arith, commit.some.1, there))) ∙ commit.last q (sym commit.some.1) in
         ap (committed (block_at c)) e ∙ committed_last (block_at c) (end + q) last ∙ sym e
 
     before_is : replayed (block_at c) blank end ≡ replayed (block_at f) blank end

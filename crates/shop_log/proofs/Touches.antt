@@ -58,7 +58,7 @@ pub write_touches : {D T E : Type 0} (h : History D) (a b : TouchedDisk D) (p : 
 write_touches h a b p bytes fault result k is long marks writes =
     let came = came_of (h.image (touched_disk a)) (put (h.image (touched_disk a)) p bytes) (h.image (touched_disk b)) result writes.ok writes.err in
     let keeps : KeepsCover h a b = λ before covers. subst (λ (t : List Bool). Covers t before (h.image (touched_disk b))) (sym marks)
-        (covers_more (touched_of a) p k (h.image (touched_disk a)) (h.image (touched_disk b)) before bytes is long came covers) in
+    (covers_more (touched_of a) p k (h.image (touched_disk a)) (h.image (touched_disk b)) before bytes is long came covers) in
     record {
       ok = writes.ok;
       err = writes.err;

@@ -75,17 +75,19 @@ impl<F: LogFile> Log<F> {
         self.end + MOST > BLOCKS
     }
 
-    /// Makes the image as it is now last, by the sectors that were touched since the last commit. They are written
-    /// behind the commits before, and synced. It writes nothing if none was touched. At an error the log is closed.
+    /// Makes the image as it is now durable, by the sectors that were touched since the last commit: `touched[i]` says
+    /// so of the sector with index i. They are written behind the commits before, and synced. If none was touched,
+    /// nothing is written. At an error the log is closed, and stands for the image before or after.
     pub fn commit(&mut self, now: &[[u8; 256]], touched: &[bool; 683]) -> io::Result<()>
         requires sized { length now.now ≡ 683 }
         requires room { log_end self.old + 46 ≤ 1024 }
-        requires covers { (base before : Image) → StandsFor self.old base before → Covers touched.now before now.now }
-        ensures ok { OnOk result ((base before : Image) → StandsFor self.old base before → StandsFor self.new base now.now) }
-        // a power loss at any moment leaves the image before the commit or after it
-        ensures any_moment { (base before : Image) → StandsFor self.old base before
+        // every sector that changed is among those
+        ensures ok { OnOk result ((start before : Image) → StandsFor self.old start before
+            → Covers touched.now before now.now → StandsFor self.new start now.now) }
+        // a power loss at any moment leaves the image before the commit or after it, and the same base
+        ensures any_moment { (start before : Image) → StandsFor self.old start before → Covers touched.now before now.now
             → LeavesOnly F.history (log_file self.old) (log_file self.new)
-            (λ c. IsLeft base before now.now c × (is_marked c ≡ false)) }
+            (λ c. IsLeft start before now.now c × (is_marked c ≡ false)) }
         ensures refused { is_closed self.old → IsErr result × (log_file self.new ≡ log_file self.old) }
         ensures quiet { NoneTouched touched.now → log_file self.new ≡ log_file self.old }
         ensures err { OnErr result (is_closed self.new) }
@@ -106,11 +108,11 @@ impl<F: LogFile> Log<F> {
 
     /// Marks that the image is being brought to its own file from here on, and closes the log.
     pub fn mark(&mut self) -> io::Result<()>
-        ensures marked { OnOk result ((base image : Image) → StandsFor self.old base image
+        ensures marked { OnOk result ((start now : Image) → StandsFor self.old start now
             → (c : List ℕ) → F.history.may_leave (log_file self.new) c → is_marked c ≡ true) }
         // a power loss at any moment leaves the same image
-        ensures any_moment { (base image : Image) → StandsFor self.old base image
-            → LeavesOnly F.history (log_file self.old) (log_file self.new) (IsLeft base image image) }
+        ensures any_moment { (start now : Image) → StandsFor self.old start now
+            → LeavesOnly F.history (log_file self.old) (log_file self.new) (IsLeft start now now) }
         ensures closed { is_closed self.new }
         ensures refused { is_closed self.old → IsErr result × (log_file self.new ≡ log_file self.old) }
         ensures cause { OnErr result (is_closed self.old ⊎ (F.history.has_failed (log_file self.new) ≡ true)) }

@@ -12,11 +12,11 @@ returns-clause-matches c =
     let x = c.put_digest.new.block in
     let y = c.put_pair.new.block in
     let same = same_parts x y 2 2 8 (omega (arith, c.put_digest.array_long)) (omega (arith, c.put_pair.array_long))
-        (λ i low. sym (c.put_pair.ensures.behind (2 + i) (omega arith))) in
+    (λ i low. sym (c.put_pair.ensures.behind (2 + i) (omega arith))) in
     let behind = same_drop x y 10 (c.put_digest.array_long ∙ sym c.put_pair.array_long)
-        (λ i low. sym (c.put_pair.ensures.behind i (omega arith))) in
+    (λ i low. sym (c.put_pair.ensures.behind i (omega arith))) in
     matches_same x y c.digest-digest.result c.put_digest.ensures.digest same behind
-        (c.digest-digest.ensures ∙ ap sha256 (sym c.put_digest.ensures.behind)) (bytes_eq-same (take 8 c.digest-digest.result))
+    (c.digest-digest.ensures ∙ ap sha256 (sym c.put_digest.ensures.behind)) (bytes_eq-same (take 8 c.digest-digest.result))
 
 pub returns-clause-behind : goal.returns-clause-behind
 returns-clause-behind c = same_drop c.put_pair.new.block c.put_digest.new.block 10 (c.put_pair.array_long ∙ sym c.put_digest.array_long)

@@ -11,8 +11,7 @@ returns-clause-based c long =
     let f = c.args.file.now in
     let end = c.count_committed-end.result in
     let is : end ≡ committed (block_at f) (whole_blocks f) =
-        c.count_committed-end.ensures.committed ∙ ap (committed (block_at f)) c.count_whole.ensures.whole in
-    (
+    c.count_committed-end.ensures.committed ∙ ap (committed (block_at f)) c.count_whole.ensures.whole in (
       λ yes. elim (cases_lt 0 (base_end f)) [
         | inl some ↦ some
         | inr none ↦ absurd (omega (arith, is, ltb-true 0 end yes, none_committed (block_at f) (whole_blocks f) (omega (arith, none))))

@@ -8,20 +8,20 @@ use Rattle.shop_log.proofs.Ends.{commit_moments, commit_stands, quiet_moments, q
 use Rattle.shop_log.proofs.log.Log.commit.Goals as goal
 
 pub returns-then-none_touched-clause-ok : goal.returns-then-none_touched-clause-ok
-returns-then-none_touched-clause-ok g c start before s = quiet_stands c.args.self.now c.args.now.now c.args.touched.now
-    c.requires.sized (c.none_touched.ensures.none c.if-none_touched.true) start before s (c.requires.covers start before s)
+returns-then-none_touched-clause-ok g c start before s covers = quiet_stands c.args.self.now c.args.now.now c.args.touched.now
+    c.requires.sized (c.none_touched.ensures.none c.if-none_touched.true) start before s covers
 
 pub returns-then-none_touched-clause-any_moment : goal.returns-then-none_touched-clause-any_moment
-returns-then-none_touched-clause-any_moment g c start before s = quiet_moments c.args.self.now c.args.now.now c.args.touched.now
-    c.requires.sized (c.none_touched.ensures.none c.if-none_touched.true) start before s (c.requires.covers start before s)
+returns-then-none_touched-clause-any_moment g c start before s covers = quiet_moments c.args.self.now c.args.now.now c.args.touched.now
+    c.requires.sized (c.none_touched.ensures.none c.if-none_touched.true) start before s covers
 
 pub returns-in_err-n-clause-any_moment : goal.returns-in_err-n-clause-any_moment
 returns-in_err-n-clause-any_moment g c = commit_moments c.args.self.now c.args.now.now c.args.touched.now
-    c.requires.sized c.requires.covers c.append_commit.new.file c.append_commit.ensures.moments
+    c.requires.sized c.append_commit.new.file c.append_commit.ensures.moments
 
 pub returns-clause-any_moment : goal.returns-clause-any_moment
 returns-clause-any_moment g c = commit_moments c.args.self.now c.args.now.now c.args.touched.now
-    c.requires.sized c.requires.covers c.append_commit.new.file c.append_commit.ensures.moments
+    c.requires.sized c.append_commit.new.file c.append_commit.ensures.moments
 
 pub invariant_of-self-2-clause-rest : goal.invariant_of-self-2-clause-rest
 invariant_of-self-2-clause-rest g c whole =
@@ -31,7 +31,7 @@ invariant_of-self-2-clause-rest g c whole =
     (λ f held. c.in_ok-n.ensures.ok f (record { held = held; durable = rest.durable f held }) (rest.log f held))
 
 pub returns-clause-ok : goal.returns-clause-ok
-returns-clause-ok g c = commit_stands c.args.self.now c.args.now.now c.args.touched.now c.requires.sized c.requires.covers
+returns-clause-ok g c = commit_stands c.args.self.now c.args.now.now c.args.touched.now c.requires.sized
     _ c.in_ok-n.n false≢true c.in_ok-n.ensures.ok
 
 pub invariant_of-self-2-clause-rooms : goal.invariant_of-self-2-clause-rooms
