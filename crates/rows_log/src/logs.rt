@@ -14,7 +14,11 @@ pub(crate) fn numbered(rt: &(impl Abort + AllocGlobal)) -> Vec<[u8; 256]> {
     let mut number: u8 = 0;
     for sector in image.as_mut_slice() {
         *sector = [number; 256];
-        number = if number == 250 { 0 } else { number.wrapping_add(1) };
+        number = if number == 250 {
+            0
+        } else {
+            number.wrapping_add(1)
+        };
     }
     image
 }
@@ -91,4 +95,13 @@ pub(crate) fn began_with(rt: &(impl Abort + AllocGlobal), file: &[u8]) -> (bool,
     let mut image = blank(rt);
     let based = image.len() == 683 && read_base(file, image.as_mut_slice());
     (based, sum(image.as_slice().as_flattened(), 0, 174_848))
+}
+
+/// The bytes with a 0 at this place.
+pub(crate) fn without(rt: &(impl Abort + AllocGlobal), bytes: &[u8], at: usize) -> Vec<u8> {
+    let mut copy = Vec::from_slice(rt.alloc(), bytes).expect(rt, "there is memory");
+    if let Some(byte) = copy.get_mut(at) {
+        *byte = 0;
+    }
+    copy
 }

@@ -13,7 +13,13 @@ fn writes_are_noted_and_passed_on(rt: HostRuntime) {
     let mut bytes = [0; 256];
     let _ = disk.read(Place::new(1, 1).unwrap_or_default(), &mut bytes);
     let touched = disk.touched();
-    let seen = (touched[356], touched[357], touched[358], touched[1], touched[682]);
+    let seen = (
+        touched[356],
+        touched[357],
+        touched[358],
+        touched[1],
+        touched[682],
+    );
     same(&rt, seen, (false, true, false, false, true));
     disk.clear();
     same(&rt, disk.touched().contains(&true), false);

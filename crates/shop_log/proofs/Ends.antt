@@ -127,6 +127,7 @@ module _ {F : Type 0} {G : Ghosts F} (l : Log F G) (now : Image) (touched : List
         is_open = opened;
         bytes = a.bytes;
         held = a.rests.held;
+        durable = a.rests.durable;
         base = a.base (based l start before s) ∙ s.base;
         image = a.image ∙ made start before s covers;
       }
@@ -191,6 +192,7 @@ module _ {F : Type 0} {G : Ghosts F} (old mid new : F) (image : Image) (touched 
         is_open = opened;
         bytes = a.bytes;
         held = ap G.history.held is ∙ a.rests.held;
+        durable = subst (λ (x : F). Only a.bytes (G.history.may_leave x)) (sym is) a.rests.durable;
         base = a.first refl ∙ all_of_it;
         image = a.image ∙ all_of_it;
       }

@@ -81,10 +81,10 @@ impl<F: LogFile> Log<F> {
     pub fn commit(&mut self, now: &[[u8; 256]], touched: &[bool; 683]) -> io::Result<()>
         requires sized { length now.now ≡ 683 }
         requires room { log_end self.old + 46 ≤ 1024 }
-        // every sector that changed is among those
+        // if every sector that changed was touched, a power loss after it leaves the image as it is now
         ensures ok { OnOk result ((start before : Image) → StandsFor self.old start before
             → Covers touched.now before now.now → StandsFor self.new start now.now) }
-        // a power loss at any moment leaves the image before the commit or after it, and the same base
+        // and one at any moment leaves the image before the commit or after it, with the same base and no mark
         ensures any_moment { (start before : Image) → StandsFor self.old start before → Covers touched.now before now.now
             → LeavesOnly F.history (log_file self.old) (log_file self.new)
             (λ c. IsLeft start before now.now c × (is_marked c ≡ false)) }
@@ -110,7 +110,7 @@ impl<F: LogFile> Log<F> {
     pub fn mark(&mut self) -> io::Result<()>
         ensures marked { OnOk result ((start now : Image) → StandsFor self.old start now
             → (c : List ℕ) → F.history.may_leave (log_file self.new) c → is_marked c ≡ true) }
-        // a power loss at any moment leaves the same image
+        // a power loss at any moment leaves the same image and base
         ensures any_moment { (start now : Image) → StandsFor self.old start now
             → LeavesOnly F.history (log_file self.old) (log_file self.new) (IsLeft start now now) }
         ensures closed { is_closed self.new }
