@@ -1,0 +1,14 @@
+mod Appended
+mod Brought
+mod Commits
+mod Counting
+mod Ends
+mod Filled
+mod Laid
+mod Marked
+mod Moments
+mod Remembered
+mod Runs
+mod Sealed
+mod Torn
+mod Touches

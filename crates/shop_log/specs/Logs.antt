@@ -1,0 +1,29 @@
+-- An open log, and the image that it stands for. Our own.
+use Rattle.std.specs.Prelude.{ℕ, ◌≡◌, List, Some, true}
+use Rattle.d64_image.specs.Images.{Image}
+use Rattle.shop_log.specs.Files.{Only}
+use Rattle.shop_log.specs.Recovered.{base_of, recovered}
+use Rattle.shop_log.specs.declared.log.Log.{Log}
+use Rattle.shop_log.specs.declared.log_file.LogFile.{Ghosts}
+
+module _ {F : Type 0} {G : Ghosts F} where
+  -- the file
+  abbrev pub log_file : Log F G → F
+  log_file l = l.file
+
+  -- how many blocks its commits take
+  abbrev pub log_end : Log F G → ℕ
+  log_end l = l.end
+
+  -- no more commits: it was marked, or a call of its file failed
+  abbrev pub is_closed : Log F G → Type 0
+  is_closed l = l.closed ≡ true
+
+  -- An open log whose file is known: its base, and the image that it stands for. A power loss leaves these bytes.
+  pub record StandsFor (l : Log F G) (start now : Image) : Type 0 where
+    pub is_open : is_closed l → ⊥
+    pub bytes : List ℕ
+    pub held : G.history.held l.file ≡ Some bytes
+    pub durable : Only bytes (G.history.may_leave l.file)
+    pub base : base_of bytes ≡ start
+    pub image : recovered bytes ≡ now

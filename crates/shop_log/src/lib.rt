@@ -1,0 +1,21 @@
+//! A write-ahead log of a disk's images: blocks that count their zeros, written over zeros, so that one sync makes a
+//! commit last.
+#![tactic(auto)]
+
+mod appending;
+mod blocks;
+mod committing;
+mod filling;
+mod laying_out;
+mod log;
+mod log_file;
+mod mem_log;
+mod replaying;
+mod touched_disk;
+
+pub use blocks::BLOCK;
+pub use log::{BLOCKS, Log, MOST};
+pub use log_file::LogFile;
+pub use mem_log::MemLog;
+pub use replaying::{is_marked, read_base, recover};
+pub use touched_disk::TouchedDisk;

@@ -1,0 +1,141 @@
+//! A log: its file, and how far its commits reach.
+ghost use Rattle.std.specs.Prelude.{◌≡◌, ◌↔◌, ◌+◌, ◌≤◌, IsTrue, length, true};
+ghost use Rattle.shop_log.specs.Recovered.{IsAtRest};
+ghost use Rattle.shop_log.specs.Marks.{NoneTouched};
+ghost use Rattle.std.proofs.Props.{props};
+
+use crate::appending::append;
+use crate::blocks::BLOCK;
+use crate::committing::append_commit;
+use crate::laying_out::lay_out;
+use crate::log_file::LogFile;
+use std::alloc::Global;
+use std::io;
+
+/// How many blocks a log has room for. The mark's block stands behind them.
+pub const BLOCKS: usize = 1024;
+
+/// How many blocks a commit takes at most, with all 683 sectors.
+pub const MOST: usize = 46;
+
+/// A log of a disk's images. Its first commit is the base: all sectors of the image that it begins with.
+#[derive(Drop)]
+pub struct Log<F: LogFile> {
+    file: F,
+    end: usize,
+    closed: bool,
+    // the blocks of a commit while it is made
+    room: Vec<[u8; 4096]>,
+    ghost ends: { end ≤ 1024 },
+    ghost rooms: { length room.items ≡ 46 },
+    ghost rest: { (closed ≡ true → ⊥) → IsAtRest F.history file end } by { Prim.hlevel props },
+}
+
+/// Whether no sector was touched.
+fn none_touched(touched: &[bool; 683]) -> bool
+    ensures none { IsTrue result → NoneTouched touched.now }
+    ensures all { NoneTouched touched.now → IsTrue result }
+{
+    !touched.contains(&true)
+}
+
+impl<F: LogFile> Log<F> {
+    ghost use Rattle.std.specs.Prelude.{◌⊎◌, [], IfOk, IsErr, OnErr, OnOk, Some, List, ℕ, false};
+    ghost use Rattle.d64_image.specs.Images.{Image};
+    ghost use Rattle.shop_log.specs.Files.{LeavesOnly};
+    ghost use Rattle.shop_log.specs.Logs.{StandsFor, is_closed, log_end, log_file};
+    ghost use Rattle.shop_log.specs.Recovered.{IsLeft, is_marked};
+    ghost use Rattle.shop_log.specs.Marks.{Covers};
+
+    /// Makes a log of an empty file: zeros, synced, and then the image as its base, synced. At an error the file is no
+    /// log yet, or one with this base.
+    pub fn begin(alloc: Global, mut file: F, image: &[[u8; 256]]) -> io::Result<Log<F>>
+        requires sized { length image.now ≡ 683 }
+        requires empty { (f : List ℕ) → F.history.held file ≡ Some f → f ≡ [] }
+        ensures ok { IfOk result (λ log. F.history.held file ≡ Some [] → StandsFor log image.now image.now) }
+    {
+        let mut room = Vec::new(alloc);
+        let Ok(()) = room.resize(MOST, [0; BLOCK]) else {
+            return Err(io::ErrorKind::OutOfMemory.into());
+        };
+        lay_out(&mut file)?;
+        let end = append_commit(&mut file, &mut room, 0, image, &[true; 683])?;
+        Ok(Log {
+            file,
+            end,
+            closed: false,
+            room,
+        })
+    }
+
+    /// Whether it is too full for one more commit, whatever that has.
+    pub fn is_full(&self) -> bool
+        ensures { result ≡ false ↔ log_end self.now + 46 ≤ 1024 }
+    {
+        self.end + MOST > BLOCKS
+    }
+
+    /// Makes the image as it is now durable, by the sectors that were touched since the last commit: `touched[i]` says
+    /// so of the sector with index i. They are written behind the commits before, and synced. If none was touched,
+    /// nothing is written. At an error the log is closed, and stands for the image before or after.
+    pub fn commit(&mut self, now: &[[u8; 256]], touched: &[bool; 683]) -> io::Result<()>
+        requires sized { length now.now ≡ 683 }
+        requires room { log_end self.old + 46 ≤ 1024 }
+        // if every sector that changed was touched, a power loss after it leaves the image as it is now
+        ensures ok { OnOk result ((start before : Image) → StandsFor self.old start before
+            → Covers touched.now before now.now → StandsFor self.new start now.now) }
+        // and one at any moment leaves the image before the commit or after it, with the same base and no mark
+        ensures any_moment { (start before : Image) → StandsFor self.old start before → Covers touched.now before now.now
+            → LeavesOnly F.history (log_file self.old) (log_file self.new)
+            (λ c. IsLeft start before now.now c × (is_marked c ≡ false)) }
+        ensures refused { is_closed self.old → IsErr result × (log_file self.new ≡ log_file self.old) }
+        ensures quiet { NoneTouched touched.now → log_file self.new ≡ log_file self.old }
+        ensures err { OnErr result (is_closed self.new) }
+        ensures cause { OnErr result (is_closed self.old ⊎ (F.history.has_failed (log_file self.new) ≡ true)) }
+    {
+        if self.closed {
+            return Err(io::ErrorKind::Other.into());
+        }
+        if none_touched(touched) {
+            return Ok(());
+        }
+        self.closed = true;
+        let n = append_commit(&mut self.file, &mut self.room, self.end, now, touched)?;
+        self.end += n;
+        self.closed = false;
+        Ok(())
+    }
+
+    /// Marks that the image is being brought to its own file from here on, and closes the log.
+    pub fn mark(&mut self) -> io::Result<()>
+        ensures marked { OnOk result ((start now : Image) → StandsFor self.old start now
+            → (c : List ℕ) → F.history.may_leave (log_file self.new) c → is_marked c ≡ true) }
+        // a power loss at any moment leaves the same image and base
+        ensures any_moment { (start now : Image) → StandsFor self.old start now
+            → LeavesOnly F.history (log_file self.old) (log_file self.new) (IsLeft start now now) }
+        ensures closed { is_closed self.new }
+        ensures refused { is_closed self.old → IsErr result × (log_file self.new ≡ log_file self.old) }
+        ensures cause { OnErr result (is_closed self.old ⊎ (F.history.has_failed (log_file self.new) ≡ true)) }
+    {
+        if self.closed {
+            return Err(io::ErrorKind::Other.into());
+        }
+        self.closed = true;
+        append(&mut self.file, BLOCK * BLOCKS, &[1])
+    }
+
+    /// Its file.
+    pub fn file(&self) -> &F
+        ensures { result.now ≡ log_file self.now }
+    {
+        &self.file
+    }
+
+    /// Its file. The log is over.
+    pub fn into_file(self) -> F
+        ensures { result ≡ log_file self }
+    {
+        let Log { file, .. } = self;
+        file
+    }
+}

@@ -1,0 +1,130 @@
+//! A log's file in memory.
+ghost use Rattle.std.specs.Prelude.{◌≡◌, ◌∷◌, OnErr, OnOk, false};
+ghost use Rattle.shop_log.specs.Files.{overwritten};
+ghost use Rattle.shop_log.specs.MemCalls.{seen_after};
+ghost use Rattle.std.proofs.Props.{props};
+
+use crate::log_file::LogFile;
+use std::alloc::Global;
+use std::io;
+
+/// A call on the file.
+#[derive(Drop)]
+pub enum MemCall {
+    /// These bytes were written from that place on.
+    Write(usize, Vec<u8>),
+    /// The file was synced.
+    Sync,
+}
+
+/// A file in memory, which keeps each call, so that all that a power loss may leave is known. It fails if memory is
+/// refused, and at a write that begins behind its end or goes past it; from then on it fails each call.
+#[derive(Drop)]
+pub struct MemLog {
+    alloc: Global,
+    bytes: Vec<u8>,
+    // what it held at first
+    first: Vec<u8>,
+    // the newest first
+    calls: Vec<MemCall>,
+    failed: bool,
+    ghost seen: { failed ≡ false → bytes.items ≡ seen_after first.items calls.items } by { Prim.hlevel props },
+}
+
+impl MemLog {
+    ghost use Rattle.std.specs.Prelude.{[]};
+    ghost use Rattle.shop_log.specs.Memory.{mem_bytes, memory};
+
+    /// An empty file.
+    pub fn new(alloc: Global) -> MemLog
+        ensures bytes { mem_bytes result ≡ [] }
+        ensures unfailed { memory.has_failed result ≡ false }
+    {
+        MemLog {
+            alloc,
+            bytes: Vec::new(alloc),
+            first: Vec::new(alloc),
+            calls: Vec::new(alloc),
+            failed: false,
+        }
+    }
+
+    /// The bytes that it holds.
+    pub fn bytes(&self) -> &[u8]
+        ensures { result.now ≡ mem_bytes self.now }
+    {
+        self.bytes.as_slice()
+    }
+
+    /// How many calls it has kept.
+    pub fn calls(&self) -> usize
+        ensures { result ≡ memory.moment self.now }
+    {
+        self.calls.len()
+    }
+}
+
+/// Keeps a call.
+fn note(calls: &mut Vec<MemCall>, call: MemCall) -> io::Result<()>
+    ensures ok { OnOk result (calls.new.items ≡ call ∷ calls.old.items) }
+    ensures err { OnErr result (calls.new.items ≡ calls.old.items) }
+{
+    match calls.insert(0, call) {
+        Ok(()) => Ok(()),
+        Err(_) => Err(io::ErrorKind::OutOfMemory.into()),
+    }
+}
+
+impl LogFile for MemLog {
+    ghost use Rattle.shop_log.specs.Files.{SyncsBytes, WritesBytes};
+    ghost use Rattle.shop_log.specs.Memory.{memory};
+
+    ghost history = { memory };
+
+    fn write_at(&mut self, at: usize, bytes: &[u8]) -> io::Result<()>
+        ensures { WritesBytes memory self.old self.new at bytes.now result }
+    {
+        let was_failed = self.failed;
+        self.failed = true;
+        if was_failed {
+            return Err(io::ErrorKind::Other.into());
+        }
+        let Ok(kept) = Vec::from_slice(self.alloc, bytes) else {
+            return Err(io::ErrorKind::OutOfMemory.into());
+        };
+        note(&mut self.calls, MemCall::Write(at, kept))?;
+        overwrite(&mut self.bytes, at, bytes)?;
+        self.failed = false;
+        Ok(())
+    }
+
+    fn sync(&mut self) -> io::Result<()>
+        ensures { SyncsBytes memory self.old self.new result }
+    {
+        if self.failed {
+            return Err(io::ErrorKind::Other.into());
+        }
+        self.failed = true;
+        note(&mut self.calls, MemCall::Sync)?;
+        self.failed = false;
+        Ok(())
+    }
+}
+
+/// Writes bytes over those from that place on, or behind the last one.
+fn overwrite(file: &mut Vec<u8>, at: usize, bytes: &[u8]) -> io::Result<()>
+    ensures ok { OnOk result (file.new.items ≡ overwritten file.old.items at bytes.now) }
+{
+    let len = file.len();
+    if at <= len && bytes.len() <= len - at {
+        file[at..at + bytes.len()].copy_from_slice(bytes);
+        return Ok(());
+    }
+    if at != len {
+        return Err(io::ErrorKind::InvalidInput.into());
+    }
+    match file.extend_from_slice(bytes) {
+        Ok(()) => Ok(()),
+        Err(_) => Err(io::ErrorKind::OutOfMemory.into()),
+    }
+}
