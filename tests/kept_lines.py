@@ -161,26 +161,31 @@ def many_files(place, other, draw):
             backups.append(place.folder / f"backup{turn}.d64")
             shutil.copy(place.image, backups[-1])
     serve.end()
-    files = [*sorted(place.folder.glob(place.kept.name + ".2*")), place.kept]
+    files = [Path(one) for one in journal.files_of(place.kept)]
     want(len(files) > 5, f"the journal has {len(files)} files")
     count = sum(len(entries(path).requests) for path in files)
     want(count == DAY, f"the journal has {count} requests, not {DAY}")
     program = ["--program", place.program]
-    fresh = ["--tills", "4", "--image", place.image, *program]
+    fresh = [place.kept, "--tills", "4", "--image", place.image, *program]
     new = place.folder / "again.d64"
-    sure(REBUILD, new, *files, *fresh)
+    sure(REBUILD, new, *fresh)
     for backup in backups:
         new.unlink()
-        sure(REBUILD, new, *files, "--from", backup, "--image", place.image, *program)
+        sure(REBUILD, new, place.kept, "--from", backup, "--image", place.image, *program)
     refused = [
-        ([new, *files, *fresh], "over a file that is there"),
-        ([place.folder / "1.d64", *files[1:], *fresh], "without the first file"),
-        ([place.folder / "2.d64", *files[:2], *files[3:], *fresh], "without the third file"),
-        ([place.folder / "3.d64", *files, "--from", other.image, *program], "from another shop's backup"),
+        ([new, *fresh], None, "over a file that is there"),
+        ([place.folder / "1.d64", *fresh], files[0], "without the first file"),
+        ([place.folder / "2.d64", *fresh], files[2], "without the third file"),
+        ([place.folder / "3.d64", place.kept, "--from", other.image, *program], None, "from another shop's backup"),
     ]
     kept = new.read_bytes()
-    for words, what in refused:
+    away = place.folder / "away"
+    for words, missing, what in refused:
+        if missing:
+            missing.rename(away)
         status, _, text = run(REBUILD, *words)
+        if missing:
+            away.rename(missing)
         want(status == 1 and text.startswith("rebuild: ") and len(text.splitlines()) == 1, f"{what}: {status} {text}")
     want(new.read_bytes() == kept, "rebuild.py wrote over a file that is there")
     want(not list(place.folder.glob("[123].d64")), "rebuild.py leaves an image that it refused")
