@@ -178,14 +178,33 @@ def accounts(folder):
     for is_so, wanted in found:
         want(is_so == wanted, f"an account {is_so}, not {wanted}")
     refused = 0
-    for mode, text in [(0o640, "a:b\n"), (0o604, "a:b\n"), (0o600, "a\n"), (0o600, ""), (0o600, "a:b\nc:d\n"), (0o600, ":b\n")]:
+    for mode, text in [
+        (0o640, "a:b\n"),
+        (0o604, "a:b\n"),
+        (0o600, "a\n"),
+        (0o600, ""),
+        (0o600, "a:b\nc:d\n"),
+        (0o600, ":b\n"),
+    ]:
         given.write_text(text)
         given.chmod(mode)
         refused += is_unfit(lambda: account.account_of(given, {}))
-    for place in ["amqps://u:p@127.0.0.1/", "amqps://u@127.0.0.1/", "amqp://shop.example/", "http://127.0.0.1/", "amqps://h:x/", ""]:
+    for place in [
+        "amqps://u:p@127.0.0.1/",
+        "amqps://u@127.0.0.1/",
+        "amqp://shop.example/",
+        "http://127.0.0.1/",
+        "amqps://h:x/",
+        "",
+    ]:
         refused += is_unfit(lambda: account.Place(place, "amqp"))
     want(refused == 12, f"{refused} unfit accounts and places are refused, not 12")
-    for place, kind in [("amqp://localhost/", "amqp"), ("mqtts://shop.example", "mqtt"), ("[::1]:1883", "mqtt"), ("127.0.0.1", "mqtt")]:
+    for place, kind in [
+        ("amqp://localhost/", "amqp"),
+        ("mqtts://shop.example", "mqtt"),
+        ("[::1]:1883", "mqtt"),
+        ("127.0.0.1", "mqtt"),
+    ]:
         account.Place(place, kind)
     account.Place("amqp://shop.example/", "amqp", plain=True)
     return len(found) + refused + 5
@@ -239,7 +258,9 @@ def main():
         shop = Pipes(program, folder)
         counts = [forged(folder), books(shop), broken_off(folder), typed(shop), accounts(folder), silent(shop)]
         one_book(shop)
-    told = "{} forged replies, {} damaged books, {} that broke off, {} typing errors, {} accounts, {} silences".format(*counts)
+    told = "{} forged replies, {} damaged books, {} that broke off, {} typing errors, {} accounts, {} silences".format(
+        *counts
+    )
     print(f"a till: {told}, two tills with one book: no difference")
 
 

@@ -84,7 +84,10 @@ class Refusals:
         self.counts[till] = self.counts.get(till, 0) + 1
         if time.monotonic() < self.reported + REPORT:
             return
-        by = ", ".join(f"{count} of {'nobody' if till in (None, NOBODY) else f'till {till}'}" for till, count in self.counts.items())
+        by = ", ".join(
+            f"{count} of {'nobody' if till in (None, NOBODY) else f'till {till}'}"
+            for till, count in self.counts.items()
+        )
         say(f"messages that are no request: {by}")
         self.counts, self.reported = {}, time.monotonic()
 
