@@ -107,8 +107,7 @@ class Serve:
         then the image is compared with the journal. Raises Stale if the image is another or an older one."""
         waits = False
         while not self.is_open():
-            pipes = {"stdin": subprocess.PIPE, "stdout": subprocess.PIPE, "stderr": subprocess.PIPE}
-            self.process = subprocess.Popen(self.command, **pipes)
+            self.run()
             try:
                 self.turn(b"")
             except Gone as gone:
@@ -121,6 +120,13 @@ class Serve:
         if self.journal:
             with self.keeping():
                 self.agree(self.journal.open(wait))
+
+    def run(self):
+        pipes = {"stdin": subprocess.PIPE, "stdout": subprocess.PIPE, "stderr": subprocess.PIPE}
+        try:
+            self.process = subprocess.Popen(self.command, **pipes)
+        except OSError as fault:
+            raise Unfit(f"{self.command[0]} can't be run: {fault.strerror}") from fault
 
     @contextmanager
     def keeping(self):

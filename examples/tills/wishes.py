@@ -323,8 +323,8 @@ def run(given, connect):
     except Refused as refused:
         say(f"{refused}: another till has this number, or the shop isn't the one asked before")
         sys.exit(LOOK)
-    except Unfit as unfit:
-        say(f"till {given.till}: {unfit}")
+    except (Unfit, OSError) as fault:
+        say(f"till {given.till}: {fault}")
         sys.exit(LOOK)
     except KeyboardInterrupt:
         pass
