@@ -116,7 +116,9 @@ class OverMqtt:
         yield "a wrong password", lambda: self.shut_out(password="wrong")
         yield "an account that there isn't", lambda: self.shut_out(user="guest", password="guest")
         yield "no TLS", lambda: self.shut_out(secure=False)
-        yield "a forged reply", lambda: scene.forged(VICTIM, "S,9,9", "DONE,9", lambda: publish(f"{replies}/{VICTIM}", forged))
+        yield "a forged reply", lambda: scene.forged(
+            VICTIM, "S,9,9", "DONE,9", lambda: publish(f"{replies}/{VICTIM}", forged)
+        )
         yield "a forged reply of another shop's bridge", lambda: scene.forged(
             12, "S,12,12", "DONE,12", lambda: publish(f"{replies}/12", "12,1,DONE,999", FOREIGN)
         )
@@ -135,7 +137,10 @@ class OverMqtt:
         yield "all asks, for another shop's bridge", lambda: silent(FOREIGN, f"{ask}/+", "shops/#")
         yield "others' identifiers", self.names
         yield "the bridge's session", self.session
-        yield "a bridge that is said to be away", lambda: (publish("shops/1/bridge", "away", retain=True), self.serving())
+        yield "a bridge that is said to be away", lambda: (
+            publish("shops/1/bridge", "away", retain=True),
+            self.serving(),
+        )
         yield "a flood of no requests", lambda: scene.not_kept(lambda: self.flood("x" * 64, FLOOD))
         yield "a request of till 8", self.insider_asks
         yield "a flood of one request", lambda: scene.not_kept(lambda: self.flood("8,1,S,8,8", REPEATS))

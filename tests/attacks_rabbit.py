@@ -152,7 +152,10 @@ class OverRabbit:
             12, "S,12,12", "DONE,12", lambda: publish(replies, "12", "12,1,DONE,999", FOREIGN)
         )
         yield "a reply with an LF, with all rights", lambda: scene.forged(
-            11, "S,11,5", "DONE,5", lambda: self.publish(replies, "11", "11,1,DONE,1\n= 999999999,DONE,1", brokers.TRIAL)
+            11,
+            "S,11,5",
+            "DONE,5",
+            lambda: self.publish(replies, "11", "11,1,DONE,1\n= 999999999,DONE,1", brokers.TRIAL),
         )
         yield "a reply by the default exchange", lambda: publish("", f"till.1.{VICTIM}.x", forged)
         yield "a request by the default exchange", lambda: publish("", queue, stolen)

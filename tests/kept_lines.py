@@ -87,7 +87,9 @@ def two_bridges(place):
     for line, reply in [(b"2,1,I,8,2", b"2,1,DONE,3"), (b"1,2,S,8,5", b"1,2,DONE,5")]:
         want(second.hand(line) == reply, f"{line} doesn't get {reply}")
     second.end()
-    sure(REBUILD, place.folder / "new.d64", place.kept, "--tills", 4, "--image", place.image, "--program", place.program)
+    sure(
+        REBUILD, place.folder / "new.d64", place.kept, "--tills", 4, "--image", place.image, "--program", place.program
+    )
 
 
 def broken_off(place):
@@ -105,7 +107,9 @@ def broken_off(place):
                     continue
                 place.image.write_bytes(image)
                 place.kept.write_bytes(text[:end] + tail)
-                want(place.served("1,2,S,6,11", "2,2,I,6,1") == ["1,2,DONE,11", "2,2,DONE,10"], f"cut at {end}: replies")
+                want(
+                    place.served("1,2,S,6,11", "2,2,I,6,1") == ["1,2,DONE,11", "2,2,DONE,10"], f"cut at {end}: replies"
+                )
                 requests = [request for request, _ in entries(place.kept).requests]
                 want(requests == ["1,1,S,5,10", "2,1,I,5,3", "1,2,S,6,11", "2,2,I,6,1"], f"cut at {end}: {requests}")
                 cuts += 1
@@ -137,7 +141,13 @@ def other_images(place, other):
     begins = [line for line in place.kept.read_text().splitlines() if journal.BEGINS.fullmatch(line)]
     want(len(begins) == 2 and begins[1].endswith(" begins 1:2 2:2 3:1 4:1"), f"the journal has {begins}")
     kept = place.kept.read_bytes()
-    for text in (b"1,1,S,5,10\n", b"a letter\n" * 100, bytes(range(256)), kept + b"x" * 3000, kept[:60] + b"\xff" + kept[61:]):
+    for text in (
+        b"1,1,S,5,10\n",
+        b"a letter\n" * 100,
+        bytes(range(256)),
+        kept + b"x" * 3000,
+        kept[:60] + b"\xff" + kept[61:],
+    ):
         place.kept.write_bytes(text)
         place.refused(shop.NO_SHOP)
     place.kept.write_bytes(kept)
@@ -161,26 +171,31 @@ def many_files(place, other, draw):
             backups.append(place.folder / f"backup{turn}.d64")
             shutil.copy(place.image, backups[-1])
     serve.end()
-    files = [*sorted(place.folder.glob(place.kept.name + ".2*")), place.kept]
+    files = [Path(one) for one in journal.files_of(place.kept)]
     want(len(files) > 5, f"the journal has {len(files)} files")
     count = sum(len(entries(path).requests) for path in files)
     want(count == DAY, f"the journal has {count} requests, not {DAY}")
     program = ["--program", place.program]
-    fresh = ["--tills", "4", "--image", place.image, *program]
+    fresh = [place.kept, "--tills", "4", "--image", place.image, *program]
     new = place.folder / "again.d64"
-    sure(REBUILD, new, *files, *fresh)
+    sure(REBUILD, new, *fresh)
     for backup in backups:
         new.unlink()
-        sure(REBUILD, new, *files, "--from", backup, "--image", place.image, *program)
+        sure(REBUILD, new, place.kept, "--from", backup, "--image", place.image, *program)
     refused = [
-        ([new, *files, *fresh], "over a file that is there"),
-        ([place.folder / "1.d64", *files[1:], *fresh], "without the first file"),
-        ([place.folder / "2.d64", *files[:2], *files[3:], *fresh], "without the third file"),
-        ([place.folder / "3.d64", *files, "--from", other.image, *program], "from another shop's backup"),
+        ([new, *fresh], None, "over a file that is there"),
+        ([place.folder / "1.d64", *fresh], files[0], "without the first file"),
+        ([place.folder / "2.d64", *fresh], files[2], "without the third file"),
+        ([place.folder / "3.d64", place.kept, "--from", other.image, *program], None, "from another shop's backup"),
     ]
     kept = new.read_bytes()
-    for words, what in refused:
+    away = place.folder / "away"
+    for words, missing, what in refused:
+        if missing:
+            missing.rename(away)
         status, _, text = run(REBUILD, *words)
+        if missing:
+            away.rename(missing)
         want(status == 1 and text.startswith("rebuild: ") and len(text.splitlines()) == 1, f"{what}: {status} {text}")
     want(new.read_bytes() == kept, "rebuild.py wrote over a file that is there")
     want(not list(place.folder.glob("[123].d64")), "rebuild.py leaves an image that it refused")
@@ -192,12 +207,33 @@ def grammar(program, folder, draw):
     image = folder / "grammar.d64"
     sure(program, "format", image, "--tills", 64)
     served = Served(program, image)
-    numbers = ["0", "1", "64", "65", "7", "007", "65535", "65536", "999999999", "1000000000", "", " 1", "1 ", "-1", "+1", "1.0", "٣"]
+    numbers = [
+        "0",
+        "1",
+        "64",
+        "65",
+        "7",
+        "007",
+        "65535",
+        "65536",
+        "999999999",
+        "1000000000",
+        "",
+        " 1",
+        "1 ",
+        "-1",
+        "+1",
+        "1.0",
+        "٣",
+    ]
     good = 0
     for _ in range(LINES):
         fields = [draw.choice(numbers[:12] if draw.random() < 0.4 else ["1", "2", "64", "999"]) for _ in range(2)]
         fields.append(draw.choice("RISMRISMrx") if draw.random() < 0.95 else draw.choice(["", "RI"]))
-        fields += [draw.choice(numbers if draw.random() < 0.3 else ["1", "2", "65535"]) for _ in range(draw.choice([2, 2, 2, 3, 3, 1, 4]))]
+        fields += [
+            draw.choice(numbers if draw.random() < 0.3 else ["1", "2", "65535"])
+            for _ in range(draw.choice([2, 2, 2, 3, 3, 1, 4]))
+        ]
         line = ",".join(fields)
         reply = served.ask(line)
         is_request = wishes.request_of(line) is not None
@@ -218,7 +254,9 @@ def main():
         files, backups, refused = many_files(Place(program, folder, "many"), Place(program, folder, "third", 2), draw)
         good = grammar(program, folder, draw)
     told = f"{cuts} cuts, {images} other images and files, {files} files and {backups} backups, {refused} refusals"
-    print(f"a journal, with two bridges and a serve killed beneath one: {told}; {LINES} lines, {good} requests: no difference")
+    print(
+        f"a journal, with two bridges and a serve killed beneath one: {told}; {LINES} lines, {good} requests: no difference"
+    )
 
 
 main()

@@ -8,6 +8,8 @@
 - Books that are damaged, or no book at all: a line that says which line it is, status 4, and the file is unchanged. Books
   that broke off at each byte of the last line, with NUL bytes after it: the till goes on.
 - A typing error: asked again on a terminal, skipped with status 1 on a pipe, the end with status 1 in a file.
+- An account from a file, from systemd's credential, from the environment, in that order; one that others can read, or
+  that is no line USER:PASSWORD, and places of brokers with a password or without TLS: refused.
 - A broker that isn't there, and a command that doesn't answer: the till says so after some seconds, and asks on."""
 
 import os
@@ -22,6 +24,7 @@ from pathlib import Path
 EXAMPLES = Path(__file__).resolve().parent.parent / "examples" / "tills"
 sys.path.insert(0, str(EXAMPLES))
 
+import account
 import wishes
 from served import sure, want
 
@@ -158,6 +161,63 @@ def typed(shop):
     return 3
 
 
+def accounts(folder):
+    """Where an account comes from, and what is refused."""
+    given, guarded = folder / "till.account", folder / "credentials"
+    guarded.mkdir()
+    (guarded / "account").write_text("till-1-2:of systemd\n")
+    given.write_text("till-1-1:of:a file\n")
+    given.chmod(0o600)
+    here, systemd = {"LEDGER_ACCOUNT": "till-1-3:of the environment"}, {"CREDENTIALS_DIRECTORY": str(guarded)}
+    found = [
+        (account.account_of(given, {**here, **systemd}), ("till-1-1", "of:a file")),
+        (account.account_of(None, {**here, **systemd}), ("till-1-2", "of systemd")),
+        (account.account_of(None, here), ("till-1-3", "of the environment")),
+        (account.account_of(None, {}), None),
+    ]
+    for is_so, wanted in found:
+        want(is_so == wanted, f"an account {is_so}, not {wanted}")
+    refused = 0
+    for mode, text in [
+        (0o640, "a:b\n"),
+        (0o604, "a:b\n"),
+        (0o600, "a\n"),
+        (0o600, ""),
+        (0o600, "a:b\nc:d\n"),
+        (0o600, ":b\n"),
+    ]:
+        given.write_text(text)
+        given.chmod(mode)
+        refused += is_unfit(lambda: account.account_of(given, {}))
+    for place in [
+        "amqps://u:p@127.0.0.1/",
+        "amqps://u@127.0.0.1/",
+        "amqp://shop.example/",
+        "http://127.0.0.1/",
+        "amqps://h:x/",
+        "",
+    ]:
+        refused += is_unfit(lambda: account.Place(place, "amqp"))
+    want(refused == 12, f"{refused} unfit accounts and places are refused, not 12")
+    for place, kind in [
+        ("amqp://localhost/", "amqp"),
+        ("mqtts://shop.example", "mqtt"),
+        ("[::1]:1883", "mqtt"),
+        ("127.0.0.1", "mqtt"),
+    ]:
+        account.Place(place, kind)
+    account.Place("amqp://shop.example/", "amqp", plain=True)
+    return len(found) + refused + 5
+
+
+def is_unfit(act):
+    try:
+        act()
+        return False
+    except account.Unfit:
+        return True
+
+
 def silent(shop):
     """What a till says that waits."""
     with socket.create_server(("127.0.0.1", 0)) as held:
@@ -196,9 +256,11 @@ def main():
     with tempfile.TemporaryDirectory() as folder:
         folder = Path(folder)
         shop = Pipes(program, folder)
-        counts = [forged(folder), books(shop), broken_off(folder), typed(shop), silent(shop)]
+        counts = [forged(folder), books(shop), broken_off(folder), typed(shop), accounts(folder), silent(shop)]
         one_book(shop)
-    told = "{} forged replies, {} damaged books, {} that broke off, {} typing errors, {} silences".format(*counts)
+    told = "{} forged replies, {} damaged books, {} that broke off, {} typing errors, {} accounts, {} silences".format(
+        *counts
+    )
     print(f"a till: {told}, two tills with one book: no difference")
 
 

@@ -217,7 +217,7 @@ class Noise(threading.Thread):
 
 def journals(path):
     """A journal's files, in their order."""
-    return [*sorted(path.parent.glob(path.name + ".2*")), path]
+    return [Path(one) for one in journal.files_of(path)]
 
 
 def requests_in(path):
@@ -354,7 +354,7 @@ class Trial:
         on_hand = sum(int(line.split(",")[1]) for line in shown if line.startswith("CARD "))
         want(on_hand == came, f"{on_hand} are on hand, and {came} came in and didn't go out")
         want(sure(self.program, "check", self.image) == ["OK"], "check isn't OK")
-        words = [self.folder / "new.d64", *journals(self.kept), "--tills", self.given.tills, "--image", self.image]
+        words = [self.folder / "new.d64", self.kept, "--tills", self.given.tills, "--image", self.image]
         sure(PYTHON, EXAMPLES / "rebuild.py", *words, "--program", self.program)
         return len(answers)
 

@@ -191,7 +191,9 @@ def trial(kind, bridge, till):
             shop.killed(shop.serves())
         shop.stopped()
         shop.away(broker)
-        print(f"{bridge}@.service, ledger-till@.service: verified, started, {shop.kills} times killed and started again")
+        print(
+            f"{bridge}@.service, ledger-till@.service: verified, started, {shop.kills} times killed and started again"
+        )
         print(f"  by systemd, stopped and started, its broker away and back; {shop.count} wishes answered once")
         systemctl("stop", shop.bridge)
         unfit(shop)
@@ -225,7 +227,9 @@ def unfit(shop):
     systemctl("start", shop.bridge)
     shop.heard()
     systemctl("stop", shop.bridge)
-    print("  status 78 (no shop, or older than its journal) and 74 (the disk of the image or of the journal is full): not")
+    print(
+        "  status 78 (no shop, or older than its journal) and 74 (the disk of the image or of the journal is full): not"
+    )
     print("  started again, an alarm, and served when a keeper had looked", flush=True)
 
 

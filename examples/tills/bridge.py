@@ -6,12 +6,13 @@
 
 Tills ask through the exchange `shop.1.asks`, each with its number as key. The asks lie in the quorum queue
 `shop.1.bridge`, which has a single active consumer: of several bridges one serves, and the others stand by. A message is
-acknowledged when the broker has confirmed or refused its reply; a bridge that dies before leaves it to the next, whose repeat has
-no second effect. Replies go out through the exchange `shop.1.replies`, with the till's number as key. If the connection
-is lost, `serve` is ended before another is sought: another bridge may be the active one by then. How soon that is
-noticed is said by the broker's place (`?heartbeat=10`). If no message comes for some seconds `serve` is ended too, and
-started again by the next: when nodes of a cluster lose each other for a moment, another bridge may become the active
-one, and the one before isn't told.
+acknowledged when the broker has confirmed or refused its reply; a bridge that dies before leaves it to the next, whose
+repeat has no second effect. Replies go out through the exchange `shop.1.replies`, with the till's number as key.
+
+If the connection is lost, `serve` is ended before another is sought: another bridge may be the active one by then. How
+soon that is noticed is said by the broker's place (`?heartbeat=10`). If no message comes for some seconds `serve` is
+ended too, and started again by the next: when nodes of a cluster lose each other for a moment, another bridge may become
+the active one, and the one before isn't told.
 
 With --pipes it takes messages as lines of standard input and prints their replies, without a broker.
 
@@ -27,7 +28,12 @@ import shop
 
 # how many asks wait at the broker: a till whose ask is refused asks again
 MOST = 1000
-QUEUE = {"x-queue-type": "quorum", "x-single-active-consumer": True, "x-max-length": MOST, "x-overflow": "reject-publish"}
+QUEUE = {
+    "x-queue-type": "quorum",
+    "x-single-active-consumer": True,
+    "x-max-length": MOST,
+    "x-overflow": "reject-publish",
+}
 
 
 def declare(channel, name):

@@ -102,7 +102,9 @@ def certify(folder, address):
     def openssl(*words):
         subprocess.run(["openssl", *words], cwd=folder, check=True, capture_output=True)
 
-    (folder / "openssl.conf").write_text("[req]\ndistinguished_name=name\n[name]\n[ca]\nbasicConstraints=critical,CA:TRUE\n")
+    (folder / "openssl.conf").write_text(
+        "[req]\ndistinguished_name=name\n[name]\n[ca]\nbasicConstraints=critical,CA:TRUE\n"
+    )
     key = ["-newkey", "ec", "-pkeyopt", "ec_paramgen_curve:prime256v1", "-nodes"]
     made = ["-config", "openssl.conf"]
     authority = ["-x509", "-extensions", "ca", "-days", "2", "-subj", "/CN=trial of ledger"]
@@ -257,7 +259,12 @@ class Mosquitto(Secure):
         )
         (folder / "conf.d" / "ledger.conf").write_text(settings)
         # what Debian's own file has
-        main = ["persistence true", f"persistence_location {folder}/", f"user {getpass.getuser()}", f"include_dir {folder}/conf.d"]
+        main = [
+            "persistence true",
+            f"persistence_location {folder}/",
+            f"user {getpass.getuser()}",
+            f"include_dir {folder}/conf.d",
+        ]
         (folder / "mosquitto.conf").write_text("\n".join(main) + "\n")
 
     def start(self):

@@ -26,12 +26,20 @@ ENTRY = re.compile(rf"({TIME}) ({COUNT},{COUNT},[RISM],{COUNT},{NUMBER}(?:,{COUN
 BEGINS = re.compile(rf"# ({TIME}) begins((?: {COUNT}:{COUNT})*)", re.ASCII)
 # what a line that broke off can have: no line is longer, or has other characters
 LONGEST, BROKEN = 2000, re.compile(r"[0-9A-Za-z:.,#> \-]*", re.ASCII)
-# bytes after which a new file is begun
+# what a file's name gets when a new one is begun, and the bytes after which that happens
+STAMP = re.compile(r"\.\d{8}T\d{6}\.\d{3}Z")
 SIZE = 2_000_000
 
 
 def now():
     return datetime.now(timezone.utc).isoformat(timespec="milliseconds").replace("+00:00", "Z")
+
+
+def files_of(path):
+    """The files of a journal, in their order: those with a time behind the name, and the one that is added to."""
+    folder, name = os.path.split(os.path.abspath(path))
+    older = [one for one in os.listdir(folder) if one.startswith(name) and STAMP.fullmatch(one[len(name) :])]
+    return [*(os.path.join(folder, one) for one in sorted(older)), os.fspath(path)]
 
 
 def numbers_of(text):

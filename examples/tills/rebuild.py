@@ -1,12 +1,12 @@
 #!/usr/bin/env python3
 """Makes a shop's image anew from a backup and the shop's journal, and compares it with the image that there is.
 
-    rebuild.py NEW JOURNAL [JOURNAL ..] --from BACKUP [--image IMAGE] [--program PROGRAM]
-    rebuild.py NEW JOURNAL [JOURNAL ..] --tills TILLS [--image IMAGE] [--program PROGRAM]
+    rebuild.py NEW JOURNAL --from BACKUP [--image IMAGE] [--program PROGRAM]
+    rebuild.py NEW JOURNAL --tills TILLS [--image IMAGE] [--program PROGRAM]
 
-The journal's files are named in their order, the newest last: `shop1.lines.2* shop1.lines`. With --from it begins with a
-copy of BACKUP, which may be older or newer than the first line: a request that BACKUP has already changes nothing. With
---tills it begins with a fresh image. NEW is made only when all requests were played, each with the reply that the
+It reads JOURNAL and the older files of it, which have a time behind the name. With --from it begins with a copy of
+BACKUP, which may be older or newer than the first line: a request that BACKUP has already changes nothing. With --tills
+it begins with a fresh image. NEW is made only when all requests were played, each with the reply that the
 journal has; a file of that name is never overwritten. With --image, what `show` prints of both has to be equal: top,
 cards, and each till's last two requests with their answers. IMAGE's lock has to be free, so stop the bridge or name a
 copy. Prints one line. Status 1: a reply differs, lines are missing, or the images differ."""
@@ -41,7 +41,7 @@ def entries_of(paths):
     requests, last = [], None
     for path in paths:
         if last:
-            stop(f"{path} can't follow a file that ends with an open request: name the files in their order")
+            stop(f"{path} can't follow a file that ends with an open request: their names aren't in their order")
         entries = journal.Entries(Path(path).read_bytes(), path)
         requests, last = requests + entries.requests, entries.open
     return requests, last
@@ -66,7 +66,7 @@ def judge(requests, replies):
 
 def rebuild(given, image):
     """Makes the image; how many requests were played, and the open one."""
-    requests, last = entries_of(given.journal)
+    requests, last = entries_of(journal.files_of(given.journal))
     if given.backup:
         shutil.copyfile(given.backup, image)
     else:
@@ -94,7 +94,7 @@ def finish(image, new):
 def words():
     parser = argparse.ArgumentParser(description=__doc__.splitlines()[0])
     parser.add_argument("new")
-    parser.add_argument("journal", nargs="+")
+    parser.add_argument("journal")
     start = parser.add_mutually_exclusive_group(required=True)
     start.add_argument("--from", dest="backup", metavar="BACKUP", help="a backup of the image")
     start.add_argument("--tills", type=int, help="begin with a fresh image for so many tills")

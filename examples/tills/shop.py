@@ -84,7 +84,10 @@ class Refusals:
         self.counts[till] = self.counts.get(till, 0) + 1
         if time.monotonic() < self.reported + REPORT:
             return
-        by = ", ".join(f"{count} of {'nobody' if till in (None, NOBODY) else f'till {till}'}" for till, count in self.counts.items())
+        by = ", ".join(
+            f"{count} of {'nobody' if till in (None, NOBODY) else f'till {till}'}"
+            for till, count in self.counts.items()
+        )
         say(f"messages that are no request: {by}")
         self.counts, self.reported = {}, time.monotonic()
 
@@ -104,8 +107,7 @@ class Serve:
         then the image is compared with the journal. Raises Stale if the image is another or an older one."""
         waits = False
         while not self.is_open():
-            pipes = {"stdin": subprocess.PIPE, "stdout": subprocess.PIPE, "stderr": subprocess.PIPE}
-            self.process = subprocess.Popen(self.command, **pipes)
+            self.run()
             try:
                 self.turn(b"")
             except Gone as gone:
@@ -118,6 +120,13 @@ class Serve:
         if self.journal:
             with self.keeping():
                 self.agree(self.journal.open(wait))
+
+    def run(self):
+        pipes = {"stdin": subprocess.PIPE, "stdout": subprocess.PIPE, "stderr": subprocess.PIPE}
+        try:
+            self.process = subprocess.Popen(self.command, **pipes)
+        except OSError as fault:
+            raise Unfit(f"{self.command[0]} can't be run: {fault.strerror}") from fault
 
     @contextmanager
     def keeping(self):

@@ -69,8 +69,8 @@ def is_answer(wish, text):
 
 
 def opened(path):
-    """A file to add lines to. If it is made, its name is on the disk when this returns."""
-    file = open(path, "a+b")
+    """A file to add lines to. If it is made, only its owner can read it, and its name is on the disk when this returns."""
+    file = open(path, "a+b", opener=lambda name, flags: os.open(name, flags, 0o600))
     sync_folder(path)
     return file
 
@@ -323,8 +323,8 @@ def run(given, connect):
     except Refused as refused:
         say(f"{refused}: another till has this number, or the shop isn't the one asked before")
         sys.exit(LOOK)
-    except Unfit as unfit:
-        say(f"till {given.till}: {unfit}")
+    except (Unfit, OSError) as fault:
+        say(f"till {given.till}: {fault}")
         sys.exit(LOOK)
     except KeyboardInterrupt:
         pass
