@@ -154,7 +154,7 @@ sync 1 fails
 $ ledger_cli serve a.d64
 tells DEVICE|
 ends 3
-syncs 3
+syncs 1
 $ ledger_cli play a.d64 s.txt
 prints 1,1,DONE,120|
 written
@@ -177,14 +177,14 @@ input 1,1,S,42,120|
 $ ledger_cli serve a.d64 --unsynced
 prints 1,1,DONE,120|
 written
-syncs 3
+syncs 1
 
 script 1,1,S,42,120|
 input 1,1,S,42,120|
 $ ledger_cli play a.d64 s.txt
 prints 1,1,DONE,120|
 written
-syncs 3
+syncs 1
 
 script 1,1,S,42,120|
 input 1,1,S,42,120|
@@ -194,7 +194,7 @@ prints 1,1,DONE,120|
 tells DEVICE|
 ends 3
 written
-syncs 3
+syncs 1
 $ ledger_cli play a.d64 s.txt
 prints 1,1,DONE,120|
 
@@ -218,7 +218,7 @@ sync 1 fails
 $ ledger_cli play --sync a.d64 s.txt
 tells DEVICE|
 ends 3
-syncs 3
+syncs 1
 $ ledger_cli play a.d64 s.txt
 prints 1,1,DONE,120|
 written
@@ -239,7 +239,7 @@ written
 script
 input
 $ ledger_cli play --sync a.d64 s.txt
-syncs 3
+syncs 1
 ";
 
 #[test]
@@ -258,6 +258,21 @@ folder-syncs 3
 
 no image
 sync 1 fails
+$ ledger_cli format a.d64 --tills 2
+tells FILE|
+ends 3
+written
+size 91904
+
+no image
+sync 2 fails
+$ ledger_cli format a.d64 --tills 2
+tells FILE|
+ends 3
+written
+
+no image
+sync 3 fails
 $ ledger_cli format a.d64 --tills 2
 tells FILE|
 ends 3
