@@ -253,11 +253,26 @@ no image
 $ ledger_cli format a.d64 --tills 2
 prints FORMATTED|
 written
-syncs 1
-folder-syncs 1
+syncs 3
+folder-syncs 3
 
 no image
 sync 1 fails
+$ ledger_cli format a.d64 --tills 2
+tells FILE|
+ends 3
+written
+size 91904
+
+no image
+sync 2 fails
+$ ledger_cli format a.d64 --tills 2
+tells FILE|
+ends 3
+written
+
+no image
+sync 3 fails
 $ ledger_cli format a.d64 --tills 2
 tells FILE|
 ends 3

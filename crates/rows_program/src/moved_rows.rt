@@ -47,7 +47,7 @@ written
 input 1,1,S,1,5|x|
 gone 4
 $ ledger_cli serve --unsynced a.d64
-prints 1,1,DONE,5|SYNTAX|
+prints 1,1,DONE,5|30,SYNTAX ERROR,00,00|
 tells DEVICE|
 ends 3
 written

@@ -18,6 +18,6 @@ returns g c =
     } in
     let a = g.T.Answers.answering in
     let at = instant_of g.D.Sectors.history c.args.disk.now in
-    told_gone a old now c.args.reply.now at refl tt c.answer-2.result refl
+    told_gone a old now c.args.reply.now at refl c.args.reply.now c.answer-2.result refl
     (subst (λ (r : Reply). IsTold (answered a) old.out.now c.answer-2.new.self r at c.answer-2.result) c.media_for.ensures
     c.answer-2.ensures)
