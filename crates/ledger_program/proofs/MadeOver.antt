@@ -43,6 +43,8 @@ module _ {F W : Type 0} (K : Keeps F) (contents : W → Option (List ℕ)) (imag
   make-not-loaded file old keep.DiskFull told = absurd told
   make-not-loaded file old keep.File told = absurd told
   make-not-loaded file old keep.Device told = absurd told
+  make-not-loaded file old keep.Geos told = absurd told
+  make-not-loaded file old keep.Format told = absurd told
 
 module _ {F : Type 0} {G : Ghosts F} (start : Mirror F G) (sound : is_broken start → ⊥) (untaken : start.taken.n ≡ 0)
     (b : Mirror F G)
@@ -88,6 +90,8 @@ module _ {F : Type 0} {G : Ghosts F} (start : Mirror F G) (sound : is_broken sta
             ok.printed;
       }),
     )
+    whole-ended whole (Err keep.Geos) ok err = absurd err
+    whole-ended whole (Err keep.Format) ok err = absurd err
     whole-ended whole (Err keep.ImageSize) ok err = absurd (err.0 size)
     whole-ended whole (Err keep.NoMemory) ok err = is-stopped image start.file b.file old new Made Fault keep.NoMemory
         refl size
@@ -140,6 +144,8 @@ module _ {F : Type 0} {G : Ghosts F} (start : Mirror F G) (sound : is_broken sta
     run-of broken (Err keep.Device) ok err = (err.0, err.2)
     run-of broken (Err keep.NoFile) ok err = absurd err
     run-of broken (Err (keep.BadLine line)) ok err = absurd err
+    run-of broken (Err keep.Geos) ok err = absurd err
+    run-of broken (Err keep.Format) ok err = absurd err
 
     -- the file failed
     broken-ended : is_broken b → (r : Result Unit KeepFault)

@@ -39,6 +39,8 @@ module _ {F W : Type 0} (K : Keeps F) (contents : W → Option (List ℕ)) (imag
   store-not-loaded file old keep.DiskFull told = absurd told
   store-not-loaded file old keep.File told = absurd told
   store-not-loaded file old keep.Device told = absurd told
+  store-not-loaded file old keep.Geos told = absurd told
+  store-not-loaded file old keep.Format told = absurd told
 
 module _ {F : Type 0} {G : Ghosts F} (start : Mirror F G) (sound : is_broken start → ⊥) (untaken : start.taken.n ≡ 0)
     (b : Mirror F G)
@@ -85,6 +87,8 @@ module _ {F : Type 0} {G : Ghosts F} (start : Mirror F G) (sound : is_broken sta
         printed = ok.printed;
       }),
     )
+    whole-ended whole (Err keep.Geos) ok err = absurd err
+    whole-ended whole (Err keep.Format) ok err = absurd err
     whole-ended whole (Err keep.ImageSize) ok err = absurd (err.0 size)
     whole-ended whole (Err keep.NoMemory) ok err = is-stopped image start.file b.file old new Stored Fault keep.NoMemory
         refl size
@@ -146,6 +150,8 @@ module _ {F : Type 0} {G : Ghosts F} (start : Mirror F G) (sound : is_broken sta
     run-of broken (Err keep.File) ok err = kept-run broken err.0
     run-of broken (Err keep.Device) ok err = ⊎_elim (λ x. kept-left _ broken x) (λ x. kept-run broken x) err.1
     run-of broken (Err keep.FileExists) ok err = absurd err
+    run-of broken (Err keep.Geos) ok err = absurd err
+    run-of broken (Err keep.Format) ok err = absurd err
 
     -- the file failed
     broken-ended : is_broken b → (r : Result Unit KeepFault)

@@ -63,6 +63,8 @@ module _ {W : Type 0} (contents : W → Option (List ℕ)) (image name : List �
   records-run (Err keep.FileExists) ok err untouched = absurd err
   records-run (Err (keep.BadLine line)) ok err untouched = absurd err
   records-run (Err keep.DiskFull) ok err untouched = absurd err
+  records-run (Err keep.Geos) ok err untouched = absurd err
+  records-run (Err keep.Format) ok err untouched = absurd err
 
   pub bytes-run : (r : Result Unit KeepFault) → OnOk r (AreBytesPrinted contents image name old new)
       → IfErr r (IsBytesFault image name)
@@ -82,3 +84,5 @@ module _ {W : Type 0} (contents : W → Option (List ℕ)) (image name : List �
   bytes-run (Err keep.FileExists) ok err untouched = absurd err
   bytes-run (Err (keep.BadLine line)) ok err untouched = absurd err
   bytes-run (Err keep.DiskFull) ok err untouched = absurd err
+  bytes-run (Err keep.Geos) ok err untouched = absurd err
+  bytes-run (Err keep.Format) ok err untouched = absurd err
