@@ -1,7 +1,6 @@
 -- The lemmas of this crate.
 mod Chains
 mod Entries
-pub mod ExactEnds
 mod Places
 mod Shorts
 mod Sides
