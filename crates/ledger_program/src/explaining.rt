@@ -71,7 +71,9 @@ fn subject_of(refusal: Refusal) -> About {
         Refusal::Draw(PictureFault::NoMemory) => About::Nothing,
         Refusal::Draw(_) => About::Image(JUDGED),
         Refusal::InUse => About::Image("another program has it; end that one first"),
-        Refusal::Exists => About::Image("it is there already; `format` without `--new` replaces it"),
+        Refusal::Exists => About::Image(
+            "it is there already; `format` without `--new` replaces it",
+        ),
     }
 }
 

@@ -64,7 +64,9 @@ fn said_of(loss: Loss) -> &'static str {
 fn chosen_by(job: &Job<'_>) -> [&'static str; 3] {
     match job {
         Job::Serve {
-            durability, loss, ..
+            durability,
+            loss,
+            ..
         } => match durability {
             Durability::EachSector => [said_of(*loss), "", ""],
             Durability::AtEnd => [said_of(*loss), ", unsynced", ""],
@@ -103,7 +105,10 @@ pub(crate) fn asked(alloc: Global, words: &[u8], out: &RefCell<Vec<u8>>) -> bool
         Ok(job) => {
             let (name, image, other, number) = row_of(job);
             let [first, second, third] = chosen_by(job);
-            write!(out, "{name}, {image}, {other}, {number}{first}{second}{third}")
+            write!(
+                out,
+                "{name}, {image}, {other}, {number}{first}{second}{third}"
+            )
         }
         Err(fault) => write!(out, "fault {}, status {}", fault.number(), fault.status()),
     };
