@@ -21,9 +21,7 @@ use disk_layout::Fault;
 use disk_pictures::PictureFault;
 use host_session::Printer;
 use keeper_commands::KeepFault;
-use ledger_commands::{
-    Durability, EndedFile, Locks, Replaced, RunFault, read_image, read_script,
-};
+use ledger_commands::{Durability, EndedFile, Locks, Replaced, RunFault, read_image, read_script};
 use std::alloc::Global;
 use std::fs::{File, OpenFile};
 use std::io::{self, Read, Write};

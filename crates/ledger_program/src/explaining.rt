@@ -83,7 +83,9 @@ fn subject_of(refusal: Refusal) -> About {
         Refusal::Draw(_) => About::Image(JUDGED),
         Refusal::InUse => About::Image("another program has it; end that one first"),
         Refusal::Kept(_) => About::Image(KEPT),
-        Refusal::Exists => About::Image("it is there already; `format` without `--new` replaces it"),
+        Refusal::Exists => About::Image(
+            "it is there already; `format` without `--new` replaces it",
+        ),
         Refusal::Short(_) => About::Image(CUT_SHORT),
     }
 }

@@ -10,7 +10,8 @@ use d64_image::{Mirror, SectorFile};
 use disk_layout::Fault;
 use host_session::Tells;
 use ledger_commands::{
-    DryFault, EndedFile, RunFault, check_image, dry, format_image, list_image, play_file, show_image,
+    DryFault, EndedFile, RunFault, check_image, dry, format_image, list_image, play_file,
+    show_image,
 };
 use std::alloc::Global;
 use std::io::Write;

@@ -25,14 +25,14 @@ filled_up all first last k b e is_b is_e =
     let size : length before ≡ b = omega (arith, length-take b (grown x b), length_grown x b) in
     let some : List ℕ = take k behind in
     let parted : before ≡ first ++ some =
-        ap (λ (n : ℕ). take n (grown x b)) is_b
-        ∙ ap (take (length first + k)) (append_assoc first rest zeros)
-        ∙ take-append-add first behind k in
+    ap (λ (n : ℕ). take n (grown x b)) is_b
+    ∙ ap (take (length first + k)) (append_assoc first rest zeros)
+    ∙ take-append-add first behind k in
     let both : length (before ++ last) ≡ e = omega (arith, size, is_e, length-append before last) in
     let tail : List ℕ = drop (b + length last) (grown x b) in
     let ended : ended_behind y e ≡ before ++ last =
-        ap (take e) (append_assoc (before ++ last) tail (replicate (e - length y) 0))
-        ∙ take_at (before ++ last) (tail ++ replicate (e - length y) 0) e both in
+    ap (take e) (append_assoc (before ++ last) tail (replicate (e - length y) 0))
+    ∙ take_at (before ++ last) (tail ++ replicate (e - length y) 0) e both in
     (some, omega (arith, size, is_b, ap length parted, length-append first some), ended ∙ ap (λ (p : List ℕ). p ++ last) parted)
 
 -- these put in the place of as many that stand behind the first bytes
@@ -41,7 +41,7 @@ pub sealed_up : (first some last put : List ℕ) (n : ℕ) → n ≡ length firs
 sealed_up first some last put n is size =
     let all : List ℕ = first ++ some ++ last in
     let fits : n ≤ length all =
-        omega (arith, is, length-append (first ++ some) last, length-append first some) in
+    omega (arith, is, length-append (first ++ some) last, length-append first some) in
     let same : grown all n ≡ all = grown_same all n fits in
     ap₂ (λ (a b : List ℕ). a ++ put ++ b)
     (ap (take n) (same ∙ append_assoc first some last) ∙ take_at first (some ++ last) n (sym is))

@@ -65,8 +65,14 @@ pub length_put_in : (all : List ℕ) (n : ℕ) (bytes : List ℕ)
     → length (put_in all n bytes) ≡ max (length all) (n + length bytes)
 length_put_in all n bytes =
     let g : List ℕ = grown all n in
-    omega (arith, length-append (take n g ++ bytes) (drop (n + length bytes) g), length-append (take n g) bytes,
-    length-take n g, length-drop (n + length bytes) g, length_grown all n)
+    omega (
+      arith,
+      length-append (take n g ++ bytes) (drop (n + length bytes) g),
+      length-append (take n g) bytes,
+      length-take n g,
+      length-drop (n + length bytes) g,
+      length_grown all n,
+    )
 
 -- before the new end
 pub index_ended : (all : List ℕ) (n i : ℕ) → i < n → get_or (ended_behind all n) i 0 ≡ get_or all i 0

@@ -134,7 +134,7 @@ module _ {F : Type 0} (r : Remains F) where
       → IsFilled image (ended_behind (put_in (put_in all 0 (take 91648 image)) 91904 (drop 91904 image)) 174848)
   is_filled image all size =
       let f = filled_up all (take 91648 image) (drop 91904 image) 256 91904 174848
-          (omega (arith, size, length-take 91648 image)) (omega (arith, size, length-drop 91904 image)) in
+      (omega (arith, size, length-take 91648 image)) (omega (arith, size, length-drop 91904 image)) in
       record { some = f.0; size = f.1; is = f.2 }
 
   pub filling : {E : Type 0} (old a b c d : F) (image : List ℕ) (result : Result Unit E) → length image ≡ 174848
@@ -145,19 +145,20 @@ module _ {F : Type 0} (r : Remains F) where
       → IsBroughtWhole r c d result → IsFilling r old d image result
   filling old a b c d image result size since first last end brought =
       let all_filled : (s : List ℕ) → r.held d ≡ Some s → IsFilled image s = λ s is.
-          let z = brought_of b c d _ result end brought s is in
-          let y = made_of _ (r.held a) z.0 (sym last ∙ z.1) in
-          let x = made_of _ (r.held old) y.0 (sym first ∙ y.1) in
-          subst (IsFilled image) (ap (λ (v : List ℕ). ended_behind (put_in v 91904 (drop 91904 image)) 174848) x.2
-          ∙ ap (λ (v : List ℕ). ended_behind v 174848) y.2 ∙ z.2) (is_filled image x.0 size) in
+      let z = brought_of b c d _ result end brought s is in
+      let y = made_of _ (r.held a) z.0 (sym last ∙ z.1) in
+      let x = made_of _ (r.held old) y.0 (sym first ∙ y.1) in
+      subst (IsFilled image) (ap (λ (v : List ℕ). ended_behind (put_in v 91904 (drop 91904 image)) 174848) x.2
+      ∙ ap (λ (v : List ℕ). ended_behind v 174848) y.2 ∙ z.2) (is_filled image x.0 size) in
       record {
         since = since_then r old c d IsSpoiled since (since_brought c d IsSpoiled result brought);
         ok = on_ok_weaker result (λ all. ((λ s is. all_filled s (all s is)), all_filled)) brought.ok;
-        held = on_ok result _ (λ all is.
-            (ended_behind (put_in (put_in all 0 (take 91648 image)) 91904 (drop 91904 image)) 174848,
-            brought.same ∙ end ∙ ap (option_map (λ all. ended_behind all 174848)) (last
-            ∙ ap (option_map (λ all. put_in all 91904 (drop 91904 image))) (first
-            ∙ ap (option_map (λ all. put_in all 0 (take 91648 image))) is))));
+        held = on_ok result _ (λ all is. (
+          ended_behind (put_in (put_in all 0 (take 91648 image)) 91904 (drop 91904 image)) 174848,
+          brought.same ∙ end ∙ ap (option_map (λ all. ended_behind all 174848)) (last
+              ∙ ap (option_map (λ all. put_in all 91904 (drop 91904 image))) (first
+              ∙ ap (option_map (λ all. put_in all 0 (take 91648 image))) is)),
+        ));
       }
 
   -- the last sector makes it the image
@@ -165,7 +166,7 @@ module _ {F : Type 0} (r : Remains F) where
       → IsFilled image all → put_in all 91648 bytes ≡ image
   is_sealed image bytes all size are filled =
       let count : length bytes ≡ 256 =
-          ap length are ∙ omega (arith, size, length-take 256 (drop 91648 image), length-drop 91648 image) in
+      ap length are ∙ omega (arith, size, length-take 256 (drop 91648 image), length-drop 91648 image) in
       ap (λ (xs : List ℕ). put_in xs 91648 bytes) filled.is
       ∙ sealed_up (take 91648 image) filled.some (drop 91904 image) bytes 91648 (omega (arith, size, length-take 91648 image))
       (omega (arith, count, filled.size))
@@ -175,8 +176,16 @@ module _ {F : Type 0} (r : Remains F) where
   length_filled : (image all : List ℕ) → length image ≡ 174848 → IsFilled image all → 91904 ≤ length all
   length_filled image all size filled =
       let whole : length all ≡ _ = ap length filled.is in
-      omega (arith, size, whole, filled.size, length-take 91648 image, length-drop 91904 image,
-      length-append (take 91648 image ++ filled.some) (drop 91904 image), length-append (take 91648 image) filled.some)
+      omega (
+        arith,
+        size,
+        whole,
+        filled.size,
+        length-take 91648 image,
+        length-drop 91904 image,
+        length-append (take 91648 image ++ filled.some) (drop 91904 image),
+        length-append (take 91648 image) filled.some,
+      )
 
   since_sealed : (old a : F) (image bytes : List ℕ) → length image ≡ 174848 → bytes ≡ take 256 (drop 91648 image)
       → length bytes ≡ 256 → AllAreFilled r old image → Changes r old a (IsPutInPart 91648 bytes)

@@ -4,7 +4,6 @@
 
 mod names;
 mod opening;
-
 mod remaining;
 mod replaced;
 mod replacing;

@@ -8,7 +8,8 @@ pub struct ShownPath<'a>(pub &'a str);
 
 /// Whether a terminal may obey it in place of showing it.
 fn is_obeyed(letter: char) -> bool {
-    letter.is_control() || ('\u{200e}'..='\u{200f}').contains(&letter)
+    letter.is_control()
+        || ('\u{200e}'..='\u{200f}').contains(&letter)
         || ('\u{2028}'..='\u{202e}').contains(&letter)
         || ('\u{2066}'..='\u{2069}').contains(&letter)
 }
