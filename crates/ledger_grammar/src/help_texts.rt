@@ -31,7 +31,8 @@ pub(crate) const CHECK: &str =
     "Prints OK, or a fault and its sector, for example LOOP 17/0. The faults are\n\
 BADLINK, LOOP, OWNEDTWICE, BADTYPE, UNCLOSED, BADSIDE, BADLENGTH, COUNTWRONG,\n\
 MAPWRONG.\n\
-docs/KEEPERS.md says what each means, and what to do.\n\
+docs/KEEPERS.md says what each means, and what to do. On a terminal, or with\n\
+--explain, SHORT and a sector follow if a file is cut short there.\n\
 Status 0: OK. 1: a fault, or IMAGE SIZE. 3: FILE, NO MEMORY, IN USE.\n\
 Example: for f in ./*.[dD]64; do printf '%s ' \"$f\"; ledger check \"$f\" 2>&1; done";
 
@@ -56,7 +57,8 @@ pub(crate) const SERVE: &str =
     "Prints the reply to a line once all that it needs is on the disk, and only then\n\
 reads the next line.\n\
 Status 0: the input ended. 1: the image isn't a shop, or a file of the disk has\n\
-lost its end (SHORT): nothing was done. 3: FILE, NO MEMORY, IN USE, DEVICE.\n\
+lost its end (SHORT): nothing was done. 3: FILE, NO MEMORY, IN USE, DEVICE (also\n\
+if IMAGE no longer names the file that is served).\n\
 Example: ledger serve shop.d64 < messages.txt";
 
 /// What `repair` prints, its statuses, and an example.
