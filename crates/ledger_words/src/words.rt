@@ -110,7 +110,7 @@ fn effect<'a>(matches: &ArgMatches<'a>) -> Effect
 
 /// The job that makes the image of a shop with so many tills.
 fn formatting<'a>(matches: &ArgMatches<'a>, image: &'a str, tills: u8) -> Job<'a>
-    ensures { result ≡ format_job (rows_of (found_of matches.now)) image.entry tills.entry }
+    ensures { result ≡ format_job (rows_of (found_of matches.now)) image.entry tills }
 {
     if is_given(matches, "new") {
         Job::FormatNew { image, tills }
