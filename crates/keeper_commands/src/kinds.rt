@@ -9,7 +9,7 @@ use crate::faults::KeepFault;
 use d64_image::{MemDisk, Sectors};
 use disk_layout::map_place;
 
-/// Where in 18/0 GEOS's signature stands, up to the version's number.
+/// GEOS's signature, from byte 173 of 18/0 on, up to the version's number.
 const GEOS_SIGN: &[u8; 13] = b"GEOS format V";
 
 /// Whether 18/0 has GEOS's signature.
