@@ -34,7 +34,7 @@ const SCRIPT: Value = Value {
     name: "SCRIPT",
     word: None,
     is_flag: false,
-    help: "The script, a message a line; /dev/stdin is standard input",
+    help: "The script, a line each message; /dev/stdin is standard input",
 };
 
 /// The name of a file on the disk.
@@ -42,7 +42,7 @@ const NAME: Value = Value {
     name: "NAME",
     word: None,
     is_flag: false,
-    help: "The file's name; a byte that isn't plain text is a backslash and two digits, as \\c1",
+    help: "The file's name; \\c1 is the byte with these two hex digits",
 };
 
 /// The text of records of a subcommand.
@@ -50,7 +50,7 @@ const RECORD_LINES: Value = Value {
     name: "RECORDS",
     word: None,
     is_flag: false,
-    help: "The records, a line each, as records prints them; /dev/stdin is standard input",
+    help: "The records as `records` prints them, or /dev/stdin",
 };
 
 /// The flag of all subcommands, which may stand before the name of one too.
@@ -58,7 +58,7 @@ pub(crate) const EXPLAIN: Value = Value {
     name: "explain",
     word: Some("explain"),
     is_flag: true,
-    help: "Prints a second line on standard error where a job isn't done, as on a terminal",
+    help: "Says more on standard error if the command fails",
 };
 
 /// The flag of those that write a disk that may have lost a part of a file.
@@ -66,7 +66,7 @@ const ACCEPT_LOSS: Value = Value {
     name: "accept-loss",
     word: Some("accept-loss"),
     is_flag: true,
-    help: "Goes on where a file has lost its end (SHORT), which stays lost",
+    help: "Goes on if a file has lost its end (SHORT)",
 };
 
 /// All subcommands, in the order in which help lists them.
@@ -88,7 +88,7 @@ pub(crate) const SUBCOMMANDS: [Subcommand; 14] = [
                 name: "new",
                 word: Some("new"),
                 is_flag: true,
-                help: "Refuses an image that is there already",
+                help: "Refuses to replace an image that exists",
             },
         ],
     },
@@ -102,21 +102,21 @@ pub(crate) const SUBCOMMANDS: [Subcommand; 14] = [
     // check IMAGE
     Subcommand {
         name: "check",
-        about: "Judges the layout of the image: prints OK, or what is wrong and where",
+        about: "Checks the layout of the image: prints OK, or a fault and its sector",
         more: CHECK,
         values: &[IMAGE],
     },
     // show IMAGE
     Subcommand {
         name: "show",
-        about: "Prints the cards of the image, and the last two requests of each till with their answers",
+        about: "Prints the cards, and the last two requests of each till",
         more: SHOW,
         values: &[IMAGE],
     },
     // play IMAGE SCRIPT [--sync]
     Subcommand {
         name: "play",
-        about: "Plays the messages of a script on the image, and prints the reply to each",
+        about: "Plays the messages of a script on the image, and prints the replies",
         more: PLAY,
         values: &[
             IMAGE,
@@ -125,14 +125,14 @@ pub(crate) const SUBCOMMANDS: [Subcommand; 14] = [
                 name: "sync",
                 word: Some("sync"),
                 is_flag: true,
-                help: "Brings each sector to the disk before the next is written, and not all at the end",
+                help: "Syncs each sector before the next is written",
             },
         ],
     },
     // serve IMAGE [--unsynced] [--accept-loss]
     Subcommand {
         name: "serve",
-        about: "Answers the messages that come on standard input, each before the next is read",
+        about: "Answers the messages on standard input, each before the next is read",
         more: SERVE,
         values: &[
             IMAGE,
@@ -140,7 +140,7 @@ pub(crate) const SUBCOMMANDS: [Subcommand; 14] = [
                 name: "unsynced",
                 word: Some("unsynced"),
                 is_flag: true,
-                help: "Leaves it to the system when sectors come to the disk",
+                help: "Leaves it to the system when sectors are synced",
             },
             ACCEPT_LOSS,
         ],
@@ -148,7 +148,7 @@ pub(crate) const SUBCOMMANDS: [Subcommand; 14] = [
     // repair IMAGE [--accept-loss] [--free] [--dry-run]
     Subcommand {
         name: "repair",
-        about: "Makes the map, the side sectors and the block counts of a sound disk right",
+        about: "Corrects the map, the side sectors and the block counts of a disk",
         more: REPAIR,
         values: &[
             IMAGE,
@@ -157,13 +157,13 @@ pub(crate) const SUBCOMMANDS: [Subcommand; 14] = [
                 name: "free",
                 word: Some("free"),
                 is_flag: true,
-                help: "Frees the sectors that the map calls taken and no file owns",
+                help: "Frees the sectors that are taken and belong to no file",
             },
             Value {
                 name: "dry-run",
                 word: Some("dry-run"),
                 is_flag: true,
-                help: "Prints what it would write, and writes nothing",
+                help: "Prints the same lines, and writes nothing",
             },
         ],
     },
@@ -201,28 +201,28 @@ pub(crate) const SUBCOMMANDS: [Subcommand; 14] = [
     // store IMAGE NAME RECORDS [--accept-loss]
     Subcommand {
         name: "store",
-        about: "Stores records in a relative file, and prints the lines of those that were otherwise",
+        about: "Stores records in a relative file, and prints those that changed",
         more: STORE,
         values: &[IMAGE, NAME, RECORD_LINES, ACCEPT_LOSS],
     },
     // map IMAGE
     Subcommand {
         name: "map",
-        about: "Prints which sector is whose: a line for each track, then the files and what a check tells",
+        about: "Prints the owner of each sector, the files, and the result of a check",
         more: MAP,
         values: &[IMAGE],
     },
     // picture IMAGE
     Subcommand {
         name: "picture",
-        about: "Prints a drawing of the disk, as an HTML page",
+        about: "Prints a drawing of the disk as an HTML page",
         more: PICTURE,
         values: &[IMAGE],
     },
     // dry SCRIPT
     Subcommand {
         name: "dry",
-        about: "Prints the reply to each message of a script, from an empty shop on, without a disk",
+        about: "Prints the replies to a script on an empty shop, without a disk",
         more: DRY,
         values: &[SCRIPT],
     },
