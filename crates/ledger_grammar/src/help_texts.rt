@@ -32,8 +32,10 @@ pub(crate) const CHECK: &str =
 BADLINK, LOOP, OWNEDTWICE, BADTYPE, UNCLOSED, BADSIDE, BADLENGTH, COUNTWRONG,\n\
 MAPWRONG.\n\
 docs/KEEPERS.md says what each means, and what to do.\n\
+On a terminal, or with --explain, SHORT and a sector follow if a file is cut\n\
+short there.\n\
 Status 0: OK. 1: a fault, or IMAGE SIZE. 3: FILE, NO MEMORY, IN USE.\n\
-Example: for f in *.d64; do printf '%s ' \"$f\"; ledger check \"$f\"; done";
+Example: for f in ./*.d64; do printf '%s ' \"$f\"; ledger check \"$f\" 2>&1; done";
 
 /// What `show` prints, its statuses, and an example.
 pub(crate) const SHOW: &str =
@@ -47,8 +49,8 @@ pub(crate) const PLAY: &str =
     "Prints a reply for each line, for example 1,1,DONE,40. In a line such as\n\
 \"@2 1,1,R,7,5\" the power fails after two writes.\n\
 Status 0: all lines were played. 1: the script (SCRIPT LINE n) or the image is\n\
-refused: nothing was done. 3: FILE, NO MEMORY, IN USE, DEVICE: play the script\n\
-again after DEVICE.\n\
+refused: nothing was done. 3: FILE, NO MEMORY, IN USE, DEVICE (check a copy on\n\
+another disk, and go on there).\n\
 Example: ledger play shop.d64 day.txt";
 
 /// What `serve` prints, its statuses, and an example.
@@ -56,7 +58,8 @@ pub(crate) const SERVE: &str =
     "Prints the reply to a line once all that it needs is on the disk, and only then\n\
 reads the next line.\n\
 Status 0: the input ended. 1: the image isn't a shop, or a file of the disk has\n\
-lost its end (SHORT): nothing was done. 3: FILE, NO MEMORY, IN USE, DEVICE.\n\
+lost its end (SHORT): nothing was done. 3: FILE, NO MEMORY, IN USE, DEVICE (also\n\
+if IMAGE no longer names the file that is served).\n\
 Example: ledger serve shop.d64 < messages.txt";
 
 /// What `repair` prints, its statuses, and an example.
