@@ -31,8 +31,9 @@ pub(crate) const CHECK: &str =
     "Prints OK, or a fault and its sector, for example LOOP 17/0. The faults are\n\
 BADLINK, LOOP, OWNEDTWICE, BADTYPE, UNCLOSED, BADSIDE, BADLENGTH, COUNTWRONG,\n\
 MAPWRONG.\n\
-docs/KEEPERS.md says what each means, and what to do. On a terminal, or with\n\
---explain, SHORT and a sector follow if a file is cut short there.\n\
+docs/KEEPERS.md says what each means, and what to do.\n\
+On a terminal, or with --explain, SHORT and a sector follow if a file is cut\n\
+short there.\n\
 Status 0: OK. 1: a fault, or IMAGE SIZE. 3: FILE, NO MEMORY, IN USE.\n\
 Example: for f in ./*.[dD]64; do printf '%s ' \"$f\"; ledger check \"$f\" 2>&1; done";
 
@@ -48,8 +49,8 @@ pub(crate) const PLAY: &str =
     "Prints a reply for each line, for example 1,1,DONE,40. In a line such as\n\
 \"@2 1,1,R,7,5\" the power fails after two writes.\n\
 Status 0: all lines were played. 1: the script (SCRIPT LINE n) or the image is\n\
-refused: nothing was done. 3: FILE, NO MEMORY, IN USE, DEVICE: after DEVICE\n\
-check a copy on another disk, and go on there.\n\
+refused: nothing was done. 3: FILE, NO MEMORY, IN USE, DEVICE (check a copy on\n\
+another disk, and go on there).\n\
 Example: ledger play shop.d64 day.txt";
 
 /// What `serve` prints, its statuses, and an example.
