@@ -14,7 +14,7 @@ returns-in_err-cut g c =
 pub returns : goal.returns
 returns g c =
     let P : JobEnd → Type 0 = IsTakingEnd g.W.Write.contents c.args.what c.args.image.now c.args.name.now
-    c.args.out.now c.taking_run.new.out in
+    c.args.out.now c.taking_run-ended.new.out in
     subst P (sym c.taken_end.ensures) (taking-ended g.W.Write.contents c.args.what c.args.image.now c.args.name.now
-    c.args.out.now c.taking_run.new.out c.taking_run.result c.in_ok-cut.cut c.taking_run.ensures.run
+    c.args.out.now c.taking_run-ended.new.out c.taking_run-ended.result c.in_ok-cut.cut c.taking_run-ended.ensures.run
     c.in_ok-cut.ensures.ok)
