@@ -182,10 +182,7 @@ pub fn store_guarded<F: SectorFile, W: Write>(
 }
 
 /// How a taking ended of a file that is cut short there, or isn't.
-fn taken_end(
-    ended: Result<(), KeepFault>,
-    cut: Option<Place>,
-) -> Result<Option<Fault>, Refusal>
+fn taken_end(ended: Result<(), KeepFault>, cut: Option<Place>) -> Result<Option<Fault>, Refusal>
     ensures { result ≡ taken_end ended cut }
 {
     match (ended, cut) {

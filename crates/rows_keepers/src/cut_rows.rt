@@ -89,5 +89,10 @@ fn files_that_count_more_are_cut_short(rt: HostRuntime) {
 fn a_name_is_asked_for(rt: HostRuntime) {
     let one_more: &[Change] = &[(17, 3, 18, &[17, 9])];
     same_at(&rt, cut(&rt, one_more, Some(b"STOCK")), None, "STOCK");
-    same_at(&rt, cut(&rt, one_more, Some(b"REQUESTS")), Some((17, 2)), "REQUESTS");
+    same_at(
+        &rt,
+        cut(&rt, one_more, Some(b"REQUESTS")),
+        Some((17, 2)),
+        "REQUESTS",
+    );
 }
