@@ -37,6 +37,7 @@ const UNWRITTEN: &str =
     "it couldn't be written; copy it to another medium, check the copy, and go on there";
 
 const KEPT: &str = "no file owns what is kept, but another program may; `repair --free` frees it";
+
 const CUT_SHORT: &str = "a file ends at that sector, too early: docs/KEEPERS.md says what to do";
 
 const BAD_LINE: &str = "nothing was done; mend the line, and run it again";

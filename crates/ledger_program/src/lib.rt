@@ -26,7 +26,9 @@ pub use durable_runs::{play_durably, serve_durably};
 pub use explaining::{announce, explain, tell_cut};
 pub use jobs::{Drawing, Effect, Job, Loss, Reading, Taking, Unowned};
 pub use keeping::{dry_repair_run, make_run, repair_run, store_run, taking_run};
-pub use losses::{dry_repair_guarded, make_guarded, repair_guarded, serve_guarded, store_guarded, take_told};
+pub use losses::{
+    dry_repair_guarded, make_guarded, repair_guarded, serve_guarded, store_guarded, take_told,
+};
 pub use names::Name;
 pub use refusals::Refusal;
 pub use running::{format_run, play_run, reading_run};
