@@ -8,8 +8,8 @@ use Rattle.d64_image.specs.History.{Changes, History, WritesNothing}
 use Rattle.d64_image.specs.Images.{Image, Sector}
 use Rattle.d64_image.specs.Keeps.{FileFailed, Keeps}
 use Rattle.d64_image.specs.Memory.{sectors_in}
-use Rattle.d64_image.specs.Mirrors.{IsMirrored, is_broken, mirror, mirror_image}
-use Rattle.d64_image.specs.declared.mirror.Mirror.{Mirror}
+use Rattle.d64_image.specs.KeptMirrors.{IsMirrored, is_broken, mirror, mirror_image}
+use Rattle.d64_image.specs.declared.kept_mirror.KeptMirror.{KeptMirror}
 use Rattle.d64_image.specs.declared.place.Place.{Place}
 use Rattle.d64_image.specs.declared.sector_file.SectorFile.{Ghosts}
 use Rattle.disk_layout.proofs.lemmas.layouts.Twice.{told-unsound}
@@ -74,8 +74,8 @@ not-loaded K contents image file old keep.DiskFull told = absurd told
 not-loaded K contents image file old keep.File told = absurd told
 not-loaded K contents image file old keep.Device told = absurd told
 
-module _ {F : Type 0} {G : Ghosts F} (start : Mirror F G) (sound : is_broken start → ⊥) (untaken : start.taken.n ≡ 0)
-    (b : Mirror F G) where
+module _ {F : Type 0} {G : Ghosts F} (start : KeptMirror F G) (sound : is_broken start → ⊥) (untaken : start.taken.n ≡ 0)
+    (b : KeptMirror F G) where
   abbrev file_run : History (FileDisk G.keeps)
   file_run = in_run G.keeps start.file
 
@@ -153,7 +153,7 @@ module _ {F : Type 0} {G : Ghosts F} (start : Mirror F G) (sound : is_broken sta
     whole-ended whole (Err keep.ImageSize) ok err = absurd (err.0 size)
     whole-ended whole (Err keep.NoMemory) ok err =
         stopped G.keeps contents image start.file b.file old new keep.NoMemory refl size
-        (size, (ap (λ (m : Mirror F G). m.file) err.1, err.2))
+        (size, (ap (λ (m : KeptMirror F G). m.file) err.1, err.2))
     whole-ended whole (Err (keep.Layout fault)) ok err =
         let same : IsUntouched start.file b.file old new = (same_file start sound untaken b err.2 whole, err.3) in
         let told : Holds nowhere (sectors_in image) fault = subst (λ img. Holds nowhere img fault) holds err.1 in
@@ -178,7 +178,7 @@ module _ {F : Type 0} {G : Ghosts F} (start : Mirror F G) (sound : is_broken sta
         → IfErr r (IsRepairFault mirror image start b old new) → IsRepairRun mirror image start b
     run-of broken (Ok x) ok err = ok.mended.run
     run-of broken (Err keep.ImageSize) ok err = absurd (err.0 size)
-    run-of broken (Err keep.NoMemory) ok err = absurd (sound (subst (λ (m : Mirror F G). is_broken m) err.1 broken))
+    run-of broken (Err keep.NoMemory) ok err = absurd (sound (subst (λ (m : KeptMirror F G). is_broken m) err.1 broken))
     run-of broken (Err (keep.Layout fault)) ok err = left-alone fault err.1 err.2
     run-of broken (Err keep.File) ok err = err.run
     run-of broken (Err keep.Device) ok err = err.0
