@@ -31,13 +31,13 @@ use Rattle.d64_image.specs.Fuses.{fuse, fuse_left}
 use Rattle.d64_image.specs.History.{History, HeldOnly, Failed, IfCounted, OnlyReads, OldOr, WritesNothing}
 use Rattle.d64_image.specs.Memory.{memory}
 use Rattle.d64_image.specs.Keeps.{Agrees, put_kept}
-use Rattle.d64_image.specs.Mirrors.{IsMirrored, is_broken, mirror, mirror_file, mirror_writes}
+use Rattle.d64_image.specs.KeptMirrors.{IsMirrored, is_broken, mirror, mirror_file, mirror_writes}
 use Rattle.d64_image.specs.Offsets.{offset_of, overwritten}
 use Rattle.d64_image.specs.OneFaults.{calls_left, fault_place, is_due, one_fault}
 use Rattle.d64_image.specs.declared.sector_file.SectorFile.{Ghosts}
 use Rattle.d64_image.specs.declared.fuse.Fuse.{Fuse}
 use Rattle.d64_image.specs.declared.mem_disk.MemDisk.{MemDisk}
-use Rattle.d64_image.specs.declared.mirror.Mirror.{Mirror}
+use Rattle.d64_image.specs.declared.kept_mirror.KeptMirror.{KeptMirror}
 use Rattle.d64_image.specs.declared.one_fault.OneFault.{OneFault}
 use Rattle.d64_image.proofs.Places.{place_at-none, place_at-self}
 
@@ -168,11 +168,11 @@ known_agrees_with_its_image img other agrees = agrees
 
 module _ {F : Type 0} {G : Ghosts F} where
   -- a mirror whose file failed fails everywhere
-  pub broken_mirror_fails_everywhere : (m : Mirror F G) (p : Place) → m.broken ≡ true → mirror.failed_at m p
+  pub broken_mirror_fails_everywhere : (m : KeptMirror F G) (p : Place) → m.broken ≡ true → mirror.failed_at m p
   broken_mirror_fails_everywhere m p broken = broken
 
   -- a mirror that took no sector left its file alone
-  pub mirror_that_took_nothing_left_its_file : (old new : Mirror F G) → IsMirrored old new → mirror_writes old ≡ 0
+  pub mirror_that_took_nothing_left_its_file : (old new : KeptMirror F G) → IsMirrored old new → mirror_writes old ≡ 0
       → mirror_writes new ≡ 0
       → ¬ (is_broken new) → mirror_file new ≡ mirror_file old
   mirror_that_took_nothing_left_its_file old new x none still whole =

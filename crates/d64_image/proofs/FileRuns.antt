@@ -1,10 +1,10 @@
 -- What a run over a mirror says of its file.
 use Rattle.std.proofs.Common.{Bool, true, false, ◌≡◌, ◌<◌, ◌≤◌, ◌+◌, None, Option, Some, arith, refl, ⊎_elim}
 use Rattle.std.proofs.lemmas.Bool.Decides.{nat_tests}
-use Rattle.d64_image.specs.declared.mirror.Mirror.{Mirror}
+use Rattle.d64_image.specs.declared.kept_mirror.KeptMirror.{KeptMirror}
 use Rattle.d64_image.specs.declared.sector_file.SectorFile.{Ghosts}
 use Rattle.d64_image.specs.FileDisks.{FileDisk, fails_since, in_run}
-use Rattle.d64_image.specs.Mirrors.{IsMirrored, is_broken, mirror, mirror_image, one_if}
+use Rattle.d64_image.specs.KeptMirrors.{IsMirrored, is_broken, mirror, mirror_image, one_if}
 use Rattle.d64_image.specs.History.{Changes, Failed, HeldOnly, NeverFailed}
 use Rattle.d64_image.specs.Images.{Image}
 use Rattle.d64_image.specs.Keeps.{Agrees, FileFailed, Keeps, kept_or}
@@ -27,7 +27,7 @@ one_if-false false not = refl
 
 module _ {F : Type 0} {G : Ghosts F} where
   -- the file of a mirror, with what the mirror holds
-  abbrev pub file_disk : Mirror F G → FileDisk G.keeps
+  abbrev pub file_disk : KeptMirror F G → FileDisk G.keeps
   file_disk m = record {
     file = m.file;
     image = mirror_image m;
@@ -36,14 +36,14 @@ module _ {F : Type 0} {G : Ghosts F} where
   }
 
   -- a mirror that isn't broken never failed
-  pub not_failed : (a b : Mirror F G) → (is_broken b → ⊥) → Failed mirror a b → ⊥
+  pub not_failed : (a b : KeptMirror F G) → (is_broken b → ⊥) → Failed mirror a b → ⊥
   not_failed a b whole failed =
       let none : one_if b.broken ≡ 0 = one_if-false b.broken whole in
       let rose : one_if a.broken < one_if b.broken = failed.rose (omega (arith, none)) in
       omega (arith, none, rose)
 
   -- and its file is as it was, where it was handed nothing
-  pub same_file : (a b : Mirror F G) (P : Image → Type 0) → a.taken.n ≡ 0 → Changes mirror a b 0 P → (is_broken b → ⊥)
+  pub same_file : (a b : KeptMirror F G) (P : Image → Type 0) → a.taken.n ≡ 0 → Changes mirror a b 0 P → (is_broken b → ⊥)
       → b.file ≡ a.file
   same_file a b P untaken kept whole =
       let taken : b.taken.n ≤ a.taken.n + 0 = kept.writes in
@@ -53,7 +53,7 @@ module _ {F : Type 0} {G : Ghosts F} where
 
   module _ (first : F) where
     -- what the mirror held its file kept
-    pub held_by_file : (a b : Mirror F G) (P : Image → Type 0) → HeldOnly mirror a b P
+    pub held_by_file : (a b : KeptMirror F G) (P : Image → Type 0) → HeldOnly mirror a b P
         → HeldOnly (in_run G.keeps first) (file_disk a) (file_disk b) P
     held_by_file a b P held = record {
       reached = (held.reached.file, held.reached.failures);
@@ -62,13 +62,13 @@ module _ {F : Type 0} {G : Ghosts F} where
       before = held.before;
     }
 
-  module _ (start : Mirror F G) (whole : is_broken start → ⊥) where
+  module _ (start : KeptMirror F G) (whole : is_broken start → ⊥) where
     -- a broken mirror's file failed, and no other's
-    pub file_failed : (b : Mirror F G) → IsMirrored start b → is_broken b → FileFailed G.keeps start.file b.file
+    pub file_failed : (b : KeptMirror F G) → IsMirrored start b → is_broken b → FileFailed G.keeps start.file b.file
     file_failed b x broken = ⊎_elim (λ (h : is_broken start). absurd (whole h)) (λ f. f) (x.failed broken)
 
     -- a mirror whose file hasn't failed since is whole
-    pub since_whole : (b : Mirror F G) → IsMirrored start b → fails_since G.keeps start.file b.file < 1 → is_broken b
+    pub since_whole : (b : KeptMirror F G) → IsMirrored start b → fails_since G.keeps start.file b.file < 1 → is_broken b
         → ⊥
     since_whole b x few broken =
         let one : fails_since G.keeps start.file b.file ≡ 1 =
@@ -76,7 +76,7 @@ module _ {F : Type 0} {G : Ghosts F} where
         omega (arith, one, few)
 
     -- a failure of the mirror in the run is one of the file's
-    pub failed_by_file : (a b : Mirror F G) → IsMirrored start b → IsMirrored a b → Failed mirror a b
+    pub failed_by_file : (a b : KeptMirror F G) → IsMirrored start b → IsMirrored a b → Failed mirror a b
         → Failed (in_run G.keeps start.file) (file_disk a) (file_disk b)
     failed_by_file a b x y failed = record {
       later = since_grows G.keeps start.file a.file b.file y.failures;
@@ -87,7 +87,7 @@ module _ {F : Type 0} {G : Ghosts F} where
     }
 
     -- where the file doesn't fail, the mirror doesn't
-    pub never_failed : (b : Mirror F G) → IsMirrored start b → NeverFailed (in_run G.keeps start.file) (file_disk start)
+    pub never_failed : (b : KeptMirror F G) → IsMirrored start b → NeverFailed (in_run G.keeps start.file) (file_disk start)
         (file_disk b)
         → NeverFailed mirror start b
     never_failed b x never =

@@ -4,7 +4,8 @@ pub mod FileRuns
 pub mod FuseCalls
 pub mod Fused
 pub mod Images
-pub mod MirrorCalls
+pub mod KeptMirrorCalls
+pub mod Mirrored
 pub mod Moments
 pub mod Offsets
 pub mod Once

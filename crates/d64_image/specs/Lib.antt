@@ -9,6 +9,7 @@ pub mod History
 pub mod Images
 pub mod Keeps
 pub mod KeptDisks
+pub mod KeptMirrors
 pub mod Memory
 pub mod Meters
 pub mod Mirrors

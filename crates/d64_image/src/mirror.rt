@@ -1,45 +1,61 @@
-//! A disk in memory whose sectors a file keeps.
-ghost use Rattle.std.specs.Prelude.{◌≡◌, true};
-ghost use Rattle.d64_image.specs.Keeps.{Agrees};
-ghost use Rattle.d64_image.specs.Memory.{disk_image};
-ghost use Rattle.std.proofs.Props.{props};
+//! A disk in memory whose sectors also go to a file.
+ghost use Rattle.std.specs.Prelude.{OnOk};
+ghost use Rattle.std.specs.Io.KnownBytes.{Appends};
 
 use crate::count::Count;
 use crate::faults::DeviceFault;
 use crate::mem_disk::MemDisk;
 use crate::place::Place;
-use crate::sector_file::SectorFile;
 use crate::sectors::Sectors;
+use std::io::{Seek, SeekFrom, Write};
 
-/// A disk in memory, and a file that keeps the same image. Each sector is handed to the file before memory takes it.
-/// Where the file fails, memory stays, and each call fails from then on: whether the file keeps that sector isn't
-/// known, and what came after it would part the two for good.
+/// A disk in memory, and a file that holds the same image: any file that is written and sought. Each sector is handed to
+/// the file, at 256 times its index, before memory takes it. If the file fails, memory stays, and each call fails from
+/// then on: what the file holds of that sector isn't known, and what came after it would part the two for good. What a
+/// `SectorFile` keeps a `KeptMirror` says.
 #[derive(Drop)]
-pub struct Mirror<F: SectorFile> {
+pub struct Mirror<F> {
     file: F,
     disk: MemDisk,
+    at: Option<u64>,
     broken: bool,
     taken: Count,
-    ghost agrees: { (broken ≡ true → ⊥) → Agrees (F.keeps.kept file) (disk_image disk) } by { Prim.hlevel props },
+    failed: Count,
 }
 
-impl<F: SectorFile> Mirror<F> {
-    ghost use Rattle.std.specs.Prelude.{◌↔◌};
-    ghost use Rattle.d64_image.specs.Mirrors.{mirror_file, is_broken, mirror_disk, mirror_writes};
+/// Writes all these bytes. A file that gathers what it is handed hands it on.
+#[tactic(auto, using(crate::proofs::Mirrored::appends_kept))]
+// In line, as all on the way to the file is: a return right behind a call of the system is dear.
+#[inline(always)]
+fn write_through<F: Write>(file: &mut F, bytes: &[u8]) -> std::io::Result<()>
+    ensures { OnOk result (Appends (F.contents file.old) (F.contents file.new) bytes.now) }
+{
+    file.write_all(bytes)?;
+    file.flush()
+}
 
-    /// A mirror of a disk in a file that keeps the same image, or of which that isn't known. Neither is touched.
+impl<F: Write + Seek> Mirror<F> {
+    ghost use Rattle.std.specs.Prelude.{◌≡◌, ◌↔◌, ◌+◌, None, Some, true};
+    ghost use Rattle.d64_image.specs.Mirrors.{IsHanded, is_broken, mirror_at, mirror_disk};
+    ghost use Rattle.d64_image.specs.Mirrors.{mirror_failures, mirror_file, mirror_writes};
+    ghost use Rattle.d64_image.specs.Offsets.{offset_of};
+
+    /// A mirror of a disk in a file that holds the same 174,848 bytes, wherever it stands. Neither is touched.
     pub fn new(file: F, disk: MemDisk) -> Mirror<F>
-        requires agrees { Agrees (F.keeps.kept file) (disk_image disk) }
-        ensures file { mirror_file result ≡ file }
         ensures disk { mirror_disk result ≡ disk }
+        ensures file { mirror_file result ≡ file }
+        ensures at { mirror_at result ≡ None }
         ensures whole { is_broken result → ⊥ }
+        ensures unfailed { mirror_failures result ≡ 0 }
         ensures untaken { mirror_writes result ≡ 0 }
     {
         Mirror {
             file,
             disk,
+            at: None,
             broken: false,
             taken: Count::zero(),
+            failed: Count::zero(),
         }
     }
 
@@ -50,13 +66,6 @@ impl<F: SectorFile> Mirror<F> {
         self.broken
     }
 
-    /// The disk in memory.
-    pub fn disk(&self) -> &MemDisk
-        ensures { result.now ≡ mirror_disk self.now }
-    {
-        &self.disk
-    }
-
     /// The file, and the disk in memory.
     pub fn into_inner(self) -> (F, MemDisk)
         ensures file { result.0 ≡ mirror_file self }
@@ -65,51 +74,82 @@ impl<F: SectorFile> Mirror<F> {
         let Mirror {
             file,
             disk,
+            at: _,
             broken: _,
             taken: _,
+            failed: _,
         } = self;
         (file, disk)
     }
+
+    /// Hands a sector to the file, without a seek where the file stands there already.
+    // In line, as `write_through` is.
+    #[inline(always)]
+    fn hand_over(&mut self, place: Place, from: &[u8; 256]) -> std::io::Result<()>
+        ensures disk { self.new.disk ≡ self.old.disk }
+        ensures broken { self.new.broken ≡ self.old.broken }
+        ensures taken { self.new.taken ≡ self.old.taken }
+        ensures failed { self.new.failed ≡ self.old.failed }
+        ensures ok { OnOk result (self.new.at ≡ Some (offset_of place + 256)) }
+        ensures handed { OnOk result (IsHanded F.stream_position F.stream_bytes F.contents
+            self.old.at self.old.file self.new.file (offset_of place) from.now) }
+    {
+        let offset = 256 * place.index() as u64;
+        if self.at != Some(offset) {
+            self.file.seek(SeekFrom::Start(offset))?;
+        }
+        write_through(&mut self.file, from)?;
+        self.at = Some(offset + 256);
+        Ok(())
+    }
 }
 
-impl<F: SectorFile> Sectors for Mirror<F> {
-    ghost use Rattle.std.specs.Prelude.{IsErr, IsOk, OnErr, OnOk};
+impl<F: Write + Seek> Sectors for Mirror<F> {
+    ghost use Rattle.std.specs.Prelude.{◌≡◌, ◌+◌, Some, IsErr, IsOk, OnErr, OnOk};
     ghost use Rattle.d64_image.specs.Calls.{ReadsSector, WritesSector};
     ghost use Rattle.d64_image.specs.Faults.{device_fault};
     ghost use Rattle.d64_image.specs.Memory.{disk_bytes};
-    ghost use Rattle.d64_image.specs.Mirrors.{is_broken, mirror, mirror_disk, mirror_file};
+    ghost use Rattle.d64_image.specs.Mirrors.{IsHanded, is_broken, mirror};
+    ghost use Rattle.d64_image.specs.Mirrors.{mirror_at, mirror_disk, mirror_file};
     ghost use Rattle.d64_image.specs.Offsets.{offset_of, overwritten};
 
-    ghost history = { mirror };
+    ghost history = { mirror F.stream_position F.stream_bytes F.contents };
 
     /// Reads memory alone.
     fn read(&mut self, place: Place, to: &mut [u8; 256]) -> Result<(), DeviceFault>
-        ensures device { ReadsSector mirror self.old self.new place to.new device_fault result }
+        ensures device { ReadsSector (mirror F.stream_position F.stream_bytes F.contents) self.old self.new place to.new device_fault result }
         // it fails exactly where it is broken
         ensures broken { is_broken self.old → IsErr result }
         ensures whole { (is_broken self.old → ⊥) → IsOk result }
-        ensures file { mirror_file self.new ≡ mirror_file self.old }
+        ensures file { (mirror_file self.new ≡ mirror_file self.old) × (mirror_at self.new ≡ mirror_at self.old) }
     {
         if self.broken {
+            self.failed.add_one();
             return Err(DeviceFault);
         }
         self.disk.read(place, to)
     }
 
     /// Hands the sector to the file, and then to memory. Where the file fails, memory is as before.
-    // In line: a return right behind a call of the system is dear.
+    // In line, as `write_through` is.
     #[inline(always)]
     fn write(&mut self, place: Place, from: &[u8; 256]) -> Result<(), DeviceFault>
-        ensures device { WritesSector mirror self.old self.new place from.now device_fault result }
+        ensures device { WritesSector (mirror F.stream_position F.stream_bytes F.contents) self.old self.new place from.now
+            device_fault result }
         // a broken mirror hands nothing over
         ensures broken { is_broken self.old → IsErr result × (mirror_file self.new ≡ mirror_file self.old) }
-        // at Ok memory's bytes changed at 256 times the sector's index
+        // the file was handed this sector alone, at its place, with a seek only where it stood elsewhere; that is where
+        // memory's bytes changed
+        ensures handed { OnOk result (IsHanded F.stream_position F.stream_bytes F.contents
+            (mirror_at self.old) (mirror_file self.old) (mirror_file self.new) (offset_of place) from.now) }
         ensures bytes { OnOk result (disk_bytes (mirror_disk self.new)
             ≡ overwritten (disk_bytes (mirror_disk self.old)) (offset_of place) from.now) }
+        ensures at { OnOk result (mirror_at self.new ≡ Some (offset_of place + 256)) }
         ensures kept { OnErr result (is_broken self.new × (mirror_disk self.new ≡ mirror_disk self.old)) }
     {
-        if self.broken || self.file.keep(place, from).is_err() {
+        if self.broken || self.hand_over(place, from).is_err() {
             self.broken = true;
+            self.failed.add_one();
             return Err(DeviceFault);
         }
         self.taken.add_one();

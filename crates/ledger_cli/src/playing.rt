@@ -8,7 +8,7 @@ ghost use Rattle.ledger_commands.specs.Faults.{script_fault};
 ghost use Rattle.ledger_commands.specs.Plays.{IsFileFault, IsPlayEnd, IsPlayedFile};
 ghost use Rattle.ledger_program.specs.Runs.{IsPlayRun};
 
-use d64_image::{Mirror, SectorFile, Sectors};
+use d64_image::{KeptMirror, SectorFile, Sectors};
 use disk_layout::Fault;
 use host_session::{ScriptFault, run_script};
 use ledger_commands::{RunFault, file_of, load};
@@ -70,7 +70,7 @@ fn play_over<F: SectorFile, W: Write>(
         Ok(disk) => disk,
         Err(fault) => return Err((fault, file)),
     };
-    match play_lines(Mirror::new(file, disk), script, out) {
+    match play_lines(KeptMirror::new(file, disk), script, out) {
         Ok(mirror) => file_of(mirror, Ok(())),
         Err((fault, mirror)) => file_of(mirror, Err(fault)),
     }

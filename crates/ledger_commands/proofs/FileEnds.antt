@@ -2,13 +2,13 @@
 use Rattle.std.proofs.Common.{◌≡◌, ◌≢◌, ◌<◌, ◌≤◌, ℕ, List, None, Result, Ok, Err, arith, inl, inr}
 use Rattle.std.proofs.Common.{length, refl, subst, sym, ap, ⊎_elim}
 use Rattle.std.proofs.lemmas.Bool.{cases_lt}
-use Rattle.d64_image.specs.declared.mirror.Mirror.{Mirror}
+use Rattle.d64_image.specs.declared.kept_mirror.KeptMirror.{KeptMirror}
 use Rattle.d64_image.specs.declared.sector_file.SectorFile.{Ghosts}
 use Rattle.d64_image.specs.FileDisks.{FileDisk, in_run}
 use Rattle.d64_image.specs.History.{Failed}
 use Rattle.d64_image.specs.Keeps.{FileFailed, Keeps}
 use Rattle.d64_image.specs.Memory.{sectors_in}
-use Rattle.d64_image.specs.Mirrors.{IsMirrored, is_broken, mirror, mirror_image}
+use Rattle.d64_image.specs.KeptMirrors.{IsMirrored, is_broken, mirror, mirror_image}
 use Rattle.d64_image.proofs.FileRuns.{file_disk, file_failed, not_failed, same_file}
 use Rattle.host_session.specs.declared.faults.OpenFault.{OpenFault}
 use Rattle.host_session.specs.declared.faults.OpenFault.TheVariants as opening
@@ -40,9 +40,9 @@ failed_stably K a b not_never = record {
       (cases_lt (K.failures a) (K.failures b));
 }
 
-module _ {F T : Type 0} {G : Ghosts F} (o : Output T) (image script : List ℕ) (start : Mirror F G)
+module _ {F T : Type 0} {G : Ghosts F} (o : Output T) (image script : List ℕ) (start : KeptMirror F G)
     (sound : is_broken start → ⊥) (untaken : start.taken.n ≡ 0)
-    (size : length image ≡ 174848) (holds : mirror_image start ≡ sectors_in image) (old new : T) (m : Mirror F G) where
+    (size : length image ≡ 174848) (holds : mirror_image start ≡ sectors_in image) (old new : T) (m : KeptMirror F G) where
   taken_up : {Ends : FileDisk G.keeps → FileDisk G.keeps → Type 0} → Ends (file_disk start) (file_disk m)
       → IsTakenUp G.keeps image start.file m.file Ends
   taken_up ends = record {
@@ -55,7 +55,7 @@ module _ {F T : Type 0} {G : Ghosts F} (o : Output T) (image script : List ℕ) 
     ends = ends;
   }
 
-  over_file : (r : Result (Mirror F G) (RunFault × Mirror F G)) → IsPlayEnd mirror o start script old new r
+  over_file : (r : Result (KeptMirror F G) (RunFault × KeptMirror F G)) → IsPlayEnd mirror o start script old new r
       → IsPlayEnd (in_run G.keeps start.file) o (file_disk start) script old new (end_of_file r)
   over_file (Ok left) x = (script_of_file o start sound untaken old new script (Ok left) x.0, x.1)
   over_file (Err e) x = ⊎_elim
@@ -112,7 +112,7 @@ module _ {F T : Type 0} {G : Ghosts F} (o : Output T) (image script : List ℕ) 
       let first = x.good n refl in
       let y = x.bad_line n first in
       let same : m ≡ start = ap left_in y.0 in
-      (size, first, (ap (λ (k : Mirror F G). k.file) same, y.1))
+      (size, first, (ap (λ (k : KeptMirror F G). k.file) same, y.1))
   script_at whole script_faults.Output x =
       let s = x.after refl in
       file_at whole (x.moments s.0 s.1).reached (inr (script_faults.Output, refl, x))
@@ -135,7 +135,7 @@ module _ {F T : Type 0} {G : Ghosts F} (o : Output T) (image script : List ℕ) 
   failed_at_err broken (script_faults.BadLine n) x =
       let y = x.bad_line n (x.good n refl) in
       let same : m ≡ start = ap left_in y.0 in
-      absurd (sound (subst (λ (k : Mirror F G). is_broken k) same broken))
+      absurd (sound (subst (λ (k : KeptMirror F G). is_broken k) same broken))
   failed_at_err broken script_faults.Output x = let s = x.after refl in
       file_failed start sound m (x.moments s.0 s.1).reached broken
   failed_at_err broken script_faults.Device x = let s = (x.cause refl).0 in

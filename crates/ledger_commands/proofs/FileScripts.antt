@@ -2,12 +2,12 @@
 use Rattle.std.proofs.Common.{◌≡◌, ◌<◌, ◌∙◌, ℕ, Bool, List, [], ◌∷◌, ◌++◌, Ok, Err, Result, ap}
 use Rattle.std.proofs.Common.{arith, inl, inr, subst, sym, ⊎_elim}
 use Rattle.std.proofs.lemmas.Bool.{cases_lt}
-use Rattle.d64_image.specs.declared.mirror.Mirror.{Mirror}
+use Rattle.d64_image.specs.declared.kept_mirror.KeptMirror.{KeptMirror}
 use Rattle.d64_image.specs.declared.sector_file.SectorFile.{Ghosts}
 use Rattle.d64_image.specs.FileDisks.{FileDisk, fails_since, in_run}
 use Rattle.d64_image.specs.History.{Failed, History}
 use Rattle.d64_image.specs.Images.{Image}
-use Rattle.d64_image.specs.Mirrors.{IsMirrored, is_broken, mirror}
+use Rattle.d64_image.specs.KeptMirrors.{IsMirrored, is_broken, mirror}
 use Rattle.d64_image.proofs.FileRuns.{failed_by_file, file_disk, held_by_file, never_failed, since_grows}
 use Rattle.d64_image.proofs.Moments.{weaker}
 use Rattle.host_session.specs.declared.faults.OpenFault.{OpenFault}
@@ -33,7 +33,7 @@ use Rattle.ledger_commands.proofs.FileChains.{within_run}
 use Rattle.ledger_commands.proofs.FileTurns.{over_files, over_files-more, same_told}
 
 -- how a run over a mirror ended, as one over its file
-abbrev pub end_of_file : {E F : Type 0} {G : Ghosts F} → Result (Mirror F G) (E × Mirror F G)
+abbrev pub end_of_file : {E F : Type 0} {G : Ghosts F} → Result (KeptMirror F G) (E × KeptMirror F G)
     → Result (FileDisk G.keeps) (E × FileDisk G.keeps)
 end_of_file (Ok m) = Ok (file_disk m)
 end_of_file (Err e) = Err (e.0, file_disk e.1)
@@ -48,12 +48,12 @@ refuses_so P Q img (opening.BadRequestCard n) so is = is
 refuses_so P Q img opening.TwoIntents so is = is
 refuses_so P Q img opening.Device so is = so is
 
-module _ {F T : Type 0} {G : Ghosts F} (o : Output T) (start : Mirror F G) (whole : is_broken start
+module _ {F T : Type 0} {G : Ghosts F} (o : Output T) (start : KeptMirror F G) (whole : is_broken start
     → ⊥) (untaken : start.taken.n ≡ 0) (old new : T) where
   abbrev file_run : History (FileDisk G.keeps)
   file_run = in_run G.keeps start.file
 
-  played_of_file : (s : Shop) (ms : List Message) (b : Mirror F G) (told same : List Reply) (Whole : List Message
+  played_of_file : (s : Shop) (ms : List Message) (b : KeptMirror F G) (told same : List Reply) (Whole : List Message
       → List Bool → Type 0) (Ends : State → Type 0)
       → IsMirrored start b → told ≡ same → IsPlayed mirror s ms start b told Whole Ends
       → IsPlayed file_run s ms (file_disk start) (file_disk b) same Whole Ends
@@ -68,7 +68,7 @@ module _ {F T : Type 0} {G : Ghosts F} (o : Output T) (start : Mirror F G) (whol
     ends = p.ends;
   }
 
-  pub moments_of_file : (s : Shop) (ms : List Message) (b : Mirror F G) → HeldBeginnings mirror s ms start b
+  pub moments_of_file : (s : Shop) (ms : List Message) (b : KeptMirror F G) → HeldBeginnings mirror s ms start b
       → HeldBeginnings file_run s ms (file_disk start) (file_disk b)
   moments_of_file s ms b held = weaker file_run (file_disk start) (file_disk b)
       (IsSomeBeginning s ms (IsBlamed mirror start b)) _
@@ -85,7 +85,7 @@ module _ {F T : Type 0} {G : Ghosts F} (o : Output T) (start : Mirror F G) (whol
       })
       (held_by_file start.file start b _ held)
 
-  told_of_file : (s : Shop) (ms : List Message) (b : Mirror F G) → IsToldWhole mirror o s ms start b old new
+  told_of_file : (s : Shop) (ms : List Message) (b : KeptMirror F G) → IsToldWhole mirror o s ms start b old new
       → IsToldWhole file_run o s ms (file_disk start) (file_disk b) old new
   told_of_file s ms b x = record {
     turns = over_files x.turns;
@@ -93,7 +93,7 @@ module _ {F T : Type 0} {G : Ghosts F} (o : Output T) (start : Mirror F G) (whol
     told = subst (λ xs. o.told old new xs) (same_instants start whole x.turns) x.told;
   }
 
-  out_of_file : (s : Shop) (ms : List Message) (b : Mirror F G) → IsMirrored start b
+  out_of_file : (s : Shop) (ms : List Message) (b : KeptMirror F G) → IsMirrored start b
       → IsPlayedOut mirror o s ms start b old new
       → IsPlayedOut file_run o s ms (file_disk start) (file_disk b) old new
   unfolding told_of_file
@@ -103,14 +103,14 @@ module _ {F T : Type 0} {G : Ghosts F} (o : Output T) (start : Mirror F G) (whol
     within = λ few uncut. within_run start whole untaken s ms p.run.turns b p.run.run few uncut (p.within few uncut);
   }
 
-  output_of_file : (s : Shop) (ms : List Message) (b : Mirror F G) → IsMirrored start b
+  output_of_file : (s : Shop) (ms : List Message) (b : KeptMirror F G) → IsMirrored start b
       → IsPlayedToOutput mirror o s ms start b old new
       → IsPlayedToOutput file_run o s ms (file_disk start) (file_disk b) old new
   output_of_file s ms b x p =
       let last : Reply × FileDisk G.keeps = (p.run.last.0, file_disk p.run.last.1) in
       let more : over_files (p.run.turns ++ p.run.last ∷ []) ≡ over_files p.run.turns ++ last ∷ [] =
       sym (over_files-more p.run.turns (p.run.last ∷ [])) in
-      let all : List (Reply × Mirror F G) = p.run.turns ++ p.run.last ∷ [] in
+      let all : List (Reply × KeptMirror F G) = p.run.turns ++ p.run.last ∷ [] in
       let so = subst (λ turns. (r : HasRun file_run s p.begun turns (file_disk start) (file_disk b))
       × AreFewWithin file_run p.begun turns r.first) more (
         run_of_file start whole untaken s p.begun all b p.run.run,
@@ -139,7 +139,7 @@ module _ {F T : Type 0} {G : Ghosts F} (o : Output T) (start : Mirror F G) (whol
         within = so.1;
       }
 
-  device_of_file : (s : Shop) (ms : List Message) (b : Mirror F G) → IsMirrored start b
+  device_of_file : (s : Shop) (ms : List Message) (b : KeptMirror F G) → IsMirrored start b
       → IsPlayedToDevice mirror o s ms start b old new
       → IsPlayedToDevice file_run o s ms (file_disk start) (file_disk b) old new
   device_of_file s ms b x p = record {
@@ -172,13 +172,13 @@ module _ {F T : Type 0} {G : Ghosts F} (o : Output T) (start : Mirror F G) (whol
   }
 
   -- a disk is a shop's or not; either way an opening that is refused is a run
-  pub refused_reached : (b : Mirror F G) (fault : OpenFault) → IsRefused mirror start fault b → (IsMirrored start b → ⊥)
+  pub refused_reached : (b : KeptMirror F G) (fault : OpenFault) → IsRefused mirror start fault b → (IsMirrored start b → ⊥)
       → ⊥
   refused_reached b fault x never =
       let no_shop : IsAShop (mirror.image start) → ⊥ = λ s. never (x.same s.0 s.1).held.reached in
       never (x.unfit no_shop).held.reached
 
-  refused_failed : (b : Mirror F G) (fault : OpenFault) → IsRefused mirror start fault b → Failed mirror start b
+  refused_failed : (b : KeptMirror F G) (fault : OpenFault) → IsRefused mirror start fault b → Failed mirror start b
       → Failed file_run (file_disk start) (file_disk b)
   refused_failed b fault x failed = record {
     later = ⊎_elim
@@ -191,7 +191,7 @@ module _ {F T : Type 0} {G : Ghosts F} (o : Output T) (start : Mirror F G) (whol
         (refused_reached b fault x (λ y. omega (arith, few, (failed_by_file start whole start b y y failed).rose few)));
   }
 
-  pub refused_of_file : (b : Mirror F G) (fault : OpenFault) → IsRefused mirror start fault b
+  pub refused_of_file : (b : KeptMirror F G) (fault : OpenFault) → IsRefused mirror start fault b
       → IsRefused file_run (file_disk start) fault (file_disk b)
   refused_of_file b fault x = record {
     refused = refuses_so _ _ (mirror.image start) fault (refused_failed b fault x) x.refused;
@@ -201,7 +201,7 @@ module _ {F T : Type 0} {G : Ghosts F} (o : Output T) (start : Mirror F G) (whol
   }
 
   -- the run of a script over a mirror is one over its file
-  pub script_of_file : (script : List ℕ) (r : Result (Mirror F G) (ScriptFault × Mirror F G))
+  pub script_of_file : (script : List ℕ) (r : Result (KeptMirror F G) (ScriptFault × KeptMirror F G))
       → IsScriptRun mirror o start script old new r
       → IsScriptRun file_run o (file_disk start) script old new (end_of_file r)
   script_of_file script (Ok b) x = record {

@@ -2,7 +2,7 @@
 ghost use Rattle.std.specs.Prelude.{◌≡◌, ◌≢◌, ◌⊎◌, Err, IfErr, IfOk, IsOk};
 ghost use Rattle.d64_image.specs.Keeps.{Agrees};
 ghost use Rattle.d64_image.specs.Memory.{sectors_in};
-ghost use Rattle.d64_image.specs.Mirrors.{is_broken, mirror_file};
+ghost use Rattle.d64_image.specs.KeptMirrors.{is_broken, mirror_file};
 ghost use Rattle.host_session.specs.events.Telling.{TellsNone};
 ghost use Rattle.ledger_commands.specs.Faults.{script_fault};
 ghost use Rattle.ledger_commands.specs.Plays.{IsFileFault, IsPlayEnd, IsPlayedFile};
@@ -10,7 +10,7 @@ ghost use Rattle.ledger_commands.specs.declared.faults.RunFault.TheVariants as f
 
 use crate::bytes::load;
 use crate::faults::RunFault;
-use d64_image::{Mirror, SectorFile, Sectors};
+use d64_image::{KeptMirror, SectorFile, Sectors};
 use host_session::{ScriptFault, Tells, play_script};
 use std::alloc::Global;
 
@@ -54,7 +54,7 @@ pub fn play_image<D: Sectors, T: Tells<D>>(
 
 /// The file of a mirror whose run ended so: `Device` where the file failed.
 pub fn file_of<F: SectorFile>(
-    mirror: Mirror<F>,
+    mirror: KeptMirror<F>,
     end: Result<(), RunFault>,
 ) -> Result<F, (RunFault, F)>
     ensures ok { IfOk result (λ file. (file ≡ mirror_file mirror) × ¬ (is_broken mirror) × IsOk end) }
@@ -81,7 +81,7 @@ pub fn file_of<F: SectorFile>(
 /// `Device` where the file failed.
 // Out of line: a session is large, and a frame that has its room touches each page of it.
 #[inline(never)]
-pub fn play_file<F: SectorFile, T: Tells<Mirror<F>>>(
+pub fn play_file<F: SectorFile, T: Tells<KeptMirror<F>>>(
     alloc: Global,
     image: &[u8],
     script: &[u8],
@@ -97,7 +97,7 @@ pub fn play_file<F: SectorFile, T: Tells<Mirror<F>>>(
         Ok(disk) => disk,
         Err(fault) => return Err((fault, file)),
     };
-    match play_image(Mirror::new(file, disk), script, out) {
+    match play_image(KeptMirror::new(file, disk), script, out) {
         Ok(mirror) => file_of(mirror, Ok(())),
         Err((fault, mirror)) => file_of(mirror, Err(fault)),
     }

@@ -2,11 +2,11 @@
 use Rattle.std.proofs.Common.{◌≡◌, ⊎_elim, arith, ℕ, List, [], ◌∷◌, ◌++◌, Ok, Err, Result, inl, inr, subst}
 use Rattle.std.proofs.Common.{ap, append-nil, map, refl, sym}
 use Rattle.std.specs.Prelude.{zip}
-use Rattle.d64_image.specs.declared.mirror.Mirror.{Mirror}
+use Rattle.d64_image.specs.declared.kept_mirror.KeptMirror.{KeptMirror}
 use Rattle.d64_image.specs.declared.sector_file.SectorFile.{Ghosts}
 use Rattle.d64_image.specs.FileDisks.{FileDisk, in_run}
 use Rattle.d64_image.specs.History.{History}
-use Rattle.d64_image.specs.Mirrors.{is_broken, mirror}
+use Rattle.d64_image.specs.KeptMirrors.{is_broken, mirror}
 use Rattle.d64_image.proofs.FileRuns.{failed_by_file, file_disk, never_failed}
 use Rattle.request_cards.specs.declared.reply.Reply.{Reply}
 use Rattle.host_session.proofs.lemmas.runs.Chained.{at_device}
@@ -28,32 +28,32 @@ use Rattle.ledger_commands.proofs.FileChains.{same_instants, within_failing, wit
 use Rattle.ledger_commands.proofs.FileTurns.{over_files, over_files-more}
 use Rattle.ledger_commands.proofs.FileScripts.{end_of_file, moments_of_file, refused_of_file}
 
-module _ {F R T : Type 0} {G : Ghosts F} (i : Input R) (a : Answering T) (start : Mirror F G)
+module _ {F R T : Type 0} {G : Ghosts F} (i : Input R) (a : Answering T) (start : KeptMirror F G)
     (whole : is_broken start → ⊥) (untaken : start.taken.n ≡ 0) (old_in new_in : R) (old new : T) where
   abbrev file_run : History (FileDisk G.keeps)
   file_run = in_run G.keeps start.file
 
   -- and each of its lines was asked for at the same instant
-  turn_instants : (turns : List (Reply × Mirror F G))
+  turn_instants : (turns : List (Reply × KeptMirror F G))
       → map (λ t. instant_of mirror t.1) turns ≡ map (λ t. instant_of file_run t.1) (over_files turns)
   turn_instants [] = refl
   turn_instants (t ∷ ts) = ap (λ rest. instant_of mirror t.1 ∷ rest) (turn_instants ts)
 
-  asked_of_file : (bytes : List ℕ) (first : Mirror F G) (turns : List (Reply × Mirror F G))
+  asked_of_file : (bytes : List ℕ) (first : KeptMirror F G) (turns : List (Reply × KeptMirror F G))
       → AreAskedFor mirror i bytes first turns old_in new_in
       → AreAskedFor file_run i bytes (file_disk first) (over_files turns) old_in new_in
   asked_of_file bytes first turns x = subst
       (λ later. i.asked old_in new_in (instants_in (zip (line_messages bytes) (instant_of mirror first ∷ later))))
       (turn_instants turns) x
 
-  handled_of_file : (s : Shop) (bytes : List ℕ) (turns : List (Reply × Mirror F G)) (b : Mirror F G)
+  handled_of_file : (s : Shop) (bytes : List ℕ) (turns : List (Reply × KeptMirror F G)) (b : KeptMirror F G)
       → AreHandled mirror s bytes turns start b
       → AreHandled file_run s bytes (over_files turns) (file_disk start) (file_disk b)
   handled_of_file s bytes turns b x =
       handled_run file_run s bytes (over_files turns) (file_disk start) (file_disk b)
       (run_of_file start whole untaken s (line_messages bytes) turns b x.run)
 
-  served_of_file : (s : Shop) (bytes : List ℕ) (b : Mirror F G)
+  served_of_file : (s : Shop) (bytes : List ℕ) (b : KeptMirror F G)
       → AreServed mirror i a s bytes start b old_in new_in old new
       → AreServed file_run i a s bytes (file_disk start) (file_disk b) old_in new_in old new
   unfolding handled_of_file
@@ -66,12 +66,12 @@ module _ {F R T : Type 0} {G : Ghosts F} (i : Input R) (a : Answering T) (start 
     told = subst ((answered a).told old new) (same_instants start whole x.turns) x.told;
   }
 
-  output_of_file : (s : Shop) (bytes : List ℕ) (b : Mirror F G)
+  output_of_file : (s : Shop) (bytes : List ℕ) (b : KeptMirror F G)
       → AreServedToOutput mirror i a s bytes start b old_in new_in old new
       → AreServedToOutput file_run i a s bytes (file_disk start) (file_disk b) old_in new_in old new
   unfolding handled_of_file
   output_of_file s bytes b x =
-      let all : List (Reply × Mirror F G) = x.turns ++ x.last ∷ [] in
+      let all : List (Reply × KeptMirror F G) = x.turns ++ x.last ∷ [] in
       let so = subst (λ turns. (y : AreHandled file_run s bytes turns (file_disk start) (file_disk b))
       × (AreFew (line_messages bytes) → AreWithin file_run (line_messages bytes) turns y.run.first)
       × AreAskedFor file_run i bytes y.run.first (over_files x.turns) old_in new_in)
@@ -91,7 +91,7 @@ module _ {F R T : Type 0} {G : Ghosts F} (i : Input R) (a : Answering T) (start 
             (same_instants start whole x.turns) x.told;
       }
 
-  device_of_file : (s : Shop) (bytes : List ℕ) (b : Mirror F G)
+  device_of_file : (s : Shop) (bytes : List ℕ) (b : KeptMirror F G)
       → AreServedToDevice mirror i a s bytes start b old_in new_in old new
       → AreServedToDevice file_run i a s bytes (file_disk start) (file_disk b) old_in new_in old new
   device_of_file s bytes b x =
@@ -120,7 +120,7 @@ module _ {F R T : Type 0} {G : Ghosts F} (i : Input R) (a : Answering T) (start 
             (append-nil ms) run).0;
       }
 
-  unwritten_of_file : (s : Shop) (b : Mirror F G) → IsUnwritten mirror s start b
+  unwritten_of_file : (s : Shop) (b : KeptMirror F G) → IsUnwritten mirror s start b
       → IsUnwritten file_run s (file_disk start) (file_disk b)
   unwritten_of_file s b x = (
     changes_of_file start whole untaken b 952 _ (omega arith) x.0,
@@ -128,7 +128,7 @@ module _ {F R T : Type 0} {G : Ghosts F} (i : Input R) (a : Answering T) (start 
   )
 
   -- a service over a mirror is one over its file
-  pub service_of_file : (r : Result (Mirror F G) (LoopFault × Mirror F G))
+  pub service_of_file : (r : Result (KeptMirror F G) (LoopFault × KeptMirror F G))
       → IsServed mirror i a start old_in new_in old new r
       → IsServed file_run i a (file_disk start) old_in new_in old new (end_of_file r)
   service_of_file (Ok b) x = record {

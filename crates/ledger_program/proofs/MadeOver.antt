@@ -6,8 +6,8 @@ use Rattle.d64_image.proofs.Moments.{changes_weaker, no_write_change}
 use Rattle.d64_image.specs.FileDisks.{in_run}
 use Rattle.d64_image.specs.Keeps.{Keeps}
 use Rattle.d64_image.specs.Memory.{sectors_in}
-use Rattle.d64_image.specs.Mirrors.{is_broken, mirror, mirror_image}
-use Rattle.d64_image.specs.declared.mirror.Mirror.{Mirror}
+use Rattle.d64_image.specs.KeptMirrors.{is_broken, mirror, mirror_image}
+use Rattle.d64_image.specs.declared.kept_mirror.KeptMirror.{KeptMirror}
 use Rattle.d64_image.specs.declared.sector_file.SectorFile.{Ghosts}
 use Rattle.disk_layout.specs.Layout.{Layout}
 use Rattle.keeper_commands.specs.Faults.{IsLoadFault}
@@ -46,8 +46,8 @@ module _ {F W : Type 0} (K : Keeps F) (contents : W → Option (List ℕ)) (imag
   make-not-loaded file old keep.Geos told = absurd told
   make-not-loaded file old keep.Format told = absurd told
 
-module _ {F : Type 0} {G : Ghosts F} (start : Mirror F G) (sound : is_broken start → ⊥) (untaken : start.taken.n ≡ 0)
-    (b : Mirror F G)
+module _ {F : Type 0} {G : Ghosts F} (start : KeptMirror F G) (sound : is_broken start → ⊥) (untaken : start.taken.n ≡ 0)
+    (b : KeptMirror F G)
     (image name : List ℕ) (L : ℕ) where
   abbrev run_of_file : IsMakeRun mirror image name L start b
       → IsMakeRun (in_run G.keeps start.file) image name L (file_disk start) (file_disk b)
@@ -95,9 +95,9 @@ module _ {F : Type 0} {G : Ghosts F} (start : Mirror F G) (sound : is_broken sta
     whole-ended whole (Err keep.ImageSize) ok err = absurd (err.0 size)
     whole-ended whole (Err keep.NoMemory) ok err = is-stopped image start.file b.file old new Made Fault keep.NoMemory
         refl size
-        (size, (ap (λ (m : Mirror F G). m.file) err.1, err.2))
+        (size, (ap (λ (m : KeptMirror F G). m.file) err.1, err.2))
     whole-ended whole (Err (keep.Layout fault)) ok err =
-        let same : IsUntouched start.file b.file old new = (ap (λ (m : Mirror F G). m.file) err.2, err.3) in
+        let same : IsUntouched start.file b.file old new = (ap (λ (m : KeptMirror F G). m.file) err.2, err.3) in
         is-refused image start.file b.file old new Made Fault (keep.Layout fault) refl (size, err.1, same) same
     whole-ended whole (Err keep.FileExists) ok err =
         let x = refused_of_file start sound untaken b image size holds old new _ (λ l. IsTakenName l name) (λ l w. w)
@@ -135,9 +135,9 @@ module _ {F : Type 0} {G : Ghosts F} (start : Mirror F G) (sound : is_broken sta
         × (new ≡ old)
     run-of broken (Ok x) ok err = absurd (not_broken start sound untaken b ok.disk.unfailed broken)
     run-of broken (Err keep.ImageSize) ok err = absurd (err.0 size)
-    run-of broken (Err keep.NoMemory) ok err = absurd (sound (subst (λ (m : Mirror F G). is_broken m) err.1 broken))
+    run-of broken (Err keep.NoMemory) ok err = absurd (sound (subst (λ (m : KeptMirror F G). is_broken m) err.1 broken))
     run-of broken (Err (keep.Layout fault)) ok err =
-        absurd (sound (subst (λ (m : Mirror F G). is_broken m) err.2 broken))
+        absurd (sound (subst (λ (m : KeptMirror F G). is_broken m) err.2 broken))
     run-of broken (Err keep.FileExists) ok err = (left-run _ err, err.unprinted)
     run-of broken (Err keep.DiskFull) ok err = (left-run _ err, err.unprinted)
     run-of broken (Err keep.File) ok err = absurd (not_broken start sound untaken b err.unfailed broken)

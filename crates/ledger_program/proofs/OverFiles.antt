@@ -8,8 +8,8 @@ use Rattle.d64_image.specs.History.{Changes, Failed, HeldOnly, History, WritesNo
 use Rattle.d64_image.specs.Images.{Image}
 use Rattle.d64_image.specs.Keeps.{FileFailed}
 use Rattle.d64_image.specs.Memory.{sectors_in}
-use Rattle.d64_image.specs.Mirrors.{is_broken, mirror, mirror_image, one_if}
-use Rattle.d64_image.specs.declared.mirror.Mirror.{Mirror}
+use Rattle.d64_image.specs.KeptMirrors.{is_broken, mirror, mirror_image, one_if}
+use Rattle.d64_image.specs.declared.kept_mirror.KeptMirror.{KeptMirror}
 use Rattle.d64_image.specs.declared.sector_file.SectorFile.{Ghosts}
 use Rattle.keeper_commands.specs.declared.faults.KeepFault.{KeepFault}
 use Rattle.keeper_commands.specs.declared.faults.KeepFault.TheVariants as keep
@@ -19,8 +19,8 @@ use Rattle.keeper_commands.specs.Refusals.{IsLeft}
 use Rattle.ledger_program.specs.Kept.{IsRefused}
 use Rattle.ledger_commands.specs.Plays.{IsTakenUp, IsUnfailed}
 
-module _ {F : Type 0} {G : Ghosts F} (start : Mirror F G) (sound : is_broken start → ⊥) (untaken : start.taken.n ≡ 0)
-    (b : Mirror F G) where
+module _ {F : Type 0} {G : Ghosts F} (start : KeptMirror F G) (sound : is_broken start → ⊥) (untaken : start.taken.n ≡ 0)
+    (b : KeptMirror F G) where
   abbrev pub file_run : History (FileDisk G.keeps)
   file_run = in_run G.keeps start.file
 
@@ -101,7 +101,7 @@ module _ {F : Type 0} {G : Ghosts F} (start : Mirror F G) (sound : is_broken sta
       }
 
 -- what holds of the file that is handed back, and of what is told of it, by whether the mirror broke
-pub handed-back : {F T : Type 0} {G : Ghosts F} (P : F → F → Result T KeepFault → Type 0) (start b : Mirror F G)
+pub handed-back : {F T : Type 0} {G : Ghosts F} (P : F → F → Result T KeepFault → Type 0) (start b : KeptMirror F G)
     (file : F)
     (r : Result T KeepFault) (out : F × Result T KeepFault) → start.file ≡ file → out.0 ≡ b.file
     → (is_broken b → P start.file b.file (Err keep.Device)) → ((is_broken b → ⊥) → P start.file b.file r)

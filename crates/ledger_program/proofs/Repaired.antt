@@ -10,8 +10,8 @@ use Rattle.d64_image.specs.Images.{Image, Sector, sector}
 use Rattle.d64_image.specs.Keeps.{FileFailed, Keeps}
 use Rattle.d64_image.specs.Memory.{disk_image, memory, sectors_in}
 use Rattle.d64_image.specs.declared.mem_disk.MemDisk.{MemDisk}
-use Rattle.d64_image.specs.Mirrors.{IsMirrored, is_broken, mirror, mirror_image}
-use Rattle.d64_image.specs.declared.mirror.Mirror.{Mirror}
+use Rattle.d64_image.specs.KeptMirrors.{IsMirrored, is_broken, mirror, mirror_image}
+use Rattle.d64_image.specs.declared.kept_mirror.KeptMirror.{KeptMirror}
 use Rattle.d64_image.specs.declared.place.Place.{Place}
 use Rattle.d64_image.specs.declared.sector_file.SectorFile.{Ghosts}
 use Rattle.disk_layout.proofs.lemmas.layouts.Twice.{told-unsound}
@@ -132,8 +132,8 @@ dry-unloaded free contents image old keep.Device told = absurd told
 dry-unloaded free contents image old keep.Geos told = absurd told
 dry-unloaded free contents image old keep.Format told = absurd told
 
-module _ {F : Type 0} {G : Ghosts F} (start : Mirror F G) (sound : is_broken start → ⊥) (untaken : start.taken.n ≡ 0)
-    (b : Mirror F G) where
+module _ {F : Type 0} {G : Ghosts F} (start : KeptMirror F G) (sound : is_broken start → ⊥) (untaken : start.taken.n ≡ 0)
+    (b : KeptMirror F G) where
   abbrev file_run : History (FileDisk G.keeps)
   file_run = in_run G.keeps start.file
 
@@ -183,7 +183,7 @@ module _ {F : Type 0} {G : Ghosts F} (start : Mirror F G) (sound : is_broken sta
       (holds : mirror_image start ≡ sectors_in image) (old new : W) where
     -- the file was not written, where the disk is the one that was handed in
     same_handed : b ≡ start → new ≡ old → IsUntouched start.file b.file old new
-    same_handed same unprinted = (ap (λ (m : Mirror F G). m.file) same, unprinted)
+    same_handed same unprinted = (ap (λ (m : KeptMirror F G). m.file) same, unprinted)
 
     -- a disk that isn't sound: a fault holds of it, and the repair was one that does nothing
     left-alone : (fault : Fault) → IsPlainDisk (sector (mirror_image start) map_place)
@@ -243,7 +243,7 @@ module _ {F : Type 0} {G : Ghosts F} (start : Mirror F G) (sound : is_broken sta
 
     -- where the disk is the one that was handed in, the file hasn't failed
     not_handed : is_broken b → ¬ (b ≡ start)
-    not_handed broken same = sound (subst (λ (m : Mirror F G). is_broken m) same broken)
+    not_handed broken same = sound (subst (λ (m : KeptMirror F G). is_broken m) same broken)
 
     broken-run : is_broken b → (run : IsRepairRun free mirror image start b)
         → IsRepairOver free G.keeps contents image start.file b.file old new (Err keep.Device)

@@ -2,13 +2,13 @@
 -- is broken.
 use Rattle.std.proofs.Common.{◌≡◌, ◌≢◌, ℕ, List, Result, Ok, Err, inl, inr, length, refl}
 use Rattle.std.proofs.Common.{subst}
-use Rattle.d64_image.specs.declared.mirror.Mirror.{Mirror}
+use Rattle.d64_image.specs.declared.kept_mirror.KeptMirror.{KeptMirror}
 use Rattle.d64_image.specs.declared.sector_file.SectorFile.{Ghosts}
 use Rattle.d64_image.specs.FileDisks.{FileDisk, in_run}
 use Rattle.d64_image.specs.History.{Failed}
 use Rattle.d64_image.specs.Keeps.{FileFailed}
 use Rattle.d64_image.specs.Memory.{sectors_in}
-use Rattle.d64_image.specs.Mirrors.{IsMirrored, is_broken, mirror, mirror_image}
+use Rattle.d64_image.specs.KeptMirrors.{IsMirrored, is_broken, mirror, mirror_image}
 use Rattle.d64_image.proofs.FileRuns.{file_disk, file_failed, not_failed, same_file}
 use Rattle.host_session.specs.declared.faults.OpenFault.{OpenFault}
 use Rattle.host_session.specs.declared.faults.OpenFault.TheVariants as opening
@@ -24,11 +24,11 @@ use Rattle.ledger_commands.proofs.FileEnds.{failed_stably}
 use Rattle.ledger_commands.proofs.FileScripts.{refused_reached, refuses_so}
 use Rattle.ledger_program.proofs.FileServes.{service_of_file}
 
-module _ {F R T : Type 0} {G : Ghosts F} (i : Input R) (a : Answering T) (image : List ℕ) (start : Mirror F G)
+module _ {F R T : Type 0} {G : Ghosts F} (i : Input R) (a : Answering T) (image : List ℕ) (start : KeptMirror F G)
     (sound : is_broken start → ⊥) (untaken : start.taken.n ≡ 0) (size : length image ≡ 174848)
     (holds : mirror_image start ≡ sectors_in image)
-    (old_in new_in : R) (old new : T) (m : Mirror F G) where
-  abbrev Served : Result (Mirror F G) (LoopFault × Mirror F G) → Type 0
+    (old_in new_in : R) (old new : T) (m : KeptMirror F G) where
+  abbrev Served : Result (KeptMirror F G) (LoopFault × KeptMirror F G) → Type 0
   Served r = IsServed mirror i a start old_in new_in old new r
 
   -- the file was taken up, and served so

@@ -6,8 +6,8 @@ use Rattle.d64_image.proofs.FileRuns.{file_disk, held_by_file}
 use Rattle.d64_image.specs.FileDisks.{in_run}
 use Rattle.d64_image.specs.Keeps.{FileFailed, Keeps}
 use Rattle.d64_image.specs.Memory.{sectors_in}
-use Rattle.d64_image.specs.Mirrors.{is_broken, mirror, mirror_image}
-use Rattle.d64_image.specs.declared.mirror.Mirror.{Mirror}
+use Rattle.d64_image.specs.KeptMirrors.{is_broken, mirror, mirror_image}
+use Rattle.d64_image.specs.declared.kept_mirror.KeptMirror.{KeptMirror}
 use Rattle.d64_image.specs.declared.sector_file.SectorFile.{Ghosts}
 use Rattle.disk_layout.specs.Layout.{File, Layout}
 use Rattle.disk_layout.specs.Rest.{IsNamed}
@@ -42,8 +42,8 @@ module _ {F W : Type 0} (K : Keeps F) (contents : W → Option (List ℕ)) (imag
   store-not-loaded file old keep.Geos told = absurd told
   store-not-loaded file old keep.Format told = absurd told
 
-module _ {F : Type 0} {G : Ghosts F} (start : Mirror F G) (sound : is_broken start → ⊥) (untaken : start.taken.n ≡ 0)
-    (b : Mirror F G)
+module _ {F : Type 0} {G : Ghosts F} (start : KeptMirror F G) (sound : is_broken start → ⊥) (untaken : start.taken.n ≡ 0)
+    (b : KeptMirror F G)
     (image name text : List ℕ) where
   abbrev run_of_file : IsStoreRun mirror image name text start b
       → IsStoringRun (in_run G.keeps start.file) name text (file_disk start) (file_disk b)
@@ -92,9 +92,9 @@ module _ {F : Type 0} {G : Ghosts F} (start : Mirror F G) (sound : is_broken sta
     whole-ended whole (Err keep.ImageSize) ok err = absurd (err.0 size)
     whole-ended whole (Err keep.NoMemory) ok err = is-stopped image start.file b.file old new Stored Fault keep.NoMemory
         refl size
-        (size, (ap (λ (m : Mirror F G). m.file) err.1, err.2))
+        (size, (ap (λ (m : KeptMirror F G). m.file) err.1, err.2))
     whole-ended whole (Err (keep.Layout fault)) ok err =
-        let same : IsUntouched start.file b.file old new = (ap (λ (m : Mirror F G). m.file) err.2, err.3) in
+        let same : IsUntouched start.file b.file old new = (ap (λ (m : KeptMirror F G). m.file) err.2, err.3) in
         is-refused image start.file b.file old new Stored Fault (keep.Layout fault) refl (size, err.1, same) same
     whole-ended whole (Err keep.NoFile) ok err =
         let x = refused_of_file start sound untaken b image size holds old new _
@@ -141,9 +141,9 @@ module _ {F : Type 0} {G : Ghosts F} (start : Mirror F G) (sound : is_broken sta
         → IfErr r (IsStoreFault mirror image name text start b old new) → FileFailed G.keeps start.file b.file × Kept
     run-of broken (Ok x) ok err = kept-run broken ok.disk.run
     run-of broken (Err keep.ImageSize) ok err = absurd (err.0 size)
-    run-of broken (Err keep.NoMemory) ok err = absurd (sound (subst (λ (m : Mirror F G). is_broken m) err.1 broken))
+    run-of broken (Err keep.NoMemory) ok err = absurd (sound (subst (λ (m : KeptMirror F G). is_broken m) err.1 broken))
     run-of broken (Err (keep.Layout fault)) ok err =
-        absurd (sound (subst (λ (m : Mirror F G). is_broken m) err.2 broken))
+        absurd (sound (subst (λ (m : KeptMirror F G). is_broken m) err.2 broken))
     run-of broken (Err keep.NoFile) ok err = kept-left _ broken err
     run-of broken (Err (keep.BadLine line)) ok err = kept-left _ broken err
     run-of broken (Err keep.DiskFull) ok err = kept-left _ broken err

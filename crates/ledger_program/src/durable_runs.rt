@@ -12,7 +12,7 @@ ghost use Rattle.ledger_program.specs.Serves.{IsServeRun};
 use crate::owning::finished;
 use crate::running::play_run;
 use crate::serving_runs::serve_run;
-use d64_image::Mirror;
+use d64_image::KeptMirror;
 use disk_layout::Fault;
 use host_session::Tells;
 use ledger_commands::{Durability, Placed, RunFault, WritesAt};
@@ -22,7 +22,7 @@ use std::alloc::Global;
 /// Plays the script on the shop of the image that the file has, as `play_run` does, and hands the file back. Its
 /// sectors are brought to the disk so: each before its reply is told, or all at the end. `Device` also where that
 /// failed.
-pub fn play_durably<F: WritesAt, T: Tells<Mirror<Placed<F>>>>(
+pub fn play_durably<F: WritesAt, T: Tells<KeptMirror<Placed<F>>>>(
     alloc: Global,
     image: &[u8],
     script: &[u8],
@@ -57,8 +57,8 @@ pub fn serve_durably<F, R, T>(
 ) -> (F, Result<Option<Fault>, RunFault>)
 where
     F: WritesAt,
-    R: GivesLines<Mirror<Placed<F>>>,
-    T: Answers<Mirror<Placed<F>>>,
+    R: GivesLines<KeptMirror<Placed<F>>>,
+    T: Answers<KeptMirror<Placed<F>>>,
     // where each sector is brought to the disk, so is what the file holds, and these bytes were read of that
     requires synced { IsSynced F.held F.lasting durability file }
     requires image { IfSome (F.held file) (λ all. image.now ≡ take 174849 all) }

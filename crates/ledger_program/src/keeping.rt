@@ -2,7 +2,7 @@
 ghost use Rattle.std.specs.Prelude.{◌≡◌, ◌⊎◌, Err};
 ghost use Rattle.d64_image.specs.Keeps.{Agrees};
 ghost use Rattle.d64_image.specs.Memory.{sectors_in};
-ghost use Rattle.d64_image.specs.Mirrors.{is_broken, mirror_file};
+ghost use Rattle.d64_image.specs.KeptMirrors.{is_broken, mirror_file};
 ghost use Rattle.keeper_commands.specs.declared.faults.KeepFault.TheVariants as faults;
 ghost use Rattle.ledger_program.specs.Keeping.{IsDryRepair, IsRepairOver, IsTakingRun};
 ghost use Rattle.ledger_program.specs.Kept.{IsMakeOver, IsStoreOver};
@@ -10,7 +10,7 @@ ghost use Rattle.keeper_commands.specs.Makes.{IsNewName};
 ghost use Rattle.rel_records.specs.File.{IsLength};
 
 use crate::jobs::Taking;
-use d64_image::{Mirror, SectorFile};
+use d64_image::{KeptMirror, SectorFile};
 use keeper_commands::{
     KeepFault, bytes_image, load, make_image, records_image, repair_image, store_image,
 };
@@ -35,7 +35,7 @@ pub fn taking_run<W: Write>(
 
 /// The file of a mirror whose repair ended so: `Device` where the file failed.
 fn file_of<F: SectorFile, T: Drop>(
-    mirror: Mirror<F>,
+    mirror: KeptMirror<F>,
     ended: Result<T, KeepFault>,
 ) -> (F, Result<T, KeepFault>)
     ensures file { result.0 ≡ mirror_file mirror }
@@ -67,7 +67,7 @@ pub fn repair_run<F: SectorFile, W: Write>(
         Ok(disk) => disk,
         Err(fault) => return (file, Err(fault)),
     };
-    let mut mirror = Mirror::new(file, disk);
+    let mut mirror = KeptMirror::new(file, disk);
     let ended = repair_image(alloc, image, free, &mut mirror, out);
     file_of(mirror, ended)
 }
@@ -107,7 +107,7 @@ pub fn make_run<F: SectorFile, W: Write>(
         Ok(disk) => disk,
         Err(fault) => return (file, Err(fault)),
     };
-    let mut mirror = Mirror::new(file, disk);
+    let mut mirror = KeptMirror::new(file, disk);
     let ended = make_image(alloc, image, name, length, &mut mirror, out);
     file_of(mirror, ended)
 }
@@ -133,7 +133,7 @@ pub fn store_run<F: SectorFile, W: Write>(
         Ok(disk) => disk,
         Err(fault) => return (file, Err(fault)),
     };
-    let mut mirror = Mirror::new(file, disk);
+    let mut mirror = KeptMirror::new(file, disk);
     let ended = store_image(alloc, image, name, text, &mut mirror, out);
     file_of(mirror, ended)
 }

@@ -23,7 +23,7 @@ use crate::jobs::{Loss, Taking};
 use crate::keeping::{dry_repair_run, make_run, repair_run, store_run, taking_run};
 use crate::refusals::Refusal;
 use cut_files::find_image_cut;
-use d64_image::{ImageFault, Mirror, Place, SectorFile};
+use d64_image::{ImageFault, KeptMirror, Place, SectorFile};
 use disk_layout::Fault;
 use keeper_commands::KeepFault;
 use ledger_commands::{Durability, Placed, RunFault, WritesAt};
@@ -75,8 +75,8 @@ pub fn serve_guarded<F, R, T>(
 ) -> (F, Result<Option<Fault>, Refusal>)
 where
     F: WritesAt,
-    R: GivesLines<Mirror<Placed<F>>>,
-    T: Answers<Mirror<Placed<F>>>,
+    R: GivesLines<KeptMirror<Placed<F>>>,
+    T: Answers<KeptMirror<Placed<F>>>,
     // where each sector is brought to the disk, so is what the file holds, and these bytes were read of that
     requires synced { IsSynced F.held F.lasting durability file }
     requires image { IfSome (F.held file) (λ all. image.now ≡ take 174849 all) }

@@ -6,7 +6,7 @@ ghost use Rattle.ledger_program.specs.Ends.{dry_end, end_of, exit_status};
 ghost use Rattle.ledger_program.specs.Runs.{HoldsOfBytes, IsFormatRun, IsPlayRun, IsUntold, IsReadingRun};
 
 use crate::jobs::Reading;
-use d64_image::{Mirror, SectorFile};
+use d64_image::{KeptMirror, SectorFile};
 use disk_layout::Fault;
 use host_session::Tells;
 use ledger_commands::{
@@ -78,7 +78,7 @@ pub fn format_run<F: EndedFile, W: Write>(
 /// failed, `File` where the output did.
 // Out of line: a session is large, and a frame that has its room touches each page of it.
 #[inline(never)]
-pub fn play_run<F: SectorFile, T: Tells<Mirror<F>>>(
+pub fn play_run<F: SectorFile, T: Tells<KeptMirror<F>>>(
     alloc: Global,
     image: &[u8],
     script: &[u8],

@@ -4,7 +4,7 @@ ghost use Rattle.d64_image.specs.Keeps.{Agrees};
 ghost use Rattle.d64_image.specs.Memory.{sectors_in};
 ghost use Rattle.ledger_program.specs.FileServes.{IsServeFault, IsServedFile, loop_fault};
 
-use d64_image::{Mirror, SectorFile};
+use d64_image::{KeptMirror, SectorFile};
 use host_session::LoopFault;
 use ledger_commands::{RunFault, file_of, load};
 use serving::{Answers, GivesLines, serve};
@@ -29,7 +29,7 @@ fn told(fault: LoopFault) -> RunFault
 /// file failed; the message of the last line counts or it doesn't.
 // Out of line: a session is large, and a frame that has its room touches each page of it.
 #[inline(never)]
-pub fn serve_file<F: SectorFile, R: GivesLines<Mirror<F>>, T: Answers<Mirror<F>>>(
+pub fn serve_file<F: SectorFile, R: GivesLines<KeptMirror<F>>, T: Answers<KeptMirror<F>>>(
     alloc: Global,
     image: &[u8],
     file: F,
@@ -47,7 +47,7 @@ pub fn serve_file<F: SectorFile, R: GivesLines<Mirror<F>>, T: Answers<Mirror<F>>
         Ok(disk) => disk,
         Err(fault) => return Err((fault, file)),
     };
-    match serve(Mirror::new(file, disk), input, out) {
+    match serve(KeptMirror::new(file, disk), input, out) {
         Ok(mirror) => file_of(mirror, Ok(())),
         Err((fault, mirror)) => file_of(mirror, Err(told(fault))),
     }

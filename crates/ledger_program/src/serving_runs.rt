@@ -4,7 +4,7 @@ ghost use Rattle.d64_image.specs.Memory.{sectors_in};
 ghost use Rattle.ledger_program.specs.Serves.{IsServeRun};
 
 use crate::serving_files::serve_file;
-use d64_image::{Mirror, SectorFile};
+use d64_image::{KeptMirror, SectorFile};
 use disk_layout::Fault;
 use ledger_commands::RunFault;
 use serving::{Answers, GivesLines};
@@ -14,7 +14,7 @@ use std::alloc::Global;
 /// `Device` where the file failed, `File` where the input or the output did.
 // Out of line: a session is large, and a frame that has its room touches each page of it.
 #[inline(never)]
-pub fn serve_run<F: SectorFile, R: GivesLines<Mirror<F>>, T: Answers<Mirror<F>>>(
+pub fn serve_run<F: SectorFile, R: GivesLines<KeptMirror<F>>, T: Answers<KeptMirror<F>>>(
     alloc: Global,
     image: &[u8],
     file: F,

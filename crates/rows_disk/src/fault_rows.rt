@@ -1,12 +1,12 @@
 //! A mirror over a file in memory, also where that fails, and a disk of which one call fails.
 use crate::comparing::{same, same_at};
 use crate::disks::{at, sector, zeroed};
-use d64_image::{DeviceFault, KeptDisk, MemDisk, Mirror, OneFault, Place, Sectors};
+use d64_image::{DeviceFault, KeptDisk, MemDisk, KeptMirror, OneFault, Place, Sectors};
 use std::process::Abort;
 use tool_devices::Recorder;
 
 /// A disk that is mirrored in a device that records each image, and of which one call fails.
-type Mirrored = Mirror<KeptDisk<OneFault<Recorder<MemDisk>>>>;
+type Mirrored = KeptMirror<KeptDisk<OneFault<Recorder<MemDisk>>>>;
 
 /// A disk of zeros that is mirrored so.
 fn mirrored(rt: &(impl Abort + AllocGlobal), fails_at: u32, done: bool) -> Mirrored {
@@ -14,7 +14,7 @@ fn mirrored(rt: &(impl Abort + AllocGlobal), fails_at: u32, done: bool) -> Mirro
     let disk = MemDisk::load(rt.alloc(), bytes.as_slice()).expect(rt, "a disk");
     let kept = MemDisk::load(rt.alloc(), bytes.as_slice()).expect(rt, "a disk");
     let file = OneFault::new(Recorder::new(rt.alloc(), kept), fails_at, done);
-    Mirror::new(KeptDisk::new(file), disk)
+    KeptMirror::new(KeptDisk::new(file), disk)
 }
 
 /// The first byte of the sector when so many changes were recorded.

@@ -36,4 +36,6 @@ mod recorder_rows;
 #[cfg(test)]
 mod repair_rows;
 #[cfg(test)]
+mod mirror_rows;
+#[cfg(test)]
 mod table_rows;

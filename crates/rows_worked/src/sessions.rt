@@ -1,7 +1,7 @@
 //! Sessions on copies of a disk, also where power goes in them.
 use crate::comparing::{holds, same_at};
 use crate::disks::{clean, fresh, fused, loaded, passed};
-use d64_image::{KeptDisk, MemDisk, Meter, Mirror, Sectors};
+use d64_image::{KeptDisk, MemDisk, Meter, KeptMirror, Sectors};
 use host_session::{Event, OpenFault, PlayFault, ScriptFault, Session, play, run_script};
 use request_cards::Reply;
 use std::process::Abort;
@@ -103,13 +103,13 @@ pub(crate) fn handled(
 pub(crate) fn mirrored(
     rt: &(impl Abort + AllocGlobal),
     disk: &MemDisk,
-) -> Mirror<KeptDisk<MemDisk>> {
+) -> KeptMirror<KeptDisk<MemDisk>> {
     let file = KeptDisk::new(loaded(rt, disk.bytes()));
-    Mirror::new(file, loaded(rt, disk.bytes()))
+    KeptMirror::new(file, loaded(rt, disk.bytes()))
 }
 
 /// The disk of a mirror whose file has the same bytes.
-pub(crate) fn unmirrored(rt: &impl Abort, mirror: Mirror<KeptDisk<MemDisk>>) -> MemDisk {
+pub(crate) fn unmirrored(rt: &impl Abort, mirror: KeptMirror<KeptDisk<MemDisk>>) -> MemDisk {
     let (file, disk) = mirror.into_inner();
     holds(rt, file.into_inner().bytes() == disk.bytes(), "the file");
     disk

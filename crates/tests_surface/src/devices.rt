@@ -1,9 +1,8 @@
 //! Places, images and devices.
 use crate::comparing::same;
 use crate::disks::{at, zeroed};
-use d64_image::{
-    DeviceFault, Fuse, ImageFault, KeptDisk, MemDisk, Meter, Mirror, OneFault, Place, Sectors,
-};
+use d64_image::{DeviceFault, Fuse, ImageFault, MemDisk, Meter, Mirror, OneFault, Place, Sectors};
+use std::io::Cursor;
 use std::process::Abort;
 
 /// The parts of a place that the disk has.
@@ -63,14 +62,15 @@ fn devices_stand_on_disks(rt: HostRuntime) {
     same(&rt, fault.into_inner().bytes()[256], 7);
 }
 
-// The file is a disk in memory too.
+// The file is a stream of bytes in memory, with room for the image.
 #[test]
 fn a_mirror_is_a_file_and_a_disk(rt: HostRuntime) {
-    let file: KeptDisk<MemDisk> = KeptDisk::new(zeroed(&rt));
-    let mut mirror: Mirror<KeptDisk<MemDisk>> = Mirror::new(file, zeroed(&rt));
+    let bytes = vec![in rt.alloc(); 0; 174_848].expect(&rt, "there is memory");
+    let file: Cursor<Vec<u8>> = Cursor::new(bytes);
+    let mut mirror: Mirror<Cursor<Vec<u8>>> = Mirror::new(file, zeroed(&rt));
     same(&rt, written(&mut mirror, at(1, 1), 5), (Ok(()), 5));
     let (file, disk) = mirror.into_inner();
     same(&rt, (disk.bytes()[255], disk.bytes()[256]), (0, 5));
-    let kept = file.into_inner();
-    same(&rt, (kept.bytes()[255], kept.bytes()[256]), (0, 5));
+    let bytes = file.into_inner();
+    same(&rt, (bytes[255], bytes[256]), (0, 5));
 }

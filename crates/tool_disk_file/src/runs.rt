@@ -12,7 +12,7 @@ ghost use Rattle.tool_disk_file.specs.WholeShops.{HoldsAShop, IsPlayedInFile};
 
 use crate::disk_file::DiskFile;
 use crate::whole_file::WholeFile;
-use d64_image::Mirror;
+use d64_image::KeptMirror;
 use disk_layout::Fault;
 use host_session::Tells;
 use ledger_commands::{Durability, Placed, RunFault};
@@ -22,7 +22,7 @@ use std::alloc::Global;
 
 /// Plays a script on the shop of the image that the file holds: the file then, and how that ended. Wherever power is
 /// lost in it, the disk has the shop after a beginning of the lines.
-pub fn play_on_disk<T: Tells<Mirror<Placed<DiskFile>>>>(
+pub fn play_on_disk<T: Tells<KeptMirror<Placed<DiskFile>>>>(
     alloc: Global,
     image: &[u8],
     script: &[u8],
@@ -44,7 +44,7 @@ pub fn play_on_disk<T: Tells<Mirror<Placed<DiskFile>>>>(
 
 /// Plays a script on the shop of the image that the file holds, and brings it to the disk at the end: the file then,
 /// and how that ended. Wherever the program dies in it, the file has the shop after a beginning of the lines.
-pub fn play_in_file<T: Tells<Mirror<Placed<WholeFile>>>>(
+pub fn play_in_file<T: Tells<KeptMirror<Placed<WholeFile>>>>(
     alloc: Global,
     image: &[u8],
     script: &[u8],
@@ -73,8 +73,8 @@ pub fn serve_on_disk<R, T>(
     out: &mut T,
 ) -> (DiskFile, Result<Option<Fault>, RunFault>)
 where
-    R: GivesLines<Mirror<Placed<DiskFile>>>,
-    T: Answers<Mirror<Placed<DiskFile>>>,
+    R: GivesLines<KeptMirror<Placed<DiskFile>>>,
+    T: Answers<KeptMirror<Placed<DiskFile>>>,
     requires there { bytes_there file ≡ file_held file }
     requires image { image.now ≡ file_held file }
     ensures { IsServedToDisk R.input T.answering file result.0 input.old input.new out.old out.new result.1 }

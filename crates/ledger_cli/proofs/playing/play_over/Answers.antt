@@ -5,7 +5,7 @@ use Rattle.std.proofs.lemmas.Bool.{false≢true}
 use Rattle.std.proofs.lemmas.Result.{IfErr-weaker, IfOk-weaker}
 use Rattle.d64_image.specs.Keeps.{kept_or}
 use Rattle.d64_image.specs.Memory.{disk_image, sectors_in}
-use Rattle.d64_image.specs.Mirrors.{mirror_image}
+use Rattle.d64_image.specs.KeptMirrors.{mirror_image}
 use Rattle.host_session.specs.runs.Outputs.{written}
 use Rattle.ledger_commands.specs.Plays.{IsFileFault, IsPlayedFile}
 use Rattle.ledger_commands.specs.declared.faults.RunFault.{RunFault}

@@ -3,7 +3,7 @@
 use Rattle.std.proofs.Common.{◌≡◌, ◌∙◌, ap, ap₂}
 use Rattle.d64_image.specs.Keeps.{kept_or}
 use Rattle.d64_image.specs.Memory.{disk_image, sectors_in}
-use Rattle.d64_image.specs.Mirrors.{mirror_image}
+use Rattle.d64_image.specs.KeptMirrors.{mirror_image}
 use Rattle.ledger_program.proofs.MadeOver.{make-ended, make-not-loaded}
 use Rattle.ledger_program.proofs.keeping.make_run.Goals as goal
 

@@ -2,7 +2,7 @@
 use Rattle.std.proofs.Common.{◌≡◌, ◌∙◌, ap, ap₂}
 use Rattle.d64_image.specs.Keeps.{kept_or}
 use Rattle.d64_image.specs.Memory.{disk_image, sectors_in}
-use Rattle.d64_image.specs.Mirrors.{mirror_image}
+use Rattle.d64_image.specs.KeptMirrors.{mirror_image}
 use Rattle.ledger_program.proofs.Repaired.{file-ended, not-loaded}
 use Rattle.ledger_program.proofs.keeping.repair_run.Goals as goal
 

@@ -5,7 +5,7 @@ use Rattle.std.proofs.lemmas.Bool.{false≢true}
 use Rattle.std.proofs.lemmas.Result.{IfErr-weaker, IfOk-weaker}
 use Rattle.d64_image.specs.Keeps.{kept_or}
 use Rattle.d64_image.specs.Memory.{disk_image, sectors_in}
-use Rattle.d64_image.specs.Mirrors.{mirror_image}
+use Rattle.d64_image.specs.KeptMirrors.{mirror_image}
 use Rattle.ledger_program.specs.FileServes.{IsServeFault, IsServedFile, loop_fault}
 use Rattle.ledger_commands.specs.declared.faults.RunFault.{RunFault}
 use Rattle.ledger_commands.specs.declared.faults.RunFault.TheVariants as run

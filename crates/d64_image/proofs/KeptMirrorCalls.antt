@@ -11,9 +11,9 @@ use Rattle.d64_image.specs.History.{HeldOnly, OldOr, OnlyReads}
 use Rattle.d64_image.specs.Images.{Image, Sector, put, sector}
 use Rattle.d64_image.specs.Keeps.{Agrees, FileFailed, KeepsSector, KeptOnly, kept_or, put_kept}
 use Rattle.d64_image.specs.Memory.{disk_image}
-use Rattle.d64_image.specs.Mirrors.{IsMirrored, is_broken, mirror, mirror_image, one_if, one_if-small}
+use Rattle.d64_image.specs.KeptMirrors.{IsMirrored, is_broken, mirror, mirror_image, one_if, one_if-small}
 use Rattle.d64_image.specs.declared.faults.DeviceFault.{DeviceFault}
-use Rattle.d64_image.specs.declared.mirror.Mirror.{Mirror}
+use Rattle.d64_image.specs.declared.kept_mirror.KeptMirror.{KeptMirror}
 use Rattle.d64_image.specs.declared.place.Place.{Place}
 use Rattle.d64_image.specs.declared.sector_file.SectorFile.{Ghosts}
 use Rattle.d64_image.proofs.Counting.{none_passed, not_fewer, not_same, one_counted, one_more}
@@ -50,7 +50,7 @@ module _ (p : Place) (bytes : Sector) where
   agrees_after o now img after e d agrees =
       put_both o now img after e d ∙ ap (λ (c : Image). put c p bytes) agrees ∙ sym d
 
-module _ {F : Type 0} {G : Ghosts F} (m : Mirror F G) (p : Place) (bytes : Sector) where
+module _ {F : Type 0} {G : Ghosts F} (m : KeptMirror F G) (p : Place) (bytes : Sector) where
   abbrev old : Image
   old = mirror_image m
 
@@ -65,7 +65,7 @@ module _ {F : Type 0} {G : Ghosts F} (m : Mirror F G) (p : Place) (bytes : Secto
   known c (inr e) = inr (put_known p bytes (G.keeps.kept m.file) (disk_image m.disk) c e)
 
   -- what the file kept on the way, the mirror held
-  held_above : (n : Mirror F G) → IsMirrored m n → KeptOnly G.keeps m.file n.file IsKeptBy → Either (mirror_image n)
+  held_above : (n : KeptMirror F G) → IsMirrored m n → KeptOnly G.keeps m.file n.file IsKeptBy → Either (mirror_image n)
       → HeldOnly mirror m n Either
   held_above n mirrored kept now = record {
     reached = mirrored;
@@ -113,8 +113,8 @@ module _ {F : Type 0} {G : Ghosts F} (m : Mirror F G) (p : Place) (bytes : Secto
     writes = keeps.uncounted;
   }
 
-  pub write_refused : (n : Mirror F G) → IsRefused n.file → is_broken n → n.disk ≡ m.disk → n.taken ≡ m.taken
-      → WritesSector {D = Mirror F G} {T = Unit {0}} {E = DeviceFault} mirror m n p bytes device_fault (Err device_fault)
+  pub write_refused : (n : KeptMirror F G) → IsRefused n.file → is_broken n → n.disk ≡ m.disk → n.taken ≡ m.taken
+      → WritesSector {D = KeptMirror F G} {T = Unit {0}} {E = DeviceFault} mirror m n p bytes device_fault (Err device_fault)
   write_refused n refused broken disk taken =
       let now : Either (mirror_image n) = rw disk (kept_after p bytes (G.keeps.kept m.file) (G.keeps.kept n.file)
       (disk_image m.disk) refused.now) in
@@ -145,12 +145,12 @@ module _ {F : Type 0} {G : Ghosts F} (m : Mirror F G) (p : Place) (bytes : Secto
       }
 
   -- the file kept the sector, and memory took it
-  pub write_taken : {T E : Type 0} (n : Mirror F G) (r : Result T E) (done : Result (Unit {0}) DeviceFault) → IsOk r
+  pub write_taken : {T E : Type 0} (n : KeptMirror F G) (r : Result T E) (done : Result (Unit {0}) DeviceFault) → IsOk r
       → IsOk done
       → m.broken ≡ false → n.broken ≡ m.broken → KeepsSector G.keeps m.file n.file p bytes r
       → disk_image n.disk ≡ put (disk_image m.disk) p bytes
       → n.taken.n ≡ min (m.taken.n + 1) 18446744073709551615
-      → WritesSector {D = Mirror F G} mirror m n p bytes device_fault done
+      → WritesSector {D = KeptMirror F G} mirror m n p bytes device_fault done
   write_taken n (Err e) done kept ok whole same keeps disk one = absurd (false≢true kept)
   write_taken n (Ok x) (Err e) kept ok whole same keeps disk one = absurd (false≢true ok)
   write_taken n (Ok x) (Ok y) kept ok whole same keeps disk one =
@@ -179,7 +179,7 @@ module _ {F : Type 0} {G : Ghosts F} (m : Mirror F G) (p : Place) (bytes : Secto
       }
 
   -- a broken mirror reads nothing
-  pub read_broken : is_broken m → ReadsSector {D = Mirror F G} {T = Unit {0}} {E = DeviceFault} mirror m m p bytes
+  pub read_broken : is_broken m → ReadsSector {D = KeptMirror F G} {T = Unit {0}} {E = DeviceFault} mirror m m p bytes
       device_fault (Err device_fault)
   read_broken broken = record {
     sector = tt;
@@ -190,7 +190,7 @@ module _ {F : Type 0} {G : Ghosts F} (m : Mirror F G) (p : Place) (bytes : Secto
   }
 
   -- memory answers, and its image stays
-  module _ (n : Mirror F G) (file : n.file ≡ m.file) (same : n.broken ≡ m.broken) (taken : n.taken ≡ m.taken)
+  module _ (n : KeptMirror F G) (file : n.file ≡ m.file) (same : n.broken ≡ m.broken) (taken : n.taken ≡ m.taken)
       (disk : disk_image n.disk ≡ disk_image m.disk) where
     image_stays : mirror_image n ≡ old
     image_stays = ap₂ (λ (f : F) (img : Image). kept_or (G.keeps.kept f) img) file disk
@@ -232,7 +232,7 @@ module _ {F : Type 0} {G : Ghosts F} (m : Mirror F G) (p : Place) (bytes : Secto
 
     pub read_passed : (done : Result (Unit {0}) DeviceFault) → m.broken ≡ false → IsOk done
         → OnOk done (bytes ≡ sector (disk_image m.disk) p)
-        → ReadsSector {D = Mirror F G} mirror m n p bytes device_fault done
+        → ReadsSector {D = KeptMirror F G} mirror m n p bytes device_fault done
     read_passed (Err e) whole ok there = absurd (false≢true ok)
     read_passed (Ok x) whole ok there = record {
       sector = there ∙ ap (λ (img : Image). sector img p) (sym (m.agrees (λ was. false≢true (sym whole ∙ was))));

@@ -2,8 +2,8 @@
 use Rattle.std.proofs.Common.{refl, subst, sym, ◌∙◌}
 use Rattle.std.proofs.lemmas.Bool.{false≢true}
 use Rattle.d64_image.specs.Keeps.{Agrees}
-use Rattle.d64_image.proofs.MirrorCalls.{read_broken, read_passed}
-use Rattle.d64_image.proofs.mirror.MirrorSectors.read.Goals as goal
+use Rattle.d64_image.proofs.KeptMirrorCalls.{read_broken, read_passed}
+use Rattle.d64_image.proofs.kept_mirror.KeptMirrorSectors.read.Goals as goal
 
 pub returns-then-self : goal.returns-then-self
 returns-then-self g c = record {
