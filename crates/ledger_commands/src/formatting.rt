@@ -6,8 +6,8 @@ ghost use Rattle.ledger_commands.specs.declared.faults.RunFault.TheVariants as f
 
 use crate::bytes::put_whole;
 use crate::faults::RunFault;
-use disk_layout::blank_image;
 use d64_image::MemDisk;
+use disk_layout::blank_image;
 use std::alloc::Global;
 use std::io::Write;
 use system_files::{EndedFile, replace_image};

@@ -1,7 +1,7 @@
 //! A mirror over a file in memory, also where that fails, and a disk of which one call fails.
 use crate::comparing::{same, same_at};
 use crate::disks::{at, sector, zeroed};
-use d64_image::{DeviceFault, KeptDisk, MemDisk, KeptMirror, OneFault, Place, Sectors};
+use d64_image::{DeviceFault, KeptDisk, KeptMirror, MemDisk, OneFault, Place, Sectors};
 use std::process::Abort;
 use tool_devices::Recorder;
 

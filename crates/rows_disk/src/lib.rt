@@ -32,10 +32,10 @@ mod long_rows;
 #[cfg(test)]
 mod map_rows;
 #[cfg(test)]
+mod mirror_rows;
+#[cfg(test)]
 mod recorder_rows;
 #[cfg(test)]
 mod repair_rows;
-#[cfg(test)]
-mod mirror_rows;
 #[cfg(test)]
 mod table_rows;

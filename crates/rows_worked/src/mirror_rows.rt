@@ -2,7 +2,7 @@
 use crate::comparing::{holds, same, same_at};
 use crate::disks::{fresh, loaded};
 use crate::sessions::{handed, handled, mirrored, ran, says, unmirrored};
-use d64_image::{KeptDisk, MemDisk, KeptMirror, OneFault};
+use d64_image::{KeptDisk, KeptMirror, MemDisk, OneFault};
 use std::process::Abort;
 
 /// Lines of days, and their replies.
@@ -40,7 +40,10 @@ fn a_file_holds_what_is_told(rt: HostRuntime) {
 }
 
 /// The disk in memory, and in a file that takes two sectors and not the third.
-fn filling(rt: &(impl Abort + AllocGlobal), disk: &MemDisk) -> KeptMirror<KeptDisk<OneFault<MemDisk>>> {
+fn filling(
+    rt: &(impl Abort + AllocGlobal),
+    disk: &MemDisk,
+) -> KeptMirror<KeptDisk<OneFault<MemDisk>>> {
     let file = KeptDisk::new(OneFault::new(loaded(rt, disk.bytes()), 2, false));
     KeptMirror::new(file, loaded(rt, disk.bytes()))
 }

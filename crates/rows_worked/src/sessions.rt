@@ -1,7 +1,7 @@
 //! Sessions on copies of a disk, also where power goes in them.
 use crate::comparing::{holds, same_at};
 use crate::disks::{clean, fresh, fused, loaded, passed};
-use d64_image::{KeptDisk, MemDisk, Meter, KeptMirror, Sectors};
+use d64_image::{KeptDisk, KeptMirror, MemDisk, Meter, Sectors};
 use host_session::{Event, OpenFault, PlayFault, ScriptFault, Session, play, run_script};
 use request_cards::Reply;
 use std::process::Abort;

@@ -17,8 +17,11 @@ loop-track-preserved c =
     let (ps, so_far, long) = c.loop-track.invariant.marked in
     let (qs, here, more) = c.mark_track-count.ensures.marked in
     record {
-      marked = (ps ++ qs, tracks-more _ _ _ _ c.loop-track.track ps qs so_far here,
-          ap₂ (λ x y. x + y) long more ∙ sym (length-append ps qs));
+      marked = (
+        ps ++ qs,
+        tracks-more _ _ _ _ c.loop-track.track ps qs so_far here,
+        ap₂ (λ x y. x + y) long more ∙ sym (length-append ps qs),
+      );
       few = omega (arith, c.loop-track.invariant.few, c.mark_track-count.ensures.few);
     }
 

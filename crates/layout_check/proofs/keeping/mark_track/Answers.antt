@@ -20,14 +20,21 @@ loop-sector-preserved c =
       | in-Some w ↦
           let (qs, here, more) = w.mark_place-count.ensures.marked in
           record {
-            marked = rw (w.owners-is, w.count-is) (ps ++ qs, track-more _ _ _ _ c.args.track c.loop-sector.sector
-                w.in-Some.place ps qs w.in-Some.ensures.value so_far here,
-                ap₂ (λ x y. x + y) long more ∙ sym (length-append ps qs));
+            marked = rw (w.owners-is, w.count-is) (
+              ps ++ qs,
+              track-more _ _ _ _ c.args.track c.loop-sector.sector
+                  w.in-Some.place ps qs w.in-Some.ensures.value so_far here,
+              ap₂ (λ x y. x + y) long more ∙ sym (length-append ps qs),
+            );
             few = omega (arith, w.count-is, c.loop-sector.invariant.few, w.mark_place-count.ensures.one);
           }
       | in_default w ↦ record {
-        marked = rw (w.owners-is, w.count-is) (ps, track-past _ _ _ c.args.track c.loop-sector.sector ps
-            w.in_default.ensures.value so_far, long);
+        marked = rw (w.owners-is, w.count-is) (
+          ps,
+          track-past _ _ _ c.args.track c.loop-sector.sector ps
+              w.in_default.ensures.value so_far,
+          long,
+        );
         few = omega (arith, w.count-is, c.loop-sector.invariant.few);
       }
     ]

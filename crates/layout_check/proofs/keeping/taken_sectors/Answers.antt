@@ -20,4 +20,4 @@ returns-in_err-read_sector-clause-failures g c =
     let p = err_from_is_err_and c.from_residual.result c.from_residual.ensures.1 in
     let read = c.in_err-read_sector.ensures in
     rw (p.1, p.2) (device_told g.D.Sectors.history (Unit {0}) c.args.disk.now c.read_sector.new.disk c.map_place.result
-        _ read.told read.failures read.failed)
+    _ read.told read.failures read.failed)

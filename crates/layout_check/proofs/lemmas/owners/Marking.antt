@@ -86,15 +86,22 @@ module _ (map : Sector) where
     those = λ p. (
       λ d. elim (Contains-append_cases ps qs p d) [
         | inl x ↦ let g = (h.those p).0 x in ((cover p).1 (inl g.0), g.1, g.2)
-        | inr y ↦ let g = (k.those p).0 y in ((cover p).1 (inr g.0), g.1,
-            unowned a p (λ ne. (h.table p).1 (inl ne) g.2))
+        | inr y ↦ let g = (k.those p).0 y in (
+          (cover p).1 (inr g.0),
+          g.1,
+          unowned a p (λ ne. (h.table p).1 (inl ne) g.2),
+        )
       ],
       λ g. elim ((cover p).0 g.0) [
         | inl x ↦ Contains-append_left ps qs p ((h.those p).1 (x, g.1, g.2))
-        | inr y ↦ Contains-append_right ps qs p ((k.those p).1 (y, g.1, unowned b p (λ ne. elim ((h.table p).0 ne) [
-          | inl old ↦ old g.2
-          | inr mine ↦ apart p ((h.those p).0 mine).0 y
-        ])))
+        | inr y ↦ Contains-append_right ps qs p ((k.those p).1 (
+          y,
+          g.1,
+          unowned b p (λ ne. elim ((h.table p).0 ne) [
+            | inl old ↦ old g.2
+            | inr mine ↦ apart p ((h.those p).0 mine).0 y
+          ]),
+        ))
       ],
     );
     table = λ p. (
@@ -143,7 +150,7 @@ module _ (map : Sector) where
         ],
       ))
       (λ p on e. let below : p.sector < n = on.1 in
-          let s : p.sector ≡ n = ap (λ (x : Place). x.sector) e ∙ both.1 in omega (arith, below, s))
+      let s : p.sector ≡ n = ap (λ (x : Place). x.sector) e ∙ both.1 in omega (arith, below, s))
 
   pub track-past : (a b : Owners) (track n : ℕ) (ps : List Place) → None ≡ place_at track n
       → AreMarked map a b (On track n) ps → AreMarked map a b (On track (n + 1)) ps

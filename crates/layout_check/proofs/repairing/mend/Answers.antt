@@ -23,9 +23,11 @@ mend_entries-requires g c = let (l, strays, is, marks) = c.requires in
     (l, (c.in_ok-mend_map.ensures l strays is marks).mending.layouts l is)
 
 pub mend_counts-requires : goal.mend_counts-requires
-mend_counts-requires g c = let (l, strays, is, marks) = c.requires in
-    (l, c.in_ok-mend_entries.ensures.mending.layouts l
-        ((c.in_ok-mend_map.ensures l strays is marks).mending.layouts l is))
+mend_counts-requires g c = let (l, strays, is, marks) = c.requires in (
+  l,
+  c.in_ok-mend_entries.ensures.mending.layouts l
+      ((c.in_ok-mend_map.ensures l strays is marks).mending.layouts l is),
+)
 
 pub returns-in_err-mend_map : goal.returns-in_err-mend_map
 returns-in_err-mend_map g c l strays is marks =
