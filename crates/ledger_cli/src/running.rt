@@ -1,7 +1,7 @@
 //! Jobs run over the bytes of their files.
 ghost use Rattle.std.specs.Prelude.{◌≡◌};
 ghost use Rattle.ledger_cli.specs.Runs.{IsFormatted, IsJobRun, IsMade, IsPlayed, IsRead, IsRepaired, IsRun, IsServed};
-ghost use Rattle.ledger_cli.specs.Runs.{IsStored};
+ghost use Rattle.ledger_cli.specs.Runs.{IsRepairJob, IsStored};
 ghost use Rattle.keeper_commands.specs.Makes.{IsNewName};
 ghost use Rattle.ledger_program.specs.Jobs.{IsFit};
 ghost use Rattle.ledger_program.specs.Names.{name_bytes};
@@ -14,8 +14,9 @@ use disk_layout::Fault;
 use host_session::Printer;
 use ledger_commands::RunFault;
 use ledger_program::{
-    Job, Name, Reading, Refusal, drawing_run, drawn_end, end, format_run, job_end, kept_end,
-    make_run, reading_run, repair_run, serve_run, store_run, taking_run,
+    Effect, Job, Loss, Name, Reading, Refusal, Unowned, drawing_run, drawn_end, dry_repair_guarded,
+    end, format_run, job_end, loss_refusal, make_guarded, reading_run, repair_guarded, serve_run,
+    store_guarded, take_told,
 };
 use std::alloc::Global;
 use std::io::{Seek, Write};
@@ -36,7 +37,7 @@ fn read<W: Write>(
 }
 
 /// Makes the file the image of an empty shop.
-fn formatted<F: Write + Drop, W: Write>(
+fn formatted<F: Write + Seek + Drop, W: Write>(
     alloc: Global,
     tills: u8,
     file: Option<F>,
@@ -44,12 +45,13 @@ fn formatted<F: Write + Drop, W: Write>(
 ) -> Result<Option<Fault>, Refusal>
     requires some { 1 ≤ tills }
     requires few { tills ≤ 64 }
-    ensures { IsFormatted F.contents W.contents tills file out.old out.new result }
+    ensures { IsFormatted W.contents tills file out.old out.new result }
 {
-    let Some(mut file) = file else {
+    let Some(file) = file else {
         return Err(NO_FILE);
     };
-    job_end(format_run(alloc, tills, &mut file, out))
+    let mut stream = Stream::new(file);
+    job_end(format_run(alloc, tills, &mut stream, out))
 }
 
 /// Plays a script on the image, over its file.
@@ -69,39 +71,67 @@ fn played<F: Write + Seek + Drop, W: Write>(
     job_end(ended)
 }
 
-/// Serves the shop of the image, over its file, to the lines of an input.
+/// Serves the shop of the image, over its file, to the lines of an input, unless a file of it is cut short and no loss is
+/// accepted.
 fn served<F: Write + Seek + Drop, W: Write>(
     alloc: Global,
     image: &[u8],
     input: &[u8],
+    loss: Loss,
     file: Option<F>,
     out: &mut W,
 ) -> Result<Option<Fault>, Refusal>
-    ensures { IsServed image.now file out.old out.new result }
+    ensures { IsServed image.now loss file out.old out.new result }
 {
     let Some(file) = file else {
         return Err(NO_FILE);
     };
-    let mut lines = input;
-    let mut printer = Printer::new(out);
-    let (_, ended) = serve_run(alloc, image, Stream::new(file), &mut lines, &mut printer);
-    job_end(ended)
+    match loss_refusal(alloc, image, loss) {
+        Some(refusal) => Err(refusal),
+        None => {
+            let mut lines = input;
+            let mut printer = Printer::new(out);
+            let (_, ended) = serve_run(alloc, image, Stream::new(file), &mut lines, &mut printer);
+            job_end(ended)
+        }
+    }
 }
 
 /// Repairs the disk of the image, over its file.
 fn repaired<F: Write + Seek + Drop, W: Write>(
     alloc: Global,
     image: &[u8],
+    free: bool,
+    loss: Loss,
     file: Option<F>,
     out: &mut W,
 ) -> Result<Option<Fault>, Refusal>
-    ensures { IsRepaired W.contents image.now file out.old out.new result }
+    ensures { IsRepaired W.contents image.now free loss file out.old out.new result }
 {
     let Some(file) = file else {
         return Err(NO_FILE);
     };
-    let (_, ended) = repair_run(alloc, image, Stream::new(file), out);
-    kept_end(ended)
+    let (_, ended) = repair_guarded(alloc, image, free, Stream::new(file), loss, out);
+    ended
+}
+
+/// Repairs the disk of the image over its file, or a copy of it in memory alone.
+fn repaired_so<F: Write + Seek + Drop, W: Write>(
+    alloc: Global,
+    image: &[u8],
+    unowned: Unowned,
+    effect: Effect,
+    loss: Loss,
+    file: Option<F>,
+    out: &mut W,
+) -> Result<Option<Fault>, Refusal>
+    ensures { IsRepairJob W.contents image.now unowned effect loss file out.old out.new result }
+{
+    let free = unowned == Unowned::Freed;
+    match effect {
+        Effect::Written => repaired(alloc, image, free, loss, file, out),
+        Effect::Printed => dry_repair_guarded(alloc, image, free, loss, out),
+    }
 }
 
 /// Makes a relative file on the disk of the image, over its file.
@@ -110,25 +140,27 @@ fn made<F: Write + Seek + Drop, W: Write>(
     image: &[u8],
     name: &Name,
     length: u8,
+    loss: Loss,
     file: Option<F>,
     out: &mut W,
 ) -> Result<Option<Fault>, Refusal>
     requires name { IsNewName (name_bytes name.now) }
     requires length { IsLength length }
-    ensures { IsMade W.contents image.now (name_bytes name.now) length file out.old out.new result }
+    ensures { IsMade W.contents image.now (name_bytes name.now) length loss file out.old out.new result }
 {
     let Some(file) = file else {
         return Err(NO_FILE);
     };
-    let (_, ended) = make_run(
+    let (_, ended) = make_guarded(
         alloc,
         image,
         name.as_bytes(),
         length,
         Stream::new(file),
+        loss,
         out,
     );
-    kept_end(ended)
+    ended
 }
 
 /// Stores records in a relative file of the image, over its file.
@@ -137,23 +169,25 @@ fn stored<F: Write + Seek + Drop, W: Write>(
     image: &[u8],
     name: &Name,
     records: &[u8],
+    loss: Loss,
     file: Option<F>,
     out: &mut W,
 ) -> Result<Option<Fault>, Refusal>
-    ensures { IsStored W.contents image.now (name_bytes name.now) records.now file out.old out.new result }
+    ensures { IsStored W.contents image.now (name_bytes name.now) records.now loss file out.old out.new result }
 {
     let Some(file) = file else {
         return Err(NO_FILE);
     };
-    let (_, ended) = store_run(
+    let (_, ended) = store_guarded(
         alloc,
         image,
         name.as_bytes(),
         records,
         Stream::new(file),
+        loss,
         out,
     );
-    kept_end(ended)
+    ended
 }
 
 /// Does a job over the bytes of its files, and answers how it ended.
@@ -166,7 +200,7 @@ fn done<F: Write + Seek + Drop, W: Write>(
     out: &mut W,
 ) -> Result<Option<Fault>, Refusal>
     requires { IsFit job.now }
-    ensures { IsJobRun F.contents W.contents job.now image.now script.now file out.old out.new result }
+    ensures { IsJobRun W.contents job.now image.now script.now file out.old out.new result }
 {
     match *job {
         Job::Format { tills, .. } | Job::FormatNew { tills, .. } => {
@@ -177,17 +211,21 @@ fn done<F: Write + Seek + Drop, W: Write>(
         Job::Show { .. } => read(alloc, Reading::Show, image, out),
         Job::Dry { .. } => read(alloc, Reading::Dry, script, out),
         Job::Play { .. } | Job::PlaySynced { .. } => played(alloc, image, script, file, out),
-        Job::Serve { .. } => served(alloc, image, script, file, out),
-        Job::Repair { .. } => repaired(alloc, image, file, out),
+        Job::Serve { loss, .. } => served(alloc, image, script, loss, file, out),
+        Job::Repair {
+            loss,
+            unowned,
+            effect,
+            ..
+        } => repaired_so(alloc, image, unowned, effect, loss, file, out),
         Job::Make {
             ref name,
             length,
+            loss,
             ..
-        } => made(alloc, image, name, length, file, out),
-        Job::Store { ref name, .. } => stored(alloc, image, name, script, file, out),
-        Job::Take { what, ref name, .. } => {
-            kept_end(taking_run(alloc, what, image, name.as_bytes(), out))
-        }
+        } => made(alloc, image, name, length, loss, file, out),
+        Job::Store { ref name, loss, .. } => stored(alloc, image, name, script, loss, file, out),
+        Job::Take { what, ref name, .. } => take_told(alloc, what, image, name.as_bytes(), out),
         Job::Draw { what, .. } => drawn_end(drawing_run(alloc, what, image, out)),
     }
 }
@@ -207,7 +245,7 @@ pub fn run<F: Write + Seek + Drop, W: Write, E: Write>(
     err: &mut E,
 ) -> u8
     requires { IsFit job.now }
-    ensures { IsRun F.contents W.contents E.contents job.now image.now script.now file out.old out.new
+    ensures { IsRun W.contents E.contents job.now image.now script.now file out.old out.new
         err.old err.new result }
 {
     end(done(alloc, job, image, script, file, out), err).status

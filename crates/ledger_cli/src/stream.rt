@@ -3,6 +3,7 @@ ghost use Rattle.std.specs.Prelude.{◌≡◌};
 
 use d64_image::{Place, SectorFile};
 use std::io::{self, Seek, SeekFrom, Write};
+use system_files::EndedFile;
 
 /// A file to which each sector is written at 256 times its index.
 #[derive(Drop)]
@@ -31,6 +32,22 @@ impl<F: Write + Seek> SectorFile for Stream<F> {
     {
         self.file.seek(SeekFrom::Start(256 * place.index() as u64))?;
         self.file.write_all(from)?;
+        self.file.flush()
+    }
+}
+
+/// Nothing is said of what remains of the file either. It can't be cut: what it held behind an image stays.
+impl<F: Write + Seek> EndedFile for Stream<F> {
+    fn put_over(&mut self, bytes: &[u8], at: u64) -> io::Result<()> {
+        self.file.seek(SeekFrom::Start(at))?;
+        self.file.write_all(bytes)
+    }
+
+    fn end_at(&mut self, _bytes: u64) -> io::Result<()> {
+        Ok(())
+    }
+
+    fn sync_whole(&mut self) -> io::Result<()> {
         self.file.flush()
     }
 }

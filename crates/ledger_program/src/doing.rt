@@ -49,7 +49,7 @@ pub fn job_end(ended: Result<Option<Fault>, RunFault>) -> Result<Option<Fault>, 
 }
 
 /// What came of a run over the files of an image, as a job's end.
-pub fn kept_end(ended: Result<(), KeepFault>) -> Result<Option<Fault>, Refusal>
+pub(crate) fn kept_end(ended: Result<(), KeepFault>) -> Result<Option<Fault>, Refusal>
     ensures { result ≡ as_kept ended }
 {
     match ended {

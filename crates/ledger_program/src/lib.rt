@@ -20,14 +20,15 @@ mod serving_runs;
 mod telling;
 mod watched_files;
 
-pub use doing::{do_job, do_over, drawn_end, job_end, kept_end};
+pub use doing::{do_job, do_over, drawn_end, job_end};
 pub use drawing::drawing_run;
 pub use durable_runs::{play_durably, serve_durably};
 pub use explaining::{announce, explain, tell_cut};
 pub use jobs::{Drawing, Effect, Job, Loss, Reading, Taking, Unowned};
 pub use keeping::{dry_repair_run, make_run, repair_run, store_run, taking_run};
 pub use losses::{
-    dry_repair_guarded, make_guarded, repair_guarded, serve_guarded, store_guarded, take_told,
+    dry_repair_guarded, loss_refusal, make_guarded, repair_guarded, serve_guarded, store_guarded,
+    take_told,
 };
 pub use names::Name;
 pub use refusals::Refusal;

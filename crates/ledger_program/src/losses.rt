@@ -48,8 +48,9 @@ pub(crate) fn cut_in(
     }
 }
 
-/// Why a job isn't begun that changes this image: `Short` where a file of it is cut short and no loss is accepted.
-fn refusal_of(alloc: Global, image: &[u8], loss: Loss) -> Option<Refusal>
+/// Why a job isn't begun that changes this image: `Short` if a file of it is cut short and no loss is accepted, or
+/// `NoMemory` to see that.
+pub fn loss_refusal(alloc: Global, image: &[u8], loss: Loss) -> Option<Refusal>
     ensures { IsJudged image.now loss result }
 {
     match loss {
@@ -85,7 +86,7 @@ where
         (λ first left end. IsServeRun placed R.input T.answering image.now first left
         input.old input.new out.old out.new end))) result.1 }
 {
-    if let Some(refusal) = refusal_of(alloc, image, loss) {
+    if let Some(refusal) = loss_refusal(alloc, image, loss) {
         return (file, Err(refusal));
     }
     let (left, ended) = serve_durably(alloc, image, file, durability, input, out);
@@ -107,7 +108,7 @@ pub fn repair_guarded<F: SectorFile, W: Write>(
     ensures { IsGuarded image.now loss (IsUntouched file result.0 out.old out.new)
         (IsRepairedEndOf (IsRepairOver free F.keeps W.contents image.now file result.0 out.old out.new)) result.1 }
 {
-    if let Some(refusal) = refusal_of(alloc, image, loss) {
+    if let Some(refusal) = loss_refusal(alloc, image, loss) {
         return (file, Err(refusal));
     }
     let (left, ended) = repair_run(alloc, image, free, file, out);
@@ -126,7 +127,7 @@ pub fn dry_repair_guarded<W: Write>(
     ensures { IsGuarded image.now loss (out.new ≡ out.old)
         (IsRepairedEndOf (IsDryRepair free W.contents image.now out.old out.new)) result }
 {
-    if let Some(refusal) = refusal_of(alloc, image, loss) {
+    if let Some(refusal) = loss_refusal(alloc, image, loss) {
         return Err(refusal);
     }
     repaired_end(dry_repair_run(alloc, image, free, out))
@@ -150,7 +151,7 @@ pub fn make_guarded<F: SectorFile, W: Write>(
     ensures { IsGuarded image.now loss (IsUntouched file result.0 out.old out.new)
         (IsKeptEndOf (IsMakeOver F.keeps W.contents image.now name.now length file result.0 out.old out.new)) result.1 }
 {
-    if let Some(refusal) = refusal_of(alloc, image, loss) {
+    if let Some(refusal) = loss_refusal(alloc, image, loss) {
         return (file, Err(refusal));
     }
     let (left, ended) = make_run(alloc, image, name, length, file, out);
@@ -174,7 +175,7 @@ pub fn store_guarded<F: SectorFile, W: Write>(
         (IsKeptEndOf (IsStoreOver F.keeps W.contents image.now name.now text.now file result.0 out.old out.new))
         result.1 }
 {
-    if let Some(refusal) = refusal_of(alloc, image, loss) {
+    if let Some(refusal) = loss_refusal(alloc, image, loss) {
         return (file, Err(refusal));
     }
     let (left, ended) = store_run(alloc, image, name, text, file, out);

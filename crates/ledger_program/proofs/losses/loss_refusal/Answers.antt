@@ -4,7 +4,7 @@ use Rattle.std.specs.Prelude.{None, Option, Some}
 use Rattle.d64_image.specs.declared.place.Place.{Place}
 use Rattle.cut_files.proofs.Told.{told-cut, told-uncut}
 use Rattle.ledger_program.specs.Losses.{IsSeen}
-use Rattle.ledger_program.proofs.losses.refusal_of.Goals as goal
+use Rattle.ledger_program.proofs.losses.loss_refusal.Goals as goal
 
 pub returns-in-Ok-None : goal.returns-in-Ok-None
 returns-in-Ok-None c =
