@@ -1,10 +1,13 @@
 -- A run over the file that was handed in.
-use Rattle.std.proofs.Common.{◌≡◌, List, Option, Some, subst, sym, ℕ}
-use Rattle.ledger_cli.specs.Runs.{IsOverSectors, IsServed, IsServiceEnd}
+use Rattle.std.proofs.Common.{List, MutBor, Option, Some, ap, refl, subst, sym, ◌≡◌, ◌∙◌, ℕ}
+use Rattle.d64_image.specs.Keeps.{Keeps}
+use Rattle.host_session.specs.declared.events.printing.Printer.{Printer}
+use Rattle.ledger_cli.specs.Runs.{IsOverSectors, IsServiceEnd}
 use Rattle.ledger_cli.specs.declared.stream.Stream.{Stream}
 use Rattle.ledger_program.specs.Ends.{Ended, JobEnd}
-use Rattle.ledger_program.specs.Losses.{IsEndOf, IsGuarded}
-use Rattle.ledger_program.specs.declared.jobs.Loss.{Loss}
+use Rattle.ledger_program.specs.Serves.{IsServeRun}
+use Rattle.serving.specs.Answering.{Answering}
+use Rattle.serving.specs.Giving.{Input}
 
 -- it was over the sectors of that file
 pub over : {F W : Type 0} (o : Option F) (f : F) (old new : W) (end : JobEnd) (P : Stream F → Stream F → Type 0)
@@ -12,8 +15,18 @@ pub over : {F W : Type 0} (o : Option F) (f : F) (old new : W) (end : JobEnd) (P
 over o f old new end P before after is same holds =
     subst (λ x. IsOverSectors x old new end P) (sym is) (before, after, same, holds)
 
--- and so was a service
-pub served : {F W : Type 0} (image : List ℕ) (loss : Loss) (o : Option F) (f : F) (old new : W) (end : JobEnd)
-    → o ≡ Some f → IsGuarded image loss (new ≡ old) (IsEndOf (IsServiceEnd image)) end
-    → IsServed image loss o old new end
-served image loss o f old new end is holds = subst (λ x. IsServed image loss x old new end) (sym is) holds
+-- a service whose replies go to a writer that is lent, as its lender sees it
+pub service_end : {F R W : Type 0} (K : Keeps F) (i : Input R) (a : Answering (Printer (MutBor W))) (image : List ℕ)
+    (file after : F) (old_in new_in : R) (old new : Printer (MutBor W)) (ended : Ended) (first last : W)
+    → IsServeRun K i a image file after old_in new_in old new ended → old.out.now ≡ first
+    → (old.out.ghost_name ≡ new.out.ghost_name → last ≡ new.out.now) → IsServiceEnd image file after first last ended
+service_end K i a image file after old_in new_in old new ended first last x was is = record {
+  size = x.size;
+  refused = x.refused;
+  shop = x.shop;
+  untouched = λ one.
+      let u = x.untouched one in
+      (u.0.0, is (ap (λ p. p.out.ghost_name) (sym u.0.1)) ∙ ap (λ p. p.out.now) u.0.1 ∙ was);
+  statuses = x.statuses;
+  quiet = x.quiet;
+}

@@ -52,19 +52,20 @@ abbrev pub IsPlayed : {F W : Type 0} → (W → Option (List ℕ)) → (image sc
 IsPlayed contents image script file old new end = IsOverSectors file old new end
     (λ f after. EndsAs as_job end (IsPlayRun stream (written contents) image script f after old new))
 
--- A service ended with 1 exactly if the image is no shop's, and with 3 if the file or the output failed, or there was no
--- memory.
-pub record IsServiceEnd (image : List ℕ) (ended : Ended) : Type 0 where
+-- A service ended with 1 exactly if the image is no shop's, and then nothing was printed; with 3 if the file or the
+-- output failed, or there was no memory.
+pub record IsServiceEnd {F W : Type 0} (image : List ℕ) (file after : F) (old new : W) (ended : Ended) : Type 0 where
   pub size : length image ≢ 174848 → exit_status ended ≡ 1
   pub refused : exit_status ended ≡ 1 → (length image ≢ 174848) ⊎ IsNoShop image
   pub shop : exit_status ended ≡ 1 → length image ≡ 174848 → ¬ (IsAShop (sectors_in image))
+  pub untouched : exit_status ended ≡ 1 → IsUntouched file after old new
   pub statuses : (exit_status ended ≡ 0) ⊎ ((exit_status ended ≡ 1) ⊎ (exit_status ended ≡ 3))
   pub quiet : IsOk ended → exit_status ended ≡ 0
 
--- a shop was served, or not for what is lost; of what was printed and of what the file keeps this says nothing
+-- a shop was served, or not for what is lost
 abbrev pub IsServed : {F W : Type 0} → List ℕ → Loss → Option F → W → W → JobEnd → Type 0
-IsServed image loss None old new end = (new ≡ old) × (end ≡ Err (refusals.Run run.File))
-IsServed image loss (Some file) old new end = IsGuarded image loss (new ≡ old) (IsEndOf (IsServiceEnd image)) end
+IsServed image loss file old new end = IsOverSectors file old new end
+    (λ f after. IsGuarded image loss (IsUntouched f after old new) (IsEndOf (IsServiceEnd image f after old new)) end)
 
 -- a repair of the disk ended so
 abbrev pub IsRepaired : {F W : Type 0} → (W → Option (List ℕ)) → List ℕ → Bool → Loss → Option F → W → W → JobEnd → Type 0
