@@ -28,12 +28,10 @@ fn told<W: Write>(fault: ScriptFault, out: &mut W) -> RunFault
     ensures silent { (fault ≢ ScriptFault.Output) → (fault ≢ ScriptFault.Device) → out.new ≡ out.old }
     ensures told { TellsNone (written W.contents) out.old out.new }
 {
-    match fault {
-        ScriptFault::Output | ScriptFault::Device => {
-            // the fault is told, whatever comes of this
-            let _ = hand_on(out);
-        }
-        ScriptFault::Open(_) | ScriptFault::BadLine(_) => {}
+    if matches!(fault, ScriptFault::Output | ScriptFault::Device) {
+        // the fault is reported, whatever comes of this
+        let _ = hand_on(out);
+        return RunFault::of_script(fault);
     }
     RunFault::of_script(fault)
 }

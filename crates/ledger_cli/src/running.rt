@@ -1,7 +1,7 @@
 //! Jobs run over the bytes of their files.
 ghost use Rattle.std.specs.Prelude.{◌≡◌};
 ghost use Rattle.ledger_cli.specs.Runs.{IsFormatted, IsJobRun, IsMade, IsPlayed, IsRead, IsRepaired, IsRun, IsServed};
-ghost use Rattle.ledger_cli.specs.Runs.{IsRepairJob, IsStored};
+ghost use Rattle.ledger_cli.specs.Runs.{IsRepairJob, IsStored, frees as frees_of};
 ghost use Rattle.keeper_commands.specs.Makes.{IsNewName};
 ghost use Rattle.ledger_program.specs.Jobs.{IsFit};
 ghost use Rattle.ledger_program.specs.Names.{name_bytes};
@@ -115,6 +115,16 @@ fn repaired<F: Write + Seek + Drop, W: Write>(
     ended
 }
 
+/// Whether a repair frees what nobody owns.
+fn frees(unowned: Unowned) -> bool
+    ensures { result ≡ frees_of unowned }
+{
+    match unowned {
+        Unowned::Freed => true,
+        Unowned::Kept => false,
+    }
+}
+
 /// Repairs the disk of the image over its file, or a copy of it in memory alone.
 fn repaired_so<F: Write + Seek + Drop, W: Write>(
     alloc: Global,
@@ -127,10 +137,9 @@ fn repaired_so<F: Write + Seek + Drop, W: Write>(
 ) -> Result<Option<Fault>, Refusal>
     ensures { IsRepairJob W.contents image.now unowned effect loss file out.old out.new result }
 {
-    let free = unowned == Unowned::Freed;
     match effect {
-        Effect::Written => repaired(alloc, image, free, loss, file, out),
-        Effect::Printed => dry_repair_guarded(alloc, image, free, loss, out),
+        Effect::Written => repaired(alloc, image, frees(unowned), loss, file, out),
+        Effect::Printed => dry_repair_guarded(alloc, image, frees(unowned), loss, out),
     }
 }
 

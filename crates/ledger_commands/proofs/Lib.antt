@@ -12,7 +12,7 @@ mod KeptOn
 mod KeptSectors
 mod KeptSizes
 pub mod Listings
-mod PlayEnds
+pub mod PlayEnds
 pub mod Replies
 mod Showings
 mod Synced

@@ -79,8 +79,11 @@ fn becomes(
 fn are_repaired(rt: &(impl Abort + AllocGlobal), rows: &[(&[Change], &str, &str)]) {
     for &(changes, printed, told) in rows {
         for free in [false, true] {
-            let wanted = if told == "" { &[][..] } else { changes };
-            becomes(rt, changes, free, (printed, told, 0), wanted);
+            if told == "" {
+                becomes(rt, changes, free, (printed, told, 0), &[]);
+            } else {
+                becomes(rt, changes, free, (printed, told, 0), changes);
+            }
         }
     }
 }
