@@ -30,8 +30,8 @@ DOTS = 4
 HALF = 36600
 RING = 800
 RIM = 35700
-# beside a white line, and still on its ring
-BESIDE = 225
+# beside a white line, and still on the sector, for each of the four widths of files
+BESIDE = (225, 225, 150, None)
 # how far two colours may be from each other, of 255
 NEAR = 2
 
@@ -94,9 +94,12 @@ class Wanted:
 
     def beside(self, place):
         """How far outwards of its middle a sector is seen beside its white line: on both sides, but for that of a fault on
-        the next ring, whose white edge comes as far as there."""
+        the next ring, whose white edge comes as far as there. A line leaves nothing to be seen of the narrowest files."""
+        beside = BESIDE[self.disk.owner[place][0] // 12 % 4 if self.marks[place].isalpha() else 0]
         inwards = place[0] - self.fault[0] if self.fault else 0
-        return (BESIDE, -BESIDE) if abs(inwards) != 1 else (-BESIDE * inwards,)
+        if beside is None:
+            return ()
+        return (beside, -beside) if abs(inwards) != 1 else (-beside * inwards,)
 
     def owner_colour(self, place):
         mark = self.marks[place]
