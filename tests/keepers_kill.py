@@ -6,7 +6,8 @@
 PROGRAM is what `tools/program` prints. It is killed (SIGKILL) at random moments, a
 third of KILLS in `repair --free`, in `store` and in `make`, on a disk with other files; images lie in FOLDER (/var/tmp), which
 has to be on a disk, so that each sync takes its time. After each kill
-- `check` says OK, or `repair --free` makes it so, and is killed some times itself before; nobody is told IN USE;
+- `check` says OK, or `repair --free` makes it so, and is killed some times itself before; nobody is told IN USE. The disk
+  to repair has side sectors that list more blocks than there are, so it is repaired with `--accept-loss`;
 - all other files are as they were, byte for byte;
 - `repair`: each sector is the old one or the mended one; `make`: the file isn't there, or has empty records;
 - `store`: the records are those of before, grown by empty ones at the most, or some first lines are stored and the next
@@ -64,9 +65,9 @@ class Killer:
         self.healings += 1
         want(status == 1 and not err, f"check ends with {status}, {err}")
         for _ in range(self.draw.choice([0, 0, 1, 2])):
-            _, dead = self.killed(seconds, "repair", "--free", self.image)
+            _, dead = self.killed(seconds, "repair", "--free", "--accept-loss", self.image)
             self.repairs_killed += dead
-        want(sure(self.program, "repair", "--free", self.image)[-1:] == ["OK"], "repair doesn't end in OK")
+        want(sure(self.program, "repair", "--free", "--accept-loss", self.image)[-1:] == ["OK"], "repair doesn't end in OK")
         want(sure(self.program, "check", self.image) == ["OK"], "check isn't OK behind a repair")
 
 
@@ -118,7 +119,7 @@ class Repairs(Killer):
             sector = self.draw.randrange(sectors_of(track))
             self.hurt.put((18, 0), 4 * track + 1 + sector // 8, self.draw.randbytes(1))
         self.image.write_bytes(self.hurt.image)
-        _, self.seconds = self.timed("repair", "--free", self.image)
+        _, self.seconds = self.timed("repair", "--free", "--accept-loss", self.image)
         want(self.without_spare(self.held()) == self.without_spare(self.right), "the mended disk isn't that of before")
         self.right = self.held()
         self.moved = self.right.moved(self.hurt)
@@ -134,7 +135,7 @@ class Repairs(Killer):
 
     def kill(self):
         self.image.write_bytes(self.hurt.image)
-        out, dead = self.killed(1.1 * self.seconds, "repair", "--free", self.image)
+        out, dead = self.killed(1.1 * self.seconds, "repair", "--free", "--accept-loss", self.image)
         held = self.held()
         done = [place for place in self.moved if held.sector(place) == self.right.sector(place)]
         want(all(held.sector(place) == self.hurt.sector(place) for place in self.moved if place not in done),
@@ -146,7 +147,7 @@ class Repairs(Killer):
         self.kills += dead
         self.amid += dead and 0 < len(done) < len(self.moved)
         self.heal(self.seconds)
-        again = sure(self.program, "repair", "--free", self.image)
+        again = sure(self.program, "repair", "--free", "--accept-loss", self.image)
         want(again == ["OK"], f"repair again prints {again}")
         want(self.held().image == self.right.image, f"repaired again, {left} aren't as of a run without a kill")
 
