@@ -69,8 +69,7 @@ class Town:
     def start(self):
         self.cluster.start()
         for shop in self.shops:
-            # `format --new` when the program has it: the folder is a fresh one here
-            words = [self.given.program, "format", self.image(shop), "--tills", self.given.tills]
+            words = [self.given.program, "format", "--new", self.image(shop), "--tills", self.given.tills]
             subprocess.run(list(map(str, words)), check=True, stdout=subprocess.DEVNULL)
             words = self.cluster.words(f"bridge-{shop}", shop % self.cluster.count)
             command = [HERE / "bridge.py", self.image(shop), "--shop", shop, "--program", self.given.program, *words]

@@ -70,8 +70,7 @@ def rebuild(given, image):
     if given.backup:
         shutil.copyfile(given.backup, image)
     else:
-        # `format --new` when the program has it: the name is in a fresh folder here
-        run(given.program, "format", image, "--tills", str(given.tills))
+        run(given.program, "format", "--new", image, "--tills", str(given.tills))
     judge(requests, play(given.program, image, [request for request, _ in requests]))
     return len(requests), last
 
