@@ -1,7 +1,7 @@
 //! The job that words ask for, told in a line.
 use crate::memory::Errors;
 use ledger_commands::Durability;
-use ledger_program::{Drawing, Effect, Job, Loss, Taking, Unowned};
+use ledger_program::{Drawing, Effect, Job, Loss, Name, Taking, Unowned};
 use ledger_words::command_line;
 use std::alloc::Global;
 use std::cell::RefCell;
@@ -10,6 +10,11 @@ use std::io::Write;
 /// A job: its subcommand, its image, its script or records, and its tills, the length of its records or how many bytes
 /// its name has, where it has them.
 type Row<'a> = (&'a str, &'a str, &'a str, u8);
+
+/// How many bytes a name has.
+fn bytes_of(name: &Name) -> u8 {
+    name.as_bytes().len().min(255) as u8
+}
 
 /// The row of a job.
 fn row_of<'a>(job: &Job<'a>) -> Row<'a> {
@@ -28,19 +33,19 @@ fn row_of<'a>(job: &Job<'a>) -> Row<'a> {
             what: Taking::Records,
             image,
             ref name,
-        } => ("records", image, "", name.as_bytes().len() as u8),
+        } => ("records", image, "", bytes_of(name)),
         Job::Take {
             what: Taking::Bytes,
             image,
             ref name,
-        } => ("bytes", image, "", name.as_bytes().len() as u8),
+        } => ("bytes", image, "", bytes_of(name)),
         Job::Make { image, length, .. } => ("make", image, "", length),
         Job::Store {
             image,
             ref name,
             records,
             ..
-        } => ("store", image, records, name.as_bytes().len() as u8),
+        } => ("store", image, records, bytes_of(name)),
         Job::Draw {
             what: Drawing::Map,
             image,

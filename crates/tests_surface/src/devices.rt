@@ -1,5 +1,5 @@
 //! Places, images and devices.
-use crate::comparing::same;
+use crate::comparing::{byte_at, same};
 use crate::disks::{at, zeroed};
 use d64_image::{DeviceFault, Fuse, ImageFault, MemDisk, Meter, Mirror, OneFault, Place, Sectors};
 use std::io::Cursor;
@@ -72,5 +72,6 @@ fn a_mirror_is_a_file_and_a_disk(rt: HostRuntime) {
     let (file, disk) = mirror.into_inner();
     same(&rt, (disk.bytes()[255], disk.bytes()[256]), (0, 5));
     let bytes = file.into_inner();
-    same(&rt, (bytes[255], bytes[256]), (0, 5));
+    same(&rt, byte_at(bytes.as_slice(), 255), 0);
+    same(&rt, byte_at(bytes.as_slice(), 256), 5);
 }

@@ -1,5 +1,5 @@
 //! The drive: its channels, its commands and its status.
-use crate::comparing::same;
+use crate::comparing::{byte_at, same};
 use crate::disks::fresh;
 use arrayvec::ArrayVec;
 use d64_image::Sectors;
@@ -31,7 +31,7 @@ fn a_drive_is_asked(rt: HostRuntime) {
     let asked: Result<(), Dead> = drive.read(2, &mut text);
     same(
         &rt,
-        (told(&mut drive, asked), text.as_slice()[0]),
+        (told(&mut drive, asked), byte_at(text.as_slice(), 0)),
         (0, b'A'),
     );
     let asked: Result<(), Dead> = drive.close(2);

@@ -127,14 +127,24 @@ const REPLIES: &str = "1,1,DONE,120\n1,2,SHORT,120\n";
 const SHOWN: &str =
     "TOP 9256\nCARD 42,120\nTILL 1,2,I,42,121,SHORT,120\nPRIOR 1,1,S,42,120,DONE,120\n";
 
+/// Plays a script on the image of a file that holds these bytes, and gives what the file has then.
+fn played(
+    rt: &(impl Abort + AllocGlobal),
+    image: &[u8],
+    script: &[u8],
+    wanted: (u8, &str, &str),
+) -> Cursor<Vec<u8>> {
+    let mut file = file_of(rt, image);
+    ends(rt, &PLAY, (image, script), Some(&mut file), wanted);
+    file
+}
+
 #[test]
 fn scripts_are_played(rt: HostRuntime) {
     let image = formatted(&rt).into_inner();
-    let mut file = file_of(&rt, image.as_slice());
     let bytes = (image.as_slice(), SCRIPT);
     ends(&rt, &PLAY, bytes, None, (3, "", "FILE\n"));
-    ends(&rt, &PLAY, bytes, Some(&mut file), (0, REPLIES, ""));
-    let left = file.into_inner();
+    let left = played(&rt, image.as_slice(), SCRIPT, (0, REPLIES, "")).into_inner();
     let bytes = (left.as_slice(), b"".as_slice());
     ends(
         &rt,
@@ -143,10 +153,15 @@ fn scripts_are_played(rt: HostRuntime) {
         None,
         (0, SHOWN, ""),
     );
-    let bad = (left.as_slice(), b"x\n@x 1,1,S,1,0\n".as_slice());
-    let mut file = file_of(&rt, b"");
-    ends(&rt, &PLAY, bad, Some(&mut file), (1, "", "SCRIPT LINE 2\n"));
-    same(&rt, file.into_inner().len(), 0);
+}
+
+// Nothing is played: the file is as it was.
+#[test]
+fn a_bad_line_is_reported(rt: HostRuntime) {
+    let image = formatted(&rt).into_inner();
+    let bad = (1, "", "SCRIPT LINE 2\n");
+    let left = played(&rt, image.as_slice(), b"x\n@x 1,1,S,1,0\n", bad).into_inner();
+    same(&rt, left.as_slice() == image.as_slice(), true);
 }
 
 #[test]

@@ -1,11 +1,12 @@
 //! Relative files of a clean disk.
+ghost use Rattle.d64_image.specs.Memory.{disk_image};
 ghost use Rattle.disk_layout.specs.Clean.{IsClean};
 ghost use Rattle.rel_records.specs.File.{IsOf};
 
-use crate::comparing::same;
+use crate::comparing::{byte_at, same};
 use crate::disks::fresh;
 use arrayvec::ArrayVec;
-use d64_image::{MemDisk, Sectors};
+use d64_image::MemDisk;
 use layout_check::check;
 use rel_records::{
     RelFault, RelFile, create, find, grow_to, read_record, record_parts, records, write_record,
@@ -13,8 +14,8 @@ use rel_records::{
 use std::process::Abort;
 
 /// Sees that the disk is clean.
-fn clean<D: Sectors>(rt: &impl Abort, disk: &mut D)
-    ensures { IsClean (D.history.image disk.new) }
+fn clean(rt: &impl Abort, disk: &mut MemDisk)
+    ensures { IsClean (disk_image disk.new) }
 {
     match check(disk) {
         Ok(_) => {}
@@ -23,9 +24,9 @@ fn clean<D: Sectors>(rt: &impl Abort, disk: &mut D)
 }
 
 /// The file of this name, of a clean disk.
-fn found<D: Sectors>(rt: &impl Abort, disk: &mut D, name: &[u8]) -> RelFile
-    ensures clean { IsClean (D.history.image disk.new) }
-    ensures of { IsOf (D.history.image disk.new) result }
+fn found(rt: &impl Abort, disk: &mut MemDisk, name: &[u8]) -> RelFile
+    ensures clean { IsClean (disk_image disk.new) }
+    ensures of { IsOf (disk_image disk.new) result }
 {
     clean(rt, disk);
     match find(disk, name) {
@@ -43,7 +44,7 @@ fn third(rt: &impl Abort, disk: &mut MemDisk, name: &[u8]) -> (u32, u32, Result<
     let mut text: ArrayVec<u8, 254> = ArrayVec::new();
     let file = found(rt, disk, name);
     let _: Result<(), RelFault> = read_record(disk, &file, 3, &mut text);
-    (before, records(&file), wrote, text.as_slice()[1])
+    (before, records(&file), wrote, byte_at(text.as_slice(), 1))
 }
 
 // A block of 254 bytes has 14 records of 18.

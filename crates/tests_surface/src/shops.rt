@@ -94,12 +94,12 @@ fn events_are_played(rt: HostRuntime) {
     ];
     let mut replies: Vec<Reply> = Vec::new(rt.alloc());
     same(&rt, number_of(play(fresh(&rt), &events, &mut replies)), 0);
-    same(&rt, replies.as_slice()[0], Reply::Cut);
-    same(
-        &rt,
-        replies.as_slice()[1].print().as_slice(),
-        b"1,1,DONE,7".as_slice(),
-    );
+    same(&rt, replies.as_slice().first(), Some(&Reply::Cut));
+    let second = match replies.as_slice().get(1) {
+        Some(reply) => reply.print(),
+        None => Reply::Syntax.print(),
+    };
+    same(&rt, second.as_slice(), b"1,1,DONE,7".as_slice());
     let open = PlayFault::Open(OpenFault::NoStock);
     let numbers = (
         open.number(),
