@@ -1,15 +1,14 @@
 -- What comes of a repair over the file of a mirror, from that over the mirror and whether it is broken.
-use Rattle.std.proofs.Common.{◌≡◌, ◌≢◌, ◌<◌, ◌≤◌, ◌+◌, ◌⊎◌, ℕ, Bool, true, false, List, Option, Result, Ok, Err, ap, arith}
-use Rattle.std.proofs.Common.{inl, inr, length, refl, subst}
-use Rattle.std.specs.Prelude.{IfErr, IfOk, if◌then◌else◌, nat_eq}
+use Rattle.std.proofs.Common.{◌≡◌, ◌<◌, ◌≤◌, ◌+◌, ◌⊎◌, ℕ, Bool, List, Option, Result, Ok, Err, ap, arith}
+use Rattle.std.proofs.Common.{length, refl, subst}
+use Rattle.std.specs.Prelude.{IfErr, IfOk}
 use Rattle.d64_image.proofs.FileRuns.{file_disk, file_failed, held_by_file}
 use Rattle.d64_image.specs.FileDisks.{FileDisk, in_run}
 use Rattle.d64_image.specs.History.{Changes, History, WritesNothing}
 use Rattle.d64_image.proofs.Moments.{changes_weaker, no_write_change}
 use Rattle.d64_image.specs.Images.{Image, Sector, sector}
-use Rattle.d64_image.specs.Keeps.{FileFailed, Keeps}
-use Rattle.d64_image.specs.Memory.{disk_image, memory, sectors_in}
-use Rattle.d64_image.specs.declared.mem_disk.MemDisk.{MemDisk}
+use Rattle.d64_image.specs.Keeps.{FileFailed}
+use Rattle.d64_image.specs.Memory.{sectors_in}
 use Rattle.d64_image.specs.KeptMirrors.{IsMirrored, is_broken, mirror, mirror_image}
 use Rattle.d64_image.specs.declared.kept_mirror.KeptMirror.{KeptMirror}
 use Rattle.d64_image.specs.declared.place.Place.{Place}
@@ -21,7 +20,6 @@ use Rattle.disk_layout.specs.InOrder.{GoesOver}
 use Rattle.disk_layout.specs.Layout.{IsSound}
 use Rattle.disk_layout.specs.declared.faults.Fault.{Fault}
 use Rattle.layout_check.specs.Keeping.{FreesNothing}
-use Rattle.keeper_commands.specs.Faults.{IsLoadFault, keep_status}
 use Rattle.keeper_commands.specs.Kinds.{HasFormatByte, HasGeosSign, IsPlainDisk}
 use Rattle.keeper_commands.specs.Repairs.{IsMendedDisk, IsRepairDone, IsRepairFault, IsRepairRun}
 use Rattle.keeper_commands.specs.declared.faults.KeepFault.{KeepFault}
@@ -29,108 +27,8 @@ use Rattle.keeper_commands.specs.declared.faults.KeepFault.TheVariants as keep
 use Rattle.ledger_commands.proofs.FileEnds.{failed_stably}
 use Rattle.ledger_commands.specs.Plays.{IsUntouched}
 use Rattle.ledger_program.proofs.OverFiles.{changes_of_file, handed-back, not_failed, same_file, taken_up}
-use Rattle.ledger_program.specs.Keeping.{IsDryRepair, IsRepairOver, IsRepairedFault, IsRepairedFile, repair_end}
-
-module _ {F W : Type 0} (free : Bool) (K : Keeps F) (contents : W → Option (List ℕ)) (image : List ℕ) (file after : F)
-    (old new : W) where
-  -- the output or the file failed, or there was no memory
-  stopped : (fault : KeepFault) → keep_status fault ≡ 3 → length image ≡ 174848
-      → IsRepairedFault free K image file after old new fault
-      → IsRepairOver free K contents image file after old new (Err fault)
-  stopped fault three size told = record {
-    done = tt;
-    fault = told;
-    size = λ other. absurd (other size);
-    refused = λ one. absurd (omega (arith, three, one));
-    untouched = λ one. absurd (omega (arith, three, one));
-    statuses = inr (inr three);
-  }
-
-  mended : (n : ℕ) → length image ≡ 174848 → IsRepairedFile free K contents image file after old new n
-      → IsRepairOver free K contents image file after old new (Ok n)
-  mended n size is = record {
-    done = is;
-    fault = tt;
-    size = λ other. absurd (other size);
-    refused = tt;
-    untouched = tt;
-    statuses = ended (nat_eq n 0) refl;
-  }
-    where
-      ended : (b : Bool) → nat_eq n 0 ≡ b
-          → (repair_end (Ok n) ≡ 0) ⊎ ((repair_end (Ok n) ≡ 1) ⊎ (repair_end (Ok n) ≡ 3))
-      ended true e = inl (ap (λ (is : Bool). if is then 0 else 1) e)
-      ended false e = inr (inl (ap (λ (is : Bool). if is then 0 else 1) e))
-
-  -- an image that is refused: nothing was done
-  refused : (fault : KeepFault) → keep_status fault ≡ 1 → length image ≡ 174848
-      → IsRepairedFault free K image file after old new fault → IsUntouched file after old new
-      → ¬ (IsPlainDisk (sector (sectors_in image) map_place) × IsSound (sectors_in image))
-      → IsRepairOver free K contents image file after old new (Err fault)
-  refused fault one size told same other = record {
-    done = tt;
-    fault = told;
-    size = λ wrong. absurd (wrong size);
-    refused = λ _ _. other;
-    untouched = λ _. same;
-    statuses = inr (inl one);
-  }
-
--- the image wasn't taken into memory
-pub not-loaded : {F W : Type 0} (free : Bool) (K : Keeps F) (contents : W → Option (List ℕ)) (image : List ℕ) (file : F)
-    (old : W) (fault : KeepFault)
-    → IsLoadFault image fault → IsRepairOver free K contents image file file old old (Err fault)
-not-loaded free K contents image file old keep.ImageSize told = record {
-  done = tt;
-  fault = (told, (refl, refl));
-  size = λ _. refl;
-  refused = λ _ same. absurd (told same);
-  untouched = λ _. (refl, refl);
-  statuses = inr (inl refl);
-}
-not-loaded free K contents image file old keep.NoMemory told =
-    stopped free K contents image file file old old keep.NoMemory refl told (told, (refl, refl))
-not-loaded free K contents image file old (keep.Layout fault) told = absurd told
-not-loaded free K contents image file old keep.NoFile told = absurd told
-not-loaded free K contents image file old keep.FileExists told = absurd told
-not-loaded free K contents image file old (keep.BadLine line) told = absurd told
-not-loaded free K contents image file old keep.DiskFull told = absurd told
-not-loaded free K contents image file old keep.File told = absurd told
-not-loaded free K contents image file old keep.Device told = absurd told
-not-loaded free K contents image file old keep.Geos told = absurd told
-not-loaded free K contents image file old keep.Format told = absurd told
-
--- a repair of a copy in memory
-pub dry-ended : {W : Type 0} (free : Bool) (contents : W → Option (List ℕ)) (image : List ℕ) (copy left : MemDisk)
-    (old new : W) (r : Result ℕ KeepFault) → disk_image copy ≡ sectors_in image
-    → IfOk r (IsRepairDone free memory contents image copy left old new)
-    → IfErr r (IsRepairFault free memory image copy left old new) → IsDryRepair free contents image old new r
-dry-ended free contents image copy left old new (Ok n) holds ok err = (copy, left, holds, ok)
-dry-ended free contents image copy left old new (Err keep.ImageSize) holds ok err = (err.0, err.2)
-dry-ended free contents image copy left old new (Err keep.NoMemory) holds ok err = (err.0, err.2)
-dry-ended free contents image copy left old new (Err (keep.Layout fault)) holds ok err = (copy, left, holds, err)
-dry-ended free contents image copy left old new (Err keep.NoFile) holds ok err = (copy, left, holds, err)
-dry-ended free contents image copy left old new (Err keep.FileExists) holds ok err = (copy, left, holds, err)
-dry-ended free contents image copy left old new (Err (keep.BadLine line)) holds ok err = (copy, left, holds, err)
-dry-ended free contents image copy left old new (Err keep.DiskFull) holds ok err = (copy, left, holds, err)
-dry-ended free contents image copy left old new (Err keep.File) holds ok err = (copy, left, holds, err)
-dry-ended free contents image copy left old new (Err keep.Device) holds ok err = (copy, left, holds, err)
-dry-ended free contents image copy left old new (Err keep.Geos) holds ok err = (copy, left, holds, err)
-dry-ended free contents image copy left old new (Err keep.Format) holds ok err = (copy, left, holds, err)
-
-pub dry-unloaded : {W : Type 0} (free : Bool) (contents : W → Option (List ℕ)) (image : List ℕ) (old : W)
-    (fault : KeepFault) → IsLoadFault image fault → IsDryRepair free contents image old old (Err fault)
-dry-unloaded free contents image old keep.ImageSize told = (told, refl)
-dry-unloaded free contents image old keep.NoMemory told = (told, refl)
-dry-unloaded free contents image old (keep.Layout fault) told = absurd told
-dry-unloaded free contents image old keep.NoFile told = absurd told
-dry-unloaded free contents image old keep.FileExists told = absurd told
-dry-unloaded free contents image old (keep.BadLine line) told = absurd told
-dry-unloaded free contents image old keep.DiskFull told = absurd told
-dry-unloaded free contents image old keep.File told = absurd told
-dry-unloaded free contents image old keep.Device told = absurd told
-dry-unloaded free contents image old keep.Geos told = absurd told
-dry-unloaded free contents image old keep.Format told = absurd told
+use Rattle.ledger_program.specs.Keeping.{IsRepairOver}
+use Rattle.ledger_program.proofs.RepairEnds.{mended, refused, stopped}
 
 module _ {F : Type 0} {G : Ghosts F} (start : KeptMirror F G) (sound : is_broken start → ⊥) (untaken : start.taken.n ≡ 0)
     (b : KeptMirror F G) where

@@ -1,7 +1,7 @@
 -- How the repair of the copy ended.
 use Rattle.std.proofs.Common.{Err, ap, ◌∙◌}
 use Rattle.std.proofs.lemmas.Result.{err_from_is_err_and}
-use Rattle.ledger_program.proofs.Repaired.{dry-ended, dry-unloaded}
+use Rattle.ledger_program.proofs.DryRepairs.{dry-ended, dry-unloaded}
 use Rattle.ledger_program.proofs.keeping.dry_repair_run.Goals as goal
 
 pub returns-in_err-copy : goal.returns-in_err-copy

@@ -3,7 +3,8 @@ use Rattle.std.proofs.Common.{◌≡◌, ◌∙◌, ap, ap₂}
 use Rattle.d64_image.specs.Keeps.{kept_or}
 use Rattle.d64_image.specs.Memory.{disk_image, sectors_in}
 use Rattle.d64_image.specs.KeptMirrors.{mirror_image}
-use Rattle.ledger_program.proofs.Repaired.{file-ended, not-loaded}
+use Rattle.ledger_program.proofs.Repaired.{file-ended}
+use Rattle.ledger_program.proofs.RepairEnds.{not-loaded}
 use Rattle.ledger_program.proofs.keeping.repair_run.Goals as goal
 
 pub returns-in-Err : goal.returns-in-Err

@@ -4,7 +4,7 @@ use Rattle.std.proofs.lemmas.List.{take_rest}
 use Rattle.std.specs.Prelude.{◌≡◌, List, ℕ, option_map}
 use Rattle.system_files.specs.Remains.{Changes, IsPutInPart, put_in}
 use Rattle.std.proofs.lemmas.Result.{err_from_is_err_and}
-use Rattle.system_files.proofs.Steps.{filling, not_filled, since_one, since_three, since_two}
+use Rattle.system_files.proofs.Filling.{filling, not_filled, since_one, since_three, since_two}
 use Rattle.system_files.proofs.replacing.fill.Goals as goal
 
 pub slice_bounds-put_over-end : goal.slice_bounds-put_over-end

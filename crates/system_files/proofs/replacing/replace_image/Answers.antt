@@ -1,6 +1,6 @@
 -- Spoiled, filled, and sealed.
 use Rattle.std.proofs.lemmas.Result.{err_from_is_err_and}
-use Rattle.system_files.proofs.Steps.{not_filled_yet, not_spoiled_yet, replaced}
+use Rattle.system_files.proofs.Replacement.{not_filled_yet, not_spoiled_yet, replaced}
 use Rattle.system_files.proofs.replacing.replace_image.Goals as goal
 
 pub returns-in_err-spoil : goal.returns-in_err-spoil

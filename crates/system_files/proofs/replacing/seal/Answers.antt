@@ -1,7 +1,7 @@
 -- The last sector makes it the image.
 use Rattle.std.proofs.Common.{arith, refl, length-take, length-drop, take, drop}
 use Rattle.std.proofs.lemmas.Result.{err_from_is_err_and}
-use Rattle.system_files.proofs.Steps.{not_sealed, sealing}
+use Rattle.system_files.proofs.Sealing.{not_sealed, sealing}
 use Rattle.system_files.proofs.replacing.seal.Goals as goal
 
 pub returns-in_err-put_over : goal.returns-in_err-put_over

@@ -2,7 +2,7 @@
 use Rattle.std.proofs.Common.{lit<, ℕ}
 use Rattle.std.proofs.lemmas.List.{get_or-replicate, length-replicate}
 use Rattle.std.proofs.lemmas.Result.{err_from_is_err_and}
-use Rattle.system_files.proofs.Steps.{not_spoiled, spoiling}
+use Rattle.system_files.proofs.Spoiling.{not_spoiled, spoiling}
 use Rattle.system_files.proofs.replacing.spoil.Goals as goal
 
 pub returns-in_err-put_over : goal.returns-in_err-put_over
