@@ -26,6 +26,8 @@ pub(crate) struct Memory {
     pub(crate) taken: Cell<bool>,
     /// Whether it was opened by its name, which waits where it is a pipe whose writer is gone.
     pub(crate) reopened: Cell<bool>,
+    /// Whether a file that no word names was to be made, changed, renamed or removed.
+    pub(crate) meddled: Cell<bool>,
     pub(crate) out: RefCell<Vec<u8>>,
     /// How many bytes the output takes until it fails, and in how many writes it took some.
     pub(crate) room: Cell<usize>,
@@ -49,6 +51,7 @@ impl Memory {
             fails: Cell::new(false),
             taken: Cell::new(false),
             reopened: Cell::new(false),
+            meddled: Cell::new(false),
             out: RefCell::new(Vec::new(alloc)),
             room: Cell::new(usize::MAX),
             prints: Cell::new(0),
@@ -63,6 +66,7 @@ impl Memory {
         self.script.forget();
         self.folder.forget();
         self.taken.set(false);
+        self.meddled.set(false);
         self.prints.set(0);
     }
 
@@ -108,6 +112,14 @@ pub(crate) struct Runtime<'a> {
     pub(crate) memory: &'a Memory,
     pub(crate) words: &'a [u8],
     pub(crate) input: &'a [u8],
+}
+
+impl Runtime<'_> {
+    /// Notes that the program meddles with a file that no word names, and refuses it.
+    fn meddles<T>(&self) -> io::Result<T> {
+        self.memory.meddled.set(true);
+        failed(ErrorKind::Unsupported)
+    }
 }
 
 impl Alloc for Runtime<'_> {
@@ -156,6 +168,7 @@ impl<'a> Files for Runtime<'a> {
                 self.memory.reopened.set(true);
                 failed(ErrorKind::NotFound)
             }
+            _ if how.asks_write() => self.meddles(),
             _ => failed(ErrorKind::NotFound),
         }
     }
@@ -178,27 +191,27 @@ impl<'a> Files for Runtime<'a> {
     }
 
     fn copy(&self, _from: &str, _to: &str) -> io::Result<u64> {
-        failed(ErrorKind::Unsupported)
+        self.meddles()
     }
 
     fn rename(&self, _from: &str, _to: &str) -> io::Result<()> {
-        failed(ErrorKind::Unsupported)
+        self.meddles()
     }
 
     fn remove_file(&self, _path: &str) -> io::Result<()> {
-        failed(ErrorKind::Unsupported)
+        self.meddles()
     }
 
     fn create_dir(&self, _path: &str) -> io::Result<()> {
-        failed(ErrorKind::Unsupported)
+        self.meddles()
     }
 
     fn remove_dir(&self, _path: &str) -> io::Result<()> {
-        failed(ErrorKind::Unsupported)
+        self.meddles()
     }
 
     fn remove_dir_all<B: Allocator>(&self, _alloc: B, _path: &str) -> io::Result<()> {
-        failed(ErrorKind::Unsupported)
+        self.meddles()
     }
 }
 

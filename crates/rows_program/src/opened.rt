@@ -33,6 +33,9 @@ impl Read for Opened<'_> {
         if !self.reads {
             return failed(ErrorKind::PermissionDenied);
         }
+        if self.stored.unreadable.get() {
+            return failed(ErrorKind::Other);
+        }
         self.stored.note_read();
         let got = self.stored.read_from(buf, self.begins())?;
         self.at = self.at.saturating_add(got as u64);
@@ -71,16 +74,20 @@ impl WritesAt for Opened<'_> {
 
 impl Locks for Opened<'_> {
     fn lock_alone(&mut self) -> Result<(), TryLockError> {
-        if self.stored.others.get() != Others::Away {
-            return Err(TryLockError::WouldBlock);
+        match self.stored.others.get() {
+            Others::Away => {}
+            Others::Unknown => return Err(TryLockError::Error(io::ErrorKind::Unsupported.into())),
+            _ => return Err(TryLockError::WouldBlock),
         }
         self.stored.lock.set(Lock::Alone);
         Ok(())
     }
 
     fn lock_shared(&mut self) -> Result<(), TryLockError> {
-        if self.stored.others.get() == Others::Alone {
-            return Err(TryLockError::WouldBlock);
+        match self.stored.others.get() {
+            Others::Unknown => return Err(TryLockError::Error(io::ErrorKind::Unsupported.into())),
+            Others::Alone => return Err(TryLockError::WouldBlock),
+            _ => {}
         }
         self.stored.lock.set(Lock::Shared);
         Ok(())

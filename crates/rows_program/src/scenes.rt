@@ -15,14 +15,15 @@
 //! What fails, in the next run alone:
 //! - `sync`, `folder-sync`: the call of this number that brings the image, or the folder, to the disk
 //! - `disk-takes`, `output-takes`: so many bytes are taken; `input-fails`: behind its bytes
-//! - `others`: another program has the image `alone`, or is `reading` it
+//! - `others`: another program has the image `alone`, or is `reading` it; or the system can't say (`unknown`)
+//! - `unreadable`: the image can be opened, and reading it fails
 //! - `gone`, `cut`: from this look at its name on the image is elsewhere, or has half of its bytes
 //!
 //! The run, by a command line as a shell splits it: `$` with standard error that no person reads, `person` with one who
 //! does, `waiting` with one who doesn't see the output. `job` only prints which job the command line asks for.
 //!
 //! What it leaves; of what isn't named nothing is printed or told, the status is 0, nothing is written, and standard
-//! input isn't opened by its name:
+//! input isn't opened by its name. In every row no other file is made, changed, renamed or removed:
 //! - `prints`, `tells`, `ends`: the output, standard error, the status; a text that ends with `..` is its beginning, one
 //!   that begins with `..` too a part of it
 //! - `written`: the image is another; `rewritten`: it was written, and is the same; `leaves` with `the shop`, `another`
@@ -142,10 +143,14 @@ fn fails(memory: &Memory, word: &[u8], text: &[u8]) -> bool {
         b"disk-takes" => memory.image.room.set(number),
         b"output-takes" => memory.room.set(number),
         b"input-fails" => memory.fails.set(true),
+        b"unreadable" => memory.image.unreadable.set(true),
         b"gone" => memory.image.gone_at.set(number),
         b"cut" => memory.image.cut_at.set(number),
-        b"others" if text == b"alone".as_slice() => memory.image.others.set(Others::Alone),
-        b"others" => memory.image.others.set(Others::Reading),
+        b"others" => memory.image.others.set(match text {
+            b"alone" => Others::Alone,
+            b"reading" => Others::Reading,
+            _ => Others::Unknown,
+        }),
         _ => return false,
     }
     true
@@ -214,6 +219,7 @@ fn is_told(scene: &Scene) -> bool {
         && memory.status.get() == 0
         && !memory.image.unlocked.get()
         && !memory.reopened.get()
+        && !memory.meddled.get()
         && memory.script.is_as(&scene.script)
         && (scene.written.get()
             || memory.image.writes.get() == 0 && memory.image.is_as(&scene.image))

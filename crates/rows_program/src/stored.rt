@@ -35,6 +35,8 @@ pub(crate) struct Stored {
     pub(crate) others: Cell<Others>,
     /// How it is locked by whoever opened it.
     pub(crate) lock: Cell<Lock>,
+    /// Whether reading it fails.
+    pub(crate) unreadable: Cell<bool>,
     /// How often its name was looked at, and the look at which it leads nowhere from then on, and at which the file is
     /// found cut.
     pub(crate) looks: Cell<usize>,
@@ -61,6 +63,8 @@ pub(crate) enum Others {
     Reading,
     /// One of them has it alone.
     Alone,
+    /// The system can't say.
+    Unknown,
 }
 
 /// How it is locked.
@@ -88,6 +92,7 @@ impl Stored {
             room: Cell::new(usize::MAX),
             others: Cell::new(Others::Away),
             lock: Cell::new(Lock::None),
+            unreadable: Cell::new(false),
             looks: Cell::new(0),
             gone_at: Cell::new(usize::MAX),
             cut_at: Cell::new(usize::MAX),
@@ -118,6 +123,7 @@ impl Stored {
     pub(crate) fn mend(&self) {
         self.room.set(usize::MAX);
         self.others.set(Others::Away);
+        self.unreadable.set(false);
         self.gone_at.set(usize::MAX);
         self.cut_at.set(usize::MAX);
         self.bad_sync.set(0);
