@@ -21,10 +21,10 @@ LIMIT = 32_000
 LONGEST = 35
 FOLDERS = ("bench", "crates", "docs", "examples", "packaging", "tests", "tools", "wrong_bodies")
 GENERATED = ("docs/DEFINITIONS.md",)
-ELSE = r"(?<!thing )(?<!\bbody )(?<!\banyone )(?<!somebody )(?<!anybody )(?<!nobody )(?<!what )(?<!whatever )"
+ELSE = r"(?<!thing )(?<!\banyone )(?<!somebody )(?<!anybody )(?<![Nn]obody )(?<!what )(?<!whatever )"
 # what a document doesn't say, and what it says in its place
 WORDS = {
-    "tell": (r"\b[Tt](ell|ells|old|elling)\b", "print, report, return or answer"),
+    "tell": (r"\b[Tt](ell|ells|old|elling)\b(?! apart)", "print, report, return or answer"),
     "behind": (r"\b[Bb]ehind\b", "after"),
     "Of": (r"(?:^|(?<=[.:;!?] ))Of\b", "name the subject first"),
     "who": (r"\b(?:[Ff]or|[Bb]y|[Tt]o|[Oo]f) who\b|(?:^|(?<=[.;!?] ))Who (?:has|hasn't|wants|writes|sees|can|knows)\b", "if you, or anyone who"),
@@ -67,7 +67,7 @@ def prose(block):
 
 
 def sentences(text):
-    return re.split(r"(?<=[.!?])(?:\)|\*)* +(?=[A-Z`(*\"])", text)
+    return re.split(r"(?<=[.!?])(?:\)|\*)* +(?=[A-Z0-9`(*\"])", text)
 
 
 def findings(text):
@@ -112,7 +112,8 @@ def broken_links(file, text):
             if is_title and not any(head.startswith(it[3]) for head in known):
                 yield line, "no such heading", f"{target or file.name}: {it[3]}"
     for it in re.finditer(rf"`((?:{'|'.join(FOLDERS)})/[\w./-]+)(?: [^`]*)?`", plain):
-        if not (TOP / it[1]).exists() and not any(TOP.glob(f"crates/*/{it[1]}*")):
+        is_form = re.search(r"/(NAME|CRATE|MODULE|FUNCTION|NOTION)\b", it[1])
+        if not is_form and not (TOP / it[1]).exists() and not any(TOP.glob(f"crates/*/{it[1]}*")):
             yield text.count("\n", 0, text.find(it[0])) + 1, "no such file", it[1]
 
 
