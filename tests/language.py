@@ -56,6 +56,9 @@ def blocks(text):
         if not is_left and line.strip():
             start = start if kept else number
             kept.append(re.sub(r"^\s*([-*]|\d+\.)\s+|^#+ ", "", line.strip()).rstrip("\\"))
+            if line.endswith("\\"):
+                yield start, " ".join(kept)
+                kept = []
 
 
 def prose(block):

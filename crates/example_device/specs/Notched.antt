@@ -1,5 +1,5 @@
 -- A disk in memory, with a notch that protects it: what it holds, and what it says of its past. Our own.
-use Rattle.std.specs.Prelude.{ℕ, ◌≡◌, Bool, refl}
+use Rattle.std.specs.Prelude.{◌≡◌, Bool, refl}
 use Rattle.std.proofs.Common.{lit≤}
 use Rattle.d64_image.specs.History.{History}
 use Rattle.d64_image.specs.Images.{Image}
