@@ -7,7 +7,8 @@ them. Of each it checks
   - sentences of more than 35 words, outside tables, code and pictures;
   - the words of WORDS below, outside code and quotation marks;
   - links: the file is there, and so is the heading that an anchor, or the name in italics after a link, refers to;
-  - file names in backticks that begin with a folder of this repository.
+  - file names in backticks that begin with a folder of this repository;
+  - in docs/EMBED.md and docs/PROOF.md the lines of code, each of which is a line of a source (but for comments and `...`).
 It also counts the words of all documents, against LIMIT. Comments (`///`, `//!`) and the program's help texts are reported too, by
 crate and as counts only: they don't change the status. With --counts it prints one line for each document and no findings.
 The status is 1 if a document has a finding, or all of them together are too long."""
@@ -21,6 +22,7 @@ LIMIT = 32_000
 LONGEST = 35
 FOLDERS = ("bench", "crates", "docs", "examples", "packaging", "tests", "tools", "wrong_bodies")
 GENERATED = ("docs/DEFINITIONS.md",)
+QUOTING = ("docs/EMBED.md", "docs/PROOF.md")
 ELSE = r"(?<!thing )(?<!\banyone )(?<!somebody )(?<!anybody )(?<![Nn]obody )(?<!what )(?<!whatever )"
 # what a document doesn't say, and what it says in its place
 WORDS = {
@@ -120,11 +122,29 @@ def broken_links(file, text):
             yield text.count("\n", 0, text.find(it[0])) + 1, "no such file", it[1]
 
 
+def source_lines():
+    """All lines of sources and definitions, without blanks at their ends."""
+    files = [it for form in ("src/**/*.rt", "specs/**/*.antt") for it in TOP.glob(f"crates/*/{form}")]
+    return {line.strip() for file in files for line in file.read_text().split("\n")}
+
+
+def unknown_code(text, known):
+    """Lines of Rust in a document that no source has."""
+    for block in re.finditer(r"(?ms)^```rust\n(.*?)^```", text):
+        first = text.count("\n", 0, block.start()) + 2
+        for number, line in enumerate(block[1].split("\n"), first):
+            wanted = line.strip()
+            if wanted and not wanted.startswith("//") and not wanted.endswith("...") and wanted not in known:
+                yield number, "no such line in a source", wanted
+
+
 def check(file, shows):
     """Prints what is found of a document, or a line with its counts; gives the number of its findings and of its words."""
     text = file.read_text()
     name = str(file.relative_to(TOP))
     found = [] if name in GENERATED else [*findings(text), *broken_links(file, text)]
+    if name in QUOTING:
+        found += unknown_code(text, source_lines())
     words = len(text.split())
     if shows:
         for line, what, where in sorted(found):
