@@ -145,7 +145,7 @@ def check(file, shows):
     found = [] if name in GENERATED else [*findings(text), *broken_links(file, text)]
     if name in QUOTING:
         found += unknown_code(text, source_lines())
-    words = len(text.split())
+    words = sum(1 for it in text.split() if re.search(r"\w", it))
     if shows:
         for line, what, where in sorted(found):
             print(f"{name}:{line}: {what}: {where}")
