@@ -24,11 +24,12 @@ HISTORIES = r"(?::|→) (History|Keeps|Source|Output) [^→]*$"
 SOURCES = r"Guide|D64|Standard"
 HEAD = """# Definitions
 
-The definitions that contracts of public calls and types cite, under crate and file (`crates/CRATE/specs/NAME.antt` has the
-sentence over each), in brackets the example that decides it: a theorem, or a row. A line of its own has each fact that contracts of
-another crate cite, and what has no sentence there. Left out are what these rest on, values without an example that one
-file alone cites, and the tools' own. "The Guide" is the 1541 User's Guide; what names no source is our own. *The disk with STOCK*
-has one relative file of one block. `tests/definitions.py` makes this page."""
+The definitions that contracts of public calls and types cite, by crate and file. `crates/CRATE/specs/NAME.antt` has the sentence
+above each. In brackets stands the example that decides it: a theorem, or a row. A line of its own has each fact that contracts of
+another crate cite, and each definition whose sentence stands only here. Not listed: auxiliary definitions, values without an example
+that only one file cites, and definitions of tools and examples. "The Guide" is the 1541 User's Guide; a definition that names no
+source is our own. *The disk with STOCK* has one relative file of one block. `tests/definitions.py` makes this page; [PROOF.md](PROOF.md)
+says how to read a definition."""
 
 
 def without_comments(text, mark):
