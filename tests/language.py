@@ -164,10 +164,10 @@ def comment_counts():
         if found:
             print(f"comments of {crate.name}: {long} long sentences, {len(found) - long} words of the list")
     for file in sorted((TOP / "crates/ledger_grammar/src").glob("*.rt")):
-        texts = [re.sub(r"\\n", "\n", it) for it in re.findall(r'"((?:[^"\\]|\\.)*)"', file.read_text()) if " " in it]
+        texts = [it.replace("\\\n", "").replace("\\n", "\n") for it in re.findall(r'"((?:[^"\\]|\\.|\\\n)*)"', file.read_text())]
         found = [what for it in texts for _, what, _ in findings(it)]
         if found:
-            print(f"help texts of {file.name}: {len(found)}")
+            print(f"help texts of {file.name}: {len(found)}: {', '.join(sorted(set(found)))}")
 
 
 def main():
