@@ -3,7 +3,7 @@
 
 It names each definition that a contract of a public function, trait or type cites and that has an example or a source of its own,
 is a fact (with a capital) or a history of a device, source or output, or is cited by contracts of two files or of another crate;
-all but those of the tools. Behind a name stands the example that decides it.
+all but those of the tools and examples. Behind a name stands the example that decides it.
 A line of its own, with the comment over it and its source where the heading of its file doesn't name it, has each fact that
 contracts of another crate cite, and what has its sentence there. Examples, further sources, and sentences for definitions without a
 comment, or with one that leaves much to their fields, stand in docs/definitions.txt.
@@ -24,11 +24,12 @@ HISTORIES = r"(?::|→) (History|Keeps|Source|Output) [^→]*$"
 SOURCES = r"Guide|D64|Standard"
 HEAD = """# Definitions
 
-The definitions that contracts of public calls and types cite, under crate and file (`crates/CRATE/specs/NAME.antt` has the
-sentence over each), in brackets the example that decides it: a theorem, or a row. A line of its own has each fact that contracts of
-another crate cite, and what has no sentence there. Left out are what these rest on, values without an example that one
-file alone cites, and the tools' own. "The Guide" is the 1541 User's Guide; what names no source is our own. *The disk with STOCK*
-has one relative file of one block. `tests/definitions.py` makes this page."""
+The definitions that contracts of public calls and types cite, by crate and file. `crates/CRATE/specs/NAME.antt` has the sentence
+above each. In brackets stands the example that decides it: a theorem, or a row. A line of its own has each fact that contracts of
+another crate cite, and each definition whose sentence stands only here. Not listed: auxiliary definitions, values without an example
+that only one file cites, and definitions of tools and examples. "The Guide" is the 1541 User's Guide; a definition that names no
+source is our own. *The disk with STOCK* has one relative file of one block. `tests/definitions.py` makes this page; [PROOF.md](PROOF.md)
+says how to read a definition."""
 
 
 def without_comments(text, mark):
@@ -221,7 +222,7 @@ def page():
     side, faults = side_table()
     used, lines = set(), [HEAD]
     ordered = [it.split(":")[0] for it in (TOP / "crates.txt").read_text().split("\n") if it and not it.startswith("#")]
-    for crate in [it for it in ordered if not it.startswith("tool_")]:
+    for crate in [it for it in ordered if not it.startswith(("tool_", "example_"))]:
         modules = sorted({module for of, module, _ in below if of == crate})
         lines += [f"\n## `{crate}`"] if modules else []
         for module in modules:

@@ -3,14 +3,15 @@
 
 Below each promise stand calls in backticks, and in brackets behind them their clauses. A call is a function, a type, whose methods
 it stands for, or a folder or file of tests. A clause is a label of a contract of one of these calls, a
-field of a record that the contract cites, a word of the contract itself, or a record of specs/ on which it rests. The status
-is 1 where something isn't found."""
+field of a record that the contract cites, a word of the contract itself, or a record of specs/ on which it rests. A promise has
+30 words at most. The status is 1 if something isn't found, or a promise is longer."""
 
 import re
 import sys
 from pathlib import Path
 
 TOP = Path(__file__).resolve().parent.parent
+LONGEST = 30
 WORD = r"[A-Za-z_]\w*"
 
 
@@ -59,6 +60,14 @@ def rows():
             yield number, line.strip("- ")
 
 
+def long_promises():
+    """A line for each promise of more words than LONGEST."""
+    for number, line in enumerate((TOP / "docs" / "PROMISES.md").read_text().split("\n"), 1):
+        words = sum(1 for it in line.split() if re.search(r"\w", it))
+        if line.startswith("- ") and line.endswith("\\") and words > LONGEST:
+            yield f"PROMISES.md:{number}: {words} words: {line[2:60]}"
+
+
 def main():
     fields = record_fields()
     words = contract_words(fields)
@@ -67,7 +76,7 @@ def main():
         everywhere |= {file.stem, file.parts[len(TOP.parts) + 1]}
         if file.suffix == ".antt" and "specs" in file.parts:
             everywhere |= set(re.findall(WORD, file.read_text()))
-    lines = []
+    lines = list(long_promises())
     for number, cell in rows():
         for named in re.findall(r"`([^`/]+)`", cell):
             unknown = [it for it in re.findall(WORD, named) if it not in everywhere and it != "HANDLES"]

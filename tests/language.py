@@ -1,0 +1,187 @@
+#!/usr/bin/env python3
+"""Checks the language, links and length of the documents, and prints a line for each thing that it finds:
+  tests/language.py [--counts] [FILE ..]
+
+Documents are README.md, CHANGELOG.md, SECURITY.md, docs/*.md and each README.md under crates/ and examples/; FILE names some of
+them. Of each it checks
+  - sentences of more than 35 words, outside tables, code and pictures;
+  - the words of WORDS below, outside code and quotation marks;
+  - links: the file is there, and so is the heading that an anchor, or the name in italics after a link, refers to;
+  - file names in backticks that begin with a folder of this repository;
+  - in docs/EMBED.md and docs/PROOF.md the lines of code, each of which is a line of a source (but for comments and `...`).
+It also counts the words of all documents, against LIMIT. Comments (`///`, `//!`) and the program's help texts are reported too, by
+crate and as counts only: they don't change the status. With --counts it prints one line for each document and no findings.
+The status is 1 if a document has a finding, or all of them together are too long."""
+
+import re
+import sys
+from pathlib import Path
+
+TOP = Path(__file__).resolve().parent.parent
+LIMIT = 32_000
+LONGEST = 35
+FOLDERS = ("bench", "crates", "docs", "examples", "packaging", "tests", "tools", "wrong_bodies")
+GENERATED = ("docs/DEFINITIONS.md",)
+QUOTING = ("docs/EMBED.md", "docs/PROOF.md")
+ELSE = r"(?<!thing )(?<!\banyone )(?<!somebody )(?<!anybody )(?<![Nn]obody )(?<!what )(?<!whatever )"
+# what a document doesn't say, and what it says in its place
+WORDS = {
+    "tell": (r"\b[Tt](ell|ells|old|elling)\b(?! apart)", "print, report, return or answer"),
+    "behind": (r"\b[Bb]ehind\b", "after"),
+    "Of": (r"(?:^|(?<=[.:;!?] ))Of\b", "name the subject first"),
+    "who": (r"\b(?:[Ff]or|[Bb]y|[Tt]o|[Oo]f) who\b|(?:^|(?<=[.;!?] ))Who (?:has|hasn't|wants|writes|sees|can|knows)\b", "if you, or anyone who"),
+    "else": (rf"{ELSE}\b[Ee]lse\b", "otherwise"),
+    "..": (r"(?<![.\w/])\.\.(?![.\w/])", "..."),
+    "wrong body": (r"\b[Ww]rong bod(?:y|ies)\b", "mutant"),
+    "rooms": (r"\b[Rr]ooms\b", "folders"),
+}
+
+
+def documents():
+    """The documents, in the order in which they are printed."""
+    found = [TOP / it for it in ("README.md", "CHANGELOG.md", "SECURITY.md")]
+    for form in ("docs/*.md", "crates/*/README.md", "examples/**/README.md"):
+        found += sorted(TOP.glob(form))
+    return [it for it in found if it.exists()]
+
+
+def blocks(text):
+    """The paragraphs, headings and list items of a document, each with the number of its first line."""
+    kept, start, in_code = [], 0, False
+    for number, line in enumerate([*text.split("\n"), ""], 1):
+        in_code ^= line.lstrip().startswith("```")
+        is_left = in_code or line.lstrip().startswith(("```", "|", "<", "![")) or re.match(r" {4}", line) and not kept
+        is_new = re.match(r"\s*([-*]|\d+\.)\s|#", line) or not line.strip()
+        if (is_left or is_new) and kept:
+            yield start, " ".join(kept)
+            kept = []
+        if not is_left and line.strip():
+            start = start if kept else number
+            kept.append(re.sub(r"^\s*([-*]|\d+\.)\s+|^#+ ", "", line.strip()).rstrip("\\"))
+            if line.endswith("\\"):
+                yield start, " ".join(kept)
+                kept = []
+
+
+def prose(block):
+    """A block without its code, pictures, links' targets and quotations: a word stands for each."""
+    block = re.sub(r"!\[[^\]]*\]\([^)]*\)", "", block)
+    block = re.sub(r"`[^`]*`", "CODE", block)
+    block = re.sub(r"\[([^\]]*)\]\([^)]*\)", r"\1", block)
+    return re.sub(r'"[^"]*"', "QUOTED", block).replace("**", "")
+
+
+def sentences(text):
+    return re.split(r"(?<=[.!?])(?:\)|\*)* +(?=[A-Z0-9`(*\"])", text)
+
+
+def findings(text):
+    """What the prose of a document has: its line, which check, and the words."""
+    for line, block in blocks(text):
+        plain = prose(block)
+        for it in sentences(plain):
+            length = len(re.findall(r"[\w][\w'.,/-]*", it))
+            if length > LONGEST:
+                yield line, f"{length} words", it[:90]
+        for name, (form, better) in WORDS.items():
+            for it in re.finditer(form, plain):
+                yield line, f"'{name}' ({better})", plain[max(0, it.start() - 30) : it.end() + 30]
+
+
+def slug(heading):
+    """The anchor of a heading, as the usual hosts make it."""
+    plain = re.sub(r"\[([^\]]*)\]\([^)]*\)", r"\1", heading)
+    return re.sub(r"[^\w\- ]", "", plain.lower()).replace(" ", "-")
+
+
+def headings(file):
+    return re.findall(r"(?m)^#+ (.+)$", re.sub(r"(?ms)^```.*?^```", "", file.read_text()))
+
+
+def broken_links(file, text):
+    """Links without a file or heading, and file names in backticks that aren't there."""
+    plain = re.sub(r"(?ms)^```.*?^```", "", text)
+    for it in re.finditer(r"\]\(([^)\s]+)\)((?:\)|,|:)? \(?\*([^*]+)\*)?", plain):
+        line = text.count("\n", 0, text.find(it[0])) + 1
+        target, _, anchor = it[1].partition("#")
+        if re.match(r"[a-z]+:", target):
+            continue
+        place = (file.parent / target).resolve() if target else file
+        if not place.exists():
+            yield line, "no such file", it[1]
+        elif place.suffix == ".md":
+            known = headings(place)
+            if anchor and anchor not in map(slug, known):
+                yield line, "no such heading", it[1]
+            is_title = it[3] and it[3][0].isupper() and it[3] not in known
+            if is_title and not any(head.startswith(it[3]) for head in known):
+                yield line, "no such heading", f"{target or file.name}: {it[3]}"
+    for it in re.finditer(rf"`((?:{'|'.join(FOLDERS)})/[\w./-]+)(?: [^`]*)?`", plain):
+        is_form = re.search(r"/(NAME|CRATE|MODULE|FUNCTION|NOTION)\b", it[1])
+        if not is_form and not (TOP / it[1]).exists() and not any(TOP.glob(f"crates/*/{it[1]}*")):
+            yield text.count("\n", 0, text.find(it[0])) + 1, "no such file", it[1]
+
+
+def source_lines():
+    """All lines of sources and definitions, without blanks at their ends."""
+    files = [it for form in ("src/**/*.rt", "specs/**/*.antt") for it in TOP.glob(f"crates/*/{form}")]
+    return {line.strip() for file in files for line in file.read_text().split("\n")}
+
+
+def unknown_code(text, known):
+    """Lines of Rust in a document that no source has."""
+    for block in re.finditer(r"(?ms)^```rust\n(.*?)^```", text):
+        first = text.count("\n", 0, block.start()) + 2
+        for number, line in enumerate(block[1].split("\n"), first):
+            wanted = line.strip()
+            if wanted and not wanted.startswith("//") and not wanted.endswith("...") and wanted not in known:
+                yield number, "no such line in a source", wanted
+
+
+def check(file, shows):
+    """Prints what is found of a document, or a line with its counts; gives the number of its findings and of its words."""
+    text = file.read_text()
+    name = str(file.relative_to(TOP))
+    found = [] if name in GENERATED else [*findings(text), *broken_links(file, text)]
+    if name in QUOTING:
+        found += unknown_code(text, source_lines())
+    words = sum(1 for it in text.split() if re.search(r"\w", it))
+    if shows:
+        for line, what, where in sorted(found):
+            print(f"{name}:{line}: {what}: {where}")
+    else:
+        long = sum(what.endswith(" words") for _, what, _ in found)
+        print(f"{name}: {words} words, {long} long sentences, {len(found) - long} other findings")
+    return len(found), words
+
+
+def comment_counts():
+    """For each crate how many of its comments have a long sentence, or a word of the list; and the same of the help texts."""
+    for crate in sorted(it for it in TOP.glob("crates/*") if (it / "src").is_dir()):
+        kept = [re.findall(r"(?m)^\s*//[/!] ?(.*)$", it.read_text()) for it in sorted(crate.rglob("src/**/*.rt"))]
+        found = [what for lines in kept for _, what, _ in findings("\n".join(lines))]
+        long = sum(it.endswith(" words") for it in found)
+        if found:
+            print(f"comments of {crate.name}: {long} long sentences, {len(found) - long} words of the list")
+    for file in sorted((TOP / "crates/ledger_grammar/src").glob("*.rt")):
+        texts = [it.replace("\\\n", "").replace("\\n", "\n") for it in re.findall(r'"((?:[^"\\]|\\.|\\\n)*)"', file.read_text())]
+        found = [what for it in texts for _, what, _ in findings(it)]
+        if found:
+            print(f"help texts of {file.name}: {len(found)}: {', '.join(sorted(set(found)))}")
+
+
+def main():
+    words = [it for it in sys.argv[1:] if it != "--counts"]
+    shows = "--counts" not in sys.argv
+    chosen = [Path(it).resolve() for it in words] or documents()
+    counts = [check(it, shows) for it in chosen]
+    found, length = (sum(column) for column in zip(*counts))
+    if words:
+        return 1 if found else 0
+    comment_counts()
+    print(f"language: {len(counts)} documents, {length:,} words of {LIMIT:,} at most, {found} findings")
+    return 1 if found or length > LIMIT else 0
+
+
+if __name__ == "__main__":
+    sys.exit(main())

@@ -1,0 +1,56 @@
+#!/usr/bin/env python3
+"""Prints the table of docs/PROOF.md: lines of code, contracts, definitions and proofs, without blank lines and comments, and how many
+functions, tests and mutants there are.  tests/statistics.py
+
+A line of a contract is one of a clause (`ensures`, `requires`) or of another ghost item; tests are code."""
+
+import re
+from pathlib import Path
+
+TOP = Path(__file__).resolve().parent.parent
+KINDS = {"rows_": "tests", "tests_": "tests", "tool_": "tools, examples", "example_": "tools, examples"}
+
+
+def kind_of(crate):
+    return next((kind for start, kind in KINDS.items() if crate.startswith(start)), "the product")
+
+
+def code_and_contract(text):
+    """How many lines of a source are code, and how many stand in its contracts."""
+    code, contract, depth = 0, 0, 0
+    for line in (it.strip() for it in text.split("\n")):
+        if not line or line.startswith("//"):
+            continue
+        if depth > 0 or re.match(r"(ensures|requires|ghost)\b", line):
+            contract += 1
+            depth = max(depth + line.count("{") - line.count("}"), 0)
+        else:
+            code += 1
+    return code, contract
+
+
+def lines_of(crate, folder):
+    """How many lines of a folder's .antt files say something."""
+    texts = (it.read_text().split("\n") for it in crate.glob(f"{folder}/**/*.antt"))
+    return sum(1 for lines in texts for it in lines if it.strip() and not it.strip().startswith("--"))
+
+
+def main():
+    rows = {}
+    for crate in sorted(it.parent for it in TOP.glob("crates/*/src")):
+        sources = [it.read_text() for it in crate.glob("src/**/*.rt")]
+        code, contract = (sum(column) for column in zip(*map(code_and_contract, sources)))
+        functions = sum(len(re.findall(r"(?m)^\s*(?:pub(?:\([a-z]+\))? )?fn ", it)) for it in sources)
+        tests = sum(it.count("#[test]") for it in sources)
+        counts = (1, code, contract, lines_of(crate, "specs"), lines_of(crate, "proofs"), functions, tests)
+        row = rows.setdefault(kind_of(crate.name), [0] * len(counts))
+        rows[kind_of(crate.name)] = [had + more for had, more in zip(row, counts)]
+    print("| | Crates | Code | Contracts | Definitions | Proofs | Functions | Tests |\n|---|---|---|---|---|---|---|---|")
+    for kind, row in sorted(rows.items(), key=lambda it: -it[1][4]):
+        print(f"| {kind} | {' | '.join(f'{it:,}' for it in row)} |")
+    edits = [len(list(TOP.glob(it))) for it in ("crates/*/must-fail/*.edit", "wrong_bodies/*/*.edit", "crates/*/wrong_bodies/*.edit")]
+    print(f"\nMutants: {sum(edits)}; {edits[0]} of them in the gate, and {edits[2]} that a test sees.")
+
+
+if __name__ == "__main__":
+    main()
