@@ -69,10 +69,11 @@ class Pages:
         for name in ("till_page", "stock_page"):
             if (EXAMPLES / name).exists():
                 shutil.copytree(EXAMPLES / name, self.root / name)
-                (self.root / name / "config.json").write_text(json.dumps({"broker": f"wss://localhost:{broker.pages}", "shop": SHOP}))
-                if goods:
-                    (self.root / name / "goods.csv").write_text(goods, encoding="utf-8")
-                subprocess.run([EXAMPLES / "till_page" / "make_mqtt.sh", self.root / name], check=True, capture_output=True)
+        here = self.root / "till_page"
+        (here / "config.json").write_text(json.dumps({"broker": f"wss://localhost:{broker.pages}", "shop": SHOP}))
+        if goods:
+            (here / "goods.csv").write_text(goods, encoding="utf-8")
+        subprocess.run([here / "make_mqtt.sh", here], check=True, capture_output=True)
         self.server = http.server.ThreadingHTTPServer(("127.0.0.1", port), partial(Quiet, directory=self.root))
         self.port = self.server.server_address[1]
         threading.Thread(target=self.server.serve_forever, daemon=True).start()

@@ -46,6 +46,17 @@ export function goodsOf(text) {
   return goods;
 }
 
+/** The goods of the file beside this one; none if there is no list, or an unfit one: then items are typed as numbers. */
+export async function fetched() {
+  try {
+    const answer = await fetch(new URL("goods.csv", import.meta.url));
+    return answer.ok ? goodsOf(await answer.text()) : new Map();
+  } catch (fault) {
+    console.warn(`goods.csv: ${fault.message}`);
+    return new Map();
+  }
+}
+
 /** What an item is called: its name with its number, or its number alone. */
 export function nameIn(goods) {
   return (item) => {

@@ -3,9 +3,9 @@
 
 const DENIED = [4, 5];
 
-/** The broker of a page: what config.json says, or port 8884 of the machine that the page is of. */
+/** The broker of a page: what config.json beside this file says, or port 8884 of the machine that the page is of. */
 export async function configured() {
-  const found = await fetch("config.json").then((answer) => (answer.ok ? answer.json() : {})).catch(() => ({}));
+  const found = await fetch(new URL("config.json", import.meta.url)).then((answer) => (answer.ok ? answer.json() : {})).catch(() => ({}));
   return { broker: found.broker ?? `wss://${location.hostname}:8884`, shop: found.shop ?? "1" };
 }
 

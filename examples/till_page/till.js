@@ -2,7 +2,7 @@
 
 import { Books, Changed, hold } from "./book.js";
 import { Chooser } from "./chooser.js";
-import { goodsOf, nameIn, Search } from "./goods.js";
+import { fetched, nameIn, Search } from "./goods.js";
 import { configured, Link } from "./link.js";
 import * as rules from "./rules.js";
 
@@ -208,17 +208,6 @@ class Page {
   }
 }
 
-/** The goods; none if there is no list, and then items are typed as numbers. */
-async function goods() {
-  try {
-    const answer = await fetch("goods.csv");
-    return answer.ok ? goodsOf(await answer.text()) : new Map();
-  } catch (fault) {
-    console.warn(`goods.csv: ${fault.message}`);
-    return new Map();
-  }
-}
-
 /** Keeps the page's files for a time without net. */
 function keepFiles() {
   if (!("serviceWorker" in navigator)) return;
@@ -230,7 +219,7 @@ async function main() {
   keepFiles();
   if (!navigator.locks || !globalThis.indexedDB)
     return stop("This browser can't be a till", "It has no store or no locks. Open the page by https, in a current browser.");
-  const [books, config, list] = await Promise.all([Books.open(), configured(), goods()]);
+  const [books, config, list] = await Promise.all([Books.open(), configured(), fetched()]);
   const page = new Page(books, config, list), sign = await books.sign();
   if (sign) return page.start(sign.till, sign.password);
   state("Not signed in", "wait");
