@@ -8,6 +8,7 @@ import shutil
 import subprocess
 import sys
 import threading
+import time
 from functools import partial
 from pathlib import Path
 
@@ -16,7 +17,7 @@ EXAMPLES, TILLS = TOP / "examples", TOP / "examples" / "tills"
 sys.path.insert(0, str(TILLS))
 
 import brokers
-from served import sure
+from served import sure, want
 
 PYTHON = "/usr/bin/python3"
 SHOP = "1"
@@ -112,3 +113,78 @@ def bridge_words(program, image, kept, broker, *more):
 def shop_image(program, path, tills=4):
     sure(program, "format", "--new", path, "--tills", tills)
     return path
+
+
+def until(holds, what, seconds=30):
+    """Waits until it holds, and returns what that gave."""
+    end = time.monotonic() + seconds
+    while not (found := holds()):
+        want(time.monotonic() < end, f"{what} didn't come in {seconds} s")
+        time.sleep(0.05)
+    return found
+
+
+class TillPage:
+    """A till's page in a browser, used as a person does."""
+
+    def __init__(self, driver, pages, till):
+        self.driver, self.pages, self.till = driver, pages, till
+
+    def at(self, name):
+        return self.driver.find_element("css selector", f"#{name}")
+
+    def open(self):
+        self.driver.get(self.pages.url("till_page", f"#till={self.till}"))
+
+    def sign_in(self, password):
+        self.open()
+        until(lambda: self.at("password").is_displayed(), "the form to sign in")
+        self.at("password").send_keys(password)
+        self.at("sign").find_element("css selector", "button").click()
+
+    def state(self):
+        return self.at("state").text
+
+    def ready(self, seconds=30):
+        until(lambda: self.state() == "Ready", f"till {self.till} ready", seconds)
+
+    def fill(self, kind, item, quantity=1, to=None):
+        self.driver.find_element("css selector", f"input[value={kind}]").click()
+        for name, value in [("item", item), ("to", to), ("quantity", None if kind == "L" else quantity)]:
+            if value is not None:
+                field = self.at(name)
+                field.clear()
+                field.send_keys(str(value))
+                if name != "quantity":
+                    field.send_keys("\ue00c")
+
+    def send(self):
+        self.at("send").click()
+
+    def answers(self):
+        """Numbers and answers that the page shows, newest first."""
+        script = "return [...document.querySelectorAll('#answers li')].map((e) => [Number(e.dataset.number), e.dataset.answer])"
+        return [tuple(one) for one in self.driver.execute_script(script)]
+
+    def ask(self, kind, item, quantity=1, to=None, seconds=30):
+        """The answer to a request, which is shown once and above the others."""
+        before = self.answers()
+        self.fill(kind, item, quantity, to)
+        self.send()
+        until(lambda: len(self.answers()) > len(before), f"an answer of till {self.till}", seconds)
+        after = self.answers()
+        want(after[1:] == before, f"till {self.till} shows {after[:3]} after {before[:2]}")
+        return after[0][1]
+
+
+def book(driver, place):
+    """A till's book and all its answers, as the browser's store has them."""
+    script = """
+      const [place, done] = arguments, request = indexedDB.open("ledger-till", 1);
+      request.onsuccess = () => {
+        const store = request.result, transaction = store.transaction(["books", "answers"]);
+        const one = transaction.objectStore("books").get(place);
+        const all = transaction.objectStore("answers").getAll(IDBKeyRange.bound([place, 0], [place, Infinity]));
+        transaction.oncomplete = () => { store.close(); done([one.result ?? null, all.result]); };
+      };"""
+    return driver.execute_async_script(script, place)
