@@ -250,6 +250,8 @@ class Trial:
 
     def picture(self, page, name):
         """Pictures of what is seen, at three sizes, light and dark; nothing is wider than the page."""
+        page.driver.execute_script("scrollTo(0, 0)")
+        time.sleep(0.4)
         for size, (width, height) in SIZES.items():
             metrics = {"width": width, "height": height, "deviceScaleFactor": 1, "mobile": False}
             page.driver.execute_cdp_cmd("Emulation.setDeviceMetricsOverride", metrics)
