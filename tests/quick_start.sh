@@ -47,6 +47,10 @@ ip -n "$net" link set host0 up
 ip -n "$net" link set lo up
 python3 "$top/tests/debian_proxy.py" 10.213.0.1 3142 >"$work/proxy" 2>&1 &
 proxy=$!
+for _ in 1 2 3 4 5 6 7 8 9 10; do
+    python3 -c 'import socket; socket.create_connection(("10.213.0.1", 3142), 1)' 2>/dev/null && break
+    sleep 0.5
+done
 echo 'Acquire::http::Proxy "http://10.213.0.1:3142";' >"$root/etc/apt/apt.conf.d/01proxy"
 sed -i 's/https:/http:/g' "$root/etc/apt/sources.list"
 printf '127.0.0.1 localhost shop.example\n' >"$root/etc/hosts"

@@ -62,19 +62,23 @@ class Quiet(http.server.SimpleHTTPRequestHandler):
         pass
 
 
+def lay_pages(root, broker, goods=None):
+    """Lays the pages into a folder, with the place of their broker and the goods."""
+    for name in ("till_page", "stock_page"):
+        shutil.copytree(EXAMPLES / name, root / name)
+    here = root / "till_page"
+    (here / "config.json").write_text(json.dumps({"broker": broker, "shop": SHOP}))
+    if goods:
+        (here / "goods.csv").write_text(goods, encoding="utf-8")
+    subprocess.run([here / "make_mqtt.sh", here], check=True, capture_output=True)
+
+
 class Pages:
     """A web server with the pages, on localhost, which browsers take for a secure place."""
 
     def __init__(self, folder, broker, goods=None, port=0):
         self.root = folder / "www"
-        for name in ("till_page", "stock_page"):
-            if (EXAMPLES / name).exists():
-                shutil.copytree(EXAMPLES / name, self.root / name)
-        here = self.root / "till_page"
-        (here / "config.json").write_text(json.dumps({"broker": f"wss://localhost:{broker.pages}", "shop": SHOP}))
-        if goods:
-            (here / "goods.csv").write_text(goods, encoding="utf-8")
-        subprocess.run([here / "make_mqtt.sh", here], check=True, capture_output=True)
+        lay_pages(self.root, f"wss://localhost:{broker.pages}", goods)
         self.server = http.server.ThreadingHTTPServer(("127.0.0.1", port), partial(Quiet, directory=self.root))
         self.port = self.server.server_address[1]
         threading.Thread(target=self.server.serve_forever, daemon=True).start()
@@ -87,7 +91,7 @@ class Pages:
         self.server.server_close()
 
 
-def browser(folder, size=(1100, 800), dark=False):
+def browser(folder, size=(1100, 800)):
     """A browser whose store lies in a folder, and stays there when it is killed."""
     from selenium import webdriver
     from selenium.webdriver.chrome.service import Service
@@ -98,7 +102,7 @@ def browser(folder, size=(1100, 800), dark=False):
     words += ["--ignore-certificate-errors", f"--user-data-dir={folder}", "--window-size={},{}".format(*size)]
     words += ["--disable-background-timer-throttling", "--disable-renderer-backgrounding", "--disable-component-update"]
     words += ["--disable-backgrounding-occluded-windows", "--disable-sync", "--disable-background-networking"]
-    for word in words + (["--force-dark-mode"] if dark else []):
+    for word in words:
         options.add_argument(word)
     options.set_capability("goog:loggingPrefs", {"browser": "ALL"})
     return webdriver.Chrome(service=Service("/usr/bin/chromedriver"), options=options)

@@ -15,7 +15,7 @@ case $tills in [1-9] | [1-5][0-9] | 6[0-4]) ;; *) echo "set_up: $tills is no num
 [ "$(id -u)" = 0 ] || { echo "set_up: only root can do this" >&2; exit 1; }
 here=$(CDPATH= cd -- "$(dirname -- "$0")/.." && pwd)
 own=/etc/ledger
-for file in /usr/bin/ledger /usr/sbin/mosquitto /usr/sbin/nginx /usr/bin/openssl /usr/bin/esbuild; do
+for file in /usr/bin/ledger /usr/bin/curl /usr/sbin/mosquitto /usr/sbin/nginx /usr/bin/openssl /usr/bin/esbuild; do
     [ -x "$file" ] || { echo "set_up: there is no $file: QUICK_START.md names the packages" >&2; exit 1; }
 done
 /usr/bin/python3 -c "import paho.mqtt.client, prometheus_client, sdnotify" ||
@@ -87,4 +87,10 @@ systemctl restart mosquitto nginx
 systemctl enable --now ledger-bridge-mqtt@1 ledger-backup@1.timer
 # after an update the bridge is the new one
 systemctl restart ledger-bridge-mqtt@1
+# it serves once it has the image and the broker
+curl -s --retry 30 --retry-all-errors --retry-delay 1 -o /dev/null http://127.0.0.1:9641/health || true
+for _ in 1 2 3 4 5 6 7 8 9 10; do
+    [ "$(curl -s http://127.0.0.1:9641/health)" != serving ] || break
+    sleep 1
+done
 echo "set_up: a shop with $tills tills at https://$host/till_page/ and https://$host/stock_page/, passwords in $own/accounts, 1 bridge started"

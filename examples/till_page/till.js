@@ -63,7 +63,11 @@ class Page {
   }
 
   message(topic, text, isRetained) {
-    if (topic === this.topics.bridge) this.serving = text === "serving";
+    if (topic === this.topics.bridge) {
+      this.serving = text === "serving";
+      // the connection or the bridge is back: no need to wait for the next time
+      if (this.serving && !this.isBusy) this.repeat();
+    }
     // a reply is never retained: one that is may be old, or nobody's
     else if (topic === this.topics.replies && !isRetained) this.hear(text);
     this.tell();
@@ -99,6 +103,7 @@ class Page {
   /** Keeps a book, and then has it. A store that fails stops the till. */
   async keep(book, answer = null) {
     this.isBusy = true;
+    this.tell();
     try {
       await this.books.keep(this.place, this.book, book, answer);
       this.book = book;
