@@ -5,7 +5,7 @@
 # /usr, to which the program and examples/tills come as their README installs them, and nothing else: its net is its
 # own loopback, and it falls at the end. In it tests/units.py starts, stops and kills the units by `systemctl`, over
 # mosquitto and over a RabbitMQ node, and tells what it sees. It wants to be root, and Debian's packages
-# systemd-container, rabbitmq-server, mosquitto, python3-pika and python3-paho-mqtt, and installs nothing. The status
+# systemd-container, rabbitmq-server, mosquitto, python3-pika, python3-paho-mqtt and python3-sdnotify, and installs nothing. The status
 # is 1 at the first difference.
 set -eu
 top="$(CDPATH= cd -- "$(dirname -- "$0")/.." && pwd)"
@@ -14,8 +14,8 @@ program="${1:?"which program?"}"
 for file in /usr/bin/systemd-nspawn /usr/lib/rabbitmq/bin/rabbitmq-server /usr/sbin/mosquitto; do
     [ -e "$file" ] || { echo "units: there is no $file (systemd-container, rabbitmq-server, mosquitto)" >&2; exit 1; }
 done
-/usr/bin/python3 -c "import pika, paho.mqtt.client" 2>/dev/null ||
-    { echo "units: Debian's python3-pika and python3-paho-mqtt aren't there" >&2; exit 1; }
+/usr/bin/python3 -c "import pika, paho.mqtt.client, sdnotify" 2>/dev/null ||
+    { echo "units: Debian's python3-pika, python3-paho-mqtt and python3-sdnotify aren't there" >&2; exit 1; }
 
 work=$(mktemp -d -t units.XXXXXX)
 trap 'rm -rf "$work"' EXIT

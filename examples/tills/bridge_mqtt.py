@@ -9,7 +9,8 @@ It subscribes to `shops/1/asks/+` with QoS 1 and a session that the broker keeps
 that has the acknowledgement has the reply. Of several bridges the one that has the image has the session: each seeks the
 image only while it reaches the broker, and takes the session only when it has the image. A bridge that loses its
 connection ends, and `serve` with it: so the image is free for one that can reach the broker. A supervisor starts it
-again. The retained topic `shops/1/bridge` says whether a bridge serves.
+again. The retained topic `shops/1/bridge` says whether a bridge serves. With --screen it publishes the stock, the tills and
+the last answers too (`board.py`), with --metrics figures for a monitor (`metrics.py`).
 
 Exit status: 74 if the image or the journal couldn't be written (a keeper has to look), 75 if it is to be started again,
 78 if the image is no shop, or isn't the journal's, or an argument is unfit."""
@@ -22,6 +23,7 @@ import paho.mqtt.client as mqtt
 
 import account
 import shop
+import watched
 from till_mqtt import SERVING, client_of
 
 AWAY = b"away"
@@ -41,6 +43,12 @@ class Bridge:
         self.client.on_connect = self.on_connect
         self.client.on_message = self.on_message
 
+    # seconds after which the figures and the screen are tended, if no message comes
+    TURN = 0.25
+
+    def publish(self, topic, text, is_retained):
+        self.client.publish(f"{self.topic}/{topic}", text, qos=1, retain=is_retained)
+
     def ended(self, why, status=shop.AGAIN):
         """Ends this process at once, whatever it is doing; `serve` ends with its input."""
         shop.say(f"{self.title}: {why}")
@@ -51,9 +59,14 @@ class Bridge:
             self.ended(f"the broker at {self.place} refuses the account ({mqtt.connack_string(refused)})")
         client.subscribe(f"{self.topic}/asks/+", qos=1)
         client.publish(f"{self.topic}/bridge", SERVING, qos=1, retain=True)
+        for topic in self.serve.topics(self.topic):
+            client.subscribe(topic, qos=1)
 
     def on_message(self, client, _data, message):
         """PUBACK follows when this returns; if it doesn't, the broker keeps the message."""
+        if not message.topic.startswith(f"{self.topic}/asks/"):
+            self.serve.hear(message.topic.removeprefix(f"{self.topic}/"), message.payload)
+            return
         try:
             reply = self.serve.hand(message.payload, shop.till_of(message.topic.rpartition("/")[2]))
             client.publish(f"{self.topic}/replies/{shop.key_of(reply)}", reply, qos=1)
@@ -64,6 +77,7 @@ class Bridge:
         """Waits until the broker can be reached."""
         told = None
         while fault := account.fault_at(self.place, self.context):
+            self.serve.stand_by(fault)
             if fault != told:
                 shop.say(f"{self.title}: {fault}")
             told = fault
@@ -72,12 +86,14 @@ class Bridge:
     def run(self):
         self.reach()
         shop.say(f"{self.title}: stands by")
-        self.serve.start()
+        self.serve.start(self.serve.wait)
         shop.say(f"{self.title}: serving")
         try:
             # a broker that is silent for up to twice so long is taken for gone
             self.client.connect(self.place.host, self.place.port, self.silence)
-            self.client.loop_forever()
+            while self.client.loop(self.TURN) == mqtt.MQTT_ERR_SUCCESS:
+                self.serve.tick(self.publish)
+            self.ended("the connection is lost")
         except OSError as fault:
             self.ended(f"the broker is away ({type(fault).__name__})")
 
@@ -92,8 +108,8 @@ def main():
     parser = shop.words(argparse.ArgumentParser(description=__doc__.splitlines()[0]))
     parser.add_argument("--broker", default="127.0.0.1:1883", help="mqtts://HOST:PORT of the MQTT broker")
     parser.add_argument("--silence", type=int, default=10, help="seconds without a word from the broker (default 10)")
-    given = parser.parse_args()
-    shop.served(given, lambda serve: over_broker(given, serve))
+    given = watched.words(parser).parse_args()
+    shop.served(given, lambda serve: over_broker(given, serve), watched.kind_of(given))
 
 
 if __name__ == "__main__":

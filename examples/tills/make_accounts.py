@@ -3,7 +3,8 @@
 
     make_accounts.py FOLDER --shop 1 --tills 4
 
-FOLDER gets a file `bridge-1.account` and, for each till, a file `till-1-N.account`: one line USER:PASSWORD, mode 600.
+FOLDER gets a file `bridge-1.account` and, for each till and each screen, `till-1-N.account` and `screen-1-N.account`: one
+line USER:PASSWORD, mode 600.
 A file that is there already is kept. From all accounts in FOLDER it writes, for mosquitto, `ledger.passwords` and
 `ledger.acl`, and for RabbitMQ `ledger.definitions.json`. These hold no password, only hashes. Run it again with another
 shop or more tills, and give the broker the new files. SECURITY.md says who gets which file."""
@@ -18,7 +19,10 @@ import secrets
 import sys
 from pathlib import Path
 
-NAME = re.compile("bridge-([A-Za-z0-9_]+)|till-([A-Za-z0-9_]+)-([1-9]|[1-5][0-9]|6[0-4])", re.ASCII)
+SHOP = "([A-Za-z0-9_]+)"
+NAME = re.compile(f"bridge-{SHOP}|till-{SHOP}-([1-9]|[1-5][0-9]|6[0-4])|screen-{SHOP}-[1-9][0-9]?", re.ASCII)
+# what a bridge may read of mosquitto's own figures: how many messages it holds
+FIGURES = ("$SYS/broker/store/messages/count", "$SYS/broker/retained messages/count")
 # how often mosquitto's hash is taken
 TURNS = 101
 TILLS = "([1-9]|[1-5][0-9]|6[0-4])"
@@ -46,9 +50,9 @@ def accounts_in(folder):
 
 
 def shop_and_till(user):
-    """The shop of an account, and its till, or None for a bridge."""
-    bridge, shop, till = NAME.fullmatch(user).groups()
-    return bridge or shop, till
+    """The shop of an account, and its till, or None for a bridge and a screen."""
+    bridge, shop, till, screen = NAME.fullmatch(user).groups()
+    return bridge or shop or screen, till
 
 
 def mosquitto_line(user, password):
@@ -59,11 +63,16 @@ def mosquitto_line(user, password):
 
 
 def mosquitto_rights(user):
-    """A bridge reads what all tills of its shop ask, and writes replies. A till writes its own asks, and reads its own
-    replies. Both see whether the bridge is there."""
+    """A bridge reads what all tills of its shop ask, and writes replies and what the screen shows. A till writes its own
+    asks, and reads its own replies. All see whether the bridge is there."""
     shop, till = shop_and_till(user)
-    if till is None:
+    screen = [f"shops/{shop}/{topic}" for topic in ("stock/+", "tills/+", "last", "top", "history/+")]
+    if user.startswith("screen-"):
+        rights = [f"read {topic}" for topic in [*screen, f"shops/{shop}/bridge"]] + [f"write shops/{shop}/history/asks"]
+    elif till is None:
         rights = [f"read shops/{shop}/asks/+", f"write shops/{shop}/replies/+", f"write shops/{shop}/bridge"]
+        rights += [f"write {topic}" for topic in screen] + [f"read shops/{shop}/history/asks"]
+        rights += [f"read {topic}" for topic in FIGURES]
     else:
         rights = [f"write shops/{shop}/asks/{till}", f"read shops/{shop}/replies/{till}", f"read shops/{shop}/bridge"]
     return f"user {user}\n" + "".join(f"topic {right}\n" for right in rights) + "\n"
@@ -95,6 +104,8 @@ def rabbit_rights(user):
 
 
 def definitions(accounts):
+    """RabbitMQ's; a screen's account is mosquitto's alone."""
+    accounts = {user: password for user, password in accounts.items() if not user.startswith("screen-")}
     rights = [rabbit_rights(user) for user in accounts]
     return {
         "vhosts": [{"name": "/"}],
@@ -112,11 +123,14 @@ def write(path, text):
     os.replace(new, path)
 
 
-def make(folder, shops):
-    """Adds the accounts of each of these shops, by name, with so many tills, and writes the brokers' files anew."""
+def make(folder, shops, screens=1):
+    """Adds the accounts of each of these shops, by name, with so many tills and screens, and writes the brokers' files
+    anew."""
     folder.mkdir(mode=0o700, parents=True, exist_ok=True)
     for shop, tills in shops.items():
-        for user in [f"bridge-{shop}", *(f"till-{shop}-{till}" for till in range(1, tills + 1))]:
+        counted = [("till", tills), ("screen", screens)]
+        own = [f"{kind}-{shop}-{number}" for kind, count in counted for number in range(1, count + 1)]
+        for user in [f"bridge-{shop}", *own]:
             add_account(folder / f"{user}.account")
     accounts = accounts_in(folder)
     write(folder / "ledger.passwords", "".join(mosquitto_line(*account) for account in accounts.items()))
@@ -130,10 +144,11 @@ def main():
     parser.add_argument("folder", type=Path)
     parser.add_argument("--shop", required=True, help="the shop's name: letters, digits and _")
     parser.add_argument("--tills", required=True, type=int, choices=range(1, 65), metavar="TILLS", help="1 to 64")
+    parser.add_argument("--screens", type=int, default=1, choices=range(100), metavar="SCREENS", help="0 to 99, default 1")
     given = parser.parse_args()
     if not NAME.fullmatch(f"bridge-{given.shop}"):
         parser.error("a shop's name has letters, digits and _ only")
-    accounts = make(given.folder, {given.shop: given.tills})
+    accounts = make(given.folder, {given.shop: given.tills}, given.screens)
     print(f"make_accounts: {len(accounts)} accounts in {given.folder}")
 
 

@@ -174,16 +174,19 @@ class Serve:
         if has == number and kept and image != kept:
             raise Stale(f"the image isn't its journal's (till {till}: {image}, journal {kept}). {cure}")
 
-    def shown(self):
-        """Each till's last request and its answer, as `show` prints them of a copy: `serve` has the image's lock, and has
-        brought it to rest."""
+    def show(self):
+        """The lines that `show` prints of a copy: `serve` has the image's lock, and has brought it to rest."""
         with open(self.command[2], "rb") as image, tempfile.NamedTemporaryFile() as copy:
             copy.write(image.read())
             copy.flush()
             told = subprocess.run([self.command[0], "show", copy.name], capture_output=True, text=True)
         if told.returncode != 0:
             raise Gone(told.returncode, told.stderr.strip())
-        lines = (line.removeprefix("TILL ") for line in told.stdout.splitlines() if line.startswith("TILL "))
+        return told.stdout.splitlines()
+
+    def shown(self):
+        """Each till's last request and its answer, as `show` prints them."""
+        lines = (line.removeprefix("TILL ") for line in self.show() if line.startswith("TILL "))
         return {int(line.partition(",")[0]): line for line in lines}
 
     def turn(self, line):
@@ -266,16 +269,16 @@ def words(parser):
     return account.words(parser)
 
 
-def serve_of(given):
+def serve_of(given, kind=Serve):
     unsynced = ["--unsynced"] if given.unsynced else []
     kept = journal.Journal(given.keep, given.keep_size) if given.keep else None
-    return Serve(given.program, given.image, unsynced, kept)
+    return kind(given.program, given.image, unsynced, kept)
 
 
-def served(given, work):
+def served(given, work, kind=Serve):
     """Starts `serve` for a bridge and does its work with it, until the service is gone: then says so, and ends with the
     status that a supervisor goes by."""
-    serve = serve_of(given)
+    serve = serve_of(given, kind)
     try:
         work(serve)
     except Gone as gone:

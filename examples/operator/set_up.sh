@@ -1,0 +1,96 @@
+#!/bin/sh
+# Sets up a shop on a Debian 12 machine, as root:
+#   set_up.sh HOST TILLS
+# HOST is the name by which tablets reach this machine, such as shop.example. TILLS, 1 to 64, is how many tills get an account.
+# /usr/bin/ledger has to be there, and the packages that QUICK_START.md names. It makes the user `ledger`, an authority and a
+# certificate, the accounts, and the shop's image; it configures mosquitto and nginx, and starts the bridge and the nightly
+# backup. Run it again for more tills or after an update: passwords, certificates, goods and the image stay as they are.
+# A configuration file that somebody changed is left alone, and named.
+set -eu
+umask 022
+host=${1:?"which name has this machine?"}
+tills=${2:?"how many tills?"}
+case $host in *[!A-Za-z0-9.-]* | -* | "") echo "set_up: $host is no host's name" >&2 && exit 1 ;; esac
+case $tills in [1-9] | [1-5][0-9] | 6[0-4]) ;; *) echo "set_up: $tills is no number from 1 to 64" >&2 && exit 1 ;; esac
+[ "$(id -u)" = 0 ] || { echo "set_up: only root can do this" >&2; exit 1; }
+here=$(CDPATH= cd -- "$(dirname -- "$0")/.." && pwd)
+own=/etc/ledger
+for file in /usr/bin/ledger /usr/bin/curl /usr/sbin/mosquitto /usr/sbin/nginx /usr/bin/openssl /usr/bin/esbuild; do
+    [ -x "$file" ] || { echo "set_up: there is no $file: QUICK_START.md names the packages" >&2; exit 1; }
+done
+/usr/bin/python3 -c "import paho.mqtt.client, prometheus_client, sdnotify" ||
+    { echo "set_up: python3-paho-mqtt, python3-prometheus-client and python3-sdnotify have to be there" >&2; exit 1; }
+
+# put OWNER:GROUP MODE FILE PLACE: a configuration file, unless another one is there
+put() {
+    if [ -e "$4" ] && ! cmp -s "$3" "$4" && ! grep -qs "$(sha256sum <"$4" | cut -c 1-64)" "$own/installed"; then
+        echo "set_up: $4 was changed and stays as it is; compare it with $3" >&2
+        return
+    fi
+    install -D -o "${1%:*}" -g "${1#*:}" -m "$2" "$3" "$4"
+    sha256sum <"$4" | cut -c 1-64 >>"$own/installed"
+}
+
+# the user, the folders and the programs
+id ledger >/dev/null 2>&1 || useradd --system --create-home --home-dir /var/lib/ledger --shell /usr/sbin/nologin ledger
+install -d -m 755 "$own"
+install -d -o ledger -g ledger -m 700 /var/lib/ledger
+install -d -o root -g ledger -m 750 /var/backups/ledger
+install -D -m 755 -t /usr/lib/ledger "$here"/tills/*.py "$here"/tills/alarm.sh "$here"/operator/*.py
+for unit in "$here"/tills/*.service "$here"/operator/*.service "$here"/operator/*.timer; do
+    put root:root 644 "$unit" "/etc/systemd/system/${unit##*/}"
+done
+
+# the authority, and the broker's certificate for this host
+if [ ! -e "$own/ca/ca.crt" ]; then
+    install -d -m 700 "$own/ca"
+    cd "$own/ca"
+    printf '[req]\ndistinguished_name=name\n[name]\n[ca]\nbasicConstraints=critical,CA:TRUE\nkeyUsage=critical,keyCertSign\n' >ca.conf
+    openssl req -config ca.conf -x509 -extensions ca -newkey ec -pkeyopt ec_paramgen_curve:prime256v1 -nodes \
+        -keyout ca.key -out ca.crt -days 3650 -subj "/CN=shop at $host" 2>/dev/null
+    openssl req -config ca.conf -newkey ec -pkeyopt ec_paramgen_curve:prime256v1 -nodes \
+        -keyout broker.key -out broker.csr -subj /CN=broker 2>/dev/null
+    printf 'subjectAltName=DNS:%s,DNS:localhost,IP:127.0.0.1\nextendedKeyUsage=serverAuth\n' "$host" >names
+    openssl x509 -req -in broker.csr -out broker.crt -CA ca.crt -CAkey ca.key -CAcreateserial -days 800 -extfile names 2>/dev/null
+fi
+cd "$own/ca"
+install -m 644 ca.crt "$own/ca.crt"
+install -D -m 640 -g mosquitto -t /etc/mosquitto/certs broker.crt broker.key
+install -m 644 broker.crt "$own/pages.crt"
+install -m 600 broker.key "$own/pages.key"
+
+# the accounts, and the broker's files of them
+/usr/bin/python3 "$here/tills/make_accounts.py" "$own/accounts" --shop 1 --tills "$tills"
+install -m 640 -g mosquitto "$own/accounts/ledger.passwords" "$own/accounts/ledger.acl" /etc/mosquitto/
+install -m 600 "$own/accounts/bridge-1.account" "$own/bridge-1.account"
+put root:root 644 "$here/tills/mosquitto.conf" /etc/mosquitto/conf.d/ledger.conf
+put root:root 644 "$here/till_page/mosquitto_pages.conf" /etc/mosquitto/conf.d/ledger_pages.conf
+printf 'BROKERS="--broker mqtts://localhost --ca %s/ca.crt"\nWATCH="--screen --metrics 9641 --backups /var/backups/ledger"\n' "$own" >"$own/new.env"
+put root:root 644 "$own/new.env" "$own/bridge-mqtt.env"
+rm -f "$own/new.env"
+
+# the pages, with the goods
+install -D -m 644 -t /var/www/ledger/till_page "$here"/till_page/*.html "$here"/till_page/*.css "$here"/till_page/*.js
+install -D -m 644 -t /var/www/ledger/stock_page "$here"/stock_page/*.html "$here"/stock_page/*.css "$here"/stock_page/*.js
+sh "$here/till_page/make_mqtt.sh" /var/www/ledger/till_page >/dev/null
+install -m 644 "$own/ca.crt" /var/www/ledger/ca.crt
+[ -e "$own/goods.csv" ] || install -m 644 "$here/operator/goods.csv" "$own/goods.csv"
+/usr/bin/python3 "$here/operator/goods.py" "$own/goods.csv"
+install -m 644 "$own/goods.csv" /var/www/ledger/till_page/goods.csv
+put root:root 644 "$here/till_page/nginx.conf" /etc/nginx/conf.d/ledger_pages.conf
+
+# the shop
+[ -e /var/lib/ledger/shop1.d64 ] || runuser -u ledger -- ledger format --new /var/lib/ledger/shop1.d64 --tills 64
+systemctl daemon-reload
+systemctl enable mosquitto nginx
+systemctl restart mosquitto nginx
+systemctl enable --now ledger-bridge-mqtt@1 ledger-backup@1.timer
+# after an update the bridge is the new one
+systemctl restart ledger-bridge-mqtt@1
+# it serves once it has the image and the broker
+curl -s --retry 30 --retry-all-errors --retry-delay 1 -o /dev/null http://127.0.0.1:9641/health || true
+for _ in 1 2 3 4 5 6 7 8 9 10; do
+    [ "$(curl -s http://127.0.0.1:9641/health)" != serving ] || break
+    sleep 1
+done
+echo "set_up: a shop with $tills tills at https://$host/till_page/ and https://$host/stock_page/, passwords in $own/accounts, 1 bridge started"
