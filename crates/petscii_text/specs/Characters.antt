@@ -2,6 +2,7 @@
 -- appendix C), and the characters that Unicode 13 has for them (Block Elements, Symbols for Legacy Computing).
 use Rattle.std.specs.Prelude.{ℕ, ◌+◌, ◌/◌, ◌%◌, List, [], ◌∷◌, ◌++◌, None, Option, Some, flat_map}
 use Rattle.std.specs.Prelude.{if◌then◌else◌, nat_eq, nat_lt, slice_index}
+use Rattle.std.proofs.Math.Utf8.{encode}
 use Rattle.petscii_text.specs.declared.characters.CharacterSet.{CharacterSet}
 use Rattle.petscii_text.specs.declared.characters.CharacterSet.TheVariants.{Graphics, Mixed}
 
@@ -81,3 +82,20 @@ character_of set b =
     else (if nat_lt b 224 then Some (slice_index (shifted set) (b % 32))
     else (if nat_eq b 255 then Some (slice_index (shifted set) 30)
     else Some (slice_index (blocks set) (b % 32)))))))))
+
+-- a digit of a number below 16: 0 to 9, a to f
+abbrev pub hex_digit : ℕ → ℕ
+hex_digit n = if nat_lt n 10 then 48 + n else 87 + n
+
+-- a byte that has this character, in UTF-8; without one it is a backslash and two digits. 1D is \1d
+abbrev pub shown : Option ℕ → ℕ → List ℕ
+shown (Some c) b = encode c
+shown None b = 92 ∷ hex_digit (b / 16) ∷ hex_digit (b % 16) ∷ []
+
+-- a byte of a text: a carriage return, $0D, ends a line, as LF does elsewhere
+abbrev pub readable_byte : CharacterSet → ℕ → List ℕ
+readable_byte set b = if nat_eq b 13 then 10 ∷ [] else shown (character_of set b) b
+
+-- bytes as text in UTF-8. In the mixed set 48 49 0D is h, i and LF; no byte is lost, and PETSCII has no backslash
+abbrev pub readable : CharacterSet → List ℕ → List ℕ
+readable set bytes = flat_map (readable_byte set) bytes
