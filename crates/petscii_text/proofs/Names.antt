@@ -1,13 +1,13 @@
 -- Names of files: what their first bytes and their last bytes say, and that none has a byte that a system refuses.
 use Rattle.std.proofs.Common.{◌≡◌, ◌<◌, ◌≤◌, ◌+◌, ◌/◌, ◌%◌, ℕ, suc, zero, List, [], ◌∷◌, ◌++◌, Bool, true, false, map, get_or}
 use Rattle.std.proofs.Common.{length, drop, length-append, ap, ap₂, sym, subst, ◌∙◌, arith, refl}
-use Rattle.std.specs.Prelude.{Contains, IsTrue, cond, if◌then◌else◌, nat_eq, nat_le, nat_lt}
+use Rattle.std.specs.Prelude.{Contains, IsTrue, if◌then◌else◌, nat_eq, nat_lt}
 use Rattle.std.specs.List.{AllByRecursion}
 use Rattle.std.proofs.Common.{inl, inr, lit≤, ◌⊎◌}
 use Rattle.std.proofs.Math.Seq.{drop-append_seam}
 use Rattle.std.proofs.lemmas.List.{length-map}
 use Rattle.std.proofs.lemmas.List.{append_assoc}
-use Rattle.std.proofs.lemmas.Bool.{ltb-false, ltb-true}
+use Rattle.std.proofs.lemmas.Bool.{ltb-true}
 use Rattle.petscii_text.specs.FileNames.{IsSafeName, ending_text, file_byte, file_name_of, is_file_byte, number_text}
 use Rattle.petscii_text.specs.declared.file_names.Ending.{Ending}
 use Rattle.petscii_text.specs.declared.file_names.Ending.TheVariants.{Del, Seq, Prg, Usr, Rel, Other, Records}

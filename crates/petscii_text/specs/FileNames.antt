@@ -1,29 +1,5 @@
 -- Names of files that stand for the entries of a disk on another system. All of it is our own.
-use Rattle.std.specs.Prelude.{
-  ◌≡◌,
-  ◌≤◌,
-  ℕ,
-  ◌+◌,
-  ◌/◌,
-  ◌%◌,
-  ◌&&◌,
-  Bool,
-  List,
-  [],
-  ◌∷◌,
-  ◌++◌,
-  Contains,
-  IsTrue,
-  codes,
-  if◌then◌else◌,
-  length,
-  map,
-  nat_eq,
-  nat_le,
-  nat_lt,
-  not,
-  slice_index,
-}
+use Rattle.std.specs.Prelude.{◌≤◌, ℕ, ◌+◌, ◌/◌, ◌%◌, ◌&&◌, Bool, List, [], ◌∷◌, ◌++◌, Contains, IsTrue, codes, if◌then◌else◌, length, map, nat_eq, nat_le, nat_lt, not, slice_index}
 use Rattle.std.specs.List.{AllByRecursion}
 use Rattle.petscii_text.specs.declared.file_names.Ending.{Ending}
 use Rattle.petscii_text.specs.declared.file_names.Ending.TheVariants.{Del, Seq, Prg, Usr, Rel, Other, Records}

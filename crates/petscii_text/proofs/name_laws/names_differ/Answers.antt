@@ -1,5 +1,5 @@
 -- The numbers stand before the hyphens, the endings are four bytes each, and the index's second letter is no digit.
-use Rattle.std.proofs.Common.{◌≤◌, ◌∷◌, ◌++◌, List, ap, arith, get_or, map, sym, ◌∙◌, ℕ, append_assoc}
+use Rattle.std.proofs.Common.{◌∷◌, ◌++◌, List, ap, arith, get_or, map, sym, ◌∙◌, ℕ, append_assoc}
 use Rattle.petscii_text.specs.FileNames.{ending_text, file_byte, file_name_of, number_text}
 use Rattle.petscii_text.proofs.Names.{endings-same, numbers-same, second-digit}
 use Rattle.petscii_text.proofs.name_laws.names_differ.Goals as goal
