@@ -1,5 +1,5 @@
 -- What ended a walk, by the bytes of its last sector.
-use Rattle.std.proofs.Common.{◌≡◌, ◌≢◌, ◌-◌, ◌∙◌, ℕ, List, [], ◌∷◌, ◌++◌, Result, Ok, Err, ap, arith, false, get_or, inl, inr}
+use Rattle.std.proofs.Common.{◌≡◌, ◌≢◌, ◌-◌, ◌∙◌, ℕ, List, [], ◌∷◌, ◌++◌, Result, Ok, Err, ap, arith, get_or, inl, inr}
 use Rattle.std.proofs.Common.{length, length-append, refl, subst, sym, true}
 use Rattle.std.specs.Prelude.{Contains, None, OnOk, Some, is_ok}
 use Rattle.std.proofs.Math.Seq.{get_or-append_seam}
@@ -10,7 +10,7 @@ use Rattle.d64_image.specs.declared.place.Place.{Place}
 use Rattle.disk_layout.proofs.lemmas.chains.Chains.{Names-one, ends-no_link}
 use Rattle.disk_layout.proofs.lemmas.chains.Names.{named-names, named-none}
 use Rattle.disk_layout.specs.AsFar.{IsWalk}
-use Rattle.disk_layout.specs.Chain.{LinksTo, Names}
+use Rattle.disk_layout.specs.Chain.{LinksTo}
 use Rattle.disk_layout.specs.declared.faults.Fault.TheVariants.{BadLink, Loop}
 use Rattle.disk_rescue.specs.Reached.{IsReach}
 
@@ -77,7 +77,7 @@ back-in img first ps u w next link = elim w.stops [
   | inl ends ↦ absurd (ends-no_link img w.last next u ends link)
   | inr (none, inl nowhere) ↦ absurd (nowhere.1 next link)
   | inr (none, inr (q, other, back)) ↦
-    subst (λ (p : Place). Contains ps p) (Names-one (sector img w.last) 0 q next other link) back
+      subst (λ (p : Place). Contains ps p) (Names-one (sector img w.last) 0 q next other link) back
 ]
 
 pub reach-back : (img : Image) (first : Place) (ps : List Place) (u : ℕ) (w : IsWalk img first ps u) (end : Place)

@@ -1,6 +1,6 @@
 -- What can be reached of a file, and the fault that ends it (1541 User's Guide, how files are stored). Which fault is
 -- returned is our own.
-use Rattle.std.specs.Prelude.{◌≡◌, ◌≢◌, ◌⊎◌, ℕ, List, [], ◌∷◌, ◌++◌, Contains, IsFalse, None, Option, Some, slice_index}
+use Rattle.std.specs.Prelude.{◌≡◌, ◌⊎◌, ℕ, List, [], ◌∷◌, ◌++◌, Contains, IsFalse, None, Option, Some, slice_index}
 use Rattle.d64_image.specs.Images.{Image}
 use Rattle.d64_image.specs.declared.place.Place.{Place}
 use Rattle.disk_layout.specs.Chain.{EachOnce, EndsAt, Leads, LinksNowhere, LinksTo, Names, NamesNone}
