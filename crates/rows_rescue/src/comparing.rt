@@ -1,0 +1,13 @@
+//! What tests compare. Each comparison is one call, so that a test is proved in little time however many it makes.
+use std::fmt::Debug;
+use std::process::Abort;
+
+/// Sees that both are the same in a row of a table, which it names where they differ.
+pub(crate) fn same_at<T: PartialEq + Debug + Drop, L: Debug + Drop>(
+    rt: &impl Abort,
+    got: T,
+    want: T,
+    row: L,
+) {
+    assert_eq!(rt; got, want, "{row:?}");
+}

@@ -1,0 +1,167 @@
+//! Characters, texts and names of files, against tables from outside.
+use crate::comparing::same_at;
+use petscii_text::{CharacterSet, Ending, Readable, character, file_name};
+use std::process::Abort;
+
+/// A set, a byte, and the characters from that byte on: those that cc1541 4.0 prints, but for the bytes that the README of
+/// `petscii_text` lists. `tests/characters.py` compares the two again.
+const ROWS: [(CharacterSet, u8, &str); 10] = [
+    (
+        CharacterSet::Graphics,
+        0x20,
+        " !\"#$%&'()*+,-./0123456789:;<=>?@ABCDEFGHIJKLMNOPQRSTUVWXYZ[£]↑←",
+    ),
+    (
+        CharacterSet::Graphics,
+        0x60,
+        "─♠🭲🭸🭷🭶🭺🭱🭴╮╰╯🭼╲╱🭽🭾●🭻♥🭰╭╳○♣🭵♦┼🮌│π◥",
+    ),
+    (
+        CharacterSet::Graphics,
+        0xA0,
+        "\u{a0}▌▄▔▁▏🮕▕🮏◤🮇├▗└┐▂┌┴┬┤▎▍🮈🮂🮃▃🭿▖▝┘▘▚",
+    ),
+    (
+        CharacterSet::Graphics,
+        0xC0,
+        "─♠🭲🭸🭷🭶🭺🭱🭴╮╰╯🭼╲╱🭽🭾●🭻♥🭰╭╳○♣🭵♦┼🮌│π◥",
+    ),
+    (
+        CharacterSet::Graphics,
+        0xE0,
+        "\u{a0}▌▄▔▁▏🮕▕🮏◤🮇├▗└┐▂┌┴┬┤▎▍🮈🮂🮃▃🭿▖▝┘▘π",
+    ),
+    (
+        CharacterSet::Mixed,
+        0x20,
+        " !\"#$%&'()*+,-./0123456789:;<=>?@abcdefghijklmnopqrstuvwxyz[£]↑←",
+    ),
+    (
+        CharacterSet::Mixed,
+        0x60,
+        "─ABCDEFGHIJKLMNOPQRSTUVWXYZ┼🮌│🮖🮘",
+    ),
+    (
+        CharacterSet::Mixed,
+        0xA0,
+        "\u{a0}▌▄▔▁▏🮕▕🮏🮙🮇├▗└┐▂┌┴┬┤▎▍🮈🮂🮃▃✓▖▝┘▘▚",
+    ),
+    (
+        CharacterSet::Mixed,
+        0xC0,
+        "─ABCDEFGHIJKLMNOPQRSTUVWXYZ┼🮌│🮖🮘",
+    ),
+    (
+        CharacterSet::Mixed,
+        0xE0,
+        "\u{a0}▌▄▔▁▏🮕▕🮏🮙🮇├▗└┐▂┌┴┬┤▎▍🮈🮂🮃▃✓▖▝┘▘🮖",
+    ),
+];
+
+/// Sees that the bytes from these on have these characters.
+fn are_shown(rt: &impl Abort, rows: &[(CharacterSet, u8, &str)]) {
+    for &(set, first, text) in rows {
+        for (byte, wanted) in (first..=255).zip(text.chars()) {
+            same_at(rt, character(set, byte), Some(wanted), byte);
+        }
+    }
+}
+
+/// Sees that none of these bytes has a character.
+fn are_not_shown(rt: &impl Abort, bytes: &[u8]) {
+    for &byte in bytes {
+        same_at(rt, character(CharacterSet::Graphics, byte), None, byte);
+        same_at(rt, character(CharacterSet::Mixed, byte), None, byte);
+    }
+}
+
+#[test]
+fn characters(rt: HostRuntime) {
+    are_shown(&rt, &ROWS);
+    are_not_shown(&rt, b"\0\x0D\x1D\x1F\x80\x8D\x93\x9F");
+}
+
+/// A set, bytes, and the text that people read: a record of a club's members in the mixed set, a line in the graphics set
+/// with a heart, and control codes.
+const TEXTS: [(CharacterSet, &[u8], &str); 5] = [
+    (CharacterSet::Mixed, b"", ""),
+    (
+        CharacterSet::Mixed,
+        b"\xCDR \xD3MITH\r12 \xCDILL \xCCANE\r",
+        "Mr Smith\n12 Mill Lane\n",
+    ),
+    (CharacterSet::Graphics, b"I \xD3 BASIC", "I ♥ BASIC"),
+    (CharacterSet::Graphics, b"\x93\x1D5\x5C\0", "\\93\\1d5£\\00"),
+    (CharacterSet::Graphics, b"\xFF\x5E\x5F\"", "π↑←\""),
+];
+
+/// Sees that each is displayed so.
+fn are_read(rt: &(impl Abort + AllocGlobal), rows: &[(CharacterSet, &[u8], &str)]) {
+    for &(set, bytes, wanted) in rows {
+        let text = format!(in rt.alloc(); "{}", Readable { set, bytes }).expect(rt, "memory");
+        same_at(rt, text.as_str(), wanted, bytes);
+    }
+}
+
+#[test]
+fn texts(rt: HostRuntime) {
+    are_read(&rt, &TEXTS);
+}
+
+/// An entry's number, name and ending, and the name of its file.
+const NAMES: [(u8, &[u8], Ending, &[u8]); 9] = [
+    (1, b"LETTER 02", Ending::Prg, b"01-LETTER 02.prg"),
+    (99, b"", Ending::Del, b"99-.del"),
+    (100, b"MEMBERS", Ending::Rel, b"100-MEMBERS.rel"),
+    (100, b"MEMBERS", Ending::Records, b"100-MEMBERS.csv"),
+    (
+        144,
+        b"../../ETC/PASSWD",
+        Ending::Seq,
+        b"144-.._.._ETC_PASSWD.seq",
+    ),
+    (7, b".", Ending::Usr, b"07-..usr"),
+    (
+        8,
+        b"A:B*C?D\"E<F>G\\H",
+        Ending::Other,
+        b"08-A_B_C_D_E_F_G_H.bin",
+    ),
+    (9, b"\0\n\x7F\xC1\xA0{z", Ending::Prg, b"09-______z.prg"),
+    (10, b"--HELP", Ending::Prg, b"10---HELP.prg"),
+];
+
+/// Sees that the files have these names.
+fn are_named(rt: &impl Abort, rows: &[(u8, &[u8], Ending, &[u8])]) {
+    for &(number, name, ending, wanted) in rows {
+        if name.len() <= 16 {
+            let found = file_name(number, name, ending);
+            same_at(rt, found.as_slice(), wanted, name);
+        }
+    }
+}
+
+/// Type bytes and their endings: closed, open, locked, and of a type that there isn't.
+const TYPES: [(u8, Ending); 8] = [
+    (0x80, Ending::Del),
+    (0x01, Ending::Seq),
+    (0x82, Ending::Prg),
+    (0xC2, Ending::Prg),
+    (0x83, Ending::Usr),
+    (0xC4, Ending::Rel),
+    (0x85, Ending::Other),
+    (0xFF, Ending::Other),
+];
+
+/// Sees that the types have these endings.
+fn are_ended(rt: &impl Abort, rows: &[(u8, Ending)]) {
+    for &(type_byte, ending) in rows {
+        same_at(rt, Ending::of_type(type_byte), ending, type_byte);
+    }
+}
+
+#[test]
+fn names(rt: HostRuntime) {
+    are_named(&rt, &NAMES);
+    are_ended(&rt, &TYPES);
+}
