@@ -165,8 +165,10 @@ class Trial:
         until(lambda: page.at("waits").is_displayed(), "a word that the request waits")
         kept, _ = scene.book(page.driver, "1/1")
         self.want(kept["open"] == "I,1,1", f"the store has {kept}")
+        self.pages.close()
         page.driver.refresh()
-        until(lambda: page.at("waits").is_displayed(), "a word that the request waits, after a reload")
+        until(lambda: page.at("waits").is_displayed(), "a word that the request waits, after a reload without a web server")
+        self.pages.open()
         self.want(page.answers() == before, "an answer came of nowhere")
         page.send()
         self.broker.start()
@@ -231,6 +233,31 @@ class Trial:
         self.picture(TillPage(driver, self.pages, 0), "stock")
         return driver
 
+    def rights(self, screen):
+        """What a till's and a screen's account may not do: nothing on the screen changes, and nothing is heard."""
+        place, shown = account.Place(self.broker.places[0], "mqtt"), screen.find_element("css selector", "main").text
+        heard, clients = [], []
+        for user in ("till-1-2", "screen-1-1"):
+            name = account.account_of(self.broker.accounts.file(user))
+            client = till_mqtt.client_of(user, place, name, account.context_of(self.broker.ca))
+            client.on_message = lambda _client, _data, message: heard.append(message.topic)
+            client.connect(place.host, place.port)
+            client.loop_start()
+            clients.append(client)
+        clients[0].subscribe([(topic, 1) for topic in ("shops/1/stock/+", "shops/1/tills/+", "shops/1/last", "shops/1/history/+", "$SYS/#")])
+        clients[1].subscribe([("shops/1/asks/+", 1), ("shops/1/replies/+", 1)])
+        for client in clients:
+            for topic in ("stock/0", "tills/1", "last", "top", "history/7", "bridge", "asks/1", "replies/1"):
+                client.publish(f"shops/1/{topic}", "1,999", qos=1, retain=True).wait_for_publish(10)
+        time.sleep(1)
+        for client in clients:
+            client.disconnect()
+            client.loop_stop()
+        want(not heard, f"strangers hear {heard[:3]}")
+        ago = lambda text: [line for line in text.splitlines() if " ago" not in line]
+        until(lambda: screen.find_element("css selector", "#state").text == "Open", "the screen again: its account was used twice")
+        self.want(ago(screen.find_element("css selector", "main").text) == ago(shown), "a stranger's message is on the screen")
+
     def names(self, driver, what):
         """Each control has a name in the accessibility tree."""
         driver.execute_cdp_cmd("Accessibility.enable", {})
@@ -276,6 +303,7 @@ class Trial:
         other = self.other_device()
         self.wrong_password()
         screen = self.screen()
+        self.rights(screen)
         controls = self.names(page.driver, "till") + self.names(screen, "stock") + self.names(other.driver, "till")
         self.quiet()
         print(f"shop_pages: {self.checks} checks, {count} kinds of answers, {controls} controls with a name,")

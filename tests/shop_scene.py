@@ -76,10 +76,14 @@ def lay_pages(root, broker, goods=None):
 class Pages:
     """A web server with the pages, on localhost, which browsers take for a secure place."""
 
-    def __init__(self, folder, broker, goods=None, port=0):
+    def __init__(self, folder, broker, goods=None):
         self.root = folder / "www"
         lay_pages(self.root, f"wss://localhost:{broker.pages}", goods)
-        self.server = http.server.ThreadingHTTPServer(("127.0.0.1", port), partial(Quiet, directory=self.root))
+        self.port = 0
+        self.open()
+
+    def open(self):
+        self.server = http.server.ThreadingHTTPServer(("127.0.0.1", self.port), partial(Quiet, directory=self.root))
         self.port = self.server.server_address[1]
         threading.Thread(target=self.server.serve_forever, daemon=True).start()
 
