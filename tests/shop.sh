@@ -23,7 +23,8 @@ for file in "$top"/examples/tills/*.py "$top"/examples/operator/*.py "$top"/test
 done
 told=$(node --test "$top/tests/till_page.mjs" "$top/tests/stock_page.mjs" 2>&1) || { echo "$told" >&2; exit 1; }
 echo "till_page, stock_page: $(echo "$told" | sed -n 's/^# pass //p') tests of the pages' own rules; no difference"
-/usr/bin/python3 "$top/tests/shop_papers.py" "$program"
+/usr/bin/python3 "$top/tests/shop_papers.py"
+/usr/bin/python3 "$top/tests/shop_keeping.py" "$program"
 set -- ${3:+--pictures "$3"}
 /usr/bin/python3 "$top/tests/shop_pages.py" "$program" "$@"
 [ "$requests" = 0 ] || /usr/bin/python3 "$top/tests/shop.py" "$program" --requests "$requests" "$@"

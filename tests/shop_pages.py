@@ -21,14 +21,11 @@ from shop_scene import TILLS, TillPage, until
 
 sys.path.insert(0, str(TILLS))
 
-import account
-import brokers
-import till_mqtt
+from shop_looks import Strangers
 
 MARKUP = '<img src=x onerror="document.title=1">&amp;"'
 NAMES = {1: "Postcard", 2: MARKUP, 3: "Café crème", 4: "Mug"}
 COUNT = 10_000
-SIZES = {"phone": (390, 800), "tablet": (820, 1180), "desk": (1280, 900)}
 
 
 def goods_text():
@@ -37,7 +34,7 @@ def goods_text():
     return "item,name,unit,least\n" + "\n".join(rows) + "\n"
 
 
-class Trial:
+class Trial(Strangers):
     def __init__(self, given, folder):
         self.folder, self.pictures = folder, given.pictures
         self.broker = scene.Broker(folder, shops={scene.SHOP: 4})
@@ -137,24 +134,6 @@ class Trial:
         page.driver.close()
         page.driver.switch_to.window(first)
 
-    def strangers(self, page):
-        """Retained, forged and broken replies change nothing; neither do messages to the stock."""
-        place = account.Place(self.broker.places[0], "mqtt")
-        user = account.account_of(self.broker.accounts.file(brokers.TRIAL))
-        client = till_mqtt.client_of("stranger", place, user, account.context_of(self.broker.ca))
-        client.connect(place.host, place.port)
-        client.loop_start()
-        before, number = page.answers(), page.answers()[0][0] + 1
-        for text in (f"1,{number},DONE,1", "<script>", "1,1,DONE,10", "\x00\xff", "9" * 900, f"1,{number},CLASH"):
-            for is_retained in (False, True):
-                client.publish("shops/1/replies/1", text, qos=1, retain=is_retained).wait_for_publish(10)
-        client.publish("shops/1/replies/1", "", qos=1, retain=True).wait_for_publish(10)
-        time.sleep(0.5)
-        self.want(page.answers() == before, f"a stranger's reply is shown: {page.answers()[:2]}")
-        client.disconnect()
-        client.loop_stop()
-        self.want(page.ask("L", 1) == "DONE,10", "the till doesn't go on")
-
     def offline(self, page):
         """Without a broker the request is kept and the page says so; it goes on by itself, also over a reload."""
         self.broker.stop()
@@ -165,8 +144,10 @@ class Trial:
         until(lambda: page.at("waits").is_displayed(), "a word that the request waits")
         kept, _ = scene.book(page.driver, "1/1")
         self.want(kept["open"] == "I,1,1", f"the store has {kept}")
+        self.pages.close()
         page.driver.refresh()
-        until(lambda: page.at("waits").is_displayed(), "a word that the request waits, after a reload")
+        until(lambda: page.at("waits").is_displayed(), "a word that the request waits, after a reload without a web server")
+        self.pages.open()
         self.want(page.answers() == before, "an answer came of nowhere")
         page.send()
         self.broker.start()
@@ -231,38 +212,12 @@ class Trial:
         self.picture(TillPage(driver, self.pages, 0), "stock")
         return driver
 
-    def names(self, driver, what):
-        """Each control has a name in the accessibility tree."""
-        driver.execute_cdp_cmd("Accessibility.enable", {})
-        nodes = driver.execute_cdp_cmd("Accessibility.getFullAXTree", {})["nodes"]
-        roles = {"button", "textbox", "combobox", "radio", "checkbox", "searchbox", "listbox", "spinbutton"}
-        controls = [node for node in nodes if not node.get("ignored") and node.get("role", {}).get("value") in roles]
-        bare = [node["role"]["value"] for node in controls if not node.get("name", {}).get("value")]
-        self.want(controls and not bare, f"{what}: controls without a name: {bare}")
-        return len(controls)
-
     def quiet(self):
         """No script failed, and nothing was asked of another place."""
         for driver in self.drivers:
             loud = [one["message"] for one in driver.get_log("browser") if one["level"] == "SEVERE"]
             loud = [one for one in loud if "WebSocket connection" not in one and "favicon" not in one]
             self.want(not loud, f"a browser says {loud[:2]}")
-
-    def picture(self, page, name):
-        """Pictures of what is seen, at three sizes, light and dark; nothing is wider than the page."""
-        page.driver.execute_script("scrollTo(0, 0)")
-        time.sleep(0.4)
-        for size, (width, height) in SIZES.items():
-            metrics = {"width": width, "height": height, "deviceScaleFactor": 1, "mobile": False}
-            page.driver.execute_cdp_cmd("Emulation.setDeviceMetricsOverride", metrics)
-            for scheme in ("light", "dark"):
-                feature = {"features": [{"name": "prefers-color-scheme", "value": scheme}]}
-                page.driver.execute_cdp_cmd("Emulation.setEmulatedMedia", feature)
-                wide = page.driver.execute_script("return document.documentElement.scrollWidth")
-                self.want(wide <= width, f"{name} is {wide} wide on a {size} of {width}")
-                if self.pictures:
-                    page.driver.save_screenshot(str(self.pictures / f"{name}_{size}_{scheme}.png"))
-        page.driver.execute_cdp_cmd("Emulation.clearDeviceMetricsOverride", {})
 
     def run(self):
         page = self.page("first", 1)
@@ -276,6 +231,7 @@ class Trial:
         other = self.other_device()
         self.wrong_password()
         screen = self.screen()
+        self.rights(screen)
         controls = self.names(page.driver, "till") + self.names(screen, "stock") + self.names(other.driver, "till")
         self.quiet()
         print(f"shop_pages: {self.checks} checks, {count} kinds of answers, {controls} controls with a name,")

@@ -76,10 +76,14 @@ def lay_pages(root, broker, goods=None):
 class Pages:
     """A web server with the pages, on localhost, which browsers take for a secure place."""
 
-    def __init__(self, folder, broker, goods=None, port=0):
+    def __init__(self, folder, broker, goods=None):
         self.root = folder / "www"
         lay_pages(self.root, f"wss://localhost:{broker.pages}", goods)
-        self.server = http.server.ThreadingHTTPServer(("127.0.0.1", port), partial(Quiet, directory=self.root))
+        self.port = 0
+        self.open()
+
+    def open(self):
+        self.server = http.server.ThreadingHTTPServer(("127.0.0.1", self.port), partial(Quiet, directory=self.root))
         self.port = self.server.server_address[1]
         threading.Thread(target=self.server.serve_forever, daemon=True).start()
 
@@ -119,10 +123,20 @@ def shop_image(program, path, tills=4):
     return path
 
 
-def until(holds, what, seconds=30):
+def fresh(holds):
+    """What it gives; nothing while a page is being loaded anew."""
+    try:
+        return holds()
+    except Exception as fault:
+        if type(fault).__name__ not in ("StaleElementReferenceException", "NoSuchElementException"):
+            raise
+        return None
+
+
+def until(holds, what, seconds=60):
     """Waits until it holds, and returns what that gave."""
     end = time.monotonic() + seconds
-    while not (found := holds()):
+    while not (found := fresh(holds)):
         want(time.monotonic() < end, f"{what} didn't come in {seconds} s")
         time.sleep(0.05)
     return found
@@ -149,7 +163,7 @@ class TillPage:
     def state(self):
         return self.at("state").text
 
-    def ready(self, seconds=30):
+    def ready(self, seconds=60):
         until(lambda: self.state() == "Ready", f"till {self.till} ready", seconds)
 
     def fill(self, kind, item, quantity=1, to=None):
@@ -170,7 +184,7 @@ class TillPage:
         script = "return [...document.querySelectorAll('#answers li')].map((e) => [Number(e.dataset.number), e.dataset.answer])"
         return [tuple(one) for one in self.driver.execute_script(script)]
 
-    def ask(self, kind, item, quantity=1, to=None, seconds=30):
+    def ask(self, kind, item, quantity=1, to=None, seconds=60):
         """The answer to a request, which is shown once and above the others."""
         before = self.answers()
         self.fill(kind, item, quantity, to)

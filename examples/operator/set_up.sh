@@ -80,7 +80,7 @@ install -m 644 "$own/goods.csv" /var/www/ledger/till_page/goods.csv
 put root:root 644 "$here/till_page/nginx.conf" /etc/nginx/conf.d/ledger_pages.conf
 
 # the shop
-[ -e /var/lib/ledger/shop1.d64 ] || runuser -u ledger -- ledger format --new /var/lib/ledger/shop1.d64 --tills 64
+[ -e /var/lib/ledger/shop1.d64 ] || runuser -u ledger -- /usr/bin/ledger format --new /var/lib/ledger/shop1.d64 --tills 64
 systemctl daemon-reload
 systemctl enable mosquitto nginx
 systemctl restart mosquitto nginx

@@ -67,7 +67,7 @@ class Page {
     if (parts.has("stock")) this.stock();
     if (parts.has("tills"))
       fill("tills", [...this.board.tills.values()].sort((a, b) => a.till - b.till).map((one) => this.till(one, now)), "tills-none");
-    if (parts.has("last")) fill("last", this.board.last.toReversed().map((one) => this.line(one, now)), "last-none");
+    if (parts.has("last")) fill("last", [...this.board.last].reverse().map((one) => this.line(one, now)), "last-none");
   }
 
   state() {
@@ -134,7 +134,7 @@ class Page {
   history(text) {
     const board = new Board(this.goods), now = Date.now();
     board.take("last", text);
-    fill("history", board.last.toReversed().map((one) => this.line(one, now)), "history-none");
+    fill("history", [...board.last].reverse().map((one) => this.line(one, now)), "history-none");
   }
 
   closed() {

@@ -92,13 +92,22 @@ export class Books {
   }
 }
 
-/** Holds a place as long as the page lives. False if another page of this browser has it. */
-export function hold(place) {
+/** Holds a place as long as the page lives. False if another page of this browser has it. A page that is loaded anew may
+ *  come before the one before it is gone: so it tries for some seconds. */
+export async function hold(place, times = 6, pause = 400) {
+  for (let left = times; left > 0; left--) {
+    if (await held(place)) return true;
+    await new Promise((fulfil) => { setTimeout(fulfil, pause); });
+  }
+  return false;
+}
+
+function held(place) {
   return new Promise((fulfil, fail) => {
-    const held = (lock) => {
+    const took = (lock) => {
       fulfil(lock !== null);
       return lock === null ? undefined : new Promise(() => {});
     };
-    navigator.locks.request(`ledger-till ${place}`, { ifAvailable: true }, held).catch(fail);
+    navigator.locks.request(`ledger-till ${place}`, { ifAvailable: true }, took).catch(fail);
   });
 }

@@ -48,7 +48,8 @@ class Page {
     this.till = till;
     this.place = `${this.config.shop}/${till}`;
     at("title").textContent = document.title = `Till ${till}`;
-    if (!(await hold(this.place)))
+    this.isStopped = !(await hold(this.place));
+    if (this.isStopped)
       return stop("This till is open in another tab", "Use that tab, or close it and load this page again.");
     this.book = (await this.books.book(this.place)) ?? rules.EMPTY;
     for (const answer of await this.books.answers(this.place, SHOWN)) this.list(answer);

@@ -7,6 +7,7 @@ import time
 import journal
 import movements
 import shop
+from account import Unfit
 from board import Board
 from wishes import request_of
 
@@ -78,10 +79,17 @@ class Watched(shop.Serve):
 
     def start(self, wait=time.sleep):
         super().start(wait)
-        before = list(movements.in_journal(self.journal.path, last=2)) if self.journal else []
-        self.board = Board(self.show(), before)
+        self.board = Board(self.show(), self.before())
         self.figures.serves(self.board)
         self.systemd.say("serving")
+
+    def before(self):
+        """The journal's last movements, for the screen. Without them it shows less; the shop is served all the same."""
+        try:
+            return list(movements.in_journal(self.journal.path, last=2)) if self.journal else []
+        except (Unfit, OSError) as fault:
+            shop.say(f"the screen has no history: {fault}")
+            return []
 
     def topics(self, topic):
         asks = [f"{topic}/history/asks"] if self.has_screen else []
