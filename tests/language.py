@@ -2,7 +2,7 @@
 """Checks the language, links and length of the documents, and prints a line for each thing that it finds:
   tests/language.py [--counts] [FILE ..]
 
-Documents are README.md, CHANGELOG.md, SECURITY.md, docs/*.md and each README.md under crates/ and examples/; FILE names some of
+Documents are README.md, CHANGELOG.md, SECURITY.md, docs/*.md, crates/*/README.md and each page under examples/; FILE names some of
 them. Of each it checks
   - sentences of more than 35 words, outside tables, code and pictures;
   - the words of WORDS below, outside code and quotation marks;
@@ -41,7 +41,7 @@ WORDS = {
 def documents():
     """The documents, in the order in which they are printed."""
     found = [TOP / it for it in ("README.md", "CHANGELOG.md", "SECURITY.md")]
-    for form in ("docs/*.md", "crates/*/README.md", "examples/**/README.md"):
+    for form in ("docs/*.md", "crates/*/README.md", "examples/**/*.md"):
         found += sorted(TOP.glob(form))
     return [it for it in found if it.exists()]
 
