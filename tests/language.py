@@ -2,12 +2,13 @@
 """Checks the language, links and length of the documents, and prints a line for each thing that it finds:
   tests/language.py [--counts] [FILE ..]
 
-Documents are README.md, CHANGELOG.md, SECURITY.md, docs/*.md and each README.md under crates/ and examples/; FILE names some of
+Documents are README.md, CHANGELOG.md, SECURITY.md, docs/*.md, crates/*/README.md and each page under examples/; FILE names some of
 them. Of each it checks
   - sentences of more than 35 words, outside tables, code and pictures;
   - the words of WORDS below, outside code and quotation marks;
   - links: the file is there, and so is the heading that an anchor, or the name in italics after a link, refers to;
   - file names in backticks that begin with a folder of this repository;
+  - in README.md that each subcommand and each flag of the program is named;
   - in docs/EMBED.md and docs/PROOF.md the lines of code, each of which is a line of a source (but for comments and `...`).
 It also counts the words of all documents, against LIMIT. Comments (`///`, `//!`) and the program's help texts are reported too, by
 crate and as counts only: they don't change the status. With --counts it prints one line for each document and no findings.
@@ -40,7 +41,7 @@ WORDS = {
 def documents():
     """The documents, in the order in which they are printed."""
     found = [TOP / it for it in ("README.md", "CHANGELOG.md", "SECURITY.md")]
-    for form in ("docs/*.md", "crates/*/README.md", "examples/**/README.md"):
+    for form in ("docs/*.md", "crates/*/README.md", "examples/**/*.md"):
         found += sorted(TOP.glob(form))
     return [it for it in found if it.exists()]
 
@@ -138,11 +139,21 @@ def unknown_code(text, known):
                 yield number, "no such line in a source", wanted
 
 
+def unnamed_words(text):
+    """Subcommands and flags of the program's grammar that the README doesn't name."""
+    table = (TOP / "crates/ledger_grammar/src/subcommands.rt").read_text()
+    commands = re.findall(r'name: "([a-z-]+)",\s*about:', table)
+    flags = [f"--{it}" for it in re.findall(r'word: Some\("([a-z-]+)"\)', table)]
+    named = set(re.findall(r"--[a-z-]+|[a-z-]+", " ".join(re.findall(r"`([^`\n]+)`", text))))
+    return [(1, "not named", it) for it in dict.fromkeys(commands + flags) if it not in named]
+
+
 def check(file, shows):
     """Prints what is found of a document, or a line with its counts; gives the number of its findings and of its words."""
     text = file.read_text()
     name = str(file.relative_to(TOP))
     found = [] if name in GENERATED else [*findings(text), *broken_links(file, text)]
+    found += unnamed_words(text) if name == "README.md" else []
     if name in QUOTING:
         found += unknown_code(text, source_lines())
     words = sum(1 for it in text.split() if re.search(r"\w", it))
