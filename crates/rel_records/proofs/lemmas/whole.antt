@@ -1,0 +1,4 @@
+-- Files that are as long as the disk says.
+pub mod Ends
+pub mod Files
+pub mod Written
