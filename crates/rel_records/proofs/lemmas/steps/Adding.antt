@@ -63,7 +63,7 @@ module _ {a : Image} {l : Layout} {n : ℕ} {f : File} {p q : Parts} {fresh : Pl
   abbrev N : ℕ
   N = length f.blocks
 
-  to_link : IsReadyToLink a c l before after f fresh u ss q.map.bytes block q.last at.front at.last_place
+  pub to_link : IsReadyToLink a c l before after f fresh u ss q.map.bytes block q.last at.front at.last_place
   to_link = record {
     full = x.size;
     clean = at.clean;
@@ -97,7 +97,7 @@ module _ {a : Image} {l : Layout} {n : ℕ} {f : File} {p q : Parts} {fresh : Pl
   abbrev d : Place
   d = f.slot.sector
 
-  to_count : IsReadyToCount a c l before after f fresh u ss q.map.bytes block q.last q.directory at.front at.last_place
+  pub to_count : IsReadyToCount a c l before after f fresh u ss q.map.bytes block q.last q.directory at.front at.last_place
   to_count = record {
     to_link = to_link;
     recount = recount;
@@ -151,22 +151,22 @@ module _ {a : Image} {l : Layout} {n : ℕ} {f : File} {p q : Parts} {fresh : Pl
   fresh-in : Contains (f.blocks ++ fresh ∷ []) fresh
   fresh-in = Contains-append_right f.blocks (fresh ∷ []) fresh (Contains-here fresh [])
 
-  last-fresh : at.last_place ≢ fresh
+  pub last-fresh : at.last_place ≢ fresh
   last-fresh s = EachOnce-apart f.blocks (fresh ∷ []) (EachOnce-left (f.blocks ++ fresh ∷ []) ss (each step))
       at.last_place (last-in to_link)
       (let P : Place → Type 0 = Contains (fresh ∷ []) in subst P (sym s) (Contains-here fresh []))
 
-  block-there : sector e fresh ≡ block
+  pub block-there : sector e fresh ≡ block
   block-there =
       sector-put_other b d fresh q.directory (entry-apart fresh (Contains-append_left g.blocks ss fresh fresh-in))
       ∙ sector-put_other c at.last_place fresh q.last last-fresh
       ∙ ready.block
 
-  there : slice_get m.files n ≡ Some h
+  pub there : slice_get m.files n ≡ Some h
   there = let P : ℕ → Type 0 = λ k. slice_get (before ++ h ∷ after) k ≡ Some h in
       subst P (place step) (get-seam before after h)
 
-  kept : KeepsOthers a e l m n
+  pub kept : KeepsOthers a e l m n
   kept =
       let P : ℕ → Type 0 = λ k. KeepsOthers a e l m k in
       subst P (place step) (others-kept a e l before after f h (split step) (sym same) (before-same to_count)

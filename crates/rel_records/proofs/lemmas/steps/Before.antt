@@ -88,16 +88,9 @@ module _ (a : Image) (l : Layout) (f g : File) (p : Parts) (fresh : Place) (bloc
   there-for : (j : ℕ) (q : Place) → slice_get p.sides.items j ≡ Some q → slice_get g.sides j ≡ Some q
   there-for j q at = ap (λ xs. slice_get xs j) (sym sides) ∙ at
 
-  pub before-preparing : (c : Image) → IsBefore a p fresh block c → IsPreparing a c l f g
-  before-preparing c (inl e) = record { each = λ q. inl (ap (λ i. sector i q) e); header = ap header_of e }
-  before-preparing c (inr (inl e)) = record {
-    each = λ q. elim (same_or_other map_place q) [
-      | inl one ↦ inr (inl (let P : Place → Type 0 = λ x. ¬ (Contains (owners l) x) in subst P one h.once.0))
-      | inr ne ↦ inl (ap (λ i. sector i q) e ∙ sector-put_other a map_place q p.map.bytes ne)
-    ];
-    header = new-header c (ap (λ i. sector i map_place) e ∙ sector-put_same a map_place p.map.bytes full);
-  }
-  before-preparing c (inr (inr is)) = record {
+  -- with side sectors
+  sided-preparing : (c : Image) → IsSided laid p.blocks.items p.sides.items p.size c → IsPreparing a c l f g
+  sided-preparing c is = record {
     each = λ q. elim (is q) [
       | inl e ↦ elim (laid-each q) [ inl s ↦ inl (e ∙ s) | inr out ↦ inr (inl out) ]
       | inr d ↦ elim (sided d.0 q (there-for d.0 q d.1)) [
@@ -113,6 +106,17 @@ module _ (a : Image) (l : Layout) (f g : File) (p : Parts) (fresh : Place) (bloc
       ]
     ]);
   }
+
+  pub before-preparing : (c : Image) → IsBefore a p fresh block c → IsPreparing a c l f g
+  before-preparing c (inl e) = record { each = λ q. inl (ap (λ i. sector i q) e); header = ap header_of e }
+  before-preparing c (inr (inl e)) = record {
+    each = λ q. elim (same_or_other map_place q) [
+      | inl one ↦ inr (inl (let P : Place → Type 0 = λ x. ¬ (Contains (owners l) x) in subst P one h.once.0))
+      | inr ne ↦ inl (ap (λ i. sector i q) e ∙ sector-put_other a map_place q p.map.bytes ne)
+    ];
+    header = new-header c (ap (λ i. sector i map_place) e ∙ sector-put_same a map_place p.map.bytes full);
+  }
+  before-preparing c (inr (inr is)) = sided-preparing c is.each
 
   -- so each image held before the link is one of growth
   pub before-grows : (before after : List File) (m : ℕ) → l.files ≡ before ++ f ∷ after → IsTrue (is_rel f.slot)
@@ -143,7 +147,7 @@ module _ (a : Image) (l : Layout) (f g : File) (p : Parts) (fresh : Place) (bloc
       × (sector a q ≡ side_sector j g.blocks g.sides (record_length g.slot)))
       → IsPrepared a c l f g fresh p.map.bytes block
   prepared-of c k is from once no_side right = record {
-    preparing = before-preparing c (inr (inr is));
+    preparing = sided-preparing c is;
     map = map-there c is;
     block = elim (is fresh) [
       | inl e ↦ e ∙ sector-put_same mapped fresh block (length-put a map_place p.map.bytes ∙ full)
