@@ -1,4 +1,6 @@
 -- Files that are as long as the disk says.
 pub mod Ends
 pub mod Files
+pub mod Linked
+pub mod Prepared
 pub mod Written

@@ -33,7 +33,7 @@ use Rattle.rel_records.proofs.lemmas.steps.LaidOut.{some, split}
 use Rattle.rel_records.proofs.lemmas.steps.LastBlocks.{counts, filled, linked, made, records_more, some-more, total-is}
 
 -- entries that are the same but for the count are relative together
-is_rel-same : (s t : Slot) → uncounted s ≡ uncounted t → is_rel s ≡ is_rel t
+pub is_rel-same : (s t : Slot) → uncounted s ≡ uncounted t → is_rel s ≡ is_rel t
 is_rel-same s t e = ap (λ k. nat_eq k 132 || nat_eq k 196) (uncounted-face s t e).kind
 
 -- c is the image to which the link is written

@@ -89,7 +89,7 @@ module _ {a : Image} {l : Layout} {n : ℕ} {f : File} {p q : Parts} {fresh : Pl
   old-map : IsMapOf p.map.bytes (map_place ∷ owners l)
   old-map = let P : Sector → Type 0 = λ b. IsMapOf b (map_place ∷ owners l) in subst P (sym at.map) at.clean.map
 
-  free : ¬ (Contains (map_place ∷ owners l) fresh)
+  pub free : ¬ (Contains (map_place ∷ owners l) fresh)
   free = laid.places.unowned (map_place ∷ owners l) old-map
 
   pub next : IsNextOf l before after f fresh u q.map.bytes ss
@@ -120,10 +120,10 @@ module _ {a : Image} {l : Layout} {n : ℕ} {f : File} {p q : Parts} {fresh : Pl
   pub sides-once : EachOnce ss
   sides-once = EachOnce-right g.blocks ss each
 
-  header : (take 4 q.map.bytes ≡ take 4 (sector a map_place)) × (drop 144 q.map.bytes ≡ drop 144 (sector a map_place))
+  pub header : (take 4 q.map.bytes ≡ take 4 (sector a map_place)) × (drop 144 q.map.bytes ≡ drop 144 (sector a map_place))
   header = (laid.places.header.0 ∙ ap (take 4) at.map, laid.places.header.1 ∙ ap (drop 144) at.map)
 
-  apart : (j : ℕ) → ¬ (slice_get f.sides j ≡ Some map_place)
+  pub apart : (j : ℕ) → ¬ (slice_get f.sides j ≡ Some map_place)
   apart j e = at.clean.layout.once.0 (owned-side l f map_place (file-in l before after f split)
       (get-contains f.sides j map_place e))
 

@@ -3,20 +3,23 @@ use Rattle.std.proofs.Common.{◌≡◌, ◌≢◌, ◌⊎◌, ℕ, zero, suc, �
 use Rattle.std.proofs.Common.{◌∙◌, ap, arith, subst, slice_index, length-append, Bool, true, false, IsTrue, IsFalse}
 use Rattle.std.proofs.lemmas.Bool.{cases_eq, eqb-true, false≢true}
 use Rattle.std.proofs.lemmas.List.{length-map}
-use Rattle.std.specs.Prelude.{Some, nat_eq, nat_le, replicate, slice_get, ◌&&◌, ◌||◌}
+use Rattle.std.proofs.lemmas.List.Elements.{Contains-append_right}
+use Rattle.std.specs.Prelude.{Contains, Some, flat_map, nat_eq, nat_le, replicate, slice_get, ◌&&◌, ◌||◌, ◌++◌}
 use Rattle.d64_image.specs.Images.{Image, Sector, sector}
 use Rattle.d64_image.specs.declared.place.Place.{Place}
 use Rattle.disk_layout.proofs.lemmas.layouts.Exact.{get-lt}
 use Rattle.disk_layout.proofs.lemmas.layouts.Layouts.{IsLayout-one, get-contains}
 use Rattle.disk_layout.proofs.lemmas.lists.Lists.{get-some}
-use Rattle.disk_layout.proofs.lemmas.lists.Once.{all-in}
+use Rattle.disk_layout.proofs.lemmas.chains.Chains.{AgreeAt}
+use Rattle.disk_layout.proofs.lemmas.lists.Once.{all-in, flat_map-in}
 use Rattle.disk_layout.specs.Clean.{IsCleanLayout}
 use Rattle.disk_layout.specs.Directory.{type_byte}
 use Rattle.disk_layout.specs.Entries.{uncounted}
-use Rattle.disk_layout.specs.Layout.{File, IsFile, IsLayout, IsRelFile, Layout, is_rel, record_length}
+use Rattle.disk_layout.specs.Layout.{File, IsFile, IsLayout, IsRelFile, Layout, file_owns, is_rel, record_length}
 use Rattle.disk_layout.specs.Side.{side_sector}
 use Rattle.disk_layout.specs.declared.slot.Slot.{Slot}
 use Rattle.rel_records.proofs.lemmas.reading.Opened.{rel-of}
+use Rattle.rel_records.proofs.lemmas.steps.Others.{get-either, get-other}
 use Rattle.rel_records.proofs.lemmas.whole.Ends.{ends-exact, zeros-at}
 use Rattle.rel_records.specs.Listed.{EndsBy, HasStock, ListsWell, NeverGrows, is_plain, used_of}
 use Rattle.rel_records.specs.Others.{KeepsOthers, LeavesRecords}
@@ -145,3 +148,18 @@ pub leaves-whole : (a b : Image) (l : Layout) (n : ℕ) (rs : List (List ℕ)) (
     → (h : LeavesRecords a b l n rs v) → HasEnd b h.file → IsWhole a → IsWhole b
 leaves-whole a b l n rs v is h end =
     clean-whole a b l h.layout n h.file is h.clean h.others h.of.there h.of.rel end
+
+-- side sectors that were exact in a clean image stay so where others own them
+pub agree-exact : (a b : Image) (l : Layout) (before after : List File) (f g : File) → IsCleanLayout a l
+    → l.files ≡ before ++ f ∷ after → AgreeAt a b (flat_map file_owns before) → AgreeAt a b (flat_map file_owns after)
+    → (k : ℕ) (y : File) → k ≢ length before → slice_get (before ++ g ∷ after) k ≡ Some y → IsTrue (is_rel y.slot)
+    → AreExact b y
+agree-exact a b l before after f g clean split b_same a_same k y ne at rel j q there =
+    let P : List File → Type 0 = λ fs. slice_get fs k ≡ Some y in
+    let was : slice_get l.files k ≡ Some y = subst P (sym split) (get-other before after g f k y ne at) in
+    let own : Contains (file_owns y) q = Contains-append_right y.blocks y.sides q (get-contains y.sides j q there) in
+    let same : sector a q ≡ sector b q = elim (get-either before after g k y ne at) [
+      | inl c ↦ b_same q (flat_map-in file_owns before y q c own)
+      | inr c ↦ a_same q (flat_map-in file_owns after y q c own)
+    ] in
+    sym same ∙ clean-exact a l k y clean was rel j q there
