@@ -22,7 +22,7 @@ use Rattle.rel_records.specs.growth.Growth.{full, records_had}
 use Rattle.rel_records.specs.Others.{HasRecords, KeepsOthers, KeepsPlaces}
 use Rattle.rel_records.specs.growth.Preparing.{IsPrepared}
 use Rattle.rel_records.specs.growth.Steps.{HasBlockMore, IsFilledUp, taken_next}
-use Rattle.rel_records.specs.Written.{IsGrowingBy, grown_by}
+use Rattle.rel_records.specs.Written.{grown_by}
 use Rattle.rel_records.specs.declared.growth.step_parts.Parts.{Parts}
 use Rattle.rel_records.proofs.lemmas.steps.Committing.{IsReadyToLink, committed-has, entry-unowned, g-owned, last-in}
 use Rattle.rel_records.proofs.lemmas.steps.Committing.{records-longer}
@@ -85,14 +85,11 @@ module _ {a : Image} {l : Layout} {n : ℕ} {f : File} {p q : Parts} {fresh : Pl
   b = put c at.last_place q.last
 
   -- the link makes the file longer
-  pub linked-adds : IsGrowingBy a l n f (records_more f) b
-  linked-adds =
-      let P : ℕ → Type 0 = λ k. HasRecords a b l k (grown_by L (records_more f) (records a f)) in (
-        records_more f,
-        omega arith,
-        subst P (place step) (committed-has to_link (full L N) (records_more f) x v (some-more step)
-            (filled step up) (counts step ∙ total-is step)),
-      )
+  pub linked-has : HasRecords a b l n (grown_by L (records_more f) (records a f))
+  linked-has =
+      let P : ℕ → Type 0 = λ k. HasRecords a b l k (grown_by L (records_more f) (records a f)) in
+      subst P (place step) (committed-has to_link (full L N) (records_more f) x v (some-more step) (filled step up)
+      (counts step ∙ total-is step))
 
   abbrev d : Place
   d = f.slot.sector
@@ -121,14 +118,11 @@ module _ {a : Image} {l : Layout} {n : ℕ} {f : File} {p q : Parts} {fresh : Pl
   e = put b d q.directory
 
   -- the count makes the image clean
-  pub counted-adds : IsGrowingBy a l n f (records_more f) e
-  counted-adds =
-      let P : ℕ → Type 0 = λ k. HasRecords a e l k (grown_by L (records_more f) (records a f)) in (
-        records_more f,
-        omega arith,
-        subst P (place step) (counted-has to_count (full L N) (records_more f) x v (some-more step) (filled step up)
-            (counts step ∙ total-is step)),
-      )
+  pub counted-has' : HasRecords a e l n (grown_by L (records_more f) (records a f))
+  counted-has' =
+      let P : ℕ → Type 0 = λ k. HasRecords a e l k (grown_by L (records_more f) (records a f)) in
+      subst P (place step) (counted-has to_count (full L N) (records_more f) x v (some-more step) (filled step up)
+      (counts step ∙ total-is step))
 
   abbrev t : Slot
   t = slot_in d q.directory f.slot.number

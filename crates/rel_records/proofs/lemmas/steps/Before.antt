@@ -1,25 +1,5 @@
 -- What is written before the link leaves an image that growth may leave.
-use Rattle.std.proofs.Common.{
-  ◌≡◌,
-  ◌≢◌,
-  ℕ,
-  ◌<◌,
-  ◌≤◌,
-  ◌⊎◌,
-  inl,
-  inr,
-  List,
-  ◌∷◌,
-  ◌++◌,
-  length,
-  sym,
-  ◌∙◌,
-  ap,
-  arith,
-  subst,
-  append-nil,
-  IsTrue,
-}
+use Rattle.std.proofs.Common.{◌≡◌, ◌≢◌, ℕ, ◌<◌, ◌≤◌, ◌⊎◌, inl, inr, List, ◌∷◌, ◌++◌, length, sym, ◌∙◌, ap, subst, append-nil, IsTrue}
 use Rattle.std.specs.Prelude.{Contains, Some, slice_get, take, drop}
 use Rattle.d64_image.proofs.Images.{length-put, sector-put_other, sector-put_same}
 use Rattle.d64_image.proofs.Places.{same_or_other}
@@ -37,7 +17,7 @@ use Rattle.rel_records.proofs.lemmas.steps.Sided.{get-once}
 use Rattle.disk_layout.specs.Chain.{EachOnce}
 use Rattle.std.proofs.lemmas.Bool.{cases_lt}
 use Rattle.rel_records.specs.Others.{HasRecords}
-use Rattle.rel_records.specs.Written.{IsGrowingBy}
+use Rattle.rel_records.specs.Written.{grown_by}
 use Rattle.rel_records.specs.declared.growth.step_parts.Parts.{Parts}
 use Rattle.rel_records.specs.growth.Preparing.{IsPrepared, IsPreparing}
 use Rattle.rel_records.specs.growth.Steps.{AreSidedFrom, IsBefore, IsSided}
@@ -118,17 +98,14 @@ module _ (a : Image) (l : Layout) (f g : File) (p : Parts) (fresh : Place) (bloc
   }
   before-preparing c (inr (inr is)) = sided-preparing c is.each
 
-  -- so each image held before the link is one of growth
-  pub before-grows : (before after : List File) (m : ℕ) → l.files ≡ before ++ f ∷ after → IsTrue (is_rel f.slot)
+  -- so each image held before the link has the records of before
+  pub before-grows : (before after : List File) → l.files ≡ before ++ f ∷ after → IsTrue (is_rel f.slot)
       → IsLonger f g → length g.sides ≤ 6 → (c : Image) → IsBefore a p fresh block c
-      → IsGrowingBy a l (length before) f m c
-  before-grows before after m split rel long few c is =
-      let P : List (List ℕ) → Type 0 = HasRecords a c l (length before) in (
-        0,
-        omega arith,
-        subst P (sym (append-nil (records a f))) (preparing-has a c l before after f g h split rel long
-            few (before-preparing c is)),
-      )
+      → HasRecords a c l (length before) (grown_by (record_length f.slot) 0 (records a f))
+  before-grows before after split rel long few c is =
+      let P : List (List ℕ) → Type 0 = HasRecords a c l (length before) in
+      subst P (sym (append-nil (records a f))) (preparing-has a c l before after f g h split rel long few
+      (before-preparing c is))
 
   map-there : (c : Image) → IsSided laid p.blocks.items p.sides.items p.size c → sector c map_place ≡ p.map.bytes
   map-there c is = elim (is map_place) [

@@ -1,13 +1,12 @@
 -- Where the exact bytes of a file's last side sector end.
-use Rattle.std.proofs.Common.{◌≡◌, ℕ, zero, suc, ◌+◌, ◌-◌, ◌*◌, ◌/◌, ◌<◌, ◌≤◌, List, [], ◌∷◌, ◌++◌, length, get_or, take, drop}
+use Rattle.std.proofs.Common.{◌≡◌, ℕ, zero, suc, ◌+◌, ◌-◌, ◌*◌, ◌/◌, ◌≤◌, List, [], ◌∷◌, ◌++◌, length, get_or, take, drop}
 use Rattle.std.proofs.Common.{refl, sym, ◌∙◌, ap, append_assoc, arith, length-append}
-use Rattle.std.specs.Prelude.{None, Option, Some, flat_map, replicate, slice_get, slice_index, slice_range}
+use Rattle.std.specs.Prelude.{None, Option, Some, flat_map, replicate, slice_get, slice_index}
 use Rattle.std.proofs.lemmas.List.{get_or-append_right, length-drop, length-replicate, length-take}
 use Rattle.d64_image.proofs.Places.{place_at-none}
 use Rattle.d64_image.specs.Images.{Sector}
 use Rattle.d64_image.specs.Places.{place_at}
 use Rattle.d64_image.specs.declared.place.Place.{Place}
-use Rattle.disk_layout.proofs.lemmas.layouts.Exact.{get-lt}
 use Rattle.disk_layout.proofs.lemmas.lists.Listed.{length-place_bytes}
 use Rattle.disk_layout.specs.Chain.{named_at}
 use Rattle.disk_layout.specs.Layout.{sides_for}

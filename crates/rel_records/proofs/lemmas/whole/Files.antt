@@ -1,6 +1,6 @@
 -- When the files of an image are whole: those that a call left alone, and the one that it wrote to.
-use Rattle.std.proofs.Common.{◌≡◌, ◌≢◌, ◌⊎◌, ℕ, zero, suc, ◌+◌, ◌-◌, ◌/◌, ◌<◌, ◌≤◌, inl, inr, List, [], ◌∷◌, map, length, refl, sym}
-use Rattle.std.proofs.Common.{◌∙◌, ap, arith, subst, slice_index, length-append, Bool, true, false, IsTrue, IsFalse}
+use Rattle.std.proofs.Common.{◌≡◌, ◌≢◌, ℕ, zero, suc, ◌-◌, ◌/◌, ◌≤◌, inl, inr, List, [], ◌∷◌, map, length, refl, sym}
+use Rattle.std.proofs.Common.{◌∙◌, ap, arith, subst, slice_index, length-append, Bool, true, false, IsTrue}
 use Rattle.std.proofs.lemmas.Bool.{cases_eq, eqb-true, false≢true}
 use Rattle.std.proofs.lemmas.List.{length-map}
 use Rattle.std.proofs.lemmas.List.Elements.{Contains-append_right}
@@ -15,7 +15,7 @@ use Rattle.disk_layout.proofs.lemmas.lists.Once.{all-in, flat_map-in}
 use Rattle.disk_layout.specs.Clean.{IsCleanLayout}
 use Rattle.disk_layout.specs.Directory.{type_byte}
 use Rattle.disk_layout.specs.Entries.{uncounted}
-use Rattle.disk_layout.specs.Layout.{File, IsFile, IsLayout, IsRelFile, Layout, file_owns, is_rel, record_length}
+use Rattle.disk_layout.specs.Layout.{File, IsLayout, IsRelFile, Layout, file_owns, is_rel, record_length}
 use Rattle.disk_layout.specs.Side.{side_sector}
 use Rattle.disk_layout.specs.declared.slot.Slot.{Slot}
 use Rattle.rel_records.proofs.lemmas.reading.Opened.{rel-of}
@@ -95,20 +95,22 @@ map-at a c (p ∷ ps) zero q e at = let s : p ≡ q = cc in let here : sector c 
     ap (sector c) (sym s) ∙ here ∙ ap (sector a) s
 map-at a c (p ∷ ps) (suc i) q e at = map-at a c ps i q (let rest : map (sector c) ps ≡ map (sector a) ps = cc in rest) at
 
+slots-long : (fs : List File) → length (map uncounted (map (λ (f : File). f.slot) fs)) ≡ length fs
+slots-long fs = length-map (map (λ (f : File). f.slot) fs) uncounted ∙ length-map fs (λ (f : File). f.slot)
+
+-- there are as many files as before
+pub same-files : (a c : Image) (l m : Layout) (n : ℕ) → KeepsOthers a c l m n → length m.files ≡ length l.files
+same-files a c l m n keeps =
+    sym (slots-long m.files) ∙ ap (λ (ss : List Slot). length ss) keeps.entries ∙ slots-long l.files
+
 -- From a, whose layout is l, to c, whose layout is m, all files but the one at place n stay; their side sectors are exact
 -- in c, and that one is whole.
 module _ (a c : Image) (l m : Layout) (n : ℕ) (is : IsLayout a l) (now : IsLayout c m) (keeps : KeepsOthers a c l m n)
     (exact : (k : ℕ) (y : File) → k ≢ n → slice_get m.files k ≡ Some y → IsTrue (is_rel y.slot) → AreExact c y)
     (g : File) (here : slice_get m.files n ≡ Some g) (mine : IsWholeFile c (HasStock m) g) (w : IsWhole a) where
-  slots-long : (fs : List File) → length (map uncounted (map (λ (f : File). f.slot) fs)) ≡ length fs
-  slots-long fs = length-map (map (λ (f : File). f.slot) fs) uncounted ∙ length-map fs (λ (f : File). f.slot)
-
-  same-long : length m.files ≡ length l.files
-  same-long = sym (slots-long m.files) ∙ ap (λ (ss : List Slot). length ss) keeps.entries ∙ slots-long l.files
-
   other-whole : (k : ℕ) (y : File) → k ≢ n → slice_get m.files k ≡ Some y → IsWholeFile c (HasStock m) y
   other-whole k y ne at =
-      let (x, there) = get-some l.files k (omega (arith, get-lt m.files k y at, same-long)) in
+      let (x, there) = get-some l.files k (omega (arith, get-lt m.files k y at, same-files a c l m n keeps)) in
       let both : Some x ≡ Some y = sym (keeps.files k x ne there) ∙ at in
       let same : x ≡ y = cc in
       let old = w l is k x there in

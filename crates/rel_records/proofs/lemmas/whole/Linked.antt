@@ -1,5 +1,5 @@
 -- Once a file has its next block the files are whole.
-use Rattle.std.proofs.Common.{◌≡◌, ◌≢◌, ℕ, suc, ◌+◌, ◌-◌, ◌*◌, ◌<◌, ◌≤◌, List, [], ◌∷◌, ◌++◌, length, refl, sym, ◌∙◌, ap}
+use Rattle.std.proofs.Common.{◌≡◌, ◌≢◌, ℕ, suc, ◌-◌, List, [], ◌∷◌, ◌++◌, length, refl, sym, ◌∙◌, ap}
 use Rattle.std.proofs.Common.{arith, subst, Bool, IsTrue, length-append, slice_index, take, drop}
 use Rattle.std.proofs.lemmas.List.Elements.{Contains-append_left}
 use Rattle.std.specs.Prelude.{Contains, Some, replicate, slice_get}
@@ -12,7 +12,7 @@ use Rattle.disk_layout.proofs.lemmas.growth.GrowthRecords.{get-seam}
 use Rattle.disk_layout.proofs.lemmas.layouts.Layouts.{get-contains}
 use Rattle.disk_layout.proofs.lemmas.lists.Once.{EachOnce-apart}
 use Rattle.disk_layout.specs.Directory.{slot_in}
-use Rattle.disk_layout.specs.Layout.{File, Layout, exchanged, is_rel, record_length}
+use Rattle.disk_layout.specs.Layout.{File, Layout, exchanged, record_length}
 use Rattle.disk_layout.specs.declared.slot.Slot.{Slot}
 use Rattle.rel_records.proofs.lemmas.filling.Fulls.{full-last}
 use Rattle.rel_records.proofs.lemmas.reading.Opened.{rel-of}
@@ -22,7 +22,7 @@ use Rattle.rel_records.proofs.lemmas.steps.Counting.{clean-again, same-entry}
 use Rattle.rel_records.proofs.lemmas.steps.LaidOut.{IsStep, each, place, rel-file, split}
 use Rattle.rel_records.proofs.lemmas.steps.LastBlocks.{made}
 use Rattle.rel_records.proofs.lemmas.steps.Others.{others-kept}
-use Rattle.rel_records.proofs.lemmas.whole.Files.{AreExact, HasEnd, agree-exact, clean-whole, exact-whole, not-zeros}
+use Rattle.rel_records.proofs.lemmas.whole.Files.{AreExact, agree-exact, clean-whole, exact-whole, not-zeros}
 use Rattle.rel_records.proofs.lemmas.whole.Files.{whole-now}
 use Rattle.rel_records.specs.Listed.{HasStock}
 use Rattle.rel_records.specs.Others.{KeepsOthers}

@@ -1,8 +1,8 @@
 -- Before the write that makes a file longer the files are whole: its side sectors list one block more at most.
-use Rattle.std.proofs.Common.{◌≡◌, ◌≢◌, ◌⊎◌, ℕ, suc, ◌+◌, ◌-◌, ◌*◌, ◌/◌, ◌%◌, ◌<◌, ◌≤◌, inl, inr, List, [], ◌∷◌, ◌++◌, length}
+use Rattle.std.proofs.Common.{◌≡◌, ◌≢◌, ℕ, suc, ◌+◌, ◌-◌, ◌*◌, ◌/◌, ◌%◌, ◌≤◌, inl, inr, List, [], ◌∷◌, length}
 use Rattle.std.proofs.Common.{refl, sym, ◌∙◌, ap, arith, subst, IsTrue, length-append, slice_index, take, drop}
 use Rattle.std.proofs.lemmas.Bool.{cases_eq}
-use Rattle.std.specs.Prelude.{Contains, IsSome, Some, flat_map, replicate, slice_get, ◌||◌}
+use Rattle.std.specs.Prelude.{Contains, IsSome, Some, flat_map, slice_get, ◌||◌}
 use Rattle.d64_image.proofs.Images.{sector-put_other}
 use Rattle.d64_image.specs.Images.{Image, Sector, put, sector}
 use Rattle.d64_image.specs.declared.place.Place.{Place}
@@ -17,7 +17,7 @@ use Rattle.disk_layout.proofs.lemmas.layouts.Layouts.{get-contains}
 use Rattle.disk_layout.proofs.lemmas.lists.Once.{Contains-there}
 use Rattle.disk_layout.specs.Chain.{named_at}
 use Rattle.disk_layout.specs.Directory.{map_place}
-use Rattle.disk_layout.specs.Layout.{File, IsLayout, IsSide, Layout, exchanged, file_owns, is_rel, owners, record_length, sides_for}
+use Rattle.disk_layout.specs.Layout.{File, IsLayout, IsSide, Layout, file_owns, is_rel, owners, record_length, sides_for}
 use Rattle.disk_layout.specs.Side.{side_sector}
 use Rattle.rel_records.proofs.lemmas.steps.Before.{before-preparing}
 use Rattle.rel_records.proofs.lemmas.steps.LaidOut.{IsStep, apart, blocks-are, few-sides, free, header, next, place}
@@ -28,12 +28,12 @@ use Rattle.rel_records.proofs.lemmas.steps.Sided.{get-once, get-there}
 use Rattle.rel_records.proofs.lemmas.whole.Ends.{ends-exact}
 use Rattle.rel_records.proofs.lemmas.whole.Files.{AreExact, HasEnd, agree-exact, chain-some, clean-exact, exact-ends}
 use Rattle.rel_records.proofs.lemmas.whole.Files.{rel-whole, whole-now}
-use Rattle.rel_records.specs.Listed.{EndsBy, HasStock, ListsOne, ListsOneMore, ListsWell, NeverGrows, is_plain, used_of}
+use Rattle.rel_records.specs.Listed.{EndsBy, HasStock, ListsOneMore, ListsWell, NeverGrows, is_plain, used_of}
 use Rattle.rel_records.specs.Others.{KeepsOthers}
 use Rattle.rel_records.specs.Whole.{IsWhole}
 use Rattle.rel_records.specs.declared.growth.step_parts.Parts.{Parts}
 use Rattle.rel_records.specs.growth.Preparing.{IsPreparing}
-use Rattle.rel_records.specs.growth.Steps.{AreSidedFrom, IsBefore, IsSidedInOrder}
+use Rattle.rel_records.specs.growth.Steps.{AreSidedFrom, IsBefore}
 
 module _ {a : Image} {l : Layout} {n : ℕ} {f : File} {p q : Parts} {fresh : Place} {block : Sector}
     (step : IsStep a l n f p q fresh block) where
