@@ -84,7 +84,7 @@ module _ (old new : Image) (f : Files) (h : HasFiles old f)
       = ap (λ k. grown_by (record_length h.requests_file.slot) k (records old h.requests_file)) none
       ∙ append-nil (records old h.requests_file) ∙ sym h.requests in
       inl (unchanged (subst (λ rs. HasRecords old new h.layout h.requests_place rs) e g.2))
-  writing-files (inr (inl x)) =
+  writing-files (inr (inl (x, kept))) =
       let was : List ℕ = get_or (records old h.requests_file ++ []) (suc n - 1) [] in
       let few : length was ≤ 127 = few_of in
       let one : suc n - 1 ≡ n = omega arith in
@@ -102,7 +102,7 @@ module _ (old new : Image) (f : Files) (h : HasFiles old f)
       few_of : length (get_or (records old h.requests_file ++ []) (suc n - 1) []) ≤ 127
       few_of = rw (append-nil (records old h.requests_file))
           (omega (arith, record-few old h.requests_file (suc n - 1), h.requests_length))
-  writing-files (inr (inr x)) =
+  writing-files (inr (inr (x, kept))) =
       let was : List ℕ = get_or (records old h.requests_file ++ []) (suc n - 1) [] in
       let one : suc n - 1 ≡ n = omega arith in
       let bytes : written (record_length h.requests_file.slot) 1 text was ≡ text =

@@ -167,6 +167,7 @@ writing-same img name r l n f text p = inl (
               (ap file_owns same),
         );
       }),
+  λ never w. w,
 )
 
 placed-on-the-way : (old : Image) (text : List ℕ) (l : Layout) (n r : ℕ) (f : File) → r ≤ records_had f

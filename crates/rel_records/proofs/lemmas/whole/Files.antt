@@ -4,7 +4,7 @@ use Rattle.std.proofs.Common.{◌∙◌, ap, arith, subst, slice_index, length-a
 use Rattle.std.proofs.lemmas.Bool.{cases_eq, eqb-true, false≢true}
 use Rattle.std.proofs.lemmas.List.{length-map}
 use Rattle.std.proofs.lemmas.List.Elements.{Contains-append_right}
-use Rattle.std.specs.Prelude.{Contains, Some, flat_map, nat_eq, nat_le, replicate, slice_get, ◌&&◌, ◌||◌, ◌++◌}
+use Rattle.std.specs.Prelude.{Contains, None, Some, flat_map, nat_eq, nat_le, replicate, slice_get, ◌&&◌, ◌||◌, ◌++◌}
 use Rattle.d64_image.specs.Images.{Image, Sector, sector}
 use Rattle.d64_image.specs.declared.place.Place.{Place}
 use Rattle.disk_layout.proofs.lemmas.layouts.Exact.{get-lt}
@@ -13,9 +13,10 @@ use Rattle.disk_layout.proofs.lemmas.lists.Lists.{get-some}
 use Rattle.disk_layout.proofs.lemmas.chains.Chains.{AgreeAt}
 use Rattle.disk_layout.proofs.lemmas.lists.Once.{all-in, flat_map-in}
 use Rattle.disk_layout.specs.Clean.{IsCleanLayout}
-use Rattle.disk_layout.specs.Directory.{type_byte}
+use Rattle.disk_layout.specs.Chain.{named_at}
+use Rattle.disk_layout.specs.Directory.{map_place, type_byte}
 use Rattle.disk_layout.specs.Entries.{uncounted}
-use Rattle.disk_layout.specs.Layout.{File, IsLayout, IsRelFile, Layout, file_owns, is_rel, record_length}
+use Rattle.disk_layout.specs.Layout.{File, IsLayout, IsRelFile, Layout, file_owns, is_rel, owners, record_length}
 use Rattle.disk_layout.specs.Side.{side_sector}
 use Rattle.disk_layout.specs.declared.slot.Slot.{Slot}
 use Rattle.rel_records.proofs.lemmas.reading.Opened.{rel-of}
@@ -68,18 +69,31 @@ exact-ends img f r exact q at =
     subst P (sym (exact _ q at)) (ends-exact f.blocks f.sides (record_length f.slot) (chain-some img f r) r.count)
 
 -- a relative file that lists well
-pub rel-whole : (img : Image) (shop : Type 0) (f : File) → IsTrue (is_rel f.slot) → HasEnd img f
+pub rel-whole : (img : Image) (l : Layout) (f : File) → IsTrue (is_rel f.slot) → HasEnd img f
     → ((q : Place) → slice_get f.sides ((length f.blocks - 1) / 120) ≡ Some q
-    → ListsWell img (NeverGrows shop f.slot) (sector img q) (used_of (length f.blocks))) → IsWholeFile img shop f
-rel-whole img shop f rel end lists = record {
-  listed = λ t q at. lists q at;
+    → ListsWell img (NeverGrows (HasStock l) f.slot) (sector img q) (used_of (length f.blocks))
+    × ((s : Place) → named_at (sector img q) 0 ≡ Some s → ¬ (Contains (map_place ∷ owners l) s)))
+    → IsWholeFile img l f
+rel-whole img l f rel end lists = record {
+  listed = λ t q at. (lists q at).0;
+  behind = λ t q s at. (lists q at).1 s;
   counted = λ t. absurd (rel-not-plain f.slot rel t);
   ended = λ t q at. end q at;
 }
 
-pub exact-whole : (img : Image) (shop : Type 0) (f : File) → IsTrue (is_rel f.slot) → IsRelFile img f → AreExact img f
-    → HasEnd img f → IsWholeFile img shop f
-exact-whole img shop f rel r exact end = rel-whole img shop f rel end (λ q at. inl (exact-ends img f r exact q at))
+-- a side sector that is the last links to none
+pub none-behind : (img : Image) (l : Layout) (q : Place) (count : ℕ) → EndsBy (sector img q) count → (s : Place)
+    → named_at (sector img q) 0 ≡ Some s → ¬ (Contains (map_place ∷ owners l) s)
+none-behind img l q count ends s named = let both : None ≡ Some s = sym ends.link ∙ named in absurd (never both)
+  where
+    never : None ≡ Some s → ⊥
+    never e = cc
+
+pub exact-whole : (img : Image) (l : Layout) (f : File) → IsTrue (is_rel f.slot) → IsRelFile img f → AreExact img f
+    → HasEnd img f → IsWholeFile img l f
+exact-whole img l f rel r exact end =
+    rel-whole img l f rel end
+    (λ q at. (inl (exact-ends img f r exact q at), none-behind img l q _ (exact-ends img f r exact q at)))
 
 -- a file of a clean image has exact side sectors
 pub clean-exact : (img : Image) (l : Layout) (k : ℕ) (f : File) → IsCleanLayout img l → slice_get l.files k ≡ Some f
@@ -107,35 +121,37 @@ same-files a c l m n keeps =
 -- in c, and that one is whole.
 module _ (a c : Image) (l m : Layout) (n : ℕ) (is : IsLayout a l) (now : IsLayout c m) (keeps : KeepsOthers a c l m n)
     (exact : (k : ℕ) (y : File) → k ≢ n → slice_get m.files k ≡ Some y → IsTrue (is_rel y.slot) → AreExact c y)
-    (g : File) (here : slice_get m.files n ≡ Some g) (mine : IsWholeFile c (HasStock m) g) (w : IsWhole a) where
-  other-whole : (k : ℕ) (y : File) → k ≢ n → slice_get m.files k ≡ Some y → IsWholeFile c (HasStock m) y
+    (g : File) (here : slice_get m.files n ≡ Some g) (mine : IsWholeFile c m g) (w : IsWhole a) where
+  other-whole : (k : ℕ) (y : File) → k ≢ n → slice_get m.files k ≡ Some y → IsWholeFile c m y
   other-whole k y ne at =
       let (x, there) = get-some l.files k (omega (arith, get-lt m.files k y at, same-files a c l m n keeps)) in
       let both : Some x ≡ Some y = sym (keeps.files k x ne there) ∙ at in
       let same : x ≡ y = cc in
       let old = w l is k x there in
-      let P : File → Type 0 = λ f. IsWholeFile c (HasStock m) f in
+      let P : File → Type 0 = λ f. IsWholeFile c m f in
       subst P same (record {
         listed = λ rel q in-sides. inl (exact-ends c x (rel-of c m k x now (at ∙ ap Some (sym same)) rel)
             (exact k x ne (at ∙ ap Some (sym same)) rel) q in-sides);
+        behind = λ rel q s in-sides. none-behind c m q _ (exact-ends c x (rel-of c m k x now (at ∙ ap Some (sym same)) rel)
+            (exact k x ne (at ∙ ap Some (sym same)) rel) q in-sides) s;
         counted = old.counted;
         ended = λ t q last zeros. old.ended t q last
             (sym (map-at a c x.blocks _ q (keeps.bytes k x ne there) last) ∙ zeros);
       })
 
-  file-whole : (k : ℕ) (y : File) → slice_get m.files k ≡ Some y → IsWholeFile c (HasStock m) y
+  file-whole : (k : ℕ) (y : File) → slice_get m.files k ≡ Some y → IsWholeFile c m y
   file-whole k y at = elim (cases_eq k n) [
     | inl e ↦
         let both : Some g ≡ Some y = sym here ∙ ap (slice_get m.files) (sym e) ∙ at in
         let same : g ≡ y = cc in
-        let P : File → Type 0 = λ f. IsWholeFile c (HasStock m) f in
+        let P : File → Type 0 = λ f. IsWholeFile c m f in
         subst P same mine
     | inr ne ↦ other-whole k y ne at
   ]
 
   pub whole-now : IsWhole c
   whole-now k' is' =
-      let P : Layout → Type 0 = λ z. (k : ℕ) (y : File) → slice_get z.files k ≡ Some y → IsWholeFile c (HasStock z) y in
+      let P : Layout → Type 0 = λ z. (k : ℕ) (y : File) → slice_get z.files k ≡ Some y → IsWholeFile c z y in
       subst P (IsLayout-one c m k' now is') file-whole
 
 -- so where c is clean
@@ -143,7 +159,7 @@ pub clean-whole : (a c : Image) (l m : Layout) (n : ℕ) (g : File) → IsLayout
     → KeepsOthers a c l m n → slice_get m.files n ≡ Some g → IsTrue (is_rel g.slot) → HasEnd c g → IsWhole a → IsWhole c
 clean-whole a c l m n g is clean keeps at rel end =
     whole-now a c l m n is clean.layout keeps (λ k y ne there. clean-exact c m k y clean there) g at
-    (exact-whole c (HasStock m) g rel (rel-of c m n g clean.layout at rel) (clean-exact c m n g clean at rel) end)
+    (exact-whole c m g rel (rel-of c m n g clean.layout at rel) (clean-exact c m n g clean at rel) end)
 
 -- and where a call leaves the records of one file
 pub leaves-whole : (a b : Image) (l : Layout) (n : ℕ) (rs : List (List ℕ)) (v : RelFile) → IsLayout a l

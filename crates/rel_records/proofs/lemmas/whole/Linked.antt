@@ -24,7 +24,6 @@ use Rattle.rel_records.proofs.lemmas.steps.LastBlocks.{made}
 use Rattle.rel_records.proofs.lemmas.steps.Others.{others-kept}
 use Rattle.rel_records.proofs.lemmas.whole.Files.{AreExact, agree-exact, clean-whole, exact-whole, not-zeros}
 use Rattle.rel_records.proofs.lemmas.whole.Files.{whole-now}
-use Rattle.rel_records.specs.Listed.{HasStock}
 use Rattle.rel_records.specs.Others.{KeepsOthers}
 use Rattle.rel_records.specs.Whole.{IsWhole}
 use Rattle.rel_records.specs.declared.growth.step_parts.Parts.{Parts}
@@ -88,7 +87,7 @@ module _ {a : Image} {l : Layout} {n : ℕ} {f : File} {p q : Parts} {fresh : Pl
       whole-now a b l m n at.clean.layout (committed tl) keeps
       (λ k y ne there'. agree-exact a b l before after f g at.clean (split step) (commit-before tl) (commit-after tl) k y
       (λ e. ne (e ∙ place step)) there') g g-there
-      (exact-whole b (HasStock m) g at.rel (rel-of b m n g (committed tl) g-there at.rel) exact-g
+      (exact-whole b m g at.rel (rel-of b m n g (committed tl) g-there at.rel) exact-g
       (λ y last. fresh-end b y last fresh-b)) w
     where
       fresh-b : sector b fresh ≡ block

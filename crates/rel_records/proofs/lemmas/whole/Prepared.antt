@@ -12,7 +12,7 @@ use Rattle.disk_layout.proofs.lemmas.growth.Commit.{grown}
 use Rattle.disk_layout.proofs.lemmas.growth.GrowthRecords.{get-seam}
 use Rattle.disk_layout.proofs.lemmas.growth.SideWrites.{same-layout}
 use Rattle.disk_layout.proofs.lemmas.layouts.Agree.{owned-side}
-use Rattle.disk_layout.proofs.lemmas.layouts.Exact.{exact-side}
+use Rattle.disk_layout.proofs.lemmas.layouts.Exact.{exact-side, get-lt}
 use Rattle.disk_layout.proofs.lemmas.layouts.Layouts.{get-contains}
 use Rattle.disk_layout.proofs.lemmas.lists.Once.{Contains-there}
 use Rattle.disk_layout.specs.Chain.{named_at}
@@ -27,7 +27,7 @@ use Rattle.rel_records.proofs.lemmas.steps.Preparing.{after-stays, before-stays,
 use Rattle.rel_records.proofs.lemmas.steps.Sided.{get-once, get-there}
 use Rattle.rel_records.proofs.lemmas.whole.Ends.{ends-exact}
 use Rattle.rel_records.proofs.lemmas.whole.Files.{AreExact, HasEnd, agree-exact, chain-some, clean-exact, exact-ends}
-use Rattle.rel_records.proofs.lemmas.whole.Files.{rel-whole, whole-now}
+use Rattle.rel_records.proofs.lemmas.whole.Files.{none-behind, rel-whole, whole-now}
 use Rattle.rel_records.specs.Listed.{EndsBy, HasStock, ListsOneMore, ListsWell, NeverGrows, is_plain, used_of}
 use Rattle.rel_records.specs.Others.{KeepsOthers}
 use Rattle.rel_records.specs.Whole.{IsWhole}
@@ -102,6 +102,7 @@ module _ {a : Image} {l : Layout} {n : ℕ} {f : File} {p q : Parts} {fresh : Pl
   -- it is the side sector of the last block, with the bytes of the longer file: one block more is listed
   one-more : (c : Image) (x : Place) → AreSidedFrom (length ss - 1) c q.blocks.items ss q.size
       → sector c x ≡ side_sector ((N - 1) / 120) g.blocks ss L → ListsOneMore c (sector c x) (used_of N)
+      × ((s : Place) → named_at (sector c x) 0 ≡ Some s → ¬ (Contains (map_place ∷ owners l) s))
   one-more c x from e = elim (cases_eq (N % 120) 0) [
     | inl z ↦
         let (s, there) = get-there ss (length ss - 1) (omega (arith, some-sides step)) in
@@ -117,42 +118,60 @@ module _ {a : Image} {l : Layout} {n : ℕ} {f : File} {p q : Parts} {fresh : Pl
         named-is (sector c s) 16 fresh (next-side.pointers 0 fresh (omega arith) fresh-at) in
         let one : used_of (N + 1) ≡ 1 = omega (arith, z) in
         let P : ℕ → Type 0 = EndsBy (sector c s) in
-        inr (
-          omega (arith, z, some),
-          (
-            s,
-            named-is (sector c x) 0 s (here.link s (ap (slice_get ss) last ∙ there)),
-            record {
-              first = subst IsSome (sym named) refl;
-              ends = subst P one (ends-g c (length ss - 1) s (omega (arith, (next step).count)) behind);
-            },
+        let link : named_at (sector c x) 0 ≡ Some s =
+        named-is (sector c x) 0 s (here.link s (ap (slice_get ss) last ∙ there)) in
+        let unowned : ¬ (Contains (map_place ∷ owners l) s) = elim ((next step).sided (length ss - 1) s there) [
+          | inl old ↦ absurd (omega (arith, get-lt f.sides (length ss - 1) s old, (next step).count, (rel-file step).count, z))
+          | inr out ↦ out
+        ] in (
+          inr (
+            omega (arith, z, some),
+            (
+              s,
+              link,
+              record {
+                first = subst IsSome (sym named) refl;
+                ends = subst P one (ends-g c (length ss - 1) s (omega (arith, (next step).count)) behind);
+              },
+            ),
           ),
+          λ t named'.
+              let both : Some s ≡ Some t = sym link ∙ named' in
+              let same : s ≡ t = cc in
+              let Q : Place → Type 0 = λ y. ¬ (Contains (map_place ∷ owners l) y) in
+              subst Q same unowned,
         )
     | inr within ↦
         let up : used_of (N + 1) ≡ used_of N + 1 = omega (arith, within, some) in
         let P : ℕ → Type 0 = EndsBy (sector c x) in
-        inl (
-          omega (arith, within, some),
-          subst P up (ends-g c ((N - 1) / 120) x (omega (arith, within, some)) e),
-        )
+        let ends : EndsBy (sector c x) (used_of N + 1) =
+        subst P up (ends-g c ((N - 1) / 120) x (omega (arith, within, some)) e) in
+        (inl (omega (arith, within, some), ends), none-behind c l x _ ends)
   ]
+
+  no-more : (c : Image) (x : Place) → EndsBy (sector c x) (used_of N)
+      → ListsWell c (NeverGrows (HasStock l) f.slot) (sector c x) (used_of N)
+      × ((s : Place) → named_at (sector c x) 0 ≡ Some s → ¬ (Contains (map_place ∷ owners l) s))
+  no-more c x ends = (inl ends, none-behind c l x _ ends)
 
   -- so it lists well
   lists : (c : Image) → ¬ (NeverGrows (HasStock l) f.slot) → IsBefore a q fresh block c → (x : Place)
       → slice_get f.sides ((N - 1) / 120) ≡ Some x
       → ListsWell c (NeverGrows (HasStock l) f.slot) (sector c x) (used_of N)
-  lists c grows (inl e) x there = inl (same-ends c x there (ap (λ i. sector i x) e))
+      × ((s : Place) → named_at (sector c x) 0 ≡ Some s → ¬ (Contains (map_place ∷ owners l) s))
+  lists c grows (inl e) x there = no-more c x (same-ends c x there (ap (λ i. sector i x) e))
   lists c grows (inr (inl e)) x there =
-      inl (same-ends c x there (ap (λ i. sector i x) e
+      no-more c x (same-ends c x there (ap (λ i. sector i x) e
       ∙ sector-put_other a map_place x q.map.bytes (λ s. apart step _ (there ∙ ap Some (sym s)))))
   lists c grows (inr (inr is)) x there = elim is.first [
-    | inl e ↦ inl (same-ends c x there (ap (λ i. sector i x) e ∙ laid-same _ x there))
+    | inl e ↦ no-more c x (same-ends c x there (ap (λ i. sector i x) e ∙ laid-same _ x there))
     | inr from ↦ elim (is.each x) [
-      | inl e ↦ inl (same-ends c x there (e ∙ laid-same _ x there))
+      | inl e ↦ no-more c x (same-ends c x there (e ∙ laid-same _ x there))
       | inr d ↦
           let number : d.0 ≡ (N - 1) / 120 =
           get-once ss d.0 ((N - 1) / 120) x (sides-once step) d.1 ((next step).long.sides _ x there) in
-          inr (grows, one-more c x from (exact-g c d.0 ((N - 1) / 120) x number d.2))
+          let more = one-more c x from (exact-g c d.0 ((N - 1) / 120) x number d.2) in
+          (inr (grows, more.0), more.1)
     ]
   ]
 
@@ -160,7 +179,7 @@ module _ {a : Image} {l : Layout} {n : ℕ} {f : File} {p q : Parts} {fresh : Pl
       → IsWhole c
   before-whole c grows is w =
       whole-now a c l l n at.clean.layout now keeps exact f at.there
-      (rel-whole c (HasStock l) f at.rel end (lists c grows is)) w
+      (rel-whole c l f at.rel end (lists c grows is)) w
     where
       prep : IsPreparing a c l f g
       prep = before-preparing a l f g q fresh block whole.size at.clean.layout (header step) (free step)
