@@ -102,7 +102,7 @@ clean-exact img l k f clean at rel j q there =
     (all-in _ l.files f clean.files (get-contains l.files k f at) rel).sides j q there
 
 -- the relative file of an old layout is one of the new
-map-at : (a c : Image) (ps : List Place) (i : ℕ) (q : Place) → map (sector c) ps ≡ map (sector a) ps
+pub map-at : (a c : Image) (ps : List Place) (i : ℕ) (q : Place) → map (sector c) ps ≡ map (sector a) ps
     → slice_get ps i ≡ Some q → sector c q ≡ sector a q
 map-at a c [] i q e at = cc
 map-at a c (p ∷ ps) zero q e at = let s : p ≡ q = cc in let here : sector c p ≡ sector a p = cc in
