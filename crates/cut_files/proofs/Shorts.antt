@@ -7,25 +7,9 @@ use Rattle.d64_image.specs.declared.place.Place.{Place}
 use Rattle.disk_layout.specs.Directory.{type_byte}
 use Rattle.disk_layout.specs.Layout.{File, is_rel, is_rel_type}
 use Rattle.disk_layout.specs.declared.slot.Slot.{Slot}
-use Rattle.cut_files.specs.Cut.{IsCutIn, IsListedPast, IsShort, ListsWell, NeverGrows, is_plain}
-
-plain_type : ℕ → Bool
-plain_type t = (nat_le 129 t && nat_le t 131) || (nat_le 193 t && nat_le t 195)
-
--- a relative file is no other
-pub rel-not-plain : (s : Slot) → IsTrue (is_rel s) → IsTrue (is_plain s) → ⊥
-unfolding plain_type
-rel-not-plain s rel plain = by (nat_eq t 132) refl
-  where
-    t : ℕ
-    t = type_byte s
-
-    off : (n : ℕ) → t ≡ n → plain_type n ≡ false → ⊥
-    off n is other = false≢true (sym other ∙ sym (ap plain_type is) ∙ plain)
-
-    by : (b : Bool) → nat_eq t 132 ≡ b → ⊥
-    by true e = off 132 (eqb-true t 132 e) refl
-    by false e = off 196 (eqb-true t 196 (sym (ap (λ b. b || nat_eq t 196) e) ∙ rel)) refl
+use Rattle.rel_records.proofs.lemmas.whole.Files.{rel-not-plain}
+use Rattle.cut_files.specs.Cut.{IsCutIn, IsListedPast, IsShort}
+use Rattle.rel_records.specs.Listed.{ListsWell, NeverGrows, is_plain}
 
 -- where both grow or neither does, the same is listed well
 lists-as : (img : Image) (a b : Type 0) (bytes : Sector) (used : ℕ) → (b → a) → ListsWell img a bytes used

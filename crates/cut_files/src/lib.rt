@@ -3,6 +3,7 @@
 
 mod cuts;
 mod images;
+mod laws;
 mod listed;
 mod names;
 mod strays;
@@ -10,3 +11,4 @@ mod tails;
 
 pub use cuts::find_cut;
 pub use images::find_image_cut;
+pub use laws::whole_is_uncut;

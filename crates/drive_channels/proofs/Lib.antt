@@ -9,6 +9,7 @@ pub mod Openings
 pub mod Opens
 pub mod Orders
 pub mod Refusals
+pub mod RepairWhole
 pub mod Rows
 pub mod Steady
 pub mod Wishes

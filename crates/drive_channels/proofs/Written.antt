@@ -213,7 +213,7 @@ begins img text c l f rel = by text
     }
 
     grows : IsGrowingTo img l c.entry f c.record_number img
-    grows = (0, omega arith, subst (HasRecords img img l c.entry) (sym (append-nil (records img f))) has)
+    grows = (0, omega arith, subst (HasRecords img img l c.entry) (sym (append-nil (records img f))) has, λ never w. w)
 
     by : (text : List ℕ) → IsOnTheWay img text c l f img
     by [] = grows

@@ -1,4 +1,5 @@
 -- The lemmas, by what they are about.
+pub mod Held
 pub mod shop
 pub mod judging
 pub mod writing

@@ -1,3 +1,4 @@
+pub mod Held
 pub mod shop
 pub mod session
 pub mod events

@@ -61,20 +61,20 @@ ok-told S a b (Err e) told ok = absurd cc
 writing-over : (i c : Image) (l : Layout) (n : ℕ) (f : File) (x : NewRecord) → x.number ≤ records_had f
     → IsWriting i l n f (added (record_length f.slot) (records_had f) x.number) x.number 1 x.bytes c
     → IsStoringOver i l n (record_length f.slot) (x ∷ []) (records i f) c
-writing-over i c l n f x le (inl (k, few, has)) =
+writing-over i c l n f x le (inl (k, few, has, kept)) =
     let none : k ≡ 0 = omega (arith, few, added-none (record_length f.slot) (records_had f) x.number le) in (
       records i f,
       inl refl,
       subst (HasRecords i c l n) (ap (λ (m : ℕ). grown_by (record_length f.slot) m (records i f))
           none ∙ append-nil (records i f)) has,
     )
-writing-over i c l n f x le (inr (inl has)) = (
+writing-over i c l n f x le (inr (inl (has, kept))) = (
   with_half (record_length f.slot) x.number 1 x.bytes (records i f),
   inr (inl refl),
   subst (λ (rs : List (List ℕ)). HasRecords i c l n (with_half (record_length f.slot) x.number 1 x.bytes rs))
       (grown-none i f x.number le) has,
 )
-writing-over i c l n f x le (inr (inr has)) = (
+writing-over i c l n f x le (inr (inr (has, kept))) = (
   with_stored (record_length f.slot) x (records i f),
   inr (inr refl),
   subst (λ (rs : List (List ℕ)). HasRecords i c l n (with_written (record_length f.slot) x.number 1 x.bytes rs))

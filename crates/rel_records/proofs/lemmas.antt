@@ -6,5 +6,6 @@ pub mod filling
 pub mod steps
 pub mod directory
 pub mod creation
+pub mod whole
 pub mod Kept
 pub mod Told

@@ -30,6 +30,7 @@ use Rattle.d64_image.specs.Images.{Image, Sector}
 use Rattle.disk_layout.specs.Layout.{File, Layout, record_length}
 use Rattle.disk_layout.specs.Records.{empty_record, records}
 use Rattle.rel_records.specs.Others.{HasRecords}
+use Rattle.rel_records.specs.Whole.{KeepsWhole}
 use Rattle.rel_records.specs.declared.faults.RelFault.{RelFault}
 use Rattle.rel_records.specs.declared.faults.RelFault.TheVariants.{Overflow}
 use Rattle.rel_records.specs.growth.Growth.{added, records_had}
@@ -83,7 +84,8 @@ grown_to img f r = grown_by (record_length f.slot) (added (record_length f.slot)
 
 -- an image held while up to m empty records are added to the file f at place n
 abbrev pub IsGrowingBy : Image → Layout → ℕ → File → ℕ → Image → Type 0
-IsGrowingBy old l n f m c = (k : ℕ) × (k ≤ m) × HasRecords old c l n (grown_by (record_length f.slot) k (records old f))
+IsGrowingBy old l n f m c = (k : ℕ) × (k ≤ m)
+    × HasRecords old c l n (grown_by (record_length f.slot) k (records old f)) × KeepsWhole old l f m c
 
 -- an image held while the file grows to record r
 abbrev pub IsGrowingTo : Image → Layout → ℕ → File → ℕ → Image → Type 0
@@ -95,10 +97,10 @@ IsGrowingTo old l n f r = IsGrowingBy old l n f (added (record_length f.slot) (r
 abbrev pub IsWriting : Image → Layout → ℕ → File → ℕ → ℕ → ℕ → List ℕ → Image → Type 0
 IsWriting old l n f m r pos text c =
     IsGrowingBy old l n f m c
-    ⊎ (HasRecords old c l n (with_half (record_length f.slot) r pos text
-    (grown_by (record_length f.slot) m (records old f)))
-    ⊎ HasRecords old c l n (with_written (record_length f.slot) r pos text
-    (grown_by (record_length f.slot) m (records old f))))
+    ⊎ ((HasRecords old c l n (with_half (record_length f.slot) r pos text
+    (grown_by (record_length f.slot) m (records old f))) × KeepsWhole old l f m c)
+    ⊎ (HasRecords old c l n (with_written (record_length f.slot) r pos text
+    (grown_by (record_length f.slot) m (records old f))) × KeepsWhole old l f m c))
 
 -- record r of L bytes lies in one data block
 abbrev pub IsInOneBlock : ℕ → ℕ → Type 0

@@ -2,7 +2,8 @@
 use Rattle.std.proofs.Common.{◌≡◌, ◌≢◌, ◌≤◌, ◌+◌, ◌⊎◌, ℕ, List, [], ◌∷◌, ◌++◌, Option, None, Some, false}
 use Rattle.std.proofs.Common.{◌∙◌, ap, arith, length, map, refl, sym, subst}
 use Rattle.std.specs.Prelude.{IsSome, if◌then◌else◌, is_some, zip}
-use Rattle.d64_image.specs.History.{HeldOnly, History}
+use Rattle.d64_image.specs.History.{History}
+use Rattle.host_session.specs.Held.{HeldOnly}
 use Rattle.request_cards.specs.Ledgers.{after_message, reply_in}
 use Rattle.request_cards.specs.Requests.{Ask}
 use Rattle.request_cards.specs.declared.reply.Reply.{Reply}

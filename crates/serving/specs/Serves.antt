@@ -2,7 +2,8 @@
 use Rattle.std.specs.Prelude.{◌≡◌, ◌≢◌, ◌⊎◌, ◌<◌, ◌≤◌, ℕ, true, false, Err, IfErr, IfOk, IsOk, List, []}
 use Rattle.std.specs.Prelude.{◌∷◌, ◌++◌, OnSome, Result, length, option_to_list}
 use Rattle.std.specs.Io.KnownBytes.{Consumes, IsAtEnd}
-use Rattle.d64_image.specs.History.{Changes, Failed, History, NeverFailed}
+use Rattle.d64_image.specs.History.{Failed, History, NeverFailed}
+use Rattle.host_session.specs.Held.{Changes}
 use Rattle.request_cards.specs.Ledgers.{plain, replies}
 use Rattle.request_cards.specs.Reading.{request_of}
 use Rattle.request_cards.specs.Requests.{Ask}

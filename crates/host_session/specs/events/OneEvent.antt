@@ -1,7 +1,8 @@
 -- What one event of a run does. All of it is our own.
 use Rattle.std.specs.Prelude.{◌≡◌, ◌≢◌, ◌≤◌, ◌⊎◌, Bool, true, false, List, Some, None, IsSome}
 use Rattle.d64_image.specs.Images.{Image}
-use Rattle.d64_image.specs.History.{Failed, HeldOnly, History}
+use Rattle.d64_image.specs.History.{Failed, History}
+use Rattle.host_session.specs.Held.{HeldOnly}
 use Rattle.request_cards.specs.declared.reply.Reply.{Reply}
 use Rattle.request_cards.specs.Ledgers.{State}
 use Rattle.request_cards.specs.Reading.{request_of}

@@ -1,7 +1,8 @@
 -- Messages that ask nothing new of a shop, and what becomes of its disk. All of it is our own.
 use Rattle.std.specs.Prelude.{◌≡◌, ℕ, false, List, None, Option, Some}
 use Rattle.std.specs.List.{AllByRecursion}
-use Rattle.d64_image.specs.History.{Changes, HeldOnly, History}
+use Rattle.d64_image.specs.History.{History}
+use Rattle.host_session.specs.Held.{Changes, HeldOnly}
 use Rattle.request_cards.specs.Reading.{request_of}
 use Rattle.host_session.specs.events.Events.{Message}
 use Rattle.host_session.specs.session.Handling.{is_next_request}

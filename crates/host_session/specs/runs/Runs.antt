@@ -1,7 +1,8 @@
 -- What a run of events promises. All of it is our own.
 use Rattle.std.specs.Prelude.{◌≡◌, ◌≢◌, ℕ, ◌<◌, ◌≤◌, ◌+◌, Bool, List, [], ◌++◌, ◌∷◌, if◌then◌else◌}
 use Rattle.d64_image.specs.Images.{Image}
-use Rattle.d64_image.specs.History.{Changes, Failed, HeldOnly, History}
+use Rattle.d64_image.specs.History.{Failed, History}
+use Rattle.host_session.specs.Held.{Changes, HeldOnly}
 use Rattle.request_cards.specs.declared.reply.Reply.{Reply}
 use Rattle.request_cards.specs.Ledgers.{State, plain}
 use Rattle.request_cards.specs.Requests.{Ask}

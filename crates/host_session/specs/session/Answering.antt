@@ -1,6 +1,7 @@
 -- What the answer to a request leaves of a session. All of it is our own.
 use Rattle.std.specs.Prelude.{◌≡◌, ◌≢◌, ◌≤◌, ◌<◌, ◌+◌, ◌⊎◌, false, true, Some}
-use Rattle.d64_image.specs.History.{Changes, Failed, History}
+use Rattle.d64_image.specs.History.{Failed, History}
+use Rattle.host_session.specs.Held.{Changes}
 use Rattle.request_cards.specs.declared.reply.Word.{Word}
 use Rattle.request_cards.specs.declared.reply.Word.TheVariants.{Media}
 use Rattle.request_cards.specs.Ledgers.{after, word_in}

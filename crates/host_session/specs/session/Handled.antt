@@ -1,6 +1,7 @@
 -- What comes of a message to a session. All of it is our own.
 use Rattle.std.specs.Prelude.{◌≡◌, ◌<◌, ◌≤◌, ◌+◌, ◌⊎◌, ℕ, List, None, false, option_to_list, true}
-use Rattle.d64_image.specs.History.{Changes, Failed, History}
+use Rattle.d64_image.specs.History.{Failed, History}
+use Rattle.host_session.specs.Held.{Changes}
 use Rattle.request_cards.specs.Ledgers.{reply_in}
 use Rattle.request_cards.specs.Reading.{request_of}
 use Rattle.request_cards.specs.Sums.{SumsAgree}

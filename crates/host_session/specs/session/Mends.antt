@@ -1,6 +1,7 @@
 -- What a call gives that mends a shop's disk and hands out a drive over it. All of it is our own.
 use Rattle.std.specs.Prelude.{ℕ, ◌≡◌, IfErr, IfOk, Result}
-use Rattle.d64_image.specs.History.{Changes, History}
+use Rattle.d64_image.specs.History.{History}
+use Rattle.host_session.specs.Held.{Changes}
 use Rattle.d64_image.specs.Images.{Image}
 use Rattle.drive_channels.specs.State.{Seen}
 use Rattle.host_session.specs.declared.faults.OpenFault.{OpenFault}

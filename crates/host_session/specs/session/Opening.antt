@@ -2,7 +2,8 @@
 use Rattle.std.specs.Prelude.{◌≡◌, ◌≢◌, ◌≤◌, ◌<◌, ◌⊎◌, ℕ, List, Option, Some, None, Contains, length, codes, Result, Ok}
 use Rattle.std.specs.Prelude.{Bool, Err, false, true}
 use Rattle.d64_image.specs.Images.{Image}
-use Rattle.d64_image.specs.History.{History, Failed, Changes, TellsOf}
+use Rattle.d64_image.specs.History.{History, Failed, TellsOf}
+use Rattle.host_session.specs.Held.{Changes}
 use Rattle.disk_layout.specs.Fault.{Holds, nowhere}
 use Rattle.disk_layout.specs.Layout.{File, IsLayout, Layout, record_length}
 use Rattle.disk_layout.specs.Rest.{IsFirst}

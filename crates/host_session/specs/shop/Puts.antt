@@ -1,6 +1,7 @@
 -- What a call gives that writes records through the shop's drive. All of it is our own.
 use Rattle.std.specs.Prelude.{ℕ, ◌≡◌, IsErr, OnOk, Result, true}
-use Rattle.d64_image.specs.History.{Changes, History, TellsFailure}
+use Rattle.d64_image.specs.History.{History, TellsFailure}
+use Rattle.host_session.specs.Held.{Changes}
 use Rattle.d64_image.specs.Images.{Image}
 use Rattle.drive_channels.specs.State.{Seen}
 use Rattle.drive_channels.specs.declared.faults.Dead.{Dead}

@@ -1,6 +1,6 @@
 //! One event of a run: a message, or one in which power goes and the openings after it.
 ghost use Rattle.std.specs.Prelude.{◌≡◌, ◌≤◌, ◌+◌, ◌↔◌, IfErr, IfOk, IsTrue, false};
-ghost use Rattle.d64_image.specs.History.{HeldOnly};
+ghost use Rattle.host_session.specs.Held.{HeldOnly};
 ghost use Rattle.host_session.specs.events.Events.{cut_at, uncut};
 ghost use Rattle.host_session.specs.events.OneEvent.{EndsFailed, GoesOn, IsEvent, Leaves};
 ghost use Rattle.host_session.specs.events.Within.{IsWithin, SparesTheDisk};

@@ -1,6 +1,7 @@
 //! A disk opened: judged, mended, and brought to rest.
 ghost use Rattle.std.specs.Prelude.{◌≡◌, ◌↔◌, IfErr, IfOk, IsOk, false};
-ghost use Rattle.d64_image.specs.History.{Changes, Failed, NeverFailed};
+ghost use Rattle.d64_image.specs.History.{Failed, NeverFailed};
+ghost use Rattle.host_session.specs.Held.{Changes};
 ghost use Rattle.host_session.specs.session.Opening.{IsAShop, Refuses, TellsOpening, Untouched, disk_of};
 ghost use Rattle.host_session.specs.shop.Shop.{IsSettled, IsShop, Shop};
 

@@ -142,4 +142,4 @@ pub growing_same : (img : Image) (l : Layout) (n : ℕ) (f : File) (v : RelFile)
     → IsGrowingBy img l n f m img
 growing_same img l n f v m of =
     let P : List (List ℕ) → Type 0 = HasRecords img img l n in
-    (0, omega arith, subst P (sym (append-nil (records img f))) (has_same img l n f v of))
+    (0, omega arith, subst P (sym (append-nil (records img f))) (has_same img l n f v of), λ never w. w)

@@ -116,11 +116,21 @@ abbrev pub AreSidedFrom : ℕ → Image → List Place → List Place → ℕ �
 AreSidedFrom k c blocks sides L = (j : ℕ) (q : Place) → k ≤ j → slice_get sides j ≡ Some q
     → sector c q ≡ side_sector j blocks sides L
 
--- before the link is written: the image, the image with the new map, or that with the fresh block too and some side
--- sectors
+-- the side sector of this number is written with its exact bytes, or nothing is
+abbrev pub IsSideOr : Image → ℕ → List Place → List Place → ℕ → Image → Type 0
+IsSideOr old number blocks sides L c = (c ≡ old)
+    ⊎ ((q : Place) → slice_get sides number ≡ Some q → c ≡ put old q (side_sector number blocks sides L))
+
+-- every sector is so, and the last side sector is written first: nothing is written, or that one has its exact bytes
+pub record IsSidedInOrder (old : Image) (blocks sides : List Place) (L : ℕ) (c : Image) : Type 0 where
+  pub each : IsSided old blocks sides L c
+  pub first : (c ≡ old) ⊎ AreSidedFrom (length sides - 1) c blocks sides L
+
+-- before the link is written: the image, the image with the new map, or that with the fresh block too and side
+-- sectors, the last one first
 abbrev pub IsBefore : Image → Parts → Place → Sector → Image → Type 0
 IsBefore old p fresh block c =
-    (c ≡ old) ⊎ ((c ≡ put old map_place p.map.bytes) ⊎ IsSided (put (put old map_place p.map.bytes) fresh block)
+    (c ≡ old) ⊎ ((c ≡ put old map_place p.map.bytes) ⊎ IsSidedInOrder (put (put old map_place p.map.bytes) fresh block)
     p.blocks.items p.sides.items p.size c)
 
 -- the map with one more sector taken, which was free and is not on track 18

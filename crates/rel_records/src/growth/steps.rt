@@ -16,7 +16,9 @@ ghost use Rattle.rel_records.specs.growth.Steps.{
   IsAt,
   IsBefore,
   IsFilledUp,
+  IsSideOr,
   IsSided,
+  IsSidedInOrder,
   StandsAt,
   step_writes,
   taken_next,
@@ -37,7 +39,7 @@ fn write_side<D: Sectors>(
 ) -> Result<(), DeviceFault>
     requires { number < length sides.now }
     ensures { WritesAtMost D.history disk.old disk.new 1 0
-        (IsSided (D.history.image disk.old) blocks.now sides.now size)
+        (IsSideOr (D.history.image disk.old) number blocks.now sides.now size)
         (λ c. (q : Place) → slice_get sides.now number ≡ Some q
         → c ≡ put (D.history.image disk.old) q (side_sector number blocks.now sides.now size))
         result }
@@ -79,7 +81,7 @@ fn write_sides<D: Sectors>(
     requires few { length sides.now ≤ 6 }
     requires once { EachOnce sides.now }
     ensures { WritesAtMost D.history disk.old disk.new (if new then (length sides.now) else 1) 0
-        (IsSided (D.history.image disk.old) blocks.now sides.now size)
+        (IsSidedInOrder (D.history.image disk.old) blocks.now sides.now size)
         (λ c. AreSidedFrom (if new then 0 else (length sides.now - 1)) c blocks.now sides.now size) result }
 {
     let last = sides.len() as u8 - 1;

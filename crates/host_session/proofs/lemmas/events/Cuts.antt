@@ -4,10 +4,12 @@ use Rattle.std.proofs.Common.{Option, Some, None, refl, sym, subst, arith}
 use Rattle.std.specs.Prelude.{option_to_list}
 use Rattle.d64_image.specs.declared.fuse.Fuse.{Fuse}
 use Rattle.d64_image.specs.Images.{Image}
-use Rattle.d64_image.specs.History.{History, HeldOnly, Changes, Failed}
+use Rattle.d64_image.specs.History.{History, Failed}
+use Rattle.host_session.specs.Held.{HeldOnly, Changes}
 use Rattle.d64_image.specs.Fuses.{fuse, fuse_disk, fuse_left, fuse_limit, fuse_passed, fuse_failures}
-use Rattle.d64_image.proofs.Moments.{start, then, weaker, at_end, failed_before}
-use Rattle.d64_image.proofs.Fused.{held_beneath, cause_beneath}
+use Rattle.d64_image.proofs.Moments.{failed_before}
+use Rattle.host_session.proofs.lemmas.Held.{start, then, weaker, at_end}
+use Rattle.host_session.proofs.lemmas.Held.{held_beneath, cause_beneath}
 use Rattle.request_cards.specs.Requests.{Ask}
 use Rattle.request_cards.specs.Ledgers.{State}
 use Rattle.request_cards.specs.Reading.{request_of}

@@ -1,10 +1,11 @@
 -- Messages that ask nothing new leave the disk alone.
 use Rattle.std.proofs.Common.{◌≡◌, ◌≤◌, arith, sym, subst, ◌∙◌}
-use Rattle.d64_image.proofs.Moments.{at_end, then, weaker}
+use Rattle.host_session.proofs.lemmas.Held.{at_end, then, weaker}
 use Rattle.d64_image.specs.Fuses.{fuse, fuse_disk}
-use Rattle.d64_image.specs.History.{HeldOnly, History}
+use Rattle.d64_image.specs.History.{History}
+use Rattle.host_session.specs.Held.{HeldOnly}
 use Rattle.d64_image.specs.declared.fuse.Fuse.{Fuse}
-use Rattle.d64_image.proofs.Fused.{changes_beneath}
+use Rattle.host_session.proofs.lemmas.Held.{changes_beneath}
 use Rattle.host_session.specs.session.Opening.{Untouched}
 use Rattle.host_session.specs.shop.Shop.{IsSettled, Shop}
 

@@ -2,8 +2,9 @@
 use Rattle.std.proofs.Common.{◌≡◌, ◌≢◌, ⊎_elim, inl, inr, ℕ, true, false, [], Option, Some, None, IsSome, refl, sym}
 use Rattle.std.proofs.Common.{subst, ◌∙◌, ap, arith}
 use Rattle.std.specs.Prelude.{option_to_list, is_some, if◌then◌else◌}
-use Rattle.d64_image.specs.History.{History, HeldOnly, Failed}
-use Rattle.d64_image.proofs.Moments.{weaker, at_end}
+use Rattle.d64_image.specs.History.{History, Failed}
+use Rattle.host_session.specs.Held.{HeldOnly}
+use Rattle.host_session.proofs.lemmas.Held.{weaker, at_end}
 use Rattle.request_cards.specs.declared.reply.Reply.{Reply}
 use Rattle.request_cards.specs.declared.reply.Reply.TheVariants.{Cut}
 use Rattle.request_cards.specs.Requests.{Ask}

@@ -5,9 +5,11 @@ use Rattle.std.specs.Prelude.{OnOk, if◌then◌else◌, nat_le}
 use Rattle.std.proofs.lemmas.Bool.Decides.{nat_tests}
 use Rattle.std.proofs.lemmas.List.{append-nil, length-append, length-replicate}
 use Rattle.std.proofs.lemmas.Option.{same_Some}
-use Rattle.d64_image.specs.History.{Changes, History, OnlyReads}
+use Rattle.d64_image.specs.History.{History, OnlyReads}
+use Rattle.host_session.specs.Held.{Changes}
 use Rattle.d64_image.specs.Images.{Image}
-use Rattle.d64_image.proofs.Moments.{changes_then, changes_weaker, reads_change}
+use Rattle.d64_image.specs.History as devices
+use Rattle.host_session.proofs.lemmas.Held.{changes_enrich, changes_then, changes_weaker, reads_change}
 use Rattle.disk_layout.specs.Clean.{IsClean}
 use Rattle.disk_layout.specs.Layout.{File, Layout, record_length}
 use Rattle.disk_layout.specs.Records.{empty_record, records}
@@ -136,7 +138,7 @@ grown-part (Err e) P Q h = tt
 pub grown-moments : {D : Type 0} (S : History D) (d0 d1 d2 : Seen D) (k : ℕ) (f : Files)
     (h : HasFiles (S.image d0.disk) f) (r : ℕ) → OnlyReads S d0.disk d1.disk k → IsAt d1 h.stock_place r
     → ((c : Channel) (l : Layout) (s : File) → IsOn d1.channel 2 c → IsRelAt (S.image d1.disk) l c.entry s
-    → Changes S d1.disk d2.disk (writes_for s c []) (IsOnTheWay (S.image d1.disk) [] c l s))
+    → devices.Changes S d1.disk d2.disk (writes_for s c []) (IsOnTheWay (S.image d1.disk) [] c l s))
     → Changes S d0.disk d2.disk (growth_writes h.stock_file r) (HasGrown f)
 grown-moments S d0 d1 d2 k f h r reads at change =
     let old = S.image d0.disk in
@@ -151,7 +153,8 @@ grown-moments S d0 d1 d2 k f h r reads at change =
     h.stock_file) (HasGrown f)
     (none-behind (growth_writes h.stock_file r))
     (λ i g. on-the-way old i f h r (subst (λ (j : Image). IsGrowingTo j h.layout h.stock_place h.stock_file r i)
-    reads.image g)) w)
+    reads.image g)) (changes_enrich S d1.disk d2.disk _ _ w
+    (λ whole i g. g.3 (λ never. absurd (omega (arith, never.1, h.stock_length))) whole)))
   where
     none-before : (t : ℕ) → 0 + t ≤ t
     none-before t = omega arith

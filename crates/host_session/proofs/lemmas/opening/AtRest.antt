@@ -5,8 +5,9 @@ use Rattle.std.specs.Prelude.{IfNone, option_map, ◌||◌}
 use Rattle.std.specs.Option.{option_and_then}
 use Rattle.std.proofs.lemmas.Bool.{cases_eq, cases_lt, eq-eqb, false≢true, ne_eqb}
 use Rattle.std.proofs.lemmas.List.{get_or_past, length-map, length-take}
-use Rattle.d64_image.proofs.Moments.{changes_then}
-use Rattle.d64_image.specs.History.{Changes, History}
+use Rattle.host_session.proofs.lemmas.Held.{changes_then}
+use Rattle.d64_image.specs.History.{History}
+use Rattle.host_session.specs.Held.{Changes}
 use Rattle.d64_image.specs.Images.{Image}
 use Rattle.disk_layout.specs.Clean.{IsClean}
 use Rattle.drive_channels.specs.State.{Seen}

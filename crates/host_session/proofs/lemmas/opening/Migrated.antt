@@ -3,8 +3,9 @@ use Rattle.std.proofs.Common.{ℕ, zero, suc, ◌≡◌, ◌<◌, ◌≤◌, ◌
 use Rattle.std.proofs.Common.{false, ap, arith, get_or, length, refl, set, subst, sym, ◌∙◌}
 use Rattle.std.specs.Prelude.{cond, is_some}
 use Rattle.std.proofs.lemmas.Bool.{cases_eq, or_from, or_parts}
-use Rattle.d64_image.proofs.Moments.{changes_weaker}
-use Rattle.d64_image.specs.History.{Changes, History}
+use Rattle.host_session.proofs.lemmas.Held.{changes_weaker}
+use Rattle.d64_image.specs.History.{History}
+use Rattle.host_session.specs.Held.{Changes}
 use Rattle.d64_image.specs.Images.{Image}
 use Rattle.request_cards.proofs.CardReading.{card_is}
 use Rattle.request_cards.specs.CardReading.{request_card_of}

@@ -1,8 +1,10 @@
 -- What opening tells of a disk, from what its steps tell.
 use Rattle.std.proofs.Common.{ℕ, ◌≡◌, ◌≢◌, ◌≤◌, ◌⊎◌, inl, inr, Err, IfErr, IsOk, Ok, OnOk, Result, ap, arith}
 use Rattle.std.proofs.Common.{refl, subst, sym, ◌∙◌}
-use Rattle.d64_image.proofs.Moments.{changes_weaker, failed_later, never_failed}
-use Rattle.d64_image.specs.History.{Changes, Failed, History, NeverFailed}
+use Rattle.d64_image.proofs.Moments.{failed_later, never_failed}
+use Rattle.host_session.proofs.lemmas.Held.{changes_weaker}
+use Rattle.d64_image.specs.History.{Failed, History, NeverFailed}
+use Rattle.host_session.specs.Held.{Changes}
 use Rattle.d64_image.specs.Images.{Image}
 use Rattle.host_session.specs.session.Opening.{IsAShop, Refuses, TellsJudging, TellsOpening, disk_of, number_of}
 use Rattle.host_session.specs.declared.faults.OpenFault.{OpenFault}

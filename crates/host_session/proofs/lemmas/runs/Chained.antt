@@ -1,8 +1,9 @@
 -- What a chain of events says of its run.
 use Rattle.std.proofs.Common.{◌≡◌, ◌≢◌, ◌≤◌, List, [], ◌∷◌, ◌++◌, refl, sym, subst, ◌∙◌, ap, arith, append_assoc}
 use Rattle.std.proofs.Common.{append-nil, le_of_eq, le_refl, le_trans, length}
-use Rattle.d64_image.specs.History.{Changes, Failed, History}
-use Rattle.d64_image.proofs.Moments.{start}
+use Rattle.d64_image.specs.History.{Failed, History}
+use Rattle.host_session.specs.Held.{Changes}
+use Rattle.host_session.proofs.lemmas.Held.{start}
 use Rattle.request_cards.specs.declared.reply.Reply.{Reply}
 use Rattle.host_session.proofs.lemmas.runs.Runs.{HasPlayed, and_no_more, none_played, now_more, now_none, now_of}
 use Rattle.host_session.proofs.lemmas.runs.Runs.{one_played, stopped}

@@ -3,7 +3,7 @@ use Rattle.std.proofs.Common.{◌≡◌, ◌+◌, ℕ, Bool, true, false, List, 
 use Rattle.std.proofs.Common.{ap, arith, append_assoc, append-nil}
 use Rattle.std.specs.Prelude.{if◌then◌else◌, is_some}
 use Rattle.std.proofs.lemmas.Grind.{flat_map-append}
-use Rattle.d64_image.proofs.Moments.{start}
+use Rattle.host_session.proofs.lemmas.Held.{start}
 use Rattle.request_cards.specs.declared.reply.Reply.{Reply}
 use Rattle.request_cards.specs.declared.reply.Reply.TheVariants.{Cut}
 use Rattle.request_cards.specs.Requests.{Ask}

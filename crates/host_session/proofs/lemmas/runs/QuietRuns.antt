@@ -3,8 +3,9 @@ use Rattle.std.proofs.Common.{◌≡◌, List, [], ◌∷◌, ◌++◌, Option, 
 use Rattle.std.proofs.Common.{arith, refl, sym, subst, ap, ◌∙◌}
 use Rattle.std.specs.List.{AllByRecursion}
 use Rattle.std.specs.Prelude.{if◌then◌else◌}
-use Rattle.d64_image.proofs.Moments.{no_change, start, then, weaker}
-use Rattle.d64_image.specs.History.{Changes, HeldOnly, History}
+use Rattle.host_session.proofs.lemmas.Held.{no_change, start, then, weaker}
+use Rattle.d64_image.specs.History.{History}
+use Rattle.host_session.specs.Held.{Changes, HeldOnly}
 use Rattle.request_cards.specs.Ledgers.{after_message, applied}
 use Rattle.request_cards.specs.Reading.{request_of}
 use Rattle.request_cards.specs.Requests.{Ask}

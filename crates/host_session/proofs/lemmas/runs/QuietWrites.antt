@@ -1,6 +1,7 @@
 -- A run of messages that ask nothing new writes no more than its opening, wherever power goes.
 use Rattle.std.proofs.Common.{◌≡◌, ◌≤◌, List, [], ◌∷◌, ◌++◌, ap, arith, subst, sym}
-use Rattle.d64_image.specs.History.{Changes, History}
+use Rattle.d64_image.specs.History.{History}
+use Rattle.host_session.specs.Held.{Changes}
 use Rattle.request_cards.specs.declared.reply.Reply.{Reply}
 use Rattle.host_session.proofs.lemmas.runs.QuietRuns.{both_parts, shop_stays}
 use Rattle.host_session.specs.events.Counted.{after_all}

@@ -1,7 +1,8 @@
 -- The opening of a run.
 use Rattle.std.proofs.Common.{◌≡◌, ◌≢◌, ◌≤◌, ◌⊎◌, ⊎_elim, refl, arith}
 use Rattle.d64_image.specs.Images.{Image}
-use Rattle.d64_image.specs.History.{Changes, History, Failed, NeverFailed}
+use Rattle.d64_image.specs.History.{History, Failed, NeverFailed}
+use Rattle.host_session.specs.Held.{Changes}
 use Rattle.d64_image.proofs.Moments.{never_failed}
 use Rattle.host_session.specs.declared.faults.OpenFault.{OpenFault}
 use Rattle.host_session.specs.declared.faults.OpenFault.TheVariants as faults

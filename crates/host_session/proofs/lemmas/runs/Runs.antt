@@ -3,8 +3,9 @@ use Rattle.std.proofs.Common.{◌≡◌, ◌≢◌, ◌≤◌, ⊎_elim, Bool, t
 use Rattle.std.proofs.Common.{arith, append_assoc, append-nil}
 use Rattle.std.specs.Prelude.{option_to_list}
 use Rattle.d64_image.specs.Images.{Image}
-use Rattle.d64_image.specs.History.{History, HeldOnly, Failed}
-use Rattle.d64_image.proofs.Moments.{then, weaker}
+use Rattle.d64_image.specs.History.{History, Failed}
+use Rattle.host_session.specs.Held.{HeldOnly}
+use Rattle.host_session.proofs.lemmas.Held.{then, weaker}
 use Rattle.request_cards.specs.declared.reply.Reply.{Reply}
 use Rattle.request_cards.specs.Ledgers.{plain}
 use Rattle.request_cards.specs.Reading.{request_of}

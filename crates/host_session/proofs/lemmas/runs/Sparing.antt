@@ -2,7 +2,8 @@
 use Rattle.std.proofs.Common.{◌≡◌, ◌≤◌, ◌+◌, ◌∙◌, List, [], ◌∷◌, ◌++◌, None}
 use Rattle.std.proofs.Common.{ap, arith, length, length-append, subst, sym}
 use Rattle.std.specs.Prelude.{◌*◌}
-use Rattle.d64_image.specs.History.{Changes, History}
+use Rattle.d64_image.specs.History.{History}
+use Rattle.host_session.specs.Held.{Changes}
 use Rattle.d64_image.specs.Images.{Image}
 use Rattle.request_cards.specs.declared.reply.Reply.{Reply}
 use Rattle.host_session.proofs.lemmas.runs.QuietRuns.{both_parts}

@@ -5,7 +5,7 @@ use Rattle.std.proofs.Common.{ap, subst}
 use Rattle.std.specs.Prelude.{OnOk, is_none, is_some, nat_le, not, ◌==◌}
 use Rattle.std.proofs.lemmas.Bool.{and_parts, eqb-true, false≢true}
 use Rattle.d64_image.specs.History.{History, IfCounted}
-use Rattle.d64_image.proofs.Moments.{at_end}
+use Rattle.host_session.proofs.lemmas.Held.{at_end}
 use Rattle.request_cards.specs.declared.decision.Outcome.{Outcome}
 use Rattle.request_cards.specs.declared.reply.Word.TheVariants as words
 use Rattle.request_cards.specs.CardTexts.{Card, IsEntry}

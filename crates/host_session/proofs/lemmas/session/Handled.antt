@@ -1,9 +1,10 @@
 -- What is known of a request that was answered, said of the message that it was read from.
 use Rattle.std.proofs.Common.{◌≡◌, ◌⊎◌, ℕ, ◌≤◌, ◌<◌, ◌+◌, inl, inr, Bool, false, true, Option, Some, None, sym, ◌∙◌, ap}
 use Rattle.std.proofs.Common.{subst, arith}
-use Rattle.d64_image.specs.History.{Changes, Failed, History}
+use Rattle.d64_image.specs.History.{Failed, History}
+use Rattle.host_session.specs.Held.{Changes}
 use Rattle.d64_image.specs.Images.{Image}
-use Rattle.d64_image.proofs.Moments.{changes_weaker, no_change}
+use Rattle.host_session.proofs.lemmas.Held.{changes_weaker, no_change}
 use Rattle.request_cards.specs.declared.reply.Reply.TheVariants.{Syntax, Told}
 use Rattle.request_cards.specs.declared.reply.Word.TheVariants.{Media}
 use Rattle.request_cards.specs.declared.reply.Word.{Word}

@@ -1,9 +1,11 @@
 -- The writes of a till's next request, as they stand in calls: the answer, and a first set.
 use Rattle.std.proofs.Common.{ℕ, ◌≡◌, ◌≤◌, ◌+◌, inl, inr, true, false, List, Ok, Err, Result, sym, subst, arith}
 use Rattle.std.specs.Prelude.{OnErr, OnOk}
-use Rattle.d64_image.specs.History.{Changes, History, IfCounted}
+use Rattle.d64_image.specs.History.{History, IfCounted}
+use Rattle.host_session.specs.Held.{Changes}
 use Rattle.d64_image.specs.Images.{Image}
-use Rattle.d64_image.proofs.Moments.{at_end, changes_then, changes_weaker, none_counted}
+use Rattle.d64_image.proofs.Moments.{none_counted}
+use Rattle.host_session.proofs.lemmas.Held.{at_end, changes_then, changes_weaker}
 use Rattle.request_cards.specs.CardTexts.{Card, card_text}
 use Rattle.request_cards.specs.Requests.{Ask}
 use Rattle.host_session.specs.shop.Completing.{HasIntent, IsCompleted}

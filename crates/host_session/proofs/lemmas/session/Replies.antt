@@ -4,9 +4,10 @@ use Rattle.std.proofs.Common.{sym, ◌∙◌, ap, subst, arith}
 use Rattle.std.specs.Prelude.{OnOk, None, Option, is_none, nat_le, nat_lt, ◌==◌, if◌then◌else◌}
 use Rattle.std.proofs.lemmas.Bool.{and_from, and_parts, cases_Bool, eq-eqb, eqb-false, eqb-true, false≢true, le-leb}
 use Rattle.std.proofs.lemmas.Bool.{le-ltb, leb-true, ltb-false, ne_eqb}
-use Rattle.d64_image.specs.History.{Changes, History, IfCounted, TellsFailure}
+use Rattle.d64_image.specs.History.{History, IfCounted, TellsFailure}
+use Rattle.host_session.specs.Held.{Changes}
 use Rattle.d64_image.specs.Images.{Image}
-use Rattle.d64_image.proofs.Moments.{changes_weaker}
+use Rattle.host_session.proofs.lemmas.Held.{changes_weaker}
 use Rattle.request_cards.specs.declared.answer.Answer.{Answer}
 use Rattle.request_cards.specs.declared.kind.Kind.{Kind}
 use Rattle.request_cards.specs.declared.kind.Kind.TheVariants.{Set}

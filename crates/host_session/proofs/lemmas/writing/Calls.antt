@@ -4,10 +4,11 @@ use Rattle.std.proofs.Common.{drop, take, replicate, set, get_or, refl, sym, ◌
 use Rattle.std.proofs.Common.{drop-set-lt}
 use Rattle.std.proofs.Math.Nat.{add-mul-mod_self_right}
 use Rattle.std.proofs.lemmas.List.{append-nil, length-set, take_all, take_at, drop_all}
-use Rattle.d64_image.specs.History.{Changes, History}
+use Rattle.d64_image.specs.History.{History}
+use Rattle.host_session.specs.Held.{Changes}
 use Rattle.d64_image.specs.Images.{Image}
-use Rattle.d64_image.proofs.Moments.{changes_weaker}
-use Rattle.disk_layout.specs.Layout.{File, file_owns, record_length}
+use Rattle.host_session.proofs.lemmas.Held.{changes_weaker}
+use Rattle.disk_layout.specs.Layout.{File, IsLayout, Layout, file_owns, record_length}
 use Rattle.disk_layout.specs.Records.{pieces, record_count, records}
 use Rattle.rel_records.specs.Others.{HasRecords}
 use Rattle.rel_records.specs.Written.{IsWriting, grown_by, half_written, room_in_first, with_half}
@@ -15,6 +16,9 @@ use Rattle.rel_records.specs.Written.{with_written, written}
 use Rattle.host_session.specs.shop.Files.{Files, HasFiles, with_record}
 use Rattle.host_session.specs.shop.Shop.{IsShop, Shop}
 use Rattle.layout_check.specs.Mended.{IsMended}
+use Rattle.disk_layout.specs.InOrder.{GoesOver}
+use Rattle.drive_channels.proofs.RepairWhole.{repair-held}
+use Rattle.layout_check.specs.RepairOrder.{IsRight, repair_order}
 use Rattle.layout_check.specs.Repaired.{MendsFrom}
 use Rattle.host_session.proofs.lemmas.writing.Layers.{on-requests}
 use Rattle.host_session.proofs.lemmas.writing.Mended.{repair-shop}
@@ -84,7 +88,7 @@ module _ (old new : Image) (f : Files) (h : HasFiles old f)
       = ap (λ k. grown_by (record_length h.requests_file.slot) k (records old h.requests_file)) none
       ∙ append-nil (records old h.requests_file) ∙ sym h.requests in
       inl (unchanged (subst (λ rs. HasRecords old new h.layout h.requests_place rs) e g.2))
-  writing-files (inr (inl x)) =
+  writing-files (inr (inl (x, kept))) =
       let was : List ℕ = get_or (records old h.requests_file ++ []) (suc n - 1) [] in
       let few : length was ≤ 127 = few_of in
       let one : suc n - 1 ≡ n = omega arith in
@@ -102,7 +106,7 @@ module _ (old new : Image) (f : Files) (h : HasFiles old f)
       few_of : length (get_or (records old h.requests_file ++ []) (suc n - 1) []) ≤ 127
       few_of = rw (append-nil (records old h.requests_file))
           (omega (arith, record-few old h.requests_file (suc n - 1), h.requests_length))
-  writing-files (inr (inr x)) =
+  writing-files (inr (inr (x, kept))) =
       let was : List ℕ = get_or (records old h.requests_file ++ []) (suc n - 1) [] in
       let one : suc n - 1 ≡ n = omega arith in
       let bytes : written (record_length h.requests_file.slot) 1 text was ≡ text =
@@ -115,7 +119,22 @@ module _ (old new : Image) (f : Files) (h : HasFiles old f)
 
 -- A repair keeps the shop at each moment.
 pub repair-moments : {D : Type 0} (S : History D) (a b : D) (s : Shop) → IsShop (S.image a) s → MendsFrom S a b 883
+    → ((l : Layout) → IsLayout (S.image a) l → GoesOver S a b (IsRight l) (repair_order l))
     → Changes S a b 883 (λ i. IsShop i s)
-repair-moments S a b s x m = changes_weaker S a b 883 883 (IsMended (S.image a) x.has.layout) (λ i. IsShop i s)
-    (omega arith)
-    (λ i y. repair-shop (S.image a) i s x y) (m x.has.layout x.has.is_layout)
+repair-moments S a b s x m order =
+    let l = x.has.layout in
+    let is = x.has.is_layout in
+    let h = m l is in
+    record {
+      held = record {
+        reached = h.held.reached;
+        later = h.held.later;
+        each = λ c held. repair-shop (S.image a) c s x (h.held.each c held);
+        before = λ t c le held. elim (h.held.before t c le held) [
+          | inl early ↦ inl early
+          | inr mended ↦ inr (repair-shop (S.image a) c s x mended)
+        ];
+        whole = λ w. repair-held S a b l [] is h.held (order l is).held w;
+      };
+      writes = h.writes;
+    }

@@ -3,9 +3,10 @@ use Rattle.std.proofs.Common.{ℕ, ◌≡◌, ◌≢◌, ◌≤◌, false, List,
 use Rattle.std.proofs.Common.{replicate, set, subst, true, arith}
 use Rattle.std.specs.Prelude.{Bool, Contains, IsTrue, OnOk, None, nat_le, not, ◌==◌, ◌&&◌}
 use Rattle.std.proofs.lemmas.Bool.{and_parts, eqb-false, false≢true, leb-true, not-true}
-use Rattle.d64_image.specs.History.{Changes, History}
+use Rattle.d64_image.specs.History.{History}
+use Rattle.host_session.specs.Held.{Changes}
 use Rattle.d64_image.specs.Images.{Image}
-use Rattle.d64_image.proofs.Moments.{changes_then, changes_weaker}
+use Rattle.host_session.proofs.lemmas.Held.{changes_then, changes_weaker}
 use Rattle.disk_layout.proofs.lemmas.lists.Once.{Contains-here, Contains-there}
 use Rattle.rel_records.specs.Written.{touched}
 use Rattle.request_cards.specs.declared.answer.Answer.{Answer}

@@ -3,9 +3,10 @@ use Rattle.std.proofs.Common.{ℕ, ◌≡◌, ◌≤◌, ◌+◌, inl, inr, List
 use Rattle.std.proofs.Common.{◌++◌, ap, subst, arith}
 use Rattle.std.specs.Prelude.{IfNone, IfSome, OnOk, Option, None, is_some}
 use Rattle.std.proofs.lemmas.Bool.{false≢true}
-use Rattle.d64_image.specs.History.{Changes, History}
+use Rattle.d64_image.specs.History.{History}
+use Rattle.host_session.specs.Held.{Changes}
 use Rattle.d64_image.specs.Images.{Image}
-use Rattle.d64_image.proofs.Moments.{changes_then, changes_weaker}
+use Rattle.host_session.proofs.lemmas.Held.{changes_then, changes_weaker}
 use Rattle.request_cards.proofs.CardReading.{card_is}
 use Rattle.request_cards.specs.CardReading.{request_card_of}
 use Rattle.request_cards.specs.declared.answer.Answer.{Answer}

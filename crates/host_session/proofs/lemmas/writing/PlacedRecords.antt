@@ -49,7 +49,7 @@ module _ (old new : Image) (f : Files) (h : HasFiles old f) (n : ℕ) (text : Li
       let y : HasRecords old new h.layout h.stock_place f.stock =
       subst (λ rs. HasRecords old new h.layout h.stock_place rs) e g.2 in
       inl (length y.file.blocks, on-stock old new f h f.stock y)
-  card-putting (inr (inl x)) =
+  card-putting (inr (inl (x, kept))) =
       let L = record_length h.stock_file.slot in
       let none : grown_by L 0 (records old h.stock_file) ≡ records old h.stock_file =
       append-nil (records old h.stock_file) in
@@ -63,7 +63,7 @@ module _ (old new : Image) (f : Files) (h : HasFiles old f) (n : ℕ) (text : Li
       ∙ ap (λ rs. half_written 18 (suc n) text (get_or rs (suc n - 1) [])) (sym h.stock) in
       inr (inl (subst (λ (bs : List ℕ). HasCard f (suc n) bs new) bytes
       (card-of (half_written L (suc n) (written L 1 text was) was) y)))
-  card-putting (inr (inr x)) =
+  card-putting (inr (inr (x, kept))) =
       let L = record_length h.stock_file.slot in
       let none : grown_by L 0 (records old h.stock_file) ≡ records old h.stock_file =
       append-nil (records old h.stock_file) in

@@ -1,9 +1,10 @@
 -- A record that is written, from the words of a record to those of the two files.
 use Rattle.std.proofs.Common.{◌≡◌, ℕ, zero, suc, ◌≤◌, List, length, Result, Ok, Err, sym, subst, arith}
 use Rattle.std.specs.Prelude.{OnOk, OnErr, codes}
-use Rattle.d64_image.specs.History.{Changes, History}
+use Rattle.d64_image.specs.History.{History}
+use Rattle.host_session.specs.Held.{Changes}
 use Rattle.d64_image.specs.Images.{Image}
-use Rattle.d64_image.proofs.Moments.{changes_weaker}
+use Rattle.host_session.proofs.lemmas.Held.{changes_weaker}
 use Rattle.disk_layout.specs.Layout.{File, Layout, record_length}
 use Rattle.disk_layout.specs.Records.{records}
 use Rattle.rel_records.specs.Others.{HasRecords}

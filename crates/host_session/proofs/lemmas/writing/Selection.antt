@@ -5,9 +5,12 @@ use Rattle.std.specs.Prelude.{OnOk, OnErr, if◌then◌else◌}
 use Rattle.std.proofs.lemmas.Bool.{false≢true}
 use Rattle.std.proofs.lemmas.List.{append-nil}
 use Rattle.std.proofs.lemmas.Option.{same_Some}
-use Rattle.d64_image.specs.History.{Changes, History, OnlyReads, TellsFailure}
+use Rattle.d64_image.specs.History.{History, OnlyReads, TellsFailure}
+use Rattle.host_session.specs.Held.{Changes}
 use Rattle.d64_image.specs.Images.{Image}
-use Rattle.d64_image.proofs.Moments.{changes_then, changes_weaker, no_reads, reads_change, reads_weaker}
+use Rattle.d64_image.proofs.Moments.{no_reads, reads_weaker}
+use Rattle.d64_image.specs.History as devices
+use Rattle.host_session.proofs.lemmas.Held.{changes_enrich, writing-whole, changes_then, changes_weaker, reads_change}
 use Rattle.d64_image.proofs.Told.{told_after}
 use Rattle.disk_layout.specs.Clean.{IsClean}
 use Rattle.disk_layout.specs.Layout.{File, IsLayout, Layout, file_owns, record_length}
@@ -167,6 +170,7 @@ writing-same img name r l n f text p = inl (
               (ap file_owns same),
         );
       }),
+  λ never w. w,
 )
 
 placed-on-the-way : (old : Image) (text : List ℕ) (l : Layout) (n r : ℕ) (f : File) → r ≤ records_had f
@@ -178,7 +182,7 @@ pub written-moments : {D : Type 0} (S : History D) (d0 d1 d2 : Seen D) (name tex
     (n : ℕ) (f : File)
     → OnlyReads S d0.disk d1.disk k → IsAt d1 n number → 1 ≤ length text → IsPlaced (S.image d0.disk) name number l n f
     → ((c : Channel) (l : Layout) (f : File) → IsOn d1.channel 2 c → IsRelAt (S.image d1.disk) l c.entry f
-    → Changes S d1.disk d2.disk (writes_for f c text) (IsOnTheWay (S.image d1.disk) text c l f))
+    → devices.Changes S d1.disk d2.disk (writes_for f c text) (IsOnTheWay (S.image d1.disk) text c l f))
     → Changes S d0.disk d2.disk (touched (record_length f.slot) number 1)
     (IsWriting (S.image d0.disk) l n f 0 number 1 text)
 written-moments {D} S d0 d1 d2 name text number k l n f reads at some p change =
@@ -195,7 +199,9 @@ written-moments {D} S d0 d1 d2 name text number k l n f reads at some p change =
     (changes_weaker S d1.disk d2.disk (writes_for f (channel_at n number) text) t
     (IsOnTheWay (S.image d1.disk) text (channel_at n number) l f) P count
     (λ i h. subst (λ (j : Image). IsWriting j l n f 0 number 1 text i) reads.image
-    (placed-on-the-way (S.image d1.disk) text l n number f le some i h)) w)
+    (placed-on-the-way (S.image d1.disk) text l n number f le some i h))
+    (changes_enrich S d1.disk d2.disk _ _ w (λ whole i h. writing-whole (S.image d1.disk) l n f 0 number 1 text i
+    (placed-on-the-way (S.image d1.disk) text l n number f le some i h) (λ never. refl) whole)))
 
 pub uncounted-after : {D T E : Type 0} (S : History D) (a b c : D) (r : Result T E) → S.writes b ≡ S.writes a
     → OnErr r (S.writes c ≡ S.writes b) → OnErr r (S.writes c ≡ S.writes a)

@@ -50,7 +50,7 @@ returns-in_err-add_block-clause-file g c l n f at up =
     let lt : k + 1 ≤ c.args.wanted = omega (arith, c.loop-count-test.true) in
     let p = pos (S.image d) l n f c.args.parts.now at in
     let longer = block-then S d c.loop-count.disk c.add_block.new.disk l n f k c.args.wanted c.loop-count.parts
-    (low-full f k p up first) first lt p at.there run (c.loop-count.invariant.changes l n f at up)
+    (low-full f k p up first) first lt p at.there at.clean.layout run (c.loop-count.invariant.changes l n f at up)
     ((c.in_err-add_block.ensures.file run.layout n run.file run.at run.filled).moments) in
     record {
       ok = not-done c.from_residual.result _ c.from_residual.ensures.1 _;
@@ -87,7 +87,7 @@ loop-count-preserved g c =
           (arith, ap length at.blocks, c.len-count.ensures.value, c.loop-count.auto._count) in
           let p = pos a l n f c.args.parts.now at in
           block-then S d c.loop-count.disk c.add_block.new.disk l n f k c.args.wanted c.loop-count.parts
-          (low-full f k p up first) first lt p at.there run (c.loop-count.invariant.changes l n f at up)
+          (low-full f k p up first) first lt p at.there at.clean.layout run (c.loop-count.invariant.changes l n f at up)
           ((c.in_ok-add_block.ensures.file run.layout n run.file run.at run.filled).moments);
       room = room-step k c.args.wanted _ _ (omega (arith, lt)) c.loop-count.invariant.room
           (ap (λ j. blocks_free c.add_block.new.parts.map.bytes + taken_next j) (sym run0.count) ∙ more0.free);

@@ -14,6 +14,7 @@ use Rattle.rel_records.specs.growth.Growth.{full, records_had}
 use Rattle.rel_records.specs.growth.Steps.{FillsBefore, HasFilled, IsAt, IsTailOf}
 use Rattle.rel_records.proofs.lemmas.filling.ReadyToEnd.{IsReadyToEnd, from, ready-at-once, ready-has}
 use Rattle.rel_records.proofs.lemmas.filling.ReadyToEnd.{ready-with-tail, total}
+use Rattle.rel_records.proofs.lemmas.whole.Filled.{ready-whole}
 
 -- the image before the last block is written is ready for that
 module _ (a : Image) (l : Layout) (n : ℕ) (f : File) (p : Parts) (w : IsImage a) (at : IsAt a l n f p) where
@@ -47,8 +48,12 @@ module _ (a : Image) (l : Layout) (n : ℕ) (f : File) (p : Parts) (w : IsImage 
   -- and an image of growth, as the old one is
   pub ready-grows : (m : ℕ) (c : Image) → IsReadyToEnd a c l n f p → IsGrowingBy a l n f m c
   ready-grows m c r =
-      let P : List (List ℕ) → Type 0 = HasRecords a c l n in
-      (0, omega arith, subst P (sym (append-nil (records a f))) (ready-has a c l n f p at.there r))
+      let P : List (List ℕ) → Type 0 = HasRecords a c l n in (
+        0,
+        omega arith,
+        subst P (sym (append-nil (records a f))) (ready-has a c l n f p at.there r),
+        λ never. ready-whole a c l n f p at r,
+      )
 
   pub old-grows : (m : ℕ) → IsGrowingBy a l n f m a
   old-grows m =
@@ -73,6 +78,7 @@ module _ (a : Image) (l : Layout) (n : ℕ) (f : File) (p : Parts) (w : IsImage 
               × ((file_owns f ≡ file_owns z) ⊎ (length (records a z) < length (records a f))) in
               subst Q same (omega arith, inl refl));
         }),
+        λ never w. w,
       )
 
   -- nothing was to be filled

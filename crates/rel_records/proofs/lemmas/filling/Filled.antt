@@ -27,6 +27,7 @@ use Rattle.rel_records.specs.declared.growth.step_parts.Parts.{Parts}
 use Rattle.rel_records.specs.growth.Growth.{full, records_had}
 use Rattle.rel_records.specs.growth.Steps.{HasFilled, IsAt, IsEnd}
 use Rattle.rel_records.proofs.lemmas.filling.ReadyToEnd.{IsReadyToEnd, ready-has}
+use Rattle.rel_records.proofs.lemmas.whole.Filled.{filled-whole, ready-whole}
 
 -- the last block is written: the file has all whole records that fit
 module _ (a x : Image) (l : Layout) (n : ℕ) (f : File) (p : Parts) (w : IsImage a) (wx : IsImage x)
@@ -126,8 +127,12 @@ module _ (a x : Image) (l : Layout) (n : ℕ) (f : File) (p : Parts) (w : IsImag
   pub filled-has : IsGrowingBy a l n f more b
   filled-has =
       let first : HasRecords a x l n (records a f) = ready-has a x l n f p at.there ready in
-      let P : List (List ℕ) → Type 0 = λ rs. HasRecords x b l n (grown_by (record_length f.slot) more rs) in
-      (more, omega arith, has_then' first (subst P ready.same ended-here))
+      let P : List (List ℕ) → Type 0 = λ rs. HasRecords x b l n (grown_by (record_length f.slot) more rs) in (
+        more,
+        omega arith,
+        has_then' first (subst P ready.same ended-here),
+        λ never wa. filled-whole x l n f p wx at bytes end.index ends (ready-whole a x l n f p at0 ready wa),
+      )
     where
       has_then' : HasRecords a x l n (records a f)
           → HasRecords x b l n (grown_by (record_length f.slot) more (records a f))

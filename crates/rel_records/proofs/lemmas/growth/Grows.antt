@@ -93,7 +93,7 @@ module _ {D : Type 0} (S : History D) (d b : D) (l : Layout) (n : ℕ) (f : File
               (omega (arith, ap (λ k. run_writes k w) run.count)) filled-so-far
               (changes_weaker S x y _ _ _ Grows (omega arith) (λ c h. run-held (S.image d) (S.image x) l n f
               (length f.blocks) w q (had-full (S.image d) l n f p at (S.whole d)) more (pos (S.image d) l n f p at)
-              at.there run c h) blocks)
+              at.there run at.clean.layout c h) blocks)
 
           pub has-run : (z : Parts) (v : RelFile) → IsRunTo (S.image x) (S.image y) run.layout n run.file w z
               → IsKeptOf v z → HasRun (S.image d) (S.image y) l n f w v

@@ -6,7 +6,7 @@ use Rattle.std.proofs.lemmas.Bool.{eqb-false, eqb-true}
 use Rattle.d64_image.proofs.Moments.{changes_then, changes_weaker}
 use Rattle.d64_image.specs.History.{Changes, History}
 use Rattle.d64_image.specs.Images.{Image, IsImage}
-use Rattle.disk_layout.specs.Layout.{File, Layout, record_length}
+use Rattle.disk_layout.specs.Layout.{File, IsLayout, Layout, record_length}
 use Rattle.disk_layout.specs.Records.{records}
 use Rattle.rel_records.proofs.lemmas.Kept.{has_then, keeps_then, places-then}
 use Rattle.rel_records.proofs.lemmas.filling.BeforeLast.{filled-already}
@@ -15,6 +15,7 @@ use Rattle.rel_records.specs.Written.{IsGrowingBy, grown_by}
 use Rattle.rel_records.specs.declared.growth.step_parts.Parts.{Parts}
 use Rattle.rel_records.specs.growth.Growth.{full, needed, records_had, run_writes, side_writes}
 use Rattle.rel_records.specs.growth.Steps.{IsAt, IsFilledUp, IsRunTo, step_writes, taken_next}
+use Rattle.rel_records.proofs.lemmas.whole.Filled.{never-back, run-whole}
 use Rattle.rel_records.proofs.lemmas.growth.RunCosts.{full-mono, grown-grown, run-step, side-mono}
 
 -- nothing is done yet
@@ -74,10 +75,10 @@ module _ (a x : Image) (l : Layout) (n : ℕ) (f : File) (k w : ℕ) (p : Parts)
   }
 
   -- an image held during the second
-  pub run-held : (y : Image)
+  pub run-held : IsLayout a l → (y : Image)
       → IsGrowingBy x run.layout n run.file (full (record_length run.file.slot) w - records_had run.file) y
       → IsGrowingBy a l n f (full L w - records_had f) y
-  run-held y (j, few, h) =
+  run-held is y (j, few, h, kept) =
       let first : HasRecords a x l n (grown_by L (full L k - records_had f) (records a f)) = record {
         layout = run.layout;
         is_layout = run.at.clean.layout;
@@ -91,6 +92,14 @@ module _ (a x : Image) (l : Layout) (n : ℕ) (f : File) (k w : ℕ) (p : Parts)
         full L k - records_had f + j,
         omega (arith, few, same-sum, sums),
         has_then a x y l n _ _ first (subst P (same-more j) h),
+        λ never wa. kept (λ h'. omega (
+          arith,
+          never (never-back a x l run.layout n run.others f run.file there run.at.there
+              h'),
+          same-sum,
+          low,
+          full-mono L k w pos more,
+        )) (run-whole a x l n f k p is run wa),
       )
     where
       at-place : (g : File) → slice_get l.files n ≡ Some g
@@ -103,7 +112,8 @@ module _ (a x : Image) (l : Layout) (n : ℕ) (f : File) (k w : ℕ) (p : Parts)
 -- fewer records are grown on the way to more
 pub growing-more : (a c : Image) (l : Layout) (n : ℕ) (f : File) (i j : ℕ) → i ≤ j → IsGrowingBy a l n f i c
     → IsGrowingBy a l n f j c
-growing-more a c l n f i j le (k, few, h) = (k, omega (arith, few, le), h)
+growing-more a c l n f i j le (k, few, h, kept) =
+    (k, omega (arith, few, le), h, λ never. kept (λ h'. omega (arith, never h', le)))
 
 -- a longer run costs no less
 pub run-mono : (n k w : ℕ) → n ≤ k → k ≤ w → run_writes n k ≤ run_writes n w
@@ -140,8 +150,8 @@ room-next c w had lt le = by (nat_eq (c % 120) 0) refl
 -- the moments of a run and one more block
 module _ {D : Type 0} (S : History D) (d x y : D) (l : Layout) (n : ℕ) (f : File) (k w : ℕ) (p : Parts)
     (low : records_had f ≤ full (record_length f.slot) k) (first : length f.blocks ≤ k) (more : k + 1 ≤ w)
-    (pos : 0 < record_length f.slot) (there : slice_get l.files n ≡ Some f) (run : IsRunTo (S.image d) (S.image x) l n f
-    k p) where
+    (pos : 0 < record_length f.slot) (there : slice_get l.files n ≡ Some f) (is : IsLayout (S.image d) l)
+    (run : IsRunTo (S.image d) (S.image x) l n f k p) where
   pub block-then : Changes S d x (run_writes (length f.blocks) k)
       (IsGrowingBy (S.image d) l n f (full (record_length f.slot) w - records_had f))
       → Changes S x y (step_writes (length run.file.blocks)) (IsGrowingBy (S.image x) run.layout n run.file
@@ -165,4 +175,4 @@ module _ {D : Type 0} (S : History D) (d x y : D) (l : Layout) (n : ℕ) (f : Fi
       changes_then S d x y (run_writes (length f.blocks) k) (step_writes (length run.file.blocks))
       (run_writes (length f.blocks) (k + 1)) _ (omega (arith, writes, steps)) so_far
       (changes_weaker S x y _ _ _ _ (omega arith) (λ c h. run-held (S.image d) (S.image x) l n f k w p low
-      (omega (arith, more)) pos there run c (growing-more (S.image x) c run.layout n run.file _ _ fewer h)) next)
+      (omega (arith, more)) pos there run is c (growing-more (S.image x) c run.layout n run.file _ _ fewer h)) next)

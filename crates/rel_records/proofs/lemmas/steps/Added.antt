@@ -31,16 +31,18 @@ use Rattle.std.specs.Prelude.{Some, get_or, if◌then◌else◌, nat_eq, slice_g
 use Rattle.std.proofs.lemmas.Bool.{eqb-true}
 use Rattle.d64_image.proofs.Moments.{at_end, changes_weaker, one_write_more}
 use Rattle.d64_image.specs.History.{Changes, HeldOnly, History, OldOr}
-use Rattle.d64_image.specs.Images.{Image, IsSector, Sector, put}
+use Rattle.d64_image.specs.Images.{Image, IsImage, IsSector, Sector, put}
 use Rattle.d64_image.specs.declared.place.Place.{Place}
 use Rattle.disk_layout.proofs.lemmas.growth.Commit.{grown}
 use Rattle.disk_layout.proofs.lemmas.growth.GrowthRecords.{get-seam}
 use Rattle.disk_layout.specs.Directory.{map_place}
 use Rattle.disk_layout.specs.Layout.{File, Layout, sides_for}
 use Rattle.disk_layout.proofs.lemmas.lists.Lists.{read-there}
-use Rattle.rel_records.proofs.lemmas.steps.Adding.{block-more, counted-adds, linked-adds}
-use Rattle.rel_records.proofs.lemmas.steps.LaidOut.{IsRewritten, IsStep, before-adds, next, prepared, some-sides}
-use Rattle.rel_records.proofs.lemmas.steps.LastBlocks.{records_more}
+use Rattle.rel_records.proofs.lemmas.steps.Adding.{block-more, counted-has', linked-has}
+use Rattle.rel_records.proofs.lemmas.steps.LaidOut.{IsRewritten, IsStep, before-has, next, prepared, some-sides}
+use Rattle.rel_records.proofs.lemmas.steps.LastBlocks.{records_more, some-more}
+use Rattle.rel_records.proofs.lemmas.whole.Linked.{counted-whole, linked-whole}
+use Rattle.rel_records.proofs.lemmas.whole.Prepared.{before-whole}
 use Rattle.rel_records.specs.Written.{IsGrowingBy}
 use Rattle.rel_records.specs.declared.growth.step_parts.Parts.{Parts}
 use Rattle.rel_records.specs.growth.Next.{IsLaidOut}
@@ -103,16 +105,44 @@ module _ {D : Type 0} (S : History D) (d : D) (l : Layout) (n : ℕ) (f : File) 
         from = inr (omega (arith, some-sides step), not_zero (length f.blocks % 120) (sym e));
       }
 
+  -- before the link
+  before-adds : (c : Image) → IsBefore a q fresh block c → Adds c
+  before-adds c is = (
+    0,
+    omega arith,
+    before-has step c is,
+    λ never. before-whole step c (λ h. omega (arith, never h, some-more step)) is,
+  )
+
   -- while it is prepared
   pub preparing-moments : (b : D) → Changes S d b before_link (IsBefore a q fresh block)
       → Changes S d b before_link Adds
   preparing-moments b first = changes_weaker S d b before_link before_link _ Adds (omega arith)
-      (λ c h. before-adds step _ c h) first
+      before-adds first
 
   pub prepared-moments : (b : D) → Changes S d b before_link (IsBefore a q fresh block)
       → Changes S d b (step_writes (length f.blocks)) Adds
   prepared-moments b first = changes_weaker S d b before_link (step_writes (length f.blocks)) Adds Adds
       (omega (arith, writes-fit)) (λ c h. h) (preparing-moments b first)
+
+  -- with the link, and with the count
+  module _ (c : Image) (w : IsImage c)
+      (ready : IsPrepared a c l f (grown f fresh (slice_index block 1) q.sides.items) fresh q.map.bytes block) where
+    linked-adds : Adds (put c at.last_place q.last)
+    linked-adds = (
+      records_more f,
+      omega arith,
+      linked-has step up c w v ready,
+      λ never. linked-whole step up c w v ready,
+    )
+
+    counted-adds : Adds (put (put c at.last_place q.last) f.slot.sector q.directory)
+    counted-adds = (
+      records_more f,
+      omega arith,
+      counted-has' step up c w v ready,
+      λ never. counted-whole step up c w v ready,
+    )
 
   module _ (b c : D) (old : Place) (last : old ≡ at.last_place)
       (first : Changes S d b before_link (IsBefore a q fresh block))
@@ -128,7 +158,7 @@ module _ {D : Type 0} (S : History D) (d : D) (l : Layout) (n : ℕ) (f : File) 
       linked : Adds (put (S.image b) old q.last)
       linked =
           let P : Place → Type 0 = λ x. Adds (put (S.image b) x q.last) in
-          subst P (sym last) (linked-adds step up (S.image b) (S.whole b) v ready)
+          subst P (sym last) (linked-adds (S.image b) (S.whole b) ready)
 
       so-far : Changes S d c (before_link + 1) Adds
       so-far =
@@ -149,7 +179,7 @@ module _ {D : Type 0} (S : History D) (d : D) (l : Layout) (n : ℕ) (f : File) 
               ∙ ap (λ x. put (put (S.image b) at.last_place q.last) x q.directory) entry
 
           counted-now : Adds (put (S.image c) place q.directory)
-          counted-now = subst Adds (sym end-is) (counted-adds step up (S.image b) (S.whole b) v ready)
+          counted-now = subst Adds (sym end-is) (counted-adds (S.image b) (S.whole b) ready)
 
           pub counting-moments : HeldOnly S c e (OldOr (S.image c) (put (S.image c) place q.directory))
               → S.writes e ≤ S.writes c + 1 → Changes S d e (step_writes (length f.blocks)) Adds

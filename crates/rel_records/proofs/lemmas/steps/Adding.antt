@@ -22,7 +22,7 @@ use Rattle.rel_records.specs.growth.Growth.{full, records_had}
 use Rattle.rel_records.specs.Others.{HasRecords, KeepsOthers, KeepsPlaces}
 use Rattle.rel_records.specs.growth.Preparing.{IsPrepared}
 use Rattle.rel_records.specs.growth.Steps.{HasBlockMore, IsFilledUp, taken_next}
-use Rattle.rel_records.specs.Written.{IsGrowingBy, grown_by}
+use Rattle.rel_records.specs.Written.{grown_by}
 use Rattle.rel_records.specs.declared.growth.step_parts.Parts.{Parts}
 use Rattle.rel_records.proofs.lemmas.steps.Committing.{IsReadyToLink, committed-has, entry-unowned, g-owned, last-in}
 use Rattle.rel_records.proofs.lemmas.steps.Committing.{records-longer}
@@ -33,7 +33,7 @@ use Rattle.rel_records.proofs.lemmas.steps.LaidOut.{some, split}
 use Rattle.rel_records.proofs.lemmas.steps.LastBlocks.{counts, filled, linked, made, records_more, some-more, total-is}
 
 -- entries that are the same but for the count are relative together
-is_rel-same : (s t : Slot) → uncounted s ≡ uncounted t → is_rel s ≡ is_rel t
+pub is_rel-same : (s t : Slot) → uncounted s ≡ uncounted t → is_rel s ≡ is_rel t
 is_rel-same s t e = ap (λ k. nat_eq k 132 || nat_eq k 196) (uncounted-face s t e).kind
 
 -- c is the image to which the link is written
@@ -63,7 +63,7 @@ module _ {a : Image} {l : Layout} {n : ℕ} {f : File} {p q : Parts} {fresh : Pl
   abbrev N : ℕ
   N = length f.blocks
 
-  to_link : IsReadyToLink a c l before after f fresh u ss q.map.bytes block q.last at.front at.last_place
+  pub to_link : IsReadyToLink a c l before after f fresh u ss q.map.bytes block q.last at.front at.last_place
   to_link = record {
     full = x.size;
     clean = at.clean;
@@ -85,19 +85,16 @@ module _ {a : Image} {l : Layout} {n : ℕ} {f : File} {p q : Parts} {fresh : Pl
   b = put c at.last_place q.last
 
   -- the link makes the file longer
-  pub linked-adds : IsGrowingBy a l n f (records_more f) b
-  linked-adds =
-      let P : ℕ → Type 0 = λ k. HasRecords a b l k (grown_by L (records_more f) (records a f)) in (
-        records_more f,
-        omega arith,
-        subst P (place step) (committed-has to_link (full L N) (records_more f) x v (some-more step)
-            (filled step up) (counts step ∙ total-is step)),
-      )
+  pub linked-has : HasRecords a b l n (grown_by L (records_more f) (records a f))
+  linked-has =
+      let P : ℕ → Type 0 = λ k. HasRecords a b l k (grown_by L (records_more f) (records a f)) in
+      subst P (place step) (committed-has to_link (full L N) (records_more f) x v (some-more step) (filled step up)
+      (counts step ∙ total-is step))
 
   abbrev d : Place
   d = f.slot.sector
 
-  to_count : IsReadyToCount a c l before after f fresh u ss q.map.bytes block q.last q.directory at.front at.last_place
+  pub to_count : IsReadyToCount a c l before after f fresh u ss q.map.bytes block q.last q.directory at.front at.last_place
   to_count = record {
     to_link = to_link;
     recount = recount;
@@ -121,14 +118,11 @@ module _ {a : Image} {l : Layout} {n : ℕ} {f : File} {p q : Parts} {fresh : Pl
   e = put b d q.directory
 
   -- the count makes the image clean
-  pub counted-adds : IsGrowingBy a l n f (records_more f) e
-  counted-adds =
-      let P : ℕ → Type 0 = λ k. HasRecords a e l k (grown_by L (records_more f) (records a f)) in (
-        records_more f,
-        omega arith,
-        subst P (place step) (counted-has to_count (full L N) (records_more f) x v (some-more step) (filled step up)
-            (counts step ∙ total-is step)),
-      )
+  pub counted-has' : HasRecords a e l n (grown_by L (records_more f) (records a f))
+  counted-has' =
+      let P : ℕ → Type 0 = λ k. HasRecords a e l k (grown_by L (records_more f) (records a f)) in
+      subst P (place step) (counted-has to_count (full L N) (records_more f) x v (some-more step) (filled step up)
+      (counts step ∙ total-is step))
 
   abbrev t : Slot
   t = slot_in d q.directory f.slot.number
@@ -151,22 +145,22 @@ module _ {a : Image} {l : Layout} {n : ℕ} {f : File} {p q : Parts} {fresh : Pl
   fresh-in : Contains (f.blocks ++ fresh ∷ []) fresh
   fresh-in = Contains-append_right f.blocks (fresh ∷ []) fresh (Contains-here fresh [])
 
-  last-fresh : at.last_place ≢ fresh
+  pub last-fresh : at.last_place ≢ fresh
   last-fresh s = EachOnce-apart f.blocks (fresh ∷ []) (EachOnce-left (f.blocks ++ fresh ∷ []) ss (each step))
       at.last_place (last-in to_link)
       (let P : Place → Type 0 = Contains (fresh ∷ []) in subst P (sym s) (Contains-here fresh []))
 
-  block-there : sector e fresh ≡ block
+  pub block-there : sector e fresh ≡ block
   block-there =
       sector-put_other b d fresh q.directory (entry-apart fresh (Contains-append_left g.blocks ss fresh fresh-in))
       ∙ sector-put_other c at.last_place fresh q.last last-fresh
       ∙ ready.block
 
-  there : slice_get m.files n ≡ Some h
+  pub there : slice_get m.files n ≡ Some h
   there = let P : ℕ → Type 0 = λ k. slice_get (before ++ h ∷ after) k ≡ Some h in
       subst P (place step) (get-seam before after h)
 
-  kept : KeepsOthers a e l m n
+  pub kept : KeepsOthers a e l m n
   kept =
       let P : ℕ → Type 0 = λ k. KeepsOthers a e l m k in
       subst P (place step) (others-kept a e l before after f h (split step) (sym same) (before-same to_count)

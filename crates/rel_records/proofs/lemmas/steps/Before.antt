@@ -1,25 +1,5 @@
 -- What is written before the link leaves an image that growth may leave.
-use Rattle.std.proofs.Common.{
-  ◌≡◌,
-  ◌≢◌,
-  ℕ,
-  ◌<◌,
-  ◌≤◌,
-  ◌⊎◌,
-  inl,
-  inr,
-  List,
-  ◌∷◌,
-  ◌++◌,
-  length,
-  sym,
-  ◌∙◌,
-  ap,
-  arith,
-  subst,
-  append-nil,
-  IsTrue,
-}
+use Rattle.std.proofs.Common.{◌≡◌, ◌≢◌, ℕ, ◌<◌, ◌≤◌, ◌⊎◌, inl, inr, List, ◌∷◌, ◌++◌, length, sym, ◌∙◌, ap, subst, append-nil, IsTrue}
 use Rattle.std.specs.Prelude.{Contains, Some, slice_get, take, drop}
 use Rattle.d64_image.proofs.Images.{length-put, sector-put_other, sector-put_same}
 use Rattle.d64_image.proofs.Places.{same_or_other}
@@ -37,7 +17,7 @@ use Rattle.rel_records.proofs.lemmas.steps.Sided.{get-once}
 use Rattle.disk_layout.specs.Chain.{EachOnce}
 use Rattle.std.proofs.lemmas.Bool.{cases_lt}
 use Rattle.rel_records.specs.Others.{HasRecords}
-use Rattle.rel_records.specs.Written.{IsGrowingBy}
+use Rattle.rel_records.specs.Written.{grown_by}
 use Rattle.rel_records.specs.declared.growth.step_parts.Parts.{Parts}
 use Rattle.rel_records.specs.growth.Preparing.{IsPrepared, IsPreparing}
 use Rattle.rel_records.specs.growth.Steps.{AreSidedFrom, IsBefore, IsSided}
@@ -88,16 +68,9 @@ module _ (a : Image) (l : Layout) (f g : File) (p : Parts) (fresh : Place) (bloc
   there-for : (j : ℕ) (q : Place) → slice_get p.sides.items j ≡ Some q → slice_get g.sides j ≡ Some q
   there-for j q at = ap (λ xs. slice_get xs j) (sym sides) ∙ at
 
-  pub before-preparing : (c : Image) → IsBefore a p fresh block c → IsPreparing a c l f g
-  before-preparing c (inl e) = record { each = λ q. inl (ap (λ i. sector i q) e); header = ap header_of e }
-  before-preparing c (inr (inl e)) = record {
-    each = λ q. elim (same_or_other map_place q) [
-      | inl one ↦ inr (inl (let P : Place → Type 0 = λ x. ¬ (Contains (owners l) x) in subst P one h.once.0))
-      | inr ne ↦ inl (ap (λ i. sector i q) e ∙ sector-put_other a map_place q p.map.bytes ne)
-    ];
-    header = new-header c (ap (λ i. sector i map_place) e ∙ sector-put_same a map_place p.map.bytes full);
-  }
-  before-preparing c (inr (inr is)) = record {
+  -- with side sectors
+  sided-preparing : (c : Image) → IsSided laid p.blocks.items p.sides.items p.size c → IsPreparing a c l f g
+  sided-preparing c is = record {
     each = λ q. elim (is q) [
       | inl e ↦ elim (laid-each q) [ inl s ↦ inl (e ∙ s) | inr out ↦ inr (inl out) ]
       | inr d ↦ elim (sided d.0 q (there-for d.0 q d.1)) [
@@ -114,17 +87,25 @@ module _ (a : Image) (l : Layout) (f g : File) (p : Parts) (fresh : Place) (bloc
     ]);
   }
 
-  -- so each image held before the link is one of growth
-  pub before-grows : (before after : List File) (m : ℕ) → l.files ≡ before ++ f ∷ after → IsTrue (is_rel f.slot)
+  pub before-preparing : (c : Image) → IsBefore a p fresh block c → IsPreparing a c l f g
+  before-preparing c (inl e) = record { each = λ q. inl (ap (λ i. sector i q) e); header = ap header_of e }
+  before-preparing c (inr (inl e)) = record {
+    each = λ q. elim (same_or_other map_place q) [
+      | inl one ↦ inr (inl (let P : Place → Type 0 = λ x. ¬ (Contains (owners l) x) in subst P one h.once.0))
+      | inr ne ↦ inl (ap (λ i. sector i q) e ∙ sector-put_other a map_place q p.map.bytes ne)
+    ];
+    header = new-header c (ap (λ i. sector i map_place) e ∙ sector-put_same a map_place p.map.bytes full);
+  }
+  before-preparing c (inr (inr is)) = sided-preparing c is.each
+
+  -- so each image held before the link has the records of before
+  pub before-grows : (before after : List File) → l.files ≡ before ++ f ∷ after → IsTrue (is_rel f.slot)
       → IsLonger f g → length g.sides ≤ 6 → (c : Image) → IsBefore a p fresh block c
-      → IsGrowingBy a l (length before) f m c
-  before-grows before after m split rel long few c is =
-      let P : List (List ℕ) → Type 0 = HasRecords a c l (length before) in (
-        0,
-        omega arith,
-        subst P (sym (append-nil (records a f))) (preparing-has a c l before after f g h split rel long
-            few (before-preparing c is)),
-      )
+      → HasRecords a c l (length before) (grown_by (record_length f.slot) 0 (records a f))
+  before-grows before after split rel long few c is =
+      let P : List (List ℕ) → Type 0 = HasRecords a c l (length before) in
+      subst P (sym (append-nil (records a f))) (preparing-has a c l before after f g h split rel long few
+      (before-preparing c is))
 
   map-there : (c : Image) → IsSided laid p.blocks.items p.sides.items p.size c → sector c map_place ≡ p.map.bytes
   map-there c is = elim (is map_place) [
@@ -143,7 +124,7 @@ module _ (a : Image) (l : Layout) (f g : File) (p : Parts) (fresh : Place) (bloc
       × (sector a q ≡ side_sector j g.blocks g.sides (record_length g.slot)))
       → IsPrepared a c l f g fresh p.map.bytes block
   prepared-of c k is from once no_side right = record {
-    preparing = before-preparing c (inr (inr is));
+    preparing = sided-preparing c is;
     map = map-there c is;
     block = elim (is fresh) [
       | inl e ↦ e ∙ sector-put_same mapped fresh block (length-put a map_place p.map.bytes ∙ full)

@@ -136,7 +136,7 @@ module _ {a c : Image} {l : Layout} {before after : List File} {f : File} {fresh
       ∙ sym (directory-stays a c l before after f g clean.layout split rel long few preparing d entry-in)
 
   -- the bytes outside the map stay with the commit
-  commit-header : header_of b ≡ header_of a
+  pub commit-header : header_of b ≡ header_of a
   commit-header = ap (λ s. take 4 s ++ drop 144 s) (sector-put_other c last map_place last_bytes not-map)
       ∙ preparing.header
     where
@@ -151,11 +151,11 @@ module _ {a c : Image} {l : Layout} {before after : List File} {f : File} {fresh
   commit-around fs same apart q own = same q own
       ∙ sym (sector-put_other c last q last_bytes (other-last q (apart q own)))
 
-  commit-before : AgreeAt a b (flat_map file_owns before)
+  pub commit-before : AgreeAt a b (flat_map file_owns before)
   commit-before = commit-around before (before-stays a c l before after f g clean.layout split rel long few preparing)
       (λ q own mine. (alone l before after g once q mine).before own)
 
-  commit-after : AgreeAt a b (flat_map file_owns after)
+  pub commit-after : AgreeAt a b (flat_map file_owns after)
   commit-after = commit-around after (after-stays a c l before after f g clean.layout split rel long few preparing)
       (λ q own mine. (alone l before after g once q mine).after own)
 

@@ -19,6 +19,7 @@ use Rattle.disk_layout.specs.Clean.{IsExactFile}
 use Rattle.disk_layout.specs.Directory.{map_place}
 use Rattle.disk_layout.specs.Layout.{File, IsRelFile, Layout, file_owns, is_rel, owners, record_length}
 use Rattle.disk_layout.specs.Map.{IsMapOf}
+use Rattle.disk_layout.specs.Records.{records}
 use Rattle.disk_layout.specs.Side.{side_sector}
 use Rattle.rel_records.proofs.lemmas.steps.Before.{before-grows, prepared-of}
 use Rattle.rel_records.proofs.lemmas.steps.FullSides.{side_sector-full}
@@ -27,7 +28,8 @@ use Rattle.rel_records.proofs.lemmas.steps.Preparing.{file-in}
 use Rattle.rel_records.specs.growth.Next.{IsLaidOut}
 use Rattle.rel_records.specs.growth.Preparing.{IsPrepared}
 use Rattle.rel_records.specs.growth.Steps.{AreSidedFrom, IsAt, IsBefore, IsSided}
-use Rattle.rel_records.specs.Written.{IsGrowingBy}
+use Rattle.rel_records.specs.Others.{HasRecords}
+use Rattle.rel_records.specs.Written.{grown_by}
 use Rattle.rel_records.specs.declared.growth.step_parts.Parts.{Parts}
 
 -- a step is laid out in memory: the file f, at place n of the clean image a, is to get one block more, `block` at
@@ -89,7 +91,7 @@ module _ {a : Image} {l : Layout} {n : ℕ} {f : File} {p q : Parts} {fresh : Pl
   old-map : IsMapOf p.map.bytes (map_place ∷ owners l)
   old-map = let P : Sector → Type 0 = λ b. IsMapOf b (map_place ∷ owners l) in subst P (sym at.map) at.clean.map
 
-  free : ¬ (Contains (map_place ∷ owners l) fresh)
+  pub free : ¬ (Contains (map_place ∷ owners l) fresh)
   free = laid.places.unowned (map_place ∷ owners l) old-map
 
   pub next : IsNextOf l before after f fresh u q.map.bytes ss
@@ -120,10 +122,10 @@ module _ {a : Image} {l : Layout} {n : ℕ} {f : File} {p q : Parts} {fresh : Pl
   pub sides-once : EachOnce ss
   sides-once = EachOnce-right g.blocks ss each
 
-  header : (take 4 q.map.bytes ≡ take 4 (sector a map_place)) × (drop 144 q.map.bytes ≡ drop 144 (sector a map_place))
+  pub header : (take 4 q.map.bytes ≡ take 4 (sector a map_place)) × (drop 144 q.map.bytes ≡ drop 144 (sector a map_place))
   header = (laid.places.header.0 ∙ ap (take 4) at.map, laid.places.header.1 ∙ ap (drop 144) at.map)
 
-  apart : (j : ℕ) → ¬ (slice_get f.sides j ≡ Some map_place)
+  pub apart : (j : ℕ) → ¬ (slice_get f.sides j ≡ Some map_place)
   apart j e = at.clean.layout.once.0 (owned-side l f map_place (file-in l before after f split)
       (get-contains f.sides j map_place e))
 
@@ -134,11 +136,12 @@ module _ {a : Image} {l : Layout} {n : ℕ} {f : File} {p q : Parts} {fresh : Pl
   size-is = laid.places.size ∙ at.size
 
   -- each image held before the link
-  pub before-adds : (m : ℕ) (c : Image) → IsBefore a q fresh block c → IsGrowingBy a l n f m c
-  before-adds m c is =
-      let P : ℕ → Type 0 = λ k. IsGrowingBy a l k f m c in
+  pub before-has : (c : Image) → IsBefore a q fresh block c
+      → HasRecords a c l n (grown_by (record_length f.slot) 0 (records a f))
+  before-has c is =
+      let P : ℕ → Type 0 = λ k. HasRecords a c l k (grown_by (record_length f.slot) 0 (records a f)) in
       subst P place (before-grows a l f g q fresh block whole.size at.clean.layout header free blocks-are refl size-is
-      next.sided apart before after m split at.rel next.long few-sides c is)
+      next.sided apart before after split at.rel next.long few-sides c is)
 
   same-sides : length f.blocks % 120 ≢ 0 → ss ≡ f.sides
   same-sides within = elim laid.places.taken [

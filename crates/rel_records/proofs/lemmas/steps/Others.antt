@@ -38,14 +38,14 @@ use Rattle.disk_layout.specs.Records.{records}
 use Rattle.disk_layout.specs.Rest.{header_of}
 use Rattle.rel_records.specs.Others.{HasRecords, KeepsOthers, KeepsPlaces}
 
-get-other : (before after : List File) (f h : File) (k : ℕ) (y : File) → k ≢ length before
+pub get-other : (before after : List File) (f h : File) (k : ℕ) (y : File) → k ≢ length before
     → slice_get (before ++ f ∷ after) k ≡ Some y → slice_get (before ++ h ∷ after) k ≡ Some y
 get-other [] after f h zero y ne e = absurd (ne refl)
 get-other [] after f h (suc k) y ne e = e
 get-other (x ∷ before) after f h zero y ne e = e
 get-other (x ∷ before) after f h (suc k) y ne e = get-other before after f h k y (λ s. ne (ap suc s)) e
 
-get-either : (before after : List File) (f : File) (k : ℕ) (y : File) → k ≢ length before
+pub get-either : (before after : List File) (f : File) (k : ℕ) (y : File) → k ≢ length before
     → slice_get (before ++ f ∷ after) k ≡ Some y → Contains before y ⊎ Contains after y
 get-either [] after f zero y ne e = absurd (ne refl)
 get-either [] after f (suc k) y ne e = inr (get-contains after k y e)

@@ -8,6 +8,7 @@ use Rattle.std.proofs.Common.{
   ◌+◌,
   ◌<◌,
   ◌≤◌,
+  ◌-◌,
   inl,
   inr,
   List,
@@ -28,7 +29,7 @@ use Rattle.std.proofs.Common.{
 use Rattle.std.specs.Prelude.{Contains, OnErr, Some, slice_get}
 use Rattle.std.proofs.lemmas.Bool.{cases_lt}
 use Rattle.d64_image.proofs.Images.{sector-put_other, sector-put_same}
-use Rattle.d64_image.proofs.Moments.{changes_then, changes_weaker, write_change}
+use Rattle.d64_image.proofs.Moments.{at_end, changes_then, changes_weaker, write_change}
 use Rattle.d64_image.proofs.Places.{same_or_other}
 use Rattle.d64_image.specs.History.{Changes, HeldOnly, History, OldOr}
 use Rattle.d64_image.specs.Images.{Image, Sector, put, sector}
@@ -39,7 +40,7 @@ use Rattle.disk_layout.specs.Chain.{EachOnce}
 use Rattle.disk_layout.specs.Side.{side_sector}
 use Rattle.disk_layout.specs.Directory.{map_place}
 use Rattle.rel_records.specs.declared.growth.step_parts.Parts.{Parts}
-use Rattle.rel_records.specs.growth.Steps.{AreSidedFrom, IsBefore, IsSided}
+use Rattle.rel_records.specs.growth.Steps.{AreSidedFrom, IsBefore, IsSideOr, IsSided, IsSidedInOrder}
 
 -- one write is counted at most, whatever is answered
 pub counted_once : {D T E : Type 0} (S : History D) (a b : D) (r : Result T E) → OnOk r (S.writes b ≤ S.writes a + 1)
@@ -150,6 +151,67 @@ sided-last old now blocks sides L k last full wrote j q le at =
     ap (λ i. sector i q) (wrote q here) ∙ sector-put_same old q (side_sector k blocks sides L) full
     ∙ ap (λ i. side_sector i blocks sides L) (sym one)
 
+pub in-order-none : (old : Image) (blocks sides : List Place) (L : ℕ) → IsSidedInOrder old blocks sides L old
+in-order-none old blocks sides L = record { each = sided-none old blocks sides L; first = inl refl }
+
+-- one side sector
+pub side-sided : (old c : Image) (number : ℕ) (blocks sides : List Place) (L : ℕ) → length old ≡ 683
+    → number < length sides → IsSideOr old number blocks sides L c → IsSided old blocks sides L c
+side-sided old c number blocks sides L full lt (inl e) q = inl (ap (λ i. sector i q) e)
+side-sided old c number blocks sides L full lt (inr wrote) q =
+    let (p, at) = get-there sides number lt in
+    let P : Image → Type 0 = IsSided old blocks sides L in
+    subst P (sym (wrote p at)) (sided-put old old blocks sides L number p full at (sided-none old blocks sides L)) q
+
+-- the last one
+pub last-in-order : (old c : Image) (number : ℕ) (blocks sides : List Place) (L : ℕ) → length old ≡ 683
+    → number + 1 ≡ length sides → IsSideOr old number blocks sides L c → IsSidedInOrder old blocks sides L c
+last-in-order old c number blocks sides L full last is = record {
+  each = side-sided old c number blocks sides L full (omega (arith, last)) is;
+  first = elim is [
+    | inl e ↦ inl e
+    | inr wrote ↦
+        let n : number ≡ length sides - 1 = omega (arith, last) in
+        let P : ℕ → Type 0 = λ k. AreSidedFrom k c blocks sides L in
+        inr (subst P n (sided-last old c blocks sides L number last full wrote))
+  ];
+}
+
+-- those that have their exact bytes keep them
+pub sided-keeps : (b c : Image) (blocks sides : List Place) (L k : ℕ) → EachOnce sides
+    → AreSidedFrom k b blocks sides L → IsSided b blocks sides L c → AreSidedFrom k c blocks sides L
+sided-keeps b c blocks sides L k once from is j q le at = elim (is q) [
+  | inl e ↦ e ∙ from j q le at
+  | inr d ↦ d.2 ∙ ap (λ i. side_sector i blocks sides L) (get-once sides d.0 j q once d.1 at)
+]
+
+module _ {D : Type 0} (S : History D) (blocks sides : List Place) (L : ℕ) where
+  pub side_change : (a b : D) (number : ℕ) → number < length sides
+      → Changes S a b 1 (IsSideOr (S.image a) number blocks sides L)
+      → Changes S a b 1 (IsSided (S.image a) blocks sides L)
+  side_change a b number lt h = changes_weaker S a b 1 1 _ _ (omega arith)
+      (λ c is. side-sided (S.image a) c number blocks sides L (S.whole a).size lt is) h
+
+  pub last_change : (a b : D) (number : ℕ) → number + 1 ≡ length sides
+      → Changes S a b 1 (IsSideOr (S.image a) number blocks sides L)
+      → Changes S a b 1 (IsSidedInOrder (S.image a) blocks sides L)
+  last_change a b number last h = changes_weaker S a b 1 1 _ _ (omega arith)
+      (λ c is. last-in-order (S.image a) c number blocks sides L (S.whole a).size last is) h
+
+  -- the last one, and then others
+  pub order_then : (a b c : D) (k n : ℕ) → 1 + k ≤ n → EachOnce sides
+      → Changes S a b 1 (IsSidedInOrder (S.image a) blocks sides L)
+      → AreSidedFrom (length sides - 1) (S.image b) blocks sides L
+      → Changes S b c k (IsSided (S.image b) blocks sides L)
+      → Changes S a c n (IsSidedInOrder (S.image a) blocks sides L)
+  order_then a b c k n le once first from second =
+      let now : IsSidedInOrder (S.image a) blocks sides L (S.image b) = at_end S a b _ first.held in
+      changes_then S a b c 1 k n _ le first (changes_weaker S b c k k _ _ (omega arith)
+      (λ x h. record {
+        each = sided-then (S.image a) (S.image b) x blocks sides L now.each h;
+        first = inr (sided-keeps (S.image b) x blocks sides L (length sides - 1) once from h);
+      }) second)
+
 module _ {D : Type 0} (S : History D) (p : Parts) (fresh : Place) (block : Sector) where
   -- the map is written, and the fresh block
   pub before_two : (a b c : D) (m : Place) → m ≡ map_place → S.image b ≡ put (S.image a) m p.map.bytes
@@ -163,17 +225,17 @@ module _ {D : Type 0} (S : History D) (p : Parts) (fresh : Place) (block : Secto
       (write_change S a b (S.image a) (put (S.image a) m p.map.bytes) _ first one (inl refl)
       (inr (inl (ap (λ x. put (S.image a) x p.map.bytes) is))))
       (write_change S b c (S.image b) (put (S.image b) fresh block) _ second two (inr (inl mapped))
-      (inr (inr (let P : Image → Type 0 = λ i. IsSided (put i fresh block) p.blocks.items p.sides.items p.size
-      (put (S.image b) fresh block) in
-      subst P mapped (sided-none (put (S.image b) fresh block) p.blocks.items p.sides.items p.size)))))
+      (inr (inr (let P : Image → Type 0 = λ i. IsSidedInOrder (put i fresh block) p.blocks.items p.sides.items
+      p.size (put (S.image b) fresh block) in
+      subst P mapped (in-order-none (put (S.image b) fresh block) p.blocks.items p.sides.items p.size)))))
 
   -- and side sectors
   pub before_sides : (a b c d : D) (m : Place) (k n : ℕ) → 2 + k ≤ n → m ≡ map_place
       → S.image b ≡ put (S.image a) m p.map.bytes → S.image c ≡ put (S.image b) fresh block
       → Changes S a c 2 (IsBefore (S.image a) p fresh block)
-      → Changes S c d k (IsSided (S.image c) p.blocks.items p.sides.items p.size)
+      → Changes S c d k (IsSidedInOrder (S.image c) p.blocks.items p.sides.items p.size)
       → Changes S a d n (IsBefore (S.image a) p fresh block)
   before_sides a b c d m k n le is done then first sides =
       changes_then S a c d 2 k n _ le first (changes_weaker S c d k k _ _ (omega arith)
-      (λ x h. inr (inr (let P : Image → Type 0 = λ i. IsSided i p.blocks.items p.sides.items p.size x in
+      (λ x h. inr (inr (let P : Image → Type 0 = λ i. IsSidedInOrder i p.blocks.items p.sides.items p.size x in
       subst P (then ∙ ap (λ i. put i fresh block) (done ∙ ap (λ x. put (S.image a) x p.map.bytes) is)) h))) sides)

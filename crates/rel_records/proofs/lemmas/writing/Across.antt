@@ -40,6 +40,7 @@ use Rattle.rel_records.proofs.lemmas.writing.OneBlock.{half-moment, old-moment, 
 use Rattle.rel_records.proofs.lemmas.writing.TwoBlocks.{leaves-first, leaves-second}
 use Rattle.rel_records.specs.File.{IsFileOf, length_of, records_in}
 use Rattle.rel_records.specs.Others.{LeavesRecords}
+use Rattle.rel_records.specs.Whole.{IsWhole}
 use Rattle.rel_records.specs.Written.{IsWriting, patched, room_in_first, with_half, with_written, written}
 use Rattle.rel_records.specs.declared.rel_file.RelFile.{RelFile}
 
@@ -119,10 +120,10 @@ module _ {D : Type 0} (S : History D) (a b : D) (l : Layout) (n : ℕ) (f : File
     (of : IsFileOf (S.image a) l n f v) (held : HeldOnly S a b (OldOr (S.image a) half))
     (counted : S.writes b ≤ S.writes a + 1)
     (leaves : LeavesRecords (S.image a) half l n (with_half (record_length f.slot) r pos text (records (S.image a) f))
-    v) where
+    v) (kept : IsWhole (S.image a) → IsWhole half) where
   first-change : Changes S a b 1 (IsWriting (S.image a) l n f 0 r pos text)
   first-change = write_change S a b (S.image a) half (IsWriting (S.image a) l n f 0 r pos text) held counted
-      (old-moment (S.image a) half l n f v r pos text of) (half-moment (S.image a) half l n f v r pos text leaves)
+      (old-moment (S.image a) half l n f v r pos text of) (half-moment (S.image a) half l n f v r pos text leaves kept)
 
   pub first-moments : Changes S a b 2 (IsWriting (S.image a) l n f 0 r pos text)
   first-moments = changes_weaker S a b 1 2 _ _ (omega arith) (λ c h. h) first-change
@@ -130,9 +131,9 @@ module _ {D : Type 0} (S : History D) (a b : D) (l : Layout) (n : ℕ) (f : File
   pub both-moments : (c : D) (whole : Image) → S.image b ≡ half → HeldOnly S b c (OldOr (S.image b) whole)
       → S.writes c ≤ S.writes b + 1
       → LeavesRecords (S.image a) whole l n (with_written (record_length f.slot) r pos text (records (S.image a) f)) v
-      → Changes S a c 2 (IsWriting (S.image a) l n f 0 r pos text)
-  both-moments c whole is next more after =
+      → (IsWhole (S.image a) → IsWhole whole) → Changes S a c 2 (IsWriting (S.image a) l n f 0 r pos text)
+  both-moments c whole is next more after keeps =
       let P : Image → Type 0 = IsWriting (S.image a) l n f 0 r pos text in
       one_write_more S a b c 1 (S.image b) whole P first-change next more
-      (subst P (sym is) (half-moment (S.image a) half l n f v r pos text leaves))
-      (whole-moment (S.image a) whole l n f v r pos text after)
+      (subst P (sym is) (half-moment (S.image a) half l n f v r pos text leaves kept))
+      (whole-moment (S.image a) whole l n f v r pos text after keeps)

@@ -42,6 +42,7 @@ use Rattle.rel_records.proofs.lemmas.writing.Bytes.{length-patched, patched-high
 use Rattle.rel_records.proofs.lemmas.writing.Writings.{leaves-written}
 use Rattle.rel_records.specs.File.{IsFileOf, length_of, records_in}
 use Rattle.rel_records.specs.Others.{HasRecords, LeavesRecords}
+use Rattle.rel_records.specs.Whole.{IsWhole}
 use Rattle.rel_records.specs.Written.{IsWriting, patched, with_half, with_written}
 use Rattle.rel_records.specs.declared.rel_file.RelFile.{RelFile}
 
@@ -131,28 +132,29 @@ module _ (img after : Image) (l : Layout) (n : ℕ) (f : File) (v : RelFile) (r 
   old-moment of = inl (growing_same img l n f v 0 of)
 
   pub half-moment : LeavesRecords img after l n (with_half (record_length f.slot) r pos text (records img f)) v
-      → IsWriting img l n f 0 r pos text after
-  half-moment h =
+      → (IsWhole img → IsWhole after) → IsWriting img l n f 0 r pos text after
+  half-moment h kept =
       let P : List (List ℕ)
       → Type 0 = λ rs. HasRecords img after l n (with_half (record_length f.slot) r pos text rs) in
-      inr (inl (subst P (sym (append-nil (records img f))) (leaves_has img after l n _ v h)))
+      inr (inl (subst P (sym (append-nil (records img f))) (leaves_has img after l n _ v h), λ never. kept))
 
   pub whole-moment : LeavesRecords img after l n (with_written (record_length f.slot) r pos text (records img f)) v
-      → IsWriting img l n f 0 r pos text after
-  whole-moment h =
+      → (IsWhole img → IsWhole after) → IsWriting img l n f 0 r pos text after
+  whole-moment h kept =
       let P : List (List ℕ)
       → Type 0 = λ rs. HasRecords img after l n (with_written (record_length f.slot) r pos text rs) in
-      inr (inr (subst P (sym (append-nil (records img f))) (leaves_has img after l n _ v h)))
+      inr (inr (subst P (sym (append-nil (records img f))) (leaves_has img after l n _ v h), λ never. kept))
 
 -- what is held while one block is written
 pub one-moments : {D : Type 0} (S : History D) (a b : D) (l : Layout) (n : ℕ) (f : File) (v : RelFile) (r pos : ℕ)
     (text : List ℕ) (after : Image) → IsFileOf (S.image a) l n f v → HeldOnly S a b (OldOr (S.image a) after)
     → S.writes b ≤ S.writes a + 1
     → LeavesRecords (S.image a) after l n (with_written (record_length f.slot) r pos text (records (S.image a) f)) v
-    → Changes S a b 1 (IsWriting (S.image a) l n f 0 r pos text)
-one-moments S a b l n f v r pos text after of held counted leaves =
+    → (IsWhole (S.image a) → IsWhole after) → Changes S a b 1 (IsWriting (S.image a) l n f 0 r pos text)
+one-moments S a b l n f v r pos text after of held counted leaves kept =
     write_change S a b (S.image a) after (IsWriting (S.image a) l n f 0 r pos text) held counted
-    (old-moment (S.image a) after l n f v r pos text of) (whole-moment (S.image a) after l n f v r pos text leaves)
+    (old-moment (S.image a) after l n f v r pos text of) (whole-moment (S.image a) after l n f v r pos text leaves
+    kept)
 
 -- a block is read, and then written as it is to be
 pub patched-held : {D : Type 0} (S : History D) (a b c : D) (p : Place) (bytes new : Sector) → OnlyReads S a b 1

@@ -1,8 +1,9 @@
 -- The openings after a cut message keep the shop that it left.
 use Rattle.std.proofs.Common.{◌≡◌, ◌≤◌, ⊎_elim, List, None, refl, subst, sym, ℕ}
 use Rattle.std.proofs.lemmas.Option.{none-some}
-use Rattle.d64_image.specs.History.{Failed, HeldOnly}
-use Rattle.d64_image.proofs.Moments.{then, at_end}
+use Rattle.d64_image.specs.History.{Failed}
+use Rattle.host_session.specs.Held.{HeldOnly}
+use Rattle.host_session.proofs.lemmas.Held.{then, at_end}
 use Rattle.host_session.proofs.lemmas.events.Cuts.{event_failed, event_then}
 use Rattle.host_session.proofs.lemmas.events.Quiet.{spared_then}
 use Rattle.host_session.proofs.lemmas.runs.RunOpenings.{refused_none}

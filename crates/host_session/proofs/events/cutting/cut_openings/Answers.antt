@@ -1,6 +1,6 @@
 -- One opening more.
 use Rattle.std.proofs.Common.{◌≡◌, arith, le_refl, refl, subst, sym}
-use Rattle.d64_image.proofs.Moments.{at_end, no_change, start, then}
+use Rattle.host_session.proofs.lemmas.Held.{at_end, no_change, start, then}
 use Rattle.host_session.proofs.lemmas.events.Quiet.{untouched_on}
 use Rattle.host_session.specs.shop.Shop.{IsSettled, IsShop}
 use Rattle.host_session.proofs.events.cutting.cut_openings.Goals as goal

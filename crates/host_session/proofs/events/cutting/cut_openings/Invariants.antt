@@ -1,6 +1,6 @@
 -- The shop stays through the openings so far, and so does an image at rest.
 use Rattle.std.proofs.Common.{◌≤◌}
-use Rattle.d64_image.specs.History.{HeldOnly}
+use Rattle.host_session.specs.Held.{HeldOnly}
 use Rattle.host_session.specs.session.Opening.{Untouched}
 use Rattle.host_session.specs.shop.Shop.{IsSettled, IsShop, Shop}
 use Rattle.host_session.proofs.events.cutting.cut_openings.Given as goal

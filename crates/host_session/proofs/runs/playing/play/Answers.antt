@@ -2,7 +2,7 @@
 use Rattle.std.proofs.Common.{◌≡◌, ◌≤◌, ◌+◌, ◌-◌, ◌++◌, ◌∙◌, List, Ok, arith, le_refl, length, map, refl, subst, sym, ℕ}
 use Rattle.std.proofs.lemmas.List.{length-map}
 use Rattle.std.specs.Prelude.{vec_capacity, vec_len}
-use Rattle.d64_image.proofs.Moments.{start}
+use Rattle.host_session.proofs.lemmas.Held.{start}
 use Rattle.request_cards.specs.declared.reply.Reply.{Reply}
 use Rattle.host_session.proofs.lemmas.runs.EventEnds.{IsEventsEnd, faulted, spared, whole_run}
 use Rattle.host_session.proofs.lemmas.runs.QuietRuns.{quiet_same}

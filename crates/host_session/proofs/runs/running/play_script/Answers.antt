@@ -1,7 +1,7 @@
 -- The ends of a script's run.
 use Rattle.std.proofs.Common.{◌∙◌, ℕ, Some, Err, ap, inl, le_refl, refl, subst, sym}
 use Rattle.std.proofs.lemmas.Option.{same_Some}
-use Rattle.d64_image.proofs.Moments.{start}
+use Rattle.host_session.proofs.lemmas.Held.{start}
 use Rattle.script_lines.specs.Lines.{lines}
 use Rattle.host_session.proofs.lemmas.runs.QuietRuns.{quiet_same}
 use Rattle.host_session.proofs.lemmas.runs.QuietWrites.{spared_same}

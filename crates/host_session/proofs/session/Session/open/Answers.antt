@@ -2,7 +2,7 @@
 mod Refused
 mod Unsettled
 use Rattle.std.proofs.Common.{arith, refl, subst, sym, ◌≡◌, ◌∙◌}
-use Rattle.d64_image.proofs.Moments.{changes_then, changes_weaker, reads_change}
+use Rattle.host_session.proofs.lemmas.Held.{changes_then, changes_weaker, reads_change}
 use Rattle.host_session.specs.shop.Files.{HasFiles}
 use Rattle.host_session.specs.shop.Shop.{IsSettled, IsShop, shop_of}
 use Rattle.host_session.proofs.lemmas.opening.Opens.{judged-same, ok-of}

@@ -1,7 +1,7 @@
 -- The writes of each case are within those of the answer.
 use Rattle.std.proofs.Common.{arith, sym, ◌∙◌}
 use Rattle.std.proofs.lemmas.Bool.{false≢true}
-use Rattle.d64_image.proofs.Moments.{changes_weaker}
+use Rattle.host_session.proofs.lemmas.Held.{changes_weaker}
 use Rattle.host_session.proofs.lemmas.session.Keepings.{intent-writes, known-items, refused-writes}
 use Rattle.host_session.proofs.lemmas.session.KeptItems.{none-or}
 use Rattle.host_session.proofs.session.doing.keep.Goals as goal

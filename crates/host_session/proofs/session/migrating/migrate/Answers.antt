@@ -2,7 +2,8 @@
 use Rattle.std.proofs.Common.{Err, Result, ap, arith, le_refl, refl, subst, sym, ℕ, ◌+◌, ◌-◌, ◌<◌, ◌≡◌, ◌≤◌, ◌∙◌}
 use Rattle.std.proofs.lemmas.Bool.{false≢true}
 use Rattle.std.proofs.lemmas.Result.{err_from_is_err_and}
-use Rattle.d64_image.proofs.Moments.{changes_then, changes_weaker, failed_later, no_change}
+use Rattle.d64_image.proofs.Moments.{failed_later}
+use Rattle.host_session.proofs.lemmas.Held.{changes_then, changes_weaker, no_change}
 use Rattle.d64_image.specs.History.{TellsFailure}
 use Rattle.drive_channels.specs.declared.faults.Dead.{Dead}
 use Rattle.host_session.specs.session.Settling.{HasNewTable}

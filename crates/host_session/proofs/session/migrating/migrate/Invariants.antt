@@ -1,5 +1,5 @@
 use Rattle.std.proofs.Common.{◌≡◌, ◌≤◌, false}
-use Rattle.d64_image.specs.History.{Changes}
+use Rattle.host_session.specs.Held.{Changes}
 use Rattle.host_session.specs.shop.Selecting.{IsReady}
 use Rattle.host_session.specs.session.Settling.{HasClosedTable, HasNewTable}
 use Rattle.host_session.specs.shop.Shop.{IsShop, Shop, any_old}

@@ -1,6 +1,6 @@
 -- The intent first, and then the cards of version 1.
 use Rattle.std.proofs.Common.{ap, arith, false, ◌≡◌, ◌∙◌, refl}
-use Rattle.d64_image.proofs.Moments.{changes_then, changes_weaker}
+use Rattle.host_session.proofs.lemmas.Held.{changes_then, changes_weaker}
 use Rattle.host_session.specs.shop.Shop.{IsShop, any_old}
 use Rattle.host_session.proofs.lemmas.writing.Selection.{told-after}
 use Rattle.host_session.proofs.lemmas.opening.AtRest.{none-weaker}

@@ -2,7 +2,8 @@
 use Rattle.std.proofs.Common.{Err, ap, arith, inl, refl, subst, sym, ◌≡◌, ◌∙◌}
 use Rattle.std.proofs.lemmas.Result.{err_from_is_err_and}
 use Rattle.d64_image.proofs.Moments.{failed_later}
-use Rattle.d64_image.specs.History.{Changes, Failed}
+use Rattle.d64_image.specs.History.{Failed}
+use Rattle.host_session.specs.Held.{Changes}
 use Rattle.host_session.specs.session.Opening.{Untouched}
 use Rattle.host_session.specs.shop.Shop.{IsSettled, IsShop, shop_of}
 use Rattle.host_session.proofs.lemmas.opening.Opens.{error-changes, error-tells}

@@ -1,8 +1,8 @@
 -- A repair keeps both files, and the drive is over the disk as it is.
 use Rattle.std.proofs.Common.{ap, inl, refl, subst, sym, ◌∙◌, ◌≡◌}
 use Rattle.std.proofs.lemmas.Option.{none-some}
-use Rattle.d64_image.proofs.Moments.{no_write_change}
-use Rattle.d64_image.specs.History.{Changes}
+use Rattle.host_session.proofs.lemmas.Held.{no_write_change}
+use Rattle.host_session.specs.Held.{Changes}
 use Rattle.disk_layout.specs.Clean.{IsClean}
 use Rattle.host_session.specs.shop.Files.{HasFiles}
 use Rattle.host_session.specs.session.Opening.{Untouched}
@@ -29,7 +29,7 @@ returns-in-Ok g c =
       err = tt;
       moments = λ s h.
           subst (λ d. Changes S c.args.disk d 883 (λ i. IsShop i s)) same
-          (repair-moments S c.args.disk c.repair.new.disk s h c.repair.ensures.moments);
+          (repair-moments S c.args.disk c.repair.new.disk s h c.repair.ensures.moments c.repair.ensures.order);
       quiet = λ clean.
           subst (λ d. Untouched S c.args.disk d) same
           (no_write_change S c.args.disk c.repair.new.disk (λ i. i ≡ S.image c.args.disk)
@@ -44,7 +44,7 @@ returns-in-Err g c =
       ready = tt;
       ok = λ f h. tt;
       err = refl;
-      moments = λ s h. repair-moments S c.args.disk c.repair.new.disk s h c.repair.ensures.moments;
+      moments = λ s h. repair-moments S c.args.disk c.repair.new.disk s h c.repair.ensures.moments c.repair.ensures.order;
       quiet = λ clean.
           no_write_change S c.args.disk c.repair.new.disk (λ i. i ≡ S.image c.args.disk) (c.repair.ensures.quiet clean)
           refl;

@@ -1,7 +1,7 @@
 -- The cards, whole, and then the answer: each image is the same shop's.
 use Rattle.std.proofs.Common.{arith, refl}
 use Rattle.std.proofs.lemmas.Result.{err_from_is_err_and}
-use Rattle.d64_image.proofs.Moments.{changes_weaker}
+use Rattle.host_session.proofs.lemmas.Held.{changes_weaker}
 use Rattle.host_session.proofs.lemmas.writing.Selection.{told-after}
 use Rattle.host_session.proofs.lemmas.writing.IntentAnswers.{completing-moments, completing-ok, till-there}
 use Rattle.host_session.proofs.shop.completing.complete_with.Goals as goal

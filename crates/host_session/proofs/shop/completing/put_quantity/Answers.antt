@@ -1,7 +1,7 @@
 -- The text that is written is that of the card.
 use Rattle.std.proofs.Common.{None, Option, Some, ap, refl, subst, ◌∙◌, List, ℕ}
 use Rattle.std.specs.Prelude.{IfNone, IsSome, OnOk}
-use Rattle.d64_image.specs.History.{Changes}
+use Rattle.host_session.specs.Held.{Changes}
 use Rattle.rel_records.specs.Written.{touched}
 use Rattle.request_cards.specs.CardTexts.{stock_text}
 use Rattle.host_session.specs.shop.Putting.{HasCard, IsPuttingCard}

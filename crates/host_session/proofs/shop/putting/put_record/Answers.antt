@@ -1,5 +1,5 @@
 use Rattle.std.proofs.Common.{refl, arith}
-use Rattle.d64_image.proofs.Moments.{changes_weaker, reads_change}
+use Rattle.host_session.proofs.lemmas.Held.{changes_weaker, reads_change}
 use Rattle.rel_records.specs.Written.{IsWriting}
 use Rattle.host_session.proofs.lemmas.writing.Selection.{moved-to, ok-ready, ok-records, told-after}
 use Rattle.host_session.proofs.lemmas.writing.Selection.{uncounted-after, writing-same, written-moments, written-ok}

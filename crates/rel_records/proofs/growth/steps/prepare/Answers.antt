@@ -39,7 +39,7 @@ returns g c =
     ∙ ap (λ (x : Place). put (S.image c.args.disk.now) x p.map.bytes) c.map_place.ensures in
     let P : Image → Type 0 = λ i. IsSided i p.blocks.items p.sides.items p.size (S.image c.write_sides.new.disk) in
     let sided = subst P (c.in_ok-write-2.ensures.ok ∙ ap (λ (i : Image). put i c.args.fresh c.args.block.now) first)
-    (at_end S c.write-2.new.self c.write_sides.new.disk _ moments.held) in
+    (at_end S c.write-2.new.self c.write_sides.new.disk _ moments.held).each in
     record {
       ok = on_ok_weaker c.write_sides.result (λ h. (h, sided)) done;
       moments =

@@ -4,7 +4,7 @@ use Rattle.d64_image.proofs.Moments.{at_end, no_change}
 use Rattle.d64_image.specs.Images.{Image}
 use Rattle.rel_records.proofs.lemmas.Told.{not-done, tells-failed}
 use Rattle.rel_records.proofs.lemmas.steps.Sided.{AreWrittenBelow, below-all, below-more, below-none, get-there}
-use Rattle.rel_records.proofs.lemmas.steps.Sided.{sided-none, sides_then}
+use Rattle.rel_records.proofs.lemmas.steps.Sided.{side_change, sided-none, sides_then}
 use Rattle.d64_image.specs.History.{Changes}
 use Rattle.rel_records.specs.growth.Steps.{IsSided}
 use Rattle.rel_records.proofs.growth.steps.write_older.Goals as goal
@@ -30,7 +30,9 @@ returns-in_err-write_side g c =
           sides_then S c.args.disk.now c.loop-number.disk c.write_side.new.disk c.args.blocks.now c.args.sides.now
           c.args.size c.loop-number.number 1 c.args.below
           (omega (arith, c.loop-number-test.true)) old.changes (at_end S _ _ _ old.changes.held)
-          c.in_err-write_side.ensures.moments;
+          (side_change S c.args.blocks.now c.args.sides.now c.args.size c.loop-number.disk c.write_side.new.disk
+          c.loop-number.number (omega (arith, c.loop-number-test.true, c.requires.below))
+          c.in_err-write_side.ensures.moments);
       reads = omega (arith, c.in_err-write_side.ensures.reads, c.loop-number.invariant.reads);
       failures = tells-failed g.D.Sectors.history _ _ _ c.loop-number.invariant.failures c.from_residual.result _
           c.from_residual.ensures.1 c.in_err-write_side.ensures.failures;
@@ -51,7 +53,9 @@ loop-number-preserved g c =
           c.args.size n p (S.whole c.loop-number.disk).size c.requires.once at old.written);
       changes = sides_then S c.args.disk.now c.loop-number.disk c.write_side.new.disk c.args.blocks.now c.args.sides.now
           c.args.size n 1 (n + 1)
-          (omega arith) old.changes (at_end S _ _ _ old.changes.held) c.in_ok-write_side.ensures.moments;
+          (omega arith) old.changes (at_end S _ _ _ old.changes.held)
+          (side_change S c.args.blocks.now c.args.sides.now c.args.size c.loop-number.disk c.write_side.new.disk n
+          (omega (arith, c.loop-number-test.true, c.requires.below)) c.in_ok-write_side.ensures.moments);
       reads = omega (arith, c.in_ok-write_side.ensures.reads, old.reads);
       failures = c.in_ok-write_side.ensures.failures ∙ old.failures;
     }

@@ -1,10 +1,9 @@
 -- One side sector is written.
-use Rattle.std.proofs.Common.{arith, sym, subst, ◌≡◌, ◌∙◌, ap, Some}
+use Rattle.std.proofs.Common.{arith, sym, ◌≡◌, ◌∙◌, ap, inl, inr, refl, Some}
 use Rattle.std.proofs.lemmas.Result.{on_ok_weaker}
 use Rattle.d64_image.proofs.Moments.{write_change}
 use Rattle.d64_image.specs.Images.{Sector, put}
-use Rattle.rel_records.specs.growth.Steps.{IsSided}
-use Rattle.rel_records.proofs.lemmas.steps.Sided.{counted_once, sided-none, sided-put}
+use Rattle.rel_records.proofs.lemmas.steps.Sided.{counted_once}
 use Rattle.disk_layout.specs.Side.{side_sector}
 use Rattle.disk_layout.proofs.lemmas.lists.Lists.{read-there}
 use Rattle.d64_image.specs.declared.place.Place.{Place}
@@ -19,7 +18,6 @@ returns g c =
     let a = S.image c.args.disk.now in
     let p = c.index-sides-number.result in
     let at = read-there c.args.sides.now c.args.number p c.requires c.index-sides-number.is in
-    let P : Sector → Type 0 = λ b. IsSided a c.args.blocks.now c.args.sides.now c.args.size (put a p b) in
     record {
       ok =
           on_ok_weaker c.write.result
@@ -29,10 +27,10 @@ returns g c =
       moments =
           write_change S c.args.disk.now c.write.new.self a (put a p c.side_bytes-bytes.result) _ c.write.ensures.held
           (counted_once S _ _ c.write.result c.write.ensures.counted c.write.ensures.uncounted)
-          (sided-none a c.args.blocks.now c.args.sides.now c.args.size)
-          (subst P (sym c.side_bytes-bytes.ensures)
-          (sided-put a a c.args.blocks.now c.args.sides.now c.args.size c.args.number p
-          (S.whole c.args.disk.now).size at (sided-none a c.args.blocks.now c.args.sides.now c.args.size)));
+          (inl refl)
+          (inr (λ q there. ap (λ (s : Sector). put a p s) c.side_bytes-bytes.ensures
+          ∙ ap (λ x. put a x (side_sector c.args.number c.args.blocks.now c.args.sides.now c.args.size))
+          (same-place p q (sym at ∙ there))));
       reads = omega (arith, c.write.ensures.reads);
       failures = c.write.ensures.failures;
     }

@@ -2,6 +2,7 @@
 use Rattle.std.proofs.Common.{arith, length, refl, slice_index, ℕ, ◌+◌, ◌<◌, ◌∙◌}
 use Rattle.disk_layout.proofs.lemmas.layouts.Unclean.{clean-of}
 use Rattle.rel_records.proofs.lemmas.writing.Across.{both-moments, first-moments, leaves-both, leaves-half}
+use Rattle.rel_records.proofs.lemmas.whole.Written.{both-whole, half-whole}
 use Rattle.rel_records.proofs.lemmas.writing.OneBlock.{one-more}
 use Rattle.rel_records.proofs.lemmas.reading.Readings.{block-there, inside-of, next-is}
 use Rattle.rel_records.specs.File.{length_of}
@@ -32,6 +33,10 @@ returns-in_err-next g c =
                 first-moments S c.args.disk.now c.write_block.new.disk l n f v c.args.number c.args.position
                 c.args.text.now _ of c.write_block.ensures.put.held c.write_block.ensures.put.writes
                 (leaves-half a l n f v (S.whole c.args.disk.now) of (clean-of a l of.layout r.begins.there.clean)
+                c.args.block c.args.number c.args.position c.args.place q c.args.text.now small
+                (r.begins.at l n f of) to r.begins.there.low r.begins.there.high r.begins.there.position_low
+                r.begins.there.position_high r.begins.from r.inside r.over)
+                (half-whole a l n f v (S.whole c.args.disk.now) of (clean-of a l of.layout r.begins.there.clean)
                 c.args.block c.args.number c.args.position c.args.place q c.args.text.now small
                 (r.begins.at l n f of) to r.begins.there.low r.begins.there.high r.begins.there.position_low
                 r.begins.there.position_high r.begins.from r.inside r.over);
@@ -79,9 +84,18 @@ returns-in_err-write_block g c =
                 c.args.block c.args.number c.args.position c.args.place c.unwrap.result c.args.text.now small
                 (r.begins.at l n f of) to r.begins.there.low r.begins.there.high r.begins.there.position_low
                 r.begins.there.position_high r.begins.from r.inside r.over)
+                (half-whole a l n f v (S.whole c.args.disk.now) of (clean-of a l of.layout r.begins.there.clean)
+                c.args.block c.args.number c.args.position c.args.place c.unwrap.result c.args.text.now small
+                (r.begins.at l n f of) to r.begins.there.low r.begins.there.high r.begins.there.position_low
+                r.begins.there.position_high r.begins.from r.inside r.over)
                 c.write_block-2.new.disk _ c.in_ok-next.ensures.put.ok c.write_block-2.ensures.put.held
                 c.write_block-2.ensures.put.writes
                 (leaves-both a l n f v (S.whole c.args.disk.now) of (clean-of a l of.layout r.begins.there.clean)
+                c.args.block c.args.number c.args.position c.args.place c.unwrap.result c.args.text.now small
+                (r.begins.at l n f of) to r.begins.there.low r.begins.there.high r.begins.there.position_low
+                r.begins.there.position_high r.begins.from r.inside r.over
+                c.min.result (S.image c.write_block.new.disk) c.min.ensures c.in_ok-next.ensures.put.ok)
+                (both-whole a l n f v (S.whole c.args.disk.now) of (clean-of a l of.layout r.begins.there.clean)
                 c.args.block c.args.number c.args.position c.args.place c.unwrap.result c.args.text.now small
                 (r.begins.at l n f of) to r.begins.there.low r.begins.there.high r.begins.there.position_low
                 r.begins.there.position_high r.begins.from r.inside r.over

@@ -5,6 +5,7 @@ use Rattle.disk_layout.proofs.lemmas.layouts.Unclean.{clean-of}
 use Rattle.disk_layout.specs.Layout.{record_length}
 use Rattle.disk_layout.specs.Records.{records}
 use Rattle.rel_records.proofs.lemmas.writing.Across.{both-moments, leaves-both, leaves-half}
+use Rattle.rel_records.proofs.lemmas.whole.Written.{both-whole, half-whole}
 use Rattle.rel_records.proofs.lemmas.writing.OneBlock.{one-more}
 use Rattle.rel_records.proofs.lemmas.reading.Readings.{inside-of, next-is}
 use Rattle.rel_records.specs.File.{length_of}
@@ -49,9 +50,18 @@ returns g c =
                 c.args.block c.args.number c.args.position c.args.place c.unwrap.result c.args.text.now small
                 (r.begins.at l n f of) to r.begins.there.low r.begins.there.high r.begins.there.position_low
                 r.begins.there.position_high r.begins.from r.inside r.over)
+                (half-whole a l n f v (S.whole c.args.disk.now) of (clean-of a l of.layout r.begins.there.clean)
+                c.args.block c.args.number c.args.position c.args.place c.unwrap.result c.args.text.now small
+                (r.begins.at l n f of) to r.begins.there.low r.begins.there.high r.begins.there.position_low
+                r.begins.there.position_high r.begins.from r.inside r.over)
                 c.write_block-2.new.disk _ c.in_ok-next.ensures.put.ok c.write_block-2.ensures.put.held
                 c.write_block-2.ensures.put.writes
                 (leaves-both a l n f v (S.whole c.args.disk.now) of (clean-of a l of.layout r.begins.there.clean)
+                c.args.block c.args.number c.args.position c.args.place c.unwrap.result c.args.text.now small
+                (r.begins.at l n f of) to r.begins.there.low r.begins.there.high r.begins.there.position_low
+                r.begins.there.position_high r.begins.from r.inside r.over
+                c.min.result (S.image c.write_block.new.disk) c.min.ensures c.in_ok-next.ensures.put.ok)
+                (both-whole a l n f v (S.whole c.args.disk.now) of (clean-of a l of.layout r.begins.there.clean)
                 c.args.block c.args.number c.args.position c.args.place c.unwrap.result c.args.text.now small
                 (r.begins.at l n f of) to r.begins.there.low r.begins.there.high r.begins.there.position_low
                 r.begins.there.position_high r.begins.from r.inside r.over

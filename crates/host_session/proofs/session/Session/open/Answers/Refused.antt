@@ -1,7 +1,7 @@
 -- The disk was refused as it was judged.
 use Rattle.std.proofs.Common.{arith, refl, ◌≡◌}
 use Rattle.std.proofs.lemmas.Bool.{false≢true}
-use Rattle.d64_image.proofs.Moments.{changes_weaker, reads_change}
+use Rattle.host_session.proofs.lemmas.Held.{changes_weaker, reads_change}
 use Rattle.host_session.specs.shop.Shop.{IsShop}
 use Rattle.host_session.proofs.lemmas.opening.Opens.{judged-opening, refused-no}
 use Rattle.host_session.proofs.session.Session.open.Goals as goal

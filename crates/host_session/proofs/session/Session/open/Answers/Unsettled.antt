@@ -1,7 +1,7 @@
 -- The device failed as the disk was brought to rest.
 use Rattle.std.proofs.Common.{Err, ap, arith, refl, subst, sym, ◌≡◌, ◌∙◌}
 use Rattle.std.proofs.lemmas.Result.{err_from_is_err_and}
-use Rattle.d64_image.proofs.Moments.{changes_then, changes_weaker, reads_change}
+use Rattle.host_session.proofs.lemmas.Held.{changes_then, changes_weaker, reads_change}
 use Rattle.host_session.specs.shop.Shop.{IsSettled, IsShop, shop_of}
 use Rattle.host_session.specs.session.Standing.{View}
 use Rattle.host_session.proofs.lemmas.opening.Opens.{device-ok, device-refused, error-changes, error-device, error-told}

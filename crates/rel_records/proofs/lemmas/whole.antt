@@ -1,0 +1,7 @@
+-- Files that are as long as the disk says.
+pub mod Ends
+pub mod Files
+pub mod Filled
+pub mod Linked
+pub mod Prepared
+pub mod Written
