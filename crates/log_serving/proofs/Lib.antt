@@ -1,0 +1,4 @@
+pub mod Lines
+pub mod Leaving
+pub mod Staying
+pub mod UnderWay
