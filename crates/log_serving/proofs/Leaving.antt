@@ -1,5 +1,5 @@
 -- What a power loss leaves of a log, over calls one after another.
-use Rattle.std.proofs.Common.{◌≡◌, arith, inl, inr, sym, subst, ⊎_elim}
+use Rattle.std.proofs.Common.{arith, inl, inr, sym, subst, ⊎_elim}
 use Rattle.d64_image.specs.Images.{Image}
 use Rattle.shop_log.specs.ImageLogs.{LeavesImages, LogHistory}
 

@@ -1,6 +1,6 @@
 -- Lines handled one after another, and the shop and the replies that a list of requests stands for.
 use Rattle.std.proofs.Common.{◌≡◌, ◌∙◌, ℕ, List, [], ◌∷◌, ◌++◌, Option, None, Some, ap, append-nil, append_assoc, map, refl, sym, subst}
-use Rattle.std.specs.Prelude.{length, option_to_list, flat_map}
+use Rattle.std.specs.Prelude.{option_to_list}
 use Rattle.std.proofs.lemmas.Grind.{flat_map-append}
 use Rattle.std.specs.Prelude.{false}
 use Rattle.request_cards.proofs.Plain.{message_more, plain_nil}
@@ -47,17 +47,17 @@ behind_one s before l =
 after_from : (s : Shop) (before : List Ask) (ls : List (List ℕ))
     → shop_after (with_state s (plain (start_of s) before)) ls
     ≡ with_state s (plain (start_of s) (before ++ requests_of ls))
-after_from s before [] = ap (λ as. with_state s (plain (start_of s) as)) (sym (append-nil before))
+after_from s before [] = ap (λ asks. with_state s (plain (start_of s) asks)) (sym (append-nil before))
 after_from s before (l ∷ ls) =
     ap (λ t. shop_after t ls) (behind_one s before l)
     ∙ after_from s (before ++ option_to_list (request_of l)) ls
-    ∙ ap (λ as. with_state s (plain (start_of s) as)) (append_assoc before (option_to_list (request_of l)) (requests_of ls))
+    ∙ ap (λ asks. with_state s (plain (start_of s) asks)) (append_assoc before (option_to_list (request_of l)) (requests_of ls))
 
 -- lines behind lines
 pub behind_more : (s : Shop) (front ls : List (List ℕ)) → shop_after (shop_behind s front) ls ≡ shop_behind s (front ++ ls)
 behind_more s front ls =
     after_from s (requests_of front) ls
-    ∙ ap (λ as. with_state s (plain (start_of s) as))
+    ∙ ap (λ asks. with_state s (plain (start_of s) asks))
     (sym (flat_map-append (λ l. option_to_list (request_of l)) front ls))
 
 pub behind_none : (s : Shop) → shop_behind s [] ≡ s
@@ -77,14 +77,14 @@ replies_from_here s before (l ∷ ls) =
 replies_more_from : (s : Shop) (before : List Ask) (front ls : List (List ℕ))
     → replies (start_of s) before (front ++ ls)
     ≡ replies (start_of s) before front ++ replies (start_of s) (before ++ requests_of front) ls
-replies_more_from s before [] ls = ap (λ as. replies (start_of s) as ls) (sym (append-nil before))
+replies_more_from s before [] ls = ap (λ asks. replies (start_of s) asks ls) (sym (append-nil before))
 replies_more_from s before (l ∷ front) ls =
     let one : List Ask = option_to_list (request_of l) in
     let head : Reply = reply_in (start_of s) (plain (start_of s) before) (request_of l) in
     let first : List Reply = replies (start_of s) (before ++ one) front in
     ap (λ rs. head ∷ rs)
     (replies_more_from s (before ++ one) front ls
-    ∙ ap (λ as. first ++ replies (start_of s) as ls)
+    ∙ ap (λ asks. first ++ replies (start_of s) asks ls)
     (append_assoc before one (requests_of front)))
 
 -- the replies to lines behind lines
@@ -133,3 +133,14 @@ none_first s (x ∷ xs) ys none = (none.0, none_first s xs ys none.1)
 pub none_last : (s : Shop) (xs ys : List (List ℕ)) → AskNone s (xs ++ ys) → AskNone s ys
 none_last s [] ys none = none
 none_last s (x ∷ xs) ys none = none_last s xs ys none.1
+
+-- lines and one more
+pub after_push : (s : Shop) (ls : List (List ℕ)) (l : List ℕ) → shop_after s (ls ++ l ∷ []) ≡ after_of (shop_after s ls) l
+after_push s [] l = refl
+after_push s (x ∷ ls) l = after_push (after_of s x) ls l
+
+pub replies_push : (s : Shop) (ls : List (List ℕ)) (l : List ℕ) → replies_after s (ls ++ l ∷ [])
+    ≡ replies_after s ls ++ reply_in (start_of (shop_after s ls)) (shop_after s ls).state (request_of l) ∷ []
+replies_push s [] l = refl
+replies_push s (x ∷ ls) l =
+    ap (λ (rs : List Reply). reply_in (start_of s) s.state (request_of x) ∷ rs) (replies_push (after_of s x) ls l)

@@ -1,7 +1,7 @@
 -- Replies that were told, and the lines that stay since.
-use Rattle.std.proofs.Common.{◌≡◌, ◌≤◌, ◌+◌, ◌∙◌, ℕ, List, [], ◌∷◌, ◌++◌, ap, append-nil, append_assoc, arith, inl, inr, length, refl, subst}
+use Rattle.std.proofs.Common.{◌≡◌, ◌≤◌, ◌+◌, ◌∙◌, ℕ, List, [], ◌∷◌, ◌++◌, ap, append-nil, append_assoc, arith, length, refl, subst}
 use Rattle.std.proofs.Common.{sym, ⊎_elim}
-use Rattle.std.proofs.lemmas.List.{length-append}
+use Rattle.std.proofs.lemmas.List.{length-append, length-map}
 use Rattle.d64_image.specs.Images.{Image}
 use Rattle.request_cards.specs.declared.reply.Reply.{Reply}
 use Rattle.host_session.specs.runs.Chains.{told_in}
@@ -17,8 +17,7 @@ told_over log [] = refl
 told_over log (r ∷ rs) = ap (λ xs. r ∷ xs) (told_over log rs)
 
 pub as_many_over : {L : Type 0} (log : L) (rs : List Reply) → length (over_log log rs) ≡ length rs
-as_many_over log [] = refl
-as_many_over log (r ∷ rs) = ap (λ n. n + 1) (as_many_over log rs)
+as_many_over log rs = length-map rs (λ r. (r, log))
 
 -- first lines of some are first lines of more
 pub more_lines : (s : Shop) (ls more : List (List ℕ)) (least : ℕ) (c : Image) → HoldsFirst s ls least c

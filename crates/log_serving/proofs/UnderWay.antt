@@ -1,44 +1,40 @@
 -- A shop that is served over a log, and a batch more.
-use Rattle.std.proofs.Common.{◌≡◌, ◌⊎◌, ◌≤◌, ◌+◌, ◌∙◌, ℕ, List, [], ◌∷◌, ◌++◌, Err, None, Ok, Option, Result, Some, ap, append-nil, append_assoc}
-use Rattle.std.proofs.Common.{arith, false, inl, inr, length, map, refl, subst, sym, true, ⊎_elim}
-use Rattle.std.specs.Prelude.{OnSome, option_to_list}
+use Rattle.std.proofs.Common.{◌≡◌, ◌⊎◌, ◌≤◌, ◌∙◌, ℕ, List, [], ◌∷◌, ◌++◌, Result, ap, append-nil, append_assoc}
+use Rattle.std.proofs.Common.{arith, inl, inr, length, refl, subst, sym, ⊎_elim}
+use Rattle.std.specs.Prelude.{slice_index_or}
 use Rattle.std.proofs.KnownBytes.{Consumes-trans}
-use Rattle.std.specs.Io.KnownBytes.{Consumes, IsAtEnd}
-use Rattle.std.proofs.lemmas.List.{length-append, map-append}
+use Rattle.std.specs.Io.KnownBytes.{Consumes}
+use Rattle.std.proofs.lemmas.List.{length-append, length-map}
 use Rattle.d64_image.specs.Images.{Image}
-use Rattle.d64_image.specs.Memory.{disk_image, memory}
+use Rattle.d64_image.specs.Memory.{disk_image}
 use Rattle.d64_image.specs.declared.mem_disk.MemDisk.{MemDisk}
 use Rattle.request_cards.specs.Ledgers.{replies}
-use Rattle.request_cards.specs.declared.reply.Reply.{Reply}
 use Rattle.script_lines.specs.Lines.{lines}
 use Rattle.host_session.specs.declared.events.asking.Next.{Next}
-use Rattle.host_session.specs.declared.events.asking.Next.TheVariants as next
 use Rattle.host_session.specs.declared.runs.looping.LoopFault.{LoopFault}
-use Rattle.host_session.specs.declared.runs.looping.LoopFault.TheVariants as faults
 use Rattle.host_session.specs.runs.Chains.{told_in}
-use Rattle.host_session.specs.session.Opening.{IsAShop}
+use Rattle.host_session.specs.session.Handling.{after_of}
 use Rattle.host_session.specs.session.Standing.{View}
 use Rattle.host_session.specs.shop.Shop.{IsSettled, IsShop, Shop, start_of}
 use Rattle.serving.proofs.Cuts.{lines_two, whole_two}
-use Rattle.serving.proofs.Kept.{still_at_end}
 use Rattle.serving.specs.Batches.{BatchInput, IsBatchTaken}
-use Rattle.serving.specs.Read.{AreWhole, LacksLf}
+use Rattle.serving.specs.Read.{AreWhole}
 use Rattle.shop_log.specs.ImageLogs.{IsEither, LeavesImages, LogHistory}
 use Rattle.shop_log.specs.Marks.{Covers}
 use Rattle.shop_log.specs.Touched.{touched_of}
-use Rattle.log_serving.specs.Batches.{HasOpened, Holds, IsBatchServed, IsKeptNow, IsUnderWay}
-use Rattle.log_serving.specs.Handling.{AskNone, IsAtRest, replies_after, shop_after}
+use Rattle.log_serving.specs.Batches.{Holds, IsBatchServed, IsKeptNow, IsUnderWay}
+use Rattle.log_serving.specs.Handling.{AskNone, IsAtRest, replies_after}
 use Rattle.log_serving.specs.Memory.{Memory, image_of}
 use Rattle.log_serving.specs.Reporting.{LogOutput, over_log}
 use Rattle.log_serving.specs.Serves.{HoldsFirst, IsSafe, StayFrom, shop_behind}
-use Rattle.log_serving.proofs.Leaving.{goes_on, weaker}
-use Rattle.log_serving.proofs.Lines.{behind_more, behind_none, none_first, none_last, replies_more, same_after, same_none, same_replies}
-use Rattle.log_serving.proofs.Staying.{Around, as_many_over, either_first, more_lines, stay_append, stay_new, stay_on, told_over}
+use Rattle.log_serving.proofs.Leaving.{goes_on}
+use Rattle.log_serving.proofs.Lines.{behind_more, none_first, none_last, replies_more, same_after, same_none, same_replies}
+use Rattle.log_serving.proofs.Staying.{Around, either_first, more_lines, stay_append, stay_new, stay_on}
 
 -- a reply for each line
 pub as_many : (s : Shop) (ls : List (List ℕ)) → length (replies_after s ls) ≡ length ls
 as_many s [] = refl
-as_many s (l ∷ ls) = omega (arith, as_many _ ls)
+as_many s (l ∷ ls) = omega (arith, as_many (after_of s l) ls)
 
 pub as_many_replies : (s : Shop) (ls : List (List ℕ)) → length (replies (start_of s) [] ls) ≡ length ls
 as_many_replies s ls =
@@ -81,7 +77,7 @@ module _ {L R T : Type 0} (h : LogHistory L) (i : BatchInput R) (o : LogOutput L
       replies_now : x.replies ≡ replies_after Behind (lines b.handled)
       replies_now = (x.handled.told Behind Was.rests).0 ∙ same_replies Behind texts (lines b.handled) b.same
 
-      rests_now : IsAtRest after (shop_behind s (lines u.handled ++ lines b.handled))
+      pub rests_now : IsAtRest after (shop_behind s (lines u.handled ++ lines b.handled))
       rests_now = subst (λ t. IsAtRest after t)
           (same_after Behind texts (lines b.handled) b.same ∙ behind_more s (lines u.handled) (lines b.handled))
           (x.handled.told Behind Was.rests).1
@@ -148,8 +144,13 @@ module _ {L R T : Type 0} (h : LogHistory L) (i : BatchInput R) (o : LogOutput L
                     (omega arith) stay_now
                     (stay_new h s (lines u.handled) (lines b.handled) kept (image_of after.disk) around now
                     (length u.turns) x.replies
-                    (omega (arith, turns_fit, ap length replies_now, as_many Behind (lines b.handled),
-                    length-append (lines u.handled) (lines b.handled))) stands_now);
+                    (omega (
+                      arith,
+                      turns_fit,
+                      ap length replies_now,
+                      as_many Behind (lines b.handled),
+                      length-append (lines u.handled) (lines b.handled),
+                    )) stands_now);
               })
 
     -- nothing is asked of the log
@@ -164,6 +165,6 @@ module _ {L R T : Type 0} (h : LogHistory L) (i : BatchInput R) (o : LogOutput L
           rests = subst (λ (image : Image). IsSettled image s) was.1 settled;
         } in
         let same : after ≡ session = x.handled.quiet s rests
-            (same_none s texts (lines b.handled) b.same (none_last s (lines u.handled) (lines b.handled) both)) in
+        (same_none s texts (lines b.handled) b.same (none_last s (lines u.handled) (lines b.handled) both)) in
         let image : image_of session.disk ≡ image_of after.disk = ap (λ (v : View Memory). image_of v.disk) (sym same) in
         (x.quiet (u.kept_is ∙ image) ∙ was.0, was.1 ∙ image)

@@ -1,5 +1,5 @@
 -- A batch of lines that is served, and the way to it. All of it is our own.
-use Rattle.std.specs.Prelude.{◌≡◌, ◌⊎◌, List, ℕ, [], ◌++◌, Err, Ok, Result, true, length}
+use Rattle.std.specs.Prelude.{◌≡◌, ◌⊎◌, List, ℕ, [], ◌++◌, Err, Ok, Result, true}
 use Rattle.std.specs.Io.KnownBytes.{Consumes}
 use Rattle.d64_image.specs.Images.{Image}
 use Rattle.d64_image.specs.Memory.{disk_image}

@@ -13,7 +13,7 @@ use Rattle.host_session.specs.declared.runs.looping.LoopFault.{LoopFault}
 use Rattle.host_session.specs.declared.runs.looping.LoopFault.TheVariants as faults
 use Rattle.host_session.specs.events.Events.{requests_of}
 use Rattle.host_session.specs.runs.Chains.{told_in}
-use Rattle.host_session.specs.session.Opening.{IsAShop, Refuses}
+use Rattle.host_session.specs.session.Opening.{IsAShop}
 use Rattle.host_session.specs.shop.Shop.{IsSettled, IsShop, Shop, start_of, with_state}
 use Rattle.serving.specs.Batches.{BatchInput}
 use Rattle.serving.specs.Read.{AreWhole, LacksLf}
@@ -26,11 +26,11 @@ abbrev pub shop_behind : Shop → List (List ℕ) → Shop
 shop_behind s ls = with_state s (plain (start_of s) (requests_of ls))
 
 -- The image is a shop's at rest: that of some first lines, of which there are so many at least.
-pub record HoldsFirst (s : Shop) (ls : List (List ℕ)) (least : ℕ) (image : Image) : Type 0 where
+pub record HoldsFirst (s : Shop) (ls : List (List ℕ)) (n : ℕ) (image : Image) : Type 0 where
   pub front : List (List ℕ)
   pub rest : List (List ℕ)
   pub parts : front ++ rest ≡ ls
-  pub least : least ≤ length front
+  pub least : n ≤ length front
   pub rests : IsSettled image (shop_behind s front)
 
 -- these are the first of those replies, and of one batch at most none is among them
@@ -90,6 +90,9 @@ pub record IsServedOver {L R T : Type 0} (h : LogHistory L) (i : BatchInput R) (
   pub «open» : IfErr result (λ e. (f : OpenFault) → e.0 ≡ faults.Open f
       → (IsAShop (disk_image disk) → ⊥) × (disk_image e.1 ≡ disk_image disk)
       × (new ≡ old) × (new_in ≡ old_in) × (new_out ≡ old_out))
+  -- The input is told of only if it failed, or gave 2^64 - 1 lines.
+  pub input : IfErr result (λ e. e.0 ≡ faults.Input
+      → (i.has_failed new_in ≡ true) ⊎ (18446744073709551615 ≤ length (lines handled)))
   -- The device is told of only if the log takes no more commits, and the output only if it failed.
   pub device : IfErr result (λ e. e.0 ≡ faults.Device → h.is_over new ≡ true)
   pub output : IfErr result (λ e. e.0 ≡ faults.Output → o.has_failed new_out ≡ true)

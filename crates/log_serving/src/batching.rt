@@ -2,6 +2,7 @@
 ghost use Rattle.std.specs.Prelude.{◌≡◌, ◌≤◌, length, vec_capacity};
 ghost use Rattle.d64_image.specs.declared.mem_disk.MemDisk.{MemDisk};
 ghost use Rattle.serving.specs.Batches.{texts_of};
+ghost use Rattle.host_session.specs.runs.Loops.{with_disk};
 ghost use Rattle.log_serving.specs.Batches.{HasOpened, IsBatchServed, IsServedSo};
 ghost use Rattle.log_serving.specs.Serves.{IsServedOver};
 
@@ -60,14 +61,17 @@ fn serve_open<L: ImageLog, R: GivesBatches, T: Reports<L>>(
     };
     for _ in 0..u64::MAX {
         let said = input.give_batch(&mut room.lines);
-        serve_batch(
+        let served = serve_batch(
             session,
             log,
             out,
             room.lines.as_slice(),
             &mut room.replies,
             room.kept.as_mut_slice(),
-        )?;
+        );
+        if let Err(fault) = served {
+            return Err(fault);
+        }
         match said {
             Next::Event => {}
             Next::End => return Ok(()),
@@ -75,6 +79,16 @@ fn serve_open<L: ImageLog, R: GivesBatches, T: Reports<L>>(
         }
     }
     Err(LoopFault::Input)
+}
+
+/// The end, with the disk.
+fn ended(disk: MemDisk, end: Result<(), LoopFault>) -> Result<MemDisk, (LoopFault, MemDisk)>
+    ensures { result ≡ with_disk disk end }
+{
+    match end {
+        Ok(()) => Ok(disk),
+        Err(fault) => Err((fault, disk)),
+    }
 }
 
 /// Serves the shop of a disk over a log that stands for the disk, until the input ends. It takes the lines at hand, 512
@@ -104,9 +118,5 @@ pub fn serve_batches<L: ImageLog, R: GivesBatches, T: Reports<L>>(
         Err((fault, disk)) => return Err((LoopFault::Open(fault), disk.into_inner())),
     };
     let end = serve_open(&mut session, log, input, out, room);
-    let disk = session.close().into_inner();
-    match end {
-        Ok(()) => Ok(disk),
-        Err(fault) => Err((fault, disk)),
-    }
+    ended(session.close().into_inner(), end)
 }

@@ -26,8 +26,8 @@ impl Room {
         let mut kept = Vec::new(alloc);
         kept.resize(SECTORS, [0; 256])?;
         Ok(Room {
-            lines: Vec::with_capacity(MOST_LINES, alloc)?,
-            replies: Vec::with_capacity(MOST_LINES, alloc)?,
+            lines: Vec::with_capacity(alloc, MOST_LINES)?,
+            replies: Vec::with_capacity(alloc, MOST_LINES)?,
             kept,
         })
     }

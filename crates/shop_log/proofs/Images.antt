@@ -1,5 +1,5 @@
 -- A log's file, seen as the images that a power loss leaves of it.
-use Rattle.std.proofs.Common.{◌≡◌, ◌⊎◌, ◌∙◌, ◌+◌, Bool, Err, List, Ok, Result, ap, inl, inr, true, ⊎_elim, ℕ}
+use Rattle.std.proofs.Common.{◌≡◌, ◌⊎◌, ◌∙◌, ◌+◌, Bool, Err, Ok, Result, ap, inl, inr, true, ⊎_elim}
 use Rattle.std.specs.Prelude.{◌||◌, OnErr, OnOk, nat_lt}
 use Rattle.d64_image.specs.Images.{Image}
 use Rattle.shop_log.specs.Files.{LeavesOnly}

@@ -25,8 +25,7 @@ impl<F: LogFile> ImageLog for Log<F> {
 
     ghost history = { of_log };
 
-    fn commit(&mut self, now: &[[u8; 256]], touched: &[bool; 683]) -> io::Result<()>
-    {
+    fn commit(&mut self, now: &[[u8; 256]], touched: &[bool; 683]) -> io::Result<()> {
         if self.is_full() {
             return Err(io::ErrorKind::StorageFull.into());
         }
