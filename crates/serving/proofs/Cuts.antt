@@ -66,3 +66,22 @@ lines_more handled raw whole lacks = ⊎_elim
 
 pub whole_more : (handled raw : List ℕ) → AreWhole (handled ++ (raw ++ 10 ∷ []))
 whole_more handled raw = inr (handled ++ raw, sym (append_assoc handled raw (10 ∷ [])))
+
+-- lines behind lines
+pub lines_two : (handled more : List ℕ) → AreWhole handled → lines (handled ++ more) ≡ lines handled ++ lines more
+lines_two handled more whole = ⊎_elim
+    (λ e. subst (λ hs. lines (hs ++ more) ≡ lines hs ++ lines more) (sym e) refl)
+    (λ w. subst (λ hs. lines (hs ++ more) ≡ lines hs ++ lines more) (sym w.1) (behind w.0))
+    whole
+  where
+    behind : (front : List ℕ) → lines ((front ++ 10 ∷ []) ++ more) ≡ lines (front ++ 10 ∷ []) ++ lines more
+    behind front =
+        ap lines (append_assoc front (10 ∷ []) more)
+        ∙ lines_append front more
+        ∙ ap (λ ls. ls ++ lines more) (sym (lines_append front [] ∙ append-nil (map without_cr (split 10 front))))
+
+pub whole_two : (handled more : List ℕ) → AreWhole handled → AreWhole more → AreWhole (handled ++ more)
+whole_two handled more whole whole_more = ⊎_elim
+    (λ e. subst (λ ms. AreWhole (handled ++ ms)) (sym e) (subst AreWhole (sym (append-nil handled)) whole))
+    (λ w. inr (handled ++ w.0, ap (λ ms. handled ++ ms) w.1 ∙ sym (append_assoc handled w.0 (10 ∷ []))))
+    whole_more

@@ -1,6 +1,7 @@
 pub mod Kept
 pub mod Cuts
 pub mod Long
+pub mod Together
 pub mod Taken
 pub mod Turns
 pub mod Same

@@ -1,5 +1,6 @@
 pub mod Read
 pub mod Giving
+pub mod Batches
 pub mod Answering
 pub mod Inputs
 pub mod AtOnce

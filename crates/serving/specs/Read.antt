@@ -16,7 +16,7 @@ lf_after true = 10 ∷ []
 lf_after false = []
 
 abbrev pub has_end : Part → Bool
-has_end Ended = true
+has_end (Ended _) = true
 has_end _ = false
 
 -- a look at the input took these bytes of a line, and its LF where it came to that

@@ -24,7 +24,7 @@ pub trait GivesLines<D: Sectors> {
 }
 
 /// Drops one CR at the end of a line.
-fn drop_cr(line: &mut ArrayVec<u8, 40>)
+pub(crate) fn drop_cr(line: &mut ArrayVec<u8, 40>)
     ensures { line.new.items ≡ without_cr line.old.items }
 {
     if let Some(&b'\r') = line.as_slice().last() {
@@ -37,11 +37,11 @@ fn take_line<R: BufRead>(input: &mut R, line: &mut ArrayVec<u8, 40>) -> Next
     ensures { IsLineTaken (R.remaining input.old) (R.remaining input.new) line.new.items result }
 {
     match read_line(input, line) {
-        Ok(true) => {
+        Ok(Some(_)) => {
             drop_cr(line);
             Next::Event
         }
-        Ok(false) => Next::End,
+        Ok(None) => Next::End,
         Err(_) => Next::Failed,
     }
 }

@@ -3,6 +3,7 @@
 
 mod answering;
 mod at_once;
+mod batches;
 mod giving;
 mod inputs;
 mod reading;
@@ -10,6 +11,7 @@ mod serving;
 
 pub use answering::Answers;
 pub use at_once::AtOnce;
+pub use batches::{GivesBatches, MOST_LINES};
 pub use giving::GivesLines;
 pub use inputs::OfInput;
 pub use serving::serve;

@@ -1,6 +1,6 @@
 //! Lines of an input, one after another, of which only as much is kept as a message can have.
 ghost use Rattle.std.specs.Prelude.{◌≡◌, ◌≢◌, ◌++◌, ◌<◌, ◌≤◌, ℕ, List, IfOk, OnErr, OnSome};
-ghost use Rattle.std.specs.Prelude.{[], false, length, slice_index, take};
+ghost use Rattle.std.specs.Prelude.{[], None, is_some, length, slice_index, take};
 ghost use Rattle.std.specs.Io.KnownBytes.{Consumes, IsAtEnd};
 ghost use Rattle.serving.specs.Read.{LacksLf, TookPart, lf_after};
 
@@ -12,8 +12,8 @@ use std::io::{self, BufRead, Error, ErrorKind};
 pub(crate) enum Part {
     /// Before the line's LF.
     More,
-    /// Behind the line's LF.
-    Ended,
+    /// Behind the line's LF, where so many bytes more are at hand.
+    Ended(usize),
     /// At the end of the input.
     Over,
 }
@@ -54,20 +54,24 @@ fn take_part<R: BufRead>(input: &mut R, line: &mut ArrayVec<u8, 40>) -> io::Resu
     let count = before_lf(available);
     keep(line, &available[..count]);
     if count < available.len() {
+        let left = available.len() - count - 1;
         input.consume(count + 1);
-        return Ok(Part::Ended);
+        return Ok(Part::Ended(left));
     }
     let part = if count == 0 { Part::Over } else { Part::More };
     input.consume(count);
     Ok(part)
 }
 
-/// Reads the next line up to its LF, and keeps its first 40 bytes. False where the input ended first: what came behind
-/// its last LF is no line. A read that is interrupted is tried again.
-pub(crate) fn read_line<R: BufRead>(input: &mut R, line: &mut ArrayVec<u8, 40>) -> io::Result<bool>
-    ensures ok { IfOk result (λ ended. (raw : List ℕ) × LacksLf raw × (line.new.items ≡ take 40 raw)
-        × Consumes (R.remaining input.old) (R.remaining input.new) (raw ++ lf_after ended)
-        × (ended ≡ false → OnSome (R.remaining input.old) (IsAtEnd (R.remaining input.new)))) }
+/// Reads the next line up to its LF, and keeps its first 40 bytes. Returns how many bytes are at hand after it, or None
+/// if the input ended first: what came after its last LF is no line. A read that is interrupted is tried again.
+pub(crate) fn read_line<R: BufRead>(
+    input: &mut R,
+    line: &mut ArrayVec<u8, 40>,
+) -> io::Result<Option<usize>>
+    ensures ok { IfOk result (λ at_hand. (raw : List ℕ) × LacksLf raw × (line.new.items ≡ take 40 raw)
+        × Consumes (R.remaining input.old) (R.remaining input.new) (raw ++ lf_after (is_some at_hand))
+        × (at_hand ≡ None → OnSome (R.remaining input.old) (IsAtEnd (R.remaining input.new)))) }
     ensures err { OnErr result ((raw : List ℕ) × LacksLf raw
         × Consumes (R.remaining input.old) (R.remaining input.new) raw) }
 {
@@ -75,9 +79,22 @@ pub(crate) fn read_line<R: BufRead>(input: &mut R, line: &mut ArrayVec<u8, 40>) 
     for _ in 0..u64::MAX {
         match take_part(input, line)? {
             Part::More => {}
-            Part::Ended => return Ok(true),
-            Part::Over => return Ok(false),
+            Part::Ended(left) => return Ok(Some(left)),
+            Part::Over => return Ok(None),
         }
     }
     Err(Error::from(ErrorKind::TimedOut))
+}
+
+/// Whether a whole line is among the bytes at hand, of which there are so many. It takes none of them, and doesn't wait.
+pub(crate) fn has_line<R: BufRead>(input: &mut R, at_hand: usize) -> bool
+    ensures { Consumes (R.remaining input.old) (R.remaining input.new) [] }
+{
+    if at_hand == 0 {
+        return false;
+    }
+    match input.fill_buf() {
+        Ok(available) => before_lf(available) < available.len(),
+        Err(_) => false,
+    }
 }

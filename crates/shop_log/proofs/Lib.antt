@@ -4,6 +4,7 @@ mod Commits
 mod Counting
 mod Ends
 mod Filled
+mod Images
 mod Laid
 mod Marked
 mod Moments

@@ -1,5 +1,6 @@
 pub mod Blocks
 pub mod Files
+pub mod ImageLogs
 pub mod Logs
 pub mod Marks
 pub mod MemCalls

@@ -6,6 +6,7 @@ mod appending;
 mod blocks;
 mod committing;
 mod filling;
+mod image_log;
 mod laying_out;
 mod log;
 mod log_file;
@@ -14,6 +15,7 @@ mod replaying;
 mod touched_disk;
 
 pub use blocks::BLOCK;
+pub use image_log::ImageLog;
 pub use log::{BLOCKS, Log, MOST};
 pub use log_file::LogFile;
 pub use mem_log::MemLog;

@@ -89,7 +89,7 @@ impl<F: LogFile> Log<F> {
             → LeavesOnly F.history (log_file self.old) (log_file self.new)
             (λ c. IsLeft start before now.now c × (is_marked c ≡ false)) }
         ensures refused { is_closed self.old → IsErr result × (log_file self.new ≡ log_file self.old) }
-        ensures quiet { NoneTouched touched.now → log_file self.new ≡ log_file self.old }
+        ensures quiet { NoneTouched touched.now → self.new ≡ self.old }
         ensures err { OnErr result (is_closed self.new) }
         ensures cause { OnErr result (is_closed self.old ⊎ (F.history.has_failed (log_file self.new) ≡ true)) }
     {

@@ -26,7 +26,7 @@ returns-in_err-take_part-clause-err g c =
 
 pub returns-in-Ended-clause-ok : goal.returns-in-Ended-clause-ok
 returns-in-Ended-clause-ok g c =
-    let x = read_more _ _ _ c.loop.line.items c.take_part.new.line.items c.in_ok-take_part.field-0 Ended c.in-Ended.is
+    let x = read_more _ _ _ c.loop.line.items c.take_part.new.line.items c.in_ok-take_part.field-0 (Ended c.in-Ended.left) c.in-Ended.is
     c.loop.invariant c.in_ok-take_part.ensures.ok in
     (x.0, x.1, x.2, x.3, λ e. cc)
 
