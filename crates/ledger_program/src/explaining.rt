@@ -3,11 +3,12 @@
 use crate::files::STANDARD_INPUT;
 use crate::jobs::Job;
 use crate::losses::cut_in;
+use crate::owning::{read_shared, share};
 use crate::refusals::Refusal;
 use d64_image::Place;
 use disk_pictures::PictureFault;
 use keeper_commands::KeepFault;
-use ledger_commands::{RunFault, read_image};
+use ledger_commands::{Locks, RunFault};
 use std::fmt::Display;
 use std::fs::{File, OpenFile, OpenOptions};
 use std::io::{self, Read, Write};
@@ -229,30 +230,28 @@ fn tell_size<R: Files, E: Write>(rt: &R, image: &str, err: &mut E) {
     let _ = writeln!(err, "{said}");
 }
 
-/// Where the first file of the image at a path is cut short. None also of standard input, and if it can't be read.
+/// Where the first file of the image at a path is cut short. Nobody writes the image while it is read. None also if
+/// another program has it alone, if it can't be read, and of standard input.
 fn cut_at<F, R>(rt: &R, path: &str) -> Option<Place>
 where
-    F: Read + Drop,
+    F: Read + Locks + Drop,
     R: Files<File = F> + AllocGlobal,
 {
     if path == STANDARD_INPUT {
         return None;
     }
-    let Ok(file) = opened_to_read(rt, path) else {
-        return None;
-    };
-    let Ok(image) = read_image(rt.alloc(), file) else {
-        return None;
-    };
+    let mut file = opened_to_read(rt, path).ok()?;
+    share(&mut file).ok()?;
+    let image = read_shared(rt.alloc(), &mut file).ok()?;
     cut_in(rt.alloc(), image.as_slice(), None).unwrap_or_default()
 }
 
 /// Prints for a person, after the verdict of a check, where the first file of the image is cut short, if one is: a line
-/// `SHORT t/s`. The image's file is opened and read once more for it. If it can't be printed, there is nobody left to
-/// tell.
+/// `SHORT t/s`. The image's file is opened, locked with others that read it, and read once more for it. If that can't be
+/// done, or the line not be printed, nothing is printed.
 pub fn tell_cut<F, R, E>(rt: &R, job: &Job<'_>, err: &mut E)
 where
-    F: Read + Drop,
+    F: Read + Locks + Drop,
     R: Files<File = F> + AllocGlobal,
     E: Write,
 {
@@ -267,7 +266,7 @@ where
 /// Tells a person where the first file of an image is cut short that is going to be played.
 fn warn_of_cut<F, R, E>(rt: &R, image: &str, err: &mut E)
 where
-    F: Read + Drop,
+    F: Read + Locks + Drop,
     R: Files<File = F> + AllocGlobal,
     E: Write,
 {
@@ -279,10 +278,11 @@ where
 }
 
 /// Prints for a person which file a job is going to replace, or where the first file of an image that is going to be
-/// played is cut short, if there is one. If it can't be printed, there is nobody left to tell.
+/// played is cut short, if there is one; that image is locked with others that read it while it is read. If a line can't
+/// be printed, there is nobody left to tell.
 pub fn announce<F, R, E>(rt: &R, job: &Job<'_>, err: &mut E)
 where
-    F: Read + OpenFile + Drop,
+    F: Read + Locks + OpenFile + Drop,
     R: Files<File = F> + AllocGlobal,
     E: Write,
 {

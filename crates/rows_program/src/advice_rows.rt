@@ -30,7 +30,6 @@ ends 1
 script 1,1,S,1,5|
 sync 3 fails
 person ledger_cli play --sync a.d64 s.txt
-unlocked
 prints 1,1,MEDIA|
 tells DEVICE|ledger: a.d64: it couldn't be written; copy it to another medium, check the copy, and go on there|
 ends 3

@@ -38,7 +38,6 @@ no script
 input 1,1,S,42,120|
 input-fails
 person ledger_cli play a.d64 /dev/stdin
-unlocked
 tells FILE|ledger: a file couldn't be read to its end, or the output not be written|
 ends 3
 

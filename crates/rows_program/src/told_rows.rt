@@ -96,14 +96,12 @@ fn people_are_told_more(rt: HostRuntime) {
 const OF_A_SHOP: &[u8] = b"
 script 1,1,S,1,5|@x|
 person ledger_cli play a.d64 s.txt
-unlocked
 tells SCRIPT LINE 2|ledger: s.txt: nothing was done; mend the line, and run it again|
 ends 1
 
 script
 others alone
 person ledger_cli play a.d64 s.txt
-unlocked
 tells IN USE|ledger: a.d64: another program has it; end that one first|
 ends 3
 
@@ -124,7 +122,6 @@ ends 1
 
 no script
 person ledger_cli play a.d64 s.txt
-unlocked
 tells FILE|ledger: s.txt: entity not found|
 ends 3
 
@@ -171,19 +168,16 @@ fn people_are_told_what_is_replaced(rt: HostRuntime) {
 const LINES: &[u8] = b"
 script 250*1,1,S,1,5|
 person ledger_cli play a.d64 s.txt
-unlocked
 prints 250*1,1,DONE,5|
 written
 
 script 99*1,1,S,1,5|
 waiting ledger_cli play a.d64 s.txt
-unlocked
 prints 99*1,1,DONE,5|
 written
 
 script 250*1,1,S,1,5|
 waiting ledger_cli play a.d64 s.txt
-unlocked
 prints 250*1,1,DONE,5|
 tells \rledger: 100 lines\rledger: 200 lines\r                                   \r
 written
