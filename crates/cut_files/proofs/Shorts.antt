@@ -1,10 +1,9 @@
 -- Whether a chain is too short, from what was judged of its file.
-use Rattle.std.proofs.Common.{◌≡◌, Bool, List, ap, false, inl, inr, refl, subst, sym, true, ◌∙◌, ℕ, IsTrue}
-use Rattle.std.proofs.lemmas.Bool.{eqb-true, false≢true}
-use Rattle.std.specs.Prelude.{◌&&◌, ◌||◌, ◌↔◌, nat_eq, nat_le, replicate, slice_index}
+use Rattle.std.proofs.Common.{◌≡◌, Bool, List, ap, false, inl, inr, subst, sym, true, ◌∙◌, ℕ, IsTrue}
+use Rattle.std.proofs.lemmas.Bool.{false≢true}
+use Rattle.std.specs.Prelude.{◌||◌, ◌↔◌, replicate, slice_index}
 use Rattle.d64_image.specs.Images.{Image, Sector, sector}
 use Rattle.d64_image.specs.declared.place.Place.{Place}
-use Rattle.disk_layout.specs.Directory.{type_byte}
 use Rattle.disk_layout.specs.Layout.{File, is_rel, is_rel_type}
 use Rattle.disk_layout.specs.declared.slot.Slot.{Slot}
 use Rattle.rel_records.proofs.lemmas.whole.Files.{rel-not-plain}

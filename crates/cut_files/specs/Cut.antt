@@ -1,15 +1,13 @@
 -- When a file is cut short: a sector of it was lost and reads as the end of its chain, so that the file is shorter than
 -- its side sectors or its block count say. Chains, side sectors, counts and the map are those of the 1541 User's Guide;
 -- what counts as cut is our own.
-use Rattle.std.specs.Prelude.{◌≡◌, ◌⊎◌, ℕ, ◌+◌, ◌-◌, ◌*◌, ◌/◌, ◌%◌, ◌<◌, ◌≤◌, ◌∷◌, ◌||◌, ◌&&◌, Bool, IsSome, IsTrue}
-use Rattle.std.specs.Prelude.{None, Some, codes, length, Contains, nat_le, replicate, slice_get, slice_range}
-use Rattle.d64_image.specs.Images.{Image, Sector, sector}
+use Rattle.std.specs.Prelude.{◌≡◌, ◌⊎◌, ◌-◌, ◌/◌, ◌<◌, ◌∷◌, ◌||◌, IsTrue}
+use Rattle.std.specs.Prelude.{Some, length, Contains, replicate, slice_get}
+use Rattle.d64_image.specs.Images.{Image, sector}
 use Rattle.d64_image.specs.declared.place.Place.{Place}
-use Rattle.disk_layout.specs.Chain.{named_at}
-use Rattle.disk_layout.specs.Directory.{map_place, type_byte}
-use Rattle.disk_layout.specs.Layout.{File, Layout, count_field, is_rel, owners, record_length}
+use Rattle.disk_layout.specs.Directory.{map_place}
+use Rattle.disk_layout.specs.Layout.{File, Layout, count_field, is_rel, owners}
 use Rattle.disk_layout.specs.Map.{IsFree}
-use Rattle.disk_layout.specs.Rest.{slot_name}
 use Rattle.rel_records.specs.Listed.{HasStock, ListsWell, NeverGrows, is_plain, used_of}
 
 -- the side sectors of a relative file list more data blocks than they may

@@ -1,9 +1,9 @@
 -- A repair keeps files whole at each moment: what its side sectors list is as it was, or exact.
-use Rattle.std.proofs.Common.{◌≡◌, ◌≢◌, ◌⊎◌, ℕ, ◌+◌, ◌-◌, ◌*◌, ◌/◌, ◌%◌, ◌<◌, ◌≤◌, inl, inr, List, [], ◌∷◌, ◌++◌, map, length}
-use Rattle.std.proofs.Common.{refl, sym, ◌∙◌, ap, ap₂, arith, subst, Bool, IsTrue, slice_index, take, drop}
+use Rattle.std.proofs.Common.{◌≡◌, ◌⊎◌, ℕ, ◌+◌, ◌-◌, ◌*◌, ◌/◌, ◌<◌, ◌≤◌, inl, inr, List, [], ◌∷◌, ◌++◌, map, length}
+use Rattle.std.proofs.Common.{sym, ◌∙◌, ap, ap₂, arith, subst, Bool, IsTrue, slice_index, take, drop}
 use Rattle.std.proofs.lemmas.List.{get_or-drop, get_or-take}
 use Rattle.std.proofs.lemmas.List.Elements.{Contains-append_cases, Contains-append_left}
-use Rattle.std.specs.Prelude.{Contains, Some, flat_map, get_or, nat_eq, nat_le, replicate, slice_get, slice_range, ◌&&◌, ◌||◌}
+use Rattle.std.specs.Prelude.{Contains, Some, flat_map, get_or, nat_eq, nat_le, slice_get, slice_range, ◌&&◌, ◌||◌}
 use Rattle.d64_image.proofs.Places.{same_or_other}
 use Rattle.d64_image.specs.History.{HeldOnly, History}
 use Rattle.d64_image.specs.Images.{Image, Sector, sector}
@@ -21,15 +21,13 @@ use Rattle.disk_layout.specs.Directory.{map_place, slot_in, type_byte}
 use Rattle.disk_layout.specs.InOrder.{IsUnderWay}
 use Rattle.disk_layout.specs.Layout.{File, IsFile, IsLayout, IsRelFile, Layout, count_field, file_owns, is_rel, owners, record_length}
 use Rattle.disk_layout.specs.Rest.{Kept}
-use Rattle.disk_layout.specs.Same.{IsCountByte, SameFiles, Stays, stays_of}
-use Rattle.disk_layout.specs.Side.{side_sector}
-use Rattle.disk_layout.specs.declared.slot.Slot.{Slot}
+use Rattle.disk_layout.specs.Same.{IsCountByte, Stays, stays_of}
 use Rattle.layout_check.proofs.lemmas.repairing.Repairs.{owners-same}
 use Rattle.layout_check.specs.Mended.{IsMended}
 use Rattle.layout_check.specs.RepairOrder.{IsRightBut, repair_order, sides_of}
 use Rattle.rel_records.proofs.lemmas.whole.Ends.{ends-exact}
 use Rattle.rel_records.proofs.lemmas.whole.Files.{chain-some, map-at, none-behind, rel-not-plain}
-use Rattle.rel_records.specs.Listed.{EndsBy, HasStock, IsStock, ListsOne, ListsOneMore, ListsWell, NeverGrows, is_plain, used_of}
+use Rattle.rel_records.specs.Listed.{EndsBy, HasStock, ListsOne, ListsOneMore, ListsWell, NeverGrows, is_plain, used_of}
 use Rattle.rel_records.specs.Whole.{IsWhole, IsWholeFile}
 
 -- what a file that stays keeps of its entry
@@ -205,8 +203,7 @@ module _ (a c : Image) (l : Layout) (strays : List Place) (is : IsLayout a l) (m
     stock-back : HasStock m → HasStock l
     stock-back (i, g, at, stock) =
         let (h, was, same) = alike (stays_of c) (stays_of a) m.files l.files i g mended.same.files at in
-        let P : Bool → Type 0 = IsTrue in
-        (
+        let P : Bool → Type 0 = IsTrue in (
           i,
           h,
           was,
@@ -220,8 +217,7 @@ module _ (a c : Image) (l : Layout) (strays : List Place) (is : IsLayout a l) (m
     stock-on : HasStock l → HasStock m
     stock-on (i, g, at, stock) =
         let (h, was, same) = alike (stays_of a) (stays_of c) l.files m.files i g (sym mended.same.files) at in
-        let P : Bool → Type 0 = IsTrue in
-        (
+        let P : Bool → Type 0 = IsTrue in (
           i,
           h,
           was,

@@ -9,7 +9,8 @@ use Rattle.d64_image.specs.History.{History}
 use Rattle.host_session.specs.Held.{Changes}
 use Rattle.d64_image.specs.Images.{Image}
 use Rattle.d64_image.specs.KeptMirrors.{IsMirrored, is_broken, mirror, mirrored_then, one_if}
-use Rattle.d64_image.proofs.FileRuns.{failed_by_file, file_disk, held_by_file, one_if-false, since_grows, since_whole}
+use Rattle.d64_image.proofs.FileRuns.{failed_by_file, file_disk, one_if-false, since_grows, since_whole}
+use Rattle.host_session.proofs.lemmas.Held.{held_by_file}
 use Rattle.host_session.specs.runs.Chains.{HasRun, HasRunToFailure, IsChain, over_instants}
 use Rattle.host_session.specs.events.Counted.{after_all}
 use Rattle.host_session.specs.events.Events.{Message}

@@ -9,7 +9,8 @@ use Rattle.d64_image.specs.History.{Failed}
 use Rattle.d64_image.specs.Keeps.{FileFailed, Keeps}
 use Rattle.d64_image.specs.Memory.{sectors_in}
 use Rattle.d64_image.specs.KeptMirrors.{IsMirrored, is_broken, mirror, mirror_image}
-use Rattle.d64_image.proofs.FileRuns.{file_disk, file_failed, not_failed, same_file}
+use Rattle.d64_image.proofs.FileRuns.{file_disk, file_failed, not_failed}
+use Rattle.host_session.proofs.lemmas.Held.{same_file}
 use Rattle.host_session.specs.declared.faults.OpenFault.{OpenFault}
 use Rattle.host_session.specs.declared.faults.OpenFault.TheVariants as opening
 use Rattle.host_session.specs.declared.runs.running.ScriptFault.{ScriptFault}

@@ -8,7 +8,8 @@ use Rattle.d64_image.specs.FileDisks.{FileDisk, fails_since, in_run}
 use Rattle.d64_image.specs.History.{Failed, History}
 use Rattle.d64_image.specs.Images.{Image}
 use Rattle.d64_image.specs.KeptMirrors.{IsMirrored, is_broken, mirror}
-use Rattle.d64_image.proofs.FileRuns.{failed_by_file, file_disk, held_by_file, never_failed, since_grows}
+use Rattle.d64_image.proofs.FileRuns.{failed_by_file, file_disk, never_failed, since_grows}
+use Rattle.host_session.proofs.lemmas.Held.{held_by_file}
 use Rattle.host_session.proofs.lemmas.Held.{weaker}
 use Rattle.host_session.specs.declared.faults.OpenFault.{OpenFault}
 use Rattle.host_session.specs.declared.faults.OpenFault.TheVariants as opening

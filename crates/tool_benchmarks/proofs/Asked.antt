@@ -1,7 +1,9 @@
 -- A session goes on from one message to the next.
 use Rattle.std.proofs.Common.{ℕ, ◌≡◌, ◌≤◌, ◌⊎◌, List, true, false, inl, inr, arith}
-use Rattle.d64_image.proofs.Moments.{at_end, never_failed, never_failed_first, never_failed_rest}
-use Rattle.d64_image.specs.History.{Changes, Failed, History, NeverFailed}
+use Rattle.host_session.proofs.lemmas.Held.{at_end}
+use Rattle.d64_image.proofs.Moments.{never_failed, never_failed_first, never_failed_rest}
+use Rattle.d64_image.specs.History.{Failed, History, NeverFailed}
+use Rattle.host_session.specs.Held.{Changes}
 use Rattle.host_session.specs.session.Handling.{IsBeforeOrAfter, after_of}
 use Rattle.host_session.specs.session.Opening.{IsAShop}
 use Rattle.host_session.specs.session.Standing.{View}

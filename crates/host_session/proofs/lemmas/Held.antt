@@ -1,11 +1,16 @@
 -- How the words on moments of a shop's disk go on from one call to the next.
 use Rattle.std.proofs.Common.{List, ℕ, ◌≡◌, ◌<◌, ◌≤◌, ◌+◌, ◌⊎◌, arith, inl, inr, subst, sym}
+use Rattle.d64_image.proofs.FileRuns as files
 use Rattle.d64_image.proofs.Fused as fused
 use Rattle.d64_image.proofs.Moments as devices
 use Rattle.d64_image.specs.Fuses.{fuse, fuse_disk, fuse_failures, fuse_left}
 use Rattle.d64_image.specs.History as history
 use Rattle.d64_image.specs.History.{Failed, History, OnlyReads, WritesNothing}
+use Rattle.d64_image.specs.FileDisks.{in_run}
 use Rattle.d64_image.specs.Images.{Image}
+use Rattle.d64_image.specs.KeptMirrors.{is_broken, mirror}
+use Rattle.d64_image.specs.declared.kept_mirror.KeptMirror.{KeptMirror}
+use Rattle.d64_image.specs.declared.sector_file.SectorFile.{Ghosts}
 use Rattle.d64_image.specs.declared.fuse.Fuse.{Fuse}
 use Rattle.host_session.specs.Held.{Changes, HeldOnly}
 use Rattle.disk_layout.specs.Layout.{File, Layout}
@@ -135,3 +140,21 @@ pub writing-whole : (old : Image) (l : Layout) (n : ℕ) (f : File) (m r pos : �
 writing-whole old l n f m r pos text c (inl g) = g.3
 writing-whole old l n f m r pos text c (inr (inl x)) = x.1
 writing-whole old l n f m r pos text c (inr (inr x)) = x.1
+
+-- over a mirror, and of its file
+module _ {F : Type 0} {G : Ghosts F} where
+  pub held_by_file : (first : F) (a b : KeptMirror F G) (P : Image → Type 0) → HeldOnly mirror a b P
+      → HeldOnly (in_run G.keeps first) (files.file_disk a) (files.file_disk b) P
+  held_by_file first a b P x =
+      let h = files.held_by_file first a b P (bare mirror a b P x) in
+      record {
+        reached = h.reached;
+        later = h.later;
+        each = h.each;
+        before = h.before;
+        whole = λ w. files.held_by_file first a b IsWhole (x.whole w);
+      }
+
+  pub same_file : (a b : KeptMirror F G) (P : Image → Type 0) → a.taken.n ≡ 0 → Changes mirror a b 0 P
+      → (is_broken b → ⊥) → b.file ≡ a.file
+  same_file a b P untaken kept whole = files.same_file a b P untaken (changes_bare mirror a b 0 P kept) whole

@@ -1,5 +1,5 @@
 -- What cuts a file short, a whole one hasn't.
-use Rattle.std.proofs.Common.{◌⊎◌, arith, inl, inr}
+use Rattle.std.proofs.Common.{arith, inl, inr}
 use Rattle.d64_image.specs.Images.{Image}
 use Rattle.d64_image.specs.declared.place.Place.{Place}
 use Rattle.disk_layout.specs.Layout.{File, Layout}

@@ -7,7 +7,6 @@ use Rattle.std.proofs.lemmas.List.{append-nil, length-set, take_all, take_at, dr
 use Rattle.d64_image.specs.History.{History}
 use Rattle.host_session.specs.Held.{Changes}
 use Rattle.d64_image.specs.Images.{Image}
-use Rattle.host_session.proofs.lemmas.Held.{changes_weaker}
 use Rattle.disk_layout.specs.Layout.{File, IsLayout, Layout, file_owns, record_length}
 use Rattle.disk_layout.specs.Records.{pieces, record_count, records}
 use Rattle.rel_records.specs.Others.{HasRecords}
@@ -15,7 +14,6 @@ use Rattle.rel_records.specs.Written.{IsWriting, grown_by, half_written, room_in
 use Rattle.rel_records.specs.Written.{with_written, written}
 use Rattle.host_session.specs.shop.Files.{Files, HasFiles, with_record}
 use Rattle.host_session.specs.shop.Shop.{IsShop, Shop}
-use Rattle.layout_check.specs.Mended.{IsMended}
 use Rattle.disk_layout.specs.InOrder.{GoesOver}
 use Rattle.drive_channels.proofs.RepairWhole.{repair-held}
 use Rattle.layout_check.specs.RepairOrder.{IsRight, repair_order}
