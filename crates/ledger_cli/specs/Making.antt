@@ -43,6 +43,11 @@ module _ {F : Type 0} (position : F → Option ℕ) (bytes contents : F → Opti
       IsHandedPart old new p.at p.bytes
       ⊎ ((next : F) × IsHanded position bytes contents None old next p.at p.bytes × AreWrittenInPart next new ps)
 
+  -- what writing these pieces came to
+  abbrev pub IsWriting : F → F → List Piece → Result Unit RunFault → Type 0
+  IsWriting old new ps (Ok _) = AreWritten old new ps
+  IsWriting old new ps (Err fault) = (fault ≡ run.File) × AreWrittenInPart old new ps
+
   -- This is what a file holds: bytes that it is handed at n stand there, in the place of those from n on.
   abbrev pub SaysWhatItHolds : (F → Option (List ℕ)) → Type 0
   SaysWhatItHolds held = (old new : F) (n : ℕ) (handed all : List ℕ)

@@ -4,7 +4,7 @@ use Rattle.d64_image.specs.Memory.{sectors_in}
 use Rattle.d64_image.specs.declared.kept_disk.KeptDisk.{KeptDisk}
 use Rattle.d64_image.specs.declared.mirror.Mirror.{Mirror}
 use Rattle.ledger_cli.specs.Making.{IsImageMade}
-use Rattle.ledger_cli.specs.Streams.{IsBegun, WhyUnbegun, stream, stream_file}
+use Rattle.ledger_cli.specs.Streams.{HandsSectors, IsBegun, WhyUnbegun, stream, stream_file}
 use Rattle.disk_layout.specs.declared.faults.Fault.{Fault}
 use Rattle.host_session.specs.runs.Outputs.{AppendsPart, written}
 use Rattle.host_session.specs.session.Opening.{IsAShop}
@@ -86,7 +86,8 @@ module _ {F : Type 0} (position : F → Option ℕ) (bytes contents : F → Opti
   abbrev pub IsPlayed : (W → Option (List ℕ)) → (image script : List ℕ) → Option F → Option F → W → W → JobEnd → Type 0
   IsPlayed told image script file after old new end = IsOverFile image file after old new end
       (λ f left. EndsAs as_job end
-      (IsPlayRun (stream position bytes contents) (written told) image script f left old new))
+      (IsPlayRun (stream position bytes contents) (written told) image script f left old new)
+      × HandsSectors position bytes contents image f left)
 
   -- a shop was served, or not for what is lost
   abbrev pub IsServed : List ℕ → Loss → Option F → Option F → W → W → JobEnd → Type 0

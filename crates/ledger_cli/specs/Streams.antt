@@ -3,9 +3,10 @@ use Rattle.std.specs.Prelude.{◌≡◌, ◌⊎◌, ℕ, List, Option, None, Som
 use Rattle.d64_image.specs.Keeps.{Keeps}
 use Rattle.d64_image.specs.KeptDisks.{keeps_device, kept_disk}
 use Rattle.d64_image.specs.Memory.{disk_image, sectors_in}
-use Rattle.d64_image.specs.Mirrors.{is_broken, mirror, mirror_at, mirror_disk, mirror_file}
+use Rattle.d64_image.specs.Mirrors.{IsMirrored, is_broken, mirror, mirror_at, mirror_disk, mirror_file}
 use Rattle.d64_image.specs.declared.kept_disk.KeptDisk.{KeptDisk}
 use Rattle.d64_image.specs.declared.mirror.Mirror.{Mirror}
+use Rattle.host_session.specs.shop.Shop.{IsShop, Shop}
 use Rattle.ledger_commands.specs.Images.{IsLoadFault}
 use Rattle.ledger_commands.specs.declared.faults.RunFault.{RunFault}
 use Rattle.ledger_commands.specs.declared.faults.RunFault.TheVariants as run
@@ -28,3 +29,10 @@ pub record IsBegun {F : Type 0} (image : List ℕ) (s : KeptDisk (Mirror F)) : T
 -- why no file is taken up: there is none, or the image has another size, or there was no memory for it
 abbrev pub WhyUnbegun : {F : Type 0} → (image : List ℕ) → Option F → RunFault → Type 0
 WhyUnbegun image file fault = ((file ≡ None) × (fault ≡ run.File)) ⊎ IsLoadFault image fault
+
+-- If the image is a shop's, the file was handed sectors, each at 256 times its index and before memory took it, and nothing
+-- else.
+abbrev pub HandsSectors : {F : Type 0} → (F → Option ℕ) → (F → Option (List ℕ)) → (F → Option (List ℕ)) → List ℕ
+    → KeptDisk (Mirror F) → KeptDisk (Mirror F) → Type 0
+HandsSectors position bytes contents image old new =
+    (s : Shop) → IsShop (sectors_in image) s → IsMirrored position bytes contents (kept_disk old) (kept_disk new)

@@ -1,7 +1,7 @@
 //! Making the image of an empty shop over any file that is written and sought.
 ghost use Rattle.std.specs.Prelude.{◌≡◌, ◌≤◌, IfErr, None, OnOk, length};
 ghost use Rattle.d64_image.specs.Mirrors.{IsHanded};
-ghost use Rattle.ledger_cli.specs.Making.{AreWritten, AreWrittenInPart, IsHandedPart, IsImageMade, image_writes};
+ghost use Rattle.ledger_cli.specs.Making.{IsHandedPart, IsImageMade, IsWriting, image_writes};
 ghost use Rattle.ledger_commands.specs.declared.faults.RunFault.TheVariants as faults;
 
 use ledger_commands::{RunFault, fresh_disk, put_whole};
@@ -33,10 +33,7 @@ fn hand_over<F: Write + Seek>(file: &mut F, bytes: &[u8], at: u64) -> Result<(),
 /// the writes isn't a sound disk's. `File` if the file failed, which has a beginning of the writes then.
 fn write_over<F: Write + Seek>(file: &mut F, image: &[u8]) -> Result<(), RunFault>
     requires size { length image.now ≡ 174848 }
-    ensures ok { OnOk result (AreWritten F.stream_position F.stream_bytes F.contents file.old file.new
-        (image_writes image.now)) }
-    ensures err { IfErr result (λ fault. (fault ≡ faults.File)
-        × AreWrittenInPart F.stream_position F.stream_bytes F.contents file.old file.new (image_writes image.now)) }
+    ensures { IsWriting F.stream_position F.stream_bytes F.contents file.old file.new (image_writes image.now) result }
 {
     hand_over(file, &SPOILED, DIRECTORY as u64)?;
     hand_over(file, &image[..DIRECTORY], 0)?;
