@@ -30,5 +30,5 @@ returns g c =
     made g.F.Seek.stream_position g.F.Seek.stream_bytes g.F.Write.contents g.W.Write.contents c.args.tills
     c.args.file.now c.write_over.new.file c.args.out.now c.put_whole.new.out
     (image_written g.F.Seek.stream_position g.F.Seek.stream_bytes g.F.Write.contents c.args.tills c.args.file.now
-    c.write_over.new.file c.bytes.result.now c.write_over.requires.size fresh c.in_ok-write_over.ensures)
+    c.write_over.new.file c.bytes.result.now c.bytes.ensures.size fresh c.in_ok-write_over.ensures)
     c.put_whole.result c.put_whole.ensures.ok c.put_whole.ensures.err

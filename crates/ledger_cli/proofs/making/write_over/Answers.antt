@@ -8,8 +8,8 @@ use Rattle.ledger_cli.proofs.Made.{writing_failed, written_whole}
 use Rattle.ledger_cli.specs.Making.{IsHandedPart, image_writes}
 use Rattle.ledger_cli.proofs.making.write_over.Goals as goal
 
-pub slice_bounds-hand_over-2-end : goal.slice_bounds-hand_over-2-end
-slice_bounds-hand_over-2-end g c = omega (arith, c.requires.size, length-take 91648 c.args.image.now)
+pub slice_bounds-hand_over-end-2 : goal.slice_bounds-hand_over-end-2
+slice_bounds-hand_over-end-2 g c = omega (arith, c.requires.size, length-take 91648 c.args.image.now)
 
 pub returns-in_err-hand_over : goal.returns-in_err-hand_over
 returns-in_err-hand_over g c =
