@@ -110,7 +110,11 @@ fn files_are_handed_back(rt: HostRuntime) {
     };
     let (status, file) = handed_back(&rt, &job, Cursor::new(long));
     let bytes = file.into_inner();
-    same(&rt, (status, bytes.len(), image.len()), (0, 174_850, 174_848));
+    same(
+        &rt,
+        (status, bytes.len(), image.len()),
+        (0, 174_850, 174_848),
+    );
     same(&rt, bytes.as_slice().starts_with(image.as_slice()), true);
     same(&rt, byte_at(bytes.as_slice(), 174_848), 7);
     same(&rt, byte_at(bytes.as_slice(), 174_849), 7);

@@ -34,9 +34,16 @@ returns-in_err-hand_over-3 g c =
     let e = c.in_err-hand_over-3.ensures.err in
     writing_failed g.F.Seek.stream_position g.F.Seek.stream_bytes g.F.Write.contents c.args.file.now c.hand_over-3.new.file
     (image_writes c.args.image.now) r.result _ (p.1 ∙ ap Err p.2) e.0
-    (inr (c.hand_over.new.file, c.in_ok-hand_over.ensures.ok, inr (c.hand_over-2.new.file, c.in_ok-hand_over-2.ensures.ok,
-    inl (subst (λ (xs : List ℕ). IsHandedPart g.F.Seek.stream_position g.F.Seek.stream_bytes g.F.Write.contents
-    c.hand_over-2.new.file c.hand_over-3.new.file 91904 xs) (take_rest c.args.image.now 91904) e.1))))
+    (inr (
+      c.hand_over.new.file,
+      c.in_ok-hand_over.ensures.ok,
+      inr (
+        c.hand_over-2.new.file,
+        c.in_ok-hand_over-2.ensures.ok,
+        inl (subst (λ (xs : List ℕ). IsHandedPart g.F.Seek.stream_position g.F.Seek.stream_bytes g.F.Write.contents
+            c.hand_over-2.new.file c.hand_over-3.new.file 91904 xs) (take_rest c.args.image.now 91904) e.1),
+      ),
+    ))
 
 pub returns : goal.returns
 returns g c =
