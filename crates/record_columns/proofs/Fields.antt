@@ -1,24 +1,13 @@
 -- Columns that are written: they are read as the record, and they are its fields.
-use Rattle.std.proofs.Common.{◌≡◌, ◌≢◌, ◌<◌, ◌≤◌, ◌+◌, ◌-◌, ◌/◌, ◌%◌, ◌∙◌, ℕ, suc, List, [], ◌∷◌, ◌++◌, Bool, true, false}
+use Rattle.std.proofs.Common.{◌≡◌, ◌≢◌, ◌<◌, ◌≤◌, ◌-◌, ◌/◌, ◌%◌, ◌∙◌, ℕ, suc, List, [], ◌∷◌, ◌++◌, Bool, true, false}
 use Rattle.std.proofs.Common.{ap, arith, get_or, length, refl, subst, sym, flat_map, drop}
-use Rattle.std.specs.Prelude.{if◌then◌else◌, nat_eq, nat_le, nat_lt, not}
+use Rattle.std.specs.Prelude.{if◌then◌else◌, nat_eq}
 use Rattle.std.specs.List.{AllByRecursion}
 use Rattle.std.proofs.lemmas.Bool.{eqb-true, ne_eqb}
 use Rattle.std.proofs.lemmas.List.{append_assoc, append-nil}
 use Rattle.byte_text.specs.Texts.{byte_text, digit, is_plain, text_of}
-use Rattle.record_columns.specs.Columns.{
-  IsEnded,
-  IsField,
-  columns_of,
-  columns_of_fields,
-  ended,
-  is_empty,
-  one_text,
-  piece,
-  quoted,
-  rest_of_columns,
-}
-use Rattle.record_columns.specs.declared.reading.Column.TheVariants.{Start, Plain, Quoted, Closed}
+use Rattle.record_columns.specs.Columns.{IsEnded, IsField, columns_of, columns_of_fields, ended, is_empty, one_text, piece, rest_of_columns}
+use Rattle.record_columns.specs.declared.reading.Column.TheVariants.{Start, Quoted, Closed}
 use Rattle.record_columns.proofs.Joined.{chosen}
 
 -- a byte between quotation marks that is none

@@ -1,6 +1,6 @@
 -- Columns joined to one text, byte by byte.
 use Rattle.std.proofs.Common.{◌≡◌, ◌<◌, ◌≤◌, ◌+◌, ◌*◌, ◌/◌, ◌%◌, ◌∙◌, ℕ, List, [], ◌∷◌, ◌++◌, Bool, true, false, ap, arith}
-use Rattle.std.proofs.Common.{drop, get_or, length, length-append, lit≤, refl, sym}
+use Rattle.std.proofs.Common.{drop, get_or, length, length-append, lit≤, sym}
 use Rattle.std.specs.Prelude.{if◌then◌else◌}
 use Rattle.std.proofs.lemmas.List.{append_assoc, drop_all, drop_more}
 use Rattle.byte_text.specs.Texts.{byte_text, digit, is_plain, text_of}
@@ -33,8 +33,14 @@ too-long before all xs column i low so_far past =
     let long : length (before ++ one_text column (drop i xs)) ≡ length all = ap length so_far in
     let here : length (one_text column (drop i xs)) ≡ length (given column b ++ rest) =
     ap length (one-more column xs i low) in
-    omega (arith, long, here, past, length-append before (one_text column (drop i xs)),
-    length-append (given column b) rest)
+    omega (
+      arith,
+      long,
+      here,
+      past,
+      length-append before (one_text column (drop i xs)),
+      length-append (given column b) rest,
+    )
 
 -- the end of the line
 pub at-end : (before all xs : List ℕ) (column : Column) (i : ℕ) → length xs ≤ i

@@ -1,23 +1,6 @@
 -- Fields of records as columns, by RFC 4180. A BASIC program ends each field with a carriage return, $0D. The text of a
 -- byte is that of byte_text. All else is our own.
-use Rattle.std.specs.Prelude.{
-  ◌≡◌,
-  ◌≢◌,
-  ◌-◌,
-  ℕ,
-  Bool,
-  List,
-  [],
-  ◌∷◌,
-  ◌++◌,
-  false,
-  true,
-  flat_map,
-  if◌then◌else◌,
-  length,
-  nat_eq,
-  slice_index,
-}
+use Rattle.std.specs.Prelude.{◌≡◌, ◌≢◌, ◌-◌, ℕ, Bool, List, [], ◌∷◌, ◌++◌, false, true, if◌then◌else◌, length, nat_eq, slice_index}
 use Rattle.std.specs.List.{AllByRecursion}
 use Rattle.byte_text.specs.Texts.{byte_text, text_of}
 use Rattle.record_columns.specs.declared.reading.Column.{Column}

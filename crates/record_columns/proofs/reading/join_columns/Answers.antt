@@ -1,5 +1,5 @@
 -- A byte more was joined, or the room ended.
-use Rattle.std.proofs.Common.{arith, sym, ◌∙◌}
+use Rattle.std.proofs.Common.{arith, ◌∙◌}
 use Rattle.record_columns.proofs.Joined.{at-end, end-too-long, joined-next, too-long}
 use Rattle.record_columns.proofs.reading.join_columns.Goals as goal
 

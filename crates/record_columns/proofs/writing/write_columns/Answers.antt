@@ -14,8 +14,8 @@ loop-rest-preserved g c =
       before.0 ++ _,
       Appends-trans _ _ _ _ _ before.1 c.in_ok-write_piece.ensures,
       write-next before.0 rest _ c.is_empty.result c.in-len1-up.len_at_least
-      (c.is_empty.ensures ∙ ap (λ (xs : List ℕ). nat_eq (length xs) 0) (take_rest rest 1) ∙ empty-is (drop 1 rest))
-      before.2,
+          (c.is_empty.ensures ∙ ap (λ (xs : List ℕ). nat_eq (length xs) 0) (take_rest rest 1) ∙ empty-is (drop 1 rest))
+          before.2,
     )
 
 pub returns : goal.returns
