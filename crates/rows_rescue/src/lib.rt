@@ -1,10 +1,14 @@
-//! Rows of what keepers rescue: characters, names of files, and what can be reached of a damaged disk. Tests only: no
-//! program stands on this crate.
+//! Rows of what keepers rescue: characters, names of files, columns, what can be reached of a damaged disk, and images of
+//! other sizes. Tests only: no program stands on this crate.
 #![tactic(auto)]
 
+#[cfg(test)]
+mod column_rows;
 #[cfg(test)]
 mod comparing;
 #[cfg(test)]
 mod reaching_rows;
+#[cfg(test)]
+mod size_rows;
 #[cfg(test)]
 mod text_rows;

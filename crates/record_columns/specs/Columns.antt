@@ -1,0 +1,70 @@
+-- Fields of records as columns, by RFC 4180. A BASIC program ends each field with a carriage return, $0D. The text of a
+-- byte is that of byte_text. All else is our own.
+use Rattle.std.specs.Prelude.{◌≡◌, ◌≢◌, ◌-◌, ℕ, Bool, List, [], ◌∷◌, ◌++◌, false, true, if◌then◌else◌, length, nat_eq, slice_index}
+use Rattle.std.specs.List.{AllByRecursion}
+use Rattle.byte_text.specs.Texts.{byte_text, text_of}
+use Rattle.record_columns.specs.declared.reading.Column.{Column}
+use Rattle.record_columns.specs.declared.reading.Column.TheVariants.{Start, Plain, Quoted, Closed}
+
+-- the record ends with a carriage return
+abbrev pub IsEnded : List ℕ → Type 0
+IsEnded bytes = slice_index bytes (length bytes - 1) ≡ 13
+
+abbrev pub is_empty : List ℕ → Bool
+is_empty [] = true
+is_empty (b ∷ bytes) = false
+
+-- A byte of a record: a carriage return ends its column's quotation marks, and if it isn't the last byte begins the next
+-- column; any other is its text
+abbrev pub piece : ℕ → Bool → List ℕ
+piece b last = if nat_eq b 13 then (if last then 34 ∷ [] else 34 ∷ 44 ∷ 34 ∷ []) else byte_text b
+
+-- the columns behind the first quotation mark
+unfoldable pub rest_of_columns : List ℕ → List ℕ
+rest_of_columns [] = []
+rest_of_columns (b ∷ bytes) = piece b (is_empty bytes) ++ rest_of_columns bytes
+
+-- a record that ends with a carriage return as columns. KING, CR, LEEDS, CR is "KING","LEEDS"
+abbrev pub columns_of : List ℕ → List ℕ
+columns_of bytes = 34 ∷ rest_of_columns bytes
+
+-- fields as the record has them, and as columns
+abbrev pub ended : List ℕ → List ℕ
+ended field = field ++ 13 ∷ []
+
+abbrev pub quoted : List ℕ → List ℕ
+quoted field = 34 ∷ (text_of field ++ 34 ∷ [])
+
+unfoldable pub columns_of_fields : List (List ℕ) → List ℕ
+columns_of_fields [] = []
+columns_of_fields (field ∷ []) = quoted field
+columns_of_fields (field ∷ (next ∷ fields)) = quoted field ++ 44 ∷ columns_of_fields (next ∷ fields)
+
+-- no byte of the field is a carriage return
+abbrev pub IsField : List ℕ → Type 0
+IsField field = AllByRecursion (λ b. b ≢ 13) field
+
+-- where a column stands after one byte more
+abbrev pub next_column : Column → ℕ → Column
+next_column Start b = if nat_eq b 34 then Quoted else (if nat_eq b 44 then Start else Plain)
+next_column Plain b = if nat_eq b 44 then Start else Plain
+next_column Quoted b = if nat_eq b 34 then Closed else Quoted
+next_column Closed b = if nat_eq b 44 then Start else Plain
+
+-- What this byte gives of the record's text. A comma between columns is a carriage return, \0d. The marks of a column
+-- give nothing, and a mark anywhere else stays, so that no bytes have the text
+abbrev pub given : Column → ℕ → List ℕ
+given Start b = if nat_eq b 34 then [] else (if nat_eq b 44 then 92 ∷ 48 ∷ 100 ∷ [] else b ∷ [])
+given Plain b = if nat_eq b 44 then 92 ∷ 48 ∷ 100 ∷ [] else b ∷ []
+given Quoted b = if nat_eq b 34 then [] else b ∷ []
+given Closed b = if nat_eq b 44 then 92 ∷ 48 ∷ 100 ∷ [] else 34 ∷ b ∷ []
+
+-- the end of the line ends the last field; a column whose marks aren't closed has no bytes
+abbrev pub given_at_end : Column → List ℕ
+given_at_end Quoted = 34 ∷ []
+given_at_end _ = 92 ∷ 48 ∷ 100 ∷ []
+
+-- Columns as the text of one record. A,"B" is A\0dB\0d
+unfoldable pub one_text : Column → List ℕ → List ℕ
+one_text column [] = given_at_end column
+one_text column (b ∷ text) = given column b ++ one_text (next_column column b) text

@@ -1,0 +1,49 @@
+//! Records written as columns.
+ghost use Rattle.std.specs.Prelude.{◌≡◌, ◌↔◌, IsTrue, OnOk};
+ghost use Rattle.std.specs.Io.KnownBytes.{Appends};
+ghost use Rattle.record_columns.specs.Columns.{IsEnded, columns_of};
+ghost use Rattle.record_columns.specs.Columns as columns;
+
+use byte_text::write_text;
+use std::io::{self, Write};
+
+/// Whether the record ends with a carriage return, as a BASIC program ends its last field.
+pub fn ends_with_return(bytes: &[u8]) -> bool
+    ensures { IsTrue result ↔ IsEnded bytes.now }
+{
+    match bytes {
+        [.., last] => *last == b'\r',
+        [] => false,
+    }
+}
+
+/// Writes one byte of a record; `last` says whether it is the last one.
+fn write_piece<W: Write>(out: &mut W, byte: u8, last: bool) -> io::Result<()>
+    ensures { OnOk result (Appends (W.contents out.old) (W.contents out.new) (columns.piece byte last)) }
+{
+    if byte != b'\r' {
+        return write_text(out, &[byte]);
+    }
+    if last {
+        return out.write_all(b"\"");
+    }
+    out.write_all(b"\",\"")
+}
+
+/// Writes a record without the zeros at its end as columns of a file of comma-separated values (RFC 4180): each field
+/// between quotation marks, in the text of `byte_text`, which has no mark itself. The number of the record and the end
+/// of the line are the caller's. The record ends with a carriage return (`ends_with_return`).
+///
+/// `read_columns` gives the record back (`columns_come_back`). An error is the writer's, which may then have a part.
+pub fn write_columns<W: Write>(out: &mut W, bytes: &[u8]) -> io::Result<()>
+    requires { IsEnded bytes.now }
+    ensures { OnOk result (Appends (W.contents out.old) (W.contents out.new) (columns_of bytes.now)) }
+{
+    out.write_all(b"\"")?;
+    let mut rest = bytes;
+    while let [byte, behind @ ..] = rest {
+        write_piece(out, *byte, behind.is_empty())?;
+        rest = behind;
+    }
+    Ok(())
+}

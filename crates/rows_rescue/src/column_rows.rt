@@ -1,0 +1,84 @@
+//! Records as columns: those that Python's `csv` writes of the fields, with marks everywhere and only where they are
+//! needed, and lines that aren't read.
+use crate::comparing::same_at;
+use record_columns::{ends_with_return, read_columns, write_columns};
+use std::process::Abort;
+
+/// A record, its columns by `csv.QUOTE_ALL`, and by `csv.QUOTE_MINIMAL`.
+const RECORDS: [(&[u8], &[u8], &[u8]); 6] = [
+    (
+        b"KING\r61 MILL LANE\rLEEDS\r",
+        b"\"KING\",\"61 MILL LANE\",\"LEEDS\"",
+        b"KING,61 MILL LANE,LEEDS",
+    ),
+    (b"\r", b"\"\"", b"\"\""),
+    (b"\r\r", b"\"\",\"\"", b","),
+    (b"A,B\rC\r", b"\"A,B\",\"C\"", b"\"A,B\",C"),
+    (
+        b"000000042\r=A1\r",
+        b"\"000000042\",\"=A1\"",
+        b"000000042,=A1",
+    ),
+    (b"MILK\r 12 \r", b"\"MILK\",\" 12 \"", b"MILK, 12 "),
+];
+
+/// Sees that each record is written so, and read from both.
+fn are_columns(rt: &(impl Abort + AllocGlobal), rows: &[(&[u8], &[u8], &[u8])]) {
+    for &(bytes, marked, plain) in rows {
+        let mut out = Vec::new(rt.alloc());
+        if ends_with_return(bytes) {
+            let _ = write_columns(&mut out, bytes);
+        }
+        same_at(rt, out.as_slice(), marked, bytes);
+        are_read(rt, marked, bytes);
+        are_read(rt, plain, bytes);
+    }
+}
+
+/// Sees that the line is read as this record.
+fn are_read(rt: &impl Abort, line: &[u8], bytes: &[u8]) {
+    let found = read_columns(line);
+    same_at(
+        rt,
+        found.as_ref().map(|found| found.as_slice()),
+        Some(bytes),
+        line,
+    );
+}
+
+/// Lines that aren't read: a mark that is doubled, open, within a column, before text, a byte that is no text, and a
+/// byte with its number that stands for itself.
+const REFUSED: [&[u8]; 7] = [
+    b"\"A\"\"B\"",
+    b"\"A",
+    b"A\"B",
+    b"\"A\"B",
+    b"\"A\" ,B",
+    b"A,\xE4",
+    b"A,\\41",
+];
+
+/// Sees that none of them is read.
+fn are_refused(rt: &impl Abort, lines: &[&[u8]]) {
+    for &line in lines {
+        same_at(rt, read_columns(line).is_none(), true, line);
+    }
+}
+
+// A record has 254 bytes at most, the last carriage return among them.
+#[test]
+fn columns(rt: HostRuntime) {
+    are_columns(&rt, &RECORDS);
+    are_refused(&rt, &REFUSED);
+    same_at(&rt, ends_with_return(b"\xFF"), false, 255);
+    same_at(&rt, ends_with_return(b""), false, 0);
+    same_at(&rt, read_columns(&[b'A'; 253]).is_some(), true, 253);
+    same_at(&rt, read_columns(&[b'A'; 254]).is_none(), true, 254);
+}
+
+/// A byte whose text is an escape, in both forms, and a carriage return within a column, which is one more field.
+#[test]
+fn escapes(rt: HostRuntime) {
+    are_read(&rt, b"\"\\c1\\22\",B", b"\xC1\"\rB\r");
+    are_read(&rt, b"A\\0dB", b"A\rB\r");
+}

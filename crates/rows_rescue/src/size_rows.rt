@@ -1,0 +1,87 @@
+//! Images of other sizes: which are taken, their first 35 tracks, and the errors that their last bytes tell.
+use crate::comparing::same_at;
+use d64_image::Place;
+use disk_rescue::{error_at, first_tracks};
+use std::process::Abort;
+
+/// Sizes, and whether they are taken: the four, each with a byte more and one less, 42 tracks, and both other drives.
+const SIZES: [(usize, bool); 16] = [
+    (174_848, true),
+    (174_847, false),
+    (174_849, false),
+    (175_531, true),
+    (175_530, false),
+    (175_532, false),
+    (196_608, true),
+    (196_607, false),
+    (196_609, false),
+    (197_376, true),
+    (197_375, false),
+    (197_377, false),
+    (205_312, false),
+    (349_696, false),
+    (819_200, false),
+    (0, false),
+];
+
+/// An image of this size, the byte 7 at the end of track 35 and 8 behind it.
+fn sized(rt: &(impl Abort + AllocGlobal), size: usize) -> Vec<u8> {
+    let mut image = Vec::new(rt.alloc());
+    image.resize(size, 1).expect(rt, "memory");
+    for (at, byte) in image.iter_mut().enumerate() {
+        if at == 174_847 {
+            *byte = 7;
+        }
+        if at == 174_848 {
+            *byte = 8;
+        }
+    }
+    image
+}
+
+/// Sees that these sizes are taken or not, and what is taken of them.
+fn are_taken(rt: &(impl Abort + AllocGlobal), rows: &[(usize, bool)]) {
+    for &(size, taken) in rows {
+        let image = sized(rt, size);
+        let tracks = first_tracks(image.as_slice());
+        same_at(rt, tracks.is_some(), taken, size);
+        if let Some(tracks) = tracks {
+            same_at(rt, tracks.len(), 174_848, size);
+            same_at(rt, tracks.last().copied(), Some(7), size);
+        }
+    }
+}
+
+/// A size, a sector, where its error byte lies (none: the image has none), and the error with 5 there. 17/4 is sector 340,
+/// 35/16 the last of 683.
+const ERRORS: [(usize, (u8, u8), usize, Option<u8>); 7] = [
+    (175_531, (1, 0), 174_848, Some(5)),
+    (175_531, (17, 4), 175_188, Some(5)),
+    (175_531, (35, 16), 175_530, Some(5)),
+    (197_376, (17, 4), 196_948, Some(5)),
+    (197_376, (35, 16), 197_290, Some(5)),
+    (174_848, (17, 4), 100, None),
+    (196_608, (17, 4), 196_000, None),
+];
+
+/// Sees that this error is told of the sector, and none if the byte is 1.
+fn are_told(rt: &(impl Abort + AllocGlobal), rows: &[(usize, (u8, u8), usize, Option<u8>)]) {
+    for &(size, (track, sector), at, wanted) in rows {
+        let place = Place::new(track, sector).unwrap_or_default();
+        let mut image = Vec::new(rt.alloc());
+        image.resize(size, 1).expect(rt, "memory");
+        same_at(rt, error_at(image.as_slice(), place), None, size);
+        for (number, byte) in image.iter_mut().enumerate() {
+            if number == at {
+                *byte = 5;
+            }
+        }
+        same_at(rt, error_at(image.as_slice(), place), wanted, size);
+    }
+}
+
+#[test]
+fn sizes(rt: HostRuntime) {
+    are_taken(&rt, &SIZES);
+    are_told(&rt, &ERRORS);
+}
