@@ -38,7 +38,6 @@ VIEWPORT = b'<meta name="viewport" content="width=device-width,initial-scale=1"'
 OPEN_TAGS = ((b'<meta charset="utf-8">', b'<meta charset="utf-8"/>', 1), (VIEWPORT + b">", VIEWPORT + b"/>", 1))
 TAG = re.compile(rb"<[^<>]*>")
 STYLE = re.compile(rb"<style>.*?</style>", re.S)
-CLASSES = {"*": "map", "=": "dir", ".": "free", "?": "lost"}
 FAULT = re.compile(r"([A-Z]+) (\d+)/(\d+)")
 
 
@@ -144,9 +143,9 @@ class Page:
 
 def wanted_circle(disk, place):
     """A sector's circle: its group, ring, class or colour, and title."""
-    mark = disk.mark(place)
-    if mark in CLASSES:
-        return ["m" if mark in "*=" else "r", RINGS[place], ("class", CLASSES[mark]), disk.title(place)]
+    named = disk.class_of(place)
+    if named:
+        return ["m" if named in ("map", "dir") else "r", RINGS[place], ("class", named), disk.title(place)]
     number, kind, _ = disk.owner[place]
     return [f"f{number}", RINGS[place], ("class", file_class(number, kind == "side")), disk.title(place)]
 
@@ -229,13 +228,12 @@ class Bench:
 
     def see_map(self, lines, disk, verdict):
         fault = fault_place(verdict) if verdict != "OK" else None
-        for track in range(1, 36):
-            places = ((track, sector) for sector in range(sectors_on(track)))
-            marks = "".join("!" if place == fault else disk.mark(place) for place in places)
-            want(lines[track + 1] == f"{track:2} {marks}", f"track {track} of the map is {lines[track + 1]}")
-        want(len(lines) == 38 + len(disk.entries) and lines[-1] == verdict, f"the map ends in {lines[-1]}")
-        for line, entry in zip(lines[37:], disk.entries):
-            want(f' "{entry.name}" ' in line, f"{entry.name} isn't in {line}")
+        tracks = disk.map_lines(fault)
+        for line, wanted in zip(lines, tracks):
+            want(line == wanted, f"{line} in the map in place of {wanted}")
+        want(len(lines) == len(tracks) + len(disk.entries) + 1 and lines[-1] == verdict, f"the map ends in {lines[-1]}")
+        for number, (line, entry) in enumerate(zip(lines[len(tracks):], disk.entries)):
+            want(re.match(f'{disk.mark_of_entry(number)} \\d+ "{re.escape(entry.name)}" ', line), f"{entry.name}'s line is {line}")
 
     def see_page(self, printed, image, disk, verdict):
         page = self.page(printed)

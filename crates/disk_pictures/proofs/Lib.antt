@@ -1,3 +1,4 @@
+pub mod Apart
 pub mod Counted
 pub mod CountedDrawing
 pub mod Drawn
@@ -6,6 +7,7 @@ pub mod DrawnOnce
 pub mod HowManyDrawn
 pub mod Marks
 pub mod Markups
+pub mod Named
 pub mod Opening
 pub mod Owned
 pub mod Owning
@@ -14,6 +16,7 @@ pub mod PageMarkup
 pub mod PlainBytes
 pub mod Printing
 pub mod Rows
+pub mod Shared
 pub mod Sides
 pub mod Sound
 pub mod SoundPrinted

@@ -9,4 +9,6 @@ pub mod Outcomes
 pub mod Owners
 pub mod Pictures
 pub mod Sectors
+pub mod Sentences
+pub mod Sharing
 pub mod Texts

@@ -1,5 +1,5 @@
 -- What comes of drawing an image, and why it isn't drawn. Our own.
-use Rattle.std.specs.Prelude.{◌≡◌, ◌≢◌, List, ℕ, Option, Some, None, length}
+use Rattle.std.specs.Prelude.{◌≡◌, ◌≢◌, ◌≤◌, List, ℕ, Option, Some, None, length}
 use Rattle.std.specs.Io.KnownBytes.{Appends}
 use Rattle.d64_image.specs.Images.{Image, Sector, sector}
 use Rattle.d64_image.specs.Memory.{sectors_in}
@@ -30,6 +30,7 @@ pub record IsDrawnAndJudged (image : List ℕ) (l : Layout) (found : Option Faul
   pub size : length image ≡ 174848
   pub drawn : IsDrawn (sectors_in image) l
   pub verdict : IsVerdict (sectors_in image) found
+  pub few : length l.files ≤ 144
 
 -- the same of a drawing as the code holds it
 pub record IsJudged (image : List ℕ) (drawing : Drawing) (found : Option Fault) : Type 0 where
