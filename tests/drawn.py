@@ -42,13 +42,27 @@ class Entry:
         self.name = name_text(raw[5:21].rstrip(b"\xa0"))
         self.shown = html_name(raw[5:21].rstrip(b"\xa0"))
         self.first, self.side, self.length = tuple(raw[3:5]), tuple(raw[21:23]), raw[23]
-        self.blocks, self.sides = [], []
+        self.count = raw[30] + 256 * raw[31]
+        self.blocks, self.sides, self.last = [], [], 0
 
     def is_closed(self):
         return self.kind >= 128
 
     def is_relative(self):
         return self.kind in (0x84, 0xC4)
+
+    def has_records(self):
+        """Whether its record length and its number of records are shown."""
+        return self.is_relative() and bool(self.blocks) and self.length != 0
+
+    def records(self):
+        """How many whole records its blocks have: 254 bytes each, the last one up to its last index."""
+        return (254 * (len(self.blocks) - 1) + max(self.last, 1) - 1) // self.length
+
+    def type_text(self, locked):
+        """Its type: after a star if no drive closed it, before this mark if it is locked."""
+        name = dict(enumerate(("DEL", "SEQ", "PRG", "USR", "REL"))).get(self.kind % 64, "???")
+        return ("" if self.is_closed() else "*") + name + (locked if self.kind >> 6 & 1 else "")
 
 
 class Disk:
@@ -104,6 +118,9 @@ class Disk:
             if not entry.is_closed():
                 continue
             entry.blocks = self._walk(entry.first)
+            if entry.blocks:
+                track, last = self.sector(entry.blocks[-1])[:2]
+                entry.last = last if track == 0 else 0
             if entry.is_relative():
                 entry.sides = self._walk(entry.side)[:(len(entry.blocks) + 119) // 120]
             for kind, places in (("block", entry.blocks), ("side", entry.sides)):

@@ -15,6 +15,7 @@ chain on track 18: then all are refused with the fault that `check` tells, and n
 - the map's marks are the rules', and `!` stands at the fault that `check` tells;
 - the page, read by a strict XML parser, has each of the 683 sectors once, with the title and the classes of its owner,
   in order; a white line over each in use that the map calls free; the fault; and the names;
+- it is to the byte what pages.py makes of the image by the rules;
 - its tags are, in order and to the byte, those of the page without names, and outside of them stands no `<` and no `>`.
 The status is 1 at the first difference, whose image is kept. The whole run is of 24,288 images, of which 14,314 are drawn
 and 9,974 refused. It takes some eight minutes of processor time, mostly to read the pages."""
@@ -31,6 +32,7 @@ from xml.parsers import expat
 
 from disks import shop_after_a_day
 from drawn import DIRECTORY, MAP, PLACES, SIZE, Disk, sectors_on, start
+from pages import Page as Wanted
 
 JOBS = 2
 # tags that HTML lets stand open, as XML has them
@@ -77,7 +79,10 @@ def ring(place, radius=None):
 RINGS = {place: ring(place) for place in PLACES}
 DASHES = [ring((track, 0))[:2] for track in range(1, 36)]
 DASH_OF = dict(DASHES)
-DASH_RULE = re.compile(r'\[r="(\d+)"\]\{stroke-dasharray:([\d ]+)\}')
+# and half of it, in the middle, for entries of the fourth shape
+HALVES = [(radius, f"0 {int(dash.split()[0]) // 4} {int(dash.split()[0]) // 2} 300000") for radius, dash in DASHES]
+DASH_RULE = re.compile(r'(?<!\.w3 )\[r="(\d+)"\]\{stroke-dasharray:([\d ]+)\}')
+HALF_RULE = re.compile(r'\.w3 \[r="(\d+)"\]\{stroke-dasharray:([\d ]+)\}')
 
 
 def tags_of(page):
@@ -92,7 +97,8 @@ class Page:
 
     def __init__(self, page):
         style = STYLE.search(page)[0].decode()
-        want(DASH_RULE.findall(style) == DASHES and style.count("[r=") == 35, "the dashes of the rings")
+        want(DASH_RULE.findall(style) == DASHES and HALF_RULE.findall(style) == HALVES and style.count("[r=") == 70,
+             "the dashes of the rings")
         self.tags = tags_of(page)
         for tag, closed, times in OPEN_TAGS:
             want(page.count(tag) == times, f"{tag} stands {page.count(tag)} times")
@@ -244,6 +250,7 @@ class Bench:
         want(page.names == [entry.shown for entry in disk.entries], f"names {page.names}")
         name = disk.disk_name()
         want(page.heads == [name, name, verdict, name], f"heads {page.heads}")
+        want(printed.decode() == Wanted(image, verdict).text(), "the page differs from that of pages.py")
         self.file.write_bytes(without_names(image, disk))
         want(page.tags == tags_of(self.run("picture")[1]), "tags differ without names")
 

@@ -30,8 +30,8 @@ DOTS = 4
 HALF = 36600
 RING = 800
 RIM = 35700
-# beside a white line, and still on the sector, for each of the four widths of files
-BESIDE = (225, 225, 150, None)
+# beside a white line, and still on the sector, for each of the four shapes of files
+BESIDE = (225, 225, 150, 225)
 # how far two colours may be from each other, of 255
 NEAR = 2
 
@@ -85,11 +85,9 @@ class Wanted:
 
     def beside(self, place):
         """How far outwards of its middle a sector is seen beside its white line: on both sides, but for that of a fault on
-        the next ring, whose white edge comes as far as there. A line leaves nothing to be seen of the narrowest files."""
+        the next ring, whose white edge comes as far as there."""
         beside = BESIDE[0 if self.disk.class_of(place) else self.disk.owner[place][0] // 12 % 4]
         inwards = place[0] - self.fault[0] if self.fault else 0
-        if beside is None:
-            return ()
         return (beside, -beside) if abs(inwards) != 1 else (-beside * inwards,)
 
     def owner_colour(self, place):

@@ -14,6 +14,8 @@ pub mod Owning
 pub mod Paddings
 pub mod PageMarkup
 pub mod PlainBytes
+pub mod PosterMarkup
+pub mod PosterTold
 pub mod Printing
 pub mod Rows
 pub mod Shared

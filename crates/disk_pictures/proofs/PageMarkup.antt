@@ -24,25 +24,25 @@ use Rattle.disk_pictures.specs.declared.owners.Owner.TheVariants as owner
 pub record IsSameMarkup (a b : List ℕ) : Type 0 where
   pub same : markup_of a ≡ markup_of b
 
-alike : (a : List ℕ) → IsSameMarkup a a
+pub alike : (a : List ℕ) → IsSameMarkup a a
 alike a = record { same = refl }
 
-both : (a b x y : List ℕ) → IsSameMarkup a b → IsSameMarkup x y → IsSameMarkup (a ++ x) (b ++ y)
+pub both : (a b x y : List ℕ) → IsSameMarkup a b → IsSameMarkup x y → IsSameMarkup (a ++ x) (b ++ y)
 both a b x y p q = record {
   same = filter-append is_markup a x ∙ ap₂ (λ (s t : List ℕ). s ++ t) p.same q.same ∙ sym (filter-append is_markup b y);
 }
 
-behind : (a x y : List ℕ) → IsSameMarkup x y → IsSameMarkup (a ++ x) (a ++ y)
+pub behind : (a x y : List ℕ) → IsSameMarkup x y → IsSameMarkup (a ++ x) (a ++ y)
 behind a x y p = both a a x y (alike a) p
 
-before : (a b x : List ℕ) → IsSameMarkup a b → IsSameMarkup (a ++ x) (b ++ x)
+pub before : (a b x : List ℕ) → IsSameMarkup a b → IsSameMarkup (a ++ x) (b ++ x)
 before a b x p = both a b x x p (alike x)
 
 where-so : (t : Bool) (a b : List ℕ) → IsSameMarkup a b → IsSameMarkup (if t then a else []) (if t then b else [])
 where-so true a b p = p
 where-so false a b p = alike []
 
-each : {X : Type 0} (f g : ℕ → X → List ℕ) → ((n : ℕ) (x : X) → IsSameMarkup (f n x) (g n x)) → (k : ℕ) (xs : List X)
+pub each : {X : Type 0} (f g : ℕ → X → List ℕ) → ((n : ℕ) (x : X) → IsSameMarkup (f n x) (g n x)) → (k : ℕ) (xs : List X)
     → IsSameMarkup (numbered f k xs) (numbered g k xs)
 unfolding numbered
 each f g same k [] = alike []
@@ -71,7 +71,7 @@ module _ (f g : Show) (same : (bytes : List ℕ) → IsSameMarkup (f bytes) (g b
       (λ n p. where-so (is_sides k (owner_of l p)) _ _ (on-side (name_of d.slot) n p)) 0 d.sides in
       behind (group_head k) _ _ (both _ _ _ _ blocks (before _ _ (codes "</g>\n") sides))
 
-  on-drawing : (v : Option Fault) (map : Sector) (l : Layout)
+  pub on-drawing : (v : Option Fault) (map : Sector) (l : Layout)
       → IsSameMarkup (drawing_text f v map l) (drawing_text g v map l)
   unfolding drawing_text
   on-drawing v map l = behind _ _ _ (before _ _ _ (each (file_group f l) (file_group g l) (on-file l) 0 l.files))
@@ -118,7 +118,7 @@ module _ (f g : Show) (same : (bytes : List ℕ) → IsSameMarkup (f bytes) (g b
   on-sentence l (Some (fault.MapWrong p)) = alike _
   on-sentence l (Some (fault.Device p)) = alike _
 
-  on-summary : (v : Option Fault) (map : Sector) (l : Layout)
+  pub on-summary : (v : Option Fault) (map : Sector) (l : Layout)
       → IsSameMarkup (summary_text f v map l) (summary_text g v map l)
   unfolding summary_text
   on-summary v map l = before _ _ _ (on-sentence l v)

@@ -12,6 +12,7 @@ use Rattle.disk_pictures.specs.Drawings.{IsDrawn}
 use Rattle.disk_pictures.specs.Held.{drawn_in}
 use Rattle.disk_pictures.specs.Maps.{map_text}
 use Rattle.disk_pictures.specs.Pictures.{picture_page}
+use Rattle.disk_pictures.specs.Posters.{poster_of}
 use Rattle.disk_pictures.specs.declared.drawing.Drawing.{Drawing}
 use Rattle.disk_pictures.specs.declared.faults.PictureFault.{PictureFault}
 use Rattle.disk_pictures.specs.declared.faults.PictureFault.TheVariants as faults
@@ -50,6 +51,13 @@ pub record IsPicturePrinted {W : Type 0} (contents : W → Option (List ℕ)) (i
   pub layout : Layout
   pub judged : IsDrawnAndJudged image layout found
   pub printed : Appends (contents old) (contents new) (picture_page found (map_in image) layout)
+
+-- the poster of the image, and nothing else, was handed to an output that held `old` and holds `new`
+pub record IsPosterPrinted {W : Type 0} (contents : W → Option (List ℕ)) (image : List ℕ) (old new : W)
+    (found : Option Fault) : Type 0 where
+  pub layout : Layout
+  pub judged : IsDrawnAndJudged image layout found
+  pub printed : Appends (contents old) (contents new) (poster_of found (map_in image) layout)
 
 -- the image has a directory, and is drawn
 abbrev pub IsDrawable : List ℕ → Type 0

@@ -17,6 +17,8 @@ mod output;
 mod owners;
 mod page;
 mod picture_printing;
+mod poster;
+mod poster_printing;
 mod reading;
 mod sentences;
 mod sharing;
@@ -32,3 +34,4 @@ pub use laws::{
 };
 pub use map_printing::map_image;
 pub use picture_printing::picture_image;
+pub use poster_printing::poster_image;

@@ -63,7 +63,7 @@ const STYLE: &str = ":root{color-scheme:light dark}body{margin:24px;background:#
 
 /// The dash of each ring: the arc of a sector less 200, and then nothing; and half as long, for entries of the fourth
 /// shape.
-const DASHES: &str =
+pub(crate) const DASHES: &str =
     "[r=\"34600\"]{stroke-dasharray:10152 300000}[r=\"33800\"]{stroke-dasharray:9912 300000}\
     [r=\"33000\"]{stroke-dasharray:9673 300000}[r=\"32200\"]{stroke-dasharray:9434 300000}\
     [r=\"31400\"]{stroke-dasharray:9194 300000}[r=\"30600\"]{stroke-dasharray:8955 300000}\

@@ -208,7 +208,7 @@ fn put_fault<W: Write>(out: &mut W, found: Option<Fault>) -> Result<(), PictureF
 }
 
 /// Prints the groups of the drawing.
-fn put_drawing<W: Write>(
+pub(crate) fn put_drawing<W: Write>(
     out: &mut W,
     found: Option<Fault>,
     drawing: &Drawing,
