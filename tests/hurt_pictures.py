@@ -10,7 +10,7 @@ PROGRAM is what `tools/program` prints. The images, each of 174,848 bytes:
   directory;
 - a shop after the README's day with one bit changed, each of the 12,288 of six sectors: the map, the directory, and the
   first side sectors and the first blocks of its two files.
-Of each are run `map`, `picture`, `check`, and `picture` of the image without names. Either the directory's sectors are no
+Of each are run `map`, `picture`, `picture --svg`, `check`, and `picture` of the image without names. Either the directory's sectors are no
 chain on track 18: then all are refused with the fault that `check` tells, and nothing is printed. Or:
 - the map's marks are the rules', and `!` stands at the fault that `check` tells;
 - the page, read by a strict XML parser, has each of the 683 sectors once, with the title and the classes of its owner,
@@ -201,8 +201,8 @@ class Bench:
         self.program, self.file = program, Path(folder) / f"image{multiprocessing.current_process().pid}.d64"
         self.last_pages = {}
 
-    def run(self, word):
-        done = subprocess.run([self.program, word, str(self.file)], capture_output=True, timeout=60, close_fds=False)
+    def run(self, *words):
+        done = subprocess.run([self.program, *words, str(self.file)], capture_output=True, timeout=60, close_fds=False)
         return done.returncode, done.stdout, done.stderr.decode("latin-1")
 
     def page(self, printed):
@@ -220,14 +220,15 @@ class Bench:
         checked, verdict, _ = self.run("check")
         verdict = verdict.decode().strip()
         want(checked == (0 if verdict == "OK" else 1), f"check ends with {checked}")
-        drawn = self.run("map"), self.run("picture")
+        drawn = self.run("map"), self.run("picture"), self.run("picture", "--svg")
         if not disk.has_directory:
             for status, out, error in drawn:
                 want((status, out, error) == (1, b"", f"LAYOUT {verdict}\n"), f"no directory, and {status}, {error}, {out[:80]}")
             fault_place(verdict)
             return "LAYOUT " + verdict.split()[0], 0
-        (map_status, printed, map_error), (status, page, error) = drawn
-        want((map_status, map_error, status, error) == (checked, "", checked, ""), "statuses, or words on standard error")
+        want(all((status, error) == (checked, "") for status, _, error in drawn), "statuses, or words on standard error")
+        printed, page, poster = (out for _, out, _ in drawn)
+        want(poster.decode() == Wanted(image, verdict).poster(), "the poster differs from that of pages.py")
         self.see_map(printed.decode("latin-1").splitlines(), disk, verdict)
         self.see_page(page, image, disk, verdict)
         return verdict.split()[0], len(page)

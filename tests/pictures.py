@@ -20,6 +20,7 @@ import disks
 from browser import Browser, Proxy
 from drawn import MAP, PLACES, Disk, sectors_on
 from palette import DARKER, LIGHT, rgb
+from renderings import see_dark, see_keys, see_label, see_paper, see_phone, see_poster
 from served import run, want
 
 LARGEST = 150_000
@@ -244,9 +245,31 @@ def see_page(program, browser, proxy, name, path, folder):
     want(browser.complaints() == [], f"{name}: {browser.complaints()}")
     want(proxy.asked == [], f"{name}: asked of the proxy {proxy.asked}")
     want(seconds < SLOWEST, f"{name}: drawn in {seconds:.2f} s")
+    see_renderings(program, browser, name, path, wanted, file, folder)
     print(f"{name}: {wanted.verdict}, {len(page)} bytes, {elements} elements, on the screen after {1000 * seconds:.0f} ms, "
           f"colours at most {apart} of 255 apart", flush=True)
     return apart, seconds, len(page)
+
+
+def see_renderings(program, browser, name, path, wanted, file, folder):
+    """Looks at the page on a phone, in the dark, on paper, by keyboard and as it is read out; and at the poster."""
+    url = file.as_uri()
+    see_phone(name, browser, url)
+    browser.scale(DOTS)
+
+    def seen_now():
+        box = browser.value("(r => ({x: Math.round(r.x), y: Math.round(r.y), width: r.width}))"
+                            "(document.querySelector('svg').getBoundingClientRect())")
+        seen = by_chromium(browser, box, folder / f"{name}, dark.png")
+        return [seen.at(middle(place)) for place in PLACES]
+
+    see_dark(name, browser, url, wanted, seen_now)
+    browser.scale(1)
+    see_paper(name, browser, url, wanted, folder, LIGHT)
+    see_label(name, browser, url)
+    see_keys(name, browser, url, wanted)
+    see_poster(name, program, path, path.read_bytes(), wanted.verdict, folder, browser,
+               lambda picture, who: see_colours(name, Seen(picture), wanted, who))
 
 
 def see_control(browser, proxy, folder):

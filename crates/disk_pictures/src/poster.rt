@@ -18,36 +18,38 @@ use std::fmt::{self, Display, Formatter};
 
 /// The poster's style: that of a light page, without rules that readers of SVG don't know.
 const STYLE: &str =
-    "text{font:2.2px ui-monospace,Menlo,Consolas,\"DejaVu Sans Mono\",monospace;fill:#222}.paper{fill:#fbfaf7}.n\
-    ame{font-size:12px;text-anchor:middle}.told{font-size:4px;text-anchor:middle}.hub{font-size:1100px;text-anch\
-    or:middle}.e{text-anchor:end}circle{fill:none;stroke-width:700}.w1 circle{stroke-width:540}.w2 circle{stroke\
-    -width:390}path{fill:none;stroke-width:2}path.w1{stroke-width:1.5}path.w2{stroke-width:1}path.w3{stroke-widt\
-    h:2;stroke-dasharray:0 .75 1.5 9}.n text{font-size:1100px;text-anchor:middle;fill:#444}.n path{stroke:#444;s\
-    troke-width:120}.free{stroke:#e8e4d9}.lost{stroke:#7b7567}.map{stroke:#161616}.dir{stroke:#5e5e5e}.edge{stro\
-    ke:#fff;stroke-width:1500}.fault{stroke:#d40000}circle.fault{stroke-width:1100}.open circle{stroke:#fff;stro\
-    ke-width:200}.white{stroke:#fff;stroke-width:.6}.side{stroke:#4d4831}.c0{stroke:#8c8259}.c0 .s{stroke:#4d483\
-    1}.c1{stroke:#1c9182}.c1 .s{stroke:#0f5048}.c2{stroke:#4b75ff}.c2 .s{stroke:#29408c}.c3{stroke:#e320ba}.c3 .\
-    s{stroke:#7d1266}.c4{stroke:#406c83}.c4 .s{stroke:#233b48}.c5{stroke:#716046}.c5 .s{stroke:#3e3526}.c6{strok\
-    e:#3a4353}.c6 .s{stroke:#20252e}.c7{stroke:#4a3934}.c7 .s{stroke:#291f1d}.c8{stroke:#0c0bca}.c8 .s{stroke:#0\
-    7066f}.c9{stroke:#5d0476}.c9 .s{stroke:#330241}.c10{stroke:#630a00}.c10 .s{stroke:#360600}.c11{stroke:#041c3\
-    3}.c11 .s{stroke:#020f1c}";
+    "text{font:2.2px ui-monospace,Menlo,Consolas,\"DejaVu Sans Mono\",monospace;fill:#222}.paper{fill:#fbfaf7}\
+    .name{font-size:12px;text-anchor:middle}.told{font-size:4px;text-anchor:middle}.hub{font-size:1100px;\
+    text-anchor:middle}.e{text-anchor:end}circle{fill:none;stroke-width:700}.w1 circle{stroke-width:540}\
+    .w2 circle{stroke-width:390}path{fill:none;stroke-width:2}path.w1{stroke-width:1.5}path.w2{stroke-width:1}\
+    path.w3{stroke-width:2;stroke-dasharray:0 .75 1.5 9}.n text{font-size:1100px;text-anchor:middle;fill:#444;\
+    paint-order:stroke;stroke:#fbfaf7;stroke-width:300}.n path{stroke:#444;stroke-width:120}.free{stroke:#e8e4d9}\
+    .lost{stroke:#7b7567}.map{stroke:#161616}.dir{stroke:#5e5e5e}.edge{stroke:#fff;stroke-width:1500}\
+    .fault{stroke:#d40000}circle.fault{stroke-width:1100}.open circle{stroke:#fff;stroke-width:200}\
+    .white{stroke:#fff;stroke-width:.6}.side{stroke:#4d4831}.c0{stroke:#8c8259}.c0 .s{stroke:#4d4831}\
+    .c1{stroke:#1c9182}.c1 .s{stroke:#0f5048}.c2{stroke:#4b75ff}.c2 .s{stroke:#29408c}.c3{stroke:#e320ba}\
+    .c3 .s{stroke:#7d1266}.c4{stroke:#406c83}.c4 .s{stroke:#233b48}.c5{stroke:#716046}.c5 .s{stroke:#3e3526}\
+    .c6{stroke:#3a4353}.c6 .s{stroke:#20252e}.c7{stroke:#4a3934}.c7 .s{stroke:#291f1d}.c8{stroke:#0c0bca}\
+    .c8 .s{stroke:#07066f}.c9{stroke:#5d0476}.c9 .s{stroke:#330241}.c10{stroke:#630a00}.c10 .s{stroke:#360600}\
+    .c11{stroke:#041c33}.c11 .s{stroke:#020f1c}";
 
 /// The end of the drawing, with the numbers of tracks and an arrow from sector 0 to 1; and the meaning of the colours.
 pub(crate) const LEGEND: &str =
-    "</g>\n<g class=\"n\">\n<text y=\"-34220\">1</text>\n<text y=\"-31020\">5</text>\n<text y=\"-27020\">10</tex\
-    t>\n<text y=\"-23020\">15</text>\n<text y=\"-20620\">18</text>\n<text y=\"-19020\">20</text>\n<text y=\"-150\
-    20\">25</text>\n<text y=\"-11020\">30</text>\n<text y=\"-7020\">35</text>\n<path d=\"M300-36250h3000l-600-25\
-    0m600 250l-600 250\"/>\n</g>\n</svg>\n<svg x=\"20\" y=\"298\" width=\"50\" height=\"4\"><path class=\"map\" \
-    d=\"M0 2h3\"/><text x=\"4.5\" y=\"2.8\">map of free sectors</text></svg>\n<svg x=\"56\" y=\"298\" width=\"50\
-    \" height=\"4\"><path class=\"dir\" d=\"M0 2h3\"/><text x=\"4.5\" y=\"2.8\">directory</text></svg>\n<svg x=\"\
-    84\" y=\"298\" width=\"50\" height=\"4\"><path class=\"free\" d=\"M0 2h3\"/><text x=\"4.5\" y=\"2.8\">free</\
-    text></svg>\n<svg x=\"104\" y=\"298\" width=\"50\" height=\"4\"><path class=\"lost\" d=\"M0 2h3\"/><text x=\"\
-    4.5\" y=\"2.8\">taken, in no file</text></svg>\n<svg x=\"138\" y=\"298\" width=\"50\" height=\"4\"><path cla\
-    ss=\"c0\" d=\"M0 2h1.5\"/><path class=\"side\" d=\"M1.5 2h1.5\"/><text x=\"4.5\" y=\"2.8\">side sectors (rig\
-    ht)</text></svg>\n<svg x=\"178\" y=\"298\" width=\"50\" height=\"4\"><path class=\"c0\" d=\"M0 2h3\"/><path \
-    class=\"white\" d=\"M0 2h3\"/><text x=\"4.5\" y=\"2.8\">in use, free in the map</text></svg>\n<svg x=\"224\" \
-    y=\"298\" width=\"50\" height=\"4\"><path class=\"fault\" d=\"M0 2h3\"/><text x=\"4.5\" y=\"2.8\">the fault<\
-    /text></svg>\n";
+    "</g>\n<g class=\"n\">\n<text y=\"-34220\">1</text>\n<text y=\"-31020\">5</text>\n<text y=\"-27020\">10</text>\n\
+    <text y=\"-23020\">15</text>\n<text y=\"-20620\">18</text>\n<text y=\"-19020\">20</text>\n<text y=\"-15020\">\
+    25</text>\n<text y=\"-11020\">30</text>\n<text y=\"-7020\">35</text>\n\
+    <path d=\"M300-36250h3000l-600-250m600 250l-600 250\"/>\n</g>\n</svg>\n\
+    <svg x=\"20\" y=\"298\" width=\"50\" height=\"4\"><path class=\"map\" d=\"M0 2h3\"/><text x=\"4.5\" y=\"2.8\">\
+    map of free sectors</text></svg>\n<svg x=\"56\" y=\"298\" width=\"50\" height=\"4\">\
+    <path class=\"dir\" d=\"M0 2h3\"/><text x=\"4.5\" y=\"2.8\">directory</text></svg>\n\
+    <svg x=\"84\" y=\"298\" width=\"50\" height=\"4\"><path class=\"free\" d=\"M0 2h3\"/><text x=\"4.5\" y=\"2.8\">\
+    free</text></svg>\n<svg x=\"104\" y=\"298\" width=\"50\" height=\"4\"><path class=\"lost\" d=\"M0 2h3\"/>\
+    <text x=\"4.5\" y=\"2.8\">taken, in no file</text></svg>\n<svg x=\"138\" y=\"298\" width=\"50\" height=\"4\">\
+    <path class=\"c0\" d=\"M0 2h1.5\"/><path class=\"side\" d=\"M1.5 2h1.5\"/><text x=\"4.5\" y=\"2.8\">\
+    side sectors (right)</text></svg>\n<svg x=\"178\" y=\"298\" width=\"50\" height=\"4\">\
+    <path class=\"c0\" d=\"M0 2h3\"/><path class=\"white\" d=\"M0 2h3\"/><text x=\"4.5\" y=\"2.8\">\
+    in use, free in the map</text></svg>\n<svg x=\"224\" y=\"298\" width=\"50\" height=\"4\">\
+    <path class=\"fault\" d=\"M0 2h3\"/><text x=\"4.5\" y=\"2.8\">the fault</text></svg>\n";
 
 /// The end of the poster.
 pub(crate) const END: &str = "</svg>\n";
