@@ -42,13 +42,27 @@ class Entry:
         self.name = name_text(raw[5:21].rstrip(b"\xa0"))
         self.shown = html_name(raw[5:21].rstrip(b"\xa0"))
         self.first, self.side, self.length = tuple(raw[3:5]), tuple(raw[21:23]), raw[23]
-        self.blocks, self.sides = [], []
+        self.count = raw[30] + 256 * raw[31]
+        self.blocks, self.sides, self.last = [], [], 0
 
     def is_closed(self):
         return self.kind >= 128
 
     def is_relative(self):
         return self.kind in (0x84, 0xC4)
+
+    def has_records(self):
+        """Whether its record length and its number of records are shown."""
+        return self.is_relative() and bool(self.blocks) and self.length != 0
+
+    def records(self):
+        """How many whole records its blocks have: 254 bytes each, the last one up to its last index."""
+        return (254 * (len(self.blocks) - 1) + max(self.last, 1) - 1) // self.length
+
+    def type_text(self, locked):
+        """Its type: after a star if no drive closed it, before this mark if it is locked."""
+        name = dict(enumerate(("DEL", "SEQ", "PRG", "USR", "REL"))).get(self.kind % 64, "???")
+        return ("" if self.is_closed() else "*") + name + (locked if self.kind >> 6 & 1 else "")
 
 
 class Disk:
@@ -104,20 +118,54 @@ class Disk:
             if not entry.is_closed():
                 continue
             entry.blocks = self._walk(entry.first)
+            if entry.blocks:
+                track, last = self.sector(entry.blocks[-1])[:2]
+                entry.last = last if track == 0 else 0
             if entry.is_relative():
                 entry.sides = self._walk(entry.side)[:(len(entry.blocks) + 119) // 120]
             for kind, places in (("block", entry.blocks), ("side", entry.sides)):
                 for index, place in enumerate(places):
                     self.owner.setdefault(place, (number, kind, index))
 
+    def is_wide(self):
+        """Whether the map has two characters for each sector: letters alone don't tell more than 26 entries apart."""
+        return len(self.entries) > 26
+
+    def doubled(self, mark):
+        """A mark that is no entry's, as the map prints it."""
+        return 2 * mark if self.is_wide() else mark
+
     def mark(self, place):
-        """The mark of a sector in the map, but for `!`."""
+        """The mark of a sector in the map, but for `!`: a character, or two if there are more than 26 entries."""
         owner = self.owner.get(place)
         if owner is None:
-            return "." if self.is_free(place) else "?"
+            return self.doubled("." if self.is_free(place) else "?")
         if owner[0] in ("map", "directory"):
-            return "*" if owner[0] == "map" else "="
-        return chr((97 if owner[1] == "block" else 65) + owner[0] % 26)
+            return self.doubled("*" if owner[0] == "map" else "=")
+        letter = chr((97 if owner[1] == "block" else 65) + owner[0] % 26)
+        return letter + str(owner[0] // 26) if self.is_wide() else letter
+
+    def mark_of_entry(self, number):
+        """What the line of an entry begins with."""
+        return chr(97 + number % 26) + (str(number // 26) if self.is_wide() else "")
+
+    def class_of(self, place):
+        """The class of a sector that is no entry's; None of an entry's."""
+        owner = self.owner.get(place)
+        if owner is None:
+            return "free" if self.is_free(place) else "lost"
+        return {"map": "map", "directory": "dir"}.get(owner[0])
+
+    def map_lines(self, fault):
+        """The numbers above the tracks and their lines, with `!` at the fault if there is one."""
+        wide = self.is_wide()
+        lines = ["   " + " ".join(f"{sector:02}" for sector in range(21))] if wide else [
+            "   0         1         2", "   012345678901234567890"]
+        for track in range(1, 36):
+            marks = [self.doubled("!") if (track, sector) == fault else self.mark((track, sector))
+                     for sector in range(sectors_on(track))]
+            lines.append(f"{track:2} " + (" " if wide else "").join(marks))
+        return lines
 
     def title(self, place):
         """What is said of a sector on pointing at it, but for a fault."""

@@ -45,7 +45,7 @@ class Page:
         self.verdict, self.words = self.tree.findtext("p/b"), self.tree.find("p/b").tail.strip()
         self.drawing = self.tree.find(".//svg")
         self.rows = [row for row in self.tree.iter("tr") if row.find("td") is not None]
-        self.dashes = dict(re.findall(r'\[r="(\d+)"\]\{stroke-dasharray:([\d ]+)\}', self.more))
+        self.dashes = dict(re.findall(r'(?<!\.w3 )\[r="(\d+)"\]\{stroke-dasharray:([\d ]+)\}', self.more))
 
     def colour(self, kind):
         return re.search(r"\.%s\{stroke:([^;}]*)" % kind, self.style).group(1)

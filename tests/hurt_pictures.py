@@ -10,11 +10,12 @@ PROGRAM is what `tools/program` prints. The images, each of 174,848 bytes:
   directory;
 - a shop after the README's day with one bit changed, each of the 12,288 of six sectors: the map, the directory, and the
   first side sectors and the first blocks of its two files.
-Of each are run `map`, `picture`, `check`, and `picture` of the image without names. Either the directory's sectors are no
+Of each are run `map`, `picture`, `picture --svg`, `check`, and `picture` of the image without names. Either the directory's sectors are no
 chain on track 18: then all are refused with the fault that `check` tells, and nothing is printed. Or:
 - the map's marks are the rules', and `!` stands at the fault that `check` tells;
 - the page, read by a strict XML parser, has each of the 683 sectors once, with the title and the classes of its owner,
   in order; a white line over each in use that the map calls free; the fault; and the names;
+- it is to the byte what pages.py makes of the image by the rules;
 - its tags are, in order and to the byte, those of the page without names, and outside of them stands no `<` and no `>`.
 The status is 1 at the first difference, whose image is kept. The whole run is of 24,288 images, of which 14,314 are drawn
 and 9,974 refused. It takes some eight minutes of processor time, mostly to read the pages."""
@@ -31,6 +32,7 @@ from xml.parsers import expat
 
 from disks import shop_after_a_day
 from drawn import DIRECTORY, MAP, PLACES, SIZE, Disk, sectors_on, start
+from pages import Page as Wanted
 
 JOBS = 2
 # tags that HTML lets stand open, as XML has them
@@ -38,7 +40,6 @@ VIEWPORT = b'<meta name="viewport" content="width=device-width,initial-scale=1"'
 OPEN_TAGS = ((b'<meta charset="utf-8">', b'<meta charset="utf-8"/>', 1), (VIEWPORT + b">", VIEWPORT + b"/>", 1))
 TAG = re.compile(rb"<[^<>]*>")
 STYLE = re.compile(rb"<style>.*?</style>", re.S)
-CLASSES = {"*": "map", "=": "dir", ".": "free", "?": "lost"}
 FAULT = re.compile(r"([A-Z]+) (\d+)/(\d+)")
 
 
@@ -78,7 +79,10 @@ def ring(place, radius=None):
 RINGS = {place: ring(place) for place in PLACES}
 DASHES = [ring((track, 0))[:2] for track in range(1, 36)]
 DASH_OF = dict(DASHES)
-DASH_RULE = re.compile(r'\[r="(\d+)"\]\{stroke-dasharray:([\d ]+)\}')
+# and half of it, in the middle, for entries of the fourth shape
+HALVES = [(radius, f"0 {int(dash.split()[0]) // 4} {int(dash.split()[0]) // 2} 300000") for radius, dash in DASHES]
+DASH_RULE = re.compile(r'(?<!\.w3 )\[r="(\d+)"\]\{stroke-dasharray:([\d ]+)\}')
+HALF_RULE = re.compile(r'\.w3 \[r="(\d+)"\]\{stroke-dasharray:([\d ]+)\}')
 
 
 def tags_of(page):
@@ -93,7 +97,8 @@ class Page:
 
     def __init__(self, page):
         style = STYLE.search(page)[0].decode()
-        want(DASH_RULE.findall(style) == DASHES and style.count("[r=") == 35, "the dashes of the rings")
+        want(DASH_RULE.findall(style) == DASHES and HALF_RULE.findall(style) == HALVES and style.count("[r=") == 70,
+             "the dashes of the rings")
         self.tags = tags_of(page)
         for tag, closed, times in OPEN_TAGS:
             want(page.count(tag) == times, f"{tag} stands {page.count(tag)} times")
@@ -144,9 +149,9 @@ class Page:
 
 def wanted_circle(disk, place):
     """A sector's circle: its group, ring, class or colour, and title."""
-    mark = disk.mark(place)
-    if mark in CLASSES:
-        return ["m" if mark in "*=" else "r", RINGS[place], ("class", CLASSES[mark]), disk.title(place)]
+    named = disk.class_of(place)
+    if named:
+        return ["m" if named in ("map", "dir") else "r", RINGS[place], ("class", named), disk.title(place)]
     number, kind, _ = disk.owner[place]
     return [f"f{number}", RINGS[place], ("class", file_class(number, kind == "side")), disk.title(place)]
 
@@ -196,8 +201,8 @@ class Bench:
         self.program, self.file = program, Path(folder) / f"image{multiprocessing.current_process().pid}.d64"
         self.last_pages = {}
 
-    def run(self, word):
-        done = subprocess.run([self.program, word, str(self.file)], capture_output=True, timeout=60, close_fds=False)
+    def run(self, *words):
+        done = subprocess.run([self.program, *words, str(self.file)], capture_output=True, timeout=60, close_fds=False)
         return done.returncode, done.stdout, done.stderr.decode("latin-1")
 
     def page(self, printed):
@@ -215,27 +220,27 @@ class Bench:
         checked, verdict, _ = self.run("check")
         verdict = verdict.decode().strip()
         want(checked == (0 if verdict == "OK" else 1), f"check ends with {checked}")
-        drawn = self.run("map"), self.run("picture")
+        drawn = self.run("map"), self.run("picture"), self.run("picture", "--svg")
         if not disk.has_directory:
             for status, out, error in drawn:
                 want((status, out, error) == (1, b"", f"LAYOUT {verdict}\n"), f"no directory, and {status}, {error}, {out[:80]}")
             fault_place(verdict)
             return "LAYOUT " + verdict.split()[0], 0
-        (map_status, printed, map_error), (status, page, error) = drawn
-        want((map_status, map_error, status, error) == (checked, "", checked, ""), "statuses, or words on standard error")
+        want(all((status, error) == (checked, "") for status, _, error in drawn), "statuses, or words on standard error")
+        printed, page, poster = (out for _, out, _ in drawn)
+        want(poster.decode() == Wanted(image, verdict).poster(), "the poster differs from that of pages.py")
         self.see_map(printed.decode("latin-1").splitlines(), disk, verdict)
         self.see_page(page, image, disk, verdict)
         return verdict.split()[0], len(page)
 
     def see_map(self, lines, disk, verdict):
         fault = fault_place(verdict) if verdict != "OK" else None
-        for track in range(1, 36):
-            places = ((track, sector) for sector in range(sectors_on(track)))
-            marks = "".join("!" if place == fault else disk.mark(place) for place in places)
-            want(lines[track + 1] == f"{track:2} {marks}", f"track {track} of the map is {lines[track + 1]}")
-        want(len(lines) == 38 + len(disk.entries) and lines[-1] == verdict, f"the map ends in {lines[-1]}")
-        for line, entry in zip(lines[37:], disk.entries):
-            want(f' "{entry.name}" ' in line, f"{entry.name} isn't in {line}")
+        tracks = disk.map_lines(fault)
+        for line, wanted in zip(lines, tracks):
+            want(line == wanted, f"{line} in the map in place of {wanted}")
+        want(len(lines) == len(tracks) + len(disk.entries) + 1 and lines[-1] == verdict, f"the map ends in {lines[-1]}")
+        for number, (line, entry) in enumerate(zip(lines[len(tracks):], disk.entries)):
+            want(re.match(f'{disk.mark_of_entry(number)} \\d+ "{re.escape(entry.name)}" ', line), f"{entry.name}'s line is {line}")
 
     def see_page(self, printed, image, disk, verdict):
         page = self.page(printed)
@@ -246,6 +251,7 @@ class Bench:
         want(page.names == [entry.shown for entry in disk.entries], f"names {page.names}")
         name = disk.disk_name()
         want(page.heads == [name, name, verdict, name], f"heads {page.heads}")
+        want(printed.decode() == Wanted(image, verdict).text(), "the page differs from that of pages.py")
         self.file.write_bytes(without_names(image, disk))
         want(page.tags == tags_of(self.run("picture")[1]), "tags differ without names")
 

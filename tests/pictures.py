@@ -20,6 +20,7 @@ import disks
 from browser import Browser, Proxy
 from drawn import MAP, PLACES, Disk, sectors_on
 from palette import DARKER, LIGHT, rgb
+from renderings import see_dark, see_keys, see_label, see_paper, see_phone, see_poster
 from served import run, want
 
 LARGEST = 150_000
@@ -30,12 +31,12 @@ DOTS = 4
 HALF = 36600
 RING = 800
 RIM = 35700
-# beside a white line, and still on the sector, for each of the four widths of files
-BESIDE = (225, 225, 150, None)
+# beside a white line, and still on the sector, for each of the four shapes of files
+BESIDE = (225, 225, 150, 225)
 # how far two colours may be from each other, of 255
 NEAR = 2
 
-SYSTEM = {"*": (0x16, 0x16, 0x16), "=": (0x5E, 0x5E, 0x5E), ".": (0xE8, 0xE4, 0xD9), "?": (0x7B, 0x75, 0x67)}
+SYSTEM = {"map": (0x16, 0x16, 0x16), "dir": (0x5E, 0x5E, 0x5E), "free": (0xE8, 0xE4, 0xD9), "lost": (0x7B, 0x75, 0x67)}
 RED, WHITE = (0xD4, 0, 0), (255, 255, 255)
 
 # what the page's own markup is: each element's attributes, sorted
@@ -68,25 +69,16 @@ def near(one, other):
     return all(abs(a - b) <= NEAR for a, b in zip(one, other))
 
 
-def marks_of(lines):
-    """The mark of each place, from the lines of `map`, and the verdict below them."""
-    marks = {(track, sector): mark
-             for track, line in enumerate(lines[2:37], 1) for sector, mark in enumerate(line[3:])}
-    want(sorted(marks) == PLACES, "the map hasn't 683 sectors")
-    want(all(line[:3] == f"{track:2} " for track, line in enumerate(lines[2:37], 1)), "tracks of the map")
-    return marks, lines[-1]
-
-
 class Wanted:
-    """What is to be seen of a disk at each place, by the marks of `map` and by the rules for titles."""
+    """What is to be seen of a disk at each place, by the rules; the map has to be so too."""
 
     def __init__(self, name, image, lines):
         self.disk = Disk(image)
-        self.marks, self.verdict = marks_of(lines)
-        self.fault = next((place for place, mark in self.marks.items() if mark == "!"), None)
-        for place in PLACES:
-            if place != self.fault:
-                want(self.marks[place] == self.disk.mark(place), f"{name}: map has {self.marks[place]} at {place}")
+        self.verdict = lines[-1]
+        self.fault = tuple(map(int, self.verdict.split()[1].split("/"))) if self.verdict != "OK" else None
+        tracks = self.disk.map_lines(self.fault)
+        for line, wanted in zip(lines, tracks):
+            want(line == wanted, f"{name}: {line} in the map in place of {wanted}")
 
     def is_open(self, place):
         """Whether a white line is to be seen: in use, and free in the map."""
@@ -94,19 +86,17 @@ class Wanted:
 
     def beside(self, place):
         """How far outwards of its middle a sector is seen beside its white line: on both sides, but for that of a fault on
-        the next ring, whose white edge comes as far as there. A line leaves nothing to be seen of the narrowest files."""
-        beside = BESIDE[self.disk.owner[place][0] // 12 % 4 if self.marks[place].isalpha() else 0]
+        the next ring, whose white edge comes as far as there."""
+        beside = BESIDE[0 if self.disk.class_of(place) else self.disk.owner[place][0] // 12 % 4]
         inwards = place[0] - self.fault[0] if self.fault else 0
-        if beside is None:
-            return ()
         return (beside, -beside) if abs(inwards) != 1 else (-beside * inwards,)
 
     def owner_colour(self, place):
-        mark = self.marks[place]
-        if not mark.isalpha():
-            return SYSTEM[mark]
-        number = self.disk.owner[place][0]
-        return file_colour(number, mark.isupper())
+        named = self.disk.class_of(place)
+        if named:
+            return SYSTEM[named]
+        number, kind, _ = self.disk.owner[place]
+        return file_colour(number, kind == "side")
 
     def colour(self, place):
         if place == self.fault:
@@ -255,9 +245,31 @@ def see_page(program, browser, proxy, name, path, folder):
     want(browser.complaints() == [], f"{name}: {browser.complaints()}")
     want(proxy.asked == [], f"{name}: asked of the proxy {proxy.asked}")
     want(seconds < SLOWEST, f"{name}: drawn in {seconds:.2f} s")
+    see_renderings(program, browser, name, path, wanted, file, folder)
     print(f"{name}: {wanted.verdict}, {len(page)} bytes, {elements} elements, on the screen after {1000 * seconds:.0f} ms, "
           f"colours at most {apart} of 255 apart", flush=True)
     return apart, seconds, len(page)
+
+
+def see_renderings(program, browser, name, path, wanted, file, folder):
+    """Looks at the page on a phone, in the dark, on paper, by keyboard and as it is read out; and at the poster."""
+    url = file.as_uri()
+    see_phone(name, browser, url)
+    browser.scale(DOTS)
+
+    def seen_now():
+        box = browser.value("(r => ({x: Math.round(r.x), y: Math.round(r.y), width: r.width}))"
+                            "(document.querySelector('svg').getBoundingClientRect())")
+        seen = by_chromium(browser, box, folder / f"{name}, dark.png")
+        return [seen.at(middle(place)) for place in PLACES]
+
+    see_dark(name, browser, url, wanted, seen_now)
+    browser.scale(1)
+    see_paper(name, browser, url, wanted, folder, LIGHT)
+    see_label(name, browser, url)
+    see_keys(name, browser, url, wanted)
+    see_poster(name, program, path, path.read_bytes(), wanted.verdict, folder, browser,
+               lambda picture, who: see_colours(name, Seen(picture), wanted, who))
 
 
 def see_control(browser, proxy, folder):

@@ -13,8 +13,9 @@ use Rattle.disk_pictures.proofs.Counted.{times-append, times-nil}
 use Rattle.disk_pictures.proofs.CountedDrawing.{all-of, no-place, none-of, number, once, one-place, other, out, same}
 use Rattle.disk_pictures.proofs.DrawnOnce.{drawn-once}
 use Rattle.disk_pictures.proofs.Owned.{as-directory, as-map}
+use Rattle.disk_pictures.specs.Html.{Show}
 use Rattle.disk_pictures.specs.Drawings.{IsDrawn, IsDrawnOnce, owner_of}
-use Rattle.disk_pictures.specs.Pictures.{Show, drawing_text, each_place, file_group, is_blocks, is_nobody, is_sides}
+use Rattle.disk_pictures.specs.Pictures.{drawing_text, each_place, file_group, is_blocks, is_nobody, is_sides}
 use Rattle.disk_pictures.specs.Pictures.{others_group, system_group}
 use Rattle.disk_pictures.specs.Sectors.{as_printed, by_number, drawing_by, file_by, others_by, system_by, times}
 use Rattle.disk_pictures.specs.Texts.{numbered}

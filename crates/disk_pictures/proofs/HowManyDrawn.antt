@@ -11,8 +11,9 @@ use Rattle.disk_layout.specs.declared.faults.Fault.{Fault}
 use Rattle.disk_pictures.proofs.Counted.{AllBelow, all-append, all-below, all-flat, all-numbered, as-many}
 use Rattle.disk_pictures.proofs.CountedDrawing.{number}
 use Rattle.disk_pictures.proofs.DrawnNumbers.{numbers-once}
+use Rattle.disk_pictures.specs.Html.{Show}
 use Rattle.disk_pictures.specs.Drawings.{IsDrawn, owner_of}
-use Rattle.disk_pictures.specs.Pictures.{Show, each_place, is_blocks, is_nobody, is_sides}
+use Rattle.disk_pictures.specs.Pictures.{each_place, is_blocks, is_nobody, is_sides}
 use Rattle.disk_pictures.specs.Sectors.{by_number, drawing_by, file_by, others_by, system_by, times}
 use Rattle.disk_pictures.specs.Texts.{at_place, numbered}
 

@@ -1,3 +1,4 @@
+pub mod Apart
 pub mod Counted
 pub mod CountedDrawing
 pub mod Drawn
@@ -6,14 +7,18 @@ pub mod DrawnOnce
 pub mod HowManyDrawn
 pub mod Marks
 pub mod Markups
+pub mod Named
 pub mod Opening
 pub mod Owned
 pub mod Owning
 pub mod Paddings
 pub mod PageMarkup
 pub mod PlainBytes
+pub mod PosterMarkup
+pub mod PosterTold
 pub mod Printing
 pub mod Rows
+pub mod Shared
 pub mod Sides
 pub mod Sound
 pub mod SoundPrinted

@@ -1,44 +1,48 @@
 -- The markup of a page is the same, however bytes of the disk are shown, where what is shown has the same markup.
 use Rattle.std.proofs.Common.{◌≡◌, ◌+◌, ℕ, List, [], ◌∷◌, ◌++◌, Bool, true, false, length, refl, sym, ap₂, ◌∙◌}
-use Rattle.std.specs.Prelude.{Option, codes, decimal, if◌then◌else◌, slice_range}
+use Rattle.std.specs.Prelude.{None, Option, Some, codes, decimal, if◌then◌else◌, slice_get, slice_range}
 use Rattle.std.proofs.lemmas.List.Elements.{filter-append}
 use Rattle.d64_image.specs.Images.{Sector}
 use Rattle.d64_image.specs.declared.place.Place.{Place}
 use Rattle.disk_layout.specs.Layout.{File, Layout, count_field}
 use Rattle.disk_layout.specs.Texts.{place_text}
 use Rattle.disk_layout.specs.declared.faults.Fault.{Fault}
+use Rattle.disk_pictures.specs.Html.{Show}
 use Rattle.disk_pictures.specs.Drawings.{owner_of}
 use Rattle.disk_pictures.specs.Markup.{is_markup, markup_of}
 use Rattle.disk_pictures.specs.Names.{disk_name, name_of}
-use Rattle.disk_pictures.specs.Pictures.{Show, block_arc, dashes, drawing_text, file_group, group_head, look}
+use Rattle.disk_pictures.specs.Pictures.{block_arc, dashes, drawing_text, file_group, group_head, look}
 use Rattle.disk_pictures.specs.Pictures.{is_blocks, is_sides, legend_text, link_text, own_block, own_side, page_text}
 use Rattle.disk_pictures.specs.Pictures.{ring_of, row_text, side_arc, style, title_text, told_text, verdict_class}
-use Rattle.disk_layout.specs.View.{blocks_free}
-use Rattle.disk_pictures.specs.Texts.{numbered, summary_text, verdict_text}
+use Rattle.disk_pictures.specs.Sentences.{named, owner_named, owners_of, sentence_text, shared_text, summary_text}
+use Rattle.disk_pictures.specs.Texts.{numbered, verdict_text}
+use Rattle.disk_layout.specs.declared.faults.Fault.TheVariants as fault
+use Rattle.disk_pictures.specs.declared.owners.Owner.{Owner}
+use Rattle.disk_pictures.specs.declared.owners.Owner.TheVariants as owner
 
 -- the two have the same markup
 pub record IsSameMarkup (a b : List ℕ) : Type 0 where
   pub same : markup_of a ≡ markup_of b
 
-alike : (a : List ℕ) → IsSameMarkup a a
+pub alike : (a : List ℕ) → IsSameMarkup a a
 alike a = record { same = refl }
 
-both : (a b x y : List ℕ) → IsSameMarkup a b → IsSameMarkup x y → IsSameMarkup (a ++ x) (b ++ y)
+pub both : (a b x y : List ℕ) → IsSameMarkup a b → IsSameMarkup x y → IsSameMarkup (a ++ x) (b ++ y)
 both a b x y p q = record {
   same = filter-append is_markup a x ∙ ap₂ (λ (s t : List ℕ). s ++ t) p.same q.same ∙ sym (filter-append is_markup b y);
 }
 
-behind : (a x y : List ℕ) → IsSameMarkup x y → IsSameMarkup (a ++ x) (a ++ y)
+pub behind : (a x y : List ℕ) → IsSameMarkup x y → IsSameMarkup (a ++ x) (a ++ y)
 behind a x y p = both a a x y (alike a) p
 
-before : (a b x : List ℕ) → IsSameMarkup a b → IsSameMarkup (a ++ x) (b ++ x)
+pub before : (a b x : List ℕ) → IsSameMarkup a b → IsSameMarkup (a ++ x) (b ++ x)
 before a b x p = both a b x x p (alike x)
 
 where-so : (t : Bool) (a b : List ℕ) → IsSameMarkup a b → IsSameMarkup (if t then a else []) (if t then b else [])
 where-so true a b p = p
 where-so false a b p = alike []
 
-each : {X : Type 0} (f g : ℕ → X → List ℕ) → ((n : ℕ) (x : X) → IsSameMarkup (f n x) (g n x)) → (k : ℕ) (xs : List X)
+pub each : {X : Type 0} (f g : ℕ → X → List ℕ) → ((n : ℕ) (x : X) → IsSameMarkup (f n x) (g n x)) → (k : ℕ) (xs : List X)
     → IsSameMarkup (numbered f k xs) (numbered g k xs)
 unfolding numbered
 each f g same k [] = alike []
@@ -67,7 +71,7 @@ module _ (f g : Show) (same : (bytes : List ℕ) → IsSameMarkup (f bytes) (g b
       (λ n p. where-so (is_sides k (owner_of l p)) _ _ (on-side (name_of d.slot) n p)) 0 d.sides in
       behind (group_head k) _ _ (both _ _ _ _ blocks (before _ _ (codes "</g>\n") sides))
 
-  on-drawing : (v : Option Fault) (map : Sector) (l : Layout)
+  pub on-drawing : (v : Option Fault) (map : Sector) (l : Layout)
       → IsSameMarkup (drawing_text f v map l) (drawing_text g v map l)
   unfolding drawing_text
   on-drawing v map l = behind _ _ _ (before _ _ _ (each (file_group f l) (file_group g l) (on-file l) 0 l.files))
@@ -81,16 +85,54 @@ module _ (f g : Show) (same : (bytes : List ℕ) → IsSameMarkup (f bytes) (g b
       (behind (codes "</title>\n<style>") _ _ (behind style _ _ (behind dashes _ _ (behind (codes "</style>\n<h1>") _ _
       (before (f name) (g name) _ (same name)))))))
 
-  on-told : (v : Option Fault) (files : ℕ) (map : Sector)
-      → IsSameMarkup (told_text f v files map) (told_text g v files map)
+  on-named : (file : Option File) → IsSameMarkup (named f file) (named g file)
+  on-named None = alike []
+  on-named (Some d) = same (name_of d.slot)
+
+  on-owner : (l : Layout) (o : Owner) → IsSameMarkup (owner_named f l o) (owner_named g l o)
+  on-owner l owner.Map = alike (codes "the map")
+  on-owner l owner.Directory = alike (codes "the directory")
+  on-owner l (owner.Blocks k) = on-named (slice_get l.files k)
+  on-owner l (owner.Sides k) = behind (codes "the side sectors of ") _ _ (on-named (slice_get l.files k))
+  on-owner l owner.Nobody = alike []
+
+  on-shared : (l : Layout) (p : Place) (a b : Option Owner)
+      → IsSameMarkup (shared_text f l p a b) (shared_text g l p a b)
+  on-shared l p (Some a) (Some b) =
+      behind (codes "Sector ") _ _ (behind (place_text p) _ _ (behind (codes " belongs to ") _ _
+      (both _ _ _ _ (on-owner l a) (behind (codes " and to ") _ _ (before _ _ (codes "; ") (on-owner l b))))))
+  on-shared l p None b = alike (shared_text f l p None b)
+  on-shared l p (Some a) None = alike (shared_text f l p (Some a) None)
+
+  on-sentence : (l : Layout) (v : Option Fault) → IsSameMarkup (sentence_text f l v) (sentence_text g l v)
+  on-sentence l None = alike (codes "Sound: ")
+  on-sentence l (Some (fault.OwnedTwice p)) =
+      on-shared l p (slice_get (owners_of l p) 0) (slice_get (owners_of l p) 1)
+  on-sentence l (Some (fault.BadLink p)) = alike _
+  on-sentence l (Some (fault.Loop p)) = alike _
+  on-sentence l (Some (fault.BadType p)) = alike _
+  on-sentence l (Some (fault.Unclosed p)) = alike _
+  on-sentence l (Some (fault.BadSide p)) = alike _
+  on-sentence l (Some (fault.BadLength p)) = alike _
+  on-sentence l (Some (fault.CountWrong p)) = alike _
+  on-sentence l (Some (fault.MapWrong p)) = alike _
+  on-sentence l (Some (fault.Device p)) = alike _
+
+  pub on-summary : (v : Option Fault) (map : Sector) (l : Layout)
+      → IsSameMarkup (summary_text f v map l) (summary_text g v map l)
+  unfolding summary_text
+  on-summary v map l = before _ _ _ (on-sentence l v)
+
+  on-told : (v : Option Fault) (map : Sector) (l : Layout)
+      → IsSameMarkup (told_text f v map l) (told_text g v map l)
   unfolding told_text
-  on-told v files map =
+  on-told v map l =
       let id = slice_range map 162 164 in
       let version = slice_range map 165 167 in
       let name = disk_name map in
       both (f id) (g id) _ _ (same id) (behind (codes " ") _ _ (both (f version) (g version) _ _ (same version)
       (behind (codes "</p>\n<p class=\"") _ _ (behind (verdict_class v) _ _ (behind (codes "\"><b>") _ _
-      (behind (verdict_text v) _ _ (behind (codes "</b> ") _ _ (behind (summary_text v files (blocks_free map)) _ _
+      (behind (verdict_text v) _ _ (behind (codes "</b> ") _ _ (both _ _ _ _ (on-summary v map l)
       (behind (codes "</p>\n<main>\n<svg viewBox=\"-36600 -36600 73200 73200\" role=\"img\" aria-label=\"The disk as 35 rings of sectors, each in the colour of its file; the table lists the files\">\n<svg x=\"-6900\" y=\"-1200\" width=\"13800\" height=\"2400\" viewBox=\"-6900 -1200 13800 2400\"><text y=\"400\">") _ _
       (before (f name) (g name) (codes "</text></svg>\n<g transform=\"rotate(-90)\">\n") (same name)))))))))))
 
@@ -111,5 +153,5 @@ module _ (f g : Show) (same : (bytes : List ℕ) → IsSameMarkup (f bytes) (g b
   pub on-page : (v : Option Fault) (map : Sector) (l : Layout)
       → IsSameMarkup (page_text f v map l) (page_text g v map l)
   unfolding page_text
-  on-page v map l = both _ _ _ _ (on-title map) (both _ _ _ _ (on-told v (length l.files) map) (both _ _ _ _ (on-drawing v map l)
+  on-page v map l = both _ _ _ _ (on-title map) (both _ _ _ _ (on-told v map l) (both _ _ _ _ (on-drawing v map l)
       (behind legend_text _ _ (before _ _ _ (each (row_text f) (row_text g) on-row 0 l.files)))))

@@ -2,6 +2,10 @@
 use Rattle.std.specs.Prelude.{ℕ, Bool, List, [], ◌∷◌, codes, flat_map, if◌then◌else◌, length, nat_eq, nat_lt}
 use Rattle.byte_text.specs.Texts.{byte_text}
 
+-- how bytes of the disk are shown
+abbrev pub Show : Type 0
+Show = List ℕ → List ℕ
+
 -- a byte of a text in HTML
 abbrev pub escaped : ℕ → List ℕ
 escaped c =

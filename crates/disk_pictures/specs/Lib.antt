@@ -8,5 +8,8 @@ pub mod Names
 pub mod Outcomes
 pub mod Owners
 pub mod Pictures
+pub mod Posters
 pub mod Sectors
+pub mod Sentences
+pub mod Sharing
 pub mod Texts

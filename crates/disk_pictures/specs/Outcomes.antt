@@ -1,5 +1,5 @@
 -- What comes of drawing an image, and why it isn't drawn. Our own.
-use Rattle.std.specs.Prelude.{◌≡◌, ◌≢◌, List, ℕ, Option, Some, None, length}
+use Rattle.std.specs.Prelude.{◌≡◌, ◌≢◌, ◌≤◌, List, ℕ, Option, Some, None, length}
 use Rattle.std.specs.Io.KnownBytes.{Appends}
 use Rattle.d64_image.specs.Images.{Image, Sector, sector}
 use Rattle.d64_image.specs.Memory.{sectors_in}
@@ -12,6 +12,7 @@ use Rattle.disk_pictures.specs.Drawings.{IsDrawn}
 use Rattle.disk_pictures.specs.Held.{drawn_in}
 use Rattle.disk_pictures.specs.Maps.{map_text}
 use Rattle.disk_pictures.specs.Pictures.{picture_page}
+use Rattle.disk_pictures.specs.Posters.{poster_of}
 use Rattle.disk_pictures.specs.declared.drawing.Drawing.{Drawing}
 use Rattle.disk_pictures.specs.declared.faults.PictureFault.{PictureFault}
 use Rattle.disk_pictures.specs.declared.faults.PictureFault.TheVariants as faults
@@ -30,6 +31,7 @@ pub record IsDrawnAndJudged (image : List ℕ) (l : Layout) (found : Option Faul
   pub size : length image ≡ 174848
   pub drawn : IsDrawn (sectors_in image) l
   pub verdict : IsVerdict (sectors_in image) found
+  pub few : length l.files ≤ 144
 
 -- the same of a drawing as the code holds it
 pub record IsJudged (image : List ℕ) (drawing : Drawing) (found : Option Fault) : Type 0 where
@@ -49,6 +51,13 @@ pub record IsPicturePrinted {W : Type 0} (contents : W → Option (List ℕ)) (i
   pub layout : Layout
   pub judged : IsDrawnAndJudged image layout found
   pub printed : Appends (contents old) (contents new) (picture_page found (map_in image) layout)
+
+-- the poster of the image, and nothing else, was handed to an output that held `old` and holds `new`
+pub record IsPosterPrinted {W : Type 0} (contents : W → Option (List ℕ)) (image : List ℕ) (old new : W)
+    (found : Option Fault) : Type 0 where
+  pub layout : Layout
+  pub judged : IsDrawnAndJudged image layout found
+  pub printed : Appends (contents old) (contents new) (poster_of found (map_in image) layout)
 
 -- the image has a directory, and is drawn
 abbrev pub IsDrawable : List ℕ → Type 0

@@ -1,13 +1,13 @@
 -- What is printed of a disk beside its sectors. All of it is our own but the types (1541 User's Guide, directory
 -- format).
 use Rattle.std.specs.Prelude.{ℕ, zero, suc, ◌+◌, ◌*◌, ◌-◌, ◌/◌, ◌%◌, ◌&&◌, ◌||◌, Bool, false, not, List, [], ◌∷◌, ◌++◌}
-use Rattle.std.specs.Prelude.{Option, Some, None, if◌then◌else◌, codes, decimal, length, max, nat_eq, nat_lt}
+use Rattle.std.specs.Prelude.{Option, Some, None, if◌then◌else◌, codes, length, max, nat_eq, nat_lt}
 use Rattle.std.specs.Int.{bit_at}
 use Rattle.d64_image.specs.Images.{Sector}
 use Rattle.d64_image.specs.declared.place.Place.{Place}
 use Rattle.disk_layout.specs.Layout.{File, is_rel, record_length}
 use Rattle.disk_layout.specs.Map.{map_bit}
-use Rattle.disk_layout.specs.Texts.{fault_text, place_text}
+use Rattle.disk_layout.specs.Texts.{fault_text}
 use Rattle.disk_layout.specs.declared.faults.Fault.{Fault}
 use Rattle.disk_layout.specs.declared.faults.Fault.TheVariants as fault
 use Rattle.disk_pictures.specs.Drawings.{is_place}
@@ -58,42 +58,6 @@ place_of (fault.Device p) = p
 abbrev pub is_fault_at : Option Fault → Place → Bool
 is_fault_at None p = false
 is_fault_at (Some f) p = is_place (place_of f) p
-
--- what is said of a fault before its place
-abbrev pub words_before : Fault → List ℕ
-words_before (fault.BadLink p) = codes "A link in sector "
-words_before (fault.Loop p) = codes "A chain of sectors comes back to sector "
-words_before (fault.OwnedTwice p) = codes "Sector "
-words_before (fault.BadType p) = codes "An entry in sector "
-words_before (fault.Unclosed p) = codes "A file with its entry in sector "
-words_before (fault.BadSide p) = codes "A relative file's side sectors are wrong at sector "
-words_before (fault.BadLength p) = codes "An entry in sector "
-words_before (fault.CountWrong p) = codes "An entry in sector "
-words_before (fault.MapWrong p) = codes "The map of free sectors is wrong at sector "
-words_before (fault.Device p) = codes "Reading failed at sector "
-
--- and after it
-abbrev pub words_after : Fault → List ℕ
-words_after (fault.BadLink p) = codes " leads nowhere; "
-words_after (fault.Loop p) = codes "; "
-words_after (fault.OwnedTwice p) = codes " has more than one owner; "
-words_after (fault.BadType p) = codes " has an unknown type; "
-words_after (fault.Unclosed p) = codes " was never closed; "
-words_after (fault.BadSide p) = codes "; "
-words_after (fault.BadLength p) = codes " has a record length of 0 or 255; "
-words_after (fault.CountWrong p) = codes " has a wrong block count; "
-words_after (fault.MapWrong p) = codes "; "
-words_after (fault.Device p) = codes "; "
-
--- what a verdict says, as the beginning of a sentence
-abbrev pub sentence_text : Option Fault → List ℕ
-sentence_text None = codes "Sound: "
-sentence_text (Some f) = words_before f ++ (place_text (place_of f) ++ words_after f)
-
--- and with the number of files and of free blocks
-unfoldable pub summary_text : Option Fault → ℕ → ℕ → List ℕ
-summary_text v files free =
-    sentence_text v ++ (decimal files ++ (codes " files, " ++ (decimal free ++ codes " of 664 blocks free")))
 
 -- what a check told: OK where nothing is wrong
 abbrev pub verdict_text : Option Fault → List ℕ

@@ -1,5 +1,5 @@
 //! Laws of maps and pages, each the contract of a function that does nothing.
-ghost use Rattle.std.specs.Prelude.{◌≡◌, ◌≤◌, ◌∷◌, [], ℕ, List, Option, length};
+ghost use Rattle.std.specs.Prelude.{◌≡◌, ◌≤◌, ◌↔◌, ◌∷◌, [], ℕ, IsFalse, List, Option, length};
 ghost use Rattle.d64_image.specs.Images.{Image, Sector};
 ghost use Rattle.d64_image.specs.Places.{index_of};
 ghost use Rattle.d64_image.specs.declared.place.Place.{Place};
@@ -8,15 +8,19 @@ ghost use Rattle.disk_layout.specs.Directory.{map_place};
 ghost use Rattle.disk_layout.specs.Layout.{IsLayout, Layout, owners};
 ghost use Rattle.disk_layout.specs.declared.faults.Fault.{Fault};
 ghost use Rattle.disk_pictures.specs.Drawings.{IsDrawn, IsDrawnOnce, IsOwnedBy, owner_of};
-ghost use Rattle.disk_pictures.specs.Html.{html_of};
+ghost use Rattle.disk_pictures.specs.Html.{Show, html_of};
+ghost use Rattle.disk_pictures.specs.Maps.{IsEntrys, entry_mark, is_wide, sector_mark};
 ghost use Rattle.disk_pictures.specs.Markup.{IsEscaped, markup_of};
-ghost use Rattle.disk_pictures.specs.Pictures.{Show, drawing_text, page_text, picture_page};
+ghost use Rattle.disk_pictures.specs.Pictures.{drawing_text, page_text, picture_page};
+ghost use Rattle.disk_pictures.specs.Posters.{poster_of, poster_text};
 ghost use Rattle.disk_pictures.specs.Sectors.{as_printed, by_number, drawing_by, times};
+ghost use Rattle.disk_pictures.specs.Texts.{is_fault_at};
 ghost use Rattle.disk_pictures.specs.declared.owners.Owner.{Owner};
+ghost use Rattle.disk_pictures.specs.declared.owners.Owner.TheVariants as kinds;
 
 /// Bytes of a disk have no quotation mark, no `<` and no `>` where they are shown in a page, and each `&` of theirs
-/// begins an escape; a name of at most 16 bytes takes at most 48. So the markup of the page of an image, whatever its
-/// bytes are, is that of the page in which none of them is shown: names, id and version of a disk bring in nothing but
+/// begins an escape; a name of at most 16 bytes takes at most 48. So the markup of the page, or of the poster, of an image,
+/// whatever its bytes are, is that of the one in which none of them is shown: names, id and version of a disk bring in nothing but
 /// text.
 pub fn names_bring_no_markup()
     ensures none { (bytes : List ℕ) → markup_of (html_of bytes) ≡ [] }
@@ -24,6 +28,8 @@ pub fn names_bring_no_markup()
     ensures short { (bytes : List ℕ) → length bytes ≤ 16 → length (html_of bytes) ≤ 48 }
     ensures page { (v : Option Fault) (map : Sector) (l : Layout)
         → markup_of (picture_page v map l) ≡ markup_of (page_text (λ _. []) v map l) }
+    ensures poster { (v : Option Fault) (map : Sector) (l : Layout)
+        → markup_of (poster_of v map l) ≡ markup_of (poster_text (λ _. []) v map l) }
 {}
 
 /// Of what is drawn of an image each sector of the disk has the one owner that it is drawn as, which has it; and
@@ -54,4 +60,15 @@ pub fn sound_disks_are_drawn_as_laid_out()
         → EachOnce (map_place ∷ owners drawn) }
     ensures owner { (img : Image) (l drawn : Layout) → IsLayout img l → IsDrawn img drawn
         → (p : Place) (o : Owner) → IsOwnedBy l p o → owner_of drawn p ≡ o }
+{}
+
+/// The marks of a map tell entries apart, on every disk: a directory has 144 entries at most. A sector of an entry has the
+/// mark of another sector exactly if the same entry has both, both as blocks or both as side sectors; and the line of the
+/// entry begins with the mark of its blocks. The sector of a fault has a mark of its own.
+pub fn marks_tell_entries_apart()
+    ensures apart { (l : Layout) → length l.files ≤ 144 → (v : Option Fault) (map : Sector) (p q : Place)
+        → IsFalse (is_fault_at v p) → IsFalse (is_fault_at v q) → IsEntrys (owner_of l p)
+        → (sector_mark v map l p ≡ sector_mark v map l q) ↔ (owner_of l p ≡ owner_of l q) }
+    ensures line { (l : Layout) (v : Option Fault) (map : Sector) (p : Place) (k : ℕ) → IsFalse (is_fault_at v p)
+        → owner_of l p ≡ kinds.Blocks k → sector_mark v map l p ≡ entry_mark (is_wide l) k }
 {}

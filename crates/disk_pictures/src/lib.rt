@@ -10,21 +10,28 @@ mod html;
 mod laws;
 mod loading;
 mod map_printing;
+mod map_tracks;
 mod names;
 mod others;
 mod output;
 mod owners;
 mod page;
 mod picture_printing;
+mod poster;
+mod poster_printing;
 mod reading;
+mod sentences;
+mod sharing;
+mod signs;
 mod texts;
 mod verdicts;
 mod white_lines;
 
 pub use faults::PictureFault;
 pub use laws::{
-    names_bring_no_markup, pages_have_683_sectors, sectors_are_drawn_once,
-    sound_disks_are_drawn_as_laid_out,
+    marks_tell_entries_apart, names_bring_no_markup, pages_have_683_sectors,
+    sectors_are_drawn_once, sound_disks_are_drawn_as_laid_out,
 };
 pub use map_printing::map_image;
 pub use picture_printing::picture_image;
+pub use poster_printing::poster_image;

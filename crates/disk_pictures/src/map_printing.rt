@@ -1,12 +1,11 @@
 //! The map of a disk, as it is printed for a terminal.
-ghost use Rattle.std.specs.Prelude.{◌≡◌, ◌≢◌, ◌≤◌, IfErr, IfOk, OnOk, Some, map};
+ghost use Rattle.std.specs.Prelude.{◌≡◌, ◌≢◌, IfErr, IfOk, OnOk, Some, map};
 ghost use Rattle.std.specs.Io.KnownBytes.{Appends};
 ghost use Rattle.d64_image.specs.Memory.{sectors_in};
 ghost use Rattle.disk_layout.specs.Layout.{IsLayout, Layout};
 ghost use Rattle.disk_pictures.specs.Drawings.{file_in};
 ghost use Rattle.disk_pictures.specs.Held.{drawn_in};
-ghost use Rattle.disk_pictures.specs.Maps.{entry_line, letter as letter_of, map_text, mark_of, owner_mark};
-ghost use Rattle.disk_pictures.specs.Maps.{records_text, track_line, track_text};
+ghost use Rattle.disk_pictures.specs.Maps.{entry_line, is_wide as wide_of, map_text, records_text};
 ghost use Rattle.disk_pictures.specs.Outcomes.{IsMapPrinted, IsPictureFault, map_in};
 ghost use Rattle.disk_pictures.specs.Texts.{numbered};
 ghost use Rattle.disk_pictures.specs.declared.faults.PictureFault.TheVariants as faults;
@@ -14,95 +13,26 @@ ghost use Rattle.disk_pictures.specs.declared.faults.PictureFault.TheVariants as
 use crate::drawing::Drawing;
 use crate::drawn_file::DrawnFile;
 use crate::faults::PictureFault;
+use crate::map_tracks::put_either_tracks;
 use crate::names::entry_name;
 use crate::output::{flush, put};
-use crate::owners::Owner;
-use crate::texts::{TypeText, VerdictText, is_fault_at};
+use crate::signs::EntryMark;
+use crate::texts::{TypeText, VerdictText};
 use crate::verdicts::judged;
 use byte_text::Text;
-use d64_image::Place;
-use disk_layout::{BamView, EntryView, Fault};
+use disk_layout::{EntryView, Fault};
 use std::alloc::Global;
 use std::fmt::{self, Display, Formatter};
 use std::io::Write;
 
-/// How many tracks a disk has.
-const TRACKS: u8 = 35;
+/// How many entries have a letter each.
+const LETTERS: usize = 26;
 
-/// How many sectors a track has at most.
-const SECTORS: u8 = 21;
-
-/// What stands above the tracks: the numbers of the sectors.
-const HEAD: &str = "   0         1         2\n   012345678901234567890\n";
-
-/// The letter of an entry among the 26 from this one on.
-fn letter(first: u8, number: usize) -> char
-    requires { first ≤ 100 }
-    ensures { result ≡ letter_of first number }
+/// Whether there are more entries than letters.
+fn is_wide(drawing: &Drawing) -> bool
+    ensures { result ≡ wide_of (drawn_in drawing.now) }
 {
-    char::from(first + (number % 26) as u8)
-}
-
-/// The mark of a sector by its owner.
-fn owner_sign(map: &[u8; 256], place: Place, owner: Owner) -> char
-    ensures { result ≡ owner_mark map.now place owner }
-{
-    match owner {
-        Owner::Map => '*',
-        Owner::Directory => '=',
-        Owner::Blocks(number) => letter(b'a', number),
-        Owner::Sides(number) => letter(b'A', number),
-        Owner::Nobody => {
-            if BamView::new(map).is_free(place) {
-                '.'
-            } else {
-                '?'
-            }
-        }
-    }
-}
-
-/// The mark of a sector.
-fn sign(found: Option<Fault>, drawing: &Drawing, place: Place) -> char
-    ensures { result ≡ mark_of found drawing.now.map (drawn_in drawing.now) place }
-{
-    if is_fault_at(found, place) {
-        return '!';
-    }
-    owner_sign(&drawing.map, place, drawing.owner(place))
-}
-
-/// Prints the line of a track, with the marks of the sectors that it has.
-fn put_track<W: Write>(
-    out: &mut W,
-    found: Option<Fault>,
-    drawing: &Drawing,
-    track: u8,
-) -> Result<(), PictureFault>
-    ensures ok { OnOk result (Appends (W.contents out.old) (W.contents out.new)
-        (track_line found drawing.now.map (drawn_in drawing.now) track)) }
-    ensures err { IfErr result (λ fault. fault ≡ faults.File) }
-{
-    put(out, TrackText(track))?;
-    for sector in 0..SECTORS {
-        if let Some(place) = Place::new(track, sector) {
-            put(out, sign(found, drawing, place))?;
-        }
-    }
-    put(out, "\n")
-}
-
-/// The number of a track before its line.
-#[derive(Clone, Copy)]
-struct TrackText(u8);
-
-impl Display for TrackText {
-    ghost output = { λ text. Some (track_text text.0) };
-
-    fn fmt<W: fmt::Write>(&self, f: &mut Formatter<W>) -> fmt::Result {
-        let space = if self.0 < 10 { " " } else { "" };
-        write!(f, "{space}{} ", self.0)
-    }
+    drawing.files.as_slice().len() > LETTERS
 }
 
 /// Record length and number of records, where they are told.
@@ -123,12 +53,13 @@ impl Display for RecordsText<'_> {
 /// The line of an entry.
 #[derive(Clone, Copy)]
 struct EntryLine<'a> {
+    wide: bool,
     number: usize,
     file: &'a DrawnFile,
 }
 
 impl Display for EntryLine<'_> {
-    ghost output = { λ text. Some (entry_line text.number (file_in text.file.now)) };
+    ghost output = { λ text. Some (entry_line text.wide text.number (file_in text.file.now)) };
 
     fn fmt<W: fmt::Write>(&self, f: &mut Formatter<W>) -> fmt::Result {
         let entry = EntryView::new(&self.file.slot.bytes);
@@ -139,7 +70,10 @@ impl Display for EntryLine<'_> {
         writeln!(
             f,
             "{} {} \"{}\" {kind}{}",
-            letter(b'a', self.number),
+            EntryMark {
+                wide: self.wide,
+                number: self.number
+            },
             entry.block_count(),
             Text(entry_name(&self.file.slot)),
             RecordsText(self.file)
@@ -148,13 +82,13 @@ impl Display for EntryLine<'_> {
 }
 
 /// Prints the lines of the entries.
-fn put_entries<W: Write>(out: &mut W, files: &[DrawnFile]) -> Result<(), PictureFault>
+fn put_entries<W: Write>(out: &mut W, wide: bool, files: &[DrawnFile]) -> Result<(), PictureFault>
     ensures ok { OnOk result (Appends (W.contents out.old) (W.contents out.new)
-        (numbered entry_line 0 (map file_in files.now))) }
+        (numbered (entry_line wide) 0 (map file_in files.now))) }
     ensures err { IfErr result (λ fault. fault ≡ faults.File) }
 {
     for (number, file) in files.iter().enumerate() {
-        put(out, EntryLine { number, file })?;
+        put(out, EntryLine { wide, number, file })?;
     }
     Ok(())
 }
@@ -169,11 +103,9 @@ fn put_map<W: Write>(
         (map_text found drawing.now.map (drawn_in drawing.now))) }
     ensures err { IfErr result (λ fault. fault ≡ faults.File) }
 {
-    put(out, HEAD)?;
-    for below in 0..TRACKS {
-        put_track(out, found, drawing, below + 1)?;
-    }
-    put_entries(out, drawing.files.as_slice())?;
+    let wide = is_wide(drawing);
+    put_either_tracks(out, wide, found, drawing)?;
+    put_entries(out, wide, drawing.files.as_slice())?;
     put(out, VerdictText(found))?;
     put(out, "\n")?;
     flush(out)
@@ -184,7 +116,9 @@ fn put_map<W: Write>(
 /// links go; of a sound one it is the map of its layout.
 ///
 /// `*` is the map, `=` the directory, a letter a block of the entry whose line begins with it, and the capital one of
-/// its side sectors; `.` is free, `?` taken in the map and of no entry, `!` where the fault is.
+/// its side sectors; `.` is free, `?` taken in the map and of no entry, `!` where the fault is. With more than 26 entries
+/// a digit stands after each letter, the other marks are doubled, and a blank parts them: `a0` is the first entry, `a1`
+/// the 27th.
 ///
 /// `ImageSize`; `NoMemory`; `Layout` where the directory's sectors aren't a chain on track 18: nothing was printed
 /// then. `File` where the output failed, which may then have a part.

@@ -1,19 +1,22 @@
 //! What stands round the drawing on a picture's page.
 ghost use Rattle.std.specs.Prelude.{◌≡◌, Some};
 ghost use Rattle.disk_pictures.specs.Drawings.{file_in};
+ghost use Rattle.disk_pictures.specs.Held.{drawn_in};
 ghost use Rattle.disk_pictures.specs.Html.{html_of};
 ghost use Rattle.disk_pictures.specs.Pictures.{cells_text, link_text, row_text, title_text, told_text, verdict_class};
 
 use crate::arcs::Look;
+use crate::drawing::Drawing;
 use crate::drawn_file::DrawnFile;
 use crate::html::Html;
 use crate::names::{entry_name, header_name};
-use crate::texts::{Summary, TypeText, VerdictText};
+use crate::sentences::Summary;
+use crate::texts::{TypeText, VerdictText};
 use disk_layout::{BamView, EntryView, Fault};
 use std::fmt::{self, Display, Formatter};
 
 /// The page's style: light and dark, for wide and narrow screens, and for paper. A file has one of twelve colours, which
-/// stay apart for people who are colour-blind, and one of four widths.
+/// stay apart for people who are colour-blind, and one of four shapes.
 const STYLE: &str = ":root{color-scheme:light dark}body{margin:24px;background:#fbfaf7;color:#222;\
     font:14px/1.4 ui-monospace,Menlo,Consolas,\"DejaVu Sans Mono\",monospace}h1{font-size:20px;margin:0}\
     p{margin:4px 0 12px}a{color:inherit}main{display:grid;gap:16px 32px;\
@@ -25,7 +28,7 @@ const STYLE: &str = ":root{color-scheme:light dark}body{margin:24px;background:#
     li{margin:0 0 2px}i{display:inline-block;box-sizing:border-box;width:12px;height:12px;margin:0 6px 0 0;\
     background:currentColor;background-clip:content-box;vertical-align:-1px}.bad b{color:#b00000}.good b{color:#17692b}\
     circle{fill:none;stroke-width:700}.w1 circle{stroke-width:540}.w2 circle{stroke-width:390}\
-    .w3 circle{stroke-width:240}i.w1{padding:1.5px 0}i.w2{padding:3px 0}i.w3{padding:4px 0}\
+    i.w1{padding:1.5px 0}i.w2{padding:3px 0}i.w3{padding:0 4px}\
     text{font:1100px ui-monospace,Menlo,Consolas,\"DejaVu Sans Mono\",monospace;fill:#444;text-anchor:middle}\
     .n{pointer-events:none;fill:none;stroke:#444;stroke-width:120}.n text{paint-order:stroke;stroke:#fbfaf7;\
     stroke-width:300}.free{stroke:#e8e4d9}.lost{stroke:#7b7567}.map{stroke:#161616}.dir{stroke:#5e5e5e}\
@@ -58,8 +61,9 @@ const STYLE: &str = ":root{color-scheme:light dark}body{margin:24px;background:#
     font-size:10px}main{display:block}main>svg{display:block;width:150mm;margin:0 auto}main>div{max-height:none;\
     overflow:visible;columns:60mm;font-size:8px}.hint,.all{display:none}}";
 
-/// The dash of each ring: the arc of a sector less 200, and then nothing.
-const DASHES: &str =
+/// The dash of each ring: the arc of a sector less 200, and then nothing; and half as long, for entries of the fourth
+/// shape.
+pub(crate) const DASHES: &str =
     "[r=\"34600\"]{stroke-dasharray:10152 300000}[r=\"33800\"]{stroke-dasharray:9912 300000}\
     [r=\"33000\"]{stroke-dasharray:9673 300000}[r=\"32200\"]{stroke-dasharray:9434 300000}\
     [r=\"31400\"]{stroke-dasharray:9194 300000}[r=\"30600\"]{stroke-dasharray:8955 300000}\
@@ -77,7 +81,25 @@ const DASHES: &str =
     [r=\"12200\"]{stroke-dasharray:4058 300000}[r=\"11400\"]{stroke-dasharray:3779 300000}\
     [r=\"10600\"]{stroke-dasharray:3717 300000}[r=\"9800\"]{stroke-dasharray:3422 300000}\
     [r=\"9000\"]{stroke-dasharray:3126 300000}[r=\"8200\"]{stroke-dasharray:2830 300000}\
-    [r=\"7400\"]{stroke-dasharray:2535 300000}";
+    [r=\"7400\"]{stroke-dasharray:2535 300000}\
+    .w3 [r=\"34600\"]{stroke-dasharray:0 2538 5076 300000}.w3 [r=\"33800\"]{stroke-dasharray:0 2478 4956 300000}\
+    .w3 [r=\"33000\"]{stroke-dasharray:0 2418 4836 300000}.w3 [r=\"32200\"]{stroke-dasharray:0 2358 4717 300000}\
+    .w3 [r=\"31400\"]{stroke-dasharray:0 2298 4597 300000}.w3 [r=\"30600\"]{stroke-dasharray:0 2238 4477 300000}\
+    .w3 [r=\"29800\"]{stroke-dasharray:0 2179 4358 300000}.w3 [r=\"29000\"]{stroke-dasharray:0 2119 4238 300000}\
+    .w3 [r=\"28200\"]{stroke-dasharray:0 2059 4118 300000}.w3 [r=\"27400\"]{stroke-dasharray:0 1999 3999 300000}\
+    .w3 [r=\"26600\"]{stroke-dasharray:0 1939 3879 300000}.w3 [r=\"25800\"]{stroke-dasharray:0 1879 3759 300000}\
+    .w3 [r=\"25000\"]{stroke-dasharray:0 1819 3639 300000}.w3 [r=\"24200\"]{stroke-dasharray:0 1760 3520 300000}\
+    .w3 [r=\"23400\"]{stroke-dasharray:0 1700 3400 300000}.w3 [r=\"22600\"]{stroke-dasharray:0 1640 3280 300000}\
+    .w3 [r=\"21800\"]{stroke-dasharray:0 1580 3161 300000}.w3 [r=\"21000\"]{stroke-dasharray:0 1686 3372 300000}\
+    .w3 [r=\"20200\"]{stroke-dasharray:0 1620 3240 300000}.w3 [r=\"19400\"]{stroke-dasharray:0 1553 3107 300000}\
+    .w3 [r=\"18600\"]{stroke-dasharray:0 1487 2975 300000}.w3 [r=\"17800\"]{stroke-dasharray:0 1421 2843 300000}\
+    .w3 [r=\"17000\"]{stroke-dasharray:0 1355 2710 300000}.w3 [r=\"16200\"]{stroke-dasharray:0 1289 2578 300000}\
+    .w3 [r=\"15400\"]{stroke-dasharray:0 1293 2587 300000}.w3 [r=\"14600\"]{stroke-dasharray:0 1224 2448 300000}\
+    .w3 [r=\"13800\"]{stroke-dasharray:0 1154 2308 300000}.w3 [r=\"13000\"]{stroke-dasharray:0 1084 2168 300000}\
+    .w3 [r=\"12200\"]{stroke-dasharray:0 1014 2029 300000}.w3 [r=\"11400\"]{stroke-dasharray:0 944 1889 300000}\
+    .w3 [r=\"10600\"]{stroke-dasharray:0 929 1858 300000}.w3 [r=\"9800\"]{stroke-dasharray:0 855 1711 300000}\
+    .w3 [r=\"9000\"]{stroke-dasharray:0 781 1563 300000}.w3 [r=\"8200\"]{stroke-dasharray:0 707 1415 300000}\
+    .w3 [r=\"7400\"]{stroke-dasharray:0 633 1267 300000}";
 
 /// The end of the drawing, with the numbers of tracks and an arrow from sector 0 to 1; the meaning of the colours; and
 /// the head of the table.
@@ -127,26 +149,24 @@ impl Display for Title<'_> {
     }
 }
 
-/// What follows it, from 18/0 and from what a check told, up to the first group of sectors.
+/// What follows it, from what is drawn and what a check told, up to the first group of sectors.
 #[derive(Clone, Copy)]
 pub(crate) struct Told<'a> {
-    /// 18/0.
-    pub map: &'a [u8; 256],
+    /// What is drawn.
+    pub drawing: &'a Drawing,
     /// What a check reports.
     pub found: Option<Fault>,
-    /// How many files the directory has.
-    pub files: usize,
 }
 
 impl Display for Told<'_> {
-    ghost output = { λ told. Some (told_text html_of told.found told.files told.map.now) };
+    ghost output = { λ told. Some (told_text html_of told.found told.drawing.now.map (drawn_in told.drawing.now)) };
 
     fn fmt<W: fmt::Write>(&self, f: &mut Formatter<W>) -> fmt::Result {
-        let view = BamView::new(self.map);
+        let map = &self.drawing.map;
+        let view = BamView::new(map);
         let summary = Summary {
+            drawing: self.drawing,
             found: self.found,
-            files: self.files,
-            free: view.blocks_free(),
         };
         write!(
             f,
@@ -159,7 +179,7 @@ impl Display for Told<'_> {
             Html(view.version()),
             class_of(self.found),
             VerdictText(self.found),
-            Html(header_name(self.map))
+            Html(header_name(map))
         )
     }
 }

@@ -208,7 +208,7 @@ fn put_fault<W: Write>(out: &mut W, found: Option<Fault>) -> Result<(), PictureF
 }
 
 /// Prints the groups of the drawing.
-fn put_drawing<W: Write>(
+pub(crate) fn put_drawing<W: Write>(
     out: &mut W,
     found: Option<Fault>,
     drawing: &Drawing,
@@ -234,10 +234,8 @@ fn put_page<W: Write>(
         (picture_page found drawing.now.map (drawn_in drawing.now))) }
     ensures err { IfErr result (λ fault. fault ≡ faults.File) }
 {
-    let map = &drawing.map;
-    put(out, Title(map))?;
-    let files = drawing.files.as_slice().len();
-    put(out, Told { map, found, files })?;
+    put(out, Title(&drawing.map))?;
+    put(out, Told { drawing, found })?;
     put_drawing(out, found, drawing)?;
     put(out, LEGEND)?;
     put_rows(out, drawing.files.as_slice())?;

@@ -2,11 +2,9 @@
 ghost use Rattle.std.specs.Prelude.{◌≡◌, None, Some, if◌then◌else◌};
 ghost use Rattle.disk_layout.specs.Layout.{record_length};
 ghost use Rattle.disk_pictures.specs.Drawings.{file_in};
-ghost use Rattle.disk_pictures.specs.Texts.{has_records, records_in, sentence_text, summary_text, type_text};
-ghost use Rattle.disk_pictures.specs.Texts.{verdict_text, words_after, words_before};
+ghost use Rattle.disk_pictures.specs.Texts.{has_records, records_in, type_text, verdict_text};
 ghost use Rattle.disk_pictures.specs.Texts.{is_fault_at as fault_at, place_of, type_name as name_of_type};
 
-use crate::arcs::PlaceText;
 use crate::drawn_file::DrawnFile;
 use d64_image::Place;
 use disk_layout::{DATA, EntryView, Fault};
@@ -30,25 +28,6 @@ pub(crate) fn fault_place(fault: Fault) -> Place
     }
 }
 
-/// What is said of a fault before and after its place.
-fn words_about(fault: Fault) -> (&'static str, &'static str)
-    ensures begin { result.0.now ≡ words_before fault }
-    ensures end { result.1.now ≡ words_after fault }
-{
-    match fault {
-        Fault::BadLink(_) => ("A link in sector ", " leads nowhere; "),
-        Fault::Loop(_) => ("A chain of sectors comes back to sector ", "; "),
-        Fault::OwnedTwice(_) => ("Sector ", " has more than one owner; "),
-        Fault::BadType(_) => ("An entry in sector ", " has an unknown type; "),
-        Fault::Unclosed(_) => ("A file with its entry in sector ", " was never closed; "),
-        Fault::BadSide(_) => ("A relative file's side sectors are wrong at sector ", "; "),
-        Fault::BadLength(_) => ("An entry in sector ", " has a record length of 0 or 255; "),
-        Fault::CountWrong(_) => ("An entry in sector ", " has a wrong block count; "),
-        Fault::MapWrong(_) => ("The map of free sectors is wrong at sector ", "; "),
-        Fault::Device(_) => ("Reading failed at sector ", "; "),
-    }
-}
-
 /// Whether the fault that was told is at this place.
 pub(crate) fn is_fault_at(found: Option<Fault>, place: Place) -> bool
     ensures { result ≡ fault_at found place }
@@ -56,49 +35,6 @@ pub(crate) fn is_fault_at(found: Option<Fault>, place: Place) -> bool
     match found {
         None => false,
         Some(fault) => place == fault_place(fault),
-    }
-}
-
-/// What a verdict says, as the beginning of a sentence.
-#[derive(Clone, Copy)]
-struct Sentence(Option<Fault>);
-
-impl Display for Sentence {
-    ghost output = { λ said. Some (sentence_text said.0) };
-
-    fn fmt<W: fmt::Write>(&self, f: &mut Formatter<W>) -> fmt::Result {
-        match self.0 {
-            None => f.write_str("Sound: "),
-            Some(fault) => {
-                let (begin, end) = words_about(fault);
-                write!(f, "{begin}{}{end}", PlaceText(fault_place(fault)))
-            }
-        }
-    }
-}
-
-/// What a verdict says, the number of files, and the number of free blocks, as a sentence.
-#[derive(Clone, Copy)]
-pub(crate) struct Summary {
-    /// What a check reports.
-    pub found: Option<Fault>,
-    /// How many files the directory has.
-    pub files: usize,
-    /// How many of the 664 blocks are free, as the map counts them.
-    pub free: u16,
-}
-
-impl Display for Summary {
-    ghost output = { λ said. Some (summary_text said.found said.files said.free) };
-
-    fn fmt<W: fmt::Write>(&self, f: &mut Formatter<W>) -> fmt::Result {
-        write!(
-            f,
-            "{}{} files, {} of 664 blocks free",
-            Sentence(self.found),
-            self.files,
-            self.free
-        )
     }
 }
 

@@ -78,9 +78,9 @@ store = may_accept_loss (with_rule (with_rule (over_image (codes "store")) (requ
 abbrev pub map : App
 map = over_image (codes "map")
 
--- picture IMAGE
+-- picture IMAGE [--svg]
 abbrev pub picture : App
-picture = over_image (codes "picture")
+picture = with_rule (over_image (codes "picture")) (flag (codes "svg"))
 
 -- dry SCRIPT
 abbrev pub dry : App

@@ -114,7 +114,7 @@ Example: ledger map old.d64";
 /// What `picture` prints, its statuses, and an example.
 pub(crate) const PICTURE: &str =
     "Draws a damaged disk too, as far as its links can be followed. The page loads\n\
-nothing and has no script.\n\
+nothing and has no script, and neither does the poster (297 by 420 mm).\n\
 Status 0: the disk is clean. 1: a fault, or the image is refused. 3: FILE,\n\
 NO MEMORY, IN USE.\n\
 Example: ledger picture old.d64 > old.html";

@@ -212,12 +212,20 @@ pub(crate) const SUBCOMMANDS: [Subcommand; 14] = [
         more: MAP,
         values: &[IMAGE],
     },
-    // picture IMAGE
+    // picture IMAGE [--svg]
     Subcommand {
         name: "picture",
-        about: "Prints a drawing of the disk as an HTML page",
+        about: "Prints a drawing of the disk as an HTML page, or as a poster",
         more: PICTURE,
-        values: &[IMAGE],
+        values: &[
+            IMAGE,
+            Value {
+                name: "svg",
+                word: Some("svg"),
+                is_flag: true,
+                help: "Prints a poster, as an SVG file of its own",
+            },
+        ],
     },
     // dry SCRIPT
     Subcommand {

@@ -4,6 +4,7 @@ use Rattle.std.specs.Prelude.{IfErr, IfOk}
 use Rattle.disk_layout.specs.declared.faults.Fault.{Fault}
 use Rattle.disk_pictures.specs.Faults.{picture_status}
 use Rattle.disk_pictures.specs.Outcomes.{IsDrawnAndJudged, IsMapPrinted, IsPictureFault, IsPicturePrinted}
+use Rattle.disk_pictures.specs.Outcomes.{IsPosterPrinted}
 use Rattle.disk_pictures.specs.declared.faults.PictureFault.{PictureFault}
 use Rattle.disk_pictures.specs.declared.faults.PictureFault.TheVariants as faults
 use Rattle.disk_layout.specs.Layout.{Layout}
@@ -80,3 +81,9 @@ module _ {W : Type 0} (contents : W → Option (List ℕ)) (image : List ℕ) (o
       → IfErr r (λ fault. fault ≢ faults.File → new ≡ old) → IsDrawingRun contents drawings.Picture image old new r
   picture-run (Ok found) ok err untouched = drawn contents drawings.Picture image old new found ok.layout ok.judged ok
   picture-run (Err fault) ok err untouched = undrawn contents drawings.Picture image old new fault err untouched
+
+  pub poster-run : (r : Result (Option Fault) PictureFault) → IfOk r (IsPosterPrinted contents image old new)
+      → IfErr r (IsPictureFault image)
+      → IfErr r (λ fault. fault ≢ faults.File → new ≡ old) → IsDrawingRun contents drawings.Poster image old new r
+  poster-run (Ok found) ok err untouched = drawn contents drawings.Poster image old new found ok.layout ok.judged ok
+  poster-run (Err fault) ok err untouched = undrawn contents drawings.Poster image old new fault err untouched

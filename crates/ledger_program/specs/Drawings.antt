@@ -4,7 +4,7 @@ use Rattle.d64_image.specs.Memory.{sectors_in}
 use Rattle.disk_layout.specs.Clean.{IsClean}
 use Rattle.disk_layout.specs.declared.faults.Fault.{Fault}
 use Rattle.disk_pictures.specs.Faults.{picture_status}
-use Rattle.disk_pictures.specs.Outcomes.{IsMapPrinted, IsPictureFault, IsPicturePrinted}
+use Rattle.disk_pictures.specs.Outcomes.{IsMapPrinted, IsPictureFault, IsPicturePrinted, IsPosterPrinted}
 use Rattle.disk_pictures.specs.declared.faults.PictureFault.{PictureFault}
 use Rattle.disk_pictures.specs.declared.faults.PictureFault.TheVariants as faults
 use Rattle.ledger_program.specs.declared.jobs.Drawing.{Drawing}
@@ -20,6 +20,7 @@ draw_end (Err fault) = picture_status fault
 abbrev pub IsDrawnAs : {W : Type 0} → (W → Option (List ℕ)) → Drawing → List ℕ → W → W → Option Fault → Type 0
 IsDrawnAs contents drawings.Map image old new found = IsMapPrinted contents image old new found
 IsDrawnAs contents drawings.Picture image old new found = IsPicturePrinted contents image old new found
+IsDrawnAs contents drawings.Poster image old new found = IsPosterPrinted contents image old new found
 
 -- an image that was to be drawn ended so
 pub record IsDrawingRun {W : Type 0} (contents : W → Option (List ℕ)) (what : Drawing) (image : List ℕ) (old new : W)

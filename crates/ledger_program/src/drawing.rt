@@ -3,7 +3,7 @@ ghost use Rattle.ledger_program.specs.Drawings.{IsDrawingRun};
 
 use crate::jobs::Drawing;
 use disk_layout::Fault;
-use disk_pictures::{PictureFault, map_image, picture_image};
+use disk_pictures::{PictureFault, map_image, picture_image, poster_image};
 use std::alloc::Global;
 use std::io::Write;
 
@@ -21,5 +21,6 @@ pub fn drawing_run<W: Write>(
     match what {
         Drawing::Map => map_image(alloc, image, out),
         Drawing::Picture => picture_image(alloc, image, out),
+        Drawing::Poster => poster_image(alloc, image, out),
     }
 }

@@ -31,6 +31,8 @@ pub enum Drawing {
     Map,
     /// An HTML page with a drawing of the disk.
     Picture,
+    /// A poster: an SVG file of its own with the same drawing, title, legend and directory.
+    Poster,
 }
 
 /// What a job does on a disk that has lost a part of a file.

@@ -11,6 +11,7 @@ use Rattle.ledger_words.specs.Jobs.{Has, HasNoName, HasNoNewName, IsHeard, IsJob
 use Rattle.ledger_words.specs.Jobs.{IsStoringJob, IsTakingJob, is_given, tills_in, word_of_taking}
 use Rattle.ledger_program.specs.Jobs.{IsFit}
 use Rattle.ledger_program.specs.Names.{IsNameOf, name_bytes}
+use Rattle.ledger_program.specs.declared.jobs.Drawing.TheVariants as drawings
 use Rattle.ledger_program.specs.declared.jobs.Job.{Job}
 use Rattle.ledger_program.specs.declared.jobs.Job.TheVariants as jobs
 use Rattle.ledger_program.specs.declared.jobs.Taking.{Taking}
@@ -102,6 +103,19 @@ play-met found rows image script true given is by-image by-script =
     record { rows = rows; is = is; holds = (by-image, by-script, given) }
 play-met found rows image script false given is by-image by-script =
     record { rows = rows; is = is; holds = (by-image, by-script, given) }
+
+-- and with --svg or without that of `picture`
+pub picture-met : (found : Option (Text × List Row)) (rows : List Row) (image : Bor Text) (svg : Bool)
+    → is_given (codes "svg") rows ≡ svg → found ≡ Some (codes "picture", rows)
+    → image.now ≡ value (codes "IMAGE") rows
+    → IsJob found (if svg then jobs.Draw drawings.Poster image else jobs.Draw drawings.Picture image)
+picture-met found rows image true given is by-image = record { rows = rows; is = is; holds = (by-image, given) }
+picture-met found rows image false given is by-image = record { rows = rows; is = is; holds = (by-image, given) }
+
+pub picture-fit : (image : Bor Text) (svg : Bool)
+    → IsFit (if svg then jobs.Draw drawings.Poster image else jobs.Draw drawings.Picture image)
+picture-fit image true = tt
+picture-fit image false = tt
 
 pub play-fit : (image script : Bor Text) (synced : Bool)
     → IsFit (if synced then jobs.PlaySynced image script else jobs.Play image script)

@@ -59,6 +59,7 @@ word_of_taking takings.Bytes = codes "bytes"
 abbrev pub word_of_drawing : Drawing → Text
 word_of_drawing drawings.Map = codes "map"
 word_of_drawing drawings.Picture = codes "picture"
+word_of_drawing drawings.Poster = codes "picture"
 
 -- a flag is among the words
 abbrev pub is_given : Text → List Row → Bool
@@ -89,6 +90,17 @@ format_job rows image tills =
 abbrev pub play_job : List Row → Bor Text → Bor Text → Job
 play_job rows image script =
     if is_given (codes "sync") rows then jobs.PlaySynced image script else jobs.Play image script
+
+-- the job that draws an image for other eyes than a terminal's: with --svg as a poster
+abbrev pub picture_job : List Row → Bor Text → Job
+picture_job rows image =
+    if is_given (codes "svg") rows then jobs.Draw drawings.Poster image else jobs.Draw drawings.Picture image
+
+-- the flags ask for this drawing; `map` has none
+abbrev pub IsDrawnBy : Drawing → List Row → Type 0
+IsDrawnBy drawings.Map rows = Unit {0}
+IsDrawnBy drawings.Picture rows = is_given (codes "svg") rows ≡ false
+IsDrawnBy drawings.Poster rows = is_given (codes "svg") rows ≡ true
 
 -- the words ask for more of what isn't done, before the subcommand or behind it
 abbrev pub is_explained : List Row → Option (Text × List Row) → Bool
@@ -143,7 +155,8 @@ IsJob found (jobs.Make image name length loss) = Has found (codes "make")
 IsJob found (jobs.Store image name records loss) = Has found (codes "store")
     (λ rows. (image.now ≡ value (codes "IMAGE") rows) × IsNameOf (value (codes "NAME") rows) (name_bytes name)
     × (records.now ≡ value (codes "RECORDS") rows) × (loss ≡ loss_in rows))
-IsJob found (jobs.Draw what image) = Has found (word_of_drawing what) (λ rows. image.now ≡ value (codes "IMAGE") rows)
+IsJob found (jobs.Draw what image) = Has found (word_of_drawing what)
+    (λ rows. (image.now ≡ value (codes "IMAGE") rows) × IsDrawnBy what rows)
 
 -- the job, or why there is none, of a subcommand that takes this out of an image and has these values
 abbrev pub IsTakingJob : List Row → Taking → Text → Result Job JobFault → Type 0

@@ -8,7 +8,7 @@ ghost use Rattle.keeper_commands.specs.Makes.{IsNewName};
 ghost use Rattle.ledger_program.specs.Jobs.{IsFit};
 ghost use Rattle.ledger_program.specs.Names.{IsNameOf, name_bytes};
 ghost use Rattle.ledger_words.specs.Jobs.{IsHeard, IsJob, IsMakingJob, IsNoJob, IsParse, IsStoringJob, IsTakingJob};
-ghost use Rattle.ledger_words.specs.Jobs.{effect_in, format_job, loss_in, play_job, unowned_in};
+ghost use Rattle.ledger_words.specs.Jobs.{effect_in, format_job, loss_in, picture_job, play_job, unowned_in};
 ghost use Rattle.rel_records.specs.File.{IsLength};
 ghost use Rattle.ledger_words.specs.Jobs.{is_explained as explained, is_given as given, serve_durability as of_serve};
 
@@ -119,6 +119,23 @@ fn formatting<'a>(matches: &ArgMatches<'a>, image: &'a str, tills: u8) -> Job<'a
     }
 }
 
+/// The job that draws an image as a page or as a poster.
+fn picturing<'a>(matches: &ArgMatches<'a>, image: &'a str) -> Job<'a>
+    ensures { result ≡ picture_job (rows_of (found_of matches.now)) image.entry }
+{
+    if is_given(matches, "svg") {
+        Job::Draw {
+            what: Drawing::Poster,
+            image,
+        }
+    } else {
+        Job::Draw {
+            what: Drawing::Picture,
+            image,
+        }
+    }
+}
+
 /// The job that plays a script on an image.
 fn playing<'a>(matches: &ArgMatches<'a>, image: &'a str, script: &'a str) -> Job<'a>
     ensures { result ≡ play_job (rows_of (found_of matches.now)) image.entry script.entry }
@@ -226,10 +243,7 @@ fn chosen<'a>(matches: &ArgMatches<'a>) -> Result<Job<'a>, JobFault>
             what: Drawing::Map,
             image,
         }),
-        "picture" => Ok(Job::Draw {
-            what: Drawing::Picture,
-            image,
-        }),
+        "picture" => Ok(picturing(found, image)),
         "dry" => Ok(Job::Dry { script }),
         // No other subcommand can be met.
         _ => Err(JobFault::Words(Error::from(AllocError))),

@@ -1,41 +1,110 @@
-//! Maps and pictures of the blank disk for two tills with bytes changed, compared by length and Adler-32 with those
-//! that a plain program printed of the same disks; and what is refused.
+//! Maps, pages and posters of the blank disk for two tills with bytes changed, compared by length and Adler-32 with
+//! those that a plain program (tests/pages.py) printed of the same disks; and what is refused.
 use crate::comparing::same_at;
 use crate::disks::{Change, changed};
 use disk_layout::Fault;
-use disk_pictures::{PictureFault, map_image, picture_image};
+use disk_pictures::{PictureFault, map_image, picture_image, poster_image};
 use std::io::Write;
 use std::process::Abort;
 
-/// Changes; what is told; the length of the map and its Adler-32, and the same of the picture: the blank disk; a
-/// program file whose block links to itself; a name with all that HTML escapes beside a free bit of a block; an open
-/// entry; a name of the disk that would be a script, beside a sector that is taken and of no file.
-const DRAWN: [(&[Change], &str, (usize, u32), (usize, u32)); 5] = [
-    (&[], "", (953, 1142270344), (70773, 2634940174)),
-    (
-        &[(18, 1, 34, &[0x82]), (17, 2, 0, &[17, 2])],
-        "LOOP 17/2",
-        (939, 2397676979),
-        (71105, 199386631),
-    ),
-    (
-        &[(18, 1, 5, b"<B>&\"\xC1"), (18, 0, 69, &[0xF1])],
-        "MAPWRONG 17/0",
-        (969, 1940827406),
-        (71355, 186097723),
-    ),
-    (
-        &[(18, 1, 34, &[0x44])],
-        "UNCLOSED 18/1",
-        (945, 2130552632),
-        (71137, 3057349103),
-    ),
-    (
-        &[(18, 0, 0x90, b"&<SCRIPT>"), (18, 0, 4, &[20, 0xFE])],
-        "MAPWRONG 1/0",
-        (963, 3336612860),
-        (71154, 501839702),
-    ),
+/// A disk, and what is printed of it.
+struct Row {
+    /// What is changed on the blank disk.
+    changes: &'static [Change],
+    /// The fault that is reported.
+    told: &'static str,
+    /// The length of the map, and its Adler-32.
+    map: (usize, u32),
+    /// The same of the page.
+    picture: (usize, u32),
+    /// The same of the poster.
+    poster: (usize, u32),
+}
+
+/// The blank disk; a program file whose block links to itself; a name with all that HTML escapes beside a free bit of a
+/// block; an open entry; a name of the disk that would be a script, beside a sector that is taken and of no file; and 32
+/// entries, of which the 27th has a block.
+const DRAWN: [Row; 6] = [
+    Row {
+        changes: &[],
+        told: "",
+        map: (953, 1142270344),
+        picture: (72555, 2126640157),
+        poster: (69928, 3210088397),
+    },
+    Row {
+        changes: &[(18, 1, 34, &[0x82]), (17, 2, 0, &[17, 2])],
+        told: "LOOP 17/2",
+        map: (939, 2397676979),
+        picture: (72887, 3156826902),
+        poster: (70258, 597456508),
+    },
+    Row {
+        changes: &[(18, 1, 5, b"<B>&\"\xC1"), (18, 0, 69, &[0xF1])],
+        told: "MAPWRONG 17/0",
+        map: (969, 1940827406),
+        picture: (73137, 191796554),
+        poster: (70500, 4179275445),
+    },
+    Row {
+        changes: &[(18, 1, 34, &[0x44])],
+        told: "UNCLOSED 18/1",
+        map: (945, 2130552632),
+        picture: (72919, 140666622),
+        poster: (70286, 2465890625),
+    },
+    Row {
+        changes: &[(18, 0, 0x90, b"&<SCRIPT>"), (18, 0, 4, &[20, 0xFE])],
+        told: "MAPWRONG 1/0",
+        map: (963, 3336612860),
+        picture: (72936, 1243769957),
+        poster: (70300, 1577551367),
+    },
+    Row {
+        changes: &[
+            (18, 1, 0, &[18, 4]),
+            (18, 4, 0, &[18, 7]),
+            (18, 7, 0, &[18, 10]),
+            (18, 10, 0, &[0, 255]),
+            (18, 0, 68, &[16, 224]),
+            (18, 0, 72, &[14, 108, 251]),
+            (17, 4, 0, &[0, 255]),
+            (18, 1, 66, &[128]),
+            (18, 1, 98, &[128]),
+            (18, 1, 130, &[128]),
+            (18, 1, 162, &[128]),
+            (18, 1, 194, &[128]),
+            (18, 1, 226, &[128]),
+            (18, 4, 2, &[128]),
+            (18, 4, 34, &[128]),
+            (18, 4, 66, &[128]),
+            (18, 4, 98, &[128]),
+            (18, 4, 130, &[128]),
+            (18, 4, 162, &[128]),
+            (18, 4, 194, &[128]),
+            (18, 4, 226, &[128]),
+            (18, 7, 2, &[128]),
+            (18, 7, 34, &[128]),
+            (18, 7, 66, &[128]),
+            (18, 7, 98, &[128]),
+            (18, 7, 130, &[128]),
+            (18, 7, 162, &[128]),
+            (18, 7, 194, &[128]),
+            (18, 7, 226, &[128]),
+            (18, 10, 2, &[128]),
+            (18, 10, 34, &[128]),
+            (18, 10, 66, &[130, 17, 4]),
+            (18, 10, 98, &[128]),
+            (18, 10, 130, &[128]),
+            (18, 10, 162, &[128]),
+            (18, 10, 194, &[128]),
+            (18, 10, 226, &[128]),
+        ],
+        told: "",
+        map: (4102, 4053475222),
+        picture: (78245, 1734352724),
+        poster: (77876, 2989124672),
+    },
 ];
 
 /// The Adler-32 of these bytes (RFC 1950).
@@ -69,18 +138,31 @@ fn is_found(
 }
 
 /// Sees that these disks are drawn so.
-fn are_drawn(
-    rt: &(impl Abort + AllocGlobal),
-    rows: &[(&[Change], &str, (usize, u32), (usize, u32))],
-) {
-    for &(changes, told, map, picture) in rows {
-        let disk = changed(rt, changes);
+fn are_drawn(rt: &(impl Abort + AllocGlobal), rows: &[Row]) {
+    for row in rows {
+        let disk = changed(rt, row.changes);
         let mut out = Vec::new(rt.alloc());
-        is_found(rt, map_image(rt.alloc(), disk.bytes(), &mut out), told);
-        same_at(rt, (out.len(), adler(out.as_slice())), map, told);
+        is_found(rt, map_image(rt.alloc(), disk.bytes(), &mut out), row.told);
+        same_at(rt, (out.len(), adler(out.as_slice())), row.map, row.told);
         out.clear();
-        is_found(rt, picture_image(rt.alloc(), disk.bytes(), &mut out), told);
-        same_at(rt, (out.len(), adler(out.as_slice())), picture, told);
+        is_found(
+            rt,
+            picture_image(rt.alloc(), disk.bytes(), &mut out),
+            row.told,
+        );
+        same_at(
+            rt,
+            (out.len(), adler(out.as_slice())),
+            row.picture,
+            row.told,
+        );
+        out.clear();
+        is_found(
+            rt,
+            poster_image(rt.alloc(), disk.bytes(), &mut out),
+            row.told,
+        );
+        same_at(rt, (out.len(), adler(out.as_slice())), row.poster, row.told);
     }
 }
 
@@ -89,6 +171,7 @@ fn isnt_drawn(rt: &(impl Abort + AllocGlobal), image: &[u8], told: &str) {
     let mut out = Vec::new(rt.alloc());
     is_found(rt, map_image(rt.alloc(), image, &mut out), told);
     is_found(rt, picture_image(rt.alloc(), image, &mut out), told);
+    is_found(rt, poster_image(rt.alloc(), image, &mut out), told);
     same_at(rt, out.len(), 0, told);
 }
 

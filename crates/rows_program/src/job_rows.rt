@@ -13,6 +13,10 @@ job ledger map a.d64
 prints map, a.d64, , 0
 job ledger picture a.d64
 prints picture, a.d64, , 0
+job ledger picture --svg a.d64
+prints picture --svg, a.d64, , 0
+job ledger picture a.d64 --svg
+prints picture --svg, a.d64, , 0
 job ledger check a.d64
 prints check, a.d64, , 0
 job ledger show a.d64

@@ -56,6 +56,10 @@ fn row_of<'a>(job: &Job<'a>) -> Row<'a> {
             what: Drawing::Picture,
             image,
         } => ("picture", image, "", 0),
+        Job::Draw {
+            what: Drawing::Poster,
+            image,
+        } => ("picture --svg", image, "", 0),
     }
 }
 

@@ -1,6 +1,7 @@
 use Rattle.std.proofs.Common.{[]}
 use Rattle.disk_pictures.proofs.Markups.{html-escaped, html-none}
 use Rattle.disk_pictures.proofs.PageMarkup.{on-page}
+use Rattle.disk_pictures.proofs.PosterMarkup.{on-poster}
 use Rattle.disk_pictures.proofs.PlainBytes.{html-short}
 use Rattle.disk_pictures.specs.Html.{html_of}
 use Rattle.disk_pictures.proofs.laws.names_bring_no_markup.Goals as goal
@@ -11,4 +12,5 @@ returns c = record {
   escaped = html-escaped;
   short = html-short;
   page = λ v map l. (on-page html_of (λ _. []) (λ bytes. record { same = html-none bytes }) v map l).same;
+  poster = λ v map l. (on-poster html_of (λ _. []) (λ bytes. record { same = html-none bytes }) v map l).same;
 }

@@ -8,4 +8,4 @@ use Rattle.disk_pictures.proofs.map_printing.put_entries.Given as goal
 
 abbrev pub invariant-loop-number : goal.invariant-loop-number
 invariant-loop-number g l = Appends (g.W.Write.contents l.fn.out) (g.W.Write.contents l.out)
-    (numbered entry_line 0 (map file_in (take l.number l.files)))
+    (numbered (entry_line l.wide) 0 (map file_in (take l.number l.files)))

@@ -1,7 +1,6 @@
 -- The head, the drawing, the legend, the rows and the end are the page.
-use Rattle.std.proofs.Common.{◌≡◌, ◌∙◌, ap, List, ℕ, length, map, subst, sym}
+use Rattle.std.proofs.Common.{List, ℕ, map, subst}
 use Rattle.std.specs.Prelude.{Option}
-use Rattle.std.proofs.lemmas.List.{length-map}
 use Rattle.std.specs.Io.KnownBytes.{Appends, Keeps}
 use Rattle.std.proofs.KnownBytes.{Appends-kept, Appends-trans}
 use Rattle.d64_image.specs.Images.{Sector}
@@ -17,29 +16,25 @@ use Rattle.disk_pictures.specs.Pictures.{title_text, told_text}
 use Rattle.disk_pictures.specs.Texts.{numbered}
 use Rattle.disk_pictures.proofs.picture_printing.put_page.Goals as goal
 
-all-printed : (a b c d e f h i : Option (List ℕ)) (v : Option Fault) (n : ℕ) (bytes : Sector) (l : Layout)
-    → n ≡ length l.files
+all-printed : (a b c d e f h i : Option (List ℕ)) (v : Option Fault) (bytes : Sector) (l : Layout)
     → Appends a b (title_text html_of bytes)
-    → Appends b c (told_text html_of v n bytes) → Appends c d (drawing_text html_of v bytes l)
+    → Appends b c (told_text html_of v bytes l) → Appends c d (drawing_text html_of v bytes l)
     → Appends d e legend_text
     → Appends e f (numbered (row_text html_of) 0 l.files) → Appends f h end_text → Keeps h i
     → Appends a i (picture_page v bytes l)
 unfolding page_text
-all-printed a b c d e f h i v n bytes l many title told drawing legend rows end kept =
+all-printed a b c d e f h i v bytes l title told drawing legend rows end kept =
     Appends-kept a h i _
-    (Appends-trans a b h _ _ title (Appends-trans b c h _ _
-    (subst (λ (k : ℕ). Appends b c (told_text html_of v k bytes)) many told) (four c d e f h _ _ _ _ drawing legend rows end)))
+    (Appends-trans a b h _ _ title (Appends-trans b c h _ _ told (four c d e f h _ _ _ _ drawing legend rows end)))
     kept
 
 pub returns-clause-ok : goal.returns-clause-ok
 unfolding end_text legend_text
 returns-clause-ok g c =
     let d = c.args.drawing.now in
-    let many : length c.as_slice-files.result.now ≡ length (map file_in d.files.items) =
-    ap length c.as_slice-files.ensures.value ∙ sym (length-map d.files.items file_in) in
     let rows = subst (λ fs. Appends (g.W.Write.contents c.put-3.new.out) (g.W.Write.contents c.put_rows.new.out)
     (numbered (row_text html_of) 0 (map file_in fs))) c.as_slice.ensures.value c.in_ok-put_rows.ensures.ok in
-    at-ok c.flush.result (all-printed _ _ _ _ _ _ _ _ c.args.found _ d.map (drawn_in d) many
+    at-ok c.flush.result (all-printed _ _ _ _ _ _ _ _ c.args.found d.map (drawn_in d)
     c.in_ok-put.ensures.ok
     c.in_ok-put-2.ensures.ok
     c.in_ok-put_drawing.ensures.ok c.in_ok-put-3.ensures.ok rows c.in_ok-put-4.ensures.ok c.flush.ensures.kept)

@@ -6,8 +6,8 @@ use Rattle.request_cards.specs.Reading.{number_in}
 use Rattle.ledger_program.specs.declared.jobs.Taking.TheVariants as takings
 use Rattle.ledger_program.specs.Jobs.{IsFit}
 use Rattle.ledger_words.specs.Jobs.{IsJob, is_given}
-use Rattle.ledger_words.proofs.Parses.{format-fit, format-met, making-met, met-has, met-is, play-fit, play-met}
-use Rattle.ledger_words.proofs.Parses.{storing-met, taking-met}
+use Rattle.ledger_words.proofs.Parses.{format-fit, format-met, making-met, met-has, met-is, picture-fit}
+use Rattle.ledger_words.proofs.Parses.{picture-met, play-fit, play-met, storing-met, taking-met}
 use Rattle.ledger_words.proofs.words.chosen.Goals as goal
 
 pub returns-in_default : goal.returns-in_default
@@ -123,13 +123,16 @@ returns-in-store c =
 pub returns-in-map : goal.returns-in-map
 returns-in-map c = record {
   job = met-has c.met.result _ c.in-Some.name c.in-Some.found _ _ c.met.ensures c.in-Some.is c.in-map.is
-      c.value_of-image.ensures;
+      (c.value_of-image.ensures, tt);
   fit = tt;
 }
 
 pub returns-in-picture : goal.returns-in-picture
-returns-in-picture c = record {
-  job = met-has c.met.result _ c.in-Some.name c.in-Some.found _ _ c.met.ensures c.in-Some.is c.in-picture.is
-      c.value_of-image.ensures;
-  fit = tt;
-}
+returns-in-picture c =
+    let svg = is_given (codes "svg") (rows_of (found_of c.in-Some.found.now)) in
+    let is = met-is c.met.result _ c.in-Some.name c.in-Some.found _ c.met.ensures c.in-Some.is c.in-picture.is in
+    record {
+      job = subst (IsJob _) (sym c.picturing.ensures)
+          (picture-met _ _ c.value_of-image.result svg refl is c.value_of-image.ensures);
+      fit = subst IsFit (sym c.picturing.ensures) (picture-fit c.value_of-image.result svg);
+    }

@@ -4,7 +4,7 @@ use Rattle.std.specs.Io.KnownBytes.{Appends}
 use Rattle.disk_pictures.specs.Held.{drawn_in}
 use Rattle.disk_pictures.specs.Maps.{map_head, track_line}
 use Rattle.disk_pictures.specs.Texts.{each_below}
-use Rattle.disk_pictures.proofs.map_printing.put_map.Given as goal
+use Rattle.disk_pictures.proofs.map_tracks.put_tracks.Given as goal
 
 abbrev pub invariant-loop-below : goal.invariant-loop-below
 invariant-loop-below g l = Appends (g.W.Write.contents l.fn.out) (g.W.Write.contents l.out)

@@ -5,7 +5,7 @@ use Rattle.d64_image.specs.Places.{place_at}
 use Rattle.disk_pictures.specs.Held.{drawn_in}
 use Rattle.disk_pictures.specs.Maps.{mark_of, track_text}
 use Rattle.disk_pictures.specs.Texts.{at_place, each_below}
-use Rattle.disk_pictures.proofs.map_printing.put_track.Given as goal
+use Rattle.disk_pictures.proofs.map_tracks.put_track.Given as goal
 
 abbrev pub invariant-loop-sector : goal.invariant-loop-sector
 invariant-loop-sector g l = Appends (g.W.Write.contents l.fn.out) (g.W.Write.contents l.out)

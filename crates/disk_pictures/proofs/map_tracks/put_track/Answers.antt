@@ -10,8 +10,8 @@ use Rattle.disk_pictures.proofs.Printing.{ascii, begun, begun-no-place, begun-pl
 use Rattle.disk_pictures.specs.Held.{drawn_in}
 use Rattle.disk_pictures.specs.Maps.{mark_of, track_line, track_text}
 use Rattle.disk_pictures.specs.Texts.{at_place}
-use Rattle.disk_pictures.proofs.map_printing.put_track.Goals.{in-Some+in_ok-put-2, in_default}
-use Rattle.disk_pictures.proofs.map_printing.put_track.Goals as goal
+use Rattle.disk_pictures.proofs.map_tracks.put_track.Goals.{in-Some+in_ok-put-2, in_default}
+use Rattle.disk_pictures.proofs.map_tracks.put_track.Goals as goal
 
 pub loop-sector-init : goal.loop-sector-init
 loop-sector-init g c = begun _ _ _ _ c.in_ok-put.ensures.ok

@@ -1,0 +1,153 @@
+//! The tracks of a map, with one character for each sector or with two.
+ghost use Rattle.std.specs.Prelude.{◌≡◌, IfErr, OnOk, Some};
+ghost use Rattle.std.specs.Io.KnownBytes.{Appends};
+ghost use Rattle.disk_pictures.specs.Held.{drawn_in};
+ghost use Rattle.disk_pictures.specs.Maps.{narrow_tracks, track_line, track_number, track_text, tracks_text};
+ghost use Rattle.disk_pictures.specs.Maps.{wide_line, wide_tracks};
+ghost use Rattle.disk_pictures.specs.declared.faults.PictureFault.TheVariants as faults;
+
+use crate::drawing::Drawing;
+use crate::faults::PictureFault;
+use crate::output::put;
+use crate::signs::{Cell, sign};
+use d64_image::Place;
+use disk_layout::Fault;
+use std::fmt::{self, Display, Formatter};
+use std::io::Write;
+
+/// How many tracks a disk has.
+const TRACKS: u8 = 35;
+
+/// How many sectors a track has at most.
+const SECTORS: u8 = 21;
+
+/// What stands above the tracks: the numbers of the sectors.
+const HEAD: &str = "   0         1         2\n   012345678901234567890\n";
+
+/// The same above tracks with two characters for each sector.
+const WIDE_HEAD: &str = "   00 01 02 03 04 05 06 07 08 09 10 11 12 13 14 15 16 17 18 19 20\n";
+
+/// Prints the line of a track, with the marks of the sectors that it has.
+fn put_track<W: Write>(
+    out: &mut W,
+    found: Option<Fault>,
+    drawing: &Drawing,
+    track: u8,
+) -> Result<(), PictureFault>
+    ensures ok { OnOk result (Appends (W.contents out.old) (W.contents out.new)
+        (track_line found drawing.now.map (drawn_in drawing.now) track)) }
+    ensures err { IfErr result (λ fault. fault ≡ faults.File) }
+{
+    put(out, TrackText(track))?;
+    for sector in 0..SECTORS {
+        if let Some(place) = Place::new(track, sector) {
+            put(out, sign(found, drawing, place))?;
+        }
+    }
+    put(out, "\n")
+}
+
+/// Prints the head and the lines of the tracks, with a character for each sector.
+fn put_tracks<W: Write>(
+    out: &mut W,
+    found: Option<Fault>,
+    drawing: &Drawing,
+) -> Result<(), PictureFault>
+    ensures ok { OnOk result (Appends (W.contents out.old) (W.contents out.new)
+        (narrow_tracks found drawing.now.map (drawn_in drawing.now))) }
+    ensures err { IfErr result (λ fault. fault ≡ faults.File) }
+{
+    put(out, HEAD)?;
+    for below in 0..TRACKS {
+        put_track(out, found, drawing, below + 1)?;
+    }
+    Ok(())
+}
+
+/// Prints the line of a track, with two characters for each of the sectors that it has.
+fn put_wide_track<W: Write>(
+    out: &mut W,
+    found: Option<Fault>,
+    drawing: &Drawing,
+    track: u8,
+) -> Result<(), PictureFault>
+    ensures ok { OnOk result (Appends (W.contents out.old) (W.contents out.new)
+        (wide_line found drawing.now.map (drawn_in drawing.now) track)) }
+    ensures err { IfErr result (λ fault. fault ≡ faults.File) }
+{
+    put(out, TrackNumber(track))?;
+    for sector in 0..SECTORS {
+        if let Some(place) = Place::new(track, sector) {
+            put(
+                out,
+                Cell {
+                    found,
+                    drawing,
+                    place,
+                },
+            )?;
+        }
+    }
+    put(out, "\n")
+}
+
+/// Prints the head and the lines of the tracks, with two characters for each sector.
+fn put_wide_tracks<W: Write>(
+    out: &mut W,
+    found: Option<Fault>,
+    drawing: &Drawing,
+) -> Result<(), PictureFault>
+    ensures ok { OnOk result (Appends (W.contents out.old) (W.contents out.new)
+        (wide_tracks found drawing.now.map (drawn_in drawing.now))) }
+    ensures err { IfErr result (λ fault. fault ≡ faults.File) }
+{
+    put(out, WIDE_HEAD)?;
+    for below in 0..TRACKS {
+        put_wide_track(out, found, drawing, below + 1)?;
+    }
+    Ok(())
+}
+
+/// The number of a track in two columns.
+#[derive(Clone, Copy)]
+struct TrackNumber(u8);
+
+impl Display for TrackNumber {
+    ghost output = { λ text. Some (track_number text.0) };
+
+    fn fmt<W: fmt::Write>(&self, f: &mut Formatter<W>) -> fmt::Result {
+        let space = if self.0 < 10 { " " } else { "" };
+        write!(f, "{space}{}", self.0)
+    }
+}
+
+/// The number of a track before its line.
+#[derive(Clone, Copy)]
+struct TrackText(u8);
+
+impl Display for TrackText {
+    ghost output = { λ text. Some (track_text text.0) };
+
+    fn fmt<W: fmt::Write>(&self, f: &mut Formatter<W>) -> fmt::Result {
+        let space = if self.0 < 10 { " " } else { "" };
+        write!(f, "{space}{} ", self.0)
+    }
+}
+
+/// Prints the head and the lines of the tracks, with one or two characters for each sector.
+pub(crate) fn put_either_tracks<W: Write>(
+    out: &mut W,
+    wide: bool,
+    found: Option<Fault>,
+    drawing: &Drawing,
+) -> Result<(), PictureFault>
+    ensures ok { OnOk result (Appends (W.contents out.old) (W.contents out.new)
+        (tracks_text wide found drawing.now.map (drawn_in drawing.now))) }
+    ensures err { IfErr result (λ fault. fault ≡ faults.File) }
+{
+    if wide {
+        put_wide_tracks(out, found, drawing)
+    } else {
+        put_tracks(out, found, drawing)
+    }
+}

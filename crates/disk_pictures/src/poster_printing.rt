@@ -1,0 +1,78 @@
+//! The poster of a disk, as an SVG file of its own.
+ghost use Rattle.std.specs.Prelude.{◌≡◌, ◌≢◌, IfErr, IfOk, OnOk, map};
+ghost use Rattle.std.specs.Io.KnownBytes.{Appends};
+ghost use Rattle.d64_image.specs.Memory.{sectors_in};
+ghost use Rattle.disk_layout.specs.Layout.{IsLayout, Layout};
+ghost use Rattle.disk_pictures.specs.Drawings.{file_in};
+ghost use Rattle.disk_pictures.specs.Held.{drawn_in};
+ghost use Rattle.disk_pictures.specs.Html.{html_of};
+ghost use Rattle.disk_pictures.specs.Outcomes.{IsPictureFault, IsPosterPrinted, map_in};
+ghost use Rattle.disk_pictures.specs.Posters.{poster_line, poster_of};
+ghost use Rattle.disk_pictures.specs.Texts.{numbered};
+ghost use Rattle.disk_pictures.specs.declared.faults.PictureFault.TheVariants as faults;
+
+use crate::drawing::Drawing;
+use crate::drawn_file::DrawnFile;
+use crate::faults::PictureFault;
+use crate::output::{flush, put};
+use crate::picture_printing::put_drawing;
+use crate::poster::{END, Head, Heading, LEGEND, Line};
+use crate::verdicts::judged;
+use disk_layout::Fault;
+use std::alloc::Global;
+use std::io::Write;
+
+/// Prints the lines of the entries.
+fn put_lines<W: Write>(out: &mut W, files: &[DrawnFile]) -> Result<(), PictureFault>
+    ensures ok { OnOk result (Appends (W.contents out.old) (W.contents out.new)
+        (numbered (poster_line html_of) 0 (map file_in files.now))) }
+    ensures err { IfErr result (λ fault. fault ≡ faults.File) }
+{
+    for (number, file) in files.iter().enumerate() {
+        put(out, Line { number, file })?;
+    }
+    Ok(())
+}
+
+/// Prints the poster.
+fn put_poster<W: Write>(
+    out: &mut W,
+    found: Option<Fault>,
+    drawing: &Drawing,
+) -> Result<(), PictureFault>
+    ensures ok { OnOk result (Appends (W.contents out.old) (W.contents out.new)
+        (poster_of found drawing.now.map (drawn_in drawing.now))) }
+    ensures err { IfErr result (λ fault. fault ≡ faults.File) }
+{
+    put(out, Head(&drawing.map))?;
+    put(out, Heading { drawing, found })?;
+    put_drawing(out, found, drawing)?;
+    put(out, LEGEND)?;
+    put_lines(out, drawing.files.as_slice())?;
+    put(out, END)?;
+    flush(out)
+}
+
+/// Prints the disk as a poster: an SVG file of its own, 297 by 420 units, with the drawing of `picture_image`, the disk's
+/// name, what a check tells as a sentence, the meaning of the colours, and the directory in four columns. It has no script
+/// and loads nothing, and names of the disk stand in it as text alone; a name longer than its column is cut by the column's
+/// edge. What a check of the disk tells is answered too. A disk that is hurt is drawn as far as its links go; of a sound
+/// one it is the poster of its layout.
+///
+/// `ImageSize`; `NoMemory`; `Layout` where the directory's sectors aren't a chain on track 18: nothing was printed
+/// then. `File` where the output failed, which may then have a part.
+pub fn poster_image<W: Write>(
+    alloc: Global,
+    image: &[u8],
+    out: &mut W,
+) -> Result<Option<Fault>, PictureFault>
+    ensures ok { IfOk result (IsPosterPrinted W.contents image.now out.old out.new) }
+    ensures sound { IfOk result (λ found. (l : Layout) → IsLayout (sectors_in image.now) l
+        → Appends (W.contents out.old) (W.contents out.new) (poster_of found (map_in image.now) l)) }
+    ensures err { IfErr result (IsPictureFault image.now) }
+    ensures untouched { IfErr result (λ fault. (fault ≢ faults.File) → out.new ≡ out.old) }
+{
+    let (drawing, found) = judged(alloc, image)?;
+    put_poster(out, found, &drawing)?;
+    Ok(found)
+}

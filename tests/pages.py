@@ -1,0 +1,174 @@
+#!/usr/bin/env python3
+"""What `picture` prints of an image, by the rules and to the byte, in plain Python over drawn.py:
+
+    tests/pages.py IMAGE VERDICT [--svg]
+
+VERDICT is what `check` prints, which isn't judged here. The parts that are the same on each page and poster (style, dashes, legend,
+end) are taken from specs/Pictures.antt and specs/Posters.antt, where the contracts have them."""
+
+import re
+import sys
+from html import escape
+from pathlib import Path
+
+sys.dont_write_bytecode = True
+from drawn import MAP, PLACES, Disk, html_name, sectors_on
+
+SPECS = Path(__file__).resolve().parent.parent / "crates" / "disk_pictures" / "specs"
+WORDS = {
+    "BADLINK": ("A link in sector ", " leads nowhere; "), "LOOP": ("A chain of sectors comes back to sector ", "; "),
+    "OWNEDTWICE": ("Sector ", " has more than one owner; "), "BADTYPE": ("An entry in sector ", " has an unknown type; "),
+    "UNCLOSED": ("A file with its entry in sector ", " was never closed; "),
+    "BADSIDE": ("A relative file's side sectors are wrong at sector ", "; "),
+    "BADLENGTH": ("An entry in sector ", " has a record length of 0 or 255; "),
+    "COUNTWRONG": ("An entry in sector ", " has a wrong block count; "),
+    "MAPWRONG": ("The map of free sectors is wrong at sector ", "; ")}
+
+
+def fixed(name):
+    """A text that the definition of this name gives."""
+    text = (SPECS / "Pictures.antt").read_text(encoding="utf-8") + (SPECS / "Posters.antt").read_text(encoding="utf-8")
+    found = re.search(rf'^{name} = codes\s+"((?:[^"\\]|\\.)*)"', text, re.M)
+    return re.sub(r"\\(.)", lambda one: {"n": "\n"}.get(one[1], one[1]), found[1])
+
+
+def html(text):
+    return escape(text, quote=False)
+
+
+def arc(radius, sectors):
+    return 710 * radius // (113 * sectors)
+
+
+def ring(place, radius=None):
+    """The beginning of a sector's circle."""
+    track, sector = place
+    radius = radius or 35400 - 800 * track
+    return f'<circle r="{radius}" stroke-dashoffset="-{sector * arc(radius, sectors_on(track))}"'
+
+
+def look(number):
+    return f"c{number % 12} w{number // 12 % 4}"
+
+
+class Page:
+    """The parts of a page."""
+
+    def __init__(self, image, verdict):
+        self.disk, self.verdict, self.map = Disk(image), verdict, Disk(image).sector(MAP)
+        self.fault = tuple(map(int, verdict.split()[1].split("/"))) if verdict != "OK" else None
+
+    def plain(self, place, group):
+        return f'{ring(place)} class="{group}"><title>{html(self.disk.title(place))}</title></circle>\n'
+
+    def file(self, number):
+        entry = self.disk.entries[number]
+        parts = [f'<g id="f{number}" class="{look(number)}">\n']
+        for kind, places in (("block", entry.blocks), ("side", entry.sides)):
+            for index, place in enumerate(places):
+                if self.disk.owner[place] == (number, kind, index):
+                    side = ' class="s"' if kind == "side" else ""
+                    parts.append(f"{ring(place)}{side}><title>{html(self.disk.title(place))}</title></circle>\n")
+        return "".join(parts) + "</g>\n"
+
+    def is_open(self, place):
+        return place in self.disk.owner and self.disk.is_free(place)
+
+    def white_line(self, track):
+        places = [place for place in PLACES if place[0] == track]
+        if not any(map(self.is_open, places)):
+            return ""
+        whole = arc(35400 - 800 * track, sectors_on(track))
+        dashes = "".join(f"{whole - 200} 200 " if self.is_open(place) else f"0 {whole} " for place in places)
+        return f'<circle r="{35400 - 800 * track}" style="stroke-dasharray:{dashes}"/>\n'
+
+    def fault_group(self):
+        if not self.fault:
+            return ""
+        rim = arc(35700, sectors_on(self.fault[0])) - 200
+        marks = "".join(f'{ring(self.fault)} class="{name}"><title>{self.verdict}</title></circle>\n' for name in ("edge", "fault"))
+        return f'<g id="f">\n{marks}{ring(self.fault, 35700)} stroke-dasharray="{rim} 300000" class="fault"/>\n</g>\n'
+
+    def drawing(self):
+        disk = self.disk
+        system = "".join(self.plain(place, "map" if place == MAP else "dir") for place in [MAP, *disk.directory])
+        others = "".join(self.plain(place, disk.class_of(place)) for place in PLACES if place not in disk.owner)
+        return (f'<g id="m">\n{system}</g>\n' + "".join(self.file(number) for number in range(len(disk.entries)))
+                + f'<g id="r">\n{others}</g>\n<g class="open">\n' + "".join(self.white_line(track) for track in range(1, 36))
+                + "</g>\n" + self.fault_group())
+
+    def owner_named(self, owner):
+        if owner[0] in ("map", "directory"):
+            return f"the {owner[0]}"
+        return ("the side sectors of " if owner[1] == "side" else "") + html(self.disk.entries[owner[0]].shown)
+
+    def owners(self, place):
+        """All owners of a sector, in the order of whose it is drawn as."""
+        disk = self.disk
+        found = [("map",)] * (place == MAP) + [("directory",)] * (place in disk.directory)
+        for number, entry in enumerate(disk.entries):
+            found += [(number, kind) for kind, places in (("block", entry.blocks), ("side", entry.sides)) if place in places]
+        return found
+
+    def summary(self):
+        free = sum(self.map[4 * track] for track in range(1, 36) if track != 18)
+        ends = f"{len(self.disk.entries)} files, {free} of 664 blocks free"
+        if not self.fault:
+            return f"Sound: {ends}"
+        word, place = self.verdict.split()
+        owners = self.owners(self.fault)
+        if word == "OWNEDTWICE" and len(owners) > 1:
+            first, second = (self.owner_named(owner) for owner in owners[:2])
+            return f"Sector {place} belongs to {first} and to {second}; {ends}"
+        before, after = WORDS[word]
+        return f"{before}{place}{after}{ends}"
+
+    def row(self, number):
+        entry = self.disk.entries[number]
+        cells = f"{entry.length}</td><td>{entry.records()}" if entry.has_records() else "</td><td>"
+        return (f'<tr><td><i class="{look(number)}"></i></td><td>{entry.count}</td><td><a href="#f{number}">{html(entry.shown)}</a></td>'
+                f"<td>{entry.type_text('&lt;')}</td><td>{cells}</td></tr>\n")
+
+    def text(self):
+        name = html(self.disk.disk_name())
+        title = (f'<!DOCTYPE html>\n<html lang="en">\n<meta charset="utf-8">\n<meta name="viewport" content="width=device-width,'
+                 f'initial-scale=1">\n<title>{name}</title>\n<style>{fixed("style")}{fixed("dashes")}</style>\n<h1>{name}</h1>\n'
+                 "<p>1541 disk, id ")
+        told = (f'{html(html_name(self.map[162:164]))} {html(html_name(self.map[165:167]))}</p>\n<p class="{"bad" if self.fault else "good"}">'
+                f"<b>{self.verdict}</b> {self.summary()}</p>\n<main>\n"
+                '<svg viewBox="-36600 -36600 73200 73200" role="img" aria-label="The disk as 35 rings of sectors, each in the '
+                'colour of its file; the table lists the files">\n<svg x="-6900" y="-1200" width="13800" height="2400" '
+                f'viewBox="-6900 -1200 13800 2400"><text y="400">{name}</text></svg>\n<g transform="rotate(-90)">\n')
+        rows = "".join(self.row(number) for number in range(len(self.disk.entries)))
+        return title + told + self.drawing() + fixed("legend_text") + rows + fixed("end_text")
+
+
+    def line(self, number):
+        """The line of an entry on the poster."""
+        entry = self.disk.entries[number]
+        column, line = number // 36 % 4, number % 36
+        return (f'<svg x="{20 + 65 * column}" y="{306 + 3 * line}" width="63" height="3"><path class="{look(number)}" d="M0 1.5h3"/>'
+                f'<text class="e" x="10" y="2.3">{entry.count}</text><text x="11.5" y="2.3">{entry.type_text("&lt;")}</text>'
+                f'<text x="19" y="2.3">{html(entry.shown)}</text></svg>\n')
+
+    def poster(self):
+        name = html(self.disk.disk_name())
+        head = ('<svg xmlns="http://www.w3.org/2000/svg" width="297mm" height="420mm" viewBox="0 0 297 420">\n'
+                f'<title>{name}</title>\n<style>{fixed("poster_style")}{fixed("dashes")}</style>\n'
+                f'<rect class="paper" width="297" height="420"/>\n<text class="name" x="148.5" y="24">{name}</text>\n'
+                f'<text class="told" x="148.5" y="33">1541 disk, id {html(html_name(self.map[162:164]))} '
+                f'{html(html_name(self.map[165:167]))}</text>\n<text class="told" x="148.5" y="40">{self.summary()}</text>\n'
+                '<svg x="23.5" y="44" width="250" height="250" viewBox="-36600 -36600 73200 73200">\n<svg x="-6900" y="-1200" '
+                f'width="13800" height="2400" viewBox="-6900 -1200 13800 2400"><text class="hub" y="400">{name}</text></svg>\n'
+                '<g transform="rotate(-90)">\n')
+        lines = "".join(self.line(number) for number in range(len(self.disk.entries)))
+        return head + self.drawing() + fixed("poster_legend") + lines + "</svg>\n"
+
+
+def main(image, verdict, how=None):
+    page = Page(Path(image).read_bytes(), verdict)
+    sys.stdout.write(page.poster() if how == "--svg" else page.text())
+
+
+if __name__ == "__main__":
+    main(*sys.argv[1:])

@@ -1,0 +1,136 @@
+"""What a browser shows of a page on a phone, in the dark, on paper, to a screen reader and by keyboard; and what it and librsvg show
+of a poster. For pictures.py, which has the disks."""
+
+import base64
+import re
+import subprocess
+import xml.etree.ElementTree as tree
+from html import unescape
+
+from PIL import Image
+
+from drawn import PLACES
+from pages import Page
+from palette import DARK, rgb
+from served import want
+
+PHONE = {"width": 390, "height": 844, "deviceScaleFactor": 2, "mobile": True}
+DARK_SYSTEM = {"map": (255, 255, 255), "dir": (0x9A, 0xA0, 0xAA), "free": (0x2A, 0x2D, 0x34), "lost": (0x8B, 0x8D, 0x92)}
+DARK_RED = (0xFF, 0x4A, 0x3D)
+# pixels of the page for a unit of the poster, which is a millimetre
+UNIT = 96 / 25.4
+LEFT, TOP, SIDE = 23.5, 44, 250
+SVG = "{http://www.w3.org/2000/svg}"
+NEAR = 2
+
+
+def near(one, other, most=NEAR):
+    return all(abs(a - b) <= most for a, b in zip(one, other))
+
+
+def see_phone(name, browser, url):
+    """One column, nothing beyond the screen's edge, and text that can be read."""
+    browser.ask("Emulation.setDeviceMetricsOverride", **PHONE)
+    browser.open(url)
+    width, letters, drawing = browser.value(
+        "[document.documentElement.scrollWidth, parseFloat(getComputedStyle(document.body).fontSize), "
+        "document.querySelector('svg').getBoundingClientRect().width]")
+    want(width <= 390, f"{name}: on a phone the page is {width} wide")
+    want(letters >= 12, f"{name}: on a phone letters have {letters}")
+    want(drawing >= 340, f"{name}: on a phone the drawing is {drawing} wide")
+
+
+def dark_colour(wanted, place):
+    """A sector's colour in the dark."""
+    if place == wanted.fault:
+        return DARK_RED
+    if wanted.is_open(place):
+        return (255, 255, 255)
+    named = wanted.disk.class_of(place)
+    if named:
+        return DARK_SYSTEM[named]
+    number, kind, _ = wanted.disk.owner[place]
+    colour = rgb(DARK[number % 12])
+    return tuple((part + 255) // 2 for part in colour) if kind == "side" else colour
+
+
+def see_dark(name, browser, url, wanted, seen_at):
+    """The other twelve colours, on a dark page. `seen_at` gives the colours of the sectors' middles as they are shown now."""
+    dark = [{"name": "prefers-color-scheme", "value": "dark"}]
+    browser.ask("Emulation.setEmulatedMedia", features=dark)
+    browser.open(url)
+    ground = browser.value("getComputedStyle(document.body).backgroundColor")
+    want(ground == "rgb(21, 23, 27)", f"{name}: in the dark the page is {ground}")
+    for place, colour in zip(PLACES, seen_at()):
+        want(near(colour, dark_colour(wanted, place)),
+             f"{name}: in the dark {place} is {colour}, wanted {dark_colour(wanted, place)}")
+    browser.ask("Emulation.setEmulatedMedia", features=[])
+
+
+def see_paper(name, browser, url, wanted, folder, colours):
+    """One sheet of paper, with the colours of all files outside of the drawing too. A disk of 144 entries takes two."""
+    browser.open(url)
+    answer = browser.ask("Page.printToPDF", preferCSSPageSize=True)
+    file = folder / "paper.pdf"
+    file.write_bytes(base64.b64decode(answer["data"]))
+    sheets = len(re.findall(rb"/Type\s*/Page\b(?!s)", file.read_bytes()))
+    crowded = len(wanted.disk.entries) > 64
+    want(sheets == (2 if crowded else 1), f"{name}: {sheets} sheets of paper")
+    if crowded:
+        return
+    subprocess.run(["pdftoppm", "-r", "200", "-singlefile", "-png", file, folder / "paper"], check=True)
+    paper = Image.open(folder / "paper.png").convert("RGB")
+    below = paper.crop((0, paper.height * 57 // 100, paper.width, paper.height))
+    found = {colour for _, colour in below.getcolors(1 << 24)}
+    for number in range(len(wanted.disk.entries)):
+        colour = rgb(colours[number % 12])
+        want(any(near(colour, one, 4) for one in found), f"{name}: on paper file {number} has no {colour} in its line")
+
+
+def see_label(name, browser, url):
+    """To a screen reader the drawing is one image with a sentence, and the table has the files."""
+    browser.open(url)
+    nodes = browser.ask("Accessibility.getFullAXTree")["nodes"]
+    roles = [(node["role"]["value"], node.get("name", {}).get("value", "")) for node in nodes
+             if not node.get("ignored") and "role" in node]
+    images = [text for role, text in roles if role in ("image", "img")]
+    want(images == ["The disk as 35 rings of sectors, each in the colour of its file; the table lists the files"],
+         f"{name}: images with the labels {images}")
+
+
+def see_keys(name, browser, url, wanted):
+    """By keyboard each file is one stop, and its sectors are shown alone."""
+    browser.open(url)
+    stops = browser.value("[...document.querySelectorAll('a[href],[tabindex]')].filter(e => getComputedStyle(e).visibility "
+                          "=== 'visible').map(e => e.getAttribute('href'))")
+    want(stops == [f"#f{number}" for number in range(len(wanted.disk.entries))], f"{name}: stops by keyboard: {stops[:5]}")
+    for number in range(min(2, len(stops))):
+        browser.value(f"document.querySelectorAll('td a')[{number}].focus()")
+        for kind in ("rawKeyDown", "char", "keyUp"):
+            browser.ask("Input.dispatchKeyEvent", type=kind, key="Enter", code="Enter", text="\r", windowsVirtualKeyCode=13)
+        browser.value("new Promise(done => requestAnimationFrame(() => requestAnimationFrame(done)))")
+        shown = browser.value("[location.hash, getComputedStyle(document.querySelector('.all')).visibility]")
+        want(shown == [f"#f{number}", "visible"], f"{name}: the key Enter shows {shown}")
+
+
+def see_poster(name, program, path, image, verdict, folder, browser, compare):
+    """A poster is to the byte what the rules make of the image, and is drawn alike by the browser and by librsvg. `compare` gets each
+    picture of the drawing, and who drew it."""
+    done = subprocess.run([program, "picture", "--svg", path], capture_output=True, timeout=60)
+    want(done.stdout.decode() == Page(image, verdict).poster(), f"{name}: the poster differs from that of pages.py")
+    want(done.returncode == (0 if verdict == "OK" else 1), f"{name}: the poster's status is {done.returncode}")
+    root = tree.fromstring(done.stdout)
+    want(root.get("viewBox") == "0 0 297 420" and root.find(f"{SVG}title") is not None, f"{name}: the poster's size, or title")
+    want(not re.search(rb"href|url\(|@import|<script", done.stdout), f"{name}: the poster leads out of itself")
+    file = folder / f"{name}.svg"
+    file.write_bytes(done.stdout)
+    browser.ask("Emulation.setDeviceMetricsOverride", width=1200, height=1700, deviceScaleFactor=3, mobile=False)
+    browser.open(file.as_uri())
+    want(browser.complaints() == [] and browser.requests() == [file.as_uri()], f"{name}: the poster asks or complains")
+    compare(browser.shot(LEFT * UNIT, TOP * UNIT, SIDE * UNIT, SIDE * UNIT), "Chromium, on the poster,")
+    subprocess.run(["rsvg-convert", "-w", str(297 * 12), "-o", folder / "poster.png", file], check=True)
+    whole = Image.open(folder / "poster.png").convert("RGB")
+    left, top, side = (round(12 * part) for part in (LEFT, TOP, SIDE))
+    compare(whole.crop((left, top, left + side, top + side)), "librsvg, on the poster,")
+    lines = [part.text or "" for part in root.iter(f"{SVG}text") if part.get("x") == "19"]
+    want(lines == [unescape(entry.shown) for entry in Page(image, verdict).disk.entries], f"{name}: the poster's lines {lines}")
