@@ -3,6 +3,7 @@ ghost use Rattle.std.specs.Prelude.{◌≡◌, IfErr, IfOk, List, OnOk, Some, �
 ghost use Rattle.d64_image.specs.Images.{Image};
 ghost use Rattle.log_files.specs.Bringing.{IsFound, IsSettledAs, RestsAlone};
 ghost use Rattle.log_files.specs.Faults.{IsMisfit};
+ghost use Rattle.log_files.specs.declared.landing.LogFault.TheVariants.{File, Unfit};
 ghost use Rattle.log_files.specs.Folders.{AllLeft, Folder, LeavesFolders};
 ghost use Rattle.log_files.specs.Shops.{Gives, GivesOneOf, LogGives};
 
@@ -19,10 +20,26 @@ use thiserror::Error;
 pub enum LogFault {
     /// The log gives none: nothing was changed.
     #[error("{0}")]
-    Misfit(Misfit),
+    Unfit(Misfit),
     /// A file, the folder or memory failed. What the folder gives is as it was.
     #[error("{0}")]
     File(io::Error),
+}
+
+impl From<Misfit> for LogFault {
+    ghost from_gives = { λ e fault. fault ≡ Unfit e };
+
+    fn from(e: Misfit) -> LogFault {
+        LogFault::Unfit(e)
+    }
+}
+
+impl From<io::Error> for LogFault {
+    ghost from_gives = { λ e fault. fault ≡ File e };
+
+    fn from(e: io::Error) -> LogFault {
+        LogFault::File(e)
+    }
 }
 
 /// Brings IMAGE and the names to the disk: whoever came before may have been killed.
@@ -43,9 +60,10 @@ fn find<F: LogFile, D: LogFolder<F>>(folder: &mut D, now: &mut [[u8; 256]]) -> i
     ensures sized { length now.new ≡ 683 }
     ensures any_moment { (shops : List Image) → AllLeft D.history folder.old (GivesOneOf shops)
         → LeavesFolders D.history folder.old folder.new (GivesOneOf shops) }
-    ensures ok { IfOk result (λ log. (shops : List Image) (s : Folder) → D.history.held folder.old ≡ Some s
-        → GivesOneOf shops s → AllLeft D.history folder.old (GivesOneOf shops)
-        → IsFound D.history folder.new shops s × (now.new ≡ s.image) × (option_map (λ bytes. bytes.items) log ≡ s.log)) }
+    ensures outcomes { (s : Folder) → D.history.may_leave folder.new s → D.history.may_leave folder.old s }
+    ensures read { IfOk result (λ log. (s : Folder) → D.history.held folder.old ≡ Some s
+        → (D.history.held folder.new ≡ Some s) × (now.new ≡ s.image) × (option_map (λ bytes. bytes.items) log ≡ s.log)) }
+    ensures settled { OnOk result ((s : Folder) → D.history.held folder.old ≡ Some s → AllLeft D.history folder.new (IsSettledAs s)) }
 {
     settle(folder)?;
     folder.read_image(now)?;
@@ -70,4 +88,57 @@ fn land_found<F: LogFile, D: LogFolder<F>>(
     mark_found(folder)?;
     bring(folder, now, shop)?;
     unlog(folder)
+}
+
+/// Judges the log that was found, and lands it if it gives an image.
+fn land_log<F: LogFile, D: LogFolder<F>>(
+    folder: &mut D,
+    log: &[u8],
+    now: &[[u8; 256]],
+    shop: &mut [[u8; 256]],
+) -> Result<(), LogFault>
+    requires now { length now.now ≡ 683 }
+    requires shop { length shop.old ≡ 683 }
+    ensures sized { length shop.new ≡ 683 }
+    ensures any_moment { (shops : List Image) (s : Folder) → IsFound D.history folder.old shops s → s.log ≡ Some log.now
+        → now.now ≡ s.image → LeavesFolders D.history folder.old folder.new (GivesOneOf shops) }
+    ensures ok { OnOk result ((shops : List Image) (s : Folder) → IsFound D.history folder.old shops s
+        → s.log ≡ Some log.now → now.now ≡ s.image → RestsAlone D.history folder.new shop.new × Gives s shop.new) }
+    ensures refused { IfErr result (λ e. IsMisfit e → (folder.new ≡ folder.old)
+        × ((given : Image) → LogGives log.now now.now given → ⊥)) }
+{
+    judge(log, now, shop)?;
+    land_found(folder, now, shop)?;
+    Ok(())
+}
+
+/// Lands a log that is there: the folder is settled, the log is judged, and the image that it gives is brought to IMAGE;
+/// then the log is removed. `shop` is that image, or IMAGE's own if there is no log. A power loss at any moment, and an
+/// error, leave a folder from which the next opening finds an image that it might have found before. If the log gives no
+/// image, nothing was changed.
+pub fn land<F: LogFile, D: LogFolder<F>>(
+    folder: &mut D,
+    now: &mut [[u8; 256]],
+    shop: &mut [[u8; 256]],
+) -> Result<(), LogFault>
+    requires now { length now.old ≡ 683 }
+    requires shop { length shop.old ≡ 683 }
+    ensures now { length now.new ≡ 683 }
+    ensures shop { length shop.new ≡ 683 }
+    ensures any_moment { (shops : List Image) (s : Folder) → D.history.held folder.old ≡ Some s → GivesOneOf shops s
+        → AllLeft D.history folder.old (GivesOneOf shops)
+        → LeavesFolders D.history folder.old folder.new (GivesOneOf shops) }
+    ensures ok { OnOk result ((shops : List Image) (s : Folder) → D.history.held folder.old ≡ Some s → GivesOneOf shops s
+        → AllLeft D.history folder.old (GivesOneOf shops)
+        → RestsAlone D.history folder.new shop.new × Gives s shop.new) }
+    ensures refused { IfErr result (λ e. IsMisfit e → (s : Folder) → D.history.held folder.old ≡ Some s
+        → (D.history.held folder.new ≡ Some s) × ((given : Image) → Gives s given → ⊥)) }
+{
+    match find(folder, now)? {
+        Some(log) => land_log(folder, log.as_slice(), now, shop),
+        None => {
+            shop.copy_from_slice(now);
+            Ok(())
+        }
+    }
 }

@@ -8,6 +8,6 @@ mod bringing;
 mod log_folder;
 mod marking;
 
-pub use landing::LogFault;
+pub use landing::{LogFault, land};
 pub use judging::{Misfit, judge};
 pub use log_folder::LogFolder;
