@@ -1,15 +1,15 @@
 mod Appended
 mod Brought
-mod Commits
+pub mod Commits
 mod Counting
-mod Ends
+pub mod Ends
 mod Filled
 mod Images
 mod Laid
-mod Marked
-mod Moments
+pub mod Marked
+pub mod Moments
 mod Remembered
 mod Runs
 mod Sealed
-mod Torn
+pub mod Torn
 mod Touches

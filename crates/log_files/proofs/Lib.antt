@@ -1,0 +1,4 @@
+mod Marks
+mod Steps
+mod Brought
+mod Landed

@@ -1,0 +1,4 @@
+pub mod Bringing
+pub mod Faults
+pub mod Folders
+pub mod Shops

@@ -1,0 +1,371 @@
+#!/usr/bin/env python3
+"""A model of a log's life beside its image, at a small size: names, files, syncs, kills and power losses.
+
+    tests/log_life_model.py [CRASHES [SEED]]
+
+It is written from docs/LOG.md. Programs run on a folder: `serve`, which begins a log, commits to it, renews it when it
+is full and lands it at the end, and `play`, which lands a log and then changes IMAGE itself. Each is stopped at a random
+call, by a kill or by a power loss, during recoveries too. A power loss keeps any of the unsynced changes of names, and
+tears each unsynced write: every byte of it comes or stays out. Each image that the next program finds must be one that
+was there since the last confirmed change. The same is then tried with one step of the order left out: the model must
+find that wrong, or it would be blind."""
+import collections
+import random
+import sys
+
+SECTORS, WIDTH, PER = 4, 2, 2       # sectors of IMAGE, bytes of a sector, sectors of a block
+HEAD = 3                            # count of zeros, kind, number of sectors
+BLOCK = HEAD + PER * (1 + WIDTH)
+BLOCKS = 9                          # blocks of a log; the mark stands behind them
+MORE, LAST = 1, 2
+BASE = SECTORS // PER
+
+# each step that may be left out, and what is expected to go wrong without it
+STEPS = {
+    'commit': 'a commit is confirmed before the log is synced',
+    'mark': 'IMAGE is written before the mark is synced',
+    'image': 'the log is removed before IMAGE is synced',
+    'removed': 'the folder is not synced after the removal',
+    'begin': 'the folder is not synced at the beginning',
+    'made': 'the new log is named before it is synced',
+    'making': 'the folder is not synced before the renaming',
+    'named': 'the folder is not synced after the renaming',
+    'zeros': 'a full log is written again in place',
+    'judge': 'a log is landed on any image',
+    'wins': 'IMAGE is taken though a log is there',
+}
+
+
+class Wrong(Exception):
+    """A promise was broken."""
+
+
+class Refused(Exception):
+    """The log is of another image."""
+
+
+class Disk:
+    """Files with numbers, and the names that lead to them; what is seen, and what is on the disk."""
+
+    def __init__(self):
+        self.seen, self.kept, self.writes = [], [], []
+        self.names, self.kept_names, self.changes = {}, {}, []
+
+    def create(self, name):
+        number = len(self.seen)
+        self.seen.append(bytearray())
+        self.kept.append(bytearray())
+        self.writes.append([])
+        self.names[name] = number
+        self.changes.append(('lead', name, number))
+        return number
+
+    def write(self, number, at, data):
+        put(self.seen[number], at, data)
+        self.writes[number].append((at, bytes(data)))
+
+    def sync(self, number):
+        self.kept[number] = bytearray(self.seen[number])
+        self.writes[number] = []
+
+    def rename(self, old, new):
+        self.names[new] = self.names.pop(old)
+        self.changes.append(('move', old, new))
+
+    def remove(self, name):
+        del self.names[name]
+        self.changes.append(('remove', name, None))
+
+    def sync_folder(self):
+        self.kept_names, self.changes = dict(self.names), []
+
+    def lose_power(self, rng):
+        for what, name, other in self.changes:
+            if rng.random() < .5:
+                continue
+            if what == 'lead':
+                self.kept_names[name] = other
+            elif name in self.kept_names:
+                number = self.kept_names.pop(name)
+                if what == 'move':
+                    self.kept_names[other] = number
+        for number, data in enumerate(self.kept):
+            style = rng.choice(('bytes', 'writes', 'none', 'all'))
+            for at, new in self.writes[number]:
+                whole = rng.random() < .5
+                for i, byte in enumerate(new):
+                    comes = {'bytes': rng.random() < .5, 'writes': whole, 'none': False, 'all': True}[style]
+                    put(data, at + i, bytes([byte]) if comes else data[at + i:at + i + 1] or b'\0')
+        self.seen = [bytearray(data) for data in self.kept]
+        self.writes = [[] for _ in self.kept]
+        self.names, self.changes = dict(self.kept_names), []
+
+
+def put(data, at, new):
+    if len(data) < at + len(new):
+        data.extend(bytes(at + len(new) - len(data)))
+    data[at:at + len(new)] = new
+
+
+def blocks_of(sectors):
+    """The blocks of a commit with these sectors, a list of indices and bytes."""
+    parts = [sectors[i:i + PER] for i in range(0, len(sectors), PER)]
+    out = bytearray()
+    for k, part in enumerate(parts):
+        block = bytearray(BLOCK)
+        block[1] = LAST if k == len(parts) - 1 else MORE
+        block[2] = len(part)
+        for j, (index, data) in enumerate(part):
+            at = HEAD + j * (1 + WIDTH)
+            block[at] = index + 1
+            block[at + 1:at + 1 + WIDTH] = data
+        block[0] = block[1:].count(0)
+        out += block
+    return bytes(out)
+
+
+def read_log(data):
+    """The base, the image, whether the mark is there, and the number of whole blocks; None if there is no base."""
+    if len(data) != BLOCK * BLOCKS + 1:
+        return None
+    image, base, sectors, whole = [bytes(WIDTH)] * SECTORS, None, {}, 0
+    for q in range(BLOCKS):
+        block = data[q * BLOCK:(q + 1) * BLOCK]
+        if block[0] != block[1:].count(0) or block[1] not in (MORE, LAST):
+            break
+        whole += 1
+        for j in range(min(block[2], PER)):
+            at = HEAD + j * (1 + WIDTH)
+            sectors[block[at] - 1] = bytes(block[at + 1:at + 1 + WIDTH])
+        if block[1] == LAST:
+            image = [sectors.get(i, image[i]) for i in range(SECTORS)]
+            base, sectors = base or image, {}
+    return None if base is None else (base, image, data[-1] != 0, whole)
+
+
+class World:
+    """A folder, and the images that may be found there: those since the last one that was confirmed."""
+
+    def __init__(self, rng, without):
+        self.rng, self.without, self.disk = rng, without, Disk()
+        self.image = self.disk.create('IMAGE')
+        first = [bytes((1 + rng.randrange(3), rng.randrange(3))) for _ in range(SECTORS)]
+        self.disk.write(self.image, 0, b''.join(first))
+        self.disk.sync(self.image)
+        self.disk.sync_folder()
+        self.may_be, self.confirmed = [first], 0
+
+    def sectors(self):
+        data = self.disk.seen[self.image]
+        return [bytes(data[i * WIDTH:(i + 1) * WIDTH]) for i in range(SECTORS)]
+
+    def find(self, image):
+        """A program found this image: is it one of those that may be there?"""
+        if image not in self.may_be[self.confirmed:]:
+            raise Wrong('an image that never was, or one from before a confirmed change')
+        self.may_be, self.confirmed = [list(image)], 0
+
+    # Each program stops (yields) before each call.
+    def bring(self, log, image):
+        disk, without = self.disk, self.without
+        yield
+        disk.write(log, BLOCK * BLOCKS, b'\1')
+        yield
+        if without != 'mark':
+            disk.sync(log)
+            yield
+        now = self.sectors()
+        for i in range(SECTORS):
+            if now[i] != image[i]:
+                disk.write(self.image, i * WIDTH, image[i])
+                yield
+        if without != 'image':
+            disk.sync(self.image)
+            yield
+
+    def unlog(self):
+        self.disk.remove('LOG')
+        yield
+        if self.without != 'removed':
+            self.disk.sync_folder()
+            yield
+
+    def land(self):
+        disk, without = self.disk, self.without
+        disk.sync(self.image)
+        yield
+        if without != 'begin':
+            disk.sync_folder()
+            yield
+        if 'LOG' not in disk.names:
+            return self.sectors()
+        log = disk.names['LOG']
+        found = read_log(disk.seen[log])
+        if found is None:
+            raise Refused('no base')
+        base, image, marked, _ = found
+        if without != 'judge' and not marked and base != self.sectors():
+            raise Refused('of another image')
+        if without == 'wins':
+            image = self.sectors()
+        yield from self.bring(log, image)
+        yield from self.unlog()
+        return image
+
+    def make(self, image):
+        disk, without = self.disk, self.without
+        if 'NEW' in disk.names:
+            disk.remove('NEW')
+            yield
+        log = disk.create('NEW')
+        yield
+        disk.write(log, 0, bytes(BLOCK * BLOCKS + 1))
+        yield
+        disk.sync(log)
+        yield
+        base = blocks_of(list(enumerate(image)))
+        disk.write(log, 0, base)
+        yield
+        if without != 'made':
+            disk.sync(log)
+            yield
+        if without != 'making':
+            disk.sync_folder()
+            yield
+        disk.rename('NEW', 'LOG')
+        yield
+        if without != 'named':
+            disk.sync_folder()
+            yield
+        return log, BASE
+
+    def change(self, image, most):
+        image = list(image)
+        touched = sorted(self.rng.sample(range(SECTORS), self.rng.randint(1, most)))
+        for i in touched:
+            image[i] = bytes((1 + self.rng.randrange(3), self.rng.randrange(256)))
+        self.may_be.append(image)
+        return image, touched
+
+    def serve(self):
+        disk = self.disk
+        image = yield from self.land()
+        self.find(image)
+        log, end = yield from self.make(image)
+        for _ in range(self.rng.randrange(7)):
+            image, touched = self.change(image, 3)
+            here = len(self.may_be) - 1
+            data = blocks_of([(i, image[i]) for i in touched])
+            if self.without == 'commit':
+                self.confirmed = here
+                yield
+            for at in range(0, len(data), BLOCK):
+                disk.write(log, BLOCK * end + at, data[at:at + BLOCK])
+                yield
+            disk.sync(log)
+            self.confirmed = here
+            yield
+            end += len(data) // BLOCK
+            if end + BASE > BLOCKS:
+                yield from self.bring(log, image)
+                if self.without == 'zeros':
+                    disk.write(log, BLOCK * BLOCKS, b'\0')
+                    disk.write(log, 0, blocks_of(list(enumerate(image))))
+                    yield
+                    disk.sync(log)
+                    yield
+                    end = BASE
+                else:
+                    log, end = yield from self.make(image)
+        yield from self.bring(log, image)
+        yield from self.unlog()
+
+    def play(self):
+        image = yield from self.land()
+        self.find(image)
+        for _ in range(2):
+            index = self.rng.randrange(SECTORS)
+            image = list(image)
+            image[index] = image[index][:1] + bytes([self.rng.randrange(256)])
+            self.may_be.append(image)
+            here = len(self.may_be) - 1
+            self.disk.write(self.image, index * WIDTH + 1, image[index][1:])
+            yield
+            self.disk.sync(self.image)
+            self.confirmed = here
+            yield
+
+    def swap(self):
+        """After a crash someone puts another image in place of IMAGE. A log of the old one must be refused."""
+        self.disk.sync(self.image)
+        other = [bytes((9, self.rng.randrange(256))) for _ in range(SECTORS)]
+        self.disk.write(self.image, 0, b''.join(other))
+        self.disk.sync(self.image)
+        log = self.disk.names.get('LOG')
+        found = None if log is None else read_log(self.disk.seen[log])
+        try:
+            for _ in self.land():
+                pass
+        except Refused:
+            return
+        if found and not found[2]:
+            raise Wrong('a log was landed on another image')
+
+
+def stop(program, calls):
+    for _ in program:
+        calls -= 1
+        if calls == 0:
+            return
+
+
+def day(seed, without):
+    """Programs one after another, each stopped somewhere. Returns how many times one was stopped."""
+    rng = random.Random(seed)
+    world, stops = World(rng, without), rng.randint(1, 6)
+    for _ in range(stops):
+        program = world.serve() if rng.random() < .75 else world.play()
+        stop(program, rng.choice((10 ** 9, rng.randint(1, 80), rng.randint(1, 40), rng.randint(1, 15))))
+        if rng.random() < .7:
+            world.disk.lose_power(rng)
+    if rng.random() < .1:
+        world.swap()
+    else:
+        for _ in world.serve():
+            pass
+    return stops
+
+
+def days(crashes, seed, without=None):
+    count, wrong = 0, collections.Counter()
+    while count < crashes:
+        try:
+            count += day(seed, without)
+        except (Wrong, Refused) as fault:
+            wrong[f'{type(fault).__name__}: {fault}'] += 1
+            count += 1
+        seed += 1
+    return count, wrong
+
+
+def main():
+    crashes = int(sys.argv[1]) if len(sys.argv) > 1 else 20000
+    seed = int(sys.argv[2]) if len(sys.argv) > 2 else 1
+    count, wrong = days(crashes, seed)
+    print(f'as designed: {count} crash states, {sum(wrong.values())} wrong {dict(wrong) or ""}')
+    blind = []
+    for step, words in STEPS.items():
+        tries, most, found = 0, 200000, collections.Counter()
+        while not found and tries < most:
+            n, found = days(crashes, seed + tries, step)
+            tries += n
+        print(f'{words}: {tries} crash states, {sum(found.values())} wrong')
+        if not found:
+            blind.append(step)
+    if wrong or blind:
+        print(f'FAILED: {blind}')
+        sys.exit(1)
+
+
+if __name__ == '__main__':
+    main()
