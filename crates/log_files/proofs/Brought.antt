@@ -1,10 +1,10 @@
 -- IMAGE as the sectors of an image are brought to it, and a log whose name is taken away.
-use Rattle.std.proofs.Common.{◌≡◌, ◌≤◌, ◌<◌, ◌+◌, ◌⊎◌, ◌∙◌, ℕ, List, [], ap, arith, get_or, inl, inr, length, refl, subst, sym, ⊎_elim, ext_get_or}
-use Rattle.std.proofs.lemmas.Bool.{cases_eq, false≢true}
+use Rattle.std.proofs.Common.{◌≡◌, ◌≤◌, ◌<◌, ◌+◌, ◌∙◌, ℕ, List, [], ap, arith, get_or, length, refl, subst, sym, ⊎_elim, ext_get_or}
+use Rattle.std.proofs.lemmas.Bool.{cases_eq}
 use Rattle.std.proofs.lemmas.List.{get_or-set_other, get_or-set_same, length-set, set-get_or}
-use Rattle.std.specs.Prelude.{Err, IsSome, None, Ok, OnOk, Option, Result, Some, slice_index_or, slice_set}
+use Rattle.std.specs.Prelude.{Err, Ok, OnOk, Option, Result, Some, slice_index_or, slice_set}
 use Rattle.d64_image.specs.Images.{Image}
-use Rattle.log_files.specs.Bringing.{HasLog, IsAlone, IsBrought, RestsAlone}
+use Rattle.log_files.specs.Bringing.{HasLog, IsBrought, RestsAlone}
 use Rattle.log_files.specs.Folders.{Acts, AllLeft, Brings, Folder, FolderHistory, HasImage, HasNames, IsImageWritten, IsRemoving, LeavesFolders, unlogged, with_image, with_sector}
 use Rattle.log_files.proofs.Steps.{goes_on, joined, started}
 
@@ -23,9 +23,9 @@ one_more k now shop image low partly = record {
   size = length-set image k (get_or shop k []) ∙ partly.size;
   first = λ j below. ⊎_elim
       (λ (same : j ≡ k). subst (λ (x : ℕ). get_or (slice_set image k (get_or shop k [])) x [] ≡ get_or shop x []) (sym same)
-          (get_or-set_same image k (get_or shop k []) [] (omega (arith, low, partly.size))))
+      (get_or-set_same image k (get_or shop k []) [] (omega (arith, low, partly.size))))
       (λ (other : j ≡ k → ⊥). get_or-set_other image k j (get_or shop k []) [] other
-          ∙ partly.first j (omega (arith, below, other)))
+      ∙ partly.first j (omega (arith, below, other)))
       (cases_eq j k);
   rest = λ j from. get_or-set_other image k j (get_or shop k []) [] (λ same. absurd (omega (arith, from, same)))
       ∙ partly.rest j (omega (arith, from));
@@ -67,8 +67,11 @@ module _ {D : Type 0} (h : FolderHistory D) where
   bringing_first old now shop size = record {
     moments = λ log all. started h old (HasLog log) all;
     log = λ log all. all;
-    held = λ s held is. (now, none_yet now shop size,
-        held ∙ ap (λ (i : Image). Some (with_image i s)) is);
+    held = λ s held is. (
+      now,
+      none_yet now shop size,
+      held ∙ ap (λ (i : Image). Some (with_image i s)) is,
+    );
   }
 
   module _ (old d new : D) (k : ℕ) (now shop : Image) (so_far : IsBringing old d k now shop)
@@ -85,8 +88,7 @@ module _ {D : Type 0} (h : FolderHistory D) where
       moments = bring_moments;
       log = λ log all. stays log (so_far.log log all);
       held = λ s held is.
-          let before = so_far.held s held is in
-          (
+          let before = so_far.held s held is in (
             slice_set before.0 k (get_or shop k []),
             one_more k now shop before.0 low before.1,
             ok (with_image before.0 s) before.2 (before.1.rest k (omega arith)),
@@ -147,8 +149,10 @@ module _ {D : Type 0} (h : FolderHistory D) where
       some = unlogged s;
       held = brings.held ∙ ok s held;
       is = (is, refl);
-      left = λ o may. ((removed_left old mid shop all removing acts o (brings.outcomes o may)).0,
-          (synced (unlogged s) (ok s held) o may).none refl);
+      left = λ o may. (
+        (removed_left old mid shop all removing acts o (brings.outcomes o may)).0,
+        (synced (unlogged s) (ok s held) o may).none refl,
+      );
     }
     unlogged_of (Err e) synced = tt
 

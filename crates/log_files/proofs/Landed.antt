@@ -148,10 +148,10 @@ module _ {D : Type 0} (h : FolderHistory D) where
         → (h.held new ≡ Some s) × ((given : Image) → Gives s given → ⊥))
     some_refused IsMisfit new (Ok x) refused = tt
     some_refused IsMisfit new (Err e) refused = λ misfit s held. (
-        ap h.held (refused misfit).0 ∙ (read s held).0,
-        λ given gives. (refused misfit).1 given
-            (subst (λ (i : Image). LogGives bytes i given) (sym (read s held).1) (gives_log s bytes given (has_log s held) gives)),
-      )
+      ap h.held (refused misfit).0 ∙ (read s held).0,
+      λ given gives. (refused misfit).1 given
+          (subst (λ (i : Image). LogGives bytes i given) (sym (read s held).1) (gives_log s bytes given (has_log s held) gives)),
+    )
 
   -- or it has none
   pub none_ok : (old mid : D) (now shop : Image) → shop ≡ now
@@ -159,8 +159,7 @@ module _ {D : Type 0} (h : FolderHistory D) where
       → ((s : Folder) → h.held old ≡ Some s → AllLeft h mid (IsSettledAs s))
       → (s : Folder) → h.held old ≡ Some s → RestsAlone h mid shop × Gives s shop
   none_ok old mid now shop same read settles s held =
-      let is : s.image ≡ shop = sym (same ∙ (read s held).1) in
-      (
+      let is : s.image ≡ shop = sym (same ∙ (read s held).1) in (
         record {
           some = s;
           held = (read s held).0;
@@ -185,8 +184,7 @@ module _ {D : Type 0} (h : FolderHistory D) where
       → (shops : List Image) (s : Folder) → IsFound h mid shops s → s.log ≡ Some bytes → now ≡ s.image
       → RestsAlone h new shop × Gives s shop
   judged_ok mid new now shop bytes gives landed shops s there log is =
-      let gives_here : LogGives bytes s.image shop = subst (λ (i : Image). LogGives bytes i shop) is gives in
-      (
+      let gives_here : LogGives bytes s.image shop = subst (λ (i : Image). LogGives bytes i shop) is gives in (
         landed shops s bytes there log is gives_here,
         subst (λ (l : Option (List ℕ)). given_by l s.image shop) (sym log) gives_here,
       )

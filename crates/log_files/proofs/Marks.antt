@@ -1,12 +1,11 @@
 -- The mark of a log that was found.
-use Rattle.std.proofs.Common.{◌≡◌, ◌≤◌, ◌<◌, ◌+◌, ◌⊎◌, ◌∙◌, ℕ, List, [], ◌∷◌, ap, arith, eqb, inl, inr, length, not, refl, slice_index, subst, sym, true, ⊎_elim}
-use Rattle.std.specs.Prelude.{Contains, Err, IsSome, None, Ok, OnOk, Option, Result, Some}
+use Rattle.std.proofs.Common.{◌≡◌, ◌≤◌, ◌+◌, ◌⊎◌, ◌∙◌, ℕ, List, [], ◌∷◌, ap, arith, eqb, inl, inr, length, not, refl, slice_index, subst, sym, ⊎_elim}
+use Rattle.std.specs.Prelude.{Err, IsSome, None, Ok, OnOk, Option, Result, Some}
 use Rattle.std.proofs.lemmas.Bool.{false≢true}
 use Rattle.d64_image.specs.Images.{Image}
-use Rattle.shop_log.specs.Files.{FileHistory, Mixed, Only, SyncsBytes, WritesBytes, overwritten}
-use Rattle.shop_log.specs.Recovered.{base_end, base_of, is_marked, recovered}
+use Rattle.shop_log.specs.Files.{FileHistory, Mixed, Only, SyncsBytes, WritesBytes}
 use Rattle.shop_log.proofs.Commits.{new_mixed}
-use Rattle.shop_log.proofs.Marked.{is_there, mark_left, same_base, same_recovered}
+use Rattle.shop_log.proofs.Marked.{is_there, mark_left, same_recovered}
 use Rattle.log_files.specs.Bringing.{HasLog, IsFound, MarkTorn, marked_log}
 use Rattle.log_files.specs.Folders.{Acts, AllLeft, Folder, FolderHistory, IsReturned, LeavesFolders, LogOf, Same, with_log}
 use Rattle.log_files.specs.Shops.{Gives, GivesOneOf, LogGives, given_by}
@@ -22,9 +21,9 @@ mark_gives d c image given torn gives =
       based = left.based;
       own = ⊎_elim
           (λ marked. inl (⊎_elim
-              (λ (same : slice_index c (4194304 + 0) ≡ slice_index d (4194304 + 0)). ap (λ (k : ℕ). not (eqb k 0)) same ∙ marked)
-              (λ (one : slice_index c (4194304 + 0) ≡ slice_index (1 ∷ []) 0). ap (λ (k : ℕ). not (eqb k 0)) one)
-              (mixed.each 0 (omega arith))))
+          (λ (same : slice_index c (4194304 + 0) ≡ slice_index d (4194304 + 0)). ap (λ (k : ℕ). not (eqb k 0)) same ∙ marked)
+          (λ (one : slice_index c (4194304 + 0) ≡ slice_index (1 ∷ []) 0). ap (λ (k : ℕ). not (eqb k 0)) one)
+          (mixed.each 0 (omega arith))))
           (λ same. inr (same ∙ sym left.base))
           gives.own;
       is = same_recovered d gives.size c mixed ∙ gives.is;
@@ -64,93 +63,92 @@ module _ {D F : Type 0} (h : FolderHistory D) (g : FileHistory F) (old : D) (sho
     (found : IsFound h old shops s) (file marked : F)
     (opened : LogOf h g old file)
     (outcomes : (c : List ℕ) → g.may_leave marked c → (from : List ℕ) × g.may_leave file from × MarkTorn from c)
-    where
-  -- the log with a part of its mark, in the folder
-  torn_gives : (from : Folder) (c0 c : List ℕ) → h.may_leave old from → g.may_leave file c0 → MarkTorn c0 c
-      → GivesOneOf shops (with_log c from)
-  torn_gives from c0 c may left torn =
-      let other = opened.left c0 left in
-      let one = found.left other.0 other.1 in
-      let image : other.0.image ≡ from.image = (found.settled other.0 other.1).0 ∙ sym (found.settled from may).0 in
-      (
-        one.0,
-        one.1,
-        mark_gives c0 c from.image one.0 torn
-            (subst (λ (i : Image). LogGives c0 i one.0) image (gives_log other.0 c0 one.0 other.2 one.2)),
-      )
-
-  module _ {T E : Type 0} (a new : D) (opening : Result T E) (acts : Acts h old a (λ (x : Folder). x) Same opening)
-      (lent : g.moment file ≡ h.lent a)
-      (since : (t : ℕ) (c : List ℕ) → t ≤ g.moment file → g.left_since marked t c
-      → g.left_since file t c ⊎ ((from : List ℕ) × g.may_leave file from × MarkTorn from c))
-      {E2 : Type 0} (closing : Result Unit E2) (returned : IsReturned h g a new marked closing) where
-    was : (o : Folder) → h.may_leave a o → h.may_leave old o
-    was o may = let from = acts.outcomes o may in subst (h.may_leave old) (sym from.2) from.1
-
-    opened_moments : LeavesFolders h old a (GivesOneOf shops)
-    opened_moments = goes_on h old old a (GivesOneOf shops) (started h old (GivesOneOf shops) found.left) acts.time
-        (λ o may. found.left o (was o may))
-
-    now : AllLeft h new (GivesOneOf shops)
-    now o may =
-        let from = returned.outcomes o may in
-        ⊎_elim
-        (λ same. subst (GivesOneOf shops) (sym same.0) (found.left from.0 (was from.0 from.1)))
-        (λ closed. let torn = outcomes closed.0 closed.1 in
-        subst (GivesOneOf shops) (sym closed.2) (torn_gives from.0 torn.0 closed.0 (was from.0 from.1) torn.1 torn.2))
-        from.2
-
-    while_open : (from : Folder) (c : List ℕ) → h.may_leave a from → g.left_since marked (h.lent a) c
+  where
+    -- the log with a part of its mark, in the folder
+    torn_gives : (from : Folder) (c0 c : List ℕ) → h.may_leave old from → g.may_leave file c0 → MarkTorn c0 c
         → GivesOneOf shops (with_log c from)
-    while_open from c may left =
-        ⊎_elim
-        (λ before. torn_gives from c c (was from may)
-        (g.only_now file c (subst (λ (t : ℕ). g.left_since file t c) (sym lent) before)) (unmarked_yet c))
-        (λ torn. torn_gives from torn.0 c (was from may) torn.1 torn.2)
-        (since (h.lent a) c (omega (arith, lent)) left)
+    torn_gives from c0 c may left torn =
+        let other = opened.left c0 left in
+        let one = found.left other.0 other.1 in
+        let image : other.0.image ≡ from.image = (found.settled other.0 other.1).0 ∙ sym (found.settled from may).0 in (
+          one.0,
+          one.1,
+          mark_gives c0 c from.image one.0 torn
+              (subst (λ (i : Image). LogGives c0 i one.0) image (gives_log other.0 c0 one.0 other.2 one.2)),
+        )
 
-    pub mark_moments : LeavesFolders h old new (GivesOneOf shops)
-    mark_moments = record {
-      later = omega (arith, opened_moments.later, returned.later);
-      each = λ o left. ⊎_elim
-          (λ before. opened_moments.each o before)
-          (λ after. ⊎_elim
-              (λ open_then. subst (GivesOneOf shops) (sym open_then.4) (while_open open_then.0 open_then.2 open_then.1 open_then.3))
-              (now o) after)
-          (returned.since (h.moment old) o opened_moments.later left);
-      before = λ t o le left. ⊎_elim
-          (λ before. opened_moments.before t o le before)
-          (λ after. inr (⊎_elim
-              (λ open_then. subst (GivesOneOf shops) (sym open_then.4) (while_open open_then.0 open_then.2 open_then.1 open_then.3))
-              (now o) after))
-          (returned.since t o (omega (arith, le, opened_moments.later)) left);
-    }
+    module _ {T E : Type 0} (a new : D) (opening : Result T E) (acts : Acts h old a (λ (x : Folder). x) Same opening)
+        (lent : g.moment file ≡ h.lent a)
+        (since : (t : ℕ) (c : List ℕ) → t ≤ g.moment file → g.left_since marked t c
+        → g.left_since file t c ⊎ ((from : List ℕ) × g.may_leave file from × MarkTorn from c))
+        {E2 : Type 0} (closing : Result Unit E2) (returned : IsReturned h g a new marked closing) where
+      was : (o : Folder) → h.may_leave a o → h.may_leave old o
+      was o may = let from = acts.outcomes o may in subst (h.may_leave old) (sym from.2) from.1
 
-    module _ (f : List ℕ) (log : s.log ≡ Some f)
-        (kept : (x : Folder) → h.held old ≡ Some x → h.held a ≡ Some x)
-        (put : g.held file ≡ Some f → 4194304 ≤ length f
-        → (g.held marked ≡ Some (marked_log f)) × Only (marked_log f) (g.may_leave marked)) where
-      long : 4194304 ≤ length f
-      long = omega (arith, (gives_log s f found.gives.0 log found.gives.2).size)
+      opened_moments : LeavesFolders h old a (GivesOneOf shops)
+      opened_moments = goes_on h old old a (GivesOneOf shops) (started h old (GivesOneOf shops) found.left) acts.time
+          (λ o may. found.left o (was o may))
 
-      is_put : (g.held marked ≡ Some (marked_log f)) × Only (marked_log f) (g.may_leave marked)
-      is_put = put (opened.held s f found.held log) long
-
-      pub mark_held : h.held new ≡ Some (with_log (marked_log f) s)
-      mark_held = returned.held s (marked_log f) (kept s found.held) is_put.0
-
-      pub mark_stays : AllLeft h new (HasLog (marked_log f))
-      mark_stays o may =
+      now : AllLeft h new (GivesOneOf shops)
+      now o may =
           let from = returned.outcomes o may in
           ⊎_elim
-          (λ same. absurd (not_none from.0 (was from.0 from.1) same.1))
-          (λ closed. log_is (marked_log f) closed.0 from.0 o closed.2 (is_put.1 closed.0 closed.1))
+          (λ same. subst (GivesOneOf shops) (sym same.0) (found.left from.0 (was from.0 from.1)))
+          (λ closed. let torn = outcomes closed.0 closed.1 in
+          subst (GivesOneOf shops) (sym closed.2) (torn_gives from.0 torn.0 closed.0 (was from.0 from.1) torn.1 torn.2))
           from.2
-        where
-          not_none : (from : Folder) → h.may_leave old from → from.log ≡ None → ⊥
-          not_none from may none =
-              let there : IsSome from.log = (found.settled from may).1.some (subst IsSome (sym log) refl) in
-              false≢true (subst IsSome none there)
+
+      while_open : (from : Folder) (c : List ℕ) → h.may_leave a from → g.left_since marked (h.lent a) c
+          → GivesOneOf shops (with_log c from)
+      while_open from c may left =
+          ⊎_elim
+          (λ before. torn_gives from c c (was from may)
+          (g.only_now file c (subst (λ (t : ℕ). g.left_since file t c) (sym lent) before)) (unmarked_yet c))
+          (λ torn. torn_gives from torn.0 c (was from may) torn.1 torn.2)
+          (since (h.lent a) c (omega (arith, lent)) left)
+
+      pub mark_moments : LeavesFolders h old new (GivesOneOf shops)
+      mark_moments = record {
+        later = omega (arith, opened_moments.later, returned.later);
+        each = λ o left. ⊎_elim
+            (λ before. opened_moments.each o before)
+            (λ after. ⊎_elim
+            (λ open_then. subst (GivesOneOf shops) (sym open_then.4) (while_open open_then.0 open_then.2 open_then.1 open_then.3))
+            (now o) after)
+            (returned.since (h.moment old) o opened_moments.later left);
+        before = λ t o le left. ⊎_elim
+            (λ before. opened_moments.before t o le before)
+            (λ after. inr (⊎_elim
+            (λ open_then. subst (GivesOneOf shops) (sym open_then.4) (while_open open_then.0 open_then.2 open_then.1 open_then.3))
+            (now o) after))
+            (returned.since t o (omega (arith, le, opened_moments.later)) left);
+      }
+
+      module _ (f : List ℕ) (log : s.log ≡ Some f)
+          (kept : (x : Folder) → h.held old ≡ Some x → h.held a ≡ Some x)
+          (put : g.held file ≡ Some f → 4194304 ≤ length f
+          → (g.held marked ≡ Some (marked_log f)) × Only (marked_log f) (g.may_leave marked)) where
+        long : 4194304 ≤ length f
+        long = omega (arith, (gives_log s f found.gives.0 log found.gives.2).size)
+
+        is_put : (g.held marked ≡ Some (marked_log f)) × Only (marked_log f) (g.may_leave marked)
+        is_put = put (opened.held s f found.held log) long
+
+        pub mark_held : h.held new ≡ Some (with_log (marked_log f) s)
+        mark_held = returned.held s (marked_log f) (kept s found.held) is_put.0
+
+        pub mark_stays : AllLeft h new (HasLog (marked_log f))
+        mark_stays o may =
+            let from = returned.outcomes o may in
+            ⊎_elim
+            (λ same. absurd (not_none from.0 (was from.0 from.1) same.1))
+            (λ closed. log_is (marked_log f) closed.0 from.0 o closed.2 (is_put.1 closed.0 closed.1))
+            from.2
+          where
+            not_none : (from : Folder) → h.may_leave old from → from.log ≡ None → ⊥
+            not_none from may none =
+                let there : IsSome from.log = (found.settled from may).1.some (subst IsSome (sym log) refl) in
+                false≢true (subst IsSome none there)
 
 -- the mark, written and synced
 module _ {F : Type 0} (g : FileHistory F) (old mid new : F) where

@@ -1,5 +1,5 @@
 -- How a run of calls on a folder goes on.
-use Rattle.std.proofs.Common.{ℕ, arith, inl, inr, ⊎_elim}
+use Rattle.std.proofs.Common.{arith, inl, inr, ⊎_elim}
 use Rattle.log_files.specs.Folders.{AllLeft, Folder, FolderHistory, LeavesFolders, Passes}
 
 module _ {D : Type 0} (h : FolderHistory D) where

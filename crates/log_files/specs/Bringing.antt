@@ -1,9 +1,9 @@
 -- A log that is landed: what each step leaves. Our own.
-use Rattle.std.specs.Prelude.{ℕ, ◌≡◌, ◌≤◌, ◌⊎◌, [], ◌∷◌, List, None, Option, Some, length}
+use Rattle.std.specs.Prelude.{ℕ, ◌≡◌, ◌≤◌, [], ◌∷◌, List, None, Some, length}
 use Rattle.d64_image.specs.Images.{Image}
-use Rattle.shop_log.specs.Files.{FileHistory, Mixed, overwritten}
-use Rattle.log_files.specs.Folders.{AllLeft, Folder, FolderHistory, HasImage, HasNames, Making}
-use Rattle.log_files.specs.Shops.{Gives, GivesOneOf, LogGives}
+use Rattle.shop_log.specs.Files.{Mixed, overwritten}
+use Rattle.log_files.specs.Folders.{AllLeft, Folder, FolderHistory, HasImage, HasNames}
+use Rattle.log_files.specs.Shops.{Gives, GivesOneOf}
 
 -- the log with its mark
 abbrev pub marked_log : List ℕ → List ℕ

@@ -24,6 +24,3 @@ Gives s given = given_by s.log s.image given
 -- it is one of these images
 abbrev pub GivesOneOf : List Image → Folder → Type 0
 GivesOneOf shops s = (given : Image) × Contains shops given × Gives s given
-
--- The folder is known, gives an image of these, and so does each that a power loss may leave. All logs are of the image
--- that IMAGE is.

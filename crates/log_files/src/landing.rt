@@ -55,7 +55,10 @@ fn settle<F: LogFile, D: LogFolder<F>>(folder: &mut D) -> io::Result<()>
 }
 
 /// Settles the folder, and reads IMAGE and the log, if there is one.
-fn find<F: LogFile, D: LogFolder<F>>(folder: &mut D, now: &mut [[u8; 256]]) -> io::Result<Option<Vec<u8>>>
+fn find<F: LogFile, D: LogFolder<F>>(
+    folder: &mut D,
+    now: &mut [[u8; 256]],
+) -> io::Result<Option<Vec<u8>>>
     requires sized { length now.old ≡ 683 }
     ensures sized { length now.new ≡ 683 }
     ensures any_moment { (shops : List Image) → AllLeft D.history folder.old (GivesOneOf shops)

@@ -47,14 +47,16 @@ pub trait LogFolder<F: LogFile> {
 
     /// Makes an empty `IMAGE-log.new` in place of one that may be there, and opens it.
     fn make_log(&mut self) -> io::Result<F>
-        ensures empty { IfOk result (λ file. F.history.held file ≡ Some [] ) }
+        ensures empty { IfOk result (λ file. (f : List ℕ) → F.history.held file ≡ Some f → f ≡ []) }
+        ensures known { IfOk result (λ file. (s : Folder) → history.held self.old ≡ Some s → F.history.held file ≡ Some []) }
         ensures acts { Acts history self.old self.new being_made IsMaking result };
 
-    /// Gives `IMAGE-log.new` the name of the log, in place of one that may have it.
+    /// Gives the name of the log to `IMAGE-log.new`, whose file this is, in place of one that may have it. The file must
+    /// be synced: of another one nothing is said.
     fn name_log(&mut self, file: &F) -> io::Result<()>
-        requires synced { (f : List ℕ) → F.history.held file.now ≡ Some f → Only f (F.history.may_leave file.now) }
         ensures lent { OnOk result (history.lent self.new ≡ F.history.moment file.now) }
-        ensures acts { (f : List ℕ) → F.history.held file.now ≡ Some f → Acts history self.old self.new (named f) (IsNaming f) result };
+        ensures acts { (f : List ℕ) → F.history.held file.now ≡ Some f → Only f (F.history.may_leave file.now)
+            → Acts history self.old self.new (named f) (IsNaming f) result };
 
     /// Takes away the log's name.
     fn remove_log(&mut self) -> io::Result<()>
