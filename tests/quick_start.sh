@@ -3,8 +3,8 @@
 #   tests/quick_start.sh PROGRAM [DEBIAN]
 # PROGRAM is what `tools/program` prints. DEBIAN is a folder that debootstrap has made, with systemd; without it this makes
 # one, in some two minutes. A copy of it is started as a container whose net is its own: it reaches nothing but a proxy that
-# gets packages from Debian's servers. At most ten commands may stand there, and all may take ten minutes. It wants to be
-# root, and Debian's packages debootstrap, systemd-container, iproute2 and python3. The status is 1 at the first difference.
+# gets packages from Debian's servers. At most ten commands may stand there, and all may take ten minutes. After them
+# tests/quick_start_after.sh looks at the pages, runs set_up.sh again, and restores a damaged shop. It wants to be root, and Debian's packages debootstrap, systemd-container, iproute2 and python3. The status is 1 at the first difference.
 set -eu
 top="$(CDPATH= cd -- "$(dirname -- "$0")/.." && pwd)"
 program="${1:?"which program?"}"
@@ -33,6 +33,7 @@ fi
 # the repository's top, with the program where it is built
 install -D -m 755 "$program" "$root/shop/crates/ledger/out/ledger"
 cp -a "$top/examples" "$root/shop/"
+cp "$top/tests/quick_start_after.sh" "$root/shop/after"
 sed -n '/^```sh$/,/^```$/{/^```/!p}' "$top/examples/operator/QUICK_START.md" >"$root/shop/commands"
 count=$(grep -c . "$root/shop/commands")
 [ "$count" -le 10 ] || { echo "quick_start: $count commands" >&2; exit 1; }
@@ -61,25 +62,30 @@ Description=Trial of the quick start
 After=multi-user.target
 
 [Service]
+Type=oneshot
 Environment=DEBIAN_FRONTEND=noninteractive HOME=/root
 WorkingDirectory=/shop
 ExecStart=/bin/sh -eux /shop/commands
+ExecStart=/bin/sh -c 'cut -d . -f 1 /proc/uptime >/shop/uptime'
+ExecStart=/bin/sh -eux /shop/after
 StandardOutput=file:/shop/out
 StandardError=file:/shop/log
 ExecStopPost=/bin/sh -c 'systemctl --no-pager --failed >>/shop/log; journalctl -n 40 --no-pager >>/shop/log; systemctl --no-block exit \$EXIT_STATUS'
 END
 ln -s ../trial.service "$root/etc/systemd/system/multi-user.target.wants/trial.service"
-began=$(date +%s)
+began=$(cut -d . -f 1 /proc/uptime)
 SYSTEMD_NSPAWN_UNIFIED_HIERARCHY=1 timeout 900 systemd-nspawn --quiet --register=no --keep-unit \
     --network-namespace-path="/run/netns/$net" --machine="$net" --directory="$root" --boot systemd.firstboot=off \
     >"$work/boot" 2>&1 </dev/null && status=0 || status=$?
-took=$(($(date +%s) - began))
 [ "$status" = 0 ] || { tail -n 60 "$root/shop/log" "$work/boot" >&2; echo "quick_start: status $status" >&2; exit 1; }
 
 # what the page's commands print
 for line in '1 S,101,40 DONE,40' '2 I,101,3 DONE,37' '1 I,101,1 DONE,36' 'serving' 'CARD 101,36 Postcard: the tower, piece'; do
     grep -qxF "$line" "$root/shop/out" || { cat "$root/shop/out" >&2; echo "quick_start: no line '$line'" >&2; exit 1; }
 done
+took=$(($(cat "$root/shop/uptime") - began))
 [ "$took" -lt 600 ] || { echo "quick_start: it took $took s" >&2; exit 1; }
-! grep "was changed and stays" "$root/shop/log" >&2 || exit 1
-echo "quick_start: $count commands in $took s on a clean Debian, 2 tills sold 2 times, 1 backup"
+! grep "^set_up: .* was changed and stays" "$root/shop/log" >&2 || exit 1
+grep -qxF 'after: all holds' "$root/shop/out" || { echo "quick_start: something doesn't hold after it" >&2; exit 1; }
+echo "quick_start: $count commands in $took s on a clean Debian, 2 tills sold 2 times,"
+echo "  1 backup; set up 2 times more, 1 damaged shop restored"
