@@ -2,13 +2,14 @@
 use Rattle.std.proofs.Common.{◌≡◌, ◌∙◌, ◌↔◌, [], Err, None, ap, arith, false, inl, refl, subst, sym}
 use Rattle.std.specs.Prelude.{slice_index_or}
 use Rattle.std.proofs.KnownBytes.{Consumes-nil}
-use Rattle.d64_image.specs.History.{Changes, NeverFailed}
+use Rattle.d64_image.specs.History.{NeverFailed}
 use Rattle.d64_image.specs.Images.{Image}
 use Rattle.d64_image.specs.Memory.{disk_image}
 use Rattle.d64_image.specs.declared.mem_disk.MemDisk.{MemDisk}
 use Rattle.host_session.proofs.lemmas.shop.Shops.{IsShop-one}
 use Rattle.host_session.specs.declared.faults.OpenFault.{OpenFault}
 use Rattle.host_session.specs.declared.runs.looping.LoopFault.TheVariants as faults
+use Rattle.host_session.specs.Held.{Changes}
 use Rattle.host_session.specs.session.Opening.{IsAShop, Untouched}
 use Rattle.host_session.specs.session.Standing.{View}
 use Rattle.host_session.specs.shop.Shop.{IsSettled, IsShop, Shop}
