@@ -18,8 +18,9 @@ const NAME: &[u8] = b"STOCK LEDGER";
 /// The id of a fresh disk.
 const ID: [u8; 2] = *b"01";
 
-/// A disk in memory that holds an empty shop with so many tills.
-fn fresh_disk(alloc: Global, tills: u8) -> Result<MemDisk, RunFault>
+/// A disk in memory that holds an empty shop with 1 to 64 tills. An odd number of tills gives one more. `NoMemory` if
+/// there is none for the disk.
+pub fn fresh_disk(alloc: Global, tills: u8) -> Result<MemDisk, RunFault>
     requires some { 1 ≤ tills }
     requires few { tills ≤ 64 }
     ensures ok { IfOk result (λ disk. IsFreshDisk (disk_image disk) tills) }

@@ -18,11 +18,11 @@ mod shows;
 mod table;
 mod texts;
 
-pub use bytes::load;
+pub use bytes::{load, put_whole};
 pub use dry_run::{DryFault, dry};
 pub use durable::{Durability, WritesAt};
 pub use faults::RunFault;
-pub use formatting::format_image;
+pub use formatting::{format_image, fresh_disk};
 pub use judging::check_image;
 pub use laws::{dry_is_play, fresh_is_a_shop, run_tells_dry};
 pub use listing::list_image;
