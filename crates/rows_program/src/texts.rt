@@ -35,7 +35,7 @@ pub(crate) fn text_of(alloc: Global, line: &[u8]) -> Vec<u8> {
     text
 }
 
-/// The words of a command line, with a zero between each two.
+/// The words of a command line, with a zero between each two. `|` is a line feed in them.
 pub(crate) fn words_of(alloc: Global, line: &[u8]) -> Vec<u8> {
     let mut words = Vec::new(alloc);
     let mut quoted = false;
@@ -44,6 +44,9 @@ pub(crate) fn words_of(alloc: Global, line: &[u8]) -> Vec<u8> {
             b'\'' => quoted = !quoted,
             b' ' if !quoted => {
                 let _ = words.push(0);
+            }
+            b'|' => {
+                let _ = words.push(b'\n');
             }
             other => {
                 let _ = words.push(other);

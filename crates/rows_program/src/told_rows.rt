@@ -61,6 +61,25 @@ tells NAME|ledger: NAME has 1 to 16 bytes; one that isn't plain text is a backsl
 ends 2
 ";
 
+/// Paths are printed without what a terminal obeys: a line feed, ESC, DEL, a control character above 127 and a mark that
+/// turns the direction of text stand as numbers; other characters above 127 stand as they are.
+const SHOWN: &[u8] = b"
+no script
+person ledger_cli list 'b|\x1b[2J\x7f.d64'
+tells FILE|ledger: b\\u{a}\\u{1b}[2J\\u{7f}.d64: entity not found|
+ends 3
+
+no script
+person ledger_cli list '\xc3\xa4\xc2\x9b\xe2\x80\xae.d64'
+tells FILE|ledger: \xc3\xa4\\u{9b}\\u{202e}.d64: entity not found|
+ends 3
+";
+
+#[test]
+fn paths_are_shown_without_controls(rt: HostRuntime) {
+    each(&rt, SHOWN);
+}
+
 /// A person who reads it later asks for the second line.
 const EXPLAINED: &[u8] = b"
 no script
