@@ -138,7 +138,8 @@ class Page:
                 f"<b>{self.verdict}</b> {self.summary()}</p>\n<main>\n"
                 '<svg viewBox="-36600 -36600 73200 73200" role="img" aria-label="The disk as 35 rings of sectors, each in the '
                 'colour of its file; the table lists the files">\n<svg x="-6900" y="-1200" width="13800" height="2400" '
-                f'viewBox="-6900 -1200 13800 2400"><text y="400">{name}</text></svg>\n<g transform="rotate(-90)">\n')
+                f'viewBox="-6900 -1200 13800 2400"><text y="400">{name}</text></svg>\n'
+                '<g transform="rotate(-90)" aria-hidden="true">\n')
         rows = "".join(self.row(number) for number in range(len(self.disk.entries)))
         return title + told + self.drawing() + fixed("legend_text") + rows + fixed("end_text")
 

@@ -44,7 +44,7 @@ MARKUP = {
     "html": ["lang"], "head": [], "title": [], "style": [], "body": [], "h1": [], "b": [], "main": [], "div": [], "ul": [],
     "table": [], "tbody": [], "tr": [], "th": [], "td": [], "text": ["y"], "path": ["d"], "li": ["class"], "a": ["href"]}
 RING_ATTRIBUTES = ["r", "stroke-dashoffset"]
-VARIED = {"g": [["transform"], ["id"], ["class", "id"], ["class"]], "i": [[], ["class"]], "p": [[], ["class"]],
+VARIED = {"g": [["aria-hidden", "transform"], ["id"], ["class", "id"], ["class"]], "i": [[], ["class"]], "p": [[], ["class"]],
           "meta": [["charset"], ["content", "name"]],
           "svg": [["aria-label", "role", "viewBox"], ["height", "viewBox", "width", "x", "y"]],
           "circle": [RING_ATTRIBUTES, ["class", *RING_ATTRIBUTES], ["r", "style"],

@@ -12,8 +12,8 @@
 #   librsvg draws shows the same;
 # - pointing at a sector's middle finds its title; beneath a fault its owner's; a click on a name fades all other files;
 # - on a phone the page has one column and nothing beyond the edge; in the dark each sector has the dark page's colour; printed
-#   it takes one sheet (of 144 entries two), with the colours of all files in their lines; a screen reader meets one image with a sentence; by
-#   keyboard each file is one stop, and Enter shows it alone;
+#   it takes one sheet, with the colours of all files in their lines; a screen reader meets one image with a sentence, and no
+#   sector; by keyboard each file is one stop, and Enter shows it alone;
 # - the poster (`picture --svg`) is to the byte that of pages.py, leads nowhere, and Chromium and librsvg show each sector in the
 #   same colours as on the page;
 # - elements and attributes of the page in the browser are the page's own, and names are shown as they are written;

@@ -17,8 +17,8 @@ from served import want
 PHONE = {"width": 390, "height": 844, "deviceScaleFactor": 2, "mobile": True}
 DARK_SYSTEM = {"map": (255, 255, 255), "dir": (0x9A, 0xA0, 0xAA), "free": (0x2A, 0x2D, 0x34), "lost": (0x8B, 0x8D, 0x92)}
 DARK_RED = (0xFF, 0x4A, 0x3D)
-# pixels of the page for a unit of the poster, which is a millimetre
-UNIT = 96 / 25.4
+# pixels for a unit of the poster, so that the drawing stands on whole pixels
+UNIT = 12
 LEFT, TOP, SIDE = 23.5, 44, 250
 SVG = "{http://www.w3.org/2000/svg}"
 NEAR = 2
@@ -68,19 +68,16 @@ def see_dark(name, browser, url, wanted, seen_at):
 
 
 def see_paper(name, browser, url, wanted, folder, colours):
-    """One sheet of paper, with the colours of all files outside of the drawing too. A disk of 144 entries takes two."""
+    """One sheet of paper, with the colours of all files outside of the drawing too."""
     browser.open(url)
     answer = browser.ask("Page.printToPDF", preferCSSPageSize=True)
     file = folder / "paper.pdf"
     file.write_bytes(base64.b64decode(answer["data"]))
     sheets = len(re.findall(rb"/Type\s*/Page\b(?!s)", file.read_bytes()))
-    crowded = len(wanted.disk.entries) > 64
-    want(sheets == (2 if crowded else 1), f"{name}: {sheets} sheets of paper")
-    if crowded:
-        return
+    want(sheets == 1, f"{name}: {sheets} sheets of paper")
     subprocess.run(["pdftoppm", "-r", "200", "-singlefile", "-png", file, folder / "paper"], check=True)
     paper = Image.open(folder / "paper.png").convert("RGB")
-    below = paper.crop((0, paper.height * 57 // 100, paper.width, paper.height))
+    below = paper.crop((0, paper.height * 54 // 100, paper.width, paper.height))
     found = {colour for _, colour in below.getcolors(1 << 24)}
     for number in range(len(wanted.disk.entries)):
         colour = rgb(colours[number % 12])
@@ -96,6 +93,9 @@ def see_label(name, browser, url):
     images = [text for role, text in roles if role in ("image", "img")]
     want(images == ["The disk as 35 rings of sectors, each in the colour of its file; the table lists the files"],
          f"{name}: images with the labels {images}")
+    symbols = sum(role.startswith("graphics") or role.lower().startswith("svg") for role, _ in roles)
+    want(symbols == 0, f"{name}: {symbols} parts of the drawing are read out")
+    return len(images)
 
 
 def see_keys(name, browser, url, wanted):
@@ -124,13 +124,16 @@ def see_poster(name, program, path, image, verdict, folder, browser, compare):
     want(not re.search(rb"href|url\(|@import|<script", done.stdout), f"{name}: the poster leads out of itself")
     file = folder / f"{name}.svg"
     file.write_bytes(done.stdout)
-    browser.ask("Emulation.setDeviceMetricsOverride", width=1200, height=1700, deviceScaleFactor=3, mobile=False)
     browser.open(file.as_uri())
     want(browser.complaints() == [] and browser.requests() == [file.as_uri()], f"{name}: the poster asks or complains")
-    compare(browser.shot(LEFT * UNIT, TOP * UNIT, SIDE * UNIT, SIDE * UNIT), "Chromium, on the poster,")
-    subprocess.run(["rsvg-convert", "-w", str(297 * 12), "-o", folder / "poster.png", file], check=True)
+    wall = folder / "wall.html"
+    wall.write_text(f'<!DOCTYPE html>\n<body style="margin:0"><img src="{file.name}" width="{297 * UNIT}" height="{420 * UNIT}">')
+    browser.ask("Emulation.setDeviceMetricsOverride", width=297 * UNIT, height=420 * UNIT, deviceScaleFactor=1, mobile=False)
+    browser.open(wall.as_uri())
+    left, top, side = (round(UNIT * part) for part in (LEFT, TOP, SIDE))
+    compare(browser.shot(left, top, side, side), "Chromium, on the poster,")
+    subprocess.run(["rsvg-convert", "-w", str(297 * UNIT), "-o", folder / "poster.png", file], check=True)
     whole = Image.open(folder / "poster.png").convert("RGB")
-    left, top, side = (round(12 * part) for part in (LEFT, TOP, SIDE))
     compare(whole.crop((left, top, left + side, top + side)), "librsvg, on the poster,")
     lines = [part.text or "" for part in root.iter(f"{SVG}text") if part.get("x") == "19"]
     want(lines == [unescape(entry.shown) for entry in Page(image, verdict).disk.entries], f"{name}: the poster's lines {lines}")

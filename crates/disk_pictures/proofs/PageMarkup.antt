@@ -134,7 +134,7 @@ module _ (f g : Show) (same : (bytes : List ℕ) → IsSameMarkup (f bytes) (g b
       (behind (codes "</p>\n<p class=\"") _ _ (behind (verdict_class v) _ _ (behind (codes "\"><b>") _ _
       (behind (verdict_text v) _ _ (behind (codes "</b> ") _ _ (both _ _ _ _ (on-summary v map l)
       (behind (codes "</p>\n<main>\n<svg viewBox=\"-36600 -36600 73200 73200\" role=\"img\" aria-label=\"The disk as 35 rings of sectors, each in the colour of its file; the table lists the files\">\n<svg x=\"-6900\" y=\"-1200\" width=\"13800\" height=\"2400\" viewBox=\"-6900 -1200 13800 2400\"><text y=\"400\">") _ _
-      (before (f name) (g name) (codes "</text></svg>\n<g transform=\"rotate(-90)\">\n") (same name)))))))))))
+      (before (f name) (g name) (codes "</text></svg>\n<g transform=\"rotate(-90)\" aria-hidden=\"true\">\n") (same name)))))))))))
 
   on-link : (k : ℕ) (name : List ℕ) → IsSameMarkup (link_text f k name) (link_text g k name)
   unfolding link_text

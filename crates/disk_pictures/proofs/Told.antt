@@ -18,6 +18,6 @@ pub told-written : (v : Option Fault) (map : Sector) (l : Layout) (id version cl
     → html_of id ++ (codes " " ++ (html_of version ++ (codes "</p>\n<p class=\"" ++ (class
     ++ (codes "\"><b>" ++ (verdict_text v ++ (codes "</b> "
     ++ (summary_text html_of v map l ++ (codes "</p>\n<main>\n<svg viewBox=\"-36600 -36600 73200 73200\" role=\"img\" aria-label=\"The disk as 35 rings of sectors, each in the colour of its file; the table lists the files\">\n<svg x=\"-6900\" y=\"-1200\" width=\"13800\" height=\"2400\" viewBox=\"-6900 -1200 13800 2400\"><text y=\"400\">"
-    ++ (html_of name ++ codes "</text></svg>\n<g transform=\"rotate(-90)\">\n")))))))))) ≡ told_text html_of v map l
+    ++ (html_of name ++ codes "</text></svg>\n<g transform=\"rotate(-90)\" aria-hidden=\"true\">\n")))))))))) ≡ told_text html_of v map l
 unfolding told_text
 told-written v map l id version class name a b c d = rw (a, b, c, d) refl

@@ -58,8 +58,9 @@ const STYLE: &str = ":root{color-scheme:light dark}body{margin:24px;background:#
     .c8{stroke:#c9c5be;color:#c9c5be}.c8 .s{stroke:#e4e2de}.c9{stroke:#c4d2e6;color:#c4d2e6}.c9 .s{stroke:#e2e8f2}\
     .c10{stroke:#a5fdbe;color:#a5fdbe}.c10 .s{stroke:#d2fede}.c11{stroke:#fff700;color:#fff700}.c11 .s{stroke:#fffb80}}\
     @page{size:A4;margin:10mm}@media print{*{print-color-adjust:exact;-webkit-print-color-adjust:exact}body{margin:0;\
-    font-size:10px}main{display:block}main>svg{display:block;width:150mm;margin:0 auto}main>div{max-height:none;\
-    overflow:visible;columns:60mm;font-size:8px}.hint,.all{display:none}}";
+    font-size:10px}main{display:block}main>svg{display:block;width:130mm;margin:0 auto}main>div{max-height:none;\
+    overflow:visible;columns:60mm;font-size:7px;line-height:1.15}td,th{padding:0 3px}i{width:9px;height:7px}\
+    i.w1{padding:1px 0}i.w2{padding:2px 0}i.w3{padding:0 3px}.hint,.all{display:none}}";
 
 /// The dash of each ring: the arc of a sector less 200, and then nothing; and half as long, for entries of the fourth
 /// shape.
@@ -174,7 +175,7 @@ impl Display for Told<'_> {
             <svg viewBox=\"-36600 -36600 73200 73200\" role=\"img\" aria-label=\"The disk as 35 rings of sectors, each in \
             the colour of its file; the table lists the files\">\n\
             <svg x=\"-6900\" y=\"-1200\" width=\"13800\" height=\"2400\" viewBox=\"-6900 -1200 13800 2400\">\
-            <text y=\"400\">{}</text></svg>\n<g transform=\"rotate(-90)\">\n",
+            <text y=\"400\">{}</text></svg>\n<g transform=\"rotate(-90)\" aria-hidden=\"true\">\n",
             Html(view.id()),
             Html(view.version()),
             class_of(self.found),
