@@ -82,3 +82,10 @@ class Strangers:
                 if self.pictures:
                     page.driver.save_screenshot(str(self.pictures / f"{name}_{size}_{scheme}.png"))
         page.driver.execute_cdp_cmd("Emulation.clearDeviceMetricsOverride", {})
+
+    def quiet(self):
+        """No script failed, and nothing was asked of another place."""
+        for driver in self.drivers:
+            loud = [one["message"] for one in driver.get_log("browser") if one["level"] == "SEVERE"]
+            loud = [one for one in loud if "WebSocket connection" not in one and "favicon" not in one]
+            self.want(not loud, f"a browser says {loud[:2]}")
