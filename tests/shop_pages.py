@@ -227,8 +227,7 @@ class Trial(Strangers):
         self.rights(screen)
         controls = self.names(page.driver, "till") + self.names(screen, "stock") + self.names(other.driver, "till")
         self.quiet()
-        print(f"shop_pages: {self.checks} checks, {count} kinds of answers, {controls} controls with a name,")
-        print(f"  {COUNT} goods searched in {took:.1f} s; no difference")
+        print(f"shop_pages: {self.checks} checks, {count} kinds of answers, {controls} named controls, {COUNT} goods in {took:.1f} s")
 
 
 def main():
