@@ -28,9 +28,27 @@ class Strangers:
         client.publish("shops/1/replies/1", "", qos=1, retain=True).wait_for_publish(10)
         time.sleep(0.5)
         self.want(page.answers() == before, f"a stranger's reply is shown: {page.answers()[:2]}")
+        self.want(page.ask("L", 1) == "DONE,10", "the till doesn't go on")
+        self.retained(page, client)
         client.disconnect()
         client.loop_stop()
-        self.want(page.ask("L", 1) == "DONE,10", "the till doesn't go on")
+
+    def retained(self, page, client):
+        """A retained reply to the request that is open isn't heard, while no bridge is there and the page comes back."""
+        before, number = page.answers(), page.answers()[0][0] + 1
+        self.bridge.kill()
+        page.fill("L", 1)
+        page.send()
+        until(lambda: page.at("waits").is_displayed(), "a word that the request waits")
+        page.driver.get("about:blank")
+        client.publish("shops/1/replies/1", f"1,{number},DONE,777", qos=1, retain=True).wait_for_publish(10)
+        page.open()
+        until(lambda: page.state() == "Connected; the shop is closed.", "the page without a bridge")
+        time.sleep(1)
+        self.want(page.answers() == before, f"a retained reply is shown: {page.answers()[:1]}")
+        client.publish("shops/1/replies/1", "", qos=1, retain=True).wait_for_publish(10)
+        self.restart()
+        until(lambda: page.answers()[:1] == [(number, "DONE,10")], "the bridge's own answer")
 
     def rights(self, screen):
         """What a till's and a screen's account may not do: nothing on the screen changes, and nothing is heard."""
@@ -82,3 +100,10 @@ class Strangers:
                 if self.pictures:
                     page.driver.save_screenshot(str(self.pictures / f"{name}_{size}_{scheme}.png"))
         page.driver.execute_cdp_cmd("Emulation.clearDeviceMetricsOverride", {})
+
+    def quiet(self):
+        """No script failed, and nothing was asked of another place."""
+        for driver in self.drivers:
+            loud = [one["message"] for one in driver.get_log("browser") if one["level"] == "SEVERE"]
+            loud = [one for one in loud if "WebSocket connection" not in one and "favicon" not in one]
+            self.want(not loud, f"a browser says {loud[:2]}")

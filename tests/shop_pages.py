@@ -212,13 +212,6 @@ class Trial(Strangers):
         self.picture(TillPage(driver, self.pages, 0), "stock")
         return driver
 
-    def quiet(self):
-        """No script failed, and nothing was asked of another place."""
-        for driver in self.drivers:
-            loud = [one["message"] for one in driver.get_log("browser") if one["level"] == "SEVERE"]
-            loud = [one for one in loud if "WebSocket connection" not in one and "favicon" not in one]
-            self.want(not loud, f"a browser says {loud[:2]}")
-
     def run(self):
         page = self.page("first", 1)
         count = self.kinds(page)
@@ -234,8 +227,7 @@ class Trial(Strangers):
         self.rights(screen)
         controls = self.names(page.driver, "till") + self.names(screen, "stock") + self.names(other.driver, "till")
         self.quiet()
-        print(f"shop_pages: {self.checks} checks, {count} kinds of answers, {controls} controls with a name,")
-        print(f"  {COUNT} goods searched in {took:.1f} s; no difference")
+        print(f"shop_pages: {self.checks} checks, {count} kinds of answers, {controls} named controls, {COUNT} goods in {took:.1f} s")
 
 
 def main():
