@@ -2,3 +2,4 @@ mod Marks
 mod Steps
 mod Brought
 mod Landed
+mod Made

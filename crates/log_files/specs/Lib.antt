@@ -1,4 +1,5 @@
 pub mod Bringing
 pub mod Faults
 pub mod Folders
+pub mod Serving
 pub mod Shops

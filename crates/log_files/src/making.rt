@@ -1,0 +1,33 @@
+//! A new log beside its image.
+ghost use Rattle.std.specs.Prelude.{◌≡◌, IfOk, Some, length};
+ghost use Rattle.log_files.specs.Bringing.{IsBrought};
+ghost use Rattle.log_files.specs.Folders.{AllLeft, Folder, LeavesFolders};
+ghost use Rattle.log_files.specs.Serving.{Serves};
+ghost use Rattle.log_files.specs.Shops.{Gives};
+
+use crate::log_folder::LogFolder;
+use shop_log::{Log, LogFile};
+use std::alloc::Global;
+use std::io;
+
+/// Makes a log whose base is the image, under the name of one in the making; brings its bytes and that name to the disk,
+/// and then gives it the log's name, in place of a log that may have it and gives the same image.
+pub(crate) fn make_new<F: LogFile, D: LogFolder<F>>(
+    alloc: Global,
+    folder: &mut D,
+    shop: &[[u8; 256]],
+) -> io::Result<Log<F>>
+    requires sized { length shop.now ≡ 683 }
+    ensures any_moment { (s : Folder) → D.history.held folder.old ≡ Some s
+        → AllLeft D.history folder.old (IsBrought shop.now)
+        → LeavesFolders D.history folder.old folder.new (IsBrought shop.now) }
+    ensures ok { IfOk result (λ log. (s : Folder) → D.history.held folder.old ≡ Some s → s.image ≡ shop.now
+        → AllLeft D.history folder.old (IsBrought shop.now) → Serves D.history folder.new log shop.now) }
+{
+    let file = folder.make_log()?;
+    let log = Log::begin(alloc, file, shop)?;
+    folder.sync_folder()?;
+    folder.name_log(log.file())?;
+    folder.sync_folder()?;
+    Ok(log)
+}
