@@ -9,4 +9,8 @@ mod log_rows;
 #[cfg(test)]
 mod logs;
 #[cfg(test)]
+mod served_rows;
+#[cfg(test)]
+mod talks;
+#[cfg(test)]
 mod touched_rows;
