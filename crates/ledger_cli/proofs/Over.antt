@@ -1,19 +1,30 @@
 -- A run over the file that was handed in.
-use Rattle.std.proofs.Common.{List, MutBor, Option, Some, ap, refl, subst, sym, ◌≡◌, ◌∙◌, ℕ}
+use Rattle.std.proofs.Common.{Err, List, MutBor, Option, Some, ap, inl, inr, subst, sym, ◌≡◌, ◌∙◌, ℕ}
 use Rattle.d64_image.specs.Keeps.{Keeps}
+use Rattle.d64_image.specs.declared.kept_disk.KeptDisk.{KeptDisk}
+use Rattle.d64_image.specs.declared.mirror.Mirror.{Mirror}
 use Rattle.host_session.specs.declared.events.printing.Printer.{Printer}
-use Rattle.ledger_cli.specs.Runs.{IsOverSectors, IsServiceEnd}
-use Rattle.ledger_cli.specs.declared.stream.Stream.{Stream}
+use Rattle.ledger_cli.specs.Runs.{IsOverFile, IsServiceEnd}
+use Rattle.ledger_cli.specs.Streams.{IsBegun, WhyUnbegun, stream_file}
+use Rattle.ledger_commands.specs.declared.faults.RunFault.{RunFault}
 use Rattle.ledger_program.specs.Ends.{Ended, JobEnd}
 use Rattle.ledger_program.specs.Serves.{IsServeRun}
+use Rattle.ledger_program.specs.declared.refusals.Refusal.TheVariants as refusals
 use Rattle.serving.specs.Answering.{Answering}
 use Rattle.serving.specs.Giving.{Input}
 
--- it was over the sectors of that file
-pub over : {F W : Type 0} (o : Option F) (f : F) (old new : W) (end : JobEnd) (P : Stream F → Stream F → Type 0)
-    (before after : Stream F) → o ≡ Some f → before.file ≡ f → P before after → IsOverSectors o old new end P
-over o f old new end P before after is same holds =
-    subst (λ x. IsOverSectors x old new end P) (sym is) (before, after, same, holds)
+module _ {F W : Type 0} (image : List ℕ) (file after : Option F) (old new : W) (end : JobEnd)
+    (P : KeptDisk (Mirror F) → KeptDisk (Mirror F) → Type 0) where
+  -- it was over the sectors of that file
+  pub over : (before left : KeptDisk (Mirror F)) → IsBegun image before × (file ≡ Some (stream_file before))
+      → after ≡ Some (stream_file left) → P before left → IsOverFile image file after old new end P
+  over before left begun is run =
+      inr (record { before = before; left = left; begun = begun.0; is_file = begun.1; is_left = is; run = run })
+
+  -- it wasn't begun
+  pub unbegun : (fault : RunFault) → end ≡ Err (refusals.Run fault) → (after ≡ file) × WhyUnbegun image file fault
+      → new ≡ old → IsOverFile image file after old new end P
+  unbegun fault is why silent = inl (record { fault = fault; is = is; why = why.1; same = why.0; silent = silent })
 
 -- a service whose replies go to a writer that is lent, as its lender sees it
 pub service_end : {F R W : Type 0} (K : Keeps F) (i : Input R) (a : Answering (Printer (MutBor W))) (image : List ℕ)

@@ -1,7 +1,38 @@
--- A file that is written and sought, as a file of sectors. Our own.
-use Rattle.std.proofs.Common.{zero-le}
-use Rattle.d64_image.specs.Keeps.{Keeps, unknown}
+-- The file of a job that changes an image: a disk in memory, and the file that is handed each of its sectors. Our own.
+use Rattle.std.specs.Prelude.{◌≡◌, ◌⊎◌, ℕ, List, Option, None, Some, length}
+use Rattle.d64_image.specs.Keeps.{Keeps}
+use Rattle.d64_image.specs.KeptDisks.{keeps_device, kept_disk}
+use Rattle.d64_image.specs.Memory.{disk_image, sectors_in}
+use Rattle.d64_image.specs.Mirrors.{IsMirrored, is_broken, mirror, mirror_at, mirror_disk, mirror_file}
+use Rattle.d64_image.specs.declared.kept_disk.KeptDisk.{KeptDisk}
+use Rattle.d64_image.specs.declared.mirror.Mirror.{Mirror}
+use Rattle.host_session.specs.shop.Shop.{IsShop, Shop}
+use Rattle.ledger_commands.specs.Images.{IsLoadFault}
+use Rattle.ledger_commands.specs.declared.faults.RunFault.{RunFault}
+use Rattle.ledger_commands.specs.declared.faults.RunFault.TheVariants as run
 
--- nothing is known of what it keeps, and its count of failures is spent from the start
-abbrev pub stream : {F : Type 0} → Keeps F
-stream = unknown (λ _. 0) (λ _. 0) 0 (λ _. zero-le) (λ _ _. Unit {0}) (λ _. tt) (λ _ _ _ _ _. tt)
+-- what it keeps: what its memory holds, of which the file was handed each sector first
+abbrev pub stream : {F : Type 0} → (F → Option ℕ) → (F → Option (List ℕ)) → (F → Option (List ℕ)) → Keeps (KeptDisk (Mirror F))
+stream position bytes contents = keeps_device (mirror position bytes contents)
+
+-- the file
+abbrev pub stream_file : {F : Type 0} → KeptDisk (Mirror F) → F
+stream_file s = mirror_file (kept_disk s)
+
+-- It holds the image, and its file isn't touched yet.
+pub record IsBegun {F : Type 0} (image : List ℕ) (s : KeptDisk (Mirror F)) : Type 0 where
+  pub size : length image ≡ 174848
+  pub holds : disk_image (mirror_disk (kept_disk s)) ≡ sectors_in image
+  pub at : mirror_at (kept_disk s) ≡ None
+  pub whole : is_broken (kept_disk s) → ⊥
+
+-- why no file is taken up: there is none, or the image has another size, or there was no memory for it
+abbrev pub WhyUnbegun : {F : Type 0} → (image : List ℕ) → Option F → RunFault → Type 0
+WhyUnbegun image file fault = ((file ≡ None) × (fault ≡ run.File)) ⊎ IsLoadFault image fault
+
+-- If the image is a shop's, the file was handed sectors, each at 256 times its index and before memory took it, and nothing
+-- else.
+abbrev pub HandsSectors : {F : Type 0} → (F → Option ℕ) → (F → Option (List ℕ)) → (F → Option (List ℕ)) → List ℕ
+    → KeptDisk (Mirror F) → KeptDisk (Mirror F) → Type 0
+HandsSectors position bytes contents image old new =
+    (s : Shop) → IsShop (sectors_in image) s → IsMirrored position bytes contents (kept_disk old) (kept_disk new)

@@ -4,6 +4,7 @@ ghost use Rattle.d64_image.specs.Keeps.{Agrees};
 ghost use Rattle.d64_image.specs.Memory.{sectors_in};
 ghost use Rattle.host_session.specs.events.Telling.{TellsNone};
 ghost use Rattle.host_session.specs.runs.Outputs.{written};
+ghost use Rattle.host_session.specs.shop.Shop.{IsShop, Shop};
 ghost use Rattle.ledger_commands.specs.Faults.{script_fault};
 ghost use Rattle.ledger_commands.specs.Plays.{IsFileFault, IsPlayEnd, IsPlayedFile};
 ghost use Rattle.ledger_program.specs.Runs.{IsPlayRun};
@@ -86,6 +87,7 @@ pub(crate) fn play_written<F: SectorFile, W: Write>(
     // where it is known what the file keeps, it is this image
     requires agrees { Agrees (F.keeps.kept file) (sectors_in image.now) }
     ensures run { IsPlayRun F.keeps (written W.contents) image.now script.now file result.0 out.old out.new result.1 }
+    ensures reached { (s : Shop) → IsShop (sectors_in image.now) s → F.keeps.reached file result.0 }
 {
     match play_over(alloc, image, script, file, out) {
         Ok(file) => (file, Ok(None)),

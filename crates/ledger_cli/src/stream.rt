@@ -1,53 +1,38 @@
-//! Any file that is written and sought, as a file of sectors: what it keeps isn't known.
-ghost use Rattle.std.specs.Prelude.{◌≡◌};
+//! The file of a job, as a file that keeps the sectors of a disk.
+ghost use Rattle.std.specs.Prelude.{◌≡◌, IfErr, IfOk, Some};
+ghost use Rattle.ledger_cli.specs.Streams.{IsBegun, WhyUnbegun, stream_file};
 
-use d64_image::{Place, SectorFile};
-use std::io::{self, Seek, SeekFrom, Write};
-use system_files::EndedFile;
+use d64_image::{KeptDisk, Mirror};
+use ledger_commands::{RunFault, load};
+use std::alloc::Global;
+use std::io::{Seek, Write};
 
-/// A file to which each sector is written at 256 times its index.
-#[derive(Drop)]
-pub(crate) struct Stream<F> {
-    file: F,
-}
+/// A disk in memory and its file: each sector is handed to the file, at 256 times its index, before memory takes it.
+pub(crate) type Stream<F> = KeptDisk<Mirror<F>>;
 
-impl<F> Stream<F> {
-    /// Sectors go to this file.
-    pub(crate) fn new(file: F) -> Stream<F>
-        ensures { result.file ≡ file }
-    {
-        Stream { file }
+/// The file that holds this image, taken up; it isn't touched. `File` if there is none; `ImageSize`, `NoMemory`. The file
+/// is handed back then.
+pub(crate) fn begin<F: Write + Seek>(
+    alloc: Global,
+    image: &[u8],
+    file: Option<F>,
+) -> Result<Stream<F>, (RunFault, Option<F>)>
+    ensures ok { IfOk result (λ stream. IsBegun image.now stream × (file ≡ Some (stream_file stream))) }
+    ensures err { IfErr result (λ e. (e.1 ≡ file) × WhyUnbegun image.now file e.0) }
+{
+    let Some(file) = file else {
+        return Err((RunFault::File, None));
+    };
+    match load(alloc, image) {
+        Ok(disk) => Ok(KeptDisk::new(Mirror::new(file, disk))),
+        Err(fault) => Err((fault, Some(file))),
     }
 }
 
-/// Nothing is said of what the file keeps of a disk, nor of how often it fails: it agrees with each image.
-impl<F: Write + Seek> SectorFile for Stream<F> {
-    ghost use Rattle.d64_image.specs.Keeps.{KeepsSector};
-    ghost use Rattle.ledger_cli.specs.Streams.{stream};
-
-    ghost keeps = { stream };
-
-    fn keep(&mut self, place: Place, from: &[u8; 256]) -> io::Result<()>
-        ensures { KeepsSector stream self.old self.new place from.now result }
-    {
-        self.file.seek(SeekFrom::Start(256 * place.index() as u64))?;
-        self.file.write_all(from)?;
-        self.file.flush()
-    }
-}
-
-/// Nothing is said of what remains of the file either. It can't be cut: what it held behind an image stays.
-impl<F: Write + Seek> EndedFile for Stream<F> {
-    fn put_over(&mut self, bytes: &[u8], at: u64) -> io::Result<()> {
-        self.file.seek(SeekFrom::Start(at))?;
-        self.file.write_all(bytes)
-    }
-
-    fn end_at(&mut self, _bytes: u64) -> io::Result<()> {
-        Ok(())
-    }
-
-    fn sync_whole(&mut self) -> io::Result<()> {
-        self.file.flush()
-    }
+/// The file, handed back.
+pub(crate) fn file_of<F: Write + Seek + Drop>(stream: Stream<F>) -> Option<F>
+    ensures { result ≡ Some (stream_file stream) }
+{
+    let (file, _) = stream.into_inner().into_inner();
+    Some(file)
 }

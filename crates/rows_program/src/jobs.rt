@@ -1,7 +1,9 @@
 //! The job that words ask for, told in a line.
 use crate::memory::Errors;
+use crate::runs::texts_of;
+use ledger_cli::{Job, job};
 use ledger_commands::Durability;
-use ledger_program::{Drawing, Effect, Job, Loss, Name, Taking, Unowned};
+use ledger_program::{Drawing, Effect, Loss, Name, Taking, Unowned};
 use ledger_words::command_line;
 use std::alloc::Global;
 use std::cell::RefCell;
@@ -104,13 +106,9 @@ fn chosen_by(job: &Job<'_>) -> [&'static str; 3] {
 /// Writes what the words ask for, or the number of the fault and the status that they end with. The words are as those
 /// of a runtime. Whether it was written.
 pub(crate) fn asked(alloc: Global, words: &[u8], out: &RefCell<Vec<u8>>) -> bool {
-    let mut texts = Vec::new(alloc);
-    for word in std::str::from_utf8(words).unwrap_or_default().split('\0') {
-        let _ = texts.push(word);
-    }
+    let texts = texts_of(alloc, words);
     let mut out = Errors(out);
-    let line = command_line(alloc, texts.as_slice());
-    let told = match &line.job {
+    let told = match &job(alloc, texts.as_slice()) {
         Ok(job) => {
             let (name, image, other, number) = row_of(job);
             let [first, second, third] = chosen_by(job);
@@ -121,7 +119,7 @@ pub(crate) fn asked(alloc: Global, words: &[u8], out: &RefCell<Vec<u8>>) -> bool
         }
         Err(fault) => write!(out, "fault {}, status {}", fault.number(), fault.status()),
     };
-    if line.is_explained {
+    if command_line(alloc, texts.as_slice()).is_explained {
         let _ = write!(out, ", explained");
     }
     told.is_ok()

@@ -34,6 +34,10 @@ mod output_rows;
 #[cfg(test)]
 mod refusal_rows;
 #[cfg(test)]
+mod run_rows;
+#[cfg(test)]
+mod runs;
+#[cfg(test)]
 mod scenes;
 #[cfg(test)]
 mod size_rows;

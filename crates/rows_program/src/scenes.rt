@@ -20,7 +20,8 @@
 //! - `gone`, `cut`: from this look at its name on the image is elsewhere, or has half of its bytes
 //!
 //! The run, by a command line as a shell splits it: `$` with standard error that no person reads, `person` with one who
-//! does, `waiting` with one who doesn't see the output. `job` only prints which job the command line asks for.
+//! does, `waiting` with one who doesn't see the output. `job` only prints which job the command line asks for, by
+//! `ledger_cli::job`. `run` does that job by `ledger_cli::run`, over the bytes of `a.d64` and `s.txt` or standard input.
 //!
 //! What it leaves; of what isn't named nothing is printed or told, the status is 0, nothing is written, and standard
 //! input isn't opened by its name. In every row no other file is made, changed, renamed or removed:
@@ -34,6 +35,7 @@
 //! - `unlocked`: the image was read without a lock, as a script
 use crate::jobs::asked;
 use crate::memory::{Errors, Memory, Runtime};
+use crate::runs::ran;
 use crate::stored::{Kind, Others, Stored};
 use crate::texts::{cut, number_of, text_in, text_of, took, words_of};
 use ledger_words::{Told, program};
@@ -262,6 +264,15 @@ fn asks(scene: &Scene, line: &[u8]) -> bool {
     begins && asked(alloc, words.as_slice(), &scene.memory.out)
 }
 
+/// Runs the job that a command line asks for over the bytes of its files. Whether it could be, and nothing was left of the
+/// run before.
+fn runs_job(scene: &Scene, line: &[u8]) -> bool {
+    let words = words_of(scene.memory.alloc, line);
+    let begins = is_told(scene) && noted(scene);
+    scene.told.set(false);
+    begins && ran(&scene.memory, words.as_slice())
+}
+
 /// Begins a row. Whether nothing was left of the row before.
 fn begins(scene: &Scene) -> bool {
     let memory = &scene.memory;
@@ -280,6 +291,7 @@ fn holds(scene: &Scene, line: &[u8]) -> bool {
         b"person" => return runs(scene, Told::Person, rest),
         b"waiting" => return runs(scene, Told::Waiting, rest),
         b"job" => return asks(scene, rest),
+        b"run" => return runs_job(scene, rest),
         _ => {}
     }
     let text = text_of(scene.memory.alloc, rest);

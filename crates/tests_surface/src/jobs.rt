@@ -1,8 +1,8 @@
 //! The program's jobs, run over the bytes of their files.
 ghost use Rattle.ledger_program.specs.Jobs.{IsFit};
 
-use crate::comparing::{same, same_at};
-use ledger_cli::{DryFault, Job, JobFault, dry, job, run};
+use crate::comparing::{byte_at, same, same_at};
+use ledger_cli::{DryFault, Job, JobFault, dry, job, run, run_over};
 use std::io::Cursor;
 use std::process::Abort;
 
@@ -75,6 +75,49 @@ fn formatted(rt: &(impl Abort + AllocGlobal)) -> Cursor<Vec<u8>> {
         (0, "FORMATTED\n", ""),
     );
     file
+}
+
+/// The status of a job over a file, and the file, which is handed back.
+fn handed_back(
+    rt: &(impl Abort + AllocGlobal),
+    job: &Job<'_>,
+    file: Cursor<Vec<u8>>,
+) -> (u8, Cursor<Vec<u8>>)
+    requires { IsFit job.now }
+{
+    let mut out: Vec<u8> = Vec::new(rt.alloc());
+    let mut err: Vec<u8> = Vec::new(rt.alloc());
+    let (status, file): (u8, Option<Cursor<Vec<u8>>>) = run_over(
+        rt.alloc(),
+        job,
+        b"",
+        b"",
+        Some(file),
+        &mut out,
+        &mut err,
+    );
+    (status, file.expect(rt, "the file"))
+}
+
+// An image has 174,848 bytes. Of a file with two more the image takes all but the last two.
+#[test]
+fn files_are_handed_back(rt: HostRuntime) {
+    let image = formatted(&rt).into_inner();
+    let long = vec![in rt.alloc(); 7; 174_850].expect(&rt, "there is memory");
+    let job = Job::Format {
+        image: "a.d64",
+        tills: 2,
+    };
+    let (status, file) = handed_back(&rt, &job, Cursor::new(long));
+    let bytes = file.into_inner();
+    same(
+        &rt,
+        (status, bytes.len(), image.len()),
+        (0, 174_850, 174_848),
+    );
+    same(&rt, bytes.as_slice().starts_with(image.as_slice()), true);
+    same(&rt, byte_at(bytes.as_slice(), 174_848), 7);
+    same(&rt, byte_at(bytes.as_slice(), 174_849), 7);
 }
 
 const LISTED: &str =

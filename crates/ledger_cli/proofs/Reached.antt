@@ -1,0 +1,56 @@
+-- The file of a play comes of the one that was handed in by the sectors that it was to keep.
+use Rattle.std.proofs.Common.{◌≡◌, ℕ, List, Option, None, Some, Result, Ok, Err, ap, arith, refl, subst, sym, ⊎_elim}
+use Rattle.std.proofs.Math.Path.{subst₂}
+use Rattle.d64_image.specs.History.{History}
+use Rattle.d64_image.specs.Keeps.{Keeps}
+use Rattle.d64_image.specs.Memory.{sectors_in}
+use Rattle.host_session.specs.events.Telling.{Output}
+use Rattle.host_session.specs.shop.Shop.{IsShop, Shop}
+use Rattle.ledger_commands.specs.Plays.{IsFileFault, IsPlayEnd, IsPlayedOver, IsUntouched}
+use Rattle.ledger_commands.specs.declared.faults.RunFault.{RunFault}
+use Rattle.ledger_commands.specs.declared.faults.RunFault.TheVariants as run
+use Rattle.ledger_program.specs.Ends.{Ended}
+use Rattle.ledger_program.specs.Runs.{IsPlayRun}
+use Rattle.disk_layout.specs.declared.faults.Fault.{Fault}
+
+-- a run of a script on a shop, once what it told is handed on
+module _ {D T : Type 0} (h : History D) (o : Output T) (disk : D) (script : List ℕ) (old new : T) (left : D) (s : Shop)
+    (is : IsShop (h.image disk) s) where
+  at_ok : IsPlayEnd h o disk script old new (Ok left) → h.reached disk left
+  at_ok x = (x.0.moments s is).reached
+
+  at_err : (fault : RunFault) → IsPlayEnd h o disk script old new (Err (fault, left)) → h.reached disk left
+  at_err fault x = ⊎_elim (λ y. (y.1.moments s is).reached) (λ y. (y.2.moments s is).reached) x
+
+module _ {F T : Type 0} (K : Keeps F) (o : Output T) (image script : List ℕ) (file after : F) (old new : T) (s : Shop)
+    (is : IsShop (sectors_in image) s) where
+  over_ok : IsPlayedOver K o image script file after old new (λ left. Ok left) → K.reached file after
+  over_ok u = subst₂ (λ (a b : F). K.reached a b) u.is_file u.is_after
+      (at_ok _ o u.disk script old new u.left s (subst (λ img. IsShop img s) (sym u.holds) is) u.ends).0
+
+  over_err : (fault : RunFault) → IsPlayedOver K o image script file after old new (λ left. Err (fault, left))
+      → K.reached file after
+  over_err fault u = subst₂ (λ (a b : F). K.reached a b) u.is_file u.is_after
+      (at_err _ o u.disk script old new u.left s (subst (λ img. IsShop img s) (sym u.holds) is) fault u.ends).0
+
+  untouched : IsUntouched file after old new → K.reached file after
+  untouched u = subst (λ (f : F). K.reached file f) (sym u.0) (K.reached_same file)
+
+  fault_reached : (fault : RunFault) → IsFileFault K o image script file after old new fault → K.reached file after
+  fault_reached run.ImageSize x = untouched x.1
+  fault_reached run.NoMemory x = untouched x.1
+  fault_reached (run.BadLine line) x = untouched x.2
+  fault_reached run.File x = over_err run.File x.1
+  fault_reached run.Device x = ⊎_elim over_ok (λ y. over_err y.0 y.1) x.1
+  fault_reached (run.Layout f) x = untouched x.2
+  fault_reached run.NoStock x = untouched x.2
+  fault_reached run.NoRequests x = untouched x.2
+  fault_reached (run.BadCard r) x = untouched x.2
+  fault_reached (run.BadRequestCard t) x = untouched x.2
+  fault_reached run.TwoIntents x = untouched x.2
+
+  -- however the play ended
+  pub played_reached : (ended : Ended) → IsPlayRun K o image script file after old new ended → K.reached file after
+  played_reached (Ok None) x = over_ok (x.done refl).1
+  played_reached (Ok (Some f)) x = absurd (omega (arith, x.quiet refl))
+  played_reached (Err fault) x = fault_reached fault x.fault

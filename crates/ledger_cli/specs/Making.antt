@@ -1,0 +1,80 @@
+-- What making the image of an empty shop leaves of a file that is written and sought. Our own.
+use Rattle.std.specs.Prelude.{◌≡◌, ◌⊎◌, ℕ, List, [], ◌∷◌, ◌++◌, Option, None, Some, Result, Ok, Err, codes, drop, replicate, take}
+use Rattle.std.specs.Io.KnownBytes.{Appends, Keeps}
+use Rattle.std.specs.Io.Seek.{StaysAt}
+use Rattle.d64_image.specs.Mirrors.{IsHanded, IsSought}
+use Rattle.host_session.specs.runs.Outputs.{AppendsPart}
+use Rattle.ledger_commands.specs.Images.{AreFreshBytes}
+use Rattle.ledger_commands.specs.declared.faults.RunFault.{RunFault}
+use Rattle.ledger_commands.specs.declared.faults.RunFault.TheVariants as run
+use Rattle.system_files.specs.Remains.{put_in}
+
+-- Bytes, and where they go in a file.
+pub record Piece : Type 0 where
+  pub at : ℕ
+  pub bytes : List ℕ
+
+-- the writes of an image: 18/1, where a directory begins, is spoiled first and written last
+abbrev pub image_writes : List ℕ → List Piece
+image_writes image =
+    record { at = 91648; bytes = replicate 256 255 }
+    ∷ record { at = 0; bytes = take 91648 image }
+    ∷ record { at = 91904; bytes = drop 91904 image }
+    ∷ record { at = 91648; bytes = take 256 (drop 91648 image) }
+    ∷ []
+
+module _ {F : Type 0} (position : F → Option ℕ) (bytes contents : F → Option (List ℕ)) where
+  -- a file was sought to n and handed a beginning of these bytes, or all; or the seek failed, and it stayed
+  abbrev pub IsHandedPart : F → F → ℕ → List ℕ → Type 0
+  IsHandedPart old new n handed =
+      (StaysAt (position old) (position new) × Keeps (bytes old) (bytes new))
+      ⊎ ((ready : F) × IsSought position bytes old ready n × AppendsPart (contents ready) (contents new) handed)
+
+  -- a file was handed these pieces one after another, each at its place, and nothing else
+  abbrev pub AreWritten : F → F → List Piece → Type 0
+  AreWritten old new [] = new ≡ old
+  AreWritten old new (p ∷ ps) =
+      (next : F) × IsHanded position bytes contents None old next p.at p.bytes × AreWritten next new ps
+
+  -- a file was handed a beginning of these pieces, the last of them perhaps in part, and nothing else
+  abbrev pub AreWrittenInPart : F → F → List Piece → Type 0
+  AreWrittenInPart old new [] = ⊥
+  AreWrittenInPart old new (p ∷ ps) =
+      IsHandedPart old new p.at p.bytes
+      ⊎ ((next : F) × IsHanded position bytes contents None old next p.at p.bytes × AreWrittenInPart next new ps)
+
+  -- what writing these pieces came to
+  abbrev pub IsWriting : F → F → List Piece → Result Unit RunFault → Type 0
+  IsWriting old new ps (Ok _) = AreWritten old new ps
+  IsWriting old new ps (Err fault) = (fault ≡ run.File) × AreWrittenInPart old new ps
+
+  -- This is what a file holds: bytes that it is handed at n stand there, in the place of those from n on.
+  abbrev pub SaysWhatItHolds : (F → Option (List ℕ)) → Type 0
+  SaysWhatItHolds held = (old new : F) (n : ℕ) (handed all : List ℕ)
+      → IsHanded position bytes contents None old new n handed → held old ≡ Some all → held new ≡ Some (put_in all n handed)
+
+  -- The image of an empty shop with so many tills was written over a file. If it is known what the file held, it holds the
+  -- image now, and behind it what it held behind as many bytes: a file isn't ended by what is written.
+  pub record IsImageWritten (tills : ℕ) (old new : F) : Type 0 where
+    pub image : List ℕ
+    pub fresh : AreFreshBytes tills image
+    pub written : AreWritten old new (image_writes image)
+    pub holds : (held : F → Option (List ℕ)) → SaysWhatItHolds held → (all : List ℕ) → held old ≡ Some all
+        → held new ≡ Some (image ++ drop 174848 all)
+
+  -- a beginning of its writes was done
+  pub record IsImageBegun (tills : ℕ) (old new : F) : Type 0 where
+    pub image : List ℕ
+    pub fresh : AreFreshBytes tills image
+    pub written : AreWrittenInPart old new (image_writes image)
+
+  -- what making such an image and saying so came to: all of it was written, and that was said; the file failed, and
+  -- nothing was said, or the output did; or there was no memory, and nothing was done
+  abbrev pub IsImageMade : {W : Type 0} → (W → Option (List ℕ)) → ℕ → F → F → W → W → Result Unit RunFault → Type 0
+  IsImageMade told tills file after old new (Ok _) =
+      IsImageWritten tills file after × Appends (told old) (told new) (codes "FORMATTED\n")
+  IsImageMade told tills file after old new (Err run.File) =
+      (IsImageBegun tills file after × (new ≡ old))
+      ⊎ (IsImageWritten tills file after × AppendsPart (told old) (told new) (codes "FORMATTED\n"))
+  IsImageMade told tills file after old new (Err run.NoMemory) = (after ≡ file) × (new ≡ old)
+  IsImageMade told tills file after old new (Err _) = ⊥

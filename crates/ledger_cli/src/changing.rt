@@ -1,0 +1,201 @@
+//! Jobs that write their image, run over its file.
+ghost use Rattle.std.specs.Prelude.{◌≡◌, ◌≤◌};
+ghost use Rattle.keeper_commands.specs.Makes.{IsNewName};
+ghost use Rattle.ledger_cli.specs.Runs.{IsFormatted, IsMade, IsPlayed, IsRepairJob, IsRepaired, IsServed, IsStored};
+ghost use Rattle.ledger_cli.specs.Runs.{frees as frees_of};
+ghost use Rattle.ledger_program.specs.Ends.{as_job, end_of};
+ghost use Rattle.ledger_program.specs.Names.{name_bytes};
+ghost use Rattle.rel_records.specs.File.{IsLength};
+
+use crate::making::make_image;
+use crate::playing::play_written;
+use crate::stream::{begin, file_of};
+use disk_layout::Fault;
+use host_session::Printer;
+use ledger_commands::RunFault;
+use ledger_program::{
+    Effect, Loss, Name, Refusal, Unowned, dry_repair_guarded, job_end, loss_refusal, make_guarded,
+    repair_guarded, serve_run, store_guarded,
+};
+use std::alloc::Global;
+use std::io::{Seek, Write};
+
+/// How a job ended.
+pub(crate) type Ended = Result<Option<Fault>, Refusal>;
+
+/// The end of a job that prints no fault.
+fn end_so(ended: Result<(), RunFault>) -> Ended
+    ensures { result ≡ as_job (end_of ended) }
+{
+    match ended {
+        Ok(()) => Ok(None),
+        Err(fault) => Err(Refusal::Run(fault)),
+    }
+}
+
+/// Makes the file the image of an empty shop.
+pub(crate) fn format<F: Write + Seek + Drop, W: Write>(
+    alloc: Global,
+    tills: u8,
+    file: Option<F>,
+    out: &mut W,
+) -> (Option<F>, Ended)
+    requires some { 1 ≤ tills }
+    requires few { tills ≤ 64 }
+    ensures { IsFormatted F.stream_position F.stream_bytes F.contents W.contents tills file result.0
+        out.old out.new result.1 }
+{
+    let Some(mut file) = file else {
+        return (None, Err(Refusal::Run(RunFault::File)));
+    };
+    let ended = make_image(alloc, tills, &mut file, out);
+    (Some(file), end_so(ended))
+}
+
+/// Plays a script on the image, over its file.
+pub(crate) fn play<F: Write + Seek + Drop, W: Write>(
+    alloc: Global,
+    image: &[u8],
+    script: &[u8],
+    file: Option<F>,
+    out: &mut W,
+) -> (Option<F>, Ended)
+    ensures { IsPlayed F.stream_position F.stream_bytes F.contents W.contents image.now script.now file result.0
+        out.old out.new result.1 }
+{
+    match begin(alloc, image, file) {
+        Ok(stream) => {
+            let (stream, ended) = play_written(alloc, image, script, stream, out);
+            (file_of(stream), job_end(ended))
+        }
+        Err((fault, file)) => (file, Err(Refusal::Run(fault))),
+    }
+}
+
+/// Serves the shop of the image, over its file, to the lines of an input, unless a file of it is cut short and no loss is
+/// accepted.
+pub(crate) fn serve<F: Write + Seek + Drop, W: Write>(
+    alloc: Global,
+    image: &[u8],
+    input: &[u8],
+    loss: Loss,
+    file: Option<F>,
+    out: &mut W,
+) -> (Option<F>, Ended)
+    ensures { IsServed F.stream_position F.stream_bytes F.contents image.now loss file result.0 out.old out.new result.1 }
+{
+    let stream = match begin(alloc, image, file) {
+        Ok(stream) => stream,
+        Err((fault, file)) => return (file, Err(Refusal::Run(fault))),
+    };
+    match loss_refusal(alloc, image, loss) {
+        Some(refusal) => (file_of(stream), Err(refusal)),
+        None => {
+            let mut lines = input;
+            let mut printer = Printer::new(out);
+            let (stream, ended) = serve_run(alloc, image, stream, &mut lines, &mut printer);
+            (file_of(stream), job_end(ended))
+        }
+    }
+}
+
+/// Repairs the disk of the image, over its file.
+fn mend<F: Write + Seek + Drop, W: Write>(
+    alloc: Global,
+    image: &[u8],
+    free: bool,
+    loss: Loss,
+    file: Option<F>,
+    out: &mut W,
+) -> (Option<F>, Ended)
+    ensures { IsRepaired F.stream_position F.stream_bytes F.contents W.contents image.now free loss file result.0
+        out.old out.new result.1 }
+{
+    match begin(alloc, image, file) {
+        Ok(stream) => {
+            let (stream, ended) = repair_guarded(alloc, image, free, stream, loss, out);
+            (file_of(stream), ended)
+        }
+        Err((fault, file)) => (file, Err(Refusal::Run(fault))),
+    }
+}
+
+/// Whether a repair frees what nobody owns.
+fn frees(unowned: Unowned) -> bool
+    ensures { result ≡ frees_of unowned }
+{
+    match unowned {
+        Unowned::Freed => true,
+        Unowned::Kept => false,
+    }
+}
+
+/// Repairs the disk of the image over its file, or a copy of it in memory alone.
+pub(crate) fn repair<F: Write + Seek + Drop, W: Write>(
+    alloc: Global,
+    image: &[u8],
+    unowned: Unowned,
+    effect: Effect,
+    loss: Loss,
+    file: Option<F>,
+    out: &mut W,
+) -> (Option<F>, Ended)
+    ensures { IsRepairJob F.stream_position F.stream_bytes F.contents W.contents image.now unowned effect loss
+        file result.0 out.old out.new result.1 }
+{
+    match effect {
+        Effect::Written => mend(alloc, image, frees(unowned), loss, file, out),
+        Effect::Printed => {
+            let ended = dry_repair_guarded(alloc, image, frees(unowned), loss, out);
+            (file, ended)
+        }
+    }
+}
+
+/// Makes a relative file on the disk of the image, over its file.
+pub(crate) fn make<F: Write + Seek + Drop, W: Write>(
+    alloc: Global,
+    image: &[u8],
+    name: &Name,
+    length: u8,
+    loss: Loss,
+    file: Option<F>,
+    out: &mut W,
+) -> (Option<F>, Ended)
+    requires name { IsNewName (name_bytes name.now) }
+    requires length { IsLength length }
+    ensures { IsMade F.stream_position F.stream_bytes F.contents W.contents image.now (name_bytes name.now) length loss
+        file result.0 out.old out.new result.1 }
+{
+    match begin(alloc, image, file) {
+        Ok(stream) => {
+            let name = name.as_bytes();
+            let (stream, ended) = make_guarded(alloc, image, name, length, stream, loss, out);
+            (file_of(stream), ended)
+        }
+        Err((fault, file)) => (file, Err(Refusal::Run(fault))),
+    }
+}
+
+/// Stores records in a relative file of the image, over its file.
+pub(crate) fn store<F: Write + Seek + Drop, W: Write>(
+    alloc: Global,
+    image: &[u8],
+    name: &Name,
+    records: &[u8],
+    loss: Loss,
+    file: Option<F>,
+    out: &mut W,
+) -> (Option<F>, Ended)
+    ensures { IsStored F.stream_position F.stream_bytes F.contents W.contents image.now (name_bytes name.now) records.now
+        loss file result.0 out.old out.new result.1 }
+{
+    match begin(alloc, image, file) {
+        Ok(stream) => {
+            let name = name.as_bytes();
+            let (stream, ended) = store_guarded(alloc, image, name, records, stream, loss, out);
+            (file_of(stream), ended)
+        }
+        Err((fault, file)) => (file, Err(Refusal::Run(fault))),
+    }
+}

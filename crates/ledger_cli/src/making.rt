@@ -1,0 +1,63 @@
+//! Making the image of an empty shop over any file that is written and sought.
+ghost use Rattle.std.specs.Prelude.{◌≡◌, ◌≤◌, IfErr, None, OnOk, length};
+ghost use Rattle.d64_image.specs.Mirrors.{IsHanded};
+ghost use Rattle.ledger_cli.specs.Making.{IsHandedPart, IsImageMade, IsWriting, image_writes};
+ghost use Rattle.ledger_commands.specs.declared.faults.RunFault.TheVariants as faults;
+
+use ledger_commands::{RunFault, fresh_disk, put_whole};
+use std::alloc::Global;
+use std::io::{Seek, SeekFrom, Write};
+
+/// Where 18/1 begins in an image, the first sector of the directory, and where the next sector does.
+const DIRECTORY: usize = 91_648;
+
+const BEHIND: usize = 91_904;
+
+/// A first sector of a directory that links to track 255, which no disk has.
+const SPOILED: [u8; 256] = [255; 256];
+
+/// Seeks a place in a file, and hands it these bytes. `File` if the seek fails, and the file is as before; or if a write
+/// does, and the file has a beginning of the bytes, or all.
+fn hand_over<F: Write + Seek>(file: &mut F, bytes: &[u8], at: u64) -> Result<(), RunFault>
+    ensures ok { OnOk result (IsHanded F.stream_position F.stream_bytes F.contents None file.old file.new at bytes.now) }
+    ensures err { IfErr result (λ fault. (fault ≡ faults.File)
+        × IsHandedPart F.stream_position F.stream_bytes F.contents file.old file.new at bytes.now) }
+{
+    match file.seek(SeekFrom::Start(at)) {
+        Ok(_) => put_whole(file, bytes),
+        Err(_) => Err(RunFault::File),
+    }
+}
+
+/// Writes an image over what a file holds. Its directory is spoiled first and written last, so that a file with a part of
+/// the writes isn't a sound disk's. `File` if the file failed, which has a beginning of the writes then.
+fn write_over<F: Write + Seek>(file: &mut F, image: &[u8]) -> Result<(), RunFault>
+    requires size { length image.now ≡ 174848 }
+    ensures { IsWriting F.stream_position F.stream_bytes F.contents file.old file.new (image_writes image.now) result }
+{
+    hand_over(file, &SPOILED, DIRECTORY as u64)?;
+    hand_over(file, &image[..DIRECTORY], 0)?;
+    hand_over(file, &image[BEHIND..], BEHIND as u64)?;
+    hand_over(file, &image[DIRECTORY..BEHIND], DIRECTORY as u64)
+}
+
+/// Makes the image of an empty shop with 1 to 64 tills (an odd number gives one more), writes its 174,848 bytes over what
+/// the file holds, and prints so on `out`. A longer file keeps what it held behind them: a file can't be cut by writing.
+///
+/// `NoMemory` before anything is written; `File` if the file failed, which then has a beginning of the writes and nothing
+/// is printed, or `out`, which then has a beginning of what is printed.
+pub(crate) fn make_image<F: Write + Seek, W: Write>(
+    alloc: Global,
+    tills: u8,
+    file: &mut F,
+    out: &mut W,
+) -> Result<(), RunFault>
+    requires some { 1 ≤ tills }
+    requires few { tills ≤ 64 }
+    ensures { IsImageMade F.stream_position F.stream_bytes F.contents W.contents tills file.old file.new
+        out.old out.new result }
+{
+    let disk = fresh_disk(alloc, tills)?;
+    write_over(file, disk.bytes())?;
+    put_whole(out, b"FORMATTED\n")
+}

@@ -1,0 +1,204 @@
+//! Each subcommand by `job` and `run`, as another program calls them: the status, the lines on both outputs, and what is
+//! left of the file. The values are those of the commands' own rows.
+use crate::scenes::each;
+
+/// Jobs that write a.d64. What `run` says of a file's end is seen of one that is longer than an image.
+const WRITING: &[u8] = b"
+no script
+image
+run ledger format a.d64 --tills 2
+prints FORMATTED|
+leaves the shop
+
+# A file of 175,001 bytes: the image is the shop's, and the 153 bytes behind it stay.
+no script
+image 175001*x
+run ledger format a.d64 --tills 2 --new
+prints FORMATTED|
+written
+size 175001
+resize 174848
+$ ledger_cli check a.d64
+prints OK|
+$ ledger_cli show a.d64
+prints TOP 9256|
+
+no script
+no image
+run ledger format a.d64 --tills 2
+tells FILE|
+ends 3
+
+script 1,1,S,42,120|1,2,I,42,121|
+run ledger play a.d64 s.txt
+prints 1,1,DONE,120|1,2,SHORT,120|
+written
+$ ledger_cli show a.d64
+prints TOP 9256|CARD 42,120|TILL 1,2,I,42,121,SHORT,120|PRIOR 1,1,S,42,120,DONE,120|
+
+run ledger play --sync a.d64 s.txt
+prints 1,1,DONE,5|
+written
+$ ledger_cli show a.d64
+prints TOP 9256|CARD 1,5|TILL 1,1,S,1,5,DONE,5|
+
+script 1,1,S,1,5|@x|
+run ledger play a.d64 s.txt
+tells SCRIPT LINE 2|
+ends 1
+
+hurt LOOP
+run ledger play a.d64 s.txt
+tells LAYOUT LOOP 17/0|
+ends 1
+
+no script
+input 1,1,S,42,120|1,2,R,42,1|
+run ledger serve a.d64
+prints 1,1,DONE,120|1,2,DONE,121|
+written
+$ ledger_cli show a.d64
+prints TOP 9256|CARD 42,121|TILL 1,2,R,42,1,DONE,121|PRIOR 1,1,S,42,120,DONE,120|
+
+no script
+hurt COUNT
+hurt UNOWNED
+run ledger repair a.d64
+prints MENDED 18/1|KEPT 1|
+ends 1
+written
+
+no script
+hurt COUNT
+hurt UNOWNED
+run ledger repair a.d64 --dry-run --free
+prints FREED 2/5|MENDED 18/0|MENDED 18/1|OK|
+
+no script
+hurt COUNT
+hurt UNOWNED
+run ledger repair --free a.d64
+prints FREED 2/5|MENDED 18/0|MENDED 18/1|OK|
+leaves the shop
+
+no script
+run ledger make a.d64 CARDS --length 30
+prints MADE|
+written
+$ ledger_cli check a.d64
+prints OK|
+
+no script
+run ledger make a.d64 STOCK --length 1
+tells FILE EXISTS|
+ends 1
+
+script 2,hello|
+run ledger store a.d64 REQUESTS s.txt
+prints 2,\"hello\"|
+written
+$ ledger_cli records a.d64 REQUESTS
+prints 1,\"\\ff\"|2,\"hello\"|
+
+script 1,A|x|
+run ledger store a.d64 REQUESTS s.txt
+tells RECORDS LINE 2|
+ends 1
+";
+
+#[test]
+fn jobs_that_write_are_run(rt: HostRuntime) {
+    each(&rt, WRITING);
+}
+
+/// Jobs that read.
+const READING: &[u8] = b"
+no script
+run ledger list a.d64
+prints 0 \"STOCK LEDGER\" 01 2A|2 \"STOCK\" REL|2 \"REQUESTS\" REL|660 BLOCKS FREE|
+
+no script
+run ledger check a.d64
+prints OK|
+
+no script
+hurt LOOP
+run ledger check a.d64
+prints LOOP 17/0|
+ends 1
+
+no script
+image short
+run ledger check a.d64
+tells IMAGE SIZE|
+ends 1
+
+no script
+run ledger show a.d64
+prints TOP 9256|
+
+no script
+hurt CARD 3
+run ledger show a.d64
+tells BAD CARD 3|
+ends 1
+
+no script
+run ledger records a.d64 REQUESTS
+prints 1,\"\\ff\"|2,\"\\ff\"|
+
+no script
+run ledger bytes a.d64 REQUESTS
+prints \xff..
+
+no script
+run ledger bytes a.d64 REQUEST
+tells NO FILE|
+ends 1
+
+no script
+run ledger map a.d64
+prints    0         1         2|   012345678901234567890| 1 .....................|..
+
+no script
+run ledger picture a.d64
+prints <!DOCTYPE html>..
+
+# A fresh disk with 64 tills has 8819 records.
+no image
+script 1,1,S,8819,4|1,2,S,8820,4|
+run ledger dry s.txt
+prints 1,1,DONE,4|1,2,72,DISK FULL|
+";
+
+#[test]
+fn jobs_that_read_are_run(rt: HostRuntime) {
+    each(&rt, READING);
+}
+
+/// Words that ask for no job: its fault's number and status.
+const REFUSED: &[u8] = b"
+run ledger list
+tells fault 1
+ends 2
+
+run ledger --help
+tells fault 1
+
+run ledger format a.d64 --tills 65
+tells fault 2
+ends 2
+
+run ledger records a.d64 \\C1
+tells fault 3
+ends 2
+
+run ledger make a.d64 A --length 255
+tells fault 4
+ends 2
+";
+
+#[test]
+fn refused_words_are_numbered(rt: HostRuntime) {
+    each(&rt, REFUSED);
+}

@@ -1,0 +1,75 @@
+//! Jobs asked for and run as another program does it: `job` over words, and `run` over the bytes of its files.
+use crate::memory::{Errors, Memory};
+use crate::stored::{Kind, Stored};
+use ledger_cli::{Job, job, run};
+use std::alloc::Global;
+use std::io::Write;
+
+/// The words of a command line, with a zero between each two, as texts.
+pub(crate) fn texts_of<'a>(alloc: Global, words: &'a [u8]) -> Vec<&'a str> {
+    let mut texts = Vec::new(alloc);
+    for word in std::str::from_utf8(words).unwrap_or_default().split('\0') {
+        let _ = texts.push(word);
+    }
+    texts
+}
+
+/// The bytes that stand at a place; none if there is no file.
+fn bytes_at(alloc: Global, place: &Stored) -> Vec<u8> {
+    let mut bytes = Vec::new(alloc);
+    if let Ok(held) = place.bytes.try_borrow() {
+        let _ = bytes.extend_from_slice(held.get_ref().as_slice());
+    }
+    bytes
+}
+
+/// The bytes that a job reads of IMAGE, and of SCRIPT, RECORDS or standard input.
+fn inputs_of(memory: &Memory, job: &Job<'_>) -> (Vec<u8>, Vec<u8>) {
+    let none = Vec::new(memory.alloc);
+    let image = match job {
+        Job::Format { .. } | Job::FormatNew { .. } | Job::Dry { .. } => none,
+        _ => bytes_at(memory.alloc, &memory.image),
+    };
+    let text = match job {
+        Job::Serve { .. } => bytes_at(memory.alloc, &memory.input),
+        Job::Play { .. } | Job::PlaySynced { .. } | Job::Store { .. } | Job::Dry { .. } => {
+            bytes_at(memory.alloc, &memory.script)
+        }
+        _ => Vec::new(memory.alloc),
+    };
+    (image, text)
+}
+
+/// Runs the job that words ask for over the bytes of its files. `a.d64` is the file to write, if it is one. Words that
+/// ask for none end with the fault's number and status. Whether it could be run.
+pub(crate) fn ran(memory: &Memory, words: &[u8]) -> bool {
+    let texts = texts_of(memory.alloc, words);
+    let mut err = Errors(&memory.err);
+    let job = match job(memory.alloc, texts.as_slice()) {
+        Ok(job) => job,
+        Err(fault) => {
+            memory.status.set(fault.status());
+            return write!(err, "fault {}", fault.number()).is_ok();
+        }
+    };
+    let (image, text) = inputs_of(memory, &job);
+    let Ok(mut held) = memory.image.bytes.try_borrow_mut() else {
+        return false;
+    };
+    held.set_position(0);
+    let file = match memory.image.kind.get() {
+        Kind::Plain => Some(&mut *held),
+        _ => None,
+    };
+    let mut out = Errors(&memory.out);
+    memory.status.set(run(
+        memory.alloc,
+        &job,
+        image.as_slice(),
+        text.as_slice(),
+        file,
+        &mut out,
+        &mut err,
+    ));
+    true
+}
