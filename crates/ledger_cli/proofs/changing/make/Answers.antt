@@ -1,0 +1,24 @@
+-- The file was made over the one that was handed in.
+use Rattle.std.proofs.Common.{subst}
+use Rattle.ledger_cli.proofs.Over.{over}
+use Rattle.ledger_cli.specs.Streams.{stream}
+use Rattle.ledger_commands.specs.Plays.{IsUntouched}
+use Rattle.ledger_program.specs.Kept.{IsMakeOver}
+use Rattle.ledger_program.specs.Losses.{IsGuarded, IsKeptEndOf}
+use Rattle.ledger_program.specs.Names.{name_bytes}
+use Rattle.ledger_cli.proofs.changing.make.Goals as goal
+
+pub returns-in-Ok : goal.returns-in-Ok
+returns-in-Ok g c =
+    let old = c.args.out.now in
+    let run = c.make_guarded-stream in
+    let end = run.result.1 in
+    over c.args.image.now c.args.file c.file_of.result old run.new.out end
+    (λ b a. IsGuarded c.args.image.now c.args.loss (IsUntouched b a old run.new.out)
+    (IsKeptEndOf (IsMakeOver (stream g.F.Seek.stream_position g.F.Seek.stream_bytes g.F.Write.contents)
+    g.W.Write.contents c.args.image.now (name_bytes c.args.name.now) c.args.length b a old run.new.out)) end)
+    c.in-Ok.stream run.result.0 c.in-Ok.ensures.ok c.file_of.ensures
+    (subst (λ n. IsGuarded c.args.image.now c.args.loss (IsUntouched c.in-Ok.stream run.result.0 old run.new.out)
+    (IsKeptEndOf (IsMakeOver (stream g.F.Seek.stream_position g.F.Seek.stream_bytes g.F.Write.contents)
+    g.W.Write.contents c.args.image.now n c.args.length c.in-Ok.stream run.result.0 old run.new.out)) end)
+    c.as_bytes-name.ensures run.ensures)
