@@ -1,21 +1,23 @@
 #!/usr/bin/env python3
 """Makes the states that a power failure can leave of what `serve` wrote, and looks whether each is a shop (Debian's package strace):
 
-    tests/crash_states.py PROGRAM [STATES] [SEED] [-- WORD ..]
+    tests/crash_states.py PROGRAM [STATES] [SEED] [--torn] [-- WORD ..]
 
 PROGRAM is what `tools/program` prints; the words after `--` are handed to `serve`. The model knows nothing of our formats. strace
 records the system calls of a day that is served in bursts of 1 to 64 lines. The script replays them up to a random call over a model
 of a file system:
-- A write that wasn't synced reaches the disk byte by byte in any mix, as a beginning, in whole blocks of 512 or 4,096 bytes, or not
-  at all. Each file draws its own way. A block that was being written may be damaged: other bytes stand in all of it.
+- A write that wasn't synced reaches the disk whole or not at all. With `--torn` it also comes byte by byte in any mix, or as a
+  prefix, and a block of 512 or 4,096 bytes that was being written may be damaged: other bytes stand in all of it. Each file draws
+  its own way. A shop that is served in its own image promises nothing then.
 - Names that were made, changed or removed since the folder was synced reach the disk each or not, in any order.
 The shop of each state is shown, and served on. After that `show` has to print the shop after the first n lines, where n is at least
 the number of lines that were answered before the failure, and at most the number that were handed over; and each till's last answered
 request has to get its kept answer once more. Of some states the calls of the recovery are recorded too, and cut in the same way.
 
-With `--in-place` among the words each sector is written whole or not at all, and no block is damaged, since this way of serving
-promises nothing more. The status is 1 at the first state that is wrong. The last line says how much was tried."""
+Then the same with `--unsynced`, which has to fail: otherwise nothing was tried. The status is 1 at the first state that is wrong, and
+if `--unsynced` holds. The last line says how much was tried."""
 
+import itertools
 import random
 import re
 import shutil
@@ -28,6 +30,10 @@ from days import day
 from served import differs, run, sure, want
 from shop_rule import Shop, request_of
 
+
+class Wrong(Exception):
+    """A state that is no shop with all answered lines."""
+
 CALLS = "openat,creat,close,dup,dup2,lseek,write,pwrite64,writev,pwritev,ftruncate,fallocate,fsync,fdatasync"
 CALLS += ",rename,renameat,renameat2,unlink,unlinkat,link,linkat"
 LINES, TILLS, DEPTH = 300, 8, 2
@@ -39,6 +45,11 @@ TEXT = re.compile(r'"((?:\\x[0-9a-f]{2})*)"')
 def bytes_of(text):
     """The bytes of a text as `strace -xx` prints it."""
     return bytes.fromhex(TEXT.search(text)[1].replace("\\x", ""))
+
+
+def need(holds, what):
+    if not holds:
+        raise Wrong(what)
 
 
 class Inode:
@@ -271,7 +282,7 @@ def recorded(program, folder, words, bursts):
         replies += [process.stdout.readline().decode().rstrip("\n") for _ in burst]
     process.stdin.close()
     err = process.stderr.read().decode()
-    want(process.wait(600) == 0, f"a recorded serve ended badly: {err}")
+    need(process.wait(600) == 0, f"a recorded serve ended badly: {err}")
     calls = []
     for line in trace.read_text(encoding="latin-1").splitlines():
         found = CALL.match(line)
@@ -324,19 +335,19 @@ class Trial:
         image = folder / "shop.d64"
         status, shown, err = run(self.program, "show", image)
         where = f"state {self.states}, {least} to {most} lines, {sorted(files)}"
-        want(status == 0, f"{where}: show: {status} {err}")
+        need(status == 0, f"{where}: show: {status} {err}")
         counts = [n for n in range(least, most + 1) if shown[1:] == a_day.shows[n]]
-        want(counts, f"{where}: show prints no shop of the day")
-        repeats = [line for line in self.repeats(a_day, counts[0])]
+        need(counts, f"{where}: show prints no shop of the day")
+        repeats = list(self.repeats(a_day, counts[0]))
         if depth < DEPTH and self.draw.random() < 0.1:
             self.cut_again(a_day, files, counts[0], counts[-1], depth)
             self.put(files)
         text = "".join(line + "\n" for line, _ in repeats).encode()
         status, told, err = run(self.program, "serve", image, *self.words, stdin=text)
-        want(status == 0, f"{where}: serve: {status} {err}")
-        want(told == [reply for _, reply in repeats], f"{where}: a repeat got another answer")
-        want(sure(self.program, "show", image)[1:] == shown[1:], f"{where}: a recovery changed the shop")
-        want(sure(self.program, "check", image) == ["OK"], f"{where}: check")
+        need(status == 0, f"{where}: serve: {status} {err}")
+        need(told == [reply for _, reply in repeats], f"{where}: a repeat got another answer")
+        need(sure(self.program, "show", image)[1:] == shown[1:], f"{where}: a recovery changed the shop")
+        need(sure(self.program, "check", image) == ["OK"], f"{where}: check")
 
     @staticmethod
     def repeats(a_day, count):
@@ -371,16 +382,11 @@ def bursts_of(draw, lines):
         at += size
 
 
-def main(words):
-    cut = words.index("--") if "--" in words else len(words)
-    given, rest = words[:cut], words[cut + 1 :]
-    program = given[0]
-    states, seed = int(given[1]) if len(given) > 1 else 2000, int(given[2]) if len(given) > 2 else 1
-    draw = random.Random(seed)
+def try_states(program, draw, words, is_torn, states):
+    """Tries so many states, of days of their own; how many days, states and cut recoveries it were."""
     with tempfile.TemporaryDirectory() as room:
         room = Path(room)
-        trial = Trial(program, draw, rest, Power(draw, "--in-place" in rest), room)
-        days = 0
+        trial, days = Trial(program, draw, words, Power(draw, not is_torn), room), 0
         while trial.states < states:
             days += 1
             folder = room / "day"
@@ -388,21 +394,39 @@ def main(words):
             folder.mkdir()
             sure(program, "format", "--new", folder / "shop.d64", "--tills", TILLS)
             top = int(sure(program, "show", folder / "shop.d64")[0].removeprefix("TOP "))
-            lines = [line for line in day(draw, LINES, (20, 100)) if not request_of(line) or request_of(line)[0] <= TILLS]
-            a_day = Day(lines, top)
-            first = {"shop.d64": (folder / "shop.d64").read_bytes()}
+            lines = [it for it in day(draw, LINES, (20, 100)) if not request_of(it) or request_of(it)[0] <= TILLS]
+            a_day, first = Day(lines, top), {"shop.d64": (folder / "shop.d64").read_bytes()}
             bursts = list(bursts_of(draw, lines))
-            calls, replies = recorded(program, folder, rest, bursts)
-            want(replies == a_day.replies, f"day {days}: other replies than the rule's")
-            ends = [sum(map(len, bursts[: n + 1])) for n in range(len(bursts))]
+            calls, replies = recorded(program, folder, words, bursts)
+            need(replies == a_day.replies, f"day {days}: other replies than the rule's")
+            ends = list(itertools.accumulate(map(len, bursts)))
             for _ in range(min(200, states - trial.states)):
                 files, printed = trial.left(first, folder, calls, draw.randint(0, len(calls)))
                 handed = next((end for end in ends if printed < end), len(lines))
                 trial.look(a_day, files, printed, handed)
-    print(f"{trial.states} crash states of {days} days, {trial.recoveries} of them in recoveries: each is a shop with all answered lines")
+        return days, trial.states, trial.recoveries
+
+
+def main(words):
+    cut = words.index("--") if "--" in words else len(words)
+    given, rest = [it for it in words[:cut] if it != "--torn"], words[cut + 1 :]
+    is_torn = "--torn" in words[:cut]
+    program, numbers = given[0], [int(it) for it in given[1:]]
+    states, seed = (*numbers, *(2000, 1)[len(numbers) :])
+    try:
+        days, states, recoveries = try_states(program, random.Random(seed), rest, is_torn, states)
+    except Wrong as wrong:
+        differs(wrong)
+    try:
+        try_states(program, random.Random(seed), [*rest, "--unsynced"], is_torn, 200)
+        differs("each state of a shop that is served unsynced is a shop: nothing was tried")
+    except Wrong:
+        pass
+    kind = "torn" if is_torn else "whole"
+    print(f"{states} crash states of {days} days ({kind} writes), {recoveries} cut recoveries: each is a shop with all answered lines")
 
 
 if __name__ == "__main__":
     if len(sys.argv) < 2:
-        differs("PROGRAM [STATES] [SEED] [-- WORD ..]")
+        differs("PROGRAM [STATES] [SEED] [--torn] [-- WORD ..]")
     main(sys.argv[1:])
