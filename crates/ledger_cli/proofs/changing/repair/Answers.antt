@@ -12,8 +12,7 @@ returns-in-Printed g c =
     let run = c.dry_repair_guarded-ended in
     subst (λ (e : Effect). IsRepairJob g.F.Seek.stream_position g.F.Seek.stream_bytes g.F.Write.contents
     g.W.Write.contents c.args.image.now c.args.unowned e c.args.loss c.args.file c.args.file old run.new.out run.result)
-    (sym c.in-Printed.is)
-    (
+    (sym c.in-Printed.is) (
       refl,
       subst (λ (f : Bool). IsGuarded c.args.image.now c.args.loss (run.new.out ≡ old)
           (IsRepairedEndOf (IsDryRepair f g.W.Write.contents c.args.image.now old run.new.out)) run.result)
