@@ -115,6 +115,16 @@ pub(crate) struct Runtime<'a> {
 }
 
 impl Runtime<'_> {
+    /// Whether a word of the command line is this path.
+    fn names(&self, path: &str) -> bool {
+        for word in self.words.split(|byte| *byte == 0) {
+            if word == path.as_bytes() {
+                return true;
+            }
+        }
+        false
+    }
+
     /// Notes that the program meddles with a file that no word names, and refuses it.
     fn meddles<T>(&self) -> io::Result<T> {
         self.memory.meddled.set(true);
@@ -168,7 +178,7 @@ impl<'a> Files for Runtime<'a> {
                 self.memory.reopened.set(true);
                 failed(ErrorKind::NotFound)
             }
-            _ if how.asks_write() => self.meddles(),
+            _ if how.asks_write() && !self.names(path) => self.meddles(),
             _ => failed(ErrorKind::NotFound),
         }
     }
