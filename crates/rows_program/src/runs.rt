@@ -3,7 +3,7 @@ use crate::memory::{Errors, Memory};
 use crate::stored::{Kind, Stored};
 use ledger_cli::{Job, job, run};
 use std::alloc::Global;
-use std::io::Write;
+use std::io::{Cursor, Write};
 
 /// The words of a command line, with a zero between each two, as texts.
 pub(crate) fn texts_of<'a>(alloc: Global, words: &'a [u8]) -> Vec<&'a str> {
@@ -57,19 +57,28 @@ pub(crate) fn ran(memory: &Memory, words: &[u8]) -> bool {
         return false;
     };
     held.set_position(0);
-    let file = match memory.image.kind.get() {
-        Kind::Plain => Some(&mut *held),
-        _ => None,
-    };
     let mut out = Errors(&memory.out);
-    memory.status.set(run(
-        memory.alloc,
-        &job,
-        image.as_slice(),
-        text.as_slice(),
-        file,
-        &mut out,
-        &mut err,
-    ));
+    let bytes = &mut *held;
+    let status = match memory.image.kind.get() {
+        Kind::Plain => run(
+            memory.alloc,
+            &job,
+            image.as_slice(),
+            text.as_slice(),
+            Some(bytes),
+            &mut out,
+            &mut err,
+        ),
+        _ => run(
+            memory.alloc,
+            &job,
+            image.as_slice(),
+            text.as_slice(),
+            None::<&mut Cursor<Vec<u8>>>,
+            &mut out,
+            &mut err,
+        ),
+    };
+    memory.status.set(status);
     true
 }
