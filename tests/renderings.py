@@ -5,7 +5,6 @@ import base64
 import re
 import subprocess
 import xml.etree.ElementTree as tree
-from html import unescape
 
 from PIL import Image
 
@@ -136,4 +135,4 @@ def see_poster(name, program, path, image, verdict, folder, browser, compare):
     whole = Image.open(folder / "poster.png").convert("RGB")
     compare(whole.crop((left, top, left + side, top + side)), "librsvg, on the poster,")
     lines = [part.text or "" for part in root.iter(f"{SVG}text") if part.get("x") == "19"]
-    want(lines == [unescape(entry.shown) for entry in Page(image, verdict).disk.entries], f"{name}: the poster's lines {lines}")
+    want(lines == [entry.shown for entry in Page(image, verdict).disk.entries], f"{name}: the poster's lines {lines}")
