@@ -20,7 +20,7 @@ use Rattle.layout_check.proofs.lemmas.repairing.RepairRuns.{
   mends_after,
   mends_none,
 }
-use Rattle.layout_check.specs.declared.survey.Survey.{Survey}
+use Rattle.layout_check.specs.declared.survey_outcome.Survey.{Survey}
 use Rattle.layout_check.proofs.repairing.repair.Goals as goal
 
 pub mend-requires : goal.mend-requires
