@@ -24,10 +24,10 @@ HISTORIES = r"(?::|→) (History|Keeps|Source|Output) [^→]*$"
 SOURCES = r"Guide|D64|Standard"
 HEAD = """# Definitions
 
-What contracts of several crates cite, by crate and file; `crates/CRATE/specs/NAME.antt` has these definitions and all others, with
-the sentence above each. In brackets stands the example that decides it: a theorem, or a row. "The Guide" is the 1541 User's Guide; a
-definition that names no source is our own. *The disk with STOCK* has one relative file of one block. `tests/definitions.py` makes this
-page; [PROOF.md](PROOF.md) says how to read a definition."""
+What contracts of several crates cite, and what has its sentence only here, by crate and file. `crates/CRATE/specs/NAME.antt` has all
+definitions, each under its sentence. In brackets stands the example that decides it: a theorem, or a row. "The Guide" is the 1541
+User's Guide; a definition that names no source is our own. *The disk with STOCK* has one relative file of one block.
+`tests/definitions.py` makes this page; [PROOF.md](PROOF.md) says how to read a definition."""
 
 
 def without_comments(text, mark):
