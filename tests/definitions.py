@@ -1,12 +1,12 @@
 #!/usr/bin/env python3
 """Makes docs/DEFINITIONS.md from the comments over the definitions in crates/*/specs/.
 
-It has a line for each fact (with a capital) and each history of a device, source or output that contracts of another crate cite,
-and for each definition whose sentence stands only in docs/definitions.txt: the name, the comment over it, its source where the
-heading of its file doesn't name it, and the example that decides it. It looks too at each other definition that contracts of public
-functions, traits and types cite, but for those of the tools and examples: its sentence and its examples have to be there.
-Examples, further sources, and sentences for definitions without a comment, or with one that leaves much to their fields, stand in
-docs/definitions.txt.
+It names each definition that a contract of a public function, trait or type cites and that has an example or a source of its own,
+is a fact (with a capital) or a history of a device, source or output, or is cited by contracts of two files or of another crate;
+all but those of the tools and examples. Behind a name stands the example that decides it.
+A line of its own, with the comment over it and its source where the heading of its file doesn't name it, has each fact that
+contracts of another crate cite, and what has its sentence there. Examples, further sources, and sentences for definitions without a
+comment, or with one that leaves much to their fields, stand in docs/definitions.txt.
 
 Without words the page is written. With `--check` nothing is written, and the status is 1 where the page isn't up to date.
 In both cases the status is 1 where the side table names what no public contract rests on, or a definition has no sentence."""
@@ -24,10 +24,12 @@ HISTORIES = r"(?::|→) (History|Keeps|Source|Output) [^→]*$"
 SOURCES = r"Guide|D64|Standard"
 HEAD = """# Definitions
 
-What contracts of several crates cite, and what has its sentence only here, by crate and file. `crates/CRATE/specs/NAME.antt` has all
-definitions, each under its sentence. In brackets stands the example that decides it: a theorem, or a row. "The Guide" is the 1541
-User's Guide; a definition that names no source is our own. *The disk with STOCK* has one relative file of one block.
-`tests/definitions.py` makes this page; [PROOF.md](PROOF.md) says how to read a definition."""
+The definitions that contracts of public calls and types cite, by crate and file. `crates/CRATE/specs/NAME.antt` has the sentence
+above each. In brackets stands the example that decides it: a theorem, or a row. A line of its own has each fact that contracts of
+another crate cite, and each definition whose sentence stands only here. Not listed: auxiliary definitions, values without an example
+that only one file cites, and definitions of tools and examples. "The Guide" is the 1541 User's Guide; a definition that names no
+source is our own. *The disk with STOCK* has one relative file of one block. `tests/definitions.py` makes this page; [PROOF.md](PROOF.md)
+says how to read a definition."""
 
 
 def without_comments(text, mark):
@@ -222,21 +224,21 @@ def page():
     ordered = [it.split(":")[0] for it in (TOP / "crates.txt").read_text().split("\n") if it and not it.startswith("#")]
     for crate in [it for it in ordered if not it.startswith(("test_", "benchmarks", "example_"))]:
         modules = sorted({module for of, module, _ in below if of == crate})
-        lines.append(f"\n## `{crate}`")
+        lines += [f"\n## `{crate}`"] if modules else []
         for module in modules:
             heading, found = comments(crate, module)
-            rows = []
+            names, rows = [], []
             for name in [it for it in found if (crate, module, it) in below]:
                 used |= {(crate, name, mark) for mark in "=<:"}
                 row = told(crate, module, name, found[name], side, wanted.get((crate, module, name), set()))
                 if row and not row[0]:
                     faults.append(f"no sentence: {crate}/{module}/{name}")
-                if row and row[2]:
-                    rows.append(row[1])
+                if row:
+                    (rows if row[2] else names).append(row[1])
             source = heading_sources(heading).replace("1541 User's Guide", "the Guide").replace("the the", "the")
-            lines += [f"\n**`{module.replace('.', '/')}`**{source.rstrip('.')}", "", *[f"- {row}" for row in rows]] if rows else []
-        if lines[-1] == f"\n## `{crate}`":
-            lines.pop()
+            beside = f": {', '.join(names)}" if names else ""
+            lines += [f"\n**`{module.replace('.', '/')}`**{source.rstrip('.')}{beside}"] if names or rows else []
+            lines += ["", *[f"- {row}" for row in rows]] if rows else []
     faults += unknown_examples(side)
     faults += [f"no public contract rests on it: {crate}/{name}" for crate, name, mark in sorted(set(side) - used)]
     return "\n".join(lines) + "\n", faults
