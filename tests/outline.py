@@ -6,7 +6,7 @@ Without words the page is written. With `--check` nothing is written, and the st
 cases it is 1 where
   - a folder of crates/ isn't in crates.txt, or doesn't stand under the heading that its name fits;
   - a crate has no README, or the README of a crate of the product doesn't say in its first lines where its tests stand
-    (`Tests: ..`), or names tests that don't name the crate;
+    (`Tests: ..`), or names tests that aren't there or don't stand on it;
   - the figure of docs/MAP.md lacks a crate, or has one of the product above one that stands on it."""
 
 import re
@@ -52,21 +52,24 @@ def first_sentence(crate):
     return re.sub(r"\]\((?!http)(?:\.\./)*", r"](../", said)
 
 
-def has_tests(crate, place):
-    """Whether a crate or a script of tests names the crate, or stands on it."""
-    if (TOP / "crates" / place / "src").is_dir():
-        uses = re.search(rf"(?m)^{place}:.*\b{crate}\b", (TOP / "crates.txt").read_text())
-        return uses or any(crate in it.read_text() for it in (TOP / "crates" / place / "src").rglob("*.rt"))
-    return (TOP / place).is_file()
+def all_below(crate, stands_on):
+    """All on which a crate stands, the kit's crates too."""
+    found, left = set(), [crate]
+    while left:
+        new = set(stands_on.get(left.pop(), ())) - found
+        found |= new
+        left += new
+    return found
 
 
-def tests_of(crate):
+def tests_of(crate, stands_on):
     """Where the tests of a crate stand, by its README, and what is wrong with that."""
     said = paragraphs(crate)[0]
     places = re.findall(r"`([\w./]+)`", said) if said.startswith("Tests:") else []
     if not places:
         return "", [f"crates/{crate}/README.md: doesn't begin with `Tests:`"]
-    return said, [f"crates/{crate}/README.md: no such tests: {it}" for it in places if not has_tests(crate, it)]
+    wrong = [it for it in places if crate not in all_below(it, stands_on) and not (TOP / it).is_file()]
+    return said, [f"crates/{crate}/README.md: no such tests: {it}" for it in wrong]
 
 
 def figure_faults(product, every):
@@ -81,14 +84,15 @@ def figure_faults(product, every):
 
 def main():
     found, faults, lines = groups(), [], [HEAD]
-    every = [crate for crates in found.values() for crate in crates]
+    stands_on = {crate: below for crates in found.values() for crate, below in crates.items()}
+    every = list(stands_on)
     folders = sorted(it.parent.name for it in TOP.glob("crates/*/src"))
     faults += [f"crates.txt: no {it}" for it in folders if it not in every]
     for group, crates in found.items():
         lines += [f"## {group}\n"]
         faults += [f"crates.txt: {it} under {group}" for it in crates if not re.match(NAMES[group], it)]
         for crate in crates:
-            said, wrong = tests_of(crate) if group == "Product" else ("", [])
+            said, wrong = tests_of(crate, stands_on) if group == "Product" else ("", [])
             faults += wrong
             lines += [f"- [`{crate}`]({crate}/README.md): {first_sentence(crate)}. {said}".rstrip()]
         lines += [""]
