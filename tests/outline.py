@@ -49,7 +49,7 @@ def paragraphs(crate):
 def first_sentence(crate):
     first = next(it for it in paragraphs(crate) if not it.startswith("Tests:"))
     said = re.split(r"(?<=[.:])(?:\)|\*)* +(?=[A-Z`*\[-])|: *$", first)[0].rstrip(".:")
-    return re.sub(r"\]\((?!http)(?:\.\./)*", r"](../", said)
+    return said.replace("](../", "](")
 
 
 def all_below(crate, stands_on):
