@@ -32,7 +32,7 @@ LIMIT = 1_650
 INTRODUCTION = """# The core
 
 What the README promises is said by [the contracts](#the-contracts) at the end of this page. They rest on the definitions above them,
-and on no others of this repository. A definition stands before those that use it; its *example* is a theorem or a test that decides
+and on no others of this repository. A definition stands before those that use it; an *example* is a theorem or a test that decides
 it. [PROOF.md](PROOF.md) says how to read a contract, and what is trusted. `tests/core.py` makes this page, and fails if it grows past
 {limit:,} lines without comments.
 """
