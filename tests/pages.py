@@ -126,13 +126,15 @@ class Page:
     def row(self, number):
         entry = self.disk.entries[number]
         cells = f"{entry.length}</td><td>{entry.records()}" if entry.has_records() else "</td><td>"
-        return (f'<tr><td><i class="{look(number)}"></i></td><td>{entry.count}</td><td><a href="#f{number}">{html(entry.shown)}</a></td>'
+        return (f'<tr><td><i class="{look(number)}"></i></td><td>{entry.count}</td><td><a href="#f{number}">{html(entry.shown)}</a>'
+                f"<bdi>{html(entry.signs)}</bdi></td>"
                 f"<td>{entry.type_text('&lt;')}</td><td>{cells}</td></tr>\n")
 
     def text(self):
         name = html(self.disk.disk_name())
         title = (f'<!DOCTYPE html>\n<html lang="en">\n<meta charset="utf-8">\n<meta name="viewport" content="width=device-width,'
-                 f'initial-scale=1">\n<title>{name}</title>\n<style>{fixed("style")}{fixed("dashes")}</style>\n<h1>{name}</h1>\n'
+                 f'initial-scale=1">\n<title>{name}</title>\n<style>{fixed("style")}{fixed("dashes")}</style>\n<h1>{name}'
+                 f"<bdi>{html(self.disk.disk_signs())}</bdi></h1>\n"
                  "<p>1541 disk, id ")
         told = (f'{html(html_name(self.map[162:164]))} {html(html_name(self.map[165:167]))}</p>\n<p class="{"bad" if self.fault else "good"}">'
                 f"<b>{self.verdict}</b> {self.summary()}</p>\n<main>\n"
@@ -150,14 +152,15 @@ class Page:
         column, line = number // 36 % 4, number % 36
         return (f'<svg x="{20 + 65 * column}" y="{306 + 3 * line}" width="63" height="3"><path class="{look(number)}" d="M0 1.5h3"/>'
                 f'<text class="e" x="10" y="2.3">{entry.count}</text><text x="11.5" y="2.3">{entry.type_text("&lt;")}</text>'
-                f'<text x="19" y="2.3">{html(entry.shown)}</text></svg>\n')
+                f'<svg x="19" width="22" height="3"><text y="2.3">{html(entry.shown)}</text></svg>'
+                f'<text x="41.5" y="2.3">{html(entry.signs)}</text></svg>\n')
 
     def poster(self):
         name = html(self.disk.disk_name())
         head = ('<svg xmlns="http://www.w3.org/2000/svg" width="297mm" height="420mm" viewBox="0 0 297 420">\n'
                 f'<title>{name}</title>\n<style>{fixed("poster_style")}{fixed("dashes")}</style>\n'
                 f'<rect class="paper" width="297" height="420"/>\n<text class="name" x="148.5" y="24">{name}</text>\n'
-                f'<text class="told" x="148.5" y="33">1541 disk, id {html(html_name(self.map[162:164]))} '
+                f'<text class="told" x="148.5" y="33"><tspan>{html(self.disk.disk_signs())}</tspan> 1541 disk, id {html(html_name(self.map[162:164]))} '
                 f'{html(html_name(self.map[165:167]))}</text>\n<text class="told" x="148.5" y="40">{self.summary()}</text>\n'
                 '<svg x="23.5" y="44" width="250" height="250" viewBox="-36600 -36600 73200 73200">\n<svg x="-6900" y="-1200" '
                 f'width="13800" height="2400" viewBox="-6900 -1200 13800 2400"><text class="hub" y="400">{name}</text></svg>\n'

@@ -13,6 +13,7 @@ pub mod Owned
 pub mod Owning
 pub mod Paddings
 pub mod PageMarkup
+pub mod PetsciiMarkup
 pub mod PlainBytes
 pub mod PosterMarkup
 pub mod PosterTold

@@ -7,6 +7,7 @@ pub mod Markup
 pub mod Names
 pub mod Outcomes
 pub mod Owners
+pub mod Petscii
 pub mod Pictures
 pub mod Posters
 pub mod Sectors

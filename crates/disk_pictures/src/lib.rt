@@ -16,6 +16,7 @@ mod others;
 mod output;
 mod owners;
 mod page;
+mod petscii;
 mod picture_printing;
 mod poster;
 mod poster_printing;
