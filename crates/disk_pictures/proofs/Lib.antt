@@ -20,6 +20,7 @@ pub mod PosterTold
 pub mod Printing
 pub mod Rows
 pub mod Shared
+pub mod SheetMarkup
 pub mod Sides
 pub mod Sound
 pub mod SoundPrinted

@@ -13,4 +13,6 @@ pub mod Posters
 pub mod Sectors
 pub mod Sentences
 pub mod Sharing
+pub mod Sheets
 pub mod Texts
+pub mod Tiles

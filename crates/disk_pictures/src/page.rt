@@ -126,7 +126,7 @@ pub(crate) const END: &str = "</table>\n<p class=\"all\"><a href=\"#all\">Show a
     </div>\n</main>\n";
 
 /// How what a check told is styled.
-fn class_of(found: Option<Fault>) -> &'static str
+pub(crate) fn class_of(found: Option<Fault>) -> &'static str
     ensures { result.now ≡ verdict_class found }
 {
     match found {
