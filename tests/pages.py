@@ -1,10 +1,10 @@
 #!/usr/bin/env python3
 """What `picture` prints of an image, by the rules and to the byte, in plain Python over drawn.py:
 
-    tests/pages.py IMAGE VERDICT [--svg]
+    tests/pages.py IMAGE VERDICT [--svg|--tile]
 
 VERDICT is what `check` prints, which isn't judged here. The parts that are the same on each page and poster (style, dashes, legend,
-end) are taken from specs/Pictures.antt and specs/Posters.antt, where the contracts have them."""
+end) are taken from specs/Pictures.antt, specs/Posters.antt and specs/Sheets.antt, where the contracts have them."""
 
 import re
 import sys
@@ -27,7 +27,7 @@ WORDS = {
 
 def fixed(name):
     """A text that the definition of this name gives."""
-    text = (SPECS / "Pictures.antt").read_text(encoding="utf-8") + (SPECS / "Posters.antt").read_text(encoding="utf-8")
+    text = "".join((SPECS / f"{it}.antt").read_text(encoding="utf-8") for it in ("Pictures", "Posters", "Sheets"))
     found = re.search(rf'^{name} = codes\s+"((?:[^"\\]|\\.)*)"', text, re.M)
     return re.sub(r"\\(.)", lambda one: {"n": "\n"}.get(one[1], one[1]), found[1])
 
@@ -169,9 +169,49 @@ class Page:
         return head + self.drawing() + fixed("poster_legend") + lines + "</svg>\n"
 
 
+    def shade(self, place):
+        """Which of the 29 shades of a contact sheet a sector has."""
+        if place == self.fault:
+            return 0
+        owner = self.disk.owner.get(place)
+        if owner is None:
+            return 3 if self.disk.is_free(place) else 4
+        if owner[0] in ("map", "directory"):
+            return 1 if owner[0] == "map" else 2
+        return (5 if owner[1] == "block" else 17) + owner[0] % 12
+
+    def tile(self, path):
+        """The tile of a contact sheet, of the image at this path."""
+        strokes = [""] * 29
+        for place in PLACES:
+            strokes[self.shade(place)] += f"M{place[0]} {place[1]}h.8"
+        free = sum(self.map[4 * track] for track in range(1, 36) if track != 18)
+        return (f'<figure class="{"bad" if self.fault else "good"}"><svg viewBox="0 -1 37 23" aria-hidden="true">'
+                + "".join(f'<path class="p{number}" d="{drawn}"/>' for number, drawn in enumerate(strokes))
+                + f'</svg><figcaption><code>{path_text(path)}</code> <span>{html(self.disk.disk_name())}'
+                f"<bdi>{html(self.disk.disk_signs())}</bdi></span> <b>{self.verdict}</b> <span>{free} blocks free</span>"
+                "</figcaption></figure>\n")
+
+
+def path_text(path):
+    return html(html_name(str(path).encode()))
+
+
+def refused_tile(path, told):
+    """The tile of an image that isn't drawn, of which this is told."""
+    return f'<figure class="bad"><figcaption><code>{path_text(path)}</code> <b>{html(told)}</b></figcaption></figure>\n'
+
+
+def sheet(tiles):
+    """The contact sheet of these tiles."""
+    return ('<!DOCTYPE html>\n<html lang="en">\n<meta charset="utf-8">\n<meta name="viewport" content="width=device-width,'
+            f'initial-scale=1">\n<title>Disks: {len(tiles)}</title>\n<style>{fixed("sheet_style")}</style>\n'
+            f'<h1>Disks: {len(tiles)}</h1>\n<main>\n' + "".join(tiles) + fixed("sheet_end"))
+
+
 def main(image, verdict, how=None):
     page = Page(Path(image).read_bytes(), verdict)
-    sys.stdout.write(page.poster() if how == "--svg" else page.text())
+    sys.stdout.write(page.poster() if how == "--svg" else page.tile(image) if how == "--tile" else page.text())
 
 
 if __name__ == "__main__":
