@@ -4,7 +4,7 @@ ghost use Rattle.std.specs.Io.KnownBytes.{Appends};
 ghost use Rattle.disk_pictures.specs.Faults.{picture_text};
 ghost use Rattle.disk_pictures.specs.Html.{html_of};
 ghost use Rattle.disk_pictures.specs.Sheets.{refused_head, refused_tile, sheet_end, sheet_head};
-ghost use Rattle.disk_pictures.specs.Tiles.{IsTilePrinted, is_clean as clean};
+ghost use Rattle.disk_pictures.specs.Tiles.{IsTilePrinted, found_status as status_of};
 ghost use Rattle.disk_pictures.specs.declared.faults.PictureFault.TheVariants as faults;
 
 use crate::faults::PictureFault;
@@ -106,13 +106,13 @@ fn put_refused<W: Write>(out: &mut W, path: &str, fault: PictureFault) -> Result
     put(out, REFUSED_END)
 }
 
-/// Whether a check told nothing.
-fn is_clean(found: Option<Fault>) -> bool
-    ensures { result ≡ clean found }
+/// The exit status of a disk of which a check told this.
+fn found_status(found: Option<Fault>) -> u8
+    ensures { result ≡ status_of found }
 {
     match found {
-        None => true,
-        Some(_) => false,
+        None => 0,
+        Some(_) => 1,
     }
 }
 
@@ -124,7 +124,8 @@ pub fn sheet_begin<W: Write>(out: &mut W, count: usize) -> Result<(), PictureFau
     put(out, Head(count))
 }
 
-/// Prints the next tile of a contact sheet, that of an image, and answers whether its disk is clean.
+/// Prints the next tile of a contact sheet, that of an image, and answers the exit status of its picture alone: 0 of a
+/// clean disk, 1 of a hurt one, and that of the fault of an image that can't be drawn.
 ///
 /// It has a small drawing: tracks from left to right, each sector once in the shade of its owner, the fault in red. Below
 /// stand the path, the disk's name as it is typed and as a C64 shows it, what a check tells, and how many blocks the map
@@ -138,18 +139,18 @@ pub fn sheet_tile<W: Write>(
     path: &str,
     image: &[u8],
     out: &mut W,
-) -> Result<bool, PictureFault>
+) -> Result<u8, PictureFault>
     ensures ok { IfOk result (IsTilePrinted W.contents path.now image.now out.old out.new) }
     ensures err { IfErr result (λ fault. fault ≡ faults.File) }
 {
     match judged(alloc, image) {
         Ok((drawing, found)) => {
             put_tile(out, path, found, &drawing)?;
-            Ok(is_clean(found))
+            Ok(found_status(found))
         }
         Err(fault) => {
             put_refused(out, path, fault)?;
-            Ok(false)
+            Ok(fault.status())
         }
     }
 }

@@ -19,5 +19,5 @@ returns-in_ok-put_tile-in-Ok-clause-ok g c =
       printed = subst (λ (map : Sector). Appends (told c.args.out.now) (told c.put_tile.new.out)
           (tile_text html_of petscii_of c.args.path.now c.in-Ok.found map (drawn_in d))) c.in-Ok.ensures.ok.map
           c.in_ok-put_tile-in-Ok.ensures.ok;
-      so = c.is_clean.ensures;
+      status_is = c.found_status.ensures;
     })
