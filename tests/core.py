@@ -14,7 +14,18 @@ from pathlib import Path
 
 sys.dont_write_bytecode = True
 sys.path.insert(0, str(Path(__file__).resolve().parent))
-from spec_files import TOP, Definition, ends_head, everything, heading, imports, kit_words, named, side_table, without_comments  # noqa: E402
+from spec_files import (  # noqa: E402
+    TOP,
+    Definition,
+    ends_head,
+    everything,
+    heading,
+    imports,
+    kit_words,
+    named,
+    side_table,
+    without_comments,
+)
 
 # what the page begins from: a trait, a public function, or a method `Type::name`, each with its crate
 ROOTS = (
@@ -32,7 +43,7 @@ LIMIT = 1_650
 INTRODUCTION = """# The core
 
 What the README promises is said by [the contracts](#the-contracts) at the end of this page. They rest on the definitions above them,
-and on no others of this repository. A definition stands before those that use it; its *example* is a theorem or a test that decides
+and on no others of this repository. A definition stands before those that use it; an *example* is a theorem or a test that decides
 it. [PROOF.md](PROOF.md) says how to read a contract, and what is trusted. `tests/core.py` makes this page, and fails if it grows past
 {limit:,} lines without comments.
 """
@@ -114,10 +125,9 @@ def said(text):
 
 def shown(key, it, side):
     """A definition as the page has it: its comment, its example, its text."""
-    row = key[0], key[2]
-    comment = it.comment or said(side[(*row, "=")]) if (*row, "=") in side else it.comment
-    example = said(f"Example: {side[(*row, ':')]}.") if (*row, ":") in side else []
-    return "\n".join([*comment, *example, it.text])
+    sentence, example = side.get((key[0], key[2], "=")), side.get((key[0], key[2], ":"))
+    comment = it.comment or (said(sentence) if sentence else [])
+    return "\n".join([*comment, *(said(f"Example: {example}.") if example else []), it.text])
 
 
 def chapters(modules, known, side):
