@@ -1,5 +1,6 @@
 mod Marks
 mod Steps
+mod Unknown
 mod Brought
 mod Landed
 mod Made

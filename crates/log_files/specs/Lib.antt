@@ -3,3 +3,5 @@ pub mod Faults
 pub mod Folders
 pub mod Serving
 pub mod Shops
+pub mod Unknown
+pub mod Views
