@@ -29,25 +29,29 @@ module _ {V : Type 0} (seen : V → Option Seen) where
   GoesTo s v = (t : Seen) × (seen v ≡ Some t) × Goes s t
 
 -- whether its log has its mark
-abbrev pub IsMarkOf : Seen → Bool → Type 0
-IsMarkOf s mark = (f : List ℕ) → s.log ≡ Some f → mark ≡ is_marked f
+pub record IsMarkOf (s : Seen) (mark : Bool) : Type 0 where
+  pub there : mark ≡ true → HasMark s
+  pub is : HasMark s → mark ≡ true
 
--- the log, with a mark if it has one by now, and is long enough
+-- the log, with a mark if it got one by now
 abbrev pub marked_if : Bool → List ℕ → List ℕ
-marked_if false f = f
-marked_if true f = marked_log f
+marked_if mark f = if mark then (if is_marked f then f else marked_log f) else f
 
 -- the image that is given, by the log, or by IMAGE
 abbrev pub SeenGives : Seen → Image → Type 0
 SeenGives s given = given_by s.log s.image given
 
+-- The image that a log gives was seen.
+pub record IsLogViewed {V : Type 0} (seen : V → Option Seen) (s : Seen) (new : V) (shop : Image) : Type 0 where
+  -- if an image was given when the log was read, it is this one
+  pub given : (given : Image) → SeenGives s given → shop ≡ given
+  -- and one was, if nothing has changed since
+  pub still : seen new ≡ Some s → SeenGives s shop
+
 -- Whether there is a log, and then the image that it gives.
-pub record IsViewed {V : Type 0} (seen : V → Option Seen) (s : Seen) (new : V) (there : Bool) (shop : Image) : Type 0 where
-  pub none : there ≡ false → s.log ≡ None
-  -- if an image was given when the view began, it is this one
-  pub given : there ≡ true → (given : Image) → SeenGives s given → shop ≡ given
-  -- and one was, if nothing has changed
-  pub still : there ≡ true → seen new ≡ Some s → SeenGives s shop
+abbrev pub IsViewed : {V : Type 0} → (V → Option Seen) → Seen → V → Bool → Image → Type 0
+IsViewed seen s new false shop = s.log ≡ None
+IsViewed seen s new true shop = IsLogViewed seen s new shop
 
 -- of what the system has nothing is known
 abbrev pub unseen : {V : Type 0} → V → Option Seen

@@ -24,12 +24,7 @@ pub struct ImageView<'a, R: Files> {
 
 impl<'a, R: Files> ImageView<'a, R> {
     /// The image whose file this is, open to be read. The caller has a shared lock on it.
-    pub fn new(
-        rt: &'a R,
-        alloc: Global,
-        names: &'a LogNames,
-        image: R::File,
-    ) -> ImageView<'a, R> {
+    pub fn new(rt: &'a R, alloc: Global, names: &'a LogNames, image: R::File) -> ImageView<'a, R> {
         ImageView {
             rt,
             alloc,

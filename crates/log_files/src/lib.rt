@@ -4,6 +4,7 @@
 
 mod beginning;
 mod bringing;
+mod ending;
 mod image_folder;
 mod image_view;
 mod judging;

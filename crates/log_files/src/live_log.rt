@@ -1,10 +1,10 @@
 //! A log that is renewed when it is full.
 ghost use Rattle.std.specs.Prelude.{◌≡◌, length};
 
-use crate::landing::{LogFault, land};
+use crate::ending::end_log;
+use crate::landing::LogFault;
 use crate::log_folder::LogFolder;
 use crate::making::make_new;
-use crate::memory::image_room;
 use crate::renewing::renew;
 use shop_log::{ImageLog, Log, LogFile, none_touched};
 use std::alloc::Global;
@@ -26,16 +26,19 @@ pub struct LiveLog<F: LogFile, D> {
 }
 
 impl<F: LogFile, D: LogFolder<F> + Drop> LiveLog<F, D> {
-    ghost use Rattle.std.specs.Prelude.{IfOk, false};
-    ghost use Rattle.shop_log.specs.Marks.{NoneTouched};
+    ghost use Rattle.std.specs.Prelude.{◌⊎◌, IfOk, OnErr, OnOk, Some, true};
+    ghost use Rattle.d64_image.specs.Images.{Image};
+    ghost use Rattle.log_files.specs.Folders.{AllLeft, Folder};
+    ghost use Rattle.log_files.specs.Bringing.{IsBrought, RestsAlone};
+    ghost use Rattle.log_files.specs.LiveLogs.{IsEnding, of_live};
+    ghost use Rattle.shop_log.specs.ImageLogs.{IsEither, LeavesImages};
+    ghost use Rattle.shop_log.specs.Marks.{Covers};
 
     /// Makes a log in a folder that was landed with this image. At an error the folder gives the same image.
-    pub fn begin(
-        alloc: Global,
-        mut folder: D,
-        shop: Vec<[u8; 256]>,
-    ) -> io::Result<LiveLog<F, D>>
+    pub fn begin(alloc: Global, mut folder: D, shop: Vec<[u8; 256]>) -> io::Result<LiveLog<F, D>>
         requires sized { length shop.items ≡ 683 }
+        ensures stands { IfOk result (λ live. (s : Folder) → D.history.held folder ≡ Some s → s.image ≡ shop.items
+            → AllLeft D.history folder (IsBrought shop.items) → (of_live D.history).stands_for live shop.items) }
     {
         let log = make_new(alloc, &mut folder, shop.as_slice())?;
         Ok(LiveLog {
@@ -48,10 +51,16 @@ impl<F: LogFile, D: LogFolder<F> + Drop> LiveLog<F, D> {
     }
 
     /// Commits to the log, which must have room. Returns whether it is full then.
-    fn commit_log(&mut self, now: &[[u8; 256]], touched: &[bool; 683]) -> io::Result<bool>
+    fn append(&mut self, now: &[[u8; 256]], touched: &[bool; 683]) -> io::Result<bool>
         requires sized { length now.now ≡ 683 }
-        ensures quiet { NoneTouched touched.now → self.new ≡ self.old }
-        ensures room { NoneTouched touched.now → IfOk result (λ full. full ≡ false) }
+        ensures ok { OnOk result ((before : Image) → (of_live D.history).stands_for self.old before
+            → Covers touched.now before now.now → (of_live D.history).stands_for self.new now.now) }
+        ensures any_moment { (before : Image) → (of_live D.history).stands_for self.old before
+            → Covers touched.now before now.now
+            → LeavesImages (of_live D.history) self.old self.new (IsEither before now.now) }
+        ensures cause { OnErr result (((of_live D.history).is_over self.old ≡ true)
+            ⊎ ((of_live D.history).has_failed self.new ≡ true)) }
+        ensures err { OnErr result ((of_live D.history).is_over self.new ≡ true) }
     {
         let Some(log) = &mut self.log else {
             return Err(io::ErrorKind::Other.into());
@@ -59,9 +68,7 @@ impl<F: LogFile, D: LogFolder<F> + Drop> LiveLog<F, D> {
         if log.is_full() {
             return Err(io::ErrorKind::StorageFull.into());
         }
-        if !none_touched(touched) {
-            self.used = true;
-        }
+        self.used = true;
         log.commit(now, touched)?;
         Ok(log.is_full())
     }
@@ -70,6 +77,12 @@ impl<F: LogFile, D: LogFolder<F> + Drop> LiveLog<F, D> {
     /// has no log.
     fn renew(&mut self, now: &[[u8; 256]]) -> io::Result<()>
         requires sized { length now.now ≡ 683 }
+        ensures ok { OnOk result ((of_live D.history).stands_for self.old now.now
+            → (of_live D.history).stands_for self.new now.now) }
+        ensures any_moment { (of_live D.history).stands_for self.old now.now
+            → LeavesImages (of_live D.history) self.old self.new (λ c. c ≡ now.now) }
+        ensures cause { OnErr result ((of_live D.history).has_failed self.new ≡ true) }
+        ensures err { OnErr result ((of_live D.history).is_over self.new ≡ true) }
     {
         let Some(log) = self.log.take() else {
             return Err(io::ErrorKind::Other.into());
@@ -82,9 +95,14 @@ impl<F: LogFile, D: LogFolder<F> + Drop> LiveLog<F, D> {
         Ok(())
     }
 
-    /// Lands the log: IMAGE has its image then, and the log is gone. If it takes no more commits, this is an error, and
-    /// the files are left alone: the next beginning lands it.
-    pub fn end(self) -> Result<(), LogFault> {
+    /// Lands the log, and returns the folder: IMAGE has the log's image then, and the log is gone. If the log takes no more
+    /// commits, this is an error, and the files are left alone: the next beginning lands it. At an error the folder gives
+    /// the image that it gave.
+    pub fn end(self) -> (D, Result<(), LogFault>)
+        ensures any_moment { (image : Image) → (of_live D.history).stands_for self image → IsEnding D.history self result.0 image }
+        ensures ok { OnOk result.1 ((image : Image) → (of_live D.history).stands_for self image
+            → RestsAlone D.history result.0 image) }
+    {
         let LiveLog {
             alloc,
             mut folder,
@@ -92,24 +110,21 @@ impl<F: LogFile, D: LogFolder<F> + Drop> LiveLog<F, D> {
             mut base,
             ..
         } = self;
-        let mut shop = image_room(alloc)?;
-        match log {
-            Some(log) if !log.is_closed() => {
-                folder.close_log(log.into_file())?;
-                land(&mut folder, base.as_mut_slice(), shop.as_mut_slice())
-            }
-            _ => Err(LogFault::File(io::ErrorKind::Other.into())),
-        }
+        let ended = end_log(alloc, &mut folder, log, base.as_mut_slice());
+        (folder, ended)
     }
 }
 
 impl<F: LogFile, D: LogFolder<F> + Drop> ImageLog for LiveLog<F, D> {
-    ghost use Rattle.log_files.specs.Unknown.{unknown_log};
+    ghost use Rattle.log_files.specs.LiveLogs.{of_live};
 
-    ghost history = { unknown_log };
+    ghost history = { of_live D.history };
 
     fn commit(&mut self, now: &[[u8; 256]], touched: &[bool; 683]) -> io::Result<()> {
-        if self.commit_log(now, touched)? {
+        if none_touched(touched) {
+            return Ok(());
+        }
+        if self.append(now, touched)? {
             return self.renew(now);
         }
         Ok(())

@@ -1,5 +1,7 @@
 //! A full log that is renewed.
-ghost use Rattle.std.specs.Prelude.{◌≡◌, length};
+ghost use Rattle.std.specs.Prelude.{◌≡◌, Bool, IfOk, Some, length};
+ghost use Rattle.log_files.specs.LiveLogs.{IsRenewing, Stands};
+ghost use Rattle.log_files.specs.Serving.{Serves};
 
 use crate::bringing::bring;
 use crate::log_folder::LogFolder;
@@ -20,6 +22,10 @@ pub(crate) fn renew<F: LogFile, D: LogFolder<F>>(
 ) -> io::Result<Log<F>>
     requires base { length base.now ≡ 683 }
     requires sized { length now.now ≡ 683 }
+    ensures any_moment { (used : Bool) → Stands D.history folder.old (Some log) used base.now now.now
+        → IsRenewing D.history folder.old (Some log) used folder.new now.now }
+    ensures ok { IfOk result (λ new. (used : Bool) → Stands D.history folder.old (Some log) used base.now now.now
+        → Serves D.history folder.new new now.now) }
 {
     folder.close_log(log.into_file())?;
     mark_found(folder)?;

@@ -1,12 +1,13 @@
 //! What a reader sees of an image and its log, also beside a writer.
-ghost use Rattle.std.specs.Prelude.{◌≡◌, ◌<◌, IfErr, IfOk, OnOk, Option, Some, option_map, length};
+ghost use Rattle.std.specs.Prelude.{◌≡◌, ◌+◌, ◌≤◌, IfErr, IfOk, OnOk, Option, Some, option_map, length};
 ghost use Rattle.d64_image.specs.Images.{Image};
 ghost use Rattle.log_files.specs.Faults.{IsMisfit};
-ghost use Rattle.log_files.specs.Views.{GoesTo, IsMarkOf, IsViewed, Seen, SeenGives, marked_if};
+ghost use Rattle.log_files.specs.Views.{Goes, GoesTo, IsMarkOf, IsViewed, Seen, SeenGives, marked_if};
+ghost use Rattle.shop_log.specs.Files.{overwritten};
 
 use crate::judging::{LOG_BYTES, judge};
 use crate::landing::LogFault;
-use shop_log::{BLOCK, BLOCKS};
+use shop_log::{BLOCK, BLOCKS, is_marked};
 use std::io;
 
 /// What a view looks at: an image, and its log. The log's file stays open from the time that it is read. A writer may go
@@ -34,35 +35,45 @@ pub trait ViewsImage {
         ensures goes { (s : Seen) → seen self.old ≡ Some s → GoesTo seen s self.new };
 }
 
-/// Puts the mark in a log's bytes, if it has one.
-fn put_mark_of(log: &mut [u8], marked: bool)
-    requires long { length log.old ≡ 4198400 }
-    ensures { log.new ≡ marked_if marked log.old }
+/// Puts bytes in the place of those from that place on.
+fn put_over(file: &mut [u8], at: usize, bytes: &[u8])
+    requires within { at + length bytes.now ≤ length file.old }
+    ensures { file.new ≡ overwritten file.old at bytes.now }
 {
-    if marked {
-        log[BLOCK * BLOCKS..BLOCK * BLOCKS + 1].copy_from_slice(&[1]);
+    file[at..at + bytes.len()].copy_from_slice(bytes);
+}
+
+/// Puts the mark in a log's bytes, if it got one since they were read.
+fn put_mark_of(log: &mut [u8], marked: bool)
+    ensures size { length log.new ≡ length log.old }
+    ensures marked { length log.old ≡ 4198400 → log.new ≡ marked_if marked log.old }
+{
+    if marked && log.len() == LOG_BYTES && !is_marked(log) {
+        put_over(log, BLOCK * BLOCKS, &[1]);
     }
 }
 
-/// Reads the image, and judges the log beside it by the mark that it has after that.
+/// Reads the image, and judges the log beside it by the mark that it has after that. True at Ok.
 fn view_log<V: ViewsImage>(
     folder: &mut V,
     log: &mut [u8],
     now: &mut [[u8; 256]],
     shop: &mut [[u8; 256]],
-) -> Result<(), LogFault>
+) -> Result<bool, LogFault>
     requires now { length now.old ≡ 683 }
     requires shop { length shop.old ≡ 683 }
     ensures now { length now.new ≡ 683 }
     ensures shop { length shop.new ≡ 683 }
+    ensures ok { IfOk result (λ there. (s t : Seen) → V.seen folder.old ≡ Some t → Goes s t → s.log ≡ Some log.old
+        → IsViewed V.seen s folder.new there shop.new) }
+    ensures refused { IfErr result (λ e. IsMisfit e → (s t : Seen) → V.seen folder.old ≡ Some t → Goes s t
+        → s.log ≡ Some log.old → (given : Image) → SeenGives s given → ⊥) }
 {
     folder.read_image(now)?;
     let marked = folder.read_mark()?;
-    if log.len() == LOG_BYTES {
-        put_mark_of(log, marked);
-    }
+    put_mark_of(log, marked);
     judge(log, now, shop)?;
-    Ok(())
+    Ok(true)
 }
 
 /// Looks at an image through its log: first the log is read, then the image, and then the log's mark. `shop` is the image
@@ -77,12 +88,14 @@ pub fn view<V: ViewsImage>(
     requires shop { length shop.old ≡ 683 }
     ensures now { length now.new ≡ 683 }
     ensures shop { length shop.new ≡ 683 }
+    ensures ok { IfOk result (λ there. (s : Seen) → V.seen folder.old ≡ Some s
+        → IsViewed V.seen s folder.new there shop.new) }
+    ensures refused { IfErr result (λ e. IsMisfit e → (s : Seen) → V.seen folder.old ≡ Some s
+        → (given : Image) → SeenGives s given → ⊥) }
 {
-    match folder.read_log()? {
-        Some(mut log) => {
-            view_log(folder, log.as_mut_slice(), now, shop)?;
-            Ok(true)
-        }
+    let log = folder.read_log()?;
+    match log {
+        Some(mut bytes) => view_log(folder, bytes.as_mut_slice(), now, shop),
         None => Ok(false),
     }
 }
