@@ -44,8 +44,8 @@ INTRODUCTION = """# The core
 
 What the README promises is said by [the contracts](#the-contracts) at the end of this page. They rest on the definitions above them,
 and on no others of this repository. A definition stands before those that use it; an *example* is a theorem or a test that decides
-it. [PROOF.md](PROOF.md) says how to read a contract, and what is trusted. `tests/core.py` makes this page, and fails if it grows past
-{limit:,} lines without comments.
+it. "The Guide" is the 1541 User's Guide; *the disk with STOCK* has one relative file of one block. [PROOF.md](PROOF.md) says how to
+read a contract, and what is trusted. `tests/core.py` makes this page, and fails if it grows past {limit:,} lines without comments.
 """
 
 
