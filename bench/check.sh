@@ -3,7 +3,7 @@
 #   bench/check.sh [ROUNDS] [RUNS]
 source "$(dirname "$0")/common.sh"
 rounds="${1:-100000}"
-prepare tool_benchmarks
+prepare benchmarks
 "$plain" make "$work/full.d64"
 
 # both programs judge an image alike, and as is wanted: so many of three rounds find it clean, and the plain one tells this

@@ -4,7 +4,7 @@
 #   bench/drive.sh [ROUNDS] [RUNS]
 source "$(dirname "$0")/common.sh"
 rounds="${1:-1000000}"
-prepare tool_benchmarks
+prepare benchmarks
 
 run_plain() {
     "$plain" "$rounds"

@@ -1,5 +1,5 @@
 //! Writes records of STOCK and REQUESTS on a full disk through a drive, in plain Rust, so that `drive.sh` can time it beside
-//! the proved program: `drive_plain ROUNDS` prints the same checksum of the image as `tool_benchmarks drive ROUNDS`.
+//! the proved program: `drive_plain ROUNDS` prints the same checksum of the image as `benchmarks drive ROUNDS`.
 //! The drive has one relative channel, and remembers the two files that were opened last. It makes no check of the disk.
 use std::env;
 

@@ -4,7 +4,7 @@
 #   bench/records.sh [ROUNDS] [RUNS]     so many growths, ten thousand times as many reads, and as many writes
 source "$(dirname "$0")/common.sh"
 growths="${1:-1000}"
-prepare tool_benchmarks
+prepare benchmarks
 
 run_plain() {
     "$plain" "$word" "$rounds"

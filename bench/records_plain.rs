@@ -1,6 +1,6 @@
 //! Grows STOCK on a blank disk for two tills until no block is free, and reads and writes its records, in plain Rust, so
 //! that `records.sh` can time it beside the proved program:
-//!   records_plain growth|reads|writes ROUNDS   does it so many times, and prints the same number as `tool_benchmarks`
+//!   records_plain growth|reads|writes ROUNDS   does it so many times, and prints the same number as `benchmarks`
 //!   records_plain image growth|writes ROUNDS FILE   and puts the disk's bytes into the file
 //!   records_plain counts                       prints how many sectors are read and written for the growth
 //! Sectors are written in the same order. A disk is a trait, and it is kept in memory. Growth keeps the map, the last side

@@ -6,7 +6,7 @@
 #   bench/requests.sh [MESSAGES] [RUNS]     so many messages in place of a million
 source "$(dirname "$0")/common.sh"
 messages="${1:-1000000}"
-prepare tool_benchmarks
+prepare benchmarks
 
 run_plain() {
     for _ in $(seq "$times"); do "$plain" "$word" "$rounds"; done

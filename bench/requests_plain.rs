@@ -1,6 +1,6 @@
 //! Messages of 64 tills to a shop on a disk, in plain Rust, so that `requests.sh` can time it beside the proved program:
-//! `requests_plain requests ROUNDS` prints the same checksum of replies and image as `tool_benchmarks requests ROUNDS`,
-//! and `requests_plain openings ROUNDS` the same of the image as `tool_benchmarks openings ROUNDS`.
+//! `requests_plain requests ROUNDS` prints the same checksum of replies and image as `benchmarks requests ROUNDS`,
+//! and `requests_plain openings ROUNDS` the same of the image as `benchmarks openings ROUNDS`.
 //! Its books are kept in memory, and it writes the same sectors; each first reply is lost, so that each request is repeated.
 use std::env;
 use std::io::{self, Sink};

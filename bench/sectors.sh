@@ -3,7 +3,7 @@
 #   bench/sectors.sh [ROUNDS] [RUNS]
 source "$(dirname "$0")/common.sh"
 rounds="${1:-20000000}"
-prepare tool_benchmarks
+prepare benchmarks
 
 run_plain() {
     "$plain" "$rounds"

@@ -1,4 +1,4 @@
-//! The rounds of `tool_benchmarks sectors` in plain Rust, against which `sectors.sh` times them: a disk of 683 sectors behind
+//! The rounds of `benchmarks sectors` in plain Rust, against which `sectors.sh` times them: a disk of 683 sectors behind
 //! a trait, and a caller that knows only the trait.
 use std::env;
 

@@ -2,12 +2,12 @@
 # Tries every moment of whole days: `tests/every_cut.sh [SEEDS]`, where SEEDS says how many days of each kind are drawn.
 # A day is played on a disk; each image that the disk held is opened, and each image of that opening again, two openings
 # deep; each time the cards and the kept requests are those of the messages so far, each repeat has its kept answer, and
-# `check` is OK. crates/tool_every_cut/README.md says what is compared. It prints how much was tried, and stops at the first
+# `check` is OK. crates/test_every_cut/README.md says what is compared. It prints how much was tried, and stops at the first
 # difference with status 1. The gate has one small day of it. Run it from anywhere.
 set -eu
 top="$(cd "$(dirname "$0")/.." && pwd)"
 seeds="${1:-5}"
-program="$("$top/tools/program" tool_every_cut)"
+program="$("$top/tools/program" test_every_cut)"
 work=$(mktemp -d)
 trap 'rm -rf "$work"' EXIT
 

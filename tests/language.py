@@ -141,7 +141,7 @@ def unknown_code(text, known):
 
 def unnamed_words(text):
     """Subcommands and flags of the program's grammar that the README doesn't name."""
-    table = (TOP / "crates/ledger_grammar/src/subcommands.rt").read_text()
+    table = (TOP / "crates/command_table/src/subcommands.rt").read_text()
     commands = re.findall(r'name: "([a-z-]+)",\s*about:', table)
     flags = [f"--{it}" for it in re.findall(r'word: Some\("([a-z-]+)"\)', table)]
     named = set(re.findall(r"--[a-z-]+|[a-z-]+", " ".join(re.findall(r"`([^`\n]+)`", text))))
@@ -174,7 +174,7 @@ def comment_counts():
         long = sum(it.endswith(" words") for it in found)
         if found:
             print(f"comments of {crate.name}: {long} long sentences, {len(found) - long} words of the list")
-    for file in sorted((TOP / "crates/ledger_grammar/src").glob("*.rt")):
+    for file in sorted((TOP / "crates/command_table/src").glob("*.rt")):
         texts = [it.replace("\\\n", "").replace("\\n", "\n") for it in re.findall(r'"((?:[^"\\]|\\.|\\\n)*)"', file.read_text())]
         found = [what for it in texts for _, what, _ in findings(it)]
         if found:

@@ -3,7 +3,7 @@
 
     tests/refused_memory.py PROGRAM [CUTS]
 
-PROGRAM is what `tools/program` prints, and CUTS what `tools/program tool_every_cut` prints. Each of its words is run over and
+PROGRAM is what `tools/program` prints, and CUTS what `tools/program test_every_cut` prints. Each of its words is run over and
 over: the first request for memory is refused, then the second, and so on, until a run has none left to refuse. Each time
 - it ends with status 3 and `NO MEMORY`, with nothing printed and no file changed;
 - or, where it can do without, it does and prints what it does with all its memory.
@@ -192,7 +192,7 @@ def main():
             print(f"{' '.join(words)}{' of a wrong map' if status else ''}: {count} requests for memory refused in turn", flush=True)
         if len(sys.argv) > 2:
             count = trial.each([Path(sys.argv[2]).resolve(), "6", "1", "20"], lambda: None, no_memory_for_a_day)
-            print(f"tool_every_cut: {count} requests for memory refused in turn")
+            print(f"test_every_cut: {count} requests for memory refused in turn")
         print(f"{trial.tried} refusals, no difference")
 
 

@@ -1,10 +1,10 @@
 #!/bin/sh
 # Plays a day on disks that other programs made (Debian's packages cc1541 and cbmconvert), opens each image that they held
-# on the way, and each image of those openings, two deep: nothing but `tool_every_cut` over an image of someone else's. The
+# on the way, and each image of those openings, two deep: nothing but `test_every_cut` over an image of someone else's. The
 # shop's files stand behind and between others there, in other sectors, in the other order in the directory, with a last
 # block that isn't full, and on a disk with little room. Not part of the gate. Run it from anywhere.
 . "$(dirname "$0")/common.sh"
-program="$("$top/tools/program" tool_every_cut)"
+program="$("$top/tools/program" test_every_cut)"
 
 # an empty record of this length, so many times
 empty_records() {

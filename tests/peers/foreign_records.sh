@@ -1,11 +1,11 @@
 #!/bin/sh
 # Reads relative files that another program made (Debian's package cbmconvert), record by record: each record holds its own
-# number, in as many digits as it has bytes, and `tool_benchmarks records` has to print them all in their order. The files: one
+# number, in as many digits as it has bytes, and `benchmarks records` has to print them all in their order. The files: one
 # block; exactly one block; records that lie in two blocks; record lengths 1, 2 and 254; two side sectors, and six; a last
 # record that is cut, which is none. Not part of the gate. Run it from anywhere.
 . "$(dirname "$0")/common.sh"
 
-program="$("$top/tools/program" tool_benchmarks)"
+program="$("$top/tools/program" benchmarks)"
 
 # numbers LENGTH COUNT: so many lines, each its own number, the last digits of it in LENGTH places
 numbers() {

@@ -4,14 +4,14 @@ use Rattle.std.proofs.Common.{ap, subst, sym}
 use Rattle.d64_image.specs.History.{History}
 use Rattle.d64_image.specs.Images.{IsImage}
 use Rattle.d64_image.specs.Keeps.{Keeps, kept_or}
-use Rattle.d64_image.specs.declared.kept_disk.KeptDisk.{KeptDisk}
+use Rattle.d64_image.specs.declared.device_as_file.DeviceAsFile.{DeviceAsFile}
 
 -- the device
-abbrev pub kept_disk : {D : Type 0} → KeptDisk D → D
+abbrev pub kept_disk : {D : Type 0} → DeviceAsFile D → D
 kept_disk f = f.disk
 
 -- what it keeps, kept and failed at is the device's
-abbrev pub keeps_device : {D : Type 0} → History D → Keeps (KeptDisk D)
+abbrev pub keeps_device : {D : Type 0} → History D → Keeps (DeviceAsFile D)
 keeps_device h = record {
   kept = λ f. Some (h.image f.disk);
   moment = λ f. h.moment f.disk;

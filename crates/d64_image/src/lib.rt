@@ -2,9 +2,9 @@
 #![tactic(auto)]
 
 mod count;
+mod device_as_file;
 mod faults;
 mod fuse;
-mod kept_disk;
 mod kept_mirror;
 mod mem_disk;
 mod meter;
@@ -15,9 +15,9 @@ mod sector_file;
 mod sectors;
 
 pub use count::Count;
+pub use device_as_file::DeviceAsFile;
 pub use faults::{DeviceFault, ImageFault};
 pub use fuse::Fuse;
-pub use kept_disk::KeptDisk;
 pub use kept_mirror::KeptMirror;
 pub use mem_disk::MemDisk;
 pub use meter::Meter;

@@ -2,12 +2,12 @@
 #![tactic(auto)]
 
 mod access;
-mod as_far;
 mod bam;
 mod blank;
 mod blank_laws;
 mod blank_map;
 mod chain;
+mod chain_prefix;
 mod directory;
 mod entries;
 mod faults;
@@ -18,11 +18,11 @@ mod views;
 mod visited;
 
 pub use access::{read_sector, write_other, write_sector};
-pub use as_far::walk_as_far;
 pub use bam::Bam;
 pub use blank::blank_image;
 pub use blank_laws::{blank_has_top, blank_is_clean, blank_is_whole};
 pub use chain::walk_chain;
+pub use chain_prefix::walk_as_far;
 pub use directory::{directory_start, map_place, read_directory};
 pub use entries::{padded_name, put_count, relative_entry};
 pub use faults::Fault;

@@ -42,10 +42,10 @@ use Rattle.rel_records.specs.declared.rel_file.RelFile.{RelFile}
 use Rattle.drive_channels.specs.Files.{HasFile, IsNamedFile}
 use Rattle.drive_channels.specs.Inside.{HasLooked, IsFound, IsKnown, Remembers, channel_in, channel_of, found_in}
 use Rattle.drive_channels.specs.Spelling.{IsName, is_name_byte}
-use Rattle.drive_channels.specs.declared.found.Found.{Found}
-use Rattle.drive_channels.specs.declared.found.Opened.{Opened}
-use Rattle.drive_channels.specs.declared.found.Spot.{Spot}
-use Rattle.drive_channels.specs.declared.known.Known.{Known}
+use Rattle.drive_channels.specs.declared.open_file.NamedFile.{NamedFile}
+use Rattle.drive_channels.specs.declared.open_file.OpenFile.{OpenFile}
+use Rattle.drive_channels.specs.declared.open_file.Position.{Position}
+use Rattle.drive_channels.specs.declared.open_files.OpenFiles.{OpenFiles}
 
 -- a name that a slot holds ends where its padding begins
 first-pad : (n y : ℕ) (ys : List ℕ) → replicate n 160 ≡ y ∷ ys → y ≡ 160
@@ -68,16 +68,16 @@ one-name (c ∷ a) (d ∷ b) m n x y e = ap₂ (λ (z : ℕ) (zs : List ℕ). z 
     (one-name a b m n x.1 y.1 (ap (drop 1) e))
 
 -- the file that is found is the first of its name
-pub found-named : (img : Image) (e : Found) (name : List ℕ) (h : IsFound img e) → e.name.items ≡ name
+pub found-named : (img : Image) (e : NamedFile) (name : List ℕ) (h : IsFound img e) → e.name.items ≡ name
     → IsNamedFile img name (entry_of e.file) h.file
 found-named img e name h is =
     (h.layout, h.of.layout, subst (λ (name : List ℕ). IsFirst h.layout name (entry_of e.file) h.file) is h.first)
 
-pub found-file : (img : Image) (e : Found) (name : List ℕ) → IsFound img e → e.name.items ≡ name → HasFile img name
+pub found-file : (img : Image) (e : NamedFile) (name : List ℕ) → IsFound img e → e.name.items ≡ name → HasFile img name
 found-file img e name h is = (entry_of e.file, h.file, found-named img e name h is)
 
 -- two files of different names are different files
-pub apart-names : (img : Image) (a b : Found) → IsFound img a → IsFound img b → a.name.items ≢ b.name.items
+pub apart-names : (img : Image) (a b : NamedFile) → IsFound img a → IsFound img b → a.name.items ≢ b.name.items
     → entry_of a.file ≢ entry_of b.file
 apart-names img a b x y other same =
     let l : x.layout ≡ y.layout = IsLayout-one img x.layout y.layout x.of.layout y.of.layout in
@@ -89,19 +89,19 @@ apart-names img a b x y other same =
 
 -- what is known once this file is the one opened last, with no channel, and the one opened last until now is the one
 -- before
-pub known-put : (img : Image) (k new : Known) (e : Found) → IsKnown img k → k.checked ≡ true → IsFound img e
+pub known-put : (img : Image) (k new : OpenFiles) (e : NamedFile) → IsKnown img k → k.checked ≡ true → IsFound img e
     → IfSome k.last (λ o. o.found.name.items ≢ e.name.items)
     → new.last ≡ Some (record { found = e; spot = None }) → new.before ≡ found_in k.last → new.checked ≡ k.checked
     → IsKnown img new
 known-put img k new e known checked found other last before same =
     subst (IsKnown img) (sym whole) (record { fresh = λ no. absurd (both no); remembered = λ _. memory })
   where
-    made : Known
+    made : OpenFiles
     made = record { last = Some (record { found = e; spot = None }); before = found_in k.last; checked = k.checked }
 
     whole : new ≡ made
-    whole = ap (λ (o : Option Opened). record { last = o; before = new.before; checked = new.checked }) last
-        ∙ ap (λ (o : Option Found). record { last = made.last; before = o; checked = new.checked }) before
+    whole = ap (λ (o : Option OpenFile). record { last = o; before = new.before; checked = new.checked }) last
+        ∙ ap (λ (o : Option NamedFile). record { last = made.last; before = o; checked = new.checked }) before
         ∙ ap (λ (b : Bool). record { last = made.last; before = made.before; checked = b }) same
 
     both : k.checked ≡ false → ⊥
@@ -110,11 +110,11 @@ known-put img k new e known checked found other last before same =
     old : Remembers img k.last k.before
     old = known.remembered checked
 
-    kept : (last : Option Opened) → IfSome last (λ o. IsFound img o.found) → IfSome (found_in last) (IsFound img)
+    kept : (last : Option OpenFile) → IfSome last (λ o. IsFound img o.found) → IfSome (found_in last) (IsFound img)
     kept None h = tt
     kept (Some o) h = h
 
-    apart : (last : Option Opened) → IfSome last (λ o. IsFound img o.found)
+    apart : (last : Option OpenFile) → IfSome last (λ o. IsFound img o.found)
         → IfSome last (λ o. o.found.name.items ≢ e.name.items)
         → IfSome (found_in last) (λ b. entry_of b.file ≢ entry_of e.file)
     apart None h ne = tt
@@ -130,7 +130,7 @@ known-put img k new e known checked found other last before same =
     }
 
 -- a file under the name by which it was found
-pub found-new : (img : Image) (e : Found) (v : RelFile) (name : List ℕ) (l : Layout) (f : File) → e.file ≡ v
+pub found-new : (img : Image) (e : NamedFile) (v : RelFile) (name : List ℕ) (l : Layout) (f : File) → e.file ≡ v
     → e.name.items ≡ name → IsName name
     → IsFirst l name (entry_of v) f → IsFileOf img l (entry_of v) f v → IsFound img e
 found-new img e v name l f file is named first of = record {
@@ -143,7 +143,7 @@ found-new img e v name l f file is named first of = record {
 }
 
 -- the file of a name is the one opened last now
-pub looked-put : (img : Image) (k new : Known) (e : Found) (name : List ℕ) → IsKnown img k → k.checked ≡ true
+pub looked-put : (img : Image) (k new : OpenFiles) (e : NamedFile) (name : List ℕ) → IsKnown img k → k.checked ≡ true
     → IsFound img e → e.name.items ≡ name
     → IfSome k.last (λ o. o.found.name.items ≢ e.name.items) → new.last ≡ Some (record { found = e; spot = None })
     → new.before ≡ found_in k.last → new.checked ≡ k.checked
@@ -160,7 +160,7 @@ looked-put img k new e name known checked found is other last before same = reco
     differ h = cc
 
 -- a file is remembered only once a check has passed
-last-checked : (img : Image) (k : Known) (o : Opened) → IsKnown img k → k.last ≡ Some o → k.checked ≡ true
+last-checked : (img : Image) (k : OpenFiles) (o : OpenFile) → IsKnown img k → k.last ≡ Some o → k.checked ≡ true
 last-checked img k o known is = by k.checked refl
   where
     by : (b : Bool) → k.checked ≡ b → k.checked ≡ true
@@ -168,7 +168,7 @@ last-checked img k o known is = by k.checked refl
     by false checked = absurd (none-some o (sym (known.fresh checked).0 ∙ is))
 
 -- it is the one opened last
-pub looked-last : (img : Image) (k : Known) (name : List ℕ) (b : Bool)
+pub looked-last : (img : Image) (k : OpenFiles) (name : List ℕ) (b : Bool)
     → MatchOption k.last (b ≡ false) (λ o. IsTrue b ↔ (o.found.name.items ≡ name)) → b ≡ true
     → channel_of k.last ≡ None → IsKnown img k → HasLooked img name k true
 looked-last img k name b told yes-named closed known = by k.last refl told
@@ -179,7 +179,7 @@ looked-last img k name b told yes-named closed known = by k.last refl told
     differ : true ≡ false → ⊥
     differ h = cc
 
-    by : (last : Option Opened) → k.last ≡ last
+    by : (last : Option OpenFile) → k.last ≡ last
         → MatchOption last (b ≡ false) (λ o. IsTrue b ↔ (o.found.name.items ≡ name)) → HasLooked img name k true
     by None is told = absurd (both told)
     by (Some o) is told = record {
@@ -191,7 +191,7 @@ looked-last img k name b told yes-named closed known = by k.last refl told
     }
 
 -- it isn't
-pub not-last : (last : Option Opened) (name : List ℕ) (b : Bool)
+pub not-last : (last : Option OpenFile) (name : List ℕ) (b : Bool)
     → MatchOption last (b ≡ false) (λ o. IsTrue b ↔ (o.found.name.items ≡ name)) → b ≡ false
     → IfSome last (λ o. o.found.name.items ≢ name)
 not-last None name b told off = tt
@@ -201,7 +201,7 @@ not-last (Some o) name b told off = λ same. both (told.1 same)
     both is = cc
 
 -- it is the one before, and the two change places
-pub looked-before : (img : Image) (k new : Known) (o : Opened) (e x y : Found) (name : List ℕ) → IsKnown img k
+pub looked-before : (img : Image) (k new : OpenFiles) (o : OpenFile) (e x y : NamedFile) (name : List ℕ) → IsKnown img k
     → k.last ≡ Some o → k.before ≡ Some e → channel_of k.last ≡ None
     → IfSome k.last (λ o. o.found.name.items ≢ name) → e.name.items ≡ name → x ≡ e → y ≡ o.found
     → new.last ≡ Some (record { found = x; spot = o.spot }) → new.before ≡ Some y → new.checked ≡ k.checked
@@ -209,16 +209,16 @@ pub looked-before : (img : Image) (k new : Known) (o : Opened) (e x y : Found) (
 looked-before img k new o e x y name known is before closed other named here there last was same =
     looked-put img k new e name known checked found named
     (subst (λ (name : List ℕ). IfSome k.last (λ o. o.found.name.items ≢ name)) (sym named) other)
-    (last ∙ ap₂ (λ (x : Found) (s : Option Spot). Some (record { found = x; spot = s })) here
+    (last ∙ ap₂ (λ (x : NamedFile) (s : Option Position). Some (record { found = x; spot = s })) here
     (shut (entry_of o.found.file) o.spot (sym (ap channel_of is) ∙ closed)))
-    (was ∙ ap (λ (y : Found). Some y) there ∙ sym (ap found_in is)) same
+    (was ∙ ap (λ (y : NamedFile). Some y) there ∙ sym (ap found_in is)) same
   where
     checked : k.checked ≡ true
     checked = last-checked img k o known is
 
     found : IsFound img e
-    found = subst (λ (o : Option Found). IfSome o (IsFound img)) before (known.remembered checked).before_found
+    found = subst (λ (o : Option NamedFile). IfSome o (IsFound img)) before (known.remembered checked).before_found
 
-    shut : (entry : ℕ) (s : Option Spot) → channel_in entry s ≡ None → s ≡ None
+    shut : (entry : ℕ) (s : Option Position) → channel_in entry s ≡ None → s ≡ None
     shut entry None h = refl
     shut entry (Some s) h = absurd (none-some _ (sym h))

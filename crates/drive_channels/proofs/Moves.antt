@@ -35,14 +35,14 @@ use Rattle.drive_channels.specs.Inside.{IsFound, at_spot, channel_at, channel_of
 use Rattle.drive_channels.specs.Spelling.{wanted_channel, wanted_position, wanted_record}
 use Rattle.drive_channels.specs.State.{View}
 use Rattle.drive_channels.specs.Tables.{HasOn, InFile, Moves, MovesTo}
-use Rattle.drive_channels.specs.declared.found.Found.{Found}
-use Rattle.drive_channels.specs.declared.found.Opened.{Opened}
-use Rattle.drive_channels.specs.declared.found.Spot.{Spot}
-use Rattle.drive_channels.specs.declared.known.Known.{Known}
+use Rattle.drive_channels.specs.declared.open_file.NamedFile.{NamedFile}
+use Rattle.drive_channels.specs.declared.open_file.OpenFile.{OpenFile}
+use Rattle.drive_channels.specs.declared.open_file.Position.{Position}
+use Rattle.drive_channels.specs.declared.open_files.OpenFiles.{OpenFiles}
 use Rattle.drive_channels.specs.declared.status.Status.{Status}
 use Rattle.drive_channels.specs.declared.status.Status.TheVariants as statuses
 
-module _ (img : Image) (e : Found) (s w : Spot) (status : Status) (b : Bool) (found : IsFound img e) where
+module _ (img : Image) (e : NamedFile) (s w : Position) (status : Status) (b : Bool) (found : IsFound img e) where
   -- the position is past the record's end
   pub past-row : length_of e.file < w.position
       → InFile (at_spot img e s status b) (MovesTo (at_spot img e s status b) w.record_number w.position
@@ -85,7 +85,7 @@ module _ (img : Image) (e : Found) (s w : Spot) (status : Status) (b : Bool) (fo
   ))
 
 -- P of the open channel
-pub move-on : (img : Image) (e : Found) (s w : Spot) (known : Known) (text : List ℕ) (status : Status) (y : View)
+pub move-on : (img : Image) (e : NamedFile) (s w : Position) (known : OpenFiles) (text : List ℕ) (status : Status) (y : View)
     → (length text ≡ 4) ⊎ (length text ≡ 5)
     → w.channel ≡ wanted_channel text → w.record_number ≡ wanted_record text → w.position ≡ wanted_position text
     → known.last ≡ Some (record { found = e; spot = Some s }) → s.channel ≡ w.channel
@@ -93,7 +93,7 @@ pub move-on : (img : Image) (e : Found) (s w : Spot) (known : Known) (text : Lis
     w.position y)
     → Moves (shown img known status) text y
 move-on img e s w known text status y long channel number position is on row =
-    subst (λ (o : Option Opened). Moves (record {
+    subst (λ (o : Option OpenFile). Moves (record {
       image = img;
       channel = channel_of o;
       status = status;
@@ -112,13 +112,13 @@ move-on img e s w known text status y long channel number position is on row =
     x = at_spot img e s status known.checked
 
 -- P of a channel that isn't open
-pub move-none : (img : Image) (known : Known) (last : Option Opened) (text : List ℕ) (status : Status)
+pub move-none : (img : Image) (known : OpenFiles) (last : Option OpenFile) (text : List ℕ) (status : Status)
     → known.last ≡ last → (length text ≡ 4) ⊎ (length text ≡ 5)
     → ¬ (HasOn (channel_of known.last) (wanted_channel text))
     → Moves (shown img known status) text
     (shown img (record { last = last; before = known.before; checked = known.checked }) statuses.NoChannel)
 move-none img known last text status is long closed =
-    subst (λ (o : Option Opened). Moves (shown img known status) text
+    subst (λ (o : Option OpenFile). Moves (shown img known status) text
     (shown img (record { last = o; before = known.before; checked = known.checked }) statuses.NoChannel)) is
     (inr ((λ no. no long), inl (closed, refl)))
 

@@ -16,14 +16,14 @@ use Rattle.drive_channels.specs.Inside.{HasLooked, channel_of, shown}
 use Rattle.drive_channels.specs.Moments.{IsCreatingFor, IsCreatingFrom, IsOpenedBy, IsOpenedFor}
 use Rattle.drive_channels.specs.Spelling.{IsName, IsWish, Wish}
 use Rattle.drive_channels.specs.State.{Channel, View}
-use Rattle.drive_channels.specs.Tables.{Opens, OpensFile, Tells, when◌then◌otherwise◌}
-use Rattle.drive_channels.specs.declared.found.Opened.{Opened}
-use Rattle.drive_channels.specs.declared.known.Known.{Known}
+use Rattle.drive_channels.specs.Tables.{Opens, OpensFile, ReplySink, when◌then◌otherwise◌}
+use Rattle.drive_channels.specs.declared.open_file.OpenFile.{OpenFile}
+use Rattle.drive_channels.specs.declared.open_files.OpenFiles.{OpenFiles}
 use Rattle.drive_channels.specs.declared.status.Status.{Status}
 use Rattle.drive_channels.specs.declared.status.Status.TheVariants as statuses
 
 -- a drive with no channel after a check shows the same, whatever files are remembered
-pub same-shown : (img img' : Image) (k k' : Known) (s : Status) → img' ≡ img → channel_of k.last ≡ None
+pub same-shown : (img img' : Image) (k k' : OpenFiles) (s : Status) → img' ≡ img → channel_of k.last ≡ None
     → k.checked ≡ true → channel_of k'.last ≡ None → k'.checked ≡ true
     → shown img' k' s ≡ shown img k s
 same-shown img img' k k' s same closed checked closed' checked' =
@@ -182,7 +182,7 @@ free number o low high closed h = elim h [
 pub past : (x : View) (number : ℕ) (text : List ℕ) (y : View) (w : Wish) → 2 ≤ number → number ≤ 14 → x.channel ≡ None
     → IsWish text w
     → (when (x.checked ≡ false)
-    × ¬ (IsClean x.image) then Tells x statuses.DirError y otherwise
+    × ¬ (IsClean x.image) then ReplySink x statuses.DirError y otherwise
     ((w : Wish) → IsWish text w → OpensFile (record x { checked = true }) number w y))
     → Opens x number text y
 past x number text y w low high closed is rest = inr
@@ -190,20 +190,20 @@ past x number text y w low high closed is rest = inr
 
 -- a call with a text that asks for no file
 pub unspelled : (x : View) (number : ℕ) (text : List ℕ) (y : View) → 2 ≤ number → number ≤ 14 → x.channel ≡ None
-    → ((w : Wish) → ¬ (IsWish text w)) → Tells x statuses.SyntaxError y → Opens x number text y
+    → ((w : Wish) → ¬ (IsWish text w)) → ReplySink x statuses.SyntaxError y → Opens x number text y
 unspelled x number text y low high closed none tells = inr
     (free number x.channel low high closed, inl ((λ asked. none asked.0 asked.1), tells))
 
 -- a check has passed
-pub checked-shown : (img img' : Image) (k k' : Known) (s : Status) → img' ≡ img → k'.last ≡ k.last → k'.checked ≡ true
+pub checked-shown : (img img' : Image) (k k' : OpenFiles) (s : Status) → img' ≡ img → k'.last ≡ k.last → k'.checked ≡ true
     → shown img' k' s ≡ record (shown img k s) { checked = true }
 checked-shown img img' k k' s same last checked =
     subst (λ (i : Image). shown i k' s ≡ record (shown img k s) { checked = true }) (sym same)
-    (ap₂ (λ (o : Option Opened) (b : Bool). record { image = img; channel = channel_of o; status = s; checked = b })
+    (ap₂ (λ (o : Option OpenFile) (b : Bool). record { image = img; channel = channel_of o; status = s; checked = b })
     last checked)
 
 -- the name of a file that is remembered is opened without a look at the disk
-pub recalled : (img : Image) (k k' : Known) (number : ℕ) (text : List ℕ) (s : Status) (y : View) → 2 ≤ number
+pub recalled : (img : Image) (k k' : OpenFiles) (number : ℕ) (text : List ℕ) (s : Status) (y : View) → 2 ≤ number
     → number ≤ 14 → channel_of k.last ≡ None → k'.checked ≡ k.checked
     → HasLooked img text k' true → OpensFile (shown img k' s) number (record { name = text; length = None }) y
     → Opens (shown img k s) number text y

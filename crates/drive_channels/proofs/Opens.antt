@@ -18,10 +18,10 @@ use Rattle.drive_channels.specs.Inside.{HasLooked, IsFound, IsKnown, IsSpot, cha
 use Rattle.drive_channels.specs.Spelling.{IsName}
 use Rattle.drive_channels.specs.State.{Channel}
 use Rattle.drive_channels.specs.Tables.{OpensFile}
-use Rattle.drive_channels.specs.declared.found.Found.{Found}
-use Rattle.drive_channels.specs.declared.found.Opened.{Opened}
-use Rattle.drive_channels.specs.declared.found.Spot.{Spot}
-use Rattle.drive_channels.specs.declared.known.Known.{Known}
+use Rattle.drive_channels.specs.declared.open_file.NamedFile.{NamedFile}
+use Rattle.drive_channels.specs.declared.open_file.OpenFile.{OpenFile}
+use Rattle.drive_channels.specs.declared.open_file.Position.{Position}
+use Rattle.drive_channels.specs.declared.open_files.OpenFiles.{OpenFiles}
 use Rattle.drive_channels.specs.declared.status.Status.{Status}
 use Rattle.drive_channels.specs.declared.status.Status.TheVariants as statuses
 
@@ -40,7 +40,7 @@ no-other img name None entry f named same other = absurd other
 no-other img name (Some l) entry f named same other = other.3 (one-length img name other.0 entry other.1 f other.2 named
     ∙ same)
 
-module _ (img : Image) (k : Known) (o : Opened) (name : List ℕ) (known : IsKnown img k) (last : k.last ≡ Some o)
+module _ (img : Image) (k : OpenFiles) (o : OpenFile) (name : List ℕ) (known : IsKnown img k) (last : k.last ≡ Some o)
     (is : o.found.name.items ≡ name) where
   found : IsFound img o.found
   found = found-last img k o known last
@@ -49,7 +49,7 @@ module _ (img : Image) (k : Known) (o : Opened) (name : List ℕ) (known : IsKno
   there = found-file img o.found name found is
 
   -- the file is there, and is opened
-  pub opened-row : (new : Known) (length : Option ℕ) (number : ℕ) (s : Status)
+  pub opened-row : (new : OpenFiles) (length : Option ℕ) (number : ℕ) (s : Status)
       → IfSome length (λ l. length_of o.found.file ≡ l)
       → new.last ≡ Some (record { found = o.found; spot = Some (first_spot number) }) → new.checked ≡ k.checked
       → OpensFile (shown img k s) number (record { name = name; length = length }) (shown img new statuses.Ok)
@@ -68,7 +68,7 @@ module _ (img : Image) (k : Known) (o : Opened) (name : List ℕ) (known : IsKno
                 found.file,
                 f,
                 refl,
-                ap₂ (λ (last : Option Opened) (checked : Bool). record {
+                ap₂ (λ (last : Option OpenFile) (checked : Bool). record {
                   image = img;
                   channel = channel_of last;
                   status = statuses.Ok;
@@ -86,7 +86,7 @@ module _ (img : Image) (k : Known) (o : Opened) (name : List ℕ) (known : IsKno
       right (Some l) h = sym found.of.shows.size ∙ h
 
   -- it has another length
-  pub other-row : (new : Known) (length : Option ℕ) (number : ℕ) (s : Status)
+  pub other-row : (new : OpenFiles) (length : Option ℕ) (number : ℕ) (s : Status)
       → ¬ (IfSome length (λ l. length_of o.found.file ≡ l))
       → new.last ≡ k.last → new.checked ≡ k.checked
       → OpensFile (shown img k s) number (record { name = name; length = length })
@@ -95,7 +95,7 @@ module _ (img : Image) (k : Known) (o : Opened) (name : List ℕ) (known : IsKno
     (λ h. h.1 there),
     inl (
       wrong length other,
-      ap₂ (λ (last : Option Opened) (checked : Bool). record {
+      ap₂ (λ (last : Option OpenFile) (checked : Bool). record {
         image = img;
         channel = channel_of last;
         status = statuses.RecordNotPresent;
@@ -114,7 +114,7 @@ module _ (img : Image) (k : Known) (o : Opened) (name : List ℕ) (known : IsKno
       )
 
 -- the file isn't there
-module _ (img : Image) (k : Known) (name : List ℕ) (missing : ¬ (HasFile img name)) (number : ℕ) (s : Status) where
+module _ (img : Image) (k : OpenFiles) (name : List ℕ) (missing : ¬ (HasFile img name)) (number : ℕ) (s : Status) where
   none-other : (length : Option ℕ) → ¬ (HasOther img name length)
   none-other None other = absurd other
   none-other (Some l) other = missing (other.0, other.1, other.2)
@@ -145,7 +145,7 @@ module _ (img : Image) (k : Known) (name : List ℕ) (missing : ¬ (HasFile img 
       )
 
   -- it is made
-  pub made-row : (l : ℕ) (new : Image) (after : Known) (entry : ℕ) → ¬ (HasEntry img name) → ¬ (IsNoRoom img)
+  pub made-row : (l : ℕ) (new : Image) (after : OpenFiles) (entry : ℕ) → ¬ (HasEntry img name) → ¬ (IsNoRoom img)
       → Makes img new name l entry
       → channel_of after.last ≡ Some (channel_at entry (first_spot number)) → after.checked ≡ k.checked
       → OpensFile (shown img k s) number (record { name = name; length = Some l }) (shown new after statuses.Ok)
@@ -176,10 +176,10 @@ module _ (img : Image) (k : Known) (name : List ℕ) (missing : ¬ (HasFile img 
   )
 
 -- the file that is opened last is the one that was looked for
-pub looked-name : (img : Image) (name : List ℕ) (k : Known) (o : Opened) → HasLooked img name k true → k.last ≡ Some o
+pub looked-name : (img : Image) (name : List ℕ) (k : OpenFiles) (o : OpenFile) → HasLooked img name k true → k.last ≡ Some o
     → o.found.name.items ≡ name
 looked-name img name k o looked last =
-    let f = looked.found refl in subst (λ (x : Opened). x.found.name.items ≡ name) (same_Some _ _ (sym f.1 ∙ last)) f.2
+    let f = looked.found refl in subst (λ (x : OpenFile). x.found.name.items ≡ name) (same_Some _ _ (sym f.1 ∙ last)) f.2
 
 -- what a creation that is done leaves
 pub makes-of : (old new : Image) (l : Layout) (name : List ℕ) (L : ℕ) (v : RelFile) → IsLayout old l
@@ -192,7 +192,7 @@ makes-of old new l name L v layout made = record {
 }
 
 -- and what is known after it
-pub known-made : (old new : Image) (l : Layout) (name : List ℕ) (L : ℕ) (v : RelFile) (e : Found) (s : Spot)
+pub known-made : (old new : Image) (l : Layout) (name : List ℕ) (L : ℕ) (v : RelFile) (e : NamedFile) (s : Position)
     (number : ℕ) → IsMade old l name L new v → ¬ (IsTakenName l name) → e.file ≡ v → e.name.items ≡ name → IsName name
     → s ≡ first_spot number → 2 ≤ number → number ≤ 14 → (checked : Bool) → checked ≡ true
     → IsKnown new (record { last = Some (record { found = e; spot = Some s }); before = None; checked = checked })
@@ -220,5 +220,5 @@ known-made old new l name L v e s number made free file is named at low high che
     both off = cc
 
 -- what is known stays where the image does
-pub known-still : (old new : Image) (k : Known) → new ≡ old → IsKnown old k → IsKnown new k
+pub known-still : (old new : Image) (k : OpenFiles) → new ≡ old → IsKnown old k → IsKnown new k
 known-still old new k same h = subst (λ (i : Image). IsKnown i k) (sym same) h

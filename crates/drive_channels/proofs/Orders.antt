@@ -6,7 +6,7 @@ use Rattle.drive_channels.specs.Inside.{IsKnown, Remembers}
 use Rattle.drive_channels.specs.Spelling.{BeginsWithP, IsInitialize, IsValidate}
 use Rattle.drive_channels.specs.State.{View}
 use Rattle.drive_channels.specs.Tables.{Commands, Moves, ValidatesTo}
-use Rattle.drive_channels.specs.declared.known.Known.{Known}
+use Rattle.drive_channels.specs.declared.open_files.OpenFiles.{OpenFiles}
 
 pub truth : (b : Bool) → b ≡ true → IsTrue b
 truth b is = is
@@ -41,7 +41,7 @@ pub meets-v : (x : View) (text : List ℕ) (y : View) → IsValidate text → Va
 meets-v x text y v row same = inr (some-validate text v, inl (v, (row, same)))
 
 -- what is known of a clean disk stays, since it isn't written
-pub known-after : (old new : Image) (k : Known) → IsKnown old k → (IsClean old → new ≡ old) → IsKnown new k
+pub known-after : (old new : Image) (k : OpenFiles) → IsKnown old k → (IsClean old → new ≡ old) → IsKnown new k
 known-after old new k known same = record {
   fresh = known.fresh;
   remembered = λ checked. let m = known.remembered checked in subst (λ (i : Image). Remembers i k.last k.before)

@@ -35,15 +35,15 @@ use Rattle.drive_channels.specs.Given.{IsGiven}
 use Rattle.drive_channels.specs.Inside.{IsFound, at_spot, channel_of, next_spot, shown}
 use Rattle.drive_channels.specs.State.{Channel, View}
 use Rattle.drive_channels.specs.Tables.{InFile, Reads, ReadsIn}
-use Rattle.drive_channels.specs.declared.found.Found.{Found}
-use Rattle.drive_channels.specs.declared.found.Opened.{Opened}
-use Rattle.drive_channels.specs.declared.found.Spot.{Spot}
-use Rattle.drive_channels.specs.declared.known.Known.{Known}
+use Rattle.drive_channels.specs.declared.open_file.NamedFile.{NamedFile}
+use Rattle.drive_channels.specs.declared.open_file.OpenFile.{OpenFile}
+use Rattle.drive_channels.specs.declared.open_file.Position.{Position}
+use Rattle.drive_channels.specs.declared.open_files.OpenFiles.{OpenFiles}
 use Rattle.drive_channels.specs.declared.status.Status.{Status}
 use Rattle.drive_channels.specs.declared.status.Status.TheVariants as statuses
 
 -- the remembered file is the one of this entry
-pub at-file : (img : Image) (e : Found) (l : Layout) (f : File) → IsFound img e → IsRelAt img l (entry_of e.file) f
+pub at-file : (img : Image) (e : NamedFile) (l : Layout) (f : File) → IsFound img e → IsRelAt img l (entry_of e.file) f
     → IsFileOf img l (entry_of e.file) f e.file
 at-file img e l f found rel =
     let same : found.file ≡ f = same_Some _ _ (sym found.of.there
@@ -57,7 +57,7 @@ at-file img e l f found rel =
     }
 
 -- a row for the file of the open channel
-pub in-file : (img : Image) (e : Found) (s : Spot) (status : Status) (checked : Bool) (P : Channel → Layout → File
+pub in-file : (img : Image) (e : NamedFile) (s : Position) (status : Status) (checked : Bool) (P : Channel → Layout → File
     → Type 0) → IsFound img e
     → ((l : Layout) (f : File) → IsFileOf img l (entry_of e.file) f e.file
     → P (record { number = s.channel; entry = entry_of e.file; record_number = s.record_number; position = s.position })
@@ -68,7 +68,7 @@ in-file img e s status checked P found row = λ c l f is rel.
     (λ rel. row l f (at-file img e l f found rel)) rel
 
 -- a record that was read
-pub read-row : (img : Image) (e : Found) (s : Spot) (status : Status) (checked : Bool) (text given : List ℕ)
+pub read-row : (img : Image) (e : NamedFile) (s : Position) (status : Status) (checked : Bool) (text given : List ℕ)
     → IsFound img e
     → ((l : Layout) (f : File) → IsFileOf img l (entry_of e.file) f e.file
     → IsRecord (records img f) s.record_number text)
@@ -90,7 +90,7 @@ read-row img e s status checked text given found told is = in-file img e s statu
     )
 
 -- no record was read
-pub absent-row : (img : Image) (e : Found) (s : Spot) (status : Status) (checked : Bool) → IsFound img e
+pub absent-row : (img : Image) (e : NamedFile) (s : Position) (status : Status) (checked : Bool) → IsFound img e
     → 1 ≤ s.record_number
     → ((l : Layout) (f : File) → IsFileOf img l (entry_of e.file) f e.file → IsAbsent (records img f) s.record_number)
     → InFile (at_spot img e s status checked) (ReadsIn (at_spot img e s status checked) []
@@ -105,13 +105,13 @@ absent-row img e s status checked found low told =
     ]
 
 -- a read of the open channel
-pub read-on : (img : Image) (e : Found) (s : Spot) (channel : ℕ) (known : Known) (given : List ℕ) (status : Status)
+pub read-on : (img : Image) (e : NamedFile) (s : Position) (channel : ℕ) (known : OpenFiles) (given : List ℕ) (status : Status)
     (y : View)
     → known.last ≡ Some (record { found = e; spot = Some s }) → s.channel ≡ channel
     → InFile (at_spot img e s status known.checked) (ReadsIn (at_spot img e s status known.checked) given y)
     → Reads (shown img known status) channel given y
 read-on img e s channel known given status y is on row =
-    subst (λ (o : Option Opened). Reads (record {
+    subst (λ (o : Option OpenFile). Reads (record {
       image = img;
       channel = channel_of o;
       status = status;

@@ -28,14 +28,14 @@ use Rattle.rel_records.specs.File.{entry_of}
 use Rattle.drive_channels.specs.Inside.{IsFound, IsKnown, IsSpot, channel_in, channel_of, seen_of}
 use Rattle.drive_channels.specs.Serving.{IsChannel, IsOrderly, Serves}
 use Rattle.drive_channels.specs.State.{Channel, Seen}
-use Rattle.drive_channels.specs.declared.found.Found.{Found}
-use Rattle.drive_channels.specs.declared.found.Opened.{Opened}
-use Rattle.drive_channels.specs.declared.found.Spot.{Spot}
-use Rattle.drive_channels.specs.declared.known.Known.{Known}
+use Rattle.drive_channels.specs.declared.open_file.NamedFile.{NamedFile}
+use Rattle.drive_channels.specs.declared.open_file.OpenFile.{OpenFile}
+use Rattle.drive_channels.specs.declared.open_file.Position.{Position}
+use Rattle.drive_channels.specs.declared.open_files.OpenFiles.{OpenFiles}
 use Rattle.drive_channels.specs.declared.drive.Drive.TheInside.{Inside}
 
 -- the channel of an opened file
-pub channel-right : (img : Image) (e : Found) (s : Spot) → IsFound img e → IsSpot e s
+pub channel-right : (img : Image) (e : NamedFile) (s : Position) → IsFound img e → IsSpot e s
     → IsChannel img (record {
       number = s.channel;
       entry = entry_of e.file;
@@ -53,13 +53,13 @@ channel-right img e s found spot = record {
   within = subst (λ (L : ℕ). s.position ≤ L) found.of.shows.size spot.within;
 }
 
-pub last-right : (img : Image) (last : Option Opened) (c : Channel) → IfSome last (λ o. IsFound img o.found)
+pub last-right : (img : Image) (last : Option OpenFile) (c : Channel) → IfSome last (λ o. IsFound img o.found)
     → IfSome last (λ o. IfSome o.spot (IsSpot o.found))
     → channel_of last ≡ Some c → IsChannel img c
 last-right img None c found spot e = absurd (none-some c e)
 last-right img (Some o) c found spot e = at o.spot spot e
   where
-    at : (spot : Option Spot) → IfSome spot (IsSpot o.found) → channel_in (entry_of o.found.file) spot ≡ Some c
+    at : (spot : Option Position) → IfSome spot (IsSpot o.found) → channel_in (entry_of o.found.file) spot ≡ Some c
         → IsChannel img c
     at None h e = absurd (none-some c e)
     at (Some s) h e = subst (IsChannel img) (same_Some _ _ e) (channel-right img o.found s found h)
@@ -118,16 +118,16 @@ still-dead S d x dead = record {
     apart f t = cc
 
 -- the file opened last is as it is remembered
-pub found-last : (img : Image) (k : Known) (o : Opened) → IsKnown img k → k.last ≡ Some o → IsFound img o.found
+pub found-last : (img : Image) (k : OpenFiles) (o : OpenFile) → IsKnown img k → k.last ≡ Some o → IsFound img o.found
 found-last img k o known is = by k.checked refl
   where
     by : (b : Bool) → k.checked ≡ b → IsFound img o.found
-    by true checked = subst (λ (last : Option Opened). IfSome last (λ o. IsFound img o.found)) is
+    by true checked = subst (λ (last : Option OpenFile). IfSome last (λ o. IsFound img o.found)) is
         (known.remembered checked).last_found
     by false checked = absurd (none-some o (sym (known.fresh checked).0 ∙ is))
 
 -- what is known stays so where the place in the file opened last is another one
-pub known-moved : (img : Image) (k : Known) (o : Opened) (spot : Option Spot) → k.last ≡ Some o → IsKnown img k
+pub known-moved : (img : Image) (k : OpenFiles) (o : OpenFile) (spot : Option Position) → k.last ≡ Some o → IsKnown img k
     → IfSome spot (IsSpot o.found)
     → IsKnown img (record {
       last = Some (record { found = o.found; spot = spot });
@@ -138,25 +138,25 @@ known-moved img k o spot is known right = record {
   fresh = λ no. absurd (none-some o (sym (known.fresh no).0 ∙ is));
   remembered = λ checked. let m = known.remembered checked in record {
     clean = m.clean;
-    last_found = subst (λ (last : Option Opened). IfSome last (λ o. IsFound img o.found)) is m.last_found;
+    last_found = subst (λ (last : Option OpenFile). IfSome last (λ o. IsFound img o.found)) is m.last_found;
     spot = right;
     before_found = m.before_found;
-    apart = subst (λ (last : Option Opened). IfSome last
+    apart = subst (λ (last : Option OpenFile). IfSome last
         (λ o. IfSome k.before (λ e. entry_of e.file ≢ entry_of o.found.file))) is m.apart;
   };
 }
 
 -- and so is the place in it
-pub spot-of : (img : Image) (k : Known) (o : Opened) → IsKnown img k → k.last ≡ Some o
+pub spot-of : (img : Image) (k : OpenFiles) (o : OpenFile) → IsKnown img k → k.last ≡ Some o
     → IfSome o.spot (IsSpot o.found)
 spot-of img k o known is = by k.checked refl
   where
     by : (b : Bool) → k.checked ≡ b → IfSome o.spot (IsSpot o.found)
-    by true checked = subst (λ (last : Option Opened). IfSome last (λ o. IfSome o.spot (IsSpot o.found))) is
+    by true checked = subst (λ (last : Option OpenFile). IfSome last (λ o. IfSome o.spot (IsSpot o.found))) is
         (known.remembered checked).spot
     by false checked = absurd (none-some o (sym (known.fresh checked).0 ∙ is))
 
-pub spot-last : (img : Image) (k : Known) (o : Opened) (s : Spot) → IsKnown img k → k.last ≡ Some o → o.spot ≡ Some s
+pub spot-last : (img : Image) (k : OpenFiles) (o : OpenFile) (s : Position) → IsKnown img k → k.last ≡ Some o → o.spot ≡ Some s
     → IsSpot o.found s
-spot-last img k o s known is at = subst (λ (spot : Option Spot). IfSome spot (IsSpot o.found)) at
+spot-last img k o s known is at = subst (λ (spot : Option Position). IfSome spot (IsSpot o.found)) at
     (spot-of img k o known is)

@@ -19,8 +19,8 @@ use Rattle.drive_channels.specs.Inside.{IsFound, IsSpot, KeepsFound, at_spot, ch
 use Rattle.drive_channels.specs.Moments.{IsWrittenAt}
 use Rattle.drive_channels.specs.State.{Channel}
 use Rattle.drive_channels.specs.Tables.{InFile, WritesIn}
-use Rattle.drive_channels.specs.declared.found.Found.{Found}
-use Rattle.drive_channels.specs.declared.found.Spot.{Spot}
+use Rattle.drive_channels.specs.declared.open_file.NamedFile.{NamedFile}
+use Rattle.drive_channels.specs.declared.open_file.Position.{Position}
 use Rattle.drive_channels.specs.declared.status.Status.{Status}
 use Rattle.drive_channels.specs.declared.status.Status.TheVariants as statuses
 
@@ -42,7 +42,7 @@ pub had-is : (f : File) (v : RelFile) → Shows f v → records_in v ≡ records
 had-is f v h = cc
 
 -- what a done call leaves of the files that are remembered
-pub keeps-left : (old new : Image) (e e' : Found) (rs : List (List ℕ)) → (h : IsFound old e) → e'.name ≡ e.name
+pub keeps-left : (old new : Image) (e e' : NamedFile) (rs : List (List ℕ)) → (h : IsFound old e) → e'.name ≡ e.name
     → entry_of e'.file ≡ entry_of e.file
     → LeavesRecords old new h.layout (entry_of e.file) rs e'.file → KeepsFound old new e e'
 keeps-left old new e e' rs h name entry left = record {
@@ -54,13 +54,13 @@ keeps-left old new e e' rs h name entry left = record {
 }
 
 -- and what a refused one leaves
-pub keeps-same : (old new : Image) (e e' : Found) → old ≡ new → e ≡ e' → IsClean old → IsFound old e
+pub keeps-same : (old new : Image) (e e' : NamedFile) → old ≡ new → e ≡ e' → IsClean old → IsFound old e
     → KeepsFound old new e e'
 keeps-same old new e e' image same clean found =
     let here : KeepsFound old old e e = record { clean = clean; entry = refl; found = found; others = λ o _ is. is } in
-    subst (λ (i : Image). KeepsFound old i e e') image (subst (λ (x : Found). KeepsFound old old e x) same here)
+    subst (λ (i : Image). KeepsFound old i e e') image (subst (λ (x : NamedFile). KeepsFound old old e x) same here)
 
-module _ (old new : Image) (e e' : Found) (s : Spot) (status : Status) (b : Bool) (found : IsFound old e)
+module _ (old new : Image) (e e' : NamedFile) (s : Position) (status : Status) (b : Bool) (found : IsFound old e)
     (entry : entry_of e'.file ≡ entry_of e.file) where
   -- the record can't be there
   pub refused-row : (text : List ℕ) → new ≡ old
@@ -185,7 +185,7 @@ cut f v h text position lt = sym
     below m n lt = grind arith
 
 -- the place behind a record that is there
-pub next-spot : (e e' : Found) (s : Spot) → IsSpot e s → length_of e'.file ≡ length_of e.file → s.record_number ≤ 182880
+pub next-spot : (e e' : NamedFile) (s : Position) → IsSpot e s → length_of e'.file ≡ length_of e.file → s.record_number ≤ 182880
     → IsSpot e' (next_spot s)
 next-spot e e' s h same few = record {
   low = h.low;
@@ -212,7 +212,7 @@ pub no-text : (text : List ℕ) (b : Bool) → b ≡ (length text == 0) → b �
 no-text text b is empty = no-bytes text (grind (arith, common_steps, is, empty))
 
 -- the place in the same file when it has grown
-pub same-spot : (e e' : Found) (s : Spot) → IsSpot e s → length_of e'.file ≡ length_of e.file → IsSpot e' s
+pub same-spot : (e e' : NamedFile) (s : Position) → IsSpot e s → length_of e'.file ≡ length_of e.file → IsSpot e' s
 same-spot e e' s is same = record {
   low = is.low;
   high = is.high;

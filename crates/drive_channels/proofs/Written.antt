@@ -51,21 +51,21 @@ use Rattle.drive_channels.specs.Inside.{
 use Rattle.drive_channels.specs.Moments.{IsOnTheWay, IsWrittenAt, IsWrittenOn}
 use Rattle.drive_channels.specs.State.{Channel, View}
 use Rattle.drive_channels.specs.Tables.{HasOn, InFile, Reads, Writes, WritesIn}
-use Rattle.drive_channels.specs.declared.found.Found.{Found}
-use Rattle.drive_channels.specs.declared.found.Opened.{Opened}
-use Rattle.drive_channels.specs.declared.found.Spot.{Spot}
-use Rattle.drive_channels.specs.declared.known.Known.{Known}
+use Rattle.drive_channels.specs.declared.open_file.NamedFile.{NamedFile}
+use Rattle.drive_channels.specs.declared.open_file.OpenFile.{OpenFile}
+use Rattle.drive_channels.specs.declared.open_file.Position.{Position}
+use Rattle.drive_channels.specs.declared.open_files.OpenFiles.{OpenFiles}
 use Rattle.drive_channels.specs.declared.status.Status.{Status}
 use Rattle.drive_channels.specs.declared.status.Status.TheVariants.{FileNotOpen}
 
 -- a write to the open channel
-pub write-on : (img : Image) (e : Found) (s : Spot) (channel : ℕ) (known : Known) (text : List ℕ) (status : Status)
+pub write-on : (img : Image) (e : NamedFile) (s : Position) (channel : ℕ) (known : OpenFiles) (text : List ℕ) (status : Status)
     (y : View)
     → known.last ≡ Some (record { found = e; spot = Some s }) → s.channel ≡ channel
     → InFile (at_spot img e s status known.checked) (WritesIn (at_spot img e s status known.checked) text y)
     → Writes (shown img known status) channel text y
 write-on img e s channel known text status y is on row =
-    subst (λ (o : Option Opened). Writes (record {
+    subst (λ (o : Option OpenFile). Writes (record {
       image = img;
       channel = channel_of o;
       status = status;
@@ -75,13 +75,13 @@ write-on img e s channel known text status y is on row =
 
 module _ {D T E : Type 0} (S : History D) (number : ℕ) (text : List ℕ) (result : Result T E) where
   -- its moments
-  pub written-on : (old new : D) (e : Found) (s : Spot) (last : Option Opened)
+  pub written-on : (old new : D) (e : NamedFile) (s : Position) (last : Option OpenFile)
       → last ≡ Some (record { found = e; spot = Some s }) → s.channel ≡ number
       → ((l : Layout) (f : File) → IsRelAt (S.image old) l (entry_of e.file) f
       → IsWrittenAt S old new (channel_at (entry_of e.file) s) l f text result)
       → IsWrittenOn S old new (channel_of last) number text result
   written-on old new e s last is on at =
-      subst (λ (o : Option Opened). IsWrittenOn S old new (channel_of o) number text result) (sym is) (record {
+      subst (λ (o : Option OpenFile). IsWrittenOn S old new (channel_of o) number text result) (sym is) (record {
         silent = λ no. absurd (no (channel_at (entry_of e.file) s, (refl, on)));
         at = λ c l f h rel. subst (λ (c : Channel). IsRelAt (S.image old) l c.entry f
             → IsWrittenAt S old new c l f text result) (same_Some _ _ h.0) (at l f) rel;
@@ -98,30 +98,30 @@ on-both (Ok x) f a b = f a b
 on-both (Err e) f a b = tt
 
 -- another channel is open, or none
-pub other-open : (e : Found) (s : Spot) (last : Option Opened) (number : ℕ)
+pub other-open : (e : NamedFile) (s : Position) (last : Option OpenFile) (number : ℕ)
     → last ≡ Some (record { found = e; spot = Some s }) → s.channel ≢ number → ¬ (HasOn (channel_of last) number)
-other-open e s last number is other = subst (λ (o : Option Opened). ¬ (HasOn (channel_of o) number)) (sym is)
+other-open e s last number is other = subst (λ (o : Option OpenFile). ¬ (HasOn (channel_of o) number)) (sym is)
     (λ h. other (away h.0 h.1))
   where
     away : (c : Channel) → (Some (channel_at (entry_of e.file) s) ≡ Some c) × (c.number ≡ number) → s.channel ≡ number
     away c (same, on) = subst (λ (c : Channel). c.number ≡ number) (sym (same_Some _ _ same)) on
 
-pub none-open : (e : Found) (last : Option Opened) (number : ℕ) → last ≡ Some (record { found = e; spot = None })
+pub none-open : (e : NamedFile) (last : Option OpenFile) (number : ℕ) → last ≡ Some (record { found = e; spot = None })
     → ¬ (HasOn (channel_of last) number)
-none-open e last number is = subst (λ (o : Option Opened). ¬ (HasOn (channel_of o) number)) (sym is)
+none-open e last number is = subst (λ (o : Option OpenFile). ¬ (HasOn (channel_of o) number)) (sym is)
     (λ h. none-some h.0 h.1.0)
 
-pub no-file : (last : Option Opened) (number : ℕ) → last ≡ None → ¬ (HasOn (channel_of last) number)
-no-file last number is = subst (λ (o : Option Opened). ¬ (HasOn (channel_of o) number)) (sym is)
+pub no-file : (last : Option OpenFile) (number : ℕ) → last ≡ None → ¬ (HasOn (channel_of last) number)
+no-file last number is = subst (λ (o : Option OpenFile). ¬ (HasOn (channel_of o) number)) (sym is)
     (λ h. none-some h.0 h.1.0)
 
 -- a file opened last, by its parts
-pub parts-of : (k : Known) (o : Opened) (spot : Option Spot) → k.last ≡ Some o → o.spot ≡ spot
+pub parts-of : (k : OpenFiles) (o : OpenFile) (spot : Option Position) → k.last ≡ Some o → o.spot ≡ spot
     → k.last ≡ Some (record { found = o.found; spot = spot })
-parts-of k o spot is at = subst (λ (x : Option Spot). k.last ≡ Some (record { found = o.found; spot = x })) at is
+parts-of k o spot is at = subst (λ (x : Option Position). k.last ≡ Some (record { found = o.found; spot = x })) at is
 
 -- what is known of its disk, of the file and of its place
-pub on-spot : (img : Image) (k : Known) (e : Found) (s : Spot) → IsKnown img k
+pub on-spot : (img : Image) (k : OpenFiles) (e : NamedFile) (s : Position) → IsKnown img k
     → k.last ≡ Some (record { found = e; spot = Some s }) → IsClean img × IsFound img e × IsSpot e s
 on-spot img k e s known is = by k.checked refl
   where
@@ -130,37 +130,37 @@ on-spot img k e s known is = by k.checked refl
     by true checked =
         let m = known.remembered checked in (
           m.clean,
-          subst (λ (last : Option Opened). IfSome last (λ o. IsFound img o.found)) is m.last_found,
-          subst (λ (last : Option Opened). IfSome last (λ o. IfSome o.spot (IsSpot o.found))) is m.spot,
+          subst (λ (last : Option OpenFile). IfSome last (λ o. IsFound img o.found)) is m.last_found,
+          subst (λ (last : Option OpenFile). IfSome last (λ o. IfSome o.spot (IsSpot o.found))) is m.spot,
         )
 
 -- a call that only looks at the file opened last leaves what is known
-pub still-known : (img : Image) (k : Known) (last : Option Opened) → k.last ≡ last → IsKnown img k
+pub still-known : (img : Image) (k : OpenFiles) (last : Option OpenFile) → k.last ≡ last → IsKnown img k
     → IsKnown img (record { last = last; before = k.before; checked = k.checked })
 still-known img k last is known =
-    subst (λ (o : Option Opened). IsKnown img (record { last = o; before = k.before; checked = k.checked })) is known
+    subst (λ (o : Option OpenFile). IsKnown img (record { last = o; before = k.before; checked = k.checked })) is known
 
 -- a write to a channel that isn't open
-pub closed-row : (img : Image) (k : Known) (last : Option Opened) (number : ℕ) (text : List ℕ) (s : Status)
+pub closed-row : (img : Image) (k : OpenFiles) (last : Option OpenFile) (number : ℕ) (text : List ℕ) (s : Status)
     → k.last ≡ last → ¬ (HasOn (channel_of k.last) number)
     → Writes (shown img k s) number text (shown img (record { last = last; before = k.before; checked = k.checked })
     FileNotOpen)
 closed-row img k last number text s is closed =
-    subst (λ (o : Option Opened). Writes (shown img k s) number text
+    subst (λ (o : Option OpenFile). Writes (shown img k s) number text
     (shown img (record { last = o; before = k.before; checked = k.checked }) FileNotOpen)) is (inl (closed, refl))
 
 -- a read of one
-pub closed-read : (img : Image) (k : Known) (last : Option Opened) (number : ℕ) (given : List ℕ) (s : Status)
+pub closed-read : (img : Image) (k : OpenFiles) (last : Option OpenFile) (number : ℕ) (given : List ℕ) (s : Status)
     → k.last ≡ last → ¬ (HasOn (channel_of k.last) number) → given ≡ []
     → Reads (shown img k s) number given (shown img (record { last = last; before = k.before; checked = k.checked })
     FileNotOpen)
 closed-read img k last number given s is closed none =
-    subst (λ (o : Option Opened). Reads (shown img k s) number given
+    subst (λ (o : Option OpenFile). Reads (shown img k s) number given
     (shown img (record { last = o; before = k.before; checked = k.checked }) FileNotOpen)) is
     (inl (closed, (refl, none)))
 
 -- what is known after a write to the file that was opened last
-pub known-written : (old new : Image) (k : Known) (o : Opened) (e : Found) (s : Spot) → k.last ≡ Some o → IsKnown old k
+pub known-written : (old new : Image) (k : OpenFiles) (o : OpenFile) (e : NamedFile) (s : Position) → k.last ≡ Some o → IsKnown old k
     → KeepsFound old new o.found e → IsSpot e s
     → IsKnown new (record { last = Some (record { found = e; spot = Some s }); before = k.before; checked = k.checked })
 known-written old new k o e s is known keeps spot = record {
@@ -174,18 +174,18 @@ known-written old new k o e s is known keeps spot = record {
   };
 }
   where
-    Apart : Option Found → Type 0
+    Apart : Option NamedFile → Type 0
     Apart before = IfSome before (λ e. entry_of e.file ≢ entry_of o.found.file)
 
     beside : Remembers old k.last k.before → Apart k.before
-    beside m = subst (λ (last : Option Opened). IfSome last
+    beside m = subst (λ (last : Option OpenFile). IfSome last
         (λ o. IfSome k.before (λ e. entry_of e.file ≢ entry_of o.found.file))) is m.apart
 
-    others : (before : Option Found) → IfSome before (IsFound old) → Apart before → IfSome before (IsFound new)
+    others : (before : Option NamedFile) → IfSome before (IsFound old) → Apart before → IfSome before (IsFound new)
     others None h apart = tt
     others (Some b) h apart = keeps.others b apart h
 
-    still : (before : Option Found) → Apart before → IfSome before (λ b. entry_of b.file ≢ entry_of e.file)
+    still : (before : Option NamedFile) → Apart before → IfSome before (λ b. entry_of b.file ≢ entry_of e.file)
     still None apart = tt
     still (Some b) apart = λ same. apart (same ∙ keeps.entry)
 

@@ -10,9 +10,9 @@ use Rattle.drive_channels.specs.Moments.{IsOpenedBy, IsOpenedFor, IsWrittenAt, I
 use Rattle.drive_channels.specs.Spelling.{Wish}
 use Rattle.drive_channels.specs.Tables.{InFile, Opens, OpensFile, Reads, ReadsIn, ValidatesTo, Writes, WritesIn}
 use Rattle.drive_channels.specs.declared.faults.Dead.{Dead}
-use Rattle.drive_channels.specs.declared.found.Found.{Found}
-use Rattle.drive_channels.specs.declared.found.Spot.{Spot}
-use Rattle.drive_channels.specs.declared.known.Known.{Known}
+use Rattle.drive_channels.specs.declared.open_file.NamedFile.{NamedFile}
+use Rattle.drive_channels.specs.declared.open_file.Position.{Position}
+use Rattle.drive_channels.specs.declared.open_files.OpenFiles.{OpenFiles}
 use Rattle.drive_channels.specs.declared.status.Status.{Status}
 use Rattle.drive_channels.specs.declared.status.Status.TheVariants as statuses
 use Rattle.layout_check.specs.Repaired.{MendsFrom}
@@ -25,19 +25,19 @@ pub record IsChannelNumber (channel : ℕ) : Type 0 where
   pub high : channel ≤ 14
 
 -- What is known is of the disk, a check has passed, and no channel is open.
-pub record IsShut (img : Image) (k : Known) : Type 0 where
+pub record IsShut (img : Image) (k : OpenFiles) : Type 0 where
   pub known : IsKnown img k
   pub checked : k.checked ≡ true
   pub closed : channel_of k.last ≡ None
 
 -- This is a place in a remembered file of a clean disk.
-pub record IsPlace (img : Image) (e : Found) (s : Spot) : Type 0 where
+pub record IsPlace (img : Image) (e : NamedFile) (s : Position) : Type 0 where
   pub clean : IsClean img
   pub found : IsFound img e
   pub spot : IsSpot e s
 
 -- A read at a place of a file gave these bytes, and went on from it.
-pub record ReadsAt {D : Type 0} (S : History D) (old new : D) (e : Found) (s s' : Spot) (given : List ℕ)
+pub record ReadsAt {D : Type 0} (S : History D) (old new : D) (e : NamedFile) (s s' : Position) (given : List ℕ)
     (result : Result Status Dead) : Type 0 where
   pub row : IfOk result (λ status. (before : Status) → (b : Bool) → InFile (at_spot (S.image old) e s before b)
       (ReadsIn (at_spot (S.image old) e s before b) given (at_spot (S.image old) e s' status b)))
@@ -46,7 +46,7 @@ pub record ReadsAt {D : Type 0} (S : History D) (old new : D) (e : Found) (s s' 
   pub failures : TellsFailure S old new result
 
 -- A text was written at a place of a file, or its record made where it is empty, and the place went on from it.
-pub record WritesAt {D : Type 0} (S : History D) (old new : D) (e e' : Found) (s s' : Spot) (text : List ℕ)
+pub record WritesAt {D : Type 0} (S : History D) (old new : D) (e e' : NamedFile) (s s' : Position) (text : List ℕ)
     (result : Result Status Dead) : Type 0 where
   pub row : IfOk result (λ status. (before : Status) → (b : Bool) → InFile (at_spot (S.image old) e s before b)
       (WritesIn (at_spot (S.image old) e s before b) text (at_spot (S.image new) e' s' status b)))
@@ -59,7 +59,7 @@ pub record WritesAt {D : Type 0} (S : History D) (old new : D) (e e' : Found) (s
   pub failures : TellsFailure S old new result
 
 -- A text was written to the channel of this number, where it is the open one.
-pub record WritesOn {D : Type 0} (S : History D) (old new : D) (k k' : Known) (channel : ℕ) (text : List ℕ)
+pub record WritesOn {D : Type 0} (S : History D) (old new : D) (k k' : OpenFiles) (channel : ℕ) (text : List ℕ)
     (result : Result Status Dead) : Type 0 where
   pub row : IfOk result (λ status. (before : Status)
       → Writes (shown (S.image old) k before) channel text (shown (S.image new) k' status))
@@ -70,7 +70,7 @@ pub record WritesOn {D : Type 0} (S : History D) (old new : D) (k k' : Known) (c
   pub failures : TellsFailure S old new result
 
 -- A file that wasn't there was made and opened, or couldn't be.
-pub record MakesFile {D : Type 0} (S : History D) (old new : D) (k k' : Known) (channel : ℕ) (name : List ℕ) (size : ℕ)
+pub record MakesFile {D : Type 0} (S : History D) (old new : D) (k k' : OpenFiles) (channel : ℕ) (name : List ℕ) (size : ℕ)
     (result : Result Status Dead) : Type 0 where
   pub row : IfOk result (λ status. (before : Status)
       → OpensFile (shown (S.image old) k before) channel (record { name = name; length = Some size })
@@ -84,7 +84,7 @@ pub record MakesFile {D : Type 0} (S : History D) (old new : D) (k k' : Known) (
   pub failures : TellsFailure S old new result
 
 -- The file that is asked for was opened, or made.
-pub record OpensWish {D : Type 0} (S : History D) (old new : D) (k k' : Known) (channel : ℕ) (w : Wish)
+pub record OpensWish {D : Type 0} (S : History D) (old new : D) (k k' : OpenFiles) (channel : ℕ) (w : Wish)
     (result : Result Status Dead) : Type 0 where
   pub row : IfOk result (λ status. (before : Status)
       → OpensFile (shown (S.image old) k before) channel w (shown (S.image new) k' status))
@@ -93,7 +93,7 @@ pub record OpensWish {D : Type 0} (S : History D) (old new : D) (k k' : Known) (
   pub failures : TellsFailure S old new result
 
 -- What a text asks for was opened.
-pub record OpensText {D : Type 0} (S : History D) (old new : D) (k k' : Known) (channel : ℕ) (text : List ℕ)
+pub record OpensText {D : Type 0} (S : History D) (old new : D) (k k' : OpenFiles) (channel : ℕ) (text : List ℕ)
     (result : Result Status Dead) : Type 0 where
   pub row : IfOk result (λ status. (before : Status)
       → Opens (shown (S.image old) k before) channel text (shown (S.image new) k' status))
@@ -118,7 +118,7 @@ pub record LooksFor {D T : Type 0} (S : History D) (old new : D) (result : Resul
     pub failures : TellsFailure S old new result
 
 -- The disk was checked, where no check had passed yet; the answer is whether one has now.
-pub record Checks {D : Type 0} (S : History D) (old new : D) (k k' : Known) (result : Result Bool Dead) : Type 0 where
+pub record Checks {D : Type 0} (S : History D) (old new : D) (k k' : OpenFiles) (result : Result Bool Dead) : Type 0 where
   pub passed : IfOk result (λ passed. passed ≡ true → (k'.checked ≡ true) × IsKnown (S.image old) k')
   pub refused : IfOk result (λ passed. passed ≡ false → (k' ≡ k) × (k.checked ≡ false) × ¬ (IsClean (S.image old)))
   pub last : OnOk result (k'.last ≡ k.last)
@@ -126,7 +126,7 @@ pub record Checks {D : Type 0} (S : History D) (old new : D) (k k' : Known) (res
   pub failures : TellsFailure S old new result
 
 -- The channel of this number was read, where it is the open one.
-pub record ReadsOn {D : Type 0} (S : History D) (old new : D) (k k' : Known) (channel : ℕ) (given : List ℕ)
+pub record ReadsOn {D : Type 0} (S : History D) (old new : D) (k k' : OpenFiles) (channel : ℕ) (given : List ℕ)
     (result : Result Status Dead) : Type 0 where
   pub row : IfOk result (λ status. (before : Status)
       → Reads (shown (S.image old) k before) channel given (shown (S.image old) k' status))

@@ -9,15 +9,15 @@ use Rattle.rel_records.specs.File.{IsFileOf, entry_of, length_of}
 use Rattle.drive_channels.specs.Files.{HasFile}
 use Rattle.drive_channels.specs.Spelling.{IsName}
 use Rattle.drive_channels.specs.State.{Channel, Seen, View}
-use Rattle.drive_channels.specs.declared.found.Found.{Found}
-use Rattle.drive_channels.specs.declared.found.Opened.{Opened}
-use Rattle.drive_channels.specs.declared.found.Spot.{Spot}
-use Rattle.drive_channels.specs.declared.known.Known.{Known}
+use Rattle.drive_channels.specs.declared.open_file.NamedFile.{NamedFile}
+use Rattle.drive_channels.specs.declared.open_file.OpenFile.{OpenFile}
+use Rattle.drive_channels.specs.declared.open_file.Position.{Position}
+use Rattle.drive_channels.specs.declared.open_files.OpenFiles.{OpenFiles}
 use Rattle.drive_channels.specs.declared.status.Status.{Status}
 use Rattle.drive_channels.specs.declared.drive.Drive.TheInside.{Inside}
 
 -- the channel at this place of the file with this entry
-abbrev pub channel_at : ℕ → Spot → Channel
+abbrev pub channel_at : ℕ → Position → Channel
 channel_at entry s = record {
   number = s.channel;
   entry = entry;
@@ -25,12 +25,12 @@ channel_at entry s = record {
   position = s.position;
 }
 
-abbrev pub channel_in : ℕ → Option Spot → Option Channel
+abbrev pub channel_in : ℕ → Option Position → Option Channel
 channel_in entry None = None
 channel_in entry (Some s) = Some (channel_at entry s)
 
 -- the open channel
-abbrev pub channel_of : Option Opened → Option Channel
+abbrev pub channel_of : Option OpenFile → Option Channel
 channel_of None = None
 channel_of (Some o) = channel_in (entry_of o.found.file) o.spot
 
@@ -45,15 +45,15 @@ seen_of d = record {
 }
 
 -- the first byte of the first record
-abbrev pub first_spot : ℕ → Spot
+abbrev pub first_spot : ℕ → Position
 first_spot channel = record { channel = channel; record_number = 1; position = 1 }
 
 -- the first byte of the next record
-abbrev pub next_spot : Spot → Spot
+abbrev pub next_spot : Position → Position
 next_spot s = record { channel = s.channel; record_number = s.record_number + 1; position = 1 }
 
 -- a drive that knows this and has this status, over this image
-abbrev pub shown : Image → Known → Status → View
+abbrev pub shown : Image → OpenFiles → Status → View
 shown img known status = record {
   image = img;
   channel = channel_of known.last;
@@ -62,7 +62,7 @@ shown img known status = record {
 }
 
 -- a drive with this file open at this place
-abbrev pub at_spot : Image → Found → Spot → Status → Bool → View
+abbrev pub at_spot : Image → NamedFile → Position → Status → Bool → View
 at_spot img e s status checked = record {
   image = img;
   channel = channel_in (entry_of e.file) (Some s);
@@ -71,7 +71,7 @@ at_spot img e s status checked = record {
 }
 
 -- the remembered file is the first closed relative one of its name
-pub record IsFound (img : Image) (e : Found) : Type 0 where
+pub record IsFound (img : Image) (e : NamedFile) : Type 0 where
   pub layout : Layout
   pub file : File
   pub of : IsFileOf img layout (entry_of e.file) file e.file
@@ -79,7 +79,7 @@ pub record IsFound (img : Image) (e : Found) : Type 0 where
   pub first : IsFirst layout e.name.items (entry_of e.file) file
 
 -- the place of a channel in its file
-pub record IsSpot (e : Found) (s : Spot) : Type 0 where
+pub record IsSpot (e : NamedFile) (s : Position) : Type 0 where
   pub low : 2 ≤ s.channel
   pub high : s.channel ≤ 14
   pub record_from : 1 ≤ s.record_number
@@ -88,7 +88,7 @@ pub record IsSpot (e : Found) (s : Spot) : Type 0 where
   pub within : s.position ≤ length_of e.file
 
 -- what is remembered of a clean disk: the file opened last, with its channel if that is open, and the one before
-pub record Remembers (img : Image) (last : Option Opened) (before : Option Found) : Type 0 where
+pub record Remembers (img : Image) (last : Option OpenFile) (before : Option NamedFile) : Type 0 where
   pub clean : IsClean img
   pub last_found : IfSome last (λ o. IsFound img o.found)
   pub spot : IfSome last (λ o. IfSome o.spot (IsSpot o.found))
@@ -96,7 +96,7 @@ pub record Remembers (img : Image) (last : Option Opened) (before : Option Found
   pub apart : IfSome last (λ o. IfSome before (λ e. entry_of e.file ≢ entry_of o.found.file))
 
 -- nothing is known before a check has passed, and then what is remembered is so
-pub record IsKnown (img : Image) (k : Known) : Type 0 where
+pub record IsKnown (img : Image) (k : OpenFiles) : Type 0 where
   pub fresh : k.checked ≡ false → (k.last ≡ None) × (k.before ≡ None)
   pub remembered : k.checked ≡ true → Remembers img k.last k.before
 
@@ -105,22 +105,22 @@ abbrev pub IsSteady : {D : Type 0} → History D → Inside D → Type 0
 IsSteady S d = d.dead ≡ false → IsKnown (S.image d.disk) d.known
 
 -- what a write to a remembered file leaves, if it is done: this file and all others are remembered as they are now
-pub record KeepsFound (old new : Image) (e e' : Found) : Type 0 where
+pub record KeepsFound (old new : Image) (e e' : NamedFile) : Type 0 where
   pub clean : IsClean new
   pub entry : entry_of e'.file ≡ entry_of e.file
   pub found : IsFound new e'
-  pub others : (o : Found) → entry_of o.file ≢ entry_of e.file → IsFound old o → IsFound new o
+  pub others : (o : NamedFile) → entry_of o.file ≢ entry_of e.file → IsFound old o → IsFound new o
 
 -- the file opened last, without its channel
-abbrev pub found_in : Option Opened → Option Found
+abbrev pub found_in : Option OpenFile → Option NamedFile
 found_in None = None
 found_in (Some o) = Some o.found
 
 -- after a look for the first closed relative file of a name: where there is one it is the one opened last, with no
 -- channel
-pub record HasLooked (img : Image) (name : List ℕ) (k : Known) (there : Bool) : Type 0 where
+pub record HasLooked (img : Image) (name : List ℕ) (k : OpenFiles) (there : Bool) : Type 0 where
   pub known : IsKnown img k
   pub checked : k.checked ≡ true
   pub closed : channel_of k.last ≡ None
-  pub found : there ≡ true → (o : Opened) × (k.last ≡ Some o) × (o.found.name.items ≡ name)
+  pub found : there ≡ true → (o : OpenFile) × (k.last ≡ Some o) × (o.found.name.items ≡ name)
   pub missing : there ≡ false → ¬ (HasFile img name)

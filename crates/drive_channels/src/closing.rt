@@ -9,12 +9,12 @@ ghost use Rattle.rel_records.specs.File.{entry_of};
 
 use crate::drive::Drive;
 use crate::faults::Dead;
-use crate::found::Opened;
-use crate::known::Known;
+use crate::open_file::OpenFile;
+use crate::open_files::OpenFiles;
 use crate::status::Status;
 use d64_image::Sectors;
 
-impl Opened {
+impl OpenFile {
     /// Closes its channel, where that has this number.
     fn close(&mut self, channel: u8)
         ensures found { self.new.found ≡ self.old.found }
@@ -30,7 +30,7 @@ impl Opened {
     }
 }
 
-impl Known {
+impl OpenFiles {
     /// Closes the channel, where it has this number.
     fn close(&mut self, channel: u8)
         ensures channel { channel_of self.new.last ≡ channel_without channel (channel_of self.old.last) }

@@ -12,14 +12,14 @@ ghost use Rattle.drive_channels.specs.Spelling.{IsInitialize, IsValidate, wanted
 ghost use Rattle.drive_channels.specs.Spelling.{wanted_record};
 ghost use Rattle.drive_channels.specs.State.{view_of};
 ghost use Rattle.drive_channels.specs.Tables.{Commands, InFile, Moves, MovesTo};
-ghost use Rattle.drive_channels.specs.declared.known.Known.{Known};
+ghost use Rattle.drive_channels.specs.declared.open_files.OpenFiles.{OpenFiles};
 ghost use Rattle.drive_channels.specs.declared.status.Status as statuses;
 ghost use Rattle.layout_check.specs.Repaired.{MendsFrom};
 
 use crate::drive::Drive;
 use crate::faults::Dead;
-use crate::found::{Found, Opened, Spot};
-use crate::known::Known;
+use crate::open_file::{NamedFile, OpenFile, Position};
+use crate::open_files::OpenFiles;
 use crate::status::Status;
 use d64_image::Sectors;
 use disk_layout::Fault;
@@ -54,7 +54,7 @@ fn is_initialize(text: &[u8]) -> bool
 }
 
 /// The place that a `P` asks for, where it is as long as one.
-fn place_of(text: &[u8]) -> Option<Spot>
+fn place_of(text: &[u8]) -> Option<Position>
     ensures { MatchOption result (¬ ((length text.now ≡ 4) ⊎ (length text.now ≡ 5))) (λ spot.
         ((length text.now ≡ 4) ⊎ (length text.now ≡ 5)) × (spot.channel ≡ wanted_channel text.now)
         × (spot.record_number ≡ wanted_record text.now) × (spot.position ≡ wanted_position text.now)) }
@@ -64,7 +64,7 @@ fn place_of(text: &[u8]) -> Option<Spot>
     }
     let number = text[2] as u32 + 256 * text[3] as u32;
     let position = if text.len() == 5 { text[4] } else { 1 };
-    Some(Spot {
+    Some(Position {
         channel: text[1] % 16,
         position: position.max(1),
         record_number: number.max(1),
@@ -72,7 +72,7 @@ fn place_of(text: &[u8]) -> Option<Spot>
 }
 
 /// Goes to a place in the file, on the same channel: what that comes to.
-fn go_to(found: &Found, spot: &mut Spot, wanted: Spot) -> Status
+fn go_to(found: &NamedFile, spot: &mut Position, wanted: Position) -> Status
     requires record_low { 1 ≤ wanted.record_number }
     requires record_high { wanted.record_number ≤ 65535 }
     requires position { 1 ≤ wanted.position }
@@ -97,13 +97,13 @@ fn go_to(found: &Found, spot: &mut Spot, wanted: Spot) -> Status
     Status::Ok
 }
 
-impl Opened {
+impl OpenFile {
     /// Goes to a place, where the open channel is the one that is meant: what that comes to.
-    fn position(&mut self, wanted: Spot) -> Status
+    fn position(&mut self, wanted: Position) -> Status
         requires record_low { 1 ≤ wanted.record_number }
         requires record_high { wanted.record_number ≤ 65535 }
         requires position { 1 ≤ wanted.position }
-        ensures row { (img : Image) → (k : Known) → (text : List ℕ) → (s : statuses.Status)
+        ensures row { (img : Image) → (k : OpenFiles) → (text : List ℕ) → (s : statuses.Status)
             → k.last ≡ Some self.old → IsKnown img k → (length text ≡ 4) ⊎ (length text ≡ 5)
             → wanted.channel ≡ wanted_channel text → wanted.record_number ≡ wanted_record text
             → wanted.position ≡ wanted_position text
@@ -112,7 +112,7 @@ impl Opened {
               before = k.before;
               checked = k.checked;
             }) result) }
-        ensures known { (img : Image) → (k : Known) → k.last ≡ Some self.old → IsKnown img k
+        ensures known { (img : Image) → (k : OpenFiles) → k.last ≡ Some self.old → IsKnown img k
             → IsKnown img (record { last = Some self.new; before = k.before; checked = k.checked }) }
     {
         if let Some(spot) = &mut self.spot {
@@ -124,7 +124,7 @@ impl Opened {
     }
 }
 
-impl Known {
+impl OpenFiles {
     /// Places the open channel, where the `P` names it: what it comes to.
     fn position(&mut self, text: &[u8]) -> Status
         ensures row { (img : Image) → (s : statuses.Status) → IsKnown img self.old

@@ -17,13 +17,13 @@ ghost use Rattle.drive_channels.specs.Tables.{Opens, OpensFile};
 ghost use Rattle.drive_channels.specs.Wishes.{wish_of};
 ghost use Rattle.rel_records.specs.creation.Made.{creation_writes};
 ghost use Rattle.drive_channels.specs.Inside.{HasLooked, IsFound, IsKnown, channel_of, found_in, shown};
-ghost use Rattle.drive_channels.specs.declared.found.Found.{Found};
+ghost use Rattle.drive_channels.specs.declared.open_file.NamedFile.{NamedFile};
 ghost use Rattle.drive_channels.specs.declared.status.Status as statuses;
 
 use crate::drive::Drive;
 use crate::faults::Dead;
-use crate::found::{Found, Opened, Spot};
-use crate::known::Known;
+use crate::open_file::{NamedFile, OpenFile, Position};
+use crate::open_files::OpenFiles;
 use crate::status::Status;
 use crate::text::{FileWish, wish};
 use d64_image::Sectors;
@@ -43,7 +43,7 @@ fn has_length(file: &RelFile, length: Option<u8>) -> bool
 }
 
 /// The first closed relative file of this name, where there is one.
-fn find_file<D: Sectors>(disk: &mut D, name: &[u8]) -> Result<Option<Found>, Dead>
+fn find_file<D: Sectors>(disk: &mut D, name: &[u8]) -> Result<Option<NamedFile>, Dead>
     requires clean { IsClean (D.history.image disk.old) }
     requires name { IsName name.now }
     ensures { LooksFor D.history disk.old disk.new result (λ o.
@@ -51,7 +51,7 @@ fn find_file<D: Sectors>(disk: &mut D, name: &[u8]) -> Result<Option<Found>, Dea
         (λ e. IsFound (D.history.image disk.old) e × (e.name.items ≡ name.now))) }
 {
     match find(disk, name) {
-        Ok(file) => Ok(Some(Found::new(name, file))),
+        Ok(file) => Ok(Some(NamedFile::new(name, file))),
         Err(fault) => match fault {
             RelFault::Device => Err(Dead),
             _ => Ok(None),
@@ -59,10 +59,10 @@ fn find_file<D: Sectors>(disk: &mut D, name: &[u8]) -> Result<Option<Found>, Dea
     }
 }
 
-impl Opened {
+impl OpenFile {
     /// Changes places with the file before, where that has this name. Whether it has.
-    fn recall(&mut self, before: &mut Option<Found>, name: &[u8]) -> bool
-        ensures found { result ≡ true → (e : Found) × (before.old ≡ Some e) × (e.name.items ≡ name.now)
+    fn recall(&mut self, before: &mut Option<NamedFile>, name: &[u8]) -> bool
+        ensures found { result ≡ true → (e : NamedFile) × (before.old ≡ Some e) × (e.name.items ≡ name.now)
             × (self.new ≡ record { found = e; spot = self.old.spot }) × (before.new ≡ Some self.old.found) }
         ensures other { result ≡ false
             → (self.new ≡ self.old) × (before.new ≡ before.old) × IfSome before.old (λ e. e.name.items ≢ name.now) }
@@ -77,7 +77,7 @@ impl Opened {
     }
 }
 
-impl Known {
+impl OpenFiles {
     /// Whether a channel is open.
     fn is_open(&self) -> bool
         ensures { MatchOption (channel_of self.now.last) (result ≡ false) (λ c. result ≡ true) }
@@ -116,12 +116,12 @@ impl Known {
     }
 
     /// Makes this file the one opened last, with no channel; the one before it is the one opened last until now.
-    fn put_last(&mut self, found: Found)
+    fn put_last(&mut self, found: NamedFile)
         ensures last { self.new.last ≡ Some (record { found = found; spot = None }) }
         ensures before { self.new.before ≡ found_in self.old.last }
         ensures checked { self.new.checked ≡ self.old.checked }
     {
-        let last = self.last.replace(Opened { found, spot: None });
+        let last = self.last.replace(OpenFile { found, spot: None });
         self.before = match last {
             Some(opened) => Some(opened.found),
             None => None,
@@ -179,7 +179,7 @@ impl Known {
             if !has_length(&opened.found.file, length) {
                 return Status::RecordNotPresent;
             }
-            opened.spot = Some(Spot::first(channel));
+            opened.spot = Some(Position::first(channel));
             return Status::Ok;
         }
         Status::FileNotFound
@@ -204,9 +204,9 @@ impl Known {
         match create(disk, name, size) {
             Ok(file) => {
                 self.before = None;
-                self.last = Some(Opened {
-                    found: Found::new(name, file),
-                    spot: Some(Spot::first(channel)),
+                self.last = Some(OpenFile {
+                    found: NamedFile::new(name, file),
+                    spot: Some(Position::first(channel)),
                 });
                 Ok(Status::Ok)
             }

@@ -8,12 +8,12 @@ ghost use Rattle.drive_channels.specs.Inside.{IsFound, IsKnown, IsSpot};
 ghost use Rattle.drive_channels.specs.Serving.{Serves};
 ghost use Rattle.drive_channels.specs.State.{view_of};
 ghost use Rattle.drive_channels.specs.Tables.{Reads};
-ghost use Rattle.drive_channels.specs.declared.known.Known.{Known};
+ghost use Rattle.drive_channels.specs.declared.open_files.OpenFiles.{OpenFiles};
 
 use crate::drive::Drive;
 use crate::faults::Dead;
-use crate::found::{Found, Opened, Spot};
-use crate::known::Known;
+use crate::open_file::{NamedFile, OpenFile, Position};
+use crate::open_files::OpenFiles;
 use crate::status::Status;
 use arrayvec::ArrayVec;
 use d64_image::Sectors;
@@ -72,8 +72,8 @@ fn give(bytes: &[u8], position: u8, to: &mut ArrayVec<u8, DATA>)
 /// Reads at a place, and goes on from it: what that comes to.
 fn read_at<D: Sectors>(
     disk: &mut D,
-    found: &Found,
-    spot: &mut Spot,
+    found: &NamedFile,
+    spot: &mut Position,
     to: &mut ArrayVec<u8, DATA>,
 ) -> Result<Status, Dead>
     requires found { IsFound (D.history.image disk.old) found.now }
@@ -97,7 +97,7 @@ fn read_at<D: Sectors>(
     }
 }
 
-impl Opened {
+impl OpenFile {
     /// Reads where its channel is open and has this number.
     fn read<D: Sectors>(
         &mut self,
@@ -105,8 +105,8 @@ impl Opened {
         channel: u8,
         to: &mut ArrayVec<u8, DATA>,
     ) -> Result<Status, Dead>
-        requires { (k : Known) × (k.last ≡ Some self.old) × IsKnown (D.history.image disk.old) k }
-        ensures { (k : Known) → k.last ≡ Some self.old → IsKnown (D.history.image disk.old) k
+        requires { (k : OpenFiles) × (k.last ≡ Some self.old) × IsKnown (D.history.image disk.old) k }
+        ensures { (k : OpenFiles) → k.last ≡ Some self.old → IsKnown (D.history.image disk.old) k
             → ReadsOn D.history disk.old disk.new k (record {
               last = Some self.new;
               before = k.before;
@@ -123,7 +123,7 @@ impl Opened {
     }
 }
 
-impl Known {
+impl OpenFiles {
     /// Reads where the channel is the open one.
     fn read<D: Sectors>(
         &mut self,

@@ -9,21 +9,21 @@ ghost use Rattle.drive_channels.specs.Moments.{IsOnTheWay, writes_for};
 ghost use Rattle.drive_channels.specs.Serving.{Serves};
 ghost use Rattle.drive_channels.specs.State.{Channel, view_of};
 ghost use Rattle.drive_channels.specs.Tables.{HasOn, IsOn, Writes};
-ghost use Rattle.drive_channels.specs.declared.known.Known.{Known};
+ghost use Rattle.drive_channels.specs.declared.open_files.OpenFiles.{OpenFiles};
 ghost use Rattle.drive_channels.specs.declared.status.Status.TheVariants.{FileTooLarge};
 ghost use Rattle.rel_records.specs.Written.{IsInOneBlock};
 ghost use Rattle.rel_records.specs.growth.Growth.{records_had};
 
 use crate::drive::Drive;
 use crate::faults::Dead;
-use crate::found::{Found, Opened, Spot};
-use crate::known::Known;
+use crate::open_file::{NamedFile, OpenFile, Position};
+use crate::open_files::OpenFiles;
 use crate::status::Status;
 use d64_image::Sectors;
 use rel_records::{RelFault, grow_to, write_record};
 
 /// Grows the file so that the record at a place is there: what it comes to.
-fn grow_at<D: Sectors>(disk: &mut D, found: &mut Found, spot: Spot) -> Result<Status, Dead>
+fn grow_at<D: Sectors>(disk: &mut D, found: &mut NamedFile, spot: Position) -> Result<Status, Dead>
     requires { IsPlace (D.history.image disk.old) found.old spot }
     ensures { WritesAt D.history disk.old disk.new found.old found.new spot spot [] result }
 {
@@ -39,8 +39,8 @@ fn grow_at<D: Sectors>(disk: &mut D, found: &mut Found, spot: Spot) -> Result<St
 /// Writes a text that isn't empty at a place, and goes on from it: what that comes to.
 fn write_text<D: Sectors>(
     disk: &mut D,
-    found: &mut Found,
-    spot: &mut Spot,
+    found: &mut NamedFile,
+    spot: &mut Position,
     text: &[u8],
 ) -> Result<Status, Dead>
     requires some { 1 ≤ length text.now }
@@ -72,8 +72,8 @@ fn write_text<D: Sectors>(
 /// Writes at a place, and goes on from it: what that comes to.
 fn write_at<D: Sectors>(
     disk: &mut D,
-    found: &mut Found,
-    spot: &mut Spot,
+    found: &mut NamedFile,
+    spot: &mut Position,
     text: &[u8],
 ) -> Result<Status, Dead>
     requires { IsPlace (D.history.image disk.old) found.old spot.old }
@@ -85,11 +85,11 @@ fn write_at<D: Sectors>(
     write_text(disk, found, spot, text)
 }
 
-impl Opened {
+impl OpenFile {
     /// Writes where its channel is open and has this number.
     fn write<D: Sectors>(&mut self, disk: &mut D, channel: u8, text: &[u8]) -> Result<Status, Dead>
-        requires { (k : Known) × (k.last ≡ Some self.old) × IsKnown (D.history.image disk.old) k }
-        ensures { (k : Known) → k.last ≡ Some self.old → IsKnown (D.history.image disk.old) k
+        requires { (k : OpenFiles) × (k.last ≡ Some self.old) × IsKnown (D.history.image disk.old) k }
+        ensures { (k : OpenFiles) → k.last ≡ Some self.old → IsKnown (D.history.image disk.old) k
             → WritesOn D.history disk.old disk.new k (record {
               last = Some self.new;
               before = k.before;
@@ -105,7 +105,7 @@ impl Opened {
     }
 }
 
-impl Known {
+impl OpenFiles {
     /// Writes where the channel is the open one.
     fn write<D: Sectors>(&mut self, disk: &mut D, channel: u8, text: &[u8]) -> Result<Status, Dead>
         requires known { IsKnown (D.history.image disk.old) self.old }

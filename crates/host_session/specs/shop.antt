@@ -8,5 +8,5 @@ pub mod Found
 pub mod Selecting
 pub mod Puts
 pub mod Completing
-pub mod Judged
+pub mod LoadedShop
 pub mod Channels

@@ -12,15 +12,15 @@ mod events;
 // The loop of all runs, and its callers.
 mod runs;
 
-pub use events::asking::{Asks, Next, OfEvents, OfScript};
-pub use events::hearing::{Heard, Turn};
-pub use events::noting::Noted;
 pub use events::printing::{Printer, write_whole};
-pub use events::telling::{NotTaken, Tells};
+pub use events::recorded_events::RecordedEvents;
+pub use events::recorded_replies::{RecordedReplies, RecordedReply};
+pub use events::sinks::{NotTaken, ReplySink};
+pub use events::sources::{EventList, EventSource, Next, ScriptEvents};
 pub use faults::OpenFault;
 pub use laws::{blank_is_a_shop, both_ends, last_two, one_shop, only_grows, refused_no_shop};
-pub use runs::looping::{LoopFault, run};
-pub use runs::playing::{PlayFault, play};
-pub use runs::running::{ScriptFault, play_script, run_script};
+pub use runs::event_loop::{LoopFault, run};
+pub use runs::plays::{PlayFault, play};
+pub use runs::scripts::{ScriptFault, play_script, run_script};
 pub use script_lines::{Cut, Event};
 pub use session::Session;

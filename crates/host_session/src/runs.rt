@@ -1,4 +1,4 @@
 //! The loop of all runs, and its callers.
-pub(crate) mod looping;
-pub(crate) mod playing;
-pub(crate) mod running;
+pub(crate) mod event_loop;
+pub(crate) mod plays;
+pub(crate) mod scripts;

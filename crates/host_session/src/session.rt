@@ -7,12 +7,12 @@ ghost use Rattle.host_session.specs.session.Standing.{IsStanding, View, nth, sta
 ghost use Rattle.host_session.specs.shop.Selecting.{IsReady};
 ghost use Rattle.host_session.specs.shop.Shop.{IsSettled, IsShop, Shop};
 
-mod deciding;
-mod doing;
-mod handling;
-mod migrating;
+mod answers;
+mod decisions;
+mod migration;
 mod opening;
 mod recovery;
+mod requests;
 mod settling;
 mod starting;
 

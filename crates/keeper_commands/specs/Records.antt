@@ -11,7 +11,7 @@ use Rattle.disk_layout.specs.Records.{records}
 use Rattle.disk_layout.specs.Rest.{IsFirst, IsNamed}
 use Rattle.rel_records.specs.File.{OfItsFile}
 use Rattle.rel_records.specs.declared.rel_file.RelFile.{RelFile}
-use Rattle.rel_records.specs.declared.reading.in_order.LastBlock.{LastBlock}
+use Rattle.rel_records.specs.declared.reading.record_order.LastBlock.{LastBlock}
 use Rattle.rel_records.specs.reading.Kept.{IsKept}
 use Rattle.keeper_commands.specs.declared.faults.KeepFault.{KeepFault}
 use Rattle.keeper_commands.specs.declared.faults.KeepFault.TheVariants as keep

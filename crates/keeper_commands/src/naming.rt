@@ -5,7 +5,7 @@ ghost use Rattle.keeper_commands.specs.Bytes.{HasNoneClosed, IsClosedNamed, IsFi
 use disk_layout::{Slot, padded_name};
 
 /// Whether the entry has the name.
-fn bears(slot: &Slot, padded: &[u8; 16]) -> bool
+fn has_padded_name(slot: &Slot, padded: &[u8; 16]) -> bool
     ensures { IsTrue result ↔ (slice_range slot.now.bytes 5 21 ≡ padded.now) }
 {
     &slot.bytes[5..21] == &padded[..]
@@ -18,7 +18,7 @@ fn is_named(slot: &Slot, name: &[u8]) -> bool
     if name.len() > 16 || slot.bytes[2] < 128 {
         return false;
     }
-    bears(slot, &padded_name(name))
+    has_padded_name(slot, &padded_name(name))
 }
 
 /// The number, from 0, of the first of these entries that is closed and has this name.

@@ -8,9 +8,9 @@ ghost use Rattle.layout_check.specs.Calls.{Passes};
 ghost use Rattle.layout_check.specs.Exact.{HasMap, TellsUnclean};
 ghost use Rattle.layout_check.specs.Survey.{IsSurveyOf, IsToldBy};
 
+use crate::chain_survey::survey_files;
 use crate::maps::check_bits;
-use crate::outcome::Survey;
-use crate::surveying::survey_files;
+use crate::survey::Survey;
 use d64_image::Sectors;
 use disk_layout::{Fault, map_place, read_sector};
 

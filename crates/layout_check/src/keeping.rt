@@ -8,8 +8,8 @@ ghost use Rattle.layout_check.specs.Mended.{TellsDevice};
 ghost use Rattle.layout_check.specs.Owners.{owner_of};
 ghost use Rattle.layout_check.specs.Survey.{IsToldBy};
 
-use crate::outcome::Survey;
 use crate::owners::Owners;
+use crate::survey::Survey;
 use d64_image::{Place, Sectors};
 use disk_layout::{BamView, Fault, map_place, read_sector};
 

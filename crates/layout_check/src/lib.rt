@@ -2,21 +2,21 @@
 #![tactic(auto)]
 
 mod blocks;
+mod chain_survey;
 mod checking;
 mod entry;
 mod files;
 mod keeping;
 mod maps;
 mod mending;
-mod outcome;
 mod owners;
 mod parts;
 mod recounting;
 mod repairing;
 mod sides;
-mod surveying;
+mod survey;
 
+pub use chain_survey::survey;
 pub use checking::check;
-pub use outcome::Survey;
 pub use repairing::{repair, repair_keeping};
-pub use surveying::survey;
+pub use survey::Survey;

@@ -1,7 +1,7 @@
 //! A retry-safe stock ledger: the program.
 #![tactic(auto)]
 
-use ledger_cli::{Told, hold_streams, program};
+use ledger_cli::{Audience, hold_streams, program};
 use std::io::IsTerminal;
 use std::process::ExitCode;
 
@@ -12,6 +12,6 @@ fn main(rt: HostRuntime) -> ExitCode {
         Ok(streams) => streams,
         Err(status) => return ExitCode::from(status),
     };
-    let told = Told::of(err.is_terminal(), rt.stdout().is_terminal());
+    let told = Audience::of(err.is_terminal(), rt.stdout().is_terminal());
     ExitCode::from(program(&rt, told, &mut err))
 }

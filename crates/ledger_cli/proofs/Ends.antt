@@ -3,9 +3,9 @@ use Rattle.std.proofs.Common.{Err, List, Ok, Option, Result, refl, subst, sym, �
 use Rattle.std.proofs.Math.Seq.{take-length}
 use Rattle.std.specs.Prelude.{◌≡◌, IfErr, IsOk, OnErr, OnOk, length}
 use Rattle.std.specs.Io.KnownBytes.{Appends}
-use Rattle.host_session.specs.declared.events.telling.NotTaken.{NotTaken}
+use Rattle.host_session.specs.declared.events.sinks.NotTaken.{NotTaken}
 use Rattle.host_session.specs.runs.Outputs.{AppendsPart}
-use Rattle.ledger_program.specs.Ends.{JobEnd, refusal_line}
+use Rattle.ledger_jobs.specs.Ends.{JobEnd, refusal_line}
 use Rattle.ledger_cli.specs.Runs.{IsEndTold}
 
 -- bytes that were told whole, or in part

@@ -5,9 +5,9 @@ use Rattle.std.specs.Prelude.{IfErr, None, OnOk, codes}
 use Rattle.std.specs.Io.KnownBytes.{Appends}
 use Rattle.host_session.specs.runs.Outputs.{AppendsPart}
 use Rattle.system_files.proofs.Filled.{in_three}
-use Rattle.ledger_commands.specs.Images.{AreFreshBytes}
-use Rattle.ledger_commands.specs.declared.faults.RunFault.{RunFault}
-use Rattle.ledger_commands.specs.declared.faults.RunFault.TheVariants as run
+use Rattle.shop_commands.specs.Images.{AreFreshBytes}
+use Rattle.shop_commands.specs.declared.faults.RunFault.{RunFault}
+use Rattle.shop_commands.specs.declared.faults.RunFault.TheVariants as run
 use Rattle.d64_image.specs.Mirrors.{IsHanded}
 use Rattle.ledger_cli.specs.Making.{AreWritten, AreWrittenInPart, IsHandedPart, IsImageBegun, IsImageMade, IsImageWritten}
 use Rattle.ledger_cli.specs.Making.{IsWriting, Piece, image_writes}

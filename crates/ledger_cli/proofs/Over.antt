@@ -1,22 +1,22 @@
 -- A run over the file that was handed in.
 use Rattle.std.proofs.Common.{Err, List, MutBor, Option, Some, ap, inl, inr, subst, sym, ◌≡◌, ◌∙◌, ℕ}
 use Rattle.d64_image.specs.Keeps.{Keeps}
-use Rattle.d64_image.specs.declared.kept_disk.KeptDisk.{KeptDisk}
+use Rattle.d64_image.specs.declared.device_as_file.DeviceAsFile.{DeviceAsFile}
 use Rattle.d64_image.specs.declared.mirror.Mirror.{Mirror}
 use Rattle.host_session.specs.declared.events.printing.Printer.{Printer}
 use Rattle.ledger_cli.specs.Runs.{IsOverFile, IsServiceEnd}
 use Rattle.ledger_cli.specs.Streams.{IsBegun, WhyUnbegun, stream_file}
-use Rattle.ledger_commands.specs.declared.faults.RunFault.{RunFault}
-use Rattle.ledger_program.specs.Ends.{Ended, JobEnd}
-use Rattle.ledger_program.specs.Serves.{IsServeRun}
-use Rattle.ledger_program.specs.declared.refusals.Refusal.TheVariants as refusals
-use Rattle.serving.specs.Answering.{Answering}
-use Rattle.serving.specs.Giving.{Input}
+use Rattle.shop_commands.specs.declared.faults.RunFault.{RunFault}
+use Rattle.ledger_jobs.specs.Ends.{Ended, JobEnd}
+use Rattle.ledger_jobs.specs.Serves.{IsServeRun}
+use Rattle.ledger_jobs.specs.declared.refusals.Refusal.TheVariants as refusals
+use Rattle.line_server.specs.Answering.{Answering}
+use Rattle.line_server.specs.Giving.{Input}
 
 module _ {F W : Type 0} (image : List ℕ) (file after : Option F) (old new : W) (end : JobEnd)
-    (P : KeptDisk (Mirror F) → KeptDisk (Mirror F) → Type 0) where
+    (P : DeviceAsFile (Mirror F) → DeviceAsFile (Mirror F) → Type 0) where
   -- it was over the sectors of that file
-  pub over : (before left : KeptDisk (Mirror F)) → IsBegun image before × (file ≡ Some (stream_file before))
+  pub over : (before left : DeviceAsFile (Mirror F)) → IsBegun image before × (file ≡ Some (stream_file before))
       → after ≡ Some (stream_file left) → P before left → IsOverFile image file after old new end P
   over before left begun is run =
       inr (record { before = before; left = left; begun = begun.0; is_file = begun.1; is_left = is; run = run })

@@ -6,11 +6,11 @@ use Rattle.d64_image.specs.Keeps.{Keeps}
 use Rattle.d64_image.specs.Memory.{sectors_in}
 use Rattle.host_session.specs.events.Telling.{Output}
 use Rattle.host_session.specs.shop.Shop.{IsShop, Shop}
-use Rattle.ledger_commands.specs.Plays.{IsFileFault, IsPlayEnd, IsPlayedOver, IsUntouched}
-use Rattle.ledger_commands.specs.declared.faults.RunFault.{RunFault}
-use Rattle.ledger_commands.specs.declared.faults.RunFault.TheVariants as run
-use Rattle.ledger_program.specs.Ends.{Ended}
-use Rattle.ledger_program.specs.Runs.{IsPlayRun}
+use Rattle.shop_commands.specs.Plays.{IsFileFault, IsPlayEnd, IsPlayedOver, IsUntouched}
+use Rattle.shop_commands.specs.declared.faults.RunFault.{RunFault}
+use Rattle.shop_commands.specs.declared.faults.RunFault.TheVariants as run
+use Rattle.ledger_jobs.specs.Ends.{Ended}
+use Rattle.ledger_jobs.specs.Runs.{IsPlayRun}
 use Rattle.disk_layout.specs.declared.faults.Fault.{Fault}
 
 -- a run of a script on a shop, once what it told is handed on

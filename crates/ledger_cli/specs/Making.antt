@@ -4,9 +4,9 @@ use Rattle.std.specs.Io.KnownBytes.{Appends, Keeps}
 use Rattle.std.specs.Io.Seek.{StaysAt}
 use Rattle.d64_image.specs.Mirrors.{IsHanded, IsSought}
 use Rattle.host_session.specs.runs.Outputs.{AppendsPart}
-use Rattle.ledger_commands.specs.Images.{AreFreshBytes}
-use Rattle.ledger_commands.specs.declared.faults.RunFault.{RunFault}
-use Rattle.ledger_commands.specs.declared.faults.RunFault.TheVariants as run
+use Rattle.shop_commands.specs.Images.{AreFreshBytes}
+use Rattle.shop_commands.specs.declared.faults.RunFault.{RunFault}
+use Rattle.shop_commands.specs.declared.faults.RunFault.TheVariants as run
 use Rattle.system_files.specs.Remains.{put_in}
 
 -- Bytes, and where they go in a file.

@@ -1,33 +1,33 @@
 -- What comes of a job that is run over the bytes of its files. All of it is our own.
 use Rattle.std.specs.Prelude.{◌≡◌, ◌≢◌, ◌⊎◌, ℕ, Bool, false, true, List, Option, None, Some, Result, Ok, Err, IfErr, IsOk, length}
 use Rattle.d64_image.specs.Memory.{sectors_in}
-use Rattle.d64_image.specs.declared.kept_disk.KeptDisk.{KeptDisk}
+use Rattle.d64_image.specs.declared.device_as_file.DeviceAsFile.{DeviceAsFile}
 use Rattle.d64_image.specs.declared.mirror.Mirror.{Mirror}
 use Rattle.ledger_cli.specs.Making.{IsImageMade}
 use Rattle.ledger_cli.specs.Streams.{HandsSectors, IsBegun, WhyUnbegun, stream, stream_file}
 use Rattle.disk_layout.specs.declared.faults.Fault.{Fault}
 use Rattle.host_session.specs.runs.Outputs.{AppendsPart, written}
 use Rattle.host_session.specs.session.Opening.{IsAShop}
-use Rattle.ledger_commands.specs.Plays.{IsUntouched}
-use Rattle.ledger_commands.specs.declared.faults.RunFault.{RunFault}
-use Rattle.ledger_commands.specs.declared.faults.RunFault.TheVariants as run
-use Rattle.ledger_program.specs.Drawings.{IsDrawingRun}
-use Rattle.ledger_program.specs.Ends.{Ended, JobEnd, as_drawn, as_job, end_of, end_status, exit_status, refusal_line}
-use Rattle.ledger_program.specs.Keeping.{IsDryRepair, IsRepairOver}
-use Rattle.ledger_program.specs.Kept.{IsMakeOver, IsStoreOver}
-use Rattle.ledger_program.specs.Losses.{IsEndOf, IsGuarded, IsKeptEndOf, IsRepairedEndOf, IsTakingEnd}
-use Rattle.ledger_program.specs.Names.{name_bytes}
-use Rattle.ledger_program.specs.Runs.{IsNoShop, IsPlayRun, IsReadingEnd}
-use Rattle.ledger_program.specs.declared.jobs.Job.{Job}
-use Rattle.ledger_program.specs.declared.jobs.Job.TheVariants as jobs
-use Rattle.ledger_program.specs.declared.jobs.Effect.{Effect}
-use Rattle.ledger_program.specs.declared.jobs.Effect.TheVariants as effects
-use Rattle.ledger_program.specs.declared.jobs.Loss.{Loss}
-use Rattle.ledger_program.specs.declared.jobs.Unowned.{Unowned}
-use Rattle.ledger_program.specs.declared.jobs.Unowned.TheVariants as unowned
-use Rattle.ledger_program.specs.declared.jobs.Reading.{Reading}
-use Rattle.ledger_program.specs.declared.jobs.Reading.TheVariants as readings
-use Rattle.ledger_program.specs.declared.refusals.Refusal.TheVariants as refusals
+use Rattle.shop_commands.specs.Plays.{IsUntouched}
+use Rattle.shop_commands.specs.declared.faults.RunFault.{RunFault}
+use Rattle.shop_commands.specs.declared.faults.RunFault.TheVariants as run
+use Rattle.ledger_jobs.specs.Drawings.{IsDrawingRun}
+use Rattle.ledger_jobs.specs.Ends.{Ended, JobEnd, as_drawn, as_job, end_of, end_status, exit_status, refusal_line}
+use Rattle.ledger_jobs.specs.Keeping.{IsDryRepair, IsRepairOver}
+use Rattle.ledger_jobs.specs.Kept.{IsMakeOver, IsStoreOver}
+use Rattle.ledger_jobs.specs.Losses.{IsEndOf, IsGuarded, IsKeptEndOf, IsRepairedEndOf, IsTakingEnd}
+use Rattle.ledger_jobs.specs.Names.{name_bytes}
+use Rattle.ledger_jobs.specs.Runs.{IsNoShop, IsPlayRun, IsReadingEnd}
+use Rattle.ledger_jobs.specs.declared.jobs.Job.{Job}
+use Rattle.ledger_jobs.specs.declared.jobs.Job.TheVariants as jobs
+use Rattle.ledger_jobs.specs.declared.jobs.Effect.{Effect}
+use Rattle.ledger_jobs.specs.declared.jobs.Effect.TheVariants as effects
+use Rattle.ledger_jobs.specs.declared.jobs.Loss.{Loss}
+use Rattle.ledger_jobs.specs.declared.jobs.Unowned.{Unowned}
+use Rattle.ledger_jobs.specs.declared.jobs.Unowned.TheVariants as unowned
+use Rattle.ledger_jobs.specs.declared.jobs.Reading.{Reading}
+use Rattle.ledger_jobs.specs.declared.jobs.Reading.TheVariants as readings
+use Rattle.ledger_jobs.specs.declared.refusals.Refusal.TheVariants as refusals
 
 -- the run ended so, and this is how its job is told to have ended
 abbrev pub EndsAs : {A : Type 0} → (A → JobEnd) → JobEnd → (A → Type 0) → Type 0
@@ -47,9 +47,9 @@ pub record IsUnbegun {F W : Type 0} (image : List ℕ) (file after : Option F) (
 
 -- It was run over the disk of the image and the file that was handed in, and the file was left so.
 pub record IsRunOver {F : Type 0} (image : List ℕ) (file after : Option F)
-    (P : KeptDisk (Mirror F) → KeptDisk (Mirror F) → Type 0) : Type 0 where
-  pub before : KeptDisk (Mirror F)
-  pub left : KeptDisk (Mirror F)
+    (P : DeviceAsFile (Mirror F) → DeviceAsFile (Mirror F) → Type 0) : Type 0 where
+  pub before : DeviceAsFile (Mirror F)
+  pub left : DeviceAsFile (Mirror F)
   pub begun : IsBegun image before
   pub is_file : file ≡ Some (stream_file before)
   pub is_left : after ≡ Some (stream_file left)
@@ -57,7 +57,7 @@ pub record IsRunOver {F : Type 0} (image : List ℕ) (file after : Option F)
 
 -- one of both
 abbrev pub IsOverFile : {F W : Type 0} → List ℕ → Option F → Option F → W → W → JobEnd
-    → (KeptDisk (Mirror F) → KeptDisk (Mirror F) → Type 0) → Type 0
+    → (DeviceAsFile (Mirror F) → DeviceAsFile (Mirror F) → Type 0) → Type 0
 IsOverFile image file after old new end P = IsUnbegun image file after old new end ⊎ IsRunOver image file after P
 
 -- A service ended with 1 exactly if the image is no shop's, and then nothing was printed; with 3 if the file or the

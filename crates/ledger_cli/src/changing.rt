@@ -3,8 +3,8 @@ ghost use Rattle.std.specs.Prelude.{◌≡◌, ◌≤◌};
 ghost use Rattle.keeper_commands.specs.Makes.{IsNewName};
 ghost use Rattle.ledger_cli.specs.Runs.{IsFormatted, IsMade, IsPlayed, IsRepairJob, IsRepaired, IsServed, IsStored};
 ghost use Rattle.ledger_cli.specs.Runs.{frees as frees_of};
-ghost use Rattle.ledger_program.specs.Ends.{as_job, end_of};
-ghost use Rattle.ledger_program.specs.Names.{name_bytes};
+ghost use Rattle.ledger_jobs.specs.Ends.{as_job, end_of};
+ghost use Rattle.ledger_jobs.specs.Names.{name_bytes};
 ghost use Rattle.rel_records.specs.File.{IsLength};
 
 use crate::making::make_image;
@@ -12,11 +12,11 @@ use crate::playing::play_written;
 use crate::stream::{begin, file_of};
 use disk_layout::Fault;
 use host_session::Printer;
-use ledger_commands::RunFault;
-use ledger_program::{
+use ledger_jobs::{
     Effect, Loss, Name, Refusal, Unowned, dry_repair_guarded, job_end, loss_refusal, make_guarded,
     repair_guarded, serve_run, store_guarded,
 };
+use shop_commands::RunFault;
 use std::alloc::Global;
 use std::io::{Seek, Write};
 

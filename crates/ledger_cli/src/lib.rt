@@ -7,7 +7,7 @@ mod playing;
 mod running;
 mod stream;
 
-pub use ledger_commands::{DryFault, dry};
-pub use ledger_program::Job;
-pub use ledger_words::{JobFault, Told, hold_streams, job, program};
+pub use command_line::{Audience, JobFault, hold_streams, job, program};
+pub use ledger_jobs::Job;
 pub use running::{run, run_over};
+pub use shop_commands::{DryFault, dry};

@@ -2,9 +2,9 @@
 ghost use Rattle.std.specs.Prelude.{◌≡◌, ◌≤◌, IfErr, None, OnOk, length};
 ghost use Rattle.d64_image.specs.Mirrors.{IsHanded};
 ghost use Rattle.ledger_cli.specs.Making.{IsHandedPart, IsImageMade, IsWriting, image_writes};
-ghost use Rattle.ledger_commands.specs.declared.faults.RunFault.TheVariants as faults;
+ghost use Rattle.shop_commands.specs.declared.faults.RunFault.TheVariants as faults;
 
-use ledger_commands::{RunFault, fresh_disk, put_whole};
+use shop_commands::{RunFault, fresh_disk, put_whole};
 use std::alloc::Global;
 use std::io::{Seek, SeekFrom, Write};
 

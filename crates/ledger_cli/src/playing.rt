@@ -5,14 +5,14 @@ ghost use Rattle.d64_image.specs.Memory.{sectors_in};
 ghost use Rattle.host_session.specs.events.Telling.{TellsNone};
 ghost use Rattle.host_session.specs.runs.Outputs.{written};
 ghost use Rattle.host_session.specs.shop.Shop.{IsShop, Shop};
-ghost use Rattle.ledger_commands.specs.Faults.{script_fault};
-ghost use Rattle.ledger_commands.specs.Plays.{IsFileFault, IsPlayEnd, IsPlayedFile};
-ghost use Rattle.ledger_program.specs.Runs.{IsPlayRun};
+ghost use Rattle.shop_commands.specs.Faults.{script_fault};
+ghost use Rattle.shop_commands.specs.Plays.{IsFileFault, IsPlayEnd, IsPlayedFile};
+ghost use Rattle.ledger_jobs.specs.Runs.{IsPlayRun};
 
 use d64_image::{KeptMirror, SectorFile, Sectors};
 use disk_layout::Fault;
 use host_session::{ScriptFault, run_script};
-use ledger_commands::{RunFault, file_of, load};
+use shop_commands::{RunFault, file_of, load};
 use std::alloc::Global;
 use std::io::{self, Write};
 

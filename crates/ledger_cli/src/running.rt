@@ -1,10 +1,10 @@
 //! Jobs run over the bytes of their files.
 ghost use Rattle.std.specs.Prelude.{◌≡◌, Option};
 ghost use Rattle.ledger_cli.specs.Runs.{IsJobRun, IsRead, IsRun};
-ghost use Rattle.ledger_program.specs.Jobs.{IsFit};
+ghost use Rattle.ledger_jobs.specs.Jobs.{IsFit};
 
 use crate::changing::{Ended, format, make, play, repair, serve, store};
-use ledger_program::{Job, Reading, drawing_run, drawn_end, end, job_end, reading_run, take_told};
+use ledger_jobs::{Job, Reading, drawing_run, drawn_end, end, job_end, reading_run, take_told};
 use std::alloc::Global;
 use std::io::{Seek, Write};
 

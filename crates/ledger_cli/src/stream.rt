@@ -2,13 +2,13 @@
 ghost use Rattle.std.specs.Prelude.{◌≡◌, IfErr, IfOk, Some};
 ghost use Rattle.ledger_cli.specs.Streams.{IsBegun, WhyUnbegun, stream_file};
 
-use d64_image::{KeptDisk, Mirror};
-use ledger_commands::{RunFault, load};
+use d64_image::{DeviceAsFile, Mirror};
+use shop_commands::{RunFault, load};
 use std::alloc::Global;
 use std::io::{Seek, Write};
 
 /// A disk in memory and its file: each sector is handed to the file, at 256 times its index, before memory takes it.
-pub(crate) type Stream<F> = KeptDisk<Mirror<F>>;
+pub(crate) type Stream<F> = DeviceAsFile<Mirror<F>>;
 
 /// The file that holds this image, taken up; it isn't touched. `File` if there is none; `ImageSize`, `NoMemory`. The file
 /// is handed back then.
@@ -24,7 +24,7 @@ pub(crate) fn begin<F: Write + Seek>(
         return Err((RunFault::File, None));
     };
     match load(alloc, image) {
-        Ok(disk) => Ok(KeptDisk::new(Mirror::new(file, disk))),
+        Ok(disk) => Ok(DeviceAsFile::new(Mirror::new(file, disk))),
         Err(fault) => Err((fault, Some(file))),
     }
 }

@@ -9,9 +9,9 @@ ghost use Rattle.rel_records.specs.reading.Block.{IsBlock};
 
 pub(crate) mod counting;
 pub(crate) mod finding;
-pub(crate) mod in_order;
 pub(crate) mod lookup;
 pub(crate) mod parts;
+pub(crate) mod record_order;
 
 use crate::access::read;
 use crate::faults::RelFault;

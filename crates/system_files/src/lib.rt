@@ -4,16 +4,16 @@
 
 mod names;
 mod opening;
+mod overwritten_file;
 mod remaining;
-mod replaced;
 mod replacing;
 mod shown_paths;
 mod streams;
 
 pub use names::{FileName, Stays};
 pub use opening::{opened_to_change, opened_to_read, regular, regular_at};
+pub use overwritten_file::{OpensFile, OverwrittenFile};
 pub use remaining::EndedFile;
-pub use replaced::{OpensFile, Replaced};
 pub use replacing::replace_image;
 pub use shown_paths::ShownPath;
 pub use streams::ClosedStreams;

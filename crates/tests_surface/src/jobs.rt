@@ -1,5 +1,5 @@
 //! The program's jobs, run over the bytes of their files.
-ghost use Rattle.ledger_program.specs.Jobs.{IsFit};
+ghost use Rattle.ledger_jobs.specs.Jobs.{IsFit};
 
 use crate::comparing::{byte_at, same, same_at};
 use ledger_cli::{DryFault, Job, JobFault, dry, job, run, run_over};

@@ -8,11 +8,11 @@ use Rattle.d64_image.specs.Memory.{sectors_in}
 use Rattle.script_lines.specs.Lines.{lines}
 use Rattle.script_lines.specs.Resets.{first_bad}
 use Rattle.script_lines.specs.declared.events.Event.{Event}
-use Rattle.host_session.specs.declared.events.asking.Next.{Next}
-use Rattle.host_session.specs.declared.events.asking.Next.TheVariants as next
-use Rattle.host_session.specs.declared.events.asking.OfEvents.{OfEvents}
-use Rattle.host_session.specs.declared.events.asking.OfScript.{OfScript}
-use Rattle.host_session.specs.declared.events.noting.Noted.{Noted}
+use Rattle.host_session.specs.declared.events.sources.Next.{Next}
+use Rattle.host_session.specs.declared.events.sources.Next.TheVariants as next
+use Rattle.host_session.specs.declared.events.sources.EventList.{EventList}
+use Rattle.host_session.specs.declared.events.sources.ScriptEvents.{ScriptEvents}
+use Rattle.host_session.specs.declared.events.recorded_events.RecordedEvents.{RecordedEvents}
 use Rattle.host_session.specs.events.Events.{Message, message_of, messages_of, uncut}
 use Rattle.host_session.specs.events.Instants.{Instant}
 
@@ -59,7 +59,7 @@ IsNext a old new at next.End = TakesNone a old new × a.is_over new × FailsNoMo
 IsNext a old new at next.Failed = TakesNone a old new × a.has_failed new
 
 -- the lines that were taken of a script without a bad line
-abbrev pub of_script : Source OfScript
+abbrev pub of_script : Source ScriptEvents
 of_script = record {
   gives = λ first now xs. first_bad (lines first.left.now) ≡ None
       → (first_bad (lines now.left.now) ≡ None)
@@ -80,7 +80,7 @@ message_here None = uncut []
 message_here (Some e) = message_of e
 
 -- the events that were taken of a list
-abbrev pub of_events : Source OfEvents
+abbrev pub of_events : Source EventList
 of_events = record {
   gives = λ first now xs. (now.events.now ≡ first.events.now)
       × (map message_of (drop first.taken first.events.now)
@@ -93,11 +93,11 @@ of_events = record {
 }
 
 -- what the disk held when each event was asked for
-abbrev pub noted_in : {A : Type 0} → Noted A → List Image
+abbrev pub noted_in : {A : Type 0} → RecordedEvents A → List Image
 noted_in now = map (λ (v : Vec ℕ Global). sectors_in v.items) now.disks.items
 
 -- the events that were taken of a source, each noted with what the disk held
-abbrev pub noted : {A : Type 0} → Source A → Source (Noted A)
+abbrev pub noted : {A : Type 0} → Source A → Source (RecordedEvents A)
 noted a = record {
   gives = λ first now xs. a.gives first.asks now.asks xs × (noted_in now ≡ noted_in first ++ map (λ x. x.1.image) xs);
   here = λ now. a.here now.asks;

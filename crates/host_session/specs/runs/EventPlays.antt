@@ -3,8 +3,8 @@ use Rattle.std.specs.Prelude.{◌≡◌, ◌≢◌, ◌<◌, ◌+◌, ◌++◌, 
 use Rattle.d64_image.specs.History.{Failed, History, NeverFailed}
 use Rattle.request_cards.specs.declared.reply.Reply.{Reply}
 use Rattle.host_session.specs.declared.faults.OpenFault.{OpenFault}
-use Rattle.host_session.specs.declared.runs.playing.PlayFault.{PlayFault}
-use Rattle.host_session.specs.declared.runs.playing.PlayFault.TheVariants as faults
+use Rattle.host_session.specs.declared.runs.plays.PlayFault.{PlayFault}
+use Rattle.host_session.specs.declared.runs.plays.PlayFault.TheVariants as faults
 use Rattle.host_session.specs.events.Events.{Message}
 use Rattle.host_session.specs.events.Quiet.{AreUncut, AskNothing, IsQuiet}
 use Rattle.host_session.specs.events.Within.{IsBounded, IsSpared}

@@ -1,11 +1,11 @@
 -- The faults of runs, and the numbers under which they are told. All of it is our own.
 use Rattle.std.specs.Prelude.{ℕ}
-use Rattle.host_session.specs.declared.runs.looping.LoopFault.{LoopFault}
-use Rattle.host_session.specs.declared.runs.looping.LoopFault.TheVariants as runs
-use Rattle.host_session.specs.declared.runs.playing.PlayFault.{PlayFault}
-use Rattle.host_session.specs.declared.runs.playing.PlayFault.TheVariants as plays
-use Rattle.host_session.specs.declared.runs.running.ScriptFault.{ScriptFault}
-use Rattle.host_session.specs.declared.runs.running.ScriptFault.TheVariants as scripts
+use Rattle.host_session.specs.declared.runs.event_loop.LoopFault.{LoopFault}
+use Rattle.host_session.specs.declared.runs.event_loop.LoopFault.TheVariants as runs
+use Rattle.host_session.specs.declared.runs.plays.PlayFault.{PlayFault}
+use Rattle.host_session.specs.declared.runs.plays.PlayFault.TheVariants as plays
+use Rattle.host_session.specs.declared.runs.scripts.ScriptFault.{ScriptFault}
+use Rattle.host_session.specs.declared.runs.scripts.ScriptFault.TheVariants as scripts
 
 -- the number of a fault of a run of events
 abbrev pub play_number : PlayFault → ℕ

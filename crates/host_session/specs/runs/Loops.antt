@@ -4,10 +4,10 @@ use Rattle.std.specs.Prelude.{Result, false, length}
 use Rattle.d64_image.specs.History.{Failed, History, NeverFailed}
 use Rattle.request_cards.specs.declared.reply.Reply.{Reply}
 use Rattle.host_session.specs.declared.faults.OpenFault.{OpenFault}
-use Rattle.host_session.specs.declared.runs.looping.LoopFault.{LoopFault}
-use Rattle.host_session.specs.declared.runs.looping.LoopFault.TheVariants as faults
-use Rattle.host_session.specs.declared.runs.looping.Stretch.{Stretch}
-use Rattle.host_session.specs.declared.runs.looping.Stretch.TheVariants as stretches
+use Rattle.host_session.specs.declared.runs.event_loop.LoopFault.{LoopFault}
+use Rattle.host_session.specs.declared.runs.event_loop.LoopFault.TheVariants as faults
+use Rattle.host_session.specs.declared.runs.event_loop.Stopped.{Stopped}
+use Rattle.host_session.specs.declared.runs.event_loop.Stopped.TheVariants as stretches
 use Rattle.host_session.specs.events.Asking.{FailsNoMore, GivesWell, Source, messages_in}
 use Rattle.host_session.specs.events.Events.{Message}
 use Rattle.host_session.specs.events.Instants.{Instant, instant_of}
@@ -119,7 +119,7 @@ with_disk disk (Ok _) = Ok disk
 with_disk disk (Err fault) = Err (fault, disk)
 
 -- what a stretch of whole messages came to
-abbrev pub IsStretch : {D A T : Type 0} → History D → Source A → Output T → Origin D A T → View D → A → T → Stretch
+abbrev pub IsStretch : {D A T : Type 0} → History D → Source A → Output T → Origin D A T → View D → A → T → Stopped
     → Type 0
 IsStretch h a o from session asks out stretches.Cut = (session.dead ≡ false)
     × HasComeBut h a o from session.disk asks out

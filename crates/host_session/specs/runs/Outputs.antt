@@ -9,8 +9,8 @@ use Rattle.d64_image.specs.Memory.{sectors_in}
 use Rattle.request_cards.specs.Ledgers.{report}
 use Rattle.request_cards.specs.Texts.{reply_text}
 use Rattle.request_cards.specs.declared.reply.Reply.{Reply}
-use Rattle.host_session.specs.declared.events.hearing.Heard.{Heard}
-use Rattle.host_session.specs.declared.events.hearing.Turn.{Turn}
+use Rattle.host_session.specs.declared.events.recorded_replies.RecordedReplies.{RecordedReplies}
+use Rattle.host_session.specs.declared.events.recorded_replies.RecordedReply.{RecordedReply}
 use Rattle.host_session.specs.declared.events.printing.Printer.{Printer}
 use Rattle.host_session.specs.events.Instants.{Instant}
 use Rattle.host_session.specs.events.Telling.{Output, output_in}
@@ -55,7 +55,7 @@ listed = record {
 }
 
 -- a reply that was heard, with what the disk held then
-abbrev pub turn_of : Turn → Reply × Image
+abbrev pub turn_of : RecordedReply → Reply × Image
 turn_of t = (t.reply, sectors_in t.bytes.items)
 
 -- each reply with what the disk held
@@ -63,11 +63,11 @@ abbrev pub held_in : List (Reply × Instant) → List (Reply × Image)
 held_in turns = map (λ x. (x.0, x.1.image)) turns
 
 -- what was heard up to now
-abbrev pub turns_of : Heard → List (Reply × Image)
+abbrev pub turns_of : RecordedReplies → List (Reply × Image)
 turns_of h = map turn_of h.turns.items
 
 -- Replies were kept, each with a copy of the disk, and so many of them handed on. One that isn't taken isn't kept.
-abbrev pub heard : Output Heard
+abbrev pub heard : Output RecordedReplies
 heard = record {
   told = λ old new turns. turns_of new ≡ turns_of old ++ held_in turns;
   broken_off = λ old new turns last. turns_of new ≡ turns_of old ++ held_in turns;

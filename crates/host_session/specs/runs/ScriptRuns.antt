@@ -6,8 +6,8 @@ use Rattle.request_cards.specs.declared.reply.Reply.{Reply}
 use Rattle.script_lines.specs.Lines.{lines}
 use Rattle.script_lines.specs.Resets.{first_bad}
 use Rattle.host_session.specs.declared.faults.OpenFault.{OpenFault}
-use Rattle.host_session.specs.declared.runs.running.ScriptFault.{ScriptFault}
-use Rattle.host_session.specs.declared.runs.running.ScriptFault.TheVariants as faults
+use Rattle.host_session.specs.declared.runs.scripts.ScriptFault.{ScriptFault}
+use Rattle.host_session.specs.declared.runs.scripts.ScriptFault.TheVariants as faults
 use Rattle.host_session.specs.events.Events.{HasNoReset, Message, messages_of, requests_of}
 use Rattle.host_session.specs.events.Instants.{Instant}
 use Rattle.host_session.specs.events.Quiet.{AreUncut, AskNothing, IsQuiet}

@@ -5,9 +5,9 @@ use Rattle.disk_layout.specs.Layout.{File, Layout, record_length}
 use Rattle.disk_layout.specs.Rest.{IsFirst}
 use Rattle.disk_layout.specs.Records.{empty_record}
 use Rattle.host_session.specs.shop.Files.{Files, HasFiles, record_at}
-use Rattle.host_session.specs.declared.shop.reading.Held.{Held}
-use Rattle.host_session.specs.declared.shop.reading.Held.TheVariants as held
-use Rattle.host_session.specs.declared.shop.finding.LedgerFiles.{LedgerFiles}
+use Rattle.host_session.specs.declared.shop.record_content.RecordContent.{RecordContent}
+use Rattle.host_session.specs.declared.shop.record_content.RecordContent.TheVariants as held
+use Rattle.host_session.specs.declared.shop.files.LedgerFiles.{LedgerFiles}
 use Rattle.rel_records.specs.File.{IsFileOf, entry_of}
 use Rattle.rel_records.specs.declared.rel_file.RelFile.{RelFile}
 
@@ -26,12 +26,12 @@ pub record AreFilesOf (img : Image) (f : Files) (x : LedgerFiles) : Type 0 where
   pub top_is : x.top ≡ f.top
 
 -- the result holds what the record holds: nothing, a card, or other bytes
-abbrev pub Tells : {C : Type 0} → (List ℕ → Option C) → ℕ → List ℕ → Held C → Type 0
-Tells card_of long bytes held.Empty = bytes ≡ empty_record long
-Tells card_of long bytes (held.Card c) = card_of bytes ≡ Some c
-Tells card_of long bytes held.Other = (bytes ≢ empty_record long) × (card_of bytes ≡ None)
+abbrev pub ReplySink : {C : Type 0} → (List ℕ → Option C) → ℕ → List ℕ → Held C → Type 0
+ReplySink card_of long bytes held.Empty = bytes ≡ empty_record long
+ReplySink card_of long bytes (held.Card c) = card_of bytes ≡ Some c
+ReplySink card_of long bytes held.Other = (bytes ≢ empty_record long) × (card_of bytes ≡ None)
 
 -- record r of these is told, and None where there is none
 abbrev pub TellsRecord : {C : Type 0} → (List ℕ → Option C) → ℕ → List (List ℕ) → ℕ → Option (Held C) → Type 0
 TellsRecord card_of long rs r None = length rs < r
-TellsRecord card_of long rs r (Some h) = (bytes : List ℕ) × (record_at rs r ≡ Some bytes) × Tells card_of long bytes h
+TellsRecord card_of long rs r (Some h) = (bytes : List ℕ) × (record_at rs r ≡ Some bytes) × ReplySink card_of long bytes h

@@ -3,7 +3,7 @@ ghost use Rattle.std.specs.Prelude.{◌≡◌};
 ghost use Rattle.host_session.specs.runs.Lent.{written_to};
 
 use crate::events::printing::write_line;
-use crate::events::telling::{NotTaken, Tells};
+use crate::events::sinks::{NotTaken, ReplySink};
 use d64_image::Sectors;
 use request_cards::Reply;
 use std::io::Write;
@@ -24,7 +24,7 @@ impl<'a, W> Lines<'a, W> {
     }
 }
 
-impl<'a, D: Sectors, W: Write> Tells<D> for Lines<'a, W> {
+impl<'a, D: Sectors, W: Write> ReplySink<D> for Lines<'a, W> {
     ghost output = { written_to W.contents };
 
     fn tell(&mut self, reply: &Reply, _disk: &D) -> Result<(), NotTaken> {

@@ -3,7 +3,7 @@ ghost use Rattle.std.specs.Prelude.{◌≡◌, OnErr, OnOk};
 ghost use Rattle.std.specs.Io.KnownBytes.{Appends};
 ghost use Rattle.host_session.specs.runs.Outputs.{AppendsPart, line_of, printed, printer_out};
 
-use crate::events::telling::{NotTaken, Tells};
+use crate::events::sinks::{NotTaken, ReplySink};
 use d64_image::Sectors;
 use request_cards::Reply;
 use std::io::{self, Write};
@@ -66,7 +66,7 @@ pub(crate) fn write_line<W: Write>(out: &mut W, reply: &Reply) -> Result<(), Not
     write_whole(out, &room[start..])
 }
 
-impl<D: Sectors, W: Write> Tells<D> for Printer<W> {
+impl<D: Sectors, W: Write> ReplySink<D> for Printer<W> {
     ghost output = { printed W.contents };
 
     fn tell(&mut self, reply: &Reply, _disk: &D) -> Result<(), NotTaken> {

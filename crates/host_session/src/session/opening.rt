@@ -8,7 +8,7 @@ ghost use Rattle.host_session.specs.shop.Shop.{IsSettled, IsShop, Shop};
 use crate::faults::OpenFault;
 use crate::session::Session;
 use crate::session::settling::settle;
-use crate::shop::judgment::{Judged, judge};
+use crate::shop::judgment::{LoadedShop, judge};
 use d64_image::Sectors;
 
 impl<D: Sectors> Session<D> {
@@ -44,7 +44,7 @@ impl<D: Sectors> Session<D> {
         ensures failures { TellsOpening (λ x. x.disk) D.history disk result }
     {
         let mut disk = disk;
-        let mut found = Judged::nothing();
+        let mut found = LoadedShop::nothing();
         if let Err(fault) = judge(&mut disk, &mut found) {
             return Err((fault, disk));
         }

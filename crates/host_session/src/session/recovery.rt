@@ -1,12 +1,12 @@
 //! The open intent that a power cut left, completed.
 ghost use Rattle.std.specs.Prelude.{◌≡◌, IfNone};
 ghost use Rattle.host_session.specs.session.Settling.{HasClosedTable, HasTable};
-ghost use Rattle.host_session.specs.shop.Judged.{IsIntentOf};
+ghost use Rattle.host_session.specs.shop.LoadedShop.{IsIntentOf};
 ghost use Rattle.host_session.specs.shop.Puts.{Puts};
 ghost use Rattle.host_session.specs.shop.Selecting.{IsReady};
 ghost use Rattle.host_session.specs.shop.Shop.{IsShop, Shop};
 
-use crate::shop::completing::{answered, complete};
+use crate::shop::completion::{answered, complete};
 use crate::shop::intents::Intent;
 use crate::shop::shop_drive::ShopDrive;
 use d64_image::Sectors;

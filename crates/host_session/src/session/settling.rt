@@ -4,17 +4,17 @@ ghost use Rattle.host_session.specs.session.Mends.{Mends};
 ghost use Rattle.host_session.specs.session.Settling.{HasNewTable, HasTable};
 ghost use Rattle.host_session.specs.session.Standing.{IsStanding, state_in};
 ghost use Rattle.host_session.specs.shop.Files.{Files, HasFiles};
-ghost use Rattle.host_session.specs.shop.Judged.{IsIntentOf, IsJudged};
+ghost use Rattle.host_session.specs.shop.LoadedShop.{IsIntentOf, IsJudged};
 ghost use Rattle.host_session.specs.shop.Puts.{Puts};
 ghost use Rattle.host_session.specs.shop.Selecting.{IsReady};
 ghost use Rattle.host_session.specs.shop.Shop.{IsSettled, IsShop, Shop, any_old};
 
 use crate::faults::OpenFault;
-use crate::session::migrating::migrate;
+use crate::session::migration::migrate;
 use crate::session::recovery::recover;
 use crate::session::starting::start;
 use crate::shop::intents::Intent;
-use crate::shop::judgment::Judged;
+use crate::shop::judgment::LoadedShop;
 use crate::shop::shop_drive::ShopDrive;
 use d64_image::Sectors;
 use drive_channels::Dead;
@@ -43,7 +43,7 @@ fn bring_to_rest<D: Sectors>(
 #[inline(never)]
 pub(crate) fn settle<D: Sectors>(
     disk: D,
-    found: &mut Judged,
+    found: &mut LoadedShop,
 ) -> Result<ShopDrive<D>, (OpenFault, D)>
     requires judged { (f : Files) × HasFiles (D.history.image disk) f × IsJudged f found.old }
     ensures mends { Mends D.history disk result (IsShop (D.history.image disk)) 952 (λ i. (s : Shop) × IsSettled i s)

@@ -1,6 +1,6 @@
 //! Open intents among the tills' cards, and the new quantities that they give.
 ghost use Rattle.std.specs.Prelude.{◌≡◌, ◌≤◌, ◌↔◌, ℕ, IfErr, IfNone, IfOk, IfSome, IsTrue, None, Contains, length};
-ghost use Rattle.host_session.specs.shop.Judged.{IsIntentOf, PassesRecords, given, listed, no_cards};
+ghost use Rattle.host_session.specs.shop.LoadedShop.{IsIntentOf, PassesRecords, given, listed, no_cards};
 ghost use Rattle.host_session.specs.shop.Shop.{intents, items, overlaid, results_of};
 ghost use Rattle.request_cards.specs.CardTexts.{IsCard};
 ghost use Rattle.host_session.specs.declared.faults.OpenFault.TheVariants.{TwoIntents};

@@ -5,17 +5,17 @@ ghost use Rattle.host_session.specs.declared.faults.OpenFault.TheVariants.{BadCa
 ghost use Rattle.host_session.specs.session.Opening.{IsBadCard, IsBadTill, Refuses, TellsJudging};
 ghost use Rattle.host_session.specs.shop.Files.{Files, HasFiles};
 ghost use Rattle.host_session.specs.shop.Found.{AreFilesOf};
-ghost use Rattle.host_session.specs.shop.Judged.{AreCards, AreTills, HasJudgedTills, IsIntentOf, IsJudged};
-ghost use Rattle.host_session.specs.shop.Judged.{IsJudgedItem, IsJudgedTill, IsNothing, JudgesRecord};
+ghost use Rattle.host_session.specs.shop.LoadedShop.{AreCards, AreTills, HasJudgedTills, IsIntentOf, IsJudged};
+ghost use Rattle.host_session.specs.shop.LoadedShop.{IsJudgedItem, IsJudgedTill, IsNothing, JudgesRecord};
 ghost use Rattle.rel_records.specs.reading.Kept.{IsKept};
 
 use crate::faults::OpenFault;
 use crate::session::ITEMS;
-use crate::shop::finding::{LedgerFiles, find_files};
+use crate::shop::files::{LedgerFiles, find_files};
 use crate::shop::intents::{
     Intent, NewQuantities, given_by, new_quantities, new_quantity, open_intent, passes,
 };
-use crate::shop::reading::{Held, read_item, read_till};
+use crate::shop::record_content::{RecordContent, read_item, read_till};
 use arrayvec::ArrayVec;
 use d64_image::Sectors;
 use disk_layout::DATA;
@@ -24,7 +24,7 @@ use request_cards::RequestCard;
 
 /// What opening reads before it writes. It is large, so that each step fills it where it stands.
 #[derive(Drop)]
-pub struct Judged {
+pub struct LoadedShop {
     /// The last item that a new card may have.
     pub(crate) top: u16,
     /// How many tills there are.
@@ -37,12 +37,12 @@ pub struct Judged {
     pub(crate) intent: Option<Intent>,
 }
 
-impl Judged {
+impl LoadedShop {
     /// Nothing was read yet.
-    pub(crate) fn nothing() -> Judged
+    pub(crate) fn nothing() -> LoadedShop
         ensures { IsNothing result }
     {
-        Judged {
+        LoadedShop {
             top: 0,
             tills: 0,
             cards: [None; ITEMS],
@@ -72,14 +72,14 @@ fn judge_till<D: Sectors>(
         return Ok(None);
     };
     match held {
-        Held::Empty => Ok(Some(None)),
-        Held::Card(card) => {
+        RecordContent::Empty => Ok(Some(None)),
+        RecordContent::Card(card) => {
             if card.pending() && passes(&new_quantities(till, &card), records(&files.stock)) {
                 return Err(OpenFault::BadRequestCard(till));
             }
             Ok(Some(Some(card)))
         }
-        Held::Other => Err(OpenFault::BadRequestCard(till)),
+        RecordContent::Other => Err(OpenFault::BadRequestCard(till)),
     }
 }
 
@@ -132,14 +132,14 @@ fn judge_item<D: Sectors>(
         return Ok(Some(intended));
     }
     match held {
-        Held::Empty => Ok(Some(None)),
-        Held::Card(card) => {
+        RecordContent::Empty => Ok(Some(None)),
+        RecordContent::Card(card) => {
             if card.item() != item {
                 return Err(OpenFault::BadCard(item));
             }
             Ok(Some(Some(card.quantity())))
         }
-        Held::Other => Err(OpenFault::BadCard(item)),
+        RecordContent::Other => Err(OpenFault::BadCard(item)),
     }
 }
 
@@ -192,7 +192,7 @@ fn judge_tills<D: Sectors>(
 // Out of line, as `settle` is: an opening is then so short that the compiler makes the tables once, where the session
 // is kept, and not a second time for a fault.
 #[inline(never)]
-pub(crate) fn judge<D: Sectors>(disk: &mut D, found: &mut Judged) -> Result<(), OpenFault>
+pub(crate) fn judge<D: Sectors>(disk: &mut D, found: &mut LoadedShop) -> Result<(), OpenFault>
     requires nothing { IsNothing found.old }
     ensures ok { OnOk result ((f : Files) × HasFiles (D.history.image disk.old) f × IsJudged f found.new) }
     ensures err { IfErr result (Refuses (Failed D.history disk.old disk.new) (D.history.image disk.old)) }

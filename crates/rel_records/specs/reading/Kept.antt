@@ -3,7 +3,7 @@ use Rattle.std.specs.Prelude.{ℕ, ◌≡◌, ◌≤◌, ◌-◌, ◌*◌, ◌+�
 use Rattle.d64_image.specs.History.{History, OnlyReads}
 use Rattle.d64_image.specs.Images.{Image}
 use Rattle.rel_records.specs.File.{OfItsFile, length_of, records_in}
-use Rattle.rel_records.specs.declared.reading.in_order.LastBlock.{LastBlock}
+use Rattle.rel_records.specs.declared.reading.record_order.LastBlock.{LastBlock}
 use Rattle.rel_records.specs.declared.rel_file.RelFile.{RelFile}
 use Rattle.rel_records.specs.reading.Block.{IsBlock}
 

@@ -77,7 +77,7 @@ pub(crate) fn find_room<D: Sectors>(disk: &mut D, places: &[Place]) -> Result<Ro
 }
 
 /// Whether the entry has the name.
-pub(crate) fn bears(slot: &Slot, padded: &[u8; 16]) -> bool
+pub(crate) fn has_padded_name(slot: &Slot, padded: &[u8; 16]) -> bool
     ensures { IsTrue result ↔ (slice_range slot.now.bytes 5 21 ≡ padded.now) }
 {
     &slot.bytes[5..21] == &padded[..]
@@ -88,7 +88,7 @@ pub(crate) fn has_name(slots: &[Slot], padded: &[u8; 16]) -> bool
     ensures { IsTrue result ↔ ((s : Slot) × Contains slots.now s × (slice_range s.bytes 5 21 ≡ padded.now)) }
 {
     for slot in slots {
-        if bears(slot, padded) {
+        if has_padded_name(slot, padded) {
             return true;
         }
     }

@@ -9,7 +9,7 @@ ghost use Rattle.rel_records.specs.reading.Named.{HasNoneNamed, HasRel, IsFirstN
 ghost use Rattle.rel_records.specs.reading.Sides.{NamesEach};
 
 use crate::access::read;
-use crate::creation::directory_room::bears;
+use crate::creation::directory_room::has_padded_name;
 use crate::faults::RelFault;
 use crate::rel_file::RelFile;
 use crate::sizes::side_count;
@@ -24,7 +24,7 @@ fn is_named(slot: &Slot, name: &[u8]) -> bool
     if name.len() > 16 || !EntryView::new(&slot.bytes).is_relative() {
         return false;
     }
-    bears(slot, &padded_name(name))
+    has_padded_name(slot, &padded_name(name))
 }
 
 /// The number, from 0, of the first of these slots that is so named.

@@ -6,7 +6,7 @@ use Rattle.drive_channels.proofs.Writes.{grown-at, grown-row, had-is, keeps-left
 use Rattle.drive_channels.proofs.Writes.{refused-row, same-spot}
 use Rattle.drive_channels.proofs.writing.grow_at.Goals as goal
 use Rattle.drive_channels.specs.Inside.{IsSpot}
-use Rattle.drive_channels.specs.declared.found.Found.{Found}
+use Rattle.drive_channels.specs.declared.open_file.NamedFile.{NamedFile}
 use Rattle.rel_records.specs.File.{entry_of}
 
 pub returns-in-Ok : goal.returns-in-Ok
@@ -67,7 +67,7 @@ returns-in_default g c =
             | inr (inr x) ↦ absurd (c.in_default.not-Device x)
           ]);
       found = keeps-same _ _ _ _ (sym left.1.image) (sym same) c.requires.clean c.requires.found;
-      spot = subst (λ (e : Found). IsSpot e c.args.spot) (sym same) c.requires.spot;
+      spot = subst (λ (e : NamedFile). IsSpot e c.args.spot) (sym same) c.requires.spot;
       writes = λ l f rel. let of = at-file _ _ l f c.requires.found rel in
           grown-at S _ _ _ l f _ ((c.in-Err.ensures.file l _ f of).moments) (λ _ _. tt);
       refused = λ _. left.1;

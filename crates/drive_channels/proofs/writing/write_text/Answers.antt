@@ -5,14 +5,14 @@ use Rattle.drive_channels.proofs.Writes.{cut, had-is, keeps-left, keeps-same, le
 use Rattle.drive_channels.proofs.Writes.{overflow-done, refused-row, written-at, written-row}
 use Rattle.drive_channels.proofs.writing.write_text.Goals as goal
 use Rattle.drive_channels.specs.Inside.{IsSpot}
-use Rattle.drive_channels.specs.declared.found.Found.{Found}
+use Rattle.drive_channels.specs.declared.open_file.NamedFile.{NamedFile}
 use Rattle.rel_records.specs.File.{entry_of}
 use Rattle.rel_records.specs.Written.{IsInOneBlock}
 
 pub returns-in-Ok : goal.returns-in-Ok
 returns-in-Ok g c =
     let S = g.D.Sectors.history in
-    let e' : Found = record { name = c.args.found.now.name; file = c.write_record.new.file } in
+    let e' : NamedFile = record { name = c.args.found.now.name; file = c.write_record.new.file } in
     record {
       row = rw c.advance.ensures
           (λ s b. written-row (S.image c.args.disk.now) _ c.args.found.now e' c.args.spot.now s b c.requires.place.found
@@ -39,7 +39,7 @@ returns-in-Ok g c =
 pub returns-in-Overflow : goal.returns-in-Overflow
 returns-in-Overflow g c =
     let S = g.D.Sectors.history in
-    let e' : Found = record { name = c.args.found.now.name; file = c.write_record.new.file } in
+    let e' : NamedFile = record { name = c.args.found.now.name; file = c.write_record.new.file } in
     let done = over c.in-Err.fault c.in-Overflow.is in
     record {
       row = rw c.advance-in-Overflow.ensures
@@ -87,7 +87,7 @@ returns-in-Device g c =
 pub returns-in_default : goal.returns-in_default
 returns-in_default g c =
     let S = g.D.Sectors.history in
-    let e' : Found = record { name = c.args.found.now.name; file = c.write_record.new.file } in
+    let e' : NamedFile = record { name = c.args.found.now.name; file = c.write_record.new.file } in
     let left = c.in-Err.ensures.refused c.in_default.not-Device c.in_default.not-Overflow in
     let same : e' ≡ c.args.found.now = ap (λ v. record { name = c.args.found.now.name; file = v }) left.0 in
     let entry : entry_of c.write_record.new.file ≡ entry_of c.args.found.now.file = ap entry_of left.0 in
@@ -101,7 +101,7 @@ returns-in_default g c =
             | inr (inr (inr x)) ↦ absurd (c.in_default.not-Device x)
           ]);
       found = keeps-same _ _ _ _ (sym left.1.image) (sym same) c.requires.place.clean c.requires.place.found;
-      spot = subst (λ (e : Found). IsSpot e c.args.spot.now) (sym same) c.requires.place.spot;
+      spot = subst (λ (e : NamedFile). IsSpot e c.args.spot.now) (sym same) c.requires.place.spot;
       writes = λ l f rel. let of = at-file _ _ l f c.requires.place.found rel in
           written-at S _ _ _ l f _ c.args.text.now c.requires.some ((c.in-Err.ensures.file l _ f of).moments)
           (λ _ _. tt);

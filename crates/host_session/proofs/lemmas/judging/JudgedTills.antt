@@ -10,8 +10,8 @@ use Rattle.request_cards.proofs.CardReading.{card_is}
 use Rattle.request_cards.specs.CardReading.{request_card_of}
 use Rattle.request_cards.specs.CardTexts.{Card, IsCard}
 use Rattle.host_session.specs.shop.Files.{Files, record_at}
-use Rattle.host_session.specs.shop.Judged.{AreCards, AreTills, HasJudgedTills, HasTills, IsIntentOf, IsOnlyIntent}
-use Rattle.host_session.specs.shop.Judged.{given, listed}
+use Rattle.host_session.specs.shop.LoadedShop.{AreCards, AreTills, HasJudgedTills, HasTills, IsIntentOf, IsOnlyIntent}
+use Rattle.host_session.specs.shop.LoadedShop.{given, listed}
 use Rattle.host_session.specs.session.Opening.{HasNoBadTill, LacksRecord, open_intents}
 use Rattle.host_session.specs.shop.Shop.{AreLedgerRecords, IsIntended, card_at, cards_in, intents, items, open_in}
 use Rattle.host_session.specs.shop.Shop.{results, results_of}

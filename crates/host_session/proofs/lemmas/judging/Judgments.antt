@@ -6,11 +6,11 @@ use Rattle.d64_image.specs.History.{Failed, History}
 use Rattle.d64_image.specs.Images.{Image}
 use Rattle.host_session.specs.shop.Files.{Files, HasFiles}
 use Rattle.host_session.specs.shop.Found.{AreFilesOf}
-use Rattle.host_session.specs.shop.Judged.{HasJudgedTills, IsCountedTo, IsReadTo}
+use Rattle.host_session.specs.shop.LoadedShop.{HasJudgedTills, IsCountedTo, IsReadTo}
 use Rattle.host_session.specs.session.Opening.{IsBadCard, IsBadTill, Refuses, TellsJudging, of_device}
 use Rattle.host_session.specs.declared.faults.OpenFault.{OpenFault}
 use Rattle.host_session.specs.declared.faults.OpenFault.TheVariants as faults
-use Rattle.host_session.specs.declared.shop.finding.LedgerFiles.{LedgerFiles}
+use Rattle.host_session.specs.declared.shop.files.LedgerFiles.{LedgerFiles}
 use Rattle.host_session.specs.declared.shop.intents.NewQuantities.{NewQuantities}
 use Rattle.host_session.proofs.lemmas.judging.StockTables.{card-lowest}
 use Rattle.host_session.proofs.lemmas.judging.TillTables.{till-lowest}

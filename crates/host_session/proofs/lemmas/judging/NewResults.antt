@@ -11,7 +11,7 @@ use Rattle.request_cards.specs.declared.kind.Kind.TheVariants.{Move}
 use Rattle.request_cards.specs.CardTexts.{Card, IsCard, goes_with}
 use Rattle.request_cards.specs.Requests.{same_kind, to_of}
 use Rattle.request_cards.specs.Trade.{Cards, put}
-use Rattle.host_session.specs.shop.Judged.{no_cards}
+use Rattle.host_session.specs.shop.LoadedShop.{no_cards}
 use Rattle.host_session.specs.shop.Shop.{items, overlaid}
 
 -- a move's answer is kept for a move, which has an item to go to

@@ -12,7 +12,7 @@ use Rattle.rel_records.specs.Faults.{TellsRelFault}
 use Rattle.rel_records.specs.Written.{IsAbsent, IsRecord}
 use Rattle.rel_records.specs.declared.faults.RelFault.{RelFault}
 use Rattle.rel_records.specs.declared.faults.RelFault.TheVariants.{NotPresent}
-use Rattle.host_session.specs.declared.shop.finding.LedgerFiles.{LedgerFiles}
+use Rattle.host_session.specs.declared.shop.files.LedgerFiles.{LedgerFiles}
 use Rattle.host_session.specs.shop.Files.{Files, record_at}
 use Rattle.host_session.specs.shop.Found.{AreFilesOf}
 

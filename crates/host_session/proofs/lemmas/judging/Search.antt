@@ -1,7 +1,7 @@
 -- What opening finds before it writes: files by their names, the top, and faults of the layout.
 use Rattle.std.specs.Prelude.{IfNone, IfSome, None, Option, Some, codes, length}
 use Rattle.disk_layout.specs.Records.{records}
-use Rattle.host_session.specs.declared.shop.finding.LedgerFiles.{LedgerFiles}
+use Rattle.host_session.specs.declared.shop.files.LedgerFiles.{LedgerFiles}
 use Rattle.host_session.specs.shop.Files.{Files}
 use Rattle.std.proofs.Common.{ℕ, ◌≡◌, ◌≢◌, ◌+◌, ◌-◌, ◌/◌, List, arith, refl, subst, sym, ◌∙◌, ap}
 use Rattle.d64_image.specs.Images.{Image}

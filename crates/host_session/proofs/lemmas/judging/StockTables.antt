@@ -16,12 +16,12 @@ use Rattle.request_cards.specs.CardReading.{stock_card_of}
 use Rattle.request_cards.specs.CardTexts.{Stock}
 use Rattle.host_session.specs.shop.Files.{Files, record_at}
 use Rattle.host_session.specs.shop.Found.{AreFilesOf}
-use Rattle.host_session.specs.shop.Judged.{AreCards, HasJudgedTills, IsCountedTo, IsJudgedItem, listed, no_cards}
+use Rattle.host_session.specs.shop.LoadedShop.{AreCards, HasJudgedTills, IsCountedTo, IsJudgedItem, listed, no_cards}
 use Rattle.host_session.specs.session.Opening.{IsBadCard, IsLowest}
 use Rattle.host_session.specs.shop.Shop.{IsIntended, IsStockRecord, cards_in, intents, overlaid, quantities}
 use Rattle.host_session.specs.shop.Shop.{quantity_if, quantity_in, results, state_of}
 use Rattle.host_session.specs.session.Standing.{nth}
-use Rattle.host_session.specs.declared.shop.finding.LedgerFiles.{LedgerFiles}
+use Rattle.host_session.specs.declared.shop.files.LedgerFiles.{LedgerFiles}
 use Rattle.host_session.specs.declared.shop.intents.NewQuantities.{NewQuantities}
 use Rattle.host_session.proofs.lemmas.shop.Lists.{record-within}
 use Rattle.host_session.proofs.lemmas.judging.NewResults.{given-none, given-some, overlays}

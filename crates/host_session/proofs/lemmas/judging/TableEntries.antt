@@ -11,7 +11,7 @@ use Rattle.disk_layout.specs.Records.{empty_record}
 use Rattle.request_cards.specs.CardReading.{request_card_of}
 use Rattle.request_cards.specs.CardTexts.{Card}
 use Rattle.host_session.specs.shop.Files.{record_at}
-use Rattle.host_session.specs.shop.Judged.{IsIntentAmong}
+use Rattle.host_session.specs.shop.LoadedShop.{IsIntentAmong}
 use Rattle.host_session.specs.shop.Shop.{intents, open_in}
 use Rattle.host_session.specs.session.Standing.{nth}
 use Rattle.host_session.specs.declared.shop.intents.Intent.{Intent}

@@ -14,13 +14,13 @@ use Rattle.drive_channels.specs.State.{Seen}
 use Rattle.request_cards.specs.CardReading.{request_card_of}
 use Rattle.request_cards.specs.CardTexts.{Card}
 use Rattle.host_session.specs.shop.Files.{Files, HasFiles}
-use Rattle.host_session.specs.shop.Judged.{IsIntentOf, IsJudged}
+use Rattle.host_session.specs.shop.LoadedShop.{IsIntentOf, IsJudged}
 use Rattle.host_session.specs.session.Opening.{Untouched}
 use Rattle.host_session.specs.session.Settling.{HasClosedTable, HasNewTable, HasTable}
 use Rattle.host_session.specs.shop.Shop.{IsSettled, IsShop, Shop, any_old, card_at, cards_in, intents, is_old, shop_of}
 use Rattle.host_session.specs.session.Standing.{IsStanding, nth, state_in}
 use Rattle.host_session.specs.declared.shop.intents.Intent.{Intent}
-use Rattle.host_session.specs.declared.shop.judgment.Judged.{Judged}
+use Rattle.host_session.specs.declared.shop.judgment.LoadedShop.{LoadedShop}
 use Rattle.host_session.proofs.lemmas.judging.JudgedTills.{card_at-get, table-intents}
 use Rattle.host_session.proofs.lemmas.shop.Shops.{HasFiles-one, IsShop-one}
 use Rattle.host_session.proofs.lemmas.judging.TableEntries.{in-place, nth-at}
@@ -113,7 +113,7 @@ none-weaker A B None f h = f h
 none-weaker A B (Some x) f h = tt
 
 -- a disk that was judged, as it is once it is mended
-pub judged-table : (img : Image) (f : Files) (x : Judged) → HasFiles img f → IsJudged f x
+pub judged-table : (img : Image) (f : Files) (x : LoadedShop) → HasFiles img f → IsJudged f x
     → HasTable img (shop_of f) x.requests
 judged-table img f x has j = record {
   shop = record { files = f; has = has; records = j.records; is = refl };
@@ -122,7 +122,7 @@ judged-table img f x has j = record {
 }
 
 -- what a session holds once its shop's disk is at rest
-pub standing : (img : Image) (f : Files) (x : Judged) → IsJudged f x → (table : List (Option Card))
+pub standing : (img : Image) (f : Files) (x : LoadedShop) → IsJudged f x → (table : List (Option Card))
     → HasNewTable img (shop_of f) table 64 → IsClean img
     → IsStanding img false x.top x.tills (state_in x.cards table)
 standing img f x j table h clean = record {
@@ -135,7 +135,7 @@ standing img f x j table h clean = record {
 }
 
 -- a settled disk has nothing to complete and nothing to migrate
-module _ (img : Image) (s : Shop) (r : IsSettled img s) (f : Files) (has : HasFiles img f) (x : Judged)
+module _ (img : Image) (s : Shop) (r : IsSettled img s) (f : Files) (has : HasFiles img f) (x : LoadedShop)
     (j : IsJudged f x) where
   same-files : r.shop.files ≡ f
   same-files = HasFiles-one img r.shop.files f r.shop.has has
@@ -165,13 +165,13 @@ module _ (img : Image) (s : Shop) (r : IsSettled img s) (f : Files) (has : HasFi
       any-same (x ∷ xs) (y ∷ ys) h = λ i. is_old (h 0 i) || any-same xs ys (λ k. h (suc k)) i
 
 -- a disk that was judged is of one shop
-pub judged-shop : (img : Image) (f : Files) (x : Judged) → HasFiles img f → IsJudged f x → (s : Shop) → IsShop img s
+pub judged-shop : (img : Image) (f : Files) (x : LoadedShop) → HasFiles img f → IsJudged f x → (s : Shop) → IsShop img s
     → shop_of f ≡ s
 judged-shop img f x has j s h =
     IsShop-one img (shop_of f) s (record { files = f; has = has; records = j.records; is = refl }) h
 
 -- a shop's disk that is mended, and then brought to rest
-module _ {D : Type 0} (S : History D) (a : D) (b c : Seen D) (f : Files) (has : HasFiles (S.image a) f) (x : Judged)
+module _ {D : Type 0} (S : History D) (a : D) (b c : Seen D) (f : Files) (has : HasFiles (S.image a) f) (x : LoadedShop)
     (j : IsJudged f x) (s : Shop) where
   pub rest-moments : IsShop (S.image a) s → Changes S a b.disk 883 (λ i. IsShop i s)
       → Changes S b.disk c.disk 69 (λ i. IsShop i (shop_of f)) → Changes S a c.disk 952 (λ i. IsShop i s)

@@ -15,7 +15,7 @@ use Rattle.request_cards.specs.declared.answer.Answer.TheVariants as answers
 use Rattle.request_cards.specs.Requests.{Body}
 use Rattle.host_session.specs.shop.Files.{Files, record_at, with_record}
 use Rattle.host_session.specs.session.Handling.{card_writes}
-use Rattle.host_session.specs.shop.Judged.{HasTills}
+use Rattle.host_session.specs.shop.LoadedShop.{HasTills}
 use Rattle.host_session.specs.shop.Putting.{HasAnswer, IsPuttingAnswer}
 use Rattle.host_session.specs.session.Settling.{HasNewTable}
 use Rattle.host_session.specs.shop.Shop.{IsShop, Shop, any_old, cards_in, intents, is_old, open_in, results_in}

@@ -8,7 +8,7 @@ use Rattle.request_cards.specs.CardReading.{request_card_of}
 use Rattle.request_cards.specs.CardTexts.{Card, IsCard, card_text}
 use Rattle.host_session.specs.shop.Completing.{HasIntent, IsCompleted, answered_card}
 use Rattle.host_session.specs.shop.Files.{Files, record_at, with_record}
-use Rattle.host_session.specs.shop.Judged.{HasTills, IsOnlyIntent}
+use Rattle.host_session.specs.shop.LoadedShop.{HasTills, IsOnlyIntent}
 use Rattle.host_session.specs.session.Settling.{HasClosedTable, HasTable}
 use Rattle.host_session.specs.shop.Shop.{Shop, card_at, cards_in, intents, shop_of}
 use Rattle.host_session.specs.session.Standing.{nth}

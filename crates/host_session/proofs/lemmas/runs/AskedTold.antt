@@ -4,7 +4,7 @@ use Rattle.std.proofs.Common.{None, Some, Ok, Err, refl, sym, subst, ap, ◌∙�
 use Rattle.std.specs.Prelude.{IsSome, Result, is_err, is_ok, is_some, option_map}
 use Rattle.d64_image.specs.History.{History}
 use Rattle.request_cards.specs.declared.reply.Reply.{Reply}
-use Rattle.host_session.specs.declared.events.asking.Next.{Next}
+use Rattle.host_session.specs.declared.events.sources.Next.{Next}
 use Rattle.host_session.specs.events.Asking.{IsNext, Source}
 use Rattle.host_session.specs.events.Events.{Message, cut_at, uncut}
 use Rattle.host_session.specs.events.Instants.{Instant, instant_of}

@@ -14,13 +14,13 @@ use Rattle.host_session.proofs.lemmas.runs.QuietRuns.{quiet_of_more}
 use Rattle.host_session.proofs.lemmas.runs.QuietWrites.{spared_of_more}
 use Rattle.host_session.proofs.lemmas.runs.Runs.{held_of_more}
 use Rattle.host_session.proofs.lemmas.runs.Sparing.{bound_of_more}
-use Rattle.host_session.specs.declared.events.asking.OfEvents.{OfEvents}
+use Rattle.host_session.specs.declared.events.sources.EventList.{EventList}
 use Rattle.host_session.specs.declared.faults.OpenFault.{OpenFault}
 use Rattle.host_session.specs.declared.faults.OpenFault.TheVariants as openings
-use Rattle.host_session.specs.declared.runs.looping.LoopFault.{LoopFault}
-use Rattle.host_session.specs.declared.runs.looping.LoopFault.TheVariants as runs
-use Rattle.host_session.specs.declared.runs.playing.PlayFault.{PlayFault}
-use Rattle.host_session.specs.declared.runs.playing.PlayFault.TheVariants as ends
+use Rattle.host_session.specs.declared.runs.event_loop.LoopFault.{LoopFault}
+use Rattle.host_session.specs.declared.runs.event_loop.LoopFault.TheVariants as runs
+use Rattle.host_session.specs.declared.runs.plays.PlayFault.{PlayFault}
+use Rattle.host_session.specs.declared.runs.plays.PlayFault.TheVariants as ends
 use Rattle.host_session.specs.events.Asking.{last_taken, message_here, messages_in, of_events}
 use Rattle.host_session.specs.events.Events.{Message, message_of}
 use Rattle.host_session.specs.events.Instants.{Instant, instant_of}
@@ -74,7 +74,7 @@ pub record IsEventsEnd {D : Type 0} (h : History D) (disk left : D) (ms : List M
   pub memory : e ≢ ends.NoMemory
   pub silent : e ≢ ends.Device → new ≡ old
 
-module _ {D : Type 0} (h : History D) (disk : D) (events : List Event) (asked asks : OfEvents)
+module _ {D : Type 0} (h : History D) (disk : D) (events : List Event) (asked asks : EventList)
     (old new : Vec Reply Global)
     (is_all : asked.events.now ≡ events) (from : asked.taken ≡ 0) (room : length events ≤ vec_capacity old - vec_len
     old) where

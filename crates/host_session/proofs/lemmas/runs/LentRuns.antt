@@ -3,8 +3,8 @@ use Rattle.std.proofs.Common.{Err, List, Ok, Option, Result, ap, inl, inr, refl,
 use Rattle.d64_image.specs.History.{History}
 use Rattle.request_cards.specs.declared.reply.Reply.{Reply}
 use Rattle.host_session.specs.declared.events.lines.Lines.{Lines}
-use Rattle.host_session.specs.declared.runs.running.ScriptFault.{ScriptFault}
-use Rattle.host_session.specs.declared.runs.running.ScriptFault.TheVariants as faults
+use Rattle.host_session.specs.declared.runs.scripts.ScriptFault.{ScriptFault}
+use Rattle.host_session.specs.declared.runs.scripts.ScriptFault.TheVariants as faults
 use Rattle.host_session.specs.events.Events.{Message}
 use Rattle.host_session.specs.runs.Lent.{written_to}
 use Rattle.host_session.specs.runs.Outputs.{written}

@@ -9,7 +9,7 @@ use Rattle.request_cards.specs.declared.reply.Reply.{Reply}
 use Rattle.host_session.proofs.lemmas.runs.Chained.{asked_more, run_more, run_more-first}
 use Rattle.host_session.proofs.lemmas.runs.Chained.{run_none, run_rests}
 use Rattle.host_session.proofs.lemmas.runs.Sparing.{sparing_more, within_more}
-use Rattle.host_session.specs.declared.runs.looping.LoopFault.TheVariants as faults
+use Rattle.host_session.specs.declared.runs.event_loop.LoopFault.TheVariants as faults
 use Rattle.host_session.specs.events.Asking.{FailsNoMore, Source, TakesNone, TakesOne, messages_in}
 use Rattle.host_session.specs.events.Events.{Message}
 use Rattle.host_session.specs.events.Instants.{Instant, instant_of}

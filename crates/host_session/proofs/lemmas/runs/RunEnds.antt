@@ -12,8 +12,8 @@ use Rattle.host_session.proofs.lemmas.runs.Sparing.{failure_bound, refused_bound
 use Rattle.host_session.proofs.lemmas.shop.Shops.{IsShop-one}
 use Rattle.host_session.specs.declared.faults.OpenFault.{OpenFault}
 use Rattle.host_session.specs.declared.faults.OpenFault.TheVariants as openings
-use Rattle.host_session.specs.declared.runs.looping.LoopFault.{LoopFault}
-use Rattle.host_session.specs.declared.runs.looping.LoopFault.TheVariants as faults
+use Rattle.host_session.specs.declared.runs.event_loop.LoopFault.{LoopFault}
+use Rattle.host_session.specs.declared.runs.event_loop.LoopFault.TheVariants as faults
 use Rattle.host_session.specs.events.Asking.{Source, messages_in}
 use Rattle.host_session.specs.events.Events.{Message}
 use Rattle.host_session.specs.events.Quiet.{AskNothing, IsQuiet}

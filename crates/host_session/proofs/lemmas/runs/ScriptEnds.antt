@@ -23,21 +23,21 @@ use Rattle.host_session.specs.runs.ScriptRuns.{IsScriptRun}
 use Rattle.host_session.specs.shop.Shop.{IsShop, Shop}
 use Rattle.host_session.specs.events.Telling.{Output}
 use Rattle.host_session.specs.events.Within.{AreWithin, IsBounded, IsSpared}
-use Rattle.host_session.specs.declared.events.asking.OfScript.{OfScript}
+use Rattle.host_session.specs.declared.events.sources.ScriptEvents.{ScriptEvents}
 use Rattle.host_session.specs.declared.faults.OpenFault.{OpenFault}
 use Rattle.host_session.specs.declared.faults.OpenFault.TheVariants as openings
 use Rattle.host_session.specs.runs.Faults.{script_fault_of}
-use Rattle.host_session.specs.declared.runs.looping.LoopFault.{LoopFault}
-use Rattle.host_session.specs.declared.runs.looping.LoopFault.TheVariants as runs
-use Rattle.host_session.specs.declared.runs.running.ScriptFault.{ScriptFault}
-use Rattle.host_session.specs.declared.runs.running.ScriptFault.TheVariants as ends
+use Rattle.host_session.specs.declared.runs.event_loop.LoopFault.{LoopFault}
+use Rattle.host_session.specs.declared.runs.event_loop.LoopFault.TheVariants as runs
+use Rattle.host_session.specs.declared.runs.scripts.ScriptFault.{ScriptFault}
+use Rattle.host_session.specs.declared.runs.scripts.ScriptFault.TheVariants as ends
 
 -- the fault of an opening
 abbrev opened_with : ScriptFault → OpenFault
 opened_with (ends.Open f) = f
 opened_with _ = openings.Device
 
-module _ {D T : Type 0} (h : History D) (o : Output T) (disk : D) (script : List ℕ) (asked asks : OfScript)
+module _ {D T : Type 0} (h : History D) (o : Output T) (disk : D) (script : List ℕ) (asked asks : ScriptEvents)
     (old new : T)
     (is_all : asked.left.now ≡ script) (none : first_bad (lines script) ≡ None) where
   -- the messages that were taken, and those of the lines that are left

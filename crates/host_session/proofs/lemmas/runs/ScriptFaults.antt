@@ -1,8 +1,8 @@
 -- The faults of a run, told apart.
 use Rattle.std.proofs.Common.{◌≡◌, ℕ}
 use Rattle.host_session.specs.declared.faults.OpenFault.{OpenFault}
-use Rattle.host_session.specs.declared.runs.running.ScriptFault.{ScriptFault}
-use Rattle.host_session.specs.declared.runs.running.ScriptFault.TheVariants as ends
+use Rattle.host_session.specs.declared.runs.scripts.ScriptFault.{ScriptFault}
+use Rattle.host_session.specs.declared.runs.scripts.ScriptFault.TheVariants as ends
 
 -- each fault is another one
 abbrev pub line_of : ScriptFault → ℕ

@@ -14,7 +14,7 @@ use Rattle.request_cards.specs.declared.answer.Answer.TheVariants as answers
 use Rattle.request_cards.specs.Requests.{Body}
 use Rattle.request_cards.specs.CardTexts.{Card, IsCard, card_text}
 use Rattle.host_session.specs.shop.Completing.{HasIntent, HasResults, IsCompleted, answered_card}
-use Rattle.host_session.specs.shop.Judged.{listed, pair_in}
+use Rattle.host_session.specs.shop.LoadedShop.{listed, pair_in}
 use Rattle.host_session.specs.declared.shop.intents.NewQuantities.{NewQuantities}
 use Rattle.host_session.specs.shop.Files.{Files, with_record}
 use Rattle.host_session.specs.shop.Putting.{HasAnswer, IsPuttingAnswer}

@@ -1,9 +1,9 @@
 -- The repair was over the file that was handed in.
 use Rattle.ledger_cli.proofs.Over.{over}
 use Rattle.ledger_cli.specs.Streams.{stream}
-use Rattle.ledger_commands.specs.Plays.{IsUntouched}
-use Rattle.ledger_program.specs.Keeping.{IsRepairOver}
-use Rattle.ledger_program.specs.Losses.{IsGuarded, IsRepairedEndOf}
+use Rattle.shop_commands.specs.Plays.{IsUntouched}
+use Rattle.ledger_jobs.specs.Keeping.{IsRepairOver}
+use Rattle.ledger_jobs.specs.Losses.{IsGuarded, IsRepairedEndOf}
 use Rattle.ledger_cli.proofs.changing.mend.Goals as goal
 
 pub returns-in-Ok : goal.returns-in-Ok

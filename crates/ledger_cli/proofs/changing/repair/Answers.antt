@@ -1,9 +1,9 @@
 -- The repair was of a copy of the disk in memory, and the file is as it was.
 use Rattle.std.proofs.Common.{Bool, refl, subst, sym, ◌≡◌}
 use Rattle.ledger_cli.specs.Runs.{IsRepairJob}
-use Rattle.ledger_program.specs.Keeping.{IsDryRepair}
-use Rattle.ledger_program.specs.Losses.{IsGuarded, IsRepairedEndOf}
-use Rattle.ledger_program.specs.declared.jobs.Effect.{Effect}
+use Rattle.ledger_jobs.specs.Keeping.{IsDryRepair}
+use Rattle.ledger_jobs.specs.Losses.{IsGuarded, IsRepairedEndOf}
+use Rattle.ledger_jobs.specs.declared.jobs.Effect.{Effect}
 use Rattle.ledger_cli.proofs.changing.repair.Goals as goal
 
 pub returns-in-Printed : goal.returns-in-Printed

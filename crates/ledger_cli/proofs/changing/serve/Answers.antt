@@ -1,9 +1,9 @@
 -- It is refused for what is lost, or ends as the service does.
 use Rattle.std.proofs.Common.{Err, ap, inl, inr, refl, rules}
-use Rattle.ledger_commands.specs.Plays.{IsUntouched}
+use Rattle.shop_commands.specs.Plays.{IsUntouched}
 use Rattle.ledger_cli.proofs.Over.{over, service_end}
 use Rattle.ledger_cli.specs.Runs.{IsServiceEnd}
-use Rattle.ledger_program.specs.Losses.{IsEndOf, IsGuarded}
+use Rattle.ledger_jobs.specs.Losses.{IsEndOf, IsGuarded}
 use Rattle.ledger_cli.proofs.changing.serve.Goals as goal
 
 pub returns-in-Some : goal.returns-in-Some

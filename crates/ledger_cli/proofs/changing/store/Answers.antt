@@ -2,10 +2,10 @@
 use Rattle.std.proofs.Common.{subst}
 use Rattle.ledger_cli.proofs.Over.{over}
 use Rattle.ledger_cli.specs.Streams.{stream}
-use Rattle.ledger_commands.specs.Plays.{IsUntouched}
-use Rattle.ledger_program.specs.Kept.{IsStoreOver}
-use Rattle.ledger_program.specs.Losses.{IsGuarded, IsKeptEndOf}
-use Rattle.ledger_program.specs.Names.{name_bytes}
+use Rattle.shop_commands.specs.Plays.{IsUntouched}
+use Rattle.ledger_jobs.specs.Kept.{IsStoreOver}
+use Rattle.ledger_jobs.specs.Losses.{IsGuarded, IsKeptEndOf}
+use Rattle.ledger_jobs.specs.Names.{name_bytes}
 use Rattle.ledger_cli.proofs.changing.store.Goals as goal
 
 pub returns-in-Ok : goal.returns-in-Ok

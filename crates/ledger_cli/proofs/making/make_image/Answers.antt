@@ -3,7 +3,7 @@ use Rattle.std.proofs.Common.{◌∙◌, Err, ap, refl}
 use Rattle.std.proofs.lemmas.Result.{err_from_is_err_and}
 use Rattle.d64_image.specs.Memory.{disk_image}
 use Rattle.ledger_cli.proofs.Made.{image_written, made, made_in_part, not_made}
-use Rattle.ledger_commands.specs.Images.{AreFreshBytes}
+use Rattle.shop_commands.specs.Images.{AreFreshBytes}
 use Rattle.ledger_cli.proofs.making.make_image.Goals as goal
 
 pub returns-in_err-disk : goal.returns-in_err-disk

@@ -1,7 +1,7 @@
 -- The run's own word, once what was written is handed on.
 use Rattle.std.proofs.Common.{inl, inr, refl}
 use Rattle.host_session.specs.runs.Outputs.{written}
-use Rattle.ledger_commands.proofs.PlayEnds.{fault_handed_on, handed_on}
+use Rattle.shop_commands.proofs.PlayEnds.{fault_handed_on, handed_on}
 use Rattle.ledger_cli.proofs.playing.play_lines.Goals as goal
 
 pub returns-in-Ok-hand_on : goal.returns-in-Ok-hand_on

@@ -7,10 +7,10 @@ use Rattle.d64_image.specs.Keeps.{kept_or}
 use Rattle.d64_image.specs.Memory.{disk_image, sectors_in}
 use Rattle.d64_image.specs.KeptMirrors.{mirror_image}
 use Rattle.host_session.specs.runs.Outputs.{written}
-use Rattle.ledger_commands.specs.Plays.{IsFileFault, IsPlayedFile}
-use Rattle.ledger_commands.specs.declared.faults.RunFault.{RunFault}
-use Rattle.ledger_commands.specs.declared.faults.RunFault.TheVariants as run
-use Rattle.ledger_commands.proofs.FileEnds.{broken_at_err, broken_at_ok, unloaded, whole_at_err, whole_at_ok}
+use Rattle.shop_commands.specs.Plays.{IsFileFault, IsPlayedFile}
+use Rattle.shop_commands.specs.declared.faults.RunFault.{RunFault}
+use Rattle.shop_commands.specs.declared.faults.RunFault.TheVariants as run
+use Rattle.shop_commands.proofs.FileEnds.{broken_at_err, broken_at_ok, unloaded, whole_at_err, whole_at_ok}
 use Rattle.ledger_cli.proofs.playing.play_over.Goals as goal
 
 pub returns-in-Err : goal.returns-in-Err

@@ -2,7 +2,7 @@
 use Rattle.std.proofs.Common.{Err, None, Ok}
 use Rattle.host_session.specs.runs.Outputs.{written}
 use Rattle.ledger_cli.proofs.Reached.{played_reached}
-use Rattle.ledger_program.proofs.Plays.{play-done, play-failed}
+use Rattle.ledger_jobs.proofs.Plays.{play-done, play-failed}
 use Rattle.ledger_cli.proofs.playing.play_written.Goals as goal
 
 pub returns-in-Ok : goal.returns-in-Ok

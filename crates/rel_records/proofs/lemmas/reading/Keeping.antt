@@ -2,7 +2,7 @@
 use Rattle.std.proofs.Common.{None, Option, ℕ, ◌≡◌, subst, sym}
 use Rattle.std.specs.Prelude.{IfSome}
 use Rattle.d64_image.specs.Images.{Image}
-use Rattle.rel_records.specs.declared.reading.in_order.LastBlock.{LastBlock}
+use Rattle.rel_records.specs.declared.reading.record_order.LastBlock.{LastBlock}
 use Rattle.rel_records.specs.declared.rel_file.RelFile.{RelFile}
 use Rattle.rel_records.specs.reading.Block.{IsBlock}
 use Rattle.rel_records.specs.reading.Kept.{IsKept, number_kept}

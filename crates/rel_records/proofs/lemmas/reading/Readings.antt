@@ -9,7 +9,7 @@ use Rattle.rel_records.specs.File.{length_of, records_in}
 use Rattle.rel_records.specs.reading.Block.{IsBlock}
 use Rattle.rel_records.specs.reading.Kept.{IsKept, number_kept}
 use Rattle.rel_records.specs.Written.{IsRecord}
-use Rattle.rel_records.specs.declared.reading.in_order.LastBlock.{LastBlock}
+use Rattle.rel_records.specs.declared.reading.record_order.LastBlock.{LastBlock}
 use Rattle.std.proofs.Common.{◌%◌, ◌/◌}
 use Rattle.std.proofs.Common.{IsSome, Option}
 use Rattle.std.proofs.lemmas.Option.{get_or_from_slice_get, slice_get-get_or, slice_get_within}

@@ -4,5 +4,5 @@ use Rattle.request_cards.proofs.fixed.read_fixed.Goals as goal
 
 pub returns-clause-none : goal.returns-clause-none
 returns-clause-none c =
-    none_then c.worth.result _ _ c.worth.ensures.none
+    none_then c.parse_digits.result _ _ c.parse_digits.ensures.none
     (λ none n rest e. none n (field_text c.args.bytes.now rest c.args.at c.args.width n e))

@@ -49,7 +49,7 @@ invariant_of-self g c = (
       c.next_card-card.result c.next_card-card.ensures c.is_none-has_no_card.result
       (asked-none c.on_hand.result _ c.is_none-has_no_card.result (c.on_hand.ensures.value
       ∙ ap (nth c.self.inside.cards) c.item.ensures.value) c.is_none-has_no_card.ensures)
-      c.keep.new.drive c.keep.result c.keep.ensures.puts c.keep.ensures.counted c.keep.ensures.refused _,
+      c.store_answer.new.drive c.store_answer.result c.store_answer.ensures.puts c.store_answer.ensures.counted c.store_answer.ensures.refused _,
   λ e. absurd (false≢true (sym e)),
 )
 
@@ -62,7 +62,7 @@ returns-in_default g c =
     c.next_card-card.result c.next_card-card.ensures c.is_none-has_no_card.result
     (asked-none c.on_hand.result _ c.is_none-has_no_card.result (c.on_hand.ensures.value
     ∙ ap (nth c.self.inside.cards) c.item.ensures.value) c.is_none-has_no_card.ensures)
-    c.keep.new.drive c.keep.result c.keep.ensures.puts c.keep.ensures.counted c.keep.ensures.refused
+    c.store_answer.new.drive c.store_answer.result c.store_answer.ensures.puts c.store_answer.ensures.counted c.store_answer.ensures.refused
     c.in_default.field-0 c.in_default.is
 
 pub invariant_of-self-2 : goal.invariant_of-self-2
@@ -74,7 +74,7 @@ invariant_of-self-2 g c = (
       c.next_card-card.result c.next_card-card.ensures c.is_none-has_no_card.result
       (asked-none c.on_hand.result _ c.is_none-has_no_card.result (c.on_hand.ensures.value
       ∙ ap (nth c.self.inside.cards) c.item.ensures.value) c.is_none-has_no_card.ensures)
-      c.keep.new.drive c.keep.result c.keep.ensures.puts c.keep.ensures.counted c.keep.ensures.refused
+      c.store_answer.new.drive c.store_answer.result c.store_answer.ensures.puts c.store_answer.ensures.counted c.store_answer.ensures.refused
       c.in-Ok.field-0 c.in-Ok.is c.answered.result c.answered.ensures _ _ c.renew.ensures,
   λ _. ready-after g.D.Sectors.history c.self.inside.drive c.args.self.now c.self.inside.dead c.self.inside.top
       c.self.inside.tills c.self.inside.cards c.self.inside.requests
@@ -83,7 +83,7 @@ invariant_of-self-2 g c = (
       c.next_card-card.result c.next_card-card.ensures c.is_none-has_no_card.result
       (asked-none c.on_hand.result _ c.is_none-has_no_card.result (c.on_hand.ensures.value
       ∙ ap (nth c.self.inside.cards) c.item.ensures.value) c.is_none-has_no_card.ensures)
-      c.keep.new.drive c.keep.result c.keep.ensures.puts c.keep.ensures.counted c.keep.ensures.refused
+      c.store_answer.new.drive c.store_answer.result c.store_answer.ensures.puts c.store_answer.ensures.counted c.store_answer.ensures.refused
       c.in-Ok.field-0 c.in-Ok.is,
 )
 
@@ -96,5 +96,5 @@ returns g c =
     c.next_card-card.result c.next_card-card.ensures c.is_none-has_no_card.result
     (asked-none c.on_hand.result _ c.is_none-has_no_card.result (c.on_hand.ensures.value
     ∙ ap (nth c.self.inside.cards) c.item.ensures.value) c.is_none-has_no_card.ensures)
-    c.keep.new.drive c.keep.result c.keep.ensures.puts c.keep.ensures.counted c.keep.ensures.refused
+    c.store_answer.new.drive c.store_answer.result c.store_answer.ensures.puts c.store_answer.ensures.counted c.store_answer.ensures.refused
     c.in-Ok.field-0 c.in-Ok.is

@@ -3,7 +3,7 @@ use Rattle.std.proofs.Common.{Option, Some, refl, set, subst, sym, ◌-◌, ◌�
 use Rattle.std.proofs.lemmas.Bool.{false≢true}
 use Rattle.std.specs.Prelude.{IfNone}
 use Rattle.std.proofs.lemmas.Result.{err_from_is_err_and}
-use Rattle.host_session.specs.shop.Judged.{IsIntentOf}
+use Rattle.host_session.specs.shop.LoadedShop.{IsIntentOf}
 use Rattle.host_session.specs.session.Settling.{HasClosedTable}
 use Rattle.host_session.specs.shop.Shop.{IsShop}
 use Rattle.host_session.proofs.lemmas.opening.Migrated.{completed-changes}

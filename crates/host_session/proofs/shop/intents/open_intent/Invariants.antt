@@ -1,5 +1,5 @@
 use Rattle.std.proofs.Common.{take}
-use Rattle.host_session.specs.shop.Judged.{IsIntentAmong}
+use Rattle.host_session.specs.shop.LoadedShop.{IsIntentAmong}
 use Rattle.host_session.specs.shop.Shop.{intents}
 use Rattle.host_session.proofs.shop.intents.open_intent.Given as goal
 

@@ -5,7 +5,7 @@ use Rattle.std.proofs.lemmas.Result.{err_from_is_err_and}
 use Rattle.d64_image.proofs.Moments.{failed_later, no_reads, reads_then, reads_weaker}
 use Rattle.d64_image.specs.History.{Failed}
 use Rattle.d64_image.specs.Images.{Image}
-use Rattle.host_session.specs.shop.Judged.{IsJudgedItem, IsCountedTo}
+use Rattle.host_session.specs.shop.LoadedShop.{IsJudgedItem, IsCountedTo}
 use Rattle.host_session.specs.session.Opening.{Refuses}
 use Rattle.host_session.specs.declared.faults.OpenFault.{OpenFault}
 use Rattle.host_session.proofs.lemmas.judging.Judgments.{files-still, judged-device, judged-error, card-refused}

@@ -2,7 +2,7 @@ use Rattle.std.proofs.Common.{◌≡◌, ◌*◌, ◌≤◌}
 use Rattle.d64_image.specs.History.{OnlyReads}
 use Rattle.host_session.specs.shop.Files.{Files}
 use Rattle.host_session.specs.shop.Found.{AreFilesOf}
-use Rattle.host_session.specs.shop.Judged.{HasJudgedTills, IsCountedTo}
+use Rattle.host_session.specs.shop.LoadedShop.{HasJudgedTills, IsCountedTo}
 use Rattle.rel_records.specs.reading.Kept.{IsKept}
 use Rattle.host_session.proofs.shop.judgment.read_stock.Given as goal
 

@@ -6,7 +6,7 @@ use Rattle.d64_image.proofs.Moments.{failed_later, no_reads, reads_then, reads_w
 use Rattle.d64_image.specs.History.{Failed}
 use Rattle.d64_image.specs.Images.{Image}
 use Rattle.request_cards.specs.CardTexts.{Card}
-use Rattle.host_session.specs.shop.Judged.{AreTills, IsJudgedTill, IsReadTo}
+use Rattle.host_session.specs.shop.LoadedShop.{AreTills, IsJudgedTill, IsReadTo}
 use Rattle.host_session.specs.session.Opening.{Refuses}
 use Rattle.host_session.specs.declared.faults.OpenFault.{OpenFault}
 use Rattle.host_session.proofs.lemmas.judging.Judgments.{files-still, judged-device, judged-error, till-refused}

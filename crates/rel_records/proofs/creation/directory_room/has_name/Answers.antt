@@ -9,12 +9,12 @@ use Rattle.rel_records.proofs.creation.directory_room.has_name.Goals as goal
 use Rattle.rel_records.proofs.lemmas.directory.Rooms.{contains-get}
 use Rattle.rel_records.proofs.lemmas.reading.Found.{same-slot}
 
-pub returns-then-bears : goal.returns-then-bears
-returns-then-bears c = (
+pub returns-then-has_padded_name : goal.returns-then-has_padded_name
+returns-then-has_padded_name c = (
   λ t. (
     c.slot-item.result,
     (c.loop-slot.slot-index, c.loop-slot-test.true, sym c.slot-item.is),
-    c.bears.ensures.0 c.if-bears.true,
+    c.has_padded_name.ensures.0 c.if-has_padded_name.true,
   ),
   λ x. refl,
 )
@@ -28,7 +28,7 @@ loop-slot-preserved c =
       none = below_more _ _ c.loop-slot.invariant.none (λ s at e.
           let same : x ≡ s = same-slot c.args.slots.now c.loop-slot.slot-index x s there at in
           let P : Slot → Type 0 = λ y. slice_range y.bytes 5 21 ≡ c.args.padded.now in
-          false≢true (sym c.if-bears.false ∙ c.bears.ensures.1 (subst P (sym same) e)));
+          false≢true (sym c.if-has_padded_name.false ∙ c.has_padded_name.ensures.1 (subst P (sym same) e)));
     }
 
 pub returns : goal.returns

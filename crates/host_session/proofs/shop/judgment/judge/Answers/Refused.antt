@@ -3,7 +3,7 @@ use Rattle.std.proofs.Common.{ℕ, Err, Option, ap, arith, refl, ◌∙◌}
 use Rattle.std.proofs.lemmas.Result.{err_from_is_err_and}
 use Rattle.d64_image.proofs.Moments.{reads_then, reads_weaker}
 use Rattle.host_session.proofs.lemmas.judging.Judgments.{judged-error, refused-error}
-use Rattle.host_session.specs.declared.shop.finding.LedgerFiles.{LedgerFiles}
+use Rattle.host_session.specs.declared.shop.files.LedgerFiles.{LedgerFiles}
 use Rattle.host_session.specs.declared.shop.intents.Intent.{Intent}
 use Rattle.host_session.proofs.shop.judgment.judge.Goals as goal
 

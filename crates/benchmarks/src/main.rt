@@ -1,0 +1,292 @@
+//! Does the same work so many times over, so that it can be timed: `benchmarks WORD ROUNDS IMAGE`. Each word
+//! prints one number, from which no round can be left out. Where there is no word, each benchmark is run for a few
+//! rounds. One word times nothing: `benchmarks records IMAGE NAME` prints the records of a relative file.
+#![tactic(auto)]
+
+ghost use Rattle.std.specs.Prelude.{◌≤◌};
+
+mod checks;
+mod drives;
+mod printing;
+mod records;
+mod requests;
+mod sectors;
+
+use checks::count_clean;
+use d64_image::MemDisk;
+use disk_layout::blank_image;
+use drive_channels::Drive;
+use printing::put_file;
+use std::io::{BufWriter, Write};
+use std::process::ExitCode;
+use std::{env, fs, io};
+
+/// How many rounds there are where no word says it.
+const ROUNDS: u64 = 1000;
+
+/// The words of all benchmarks.
+const WORDS: [&str; 8] = [
+    "sectors", "check", "growth", "reads", "writes", "drive", "requests", "openings",
+];
+
+/// How many bytes of output are gathered before they are written.
+const OUTPUT_ROOM: usize = 65536;
+
+/// Rounds of a benchmark and the number that they give. Err is a text that says what failed.
+type Done = Result<u64, &'static str>;
+
+/// The rounds that a word asks for; None where it is no number of at most 64 bits.
+fn asked_rounds(word: Option<String>) -> Option<u64> {
+    match word {
+        Some(word) => word.as_str().parse().ok(),
+        None => Some(ROUNDS),
+    }
+}
+
+/// What was tried to be had; where it isn't there, this text.
+fn or_say<T, E: Drop>(tried: Result<T, E>, what: &'static str) -> Result<T, &'static str> {
+    match tried {
+        Ok(it) => Ok(it),
+        Err(_) => Err(what),
+    }
+}
+
+/// A disk in memory, all of whose bytes are zero.
+fn zeroed(rt: &HostRuntime) -> Result<MemDisk, &'static str> {
+    or_say(MemDisk::zeroed(rt.alloc()), "no memory")
+}
+
+/// The blank disk for so many tills.
+fn blank(rt: &HostRuntime, tills: u8) -> Result<MemDisk, &'static str>
+    requires some { 1 ≤ tills }
+    requires few { tills ≤ 64 }
+{
+    let mut disk = zeroed(rt)?;
+    match blank_image(&mut disk, b"STOCK LEDGER", *b"01", tills) {
+        Ok(_) => Ok(disk),
+        Err(_) => Err("no blank image"),
+    }
+}
+
+/// The disk of an image file.
+fn disk_of(rt: &HostRuntime, path: &str) -> Result<MemDisk, &'static str> {
+    match fs::read(rt, path) {
+        Ok(bytes) => or_say(
+            MemDisk::load(rt.alloc(), bytes.as_slice()),
+            "the image has another size, or no memory",
+        ),
+        Err(_) => Err("the image is not readable"),
+    }
+}
+
+/// The disk of the image file that is named; where none is, the blank disk for two tills.
+fn asked_disk(rt: &HostRuntime, path: Option<String>) -> Result<MemDisk, &'static str> {
+    match path {
+        Some(path) => disk_of(rt, path.as_str()),
+        None => blank(rt, 2),
+    }
+}
+
+/// `check`: the disk is checked so many times; gives how often it was clean.
+fn time_checks(rt: &HostRuntime, rounds: u64, path: Option<String>) -> Done {
+    let mut disk = asked_disk(rt, path)?;
+    Ok(count_clean(&mut disk, rounds))
+}
+
+/// A checksum of the bytes: each sum 31 times the one before and the byte, without what is above 64 bits.
+fn checksum(bytes: &[u8]) -> u64 {
+    let mut sum = 0u64;
+    for &byte in bytes {
+        sum = sum.wrapping_mul(31).wrapping_add(u64::from(byte));
+    }
+    sum
+}
+
+/// `sectors`: a byte of so many sectors is raised; gives a checksum of these bytes.
+fn time_sectors(disk: &mut MemDisk, rounds: u64) -> Done {
+    or_say(sectors::run(disk, rounds), "the device failed")
+}
+
+/// `growth`: STOCK grows from one block until the disk is full, so many times over; gives a checksum of the image.
+fn time_growth(disk: &mut MemDisk, rounds: u64) -> Done {
+    for _round in 0..rounds {
+        if records::grow_stock(disk).is_err() {
+            return Err("STOCK can't grow");
+        }
+    }
+    Ok(checksum(disk.bytes()))
+}
+
+/// `reads`: so many records of a full disk are read, where each holds what was written; gives a checksum of bytes read.
+fn time_reads(disk: &mut MemDisk, rounds: u64) -> Done {
+    or_say(records::read_full(disk, rounds), "the records aren't read")
+}
+
+/// `writes`: so many records of a full disk are written; gives a checksum of the image.
+fn time_writes(disk: &mut MemDisk, rounds: u64) -> Done {
+    match records::write_full(disk, rounds) {
+        Ok(()) => Ok(checksum(disk.bytes())),
+        Err(_) => Err("the records aren't written"),
+    }
+}
+
+/// A record of each file of a full disk is written through a drive so many times; gives a checksum of the image.
+fn time_turns(disk: MemDisk, rounds: u64) -> Done {
+    let mut drive = Drive::power_on(disk);
+    match drives::put_by_turns(&mut drive, rounds) {
+        Ok(()) => Ok(checksum(drive.into_disk().bytes())),
+        Err(_) => Err("the drive is dead"),
+    }
+}
+
+/// `drive`: so many times a record of each file of a full disk is written through a drive; gives a checksum of the
+/// image.
+fn time_drive(rt: &HostRuntime, rounds: u64) -> Done {
+    let mut disk = zeroed(rt)?;
+    match records::grow_stock(&mut disk) {
+        Ok(_) => time_turns(disk, rounds),
+        Err(_) => Err("STOCK can't grow"),
+    }
+}
+
+/// A disk that was blank, after so many messages of 64 tills to a session on it, and a checksum of the replies.
+fn asked_shop(rt: &HostRuntime, rounds: u64) -> Result<(u64, MemDisk), &'static str> {
+    let disk = blank(rt, requests::TILLS)?;
+    let Ok(mut tills) = requests::all_tills(rt.alloc()) else {
+        return Err("no memory");
+    };
+    or_say(
+        requests::run(disk, tills.as_mut_slice(), rounds),
+        "the disk is no shop's",
+    )
+}
+
+/// `requests`: so many messages of 64 tills are handled, half of them repeats, by a session on a disk that was blank;
+/// gives a checksum of the replies and of the image.
+fn time_requests(rt: &HostRuntime, rounds: u64) -> Done {
+    let (replies, disk) = asked_shop(rt, rounds)?;
+    Ok(
+        replies
+            .wrapping_mul(31)
+            .wrapping_add(checksum(disk.bytes())),
+    )
+}
+
+/// `openings`: the disk of 100,000 such messages is opened so many times; gives a checksum of the image.
+fn time_openings(rt: &HostRuntime, rounds: u64) -> Done {
+    let (_, disk) = asked_shop(rt, 100_000)?;
+    let disk = or_say(requests::reopen(disk, rounds), "the disk is no shop's")?;
+    Ok(checksum(disk.bytes()))
+}
+
+/// The benchmark of a word that works on a disk in memory. Err also where there is no such word.
+fn timed_on(disk: &mut MemDisk, word: &str, rounds: u64) -> Done {
+    match word {
+        "sectors" => time_sectors(disk, rounds),
+        "growth" => time_growth(disk, rounds),
+        "reads" => time_reads(disk, rounds),
+        "writes" => time_writes(disk, rounds),
+        _ => Err("the words are sectors, check, growth, reads, writes, drive, requests, openings"),
+    }
+}
+
+/// The benchmark of a word. Err also where there is no such word.
+fn timed(rt: &HostRuntime, word: &str, rounds: u64, path: Option<String>) -> Done {
+    match word {
+        "check" => time_checks(rt, rounds, path),
+        "drive" => time_drive(rt, rounds),
+        "requests" => time_requests(rt, rounds),
+        "openings" => time_openings(rt, rounds),
+        _ => timed_on(&mut zeroed(rt)?, word, rounds),
+    }
+}
+
+/// The records of a relative file of the disk, each on a line of its own.
+fn put_lines(rt: &HostRuntime, disk: &mut MemDisk, name: &str) -> Result<(), &'static str> {
+    let Ok(mut out) = BufWriter::with_capacity(rt.alloc(), OUTPUT_ROOM, io::writer(rt)) else {
+        return Err("no memory");
+    };
+    match put_file(disk, name.as_bytes(), &mut out) {
+        Ok(()) => or_say(out.flush(), "the output failed"),
+        Err(what) => Err(what),
+    }
+}
+
+/// `records`: each record of a relative file of the image on a line of its own.
+fn print_records(
+    rt: &HostRuntime,
+    path: Option<String>,
+    name: Option<String>,
+) -> Result<(), &'static str> {
+    match name {
+        Some(name) => put_lines(rt, &mut asked_disk(rt, path)?, name.as_str()),
+        None => Err("records asks for an image and a name"),
+    }
+}
+
+/// Tells what failed, and gives the exit status for it.
+fn refuse(rt: &HostRuntime, what: &str) -> io::Result<ExitCode> {
+    eprintln!(rt; "benchmarks: {what}")?;
+    Ok(ExitCode::FAILURE)
+}
+
+/// Tells that the second word is no number, and gives the exit status for it.
+fn refuse_rounds(rt: &HostRuntime) -> io::Result<ExitCode> {
+    eprintln!(rt; "benchmarks: ROUNDS is a number")?;
+    Ok(ExitCode::from(2))
+}
+
+/// Tells what came of the benchmark that was asked for, and gives the exit status for it.
+fn tell(rt: &HostRuntime, done: Done) -> io::Result<ExitCode> {
+    match done {
+        Ok(number) => {
+            println!(rt; "{number}")?;
+            Ok(ExitCode::SUCCESS)
+        }
+        Err(what) => refuse(rt, what),
+    }
+}
+
+/// Tells what came of one of several benchmarks, behind its word.
+fn tell_one(rt: &HostRuntime, word: &str, done: Done) -> io::Result<()> {
+    match done {
+        Ok(number) => println!(rt; "{word} {number}"),
+        Err(what) => println!(rt; "{word} {what}"),
+    }
+}
+
+/// Runs the benchmarks of these words, one after another.
+fn run_all(rt: &HostRuntime, words: &[&str]) -> io::Result<ExitCode> {
+    for word in words {
+        tell_one(rt, word, timed(rt, word, ROUNDS, None))?;
+    }
+    Ok(ExitCode::SUCCESS)
+}
+
+/// Does what a word and the two behind it ask for, and gives the exit status.
+fn run_word(
+    rt: &HostRuntime,
+    word: &str,
+    second: Option<String>,
+    third: Option<String>,
+) -> io::Result<ExitCode> {
+    if word == "records" {
+        return match print_records(rt, second, third) {
+            Ok(()) => Ok(ExitCode::SUCCESS),
+            Err(what) => refuse(rt, what),
+        };
+    }
+    match asked_rounds(second) {
+        Some(rounds) => tell(rt, timed(rt, word, rounds, third)),
+        None => refuse_rounds(rt),
+    }
+}
+
+fn main(rt: HostRuntime) -> io::Result<ExitCode> {
+    let mut words = env::args(&rt)?;
+    words.next();
+    match words.next() {
+        Some(word) => run_word(&rt, word.as_str(), words.next(), words.next()),
+        None => run_all(&rt, &WORDS),
+    }
+}

@@ -1,0 +1,27 @@
+-- The numbers and exit statuses of what the program refuses (our own).
+use Rattle.std.specs.Prelude.{ℕ}
+use Rattle.clap.specs.Values.{kind_of}
+use Rattle.clap.specs.declared.error.kind.ErrorKind.{ErrorKind}
+use Rattle.clap.specs.declared.error.kind.ErrorKind.TheVariants as kinds
+use Rattle.command_line.specs.declared.faults.JobFault.{JobFault}
+use Rattle.command_line.specs.declared.faults.JobFault.TheVariants as jobs
+
+-- the number of a fault in the words
+abbrev pub job_number : JobFault → ℕ
+job_number (jobs.Words e) = 1
+job_number jobs.Tills = 2
+job_number jobs.Name = 3
+job_number jobs.Length = 4
+
+-- the exit status for words that give no job: 3 for want of memory, 0 where help or the version is asked for
+abbrev pub words_status : ErrorKind → ℕ
+words_status kinds.OutOfMemory = 3
+words_status kinds.DisplayHelp = 0
+words_status kinds.DisplayVersion = 0
+words_status _ = 2
+
+abbrev pub job_status : JobFault → ℕ
+job_status (jobs.Words e) = words_status (kind_of e)
+job_status jobs.Tills = 2
+job_status jobs.Name = 2
+job_status jobs.Length = 2

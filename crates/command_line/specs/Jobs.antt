@@ -1,0 +1,201 @@
+-- What the words of a command line ask for (our own).
+use Rattle.std.specs.Prelude.{◌≡◌, ◌⊎◌, ◌||◌, ℕ, Bool, true, false, List, Option, Some, None, Result, Ok, Err, []}
+use Rattle.std.specs.Prelude.{bytes_eq, codes, if◌then◌else◌}
+use Rattle.std.specs.Option.{option_map_or}
+use Rattle.std.specs.Borrow.{Bor}
+use Rattle.clap.specs.Words.{HasKind, Kinds, Row, Text, found_of, rows_of, subcommand_rows_of}
+use Rattle.clap.specs.declared.parser.matches.ArgMatches.{ArgMatches}
+use Rattle.byte_text.specs.Texts.{AreBytes}
+use Rattle.request_cards.specs.Reading.{number_in}
+use Rattle.shop_commands.specs.declared.durability.Durability.{Durability}
+use Rattle.shop_commands.specs.declared.durability.Durability.TheVariants as durabilities
+use Rattle.keeper_commands.specs.Makes.{IsNewName}
+use Rattle.rel_records.specs.File.{IsLength}
+use Rattle.command_table.specs.Grammar.{value}
+use Rattle.ledger_jobs.specs.declared.jobs.Drawing.{Drawing}
+use Rattle.ledger_jobs.specs.declared.jobs.Drawing.TheVariants as drawings
+use Rattle.ledger_jobs.specs.declared.jobs.Effect.{Effect}
+use Rattle.ledger_jobs.specs.declared.jobs.Effect.TheVariants as effects
+use Rattle.ledger_jobs.specs.declared.jobs.Job.{Job}
+use Rattle.ledger_jobs.specs.declared.jobs.Job.TheVariants as jobs
+use Rattle.ledger_jobs.specs.declared.jobs.Loss.{Loss}
+use Rattle.ledger_jobs.specs.declared.jobs.Loss.TheVariants as losses
+use Rattle.ledger_jobs.specs.declared.jobs.Taking.{Taking}
+use Rattle.ledger_jobs.specs.declared.jobs.Taking.TheVariants as takings
+use Rattle.ledger_jobs.specs.declared.jobs.Unowned.{Unowned}
+use Rattle.ledger_jobs.specs.declared.jobs.Unowned.TheVariants as unowneds
+use Rattle.ledger_jobs.specs.Names.{IsNameOf, name_bytes}
+use Rattle.command_line.specs.declared.faults.JobFault.{JobFault}
+use Rattle.command_line.specs.declared.faults.JobFault.TheVariants as faults
+
+-- the subcommand is this one, and of its values this holds
+pub record Has (found : Option (Text × List Row)) (name : Text) (P : List Row → Type 0) : Type 0 where
+  pub rows : List Row
+  pub is : found ≡ Some (name, rows)
+  pub holds : P rows
+
+-- a parse of words in which nothing is wrong, and whose flags before the subcommand, and subcommand with its values,
+-- are these
+pub record IsParse (kinds : Kinds) (top : List Row) (found : Option (Text × List Row)) (matches : ArgMatches) : Type 0
+  where
+    pub fine : kinds ≡ []
+    pub before : rows_of (found_of matches) ≡ top
+    pub is : subcommand_rows_of matches ≡ found
+
+-- the number of tills that the words give: 1 to 64, without leading zeros
+abbrev pub tills_in : List Row → Option ℕ
+tills_in rows = number_in 1 64 (value (codes "T") rows)
+
+-- the length of a record that they give: 1 to 254, without leading zeros
+abbrev pub length_in : List Row → Option ℕ
+length_in rows = number_in 1 254 (value (codes "L") rows)
+
+-- the subcommand that takes this out of an image
+abbrev pub word_of_taking : Taking → Text
+word_of_taking takings.Records = codes "records"
+word_of_taking takings.Bytes = codes "bytes"
+
+-- the subcommand that draws an image so
+abbrev pub word_of_drawing : Drawing → Text
+word_of_drawing drawings.Map = codes "map"
+word_of_drawing drawings.Picture = codes "picture"
+word_of_drawing drawings.Poster = codes "picture"
+
+-- a flag is among the words
+abbrev pub is_given : Text → List Row → Bool
+is_given flag rows = bytes_eq (value flag rows) (codes "true")
+
+-- when the image of a shop that is served is brought to the disk: behind each sector, but with --unsynced at the end
+abbrev pub serve_durability : List Row → Durability
+serve_durability rows = if is_given (codes "unsynced") rows then durabilities.AtEnd else durabilities.EachSector
+
+-- what is done where a disk has lost a part of a file: the job is refused, but with --accept-loss it goes on
+abbrev pub loss_in : List Row → Loss
+loss_in rows = if is_given (codes "accept-loss") rows then losses.Accepted else losses.Refused
+
+-- what a repair does with sectors that are taken and no file's: they are kept, but with --free they are freed
+abbrev pub unowned_in : List Row → Unowned
+unowned_in rows = if is_given (codes "free") rows then unowneds.Freed else unowneds.Kept
+
+-- whether it writes the image: it does, but with --dry-run it prints alone
+abbrev pub effect_in : List Row → Effect
+effect_in rows = if is_given (codes "dry-run") rows then effects.Printed else effects.Written
+
+-- the job that makes the image of a shop: with --new it is refused where the image is there
+abbrev pub format_job : List Row → Bor Text → ℕ → Job
+format_job rows image tills =
+    if is_given (codes "new") rows then jobs.FormatNew image tills else jobs.Format image tills
+
+-- the job that plays a script: with --sync each sector is brought to the disk before the next is written
+abbrev pub play_job : List Row → Bor Text → Bor Text → Job
+play_job rows image script =
+    if is_given (codes "sync") rows then jobs.PlaySynced image script else jobs.Play image script
+
+-- the job that draws an image for other eyes than a terminal's: with --svg as a poster
+abbrev pub picture_job : List Row → Bor Text → Job
+picture_job rows image =
+    if is_given (codes "svg") rows then jobs.Draw drawings.Poster image else jobs.Draw drawings.Picture image
+
+-- the flags ask for this drawing; `map` has none
+abbrev pub IsDrawnBy : Drawing → List Row → Type 0
+IsDrawnBy drawings.Map rows = Unit {0}
+IsDrawnBy drawings.Picture rows = is_given (codes "svg") rows ≡ false
+IsDrawnBy drawings.Poster rows = is_given (codes "svg") rows ≡ true
+
+-- the words ask for more of what isn't done, before the subcommand or behind it
+abbrev pub is_explained : List Row → Option (Text × List Row) → Bool
+is_explained top found =
+    is_given (codes "explain") top || option_map_or (λ f. is_given (codes "explain") f.1) found false
+
+-- that they ask for it was heard; where they are refused it is passed over
+abbrev pub IsHeard : Result Job JobFault → (asked heard : Bool) → Type 0
+IsHeard (Err (faults.Words e)) asked heard = heard ≡ true → asked ≡ true
+IsHeard _ asked heard = heard ≡ asked
+
+-- the text of NAME is no file's name
+abbrev pub HasNoName : List Row → Type 0
+HasNoName rows = (bytes : List ℕ) → AreBytes bytes → ¬ (IsNameOf (value (codes "NAME") rows) bytes)
+
+-- nor one that a new file can have
+abbrev pub HasNoNewName : List Row → Type 0
+HasNoNewName rows = (bytes : List ℕ) → AreBytes bytes → IsNameOf (value (codes "NAME") rows) bytes → ¬ (IsNewName bytes)
+
+-- it is one that a new file can have
+abbrev pub HasNewName : List Row → Type 0
+HasNewName rows = (bytes : List ℕ) × IsNameOf (value (codes "NAME") rows) bytes × IsNewName bytes
+
+-- the job of a subcommand and its values
+abbrev pub IsJob : Option (Text × List Row) → Job → Type 0
+IsJob found (jobs.Format image tills) = Has found (codes "format")
+    (λ rows. (image.now ≡ value (codes "IMAGE") rows) × (tills_in rows ≡ Some tills)
+    × (is_given (codes "new") rows ≡ false))
+IsJob found (jobs.FormatNew image tills) = Has found (codes "format")
+    (λ rows. (image.now ≡ value (codes "IMAGE") rows) × (tills_in rows ≡ Some tills)
+    × (is_given (codes "new") rows ≡ true))
+IsJob found (jobs.List image) = Has found (codes "list") (λ rows. image.now ≡ value (codes "IMAGE") rows)
+IsJob found (jobs.Check image) = Has found (codes "check") (λ rows. image.now ≡ value (codes "IMAGE") rows)
+IsJob found (jobs.Show image) = Has found (codes "show") (λ rows. image.now ≡ value (codes "IMAGE") rows)
+IsJob found (jobs.Play image script) = Has found (codes "play")
+    (λ rows. (image.now ≡ value (codes "IMAGE") rows) × (script.now ≡ value (codes "SCRIPT") rows)
+    × (is_given (codes "sync") rows ≡ false))
+IsJob found (jobs.PlaySynced image script) = Has found (codes "play")
+    (λ rows. (image.now ≡ value (codes "IMAGE") rows) × (script.now ≡ value (codes "SCRIPT") rows)
+    × (is_given (codes "sync") rows ≡ true))
+IsJob found (jobs.Dry script) = Has found (codes "dry") (λ rows. script.now ≡ value (codes "SCRIPT") rows)
+IsJob found (jobs.Serve image durability loss) = Has found (codes "serve")
+    (λ rows. (image.now ≡ value (codes "IMAGE") rows) × (durability ≡ serve_durability rows) × (loss ≡ loss_in rows))
+IsJob found (jobs.Repair image loss unowned effect) = Has found (codes "repair")
+    (λ rows. (image.now ≡ value (codes "IMAGE") rows) × (loss ≡ loss_in rows) × (unowned ≡ unowned_in rows)
+    × (effect ≡ effect_in rows))
+IsJob found (jobs.Take what image name) = Has found (word_of_taking what)
+    (λ rows. (image.now ≡ value (codes "IMAGE") rows) × IsNameOf (value (codes "NAME") rows) (name_bytes name))
+IsJob found (jobs.Make image name length loss) = Has found (codes "make")
+    (λ rows. (image.now ≡ value (codes "IMAGE") rows) × IsNameOf (value (codes "NAME") rows) (name_bytes name)
+    × (length_in rows ≡ Some length) × (loss ≡ loss_in rows))
+IsJob found (jobs.Store image name records loss) = Has found (codes "store")
+    (λ rows. (image.now ≡ value (codes "IMAGE") rows) × IsNameOf (value (codes "NAME") rows) (name_bytes name)
+    × (records.now ≡ value (codes "RECORDS") rows) × (loss ≡ loss_in rows))
+IsJob found (jobs.Draw what image) = Has found (word_of_drawing what)
+    (λ rows. (image.now ≡ value (codes "IMAGE") rows) × IsDrawnBy what rows)
+
+-- the job, or why there is none, of a subcommand that takes this out of an image and has these values
+abbrev pub IsTakingJob : List Row → Taking → Text → Result Job JobFault → Type 0
+IsTakingJob rows what image (Ok (jobs.Take asked path name)) =
+    (asked ≡ what) × (path.now ≡ image) × IsNameOf (value (codes "NAME") rows) (name_bytes name)
+IsTakingJob rows what image (Ok _) = ⊥
+IsTakingJob rows what image (Err faults.Name) = HasNoName rows
+IsTakingJob rows what image (Err _) = ⊥
+
+-- the same of the one that makes a relative file
+abbrev pub IsMakingJob : List Row → Text → Result Job JobFault → Type 0
+IsMakingJob rows image (Ok (jobs.Make path name length loss)) =
+    (path.now ≡ image) × IsNameOf (value (codes "NAME") rows) (name_bytes name) × (length_in rows ≡ Some length)
+    × IsNewName (name_bytes name) × IsLength length × (loss ≡ loss_in rows)
+IsMakingJob rows image (Ok _) = ⊥
+IsMakingJob rows image (Err faults.Name) = HasNoNewName rows
+IsMakingJob rows image (Err faults.Length) = HasNewName rows × (length_in rows ≡ None)
+IsMakingJob rows image (Err _) = ⊥
+
+-- and of the one that stores records in one
+abbrev pub IsStoringJob : List Row → Text → Result Job JobFault → Type 0
+IsStoringJob rows image (Ok (jobs.Store path name records loss)) =
+    (path.now ≡ image) × IsNameOf (value (codes "NAME") rows) (name_bytes name)
+    × (records.now ≡ value (codes "RECORDS") rows) × (loss ≡ loss_in rows)
+IsStoringJob rows image (Ok _) = ⊥
+IsStoringJob rows image (Err faults.Name) = HasNoName rows
+IsStoringJob rows image (Err _) = ⊥
+
+-- the text of NAME is none that the subcommand takes
+abbrev pub IsRefusedName : Option (Text × List Row) → Type 0
+IsRefusedName found =
+    ((what : Taking) × Has found (word_of_taking what) HasNoName)
+    ⊎ (Has found (codes "store") HasNoName ⊎ Has found (codes "make") HasNoNewName)
+
+-- why there is none: the words are refused for one of these kinds, or memory ran out; or the number of tills is none,
+-- or the name of a file, or the length of a record
+abbrev pub IsNoJob : Kinds → Option (Text × List Row) → JobFault → Type 0
+IsNoJob kinds found (faults.Words e) = HasKind kinds e
+IsNoJob kinds found faults.Tills = (kinds ≡ []) × Has found (codes "format") (λ rows. tills_in rows ≡ None)
+IsNoJob kinds found faults.Name = (kinds ≡ []) × IsRefusedName found
+IsNoJob kinds found faults.Length =
+    (kinds ≡ []) × Has found (codes "make") (λ rows. HasNewName rows × (length_in rows ≡ None))

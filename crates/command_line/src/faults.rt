@@ -1,0 +1,52 @@
+//! Why words ask for nothing.
+ghost use Rattle.std.specs.Prelude.{◌≡◌};
+ghost use Rattle.command_line.specs.Faults.{job_number, job_status};
+
+use clap::error::ErrorKind;
+use thiserror::Error;
+
+/// Why the words of a command line ask for nothing.
+#[derive(Debug, Drop, Error)]
+pub enum JobFault {
+    /// The words are none of the program's, or ask for help, or there was no memory to read them.
+    #[error(transparent)]
+    Words(clap::Error),
+    /// The number of tills isn't one of 1 to 64, in decimal digits without leading zeros.
+    #[error("TILLS")]
+    Tills,
+    /// The name of a file isn't the text of at most sixteen bytes, of which the last isn't a shifted space; or is of
+    /// none, where a file is made.
+    #[error("NAME")]
+    Name,
+    /// The length of a record isn't one of 1 to 254, in decimal digits without leading zeros.
+    #[error("LENGTH")]
+    Length,
+}
+
+impl JobFault {
+    /// The fault's number: 1 for `Words`, 2 for `Tills`, 3 for `Name`, 4 for `Length`.
+    pub fn number(&self) -> u8
+        ensures { result ≡ job_number self.now }
+    {
+        match self {
+            JobFault::Words(_) => 1,
+            JobFault::Tills => 2,
+            JobFault::Name => 3,
+            JobFault::Length => 4,
+        }
+    }
+
+    /// The exit status: 3 for want of memory, 0 where help or the version is asked for, else 2.
+    pub fn status(&self) -> u8
+        ensures { result ≡ job_status self.now }
+    {
+        match self {
+            JobFault::Words(error) => match error.kind() {
+                ErrorKind::OutOfMemory => 3,
+                ErrorKind::DisplayHelp | ErrorKind::DisplayVersion => 0,
+                _ => 2,
+            },
+            JobFault::Tills | JobFault::Name | JobFault::Length => 2,
+        }
+    }
+}

@@ -1,0 +1,13 @@
+//! The words of the command line, and the whole program as one call over a runtime.
+#![tactic(auto)]
+
+mod faults;
+mod program;
+mod progress;
+mod starting;
+mod words;
+
+pub use faults::JobFault;
+pub use program::{Audience, program};
+pub use starting::hold_streams;
+pub use words::{CommandLine, command_line, job};

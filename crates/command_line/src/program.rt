@@ -1,0 +1,218 @@
+//! The whole program, over a runtime.
+ghost use Rattle.std.specs.Prelude.{◌≡◌, ◌≢◌, if◌then◌else◌};
+ghost use Rattle.ledger_jobs.specs.Jobs.{IsFit};
+ghost use Rattle.command_line.specs.declared.program.Audience.TheVariants.{Person, Program, Waiting};
+
+use crate::faults::JobFault;
+use crate::progress::{Watched, is_long};
+use crate::words::command_line;
+use disk_layout::Fault;
+use ledger_jobs::{Job, Refusal, announce, do_job, end, explain, tell_cut};
+use shop_commands::{EndedFile, Locks, RunFault};
+use std::alloc::{AllocError, Global};
+use std::env;
+use std::fs::OpenFile;
+use std::io::{self, BufWriter, Read, Write};
+use std::rt::{Env, Files};
+
+/// The exit status of words that are refused.
+const WORDS: u8 = 2;
+
+/// How many bytes of output are gathered before they are written.
+const OUTPUT_ROOM: usize = 32768;
+
+/// Who reads what is told on standard error.
+#[derive(Clone, Copy, Debug, PartialEq, Eq)]
+pub enum Audience {
+    /// A program, or a file: each refusal is one line.
+    Program,
+    /// A person at a terminal, or who asked for it by --explain: a second line says which file, or what to do.
+    Person,
+    /// A person at a terminal who doesn't see the output: long work says how far it is, too.
+    Waiting,
+}
+
+impl Audience {
+    /// Who reads standard error: a person where it is a terminal, who sees the output where that is one too.
+    pub fn of(err_is_terminal: bool, out_is_terminal: bool) -> Audience
+        ensures { result ≡ (if err_is_terminal then (if out_is_terminal then Person else Waiting) else Program) }
+    {
+        match (err_is_terminal, out_is_terminal) {
+            (false, _) => Audience::Program,
+            (true, true) => Audience::Person,
+            (true, false) => Audience::Waiting,
+        }
+    }
+
+    /// The same reader, where the words ask for a second line.
+    fn explained(self) -> Audience
+        ensures { result ≢ Program }
+    {
+        match self {
+            Audience::Program => Audience::Person,
+            Audience::Person | Audience::Waiting => self,
+        }
+    }
+}
+
+/// Tells a failure of the system, and answers its exit status.
+fn refuse<E: Write>(err: &mut E, error: &io::Error) -> u8 {
+    end(Err(Refusal::Run(RunFault::of_io(error))), err).status
+}
+
+/// Tells a person what the words may be. What `clap` refuses it explains itself.
+fn explain_words<E: Write>(fault: &JobFault, err: &mut E) {
+    let _ = match fault {
+        JobFault::Words(_) => Ok(()),
+        JobFault::Tills => writeln!(err, "ledger: T is 1 to 64"),
+        JobFault::Length => writeln!(err, "ledger: L is 1 to 254"),
+        JobFault::Name => writeln!(
+            err,
+            "ledger: NAME has 1 to 16 bytes; one that isn't plain text is a backslash and two digits, as \\c1"
+        ),
+    };
+}
+
+/// Tells why the words ask for nothing, or gives the help that they ask for, and answers the exit status.
+fn refuse_words<R: Print + Eprint, E: Write>(
+    rt: &R,
+    fault: &JobFault,
+    told: Audience,
+    err: &mut E,
+) -> u8 {
+    let status = fault.status();
+    let ended = match fault {
+        // For want of memory there may be no text.
+        JobFault::Words(_) if status == RunFault::NoMemory.status() => {
+            return end(Err(Refusal::Run(RunFault::NoMemory)), err).status;
+        }
+        JobFault::Words(error) => error.print(rt),
+        JobFault::Tills | JobFault::Name | JobFault::Length => writeln!(err, "{fault}"),
+    };
+    if told != Audience::Program {
+        explain_words(fault, err);
+    }
+    match ended {
+        // Help that can't be printed is an output that failed.
+        Err(error) if status == 0 => refuse(err, &error),
+        _ => status,
+    }
+}
+
+/// Does a job over an output. A person who waits for long work is told how far it is.
+fn do_watched<F, R, W, E>(
+    rt: &R,
+    job: &Job<'_>,
+    told: Audience,
+    out: &mut W,
+    err: &mut E,
+) -> Result<Option<Fault>, Refusal>
+where
+    F: EndedFile + Read + Locks + OpenFile + Drop,
+    R: Files<File = F> + Input + AllocGlobal,
+    W: Write,
+    E: Write,
+    requires { IsFit job.now }
+{
+    if told != Audience::Waiting || !is_long(job) {
+        return do_job(rt, job, out);
+    }
+    let mut watched = Watched::new(out, err);
+    let ended = do_job(rt, job, &mut watched);
+    watched.clear();
+    ended
+}
+
+/// Does a job over an output that is gathered, and answers the exit status. A person is told more of what isn't done.
+fn obey_job<F, R, E>(rt: &R, job: &Job<'_>, told: Audience, err: &mut E) -> u8
+where
+    F: EndedFile + Read + Locks + OpenFile + Drop,
+    R: Files<File = F> + Input + Print + AllocGlobal,
+    E: Write,
+    requires { IsFit job.now }
+{
+    if told != Audience::Program {
+        announce(rt, job, err);
+    }
+    let ended = match BufWriter::with_capacity(rt.alloc(), OUTPUT_ROOM, io::writer(rt)) {
+        Ok(mut out) => do_watched(rt, job, told, &mut out, err),
+        Err(error) => return refuse(err, &io::Error::from(error)),
+    };
+    let refusal = ended.err();
+    let status = end(ended, err).status;
+    if told != Audience::Program {
+        match refusal {
+            Some(refusal) => explain(rt, job, refusal, err),
+            None => tell_cut(rt, job, err),
+        }
+    }
+    status
+}
+
+/// The words as texts, all at one lifetime. The first is the name by which people call the program, whatever its file
+/// is called.
+fn texts_of<'a>(alloc: Global, words: &'a [String]) -> Result<Vec<&'a str>, AllocError> {
+    let mut texts = Vec::new(alloc);
+    texts.push("ledger")?;
+    for word in words.iter().skip(1) {
+        texts.push(word.as_str())?;
+    }
+    Ok(texts)
+}
+
+/// Does what these words ask for, and answers the exit status.
+fn obey<F, R, E>(rt: &R, words: &[String], told: Audience, err: &mut E) -> u8
+where
+    F: EndedFile + Read + Locks + OpenFile + Drop,
+    R: Files<File = F> + Input + Print + Eprint + AllocGlobal,
+    E: Write,
+{
+    let texts = match texts_of(rt.alloc(), words) {
+        Ok(texts) => texts,
+        Err(error) => return refuse(err, &io::Error::from(error)),
+    };
+    let line = command_line(rt.alloc(), texts.as_slice());
+    let told = if line.is_explained {
+        told.explained()
+    } else {
+        told
+    };
+    match line.job {
+        Ok(job) => obey_job(rt, &job, told, err),
+        Err(fault) => refuse_words(rt, &fault, told, err),
+    }
+}
+
+/// The words of the command line, or the exit status where they can't be had, which is told.
+fn words_of<R: Env + AllocGlobal, E: Write>(rt: &R, err: &mut E) -> Result<Vec<String>, u8> {
+    let collected = match env::args(rt) {
+        Ok(words) => words.collect(rt.alloc()),
+        Err(error) if error.kind() == io::ErrorKind::InvalidData => {
+            let _ = writeln!(
+                err,
+                "error: invalid UTF-8 was detected in one or more arguments"
+            );
+            return Err(WORDS);
+        }
+        Err(error) => return Err(refuse(err, &error)),
+    };
+    match collected {
+        Ok(words) => Ok(words),
+        Err(error) => Err(refuse(err, &io::Error::from(error))),
+    }
+}
+
+/// The whole program: does what the words of its command line ask for, and answers its exit status. What it prints goes
+/// to the runtime's output; what it tells goes to `err`, which is the runtime's standard error, where what refused
+/// words are told goes at any rate, and which `told` reads.
+pub fn program<F, R, E>(rt: &R, told: Audience, err: &mut E) -> u8
+where
+    F: EndedFile + Read + Locks + OpenFile + Drop,
+    R: Files<File = F> + Env + Input + Print + Eprint + AllocGlobal,
+    E: Write,
+{
+    match words_of(rt, err) {
+        Ok(words) => obey(rt, words.as_slice(), told, err),
+        Err(status) => status,
+    }
+}

@@ -1,0 +1,321 @@
+//! Reading the words of the command line.
+ghost use Rattle.std.specs.Prelude.{◌≡◌, ◌≤◌, ℕ, IfErr, IfOk, IfSome, IsNone, List, MatchResult, [], map, option_map};
+ghost use Rattle.clap.specs.Words.{HasKind, fault_of, found_of, matches_of, rows_of, subcommand_of, subcommand_rows_of};
+ghost use Rattle.command_table.specs.Grammar.{ledger, value};
+ghost use Rattle.request_cards.specs.Reading.{number_in};
+ghost use Rattle.byte_text.specs.Texts.{AreBytes};
+ghost use Rattle.keeper_commands.specs.Makes.{IsNewName};
+ghost use Rattle.ledger_jobs.specs.Jobs.{IsFit};
+ghost use Rattle.ledger_jobs.specs.Names.{IsNameOf, name_bytes};
+ghost use Rattle.command_line.specs.Jobs.{IsHeard, IsJob, IsMakingJob, IsNoJob, IsParse, IsStoringJob, IsTakingJob};
+ghost use Rattle.command_line.specs.Jobs.{effect_in, format_job, loss_in, picture_job, play_job, unowned_in};
+ghost use Rattle.rel_records.specs.File.{IsLength};
+ghost use Rattle.command_line.specs.Jobs.{is_explained as explained, is_given as given, serve_durability as of_serve};
+
+use crate::faults::JobFault;
+use clap::{ArgMatches, Error};
+use command_table::ledger_command;
+use ledger_jobs::{Drawing, Effect, Job, Loss, Name, Taking, Unowned};
+use request_cards::number;
+use shop_commands::Durability;
+use std::alloc::{AllocError, Global};
+
+/// The subcommand that was met, with its values.
+fn parsed_subcommand<'m, 'a>(matches: &'m ArgMatches<'a>) -> Option<(&'a str, &'m ArgMatches<'a>)>
+    ensures { option_map (λ p. (p.0.now, rows_of (found_of p.1.now))) result
+        ≡ subcommand_rows_of matches.now }
+{
+    matches.subcommand()
+}
+
+/// The value of a required argument.
+fn value_of<'a>(matches: &ArgMatches<'a>, name: &str) -> &'a str
+    ensures { result.now ≡ value name.now (rows_of (found_of matches.now)) }
+{
+    matches.get_str(name).unwrap_or("")
+}
+
+/// The number of tills that a text spells: 1 to 64, in decimal digits without leading zeros.
+fn tills_of(text: &str) -> Option<u8>
+    ensures exact { result ≡ number_in 1 64 text.now }
+    ensures range { IfSome result (λ tills. (1 ≤ tills) × (tills ≤ 64)) }
+{
+    match number(text.as_bytes(), 1, 64) {
+        Some(tills) => Some(tills as u8),
+        None => None,
+    }
+}
+
+/// The length of a record that a text spells: 1 to 254, in decimal digits without leading zeros.
+fn length_of(text: &str) -> Option<u8>
+    ensures exact { result ≡ number_in 1 254 text.now }
+    ensures range { IfSome result IsLength }
+{
+    match number(text.as_bytes(), 1, 254) {
+        Some(length) => Some(length as u8),
+        None => None,
+    }
+}
+
+/// Whether a flag is among the words.
+fn is_given<'a>(matches: &ArgMatches<'a>, flag: &str) -> bool
+    ensures { result ≡ given flag.now (rows_of (found_of matches.now)) }
+{
+    value_of(matches, flag) == "true"
+}
+
+/// When the image that is served is brought to the disk.
+fn serve_durability<'a>(matches: &ArgMatches<'a>) -> Durability
+    ensures { result ≡ of_serve (rows_of (found_of matches.now)) }
+{
+    if is_given(matches, "unsynced") {
+        Durability::AtEnd
+    } else {
+        Durability::EachSector
+    }
+}
+
+/// What is done where the disk has lost a part of a file.
+fn loss<'a>(matches: &ArgMatches<'a>) -> Loss
+    ensures { result ≡ loss_in (rows_of (found_of matches.now)) }
+{
+    if is_given(matches, "accept-loss") {
+        Loss::Accepted
+    } else {
+        Loss::Refused
+    }
+}
+
+/// What a repair does with sectors that are taken and no file's.
+fn unowned<'a>(matches: &ArgMatches<'a>) -> Unowned
+    ensures { result ≡ unowned_in (rows_of (found_of matches.now)) }
+{
+    if is_given(matches, "free") {
+        Unowned::Freed
+    } else {
+        Unowned::Kept
+    }
+}
+
+/// Whether a repair writes the image.
+fn effect<'a>(matches: &ArgMatches<'a>) -> Effect
+    ensures { result ≡ effect_in (rows_of (found_of matches.now)) }
+{
+    if is_given(matches, "dry-run") {
+        Effect::Printed
+    } else {
+        Effect::Written
+    }
+}
+
+/// The job that makes the image of a shop with so many tills.
+fn formatting<'a>(matches: &ArgMatches<'a>, image: &'a str, tills: u8) -> Job<'a>
+    ensures { result ≡ format_job (rows_of (found_of matches.now)) image.entry tills }
+{
+    if is_given(matches, "new") {
+        Job::FormatNew { image, tills }
+    } else {
+        Job::Format { image, tills }
+    }
+}
+
+/// The job that draws an image as a page or as a poster.
+fn picturing<'a>(matches: &ArgMatches<'a>, image: &'a str) -> Job<'a>
+    ensures { result ≡ picture_job (rows_of (found_of matches.now)) image.entry }
+{
+    if is_given(matches, "svg") {
+        Job::Draw {
+            what: Drawing::Poster,
+            image,
+        }
+    } else {
+        Job::Draw {
+            what: Drawing::Picture,
+            image,
+        }
+    }
+}
+
+/// The job that plays a script on an image.
+fn playing<'a>(matches: &ArgMatches<'a>, image: &'a str, script: &'a str) -> Job<'a>
+    ensures { result ≡ play_job (rows_of (found_of matches.now)) image.entry script.entry }
+{
+    if is_given(matches, "sync") {
+        Job::PlaySynced { image, script }
+    } else {
+        Job::Play { image, script }
+    }
+}
+
+/// The job that takes this out of an image, of the file of a name.
+fn taking<'a>(matches: &ArgMatches<'a>, what: Taking, image: &'a str) -> Result<Job<'a>, JobFault>
+    ensures { IsTakingJob (rows_of (found_of matches.now)) what image.now result }
+{
+    match Name::read(value_of(matches, "NAME")) {
+        Some(name) => Ok(Job::Take { what, image, name }),
+        None => Err(JobFault::Name),
+    }
+}
+
+/// The name of a new file that has this text.
+fn new_name(text: &str) -> Option<Name>
+    ensures found { IfSome result (λ name. IsNameOf text.now (name_bytes name) × IsNewName (name_bytes name)) }
+    ensures none { IsNone result → (bytes : List ℕ) → AreBytes bytes → IsNameOf text.now bytes → ¬ (IsNewName bytes) }
+{
+    let name = Name::read(text)?;
+    if !name.is_new() {
+        return None;
+    }
+    Some(name)
+}
+
+/// The job that makes a relative file on the disk of an image.
+fn making<'a>(matches: &ArgMatches<'a>, image: &'a str) -> Result<Job<'a>, JobFault>
+    ensures { IsMakingJob (rows_of (found_of matches.now)) image.now result }
+{
+    let Some(name) = new_name(value_of(matches, "NAME")) else {
+        return Err(JobFault::Name);
+    };
+    match length_of(value_of(matches, "L")) {
+        Some(length) => Ok(Job::Make {
+            image,
+            name,
+            length,
+            loss: loss(matches),
+        }),
+        None => Err(JobFault::Length),
+    }
+}
+
+/// The job that stores records in a relative file of an image.
+fn storing<'a>(matches: &ArgMatches<'a>, image: &'a str) -> Result<Job<'a>, JobFault>
+    ensures { IsStoringJob (rows_of (found_of matches.now)) image.now result }
+{
+    let records = value_of(matches, "RECORDS");
+    match Name::read(value_of(matches, "NAME")) {
+        Some(name) => Ok(Job::Store {
+            image,
+            name,
+            records,
+            loss: loss(matches),
+        }),
+        None => Err(JobFault::Name),
+    }
+}
+
+/// The job of the subcommand that was met.
+fn job_of<'a>(matches: &ArgMatches<'a>) -> Result<Job<'a>, JobFault>
+    ensures job { MatchResult result (IsJob (subcommand_rows_of matches.now))
+        (IsNoJob [] (subcommand_rows_of matches.now)) }
+    ensures fit { IfOk result IsFit }
+{
+    let Some((name, found)) = parsed_subcommand(matches) else {
+        // A parse without a subcommand is refused.
+        return Err(JobFault::Words(Error::from(AllocError)));
+    };
+    let image = value_of(found, "IMAGE");
+    let script = value_of(found, "SCRIPT");
+    match name {
+        "format" => match tills_of(value_of(found, "T")) {
+            Some(tills) => Ok(formatting(found, image, tills)),
+            None => Err(JobFault::Tills),
+        },
+        "list" => Ok(Job::List { image }),
+        "check" => Ok(Job::Check { image }),
+        "show" => Ok(Job::Show { image }),
+        "play" => Ok(playing(found, image, script)),
+        "serve" => Ok(Job::Serve {
+            image,
+            durability: serve_durability(found),
+            loss: loss(found),
+        }),
+        "repair" => Ok(Job::Repair {
+            image,
+            loss: loss(found),
+            unowned: unowned(found),
+            effect: effect(found),
+        }),
+        "records" => taking(found, Taking::Records, image),
+        "bytes" => taking(found, Taking::Bytes, image),
+        "make" => making(found, image),
+        "store" => storing(found, image),
+        "map" => Ok(Job::Draw {
+            what: Drawing::Map,
+            image,
+        }),
+        "picture" => Ok(picturing(found, image)),
+        "dry" => Ok(Job::Dry { script }),
+        // No other subcommand can be met.
+        _ => Err(JobFault::Words(Error::from(AllocError))),
+    }
+}
+
+/// Whether --explain is among the words.
+fn is_explained<'a>(matches: &ArgMatches<'a>) -> bool
+    ensures { result ≡ explained (rows_of (found_of matches.now)) (subcommand_rows_of matches.now) }
+{
+    if is_given(matches, "explain") {
+        return true;
+    }
+    match parsed_subcommand(matches) {
+        Some((_, found)) => is_given(found, "explain"),
+        None => false,
+    }
+}
+
+/// What the command line finds in the words.
+fn parsed<'a>(alloc: Global, words: &'a [&'a str]) -> Result<ArgMatches<'a>, Error>
+    ensures { let texts = map (λ word. word.now) words.entry.now in
+        MatchResult result (IsParse (fault_of ledger texts) (matches_of ledger texts) (subcommand_of ledger texts))
+        (HasKind (fault_of ledger texts)) }
+{
+    ledger_command(alloc)?.try_get_matches_from(words)
+}
+
+/// What the words of a command line ask for.
+#[derive(Drop)]
+pub struct CommandLine<'a> {
+    /// The job, or why there is none.
+    pub job: Result<Job<'a>, JobFault>,
+    /// Whether more is to be printed where it isn't done: --explain is among the words. False where they are refused.
+    pub is_explained: bool,
+}
+
+/// What the words ask for. The first word is the program's name.
+pub fn command_line<'a>(alloc: Global, words: &'a [&'a str]) -> CommandLine<'a>
+    ensures ok { let texts = map (λ word. word.now) words.entry.now in
+        IfOk result.job (λ j. (fault_of ledger texts ≡ []) × IsJob (subcommand_of ledger texts) j) }
+    ensures fit { IfOk result.job IsFit }
+    ensures err { let texts = map (λ word. word.now) words.entry.now in
+        IfErr result.job (IsNoJob (fault_of ledger texts) (subcommand_of ledger texts)) }
+    // Words that the command line takes are explained exactly where they ask for it, and others aren't.
+    ensures explained { let texts = map (λ word. word.now) words.entry.now in
+        IsHeard result.job (explained (matches_of ledger texts) (subcommand_of ledger texts)) result.is_explained }
+{
+    match parsed(alloc, words) {
+        Ok(matches) => CommandLine {
+            is_explained: is_explained(&matches),
+            job: job_of(&matches),
+        },
+        Err(e) => CommandLine {
+            is_explained: false,
+            job: Err(JobFault::Words(e)),
+        },
+    }
+}
+
+/// The job that the words ask for. The first word is the program's name.
+pub fn job<'a>(alloc: Global, words: &'a [&'a str]) -> Result<Job<'a>, JobFault>
+    // A job comes only where no word is refused, and is that of the subcommand and its values.
+    ensures ok { let texts = map (λ word. word.now) words.entry.now in
+        IfOk result (λ j. (fault_of ledger texts ≡ []) × IsJob (subcommand_of ledger texts) j) }
+    ensures fit { IfOk result IsFit }
+    // Words are refused for one of the reasons that the command line gives, or for want of memory,
+    // or for a number of tills that is none of 1 to 64, a name that no file has, or a length that no record has, where
+    // nothing else is wrong.
+    ensures err { let texts = map (λ word. word.now) words.entry.now in
+        IfErr result (IsNoJob (fault_of ledger texts) (subcommand_of ledger texts)) }
+{
+    let CommandLine { job, .. } = command_line(alloc, words);
+    job
+}

@@ -1,0 +1,27 @@
+-- What a command has that got a value, or a subcommand.
+use Rattle.std.proofs.Common.{◌≡◌, ◌<◌, ◌+◌, ℕ, List, length, get_or, take, fold, ap₂, ◌∙◌, ap, subst, sym}
+use Rattle.std.proofs.lemmas.List.Sums.{fold_more}
+use Rattle.std.specs.Prelude.{◌||◌, Bool, false}
+use Rattle.clap.specs.Words.{AddsArg, AddsSubcommand, App, Rule, app_of, rule_of, with_rule, with_subcommand}
+use Rattle.clap.specs.declared.builder.arg.Arg.{Arg}
+use Rattle.clap.specs.declared.builder.command.Command.{Command}
+use Rattle.command_table.specs.Grammar.{IsSubcommand}
+
+-- a subcommand has a value of this rule more, which no other has
+pub arg-made : (old : Command) (a : Arg) (new : Command) (before : App) (rule : Rule) → IsSubcommand before old
+    → a.global ≡ false → rule_of a ≡ rule → AddsArg old a new → IsSubcommand (with_rule before rule) new
+arg-made old a new before rule is own same adds = record {
+  is = adds.shape own ∙ ap₂ with_rule is.is same;
+  own = adds.globals ∙ ap₂ (λ (x y : Bool). x || y) is.own own;
+}
+
+-- a program has this subcommand more
+pub subcommand-made : (old sub new : Command) (before app : App) → app_of old ≡ before → IsSubcommand app sub
+    → AddsSubcommand old sub new → app_of new ≡ with_subcommand before app.top
+subcommand-made old sub new before app known is adds = adds.shape is.own
+    ∙ ap₂ with_subcommand known (ap (λ (a : App). a.top) is.is)
+
+-- what holds of the items before this one and this one
+pub one-more : {A B : Type 0} (f : B → A → B) (start : B) (xs : List A) (i : ℕ) (d : A) (P : B → Type 0) → i < length xs
+    → P (f (fold f start (take i xs)) (get_or xs i d)) → P (fold f start (take (i + 1) xs))
+one-more f start xs i d P h = subst P (sym (fold_more f start xs i d h))

@@ -1,0 +1,86 @@
+//! The command line that the program takes.
+ghost use Rattle.std.specs.Prelude.{◌≡◌, IfOk, Ok, codes, false};
+ghost use Rattle.clap.specs.Words.{app_of, new_app, rule_of};
+ghost use Rattle.clap.specs.declared.builder.command.Command.TheViews.{out-Command};
+ghost use Rattle.command_table.specs.Grammar as grammar;
+ghost use Rattle.command_table.specs.Rows as rows;
+
+use crate::help_texts::MORE;
+use crate::subcommands::{EXPLAIN, SUBCOMMANDS, Subcommand, Value};
+use clap::{Arg, ArgAction, Command};
+use std::alloc::{AllocError, Global};
+
+/// The version that `--version` prints.
+const VERSION: &str = "0.1.0";
+
+/// A command with this name, and what help says of it: in a line, and below its words.
+fn named<'a>(alloc: Global, name: &'a str, about: &'a str, more: &'a str) -> Command<'a>
+    ensures app { app_of result ≡ new_app name.entry.now }
+    ensures local { (out-Command result).has_globals ≡ false }
+{
+    Command::new(alloc, name).about(about).after_help(more)
+}
+
+/// What `clap` reads for a value or a flag.
+fn arg_of<'a>(alloc: Global, value: &Value) -> Arg<'a>
+    ensures rule { rule_of result ≡ rows.rule value.now }
+    ensures local { result.global ≡ false }
+{
+    let arg = Arg::new(alloc, value.name).help(value.help);
+    let arg = match value.word {
+        Some(word) => arg.long(word),
+        None => arg,
+    };
+    if value.is_flag {
+        arg.action(ArgAction::SetTrue)
+    } else {
+        arg.required(true)
+    }
+}
+
+/// A subcommand with its values and its own flags.
+fn subcommand_of<'a>(alloc: Global, subcommand: &Subcommand) -> Result<Command<'a>, AllocError>
+    ensures { IfOk result (grammar.IsSubcommand (rows.app subcommand.now)) }
+{
+    let mut command = named(alloc, subcommand.name, subcommand.about, subcommand.more);
+    for value in subcommand.values {
+        command = command.arg(arg_of(alloc, value))?;
+    }
+    Ok(command)
+}
+
+/// A subcommand that takes --explain too.
+fn explainable_of<'a>(alloc: Global, subcommand: &Subcommand) -> Result<Command<'a>, AllocError>
+    ensures { IfOk result (grammar.IsSubcommand (grammar.explainable (rows.app subcommand.now))) }
+{
+    subcommand_of(alloc, subcommand)?.arg(arg_of(alloc, &EXPLAIN))
+}
+
+/// The program's name, and what help says of it.
+fn described<'a>(alloc: Global) -> Command<'a>
+    ensures { app_of result ≡ new_app (codes "ledger") }
+{
+    let about = "A retry-safe stock ledger: a request that comes again gets its first answer";
+    named(alloc, "ledger", about, MORE)
+}
+
+/// The program without its subcommands.
+fn bare<'a>(alloc: Global) -> Result<Command<'a>, AllocError>
+    ensures { IfOk result (λ c. app_of c ≡ grammar.bare) }
+{
+    described(alloc)
+        .version(VERSION)
+        .subcommand_required(true)
+        .arg(arg_of(alloc, &EXPLAIN))
+}
+
+/// The program's command line.
+pub fn ledger_command<'a>(alloc: Global) -> Result<Command<'a>, AllocError>
+    ensures { IfOk result (λ c. app_of c ≡ grammar.ledger) }
+{
+    let mut program = bare(alloc)?;
+    for subcommand in &SUBCOMMANDS {
+        program = program.subcommand(explainable_of(alloc, subcommand)?)?;
+    }
+    Ok(program)
+}

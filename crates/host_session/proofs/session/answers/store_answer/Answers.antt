@@ -1,0 +1,94 @@
+-- The writes of each case are within those of the answer.
+use Rattle.std.proofs.Common.{arith, sym, ◌∙◌}
+use Rattle.std.proofs.lemmas.Bool.{false≢true}
+use Rattle.host_session.proofs.lemmas.Held.{changes_weaker}
+use Rattle.host_session.proofs.lemmas.session.Keepings.{intent-writes, known-items, refused-writes}
+use Rattle.host_session.proofs.lemmas.session.KeptItems.{none-or}
+use Rattle.host_session.proofs.session.answers.store_answer.Goals as goal
+
+pub put_refusal-requires : goal.put_refusal-requires
+put_refusal-requires g c =
+    let (f, h, k, e) = c.requires.keeping in
+    record { ready = c.requires.ready; keeping = (f, h, k); refused = sym c.pending.ensures ∙ c.if-not-pending.true }
+
+pub returns-then-not-pending : goal.returns-then-not-pending
+returns-then-not-pending g c =
+    let put = c.put_refusal.ensures.puts in
+    record {
+      puts = record {
+        ready = put.ready;
+        ok = put.ok;
+        moments = λ f p.
+            changes_weaker g.D.Sectors.history c.args.drive.now.disk c.put_refusal.new.drive.disk 1 _ _ _
+            (refused-writes f c.args.request.now c.args.card.now p.1 (sym c.pending.ensures ∙ c.if-not-pending.true)
+            p.0.stock_file) (λ i x. x) (put.moments f p);
+        failures = put.failures;
+        dies = put.dies;
+      };
+      counted = λ _. c.put_refusal.ensures.counted;
+      refused = λ _. c.put_refusal.ensures.counted;
+    }
+
+pub put_first_set-requires : goal.put_first_set-requires
+put_first_set-requires g c =
+    let (f, h, k, e) = c.requires.keeping in
+    record {
+      ready = c.requires.ready;
+      keeping = (f, h, k, sym e ∙ c.if-has_no_card.true);
+      intent =
+          sym c.pending.ensures ∙ c.if-not-pending.false;
+    }
+
+pub returns-then-has_no_card : goal.returns-then-has_no_card
+returns-then-has_no_card g c =
+    let set = c.put_first_set.ensures in
+    record {
+      puts = record {
+        ready = set.ready;
+        ok = set.ok;
+        moments = λ f p.
+            changes_weaker g.D.Sectors.history c.args.drive.now.disk c.put_first_set.new.drive.disk _ _ _ _
+            (intent-writes f c.args.request.now c.args.card.now p.1 (sym c.pending.ensures ∙ c.if-not-pending.false)
+            p.0.stock_file) (λ i x. x) (set.moments f p);
+        failures = set.failures;
+        dies = set.dies;
+      };
+      counted = λ old. absurd (false≢true (sym old ∙ c.if-has_no_card.true));
+      refused = λ no. absurd (false≢true (sym no ∙ sym c.pending.ensures ∙ c.if-not-pending.false));
+    }
+
+pub put_intent-requires : goal.put_intent-requires
+put_intent-requires g c =
+    let (f, h, k, e) = c.requires.keeping in
+    record {
+      ready = c.requires.ready;
+      keeping = (
+        f,
+        h,
+        k,
+        known-items f c.args.request.now c.args.card.now k
+            (none-or _ (sym e ∙ c.if-has_no_card.false)),
+      );
+      intent = sym c.pending.ensures ∙ c.if-not-pending.false;
+    }
+
+pub returns : goal.returns
+returns g c =
+    let put = c.put_intent.ensures.puts in
+    record {
+      puts = record {
+        ready = put.ready;
+        ok = put.ok;
+        moments = λ f p.
+            changes_weaker g.D.Sectors.history c.args.drive.now.disk c.put_intent.new.drive.disk _ _ _ _
+            (omega (
+              arith,
+              intent-writes f c.args.request.now c.args.card.now p.1 (sym c.pending.ensures
+                  ∙ c.if-not-pending.false) p.0.stock_file,
+            )) (λ i x. x) (put.moments f p);
+        failures = put.failures;
+        dies = put.dies;
+      };
+      counted = λ _. c.put_intent.ensures.counted;
+      refused = λ no. absurd (false≢true (sym no ∙ sym c.pending.ensures ∙ c.if-not-pending.false));
+    }

@@ -1,0 +1,66 @@
+//! Events that are noted with what the disk held when they were asked for.
+ghost use Rattle.std.specs.Prelude.{◌≡◌, []};
+ghost use Rattle.host_session.specs.events.Asking.{noted, noted_in};
+
+use crate::events::sources::{EventSource, Next};
+use d64_image::MemDisk;
+use script_lines::Cut;
+use std::alloc::Global;
+
+/// A source of events that keeps, of each, a copy of what the disk held when it was asked for. Where there is no memory
+/// for a copy the input fails, and no event is taken.
+#[derive(Drop)]
+pub struct RecordedEvents<A> {
+    asks: A,
+    disks: Vec<Vec<u8>>,
+    /// There was no memory for a copy.
+    full: bool,
+    alloc: Global,
+}
+
+impl<A> RecordedEvents<A> {
+    /// The events of this source; none is noted yet.
+    pub fn new(alloc: Global, asks: A) -> RecordedEvents<A>
+        ensures asks { result.asks ≡ asks }
+        ensures none { noted_in result ≡ [] }
+    {
+        RecordedEvents {
+            asks,
+            disks: Vec::new(alloc),
+            full: false,
+            alloc,
+        }
+    }
+
+    /// The 174,848 bytes that the disk held when each event was asked for, in order.
+    pub fn disks(&self) -> &[Vec<u8>]
+        ensures { result.now ≡ self.now.disks.items }
+    {
+        self.disks.as_slice()
+    }
+}
+
+impl<A: EventSource<MemDisk>> EventSource<MemDisk> for RecordedEvents<A> {
+    ghost source = { noted A.source };
+
+    fn next(&mut self, disk: &MemDisk) -> Next {
+        let copied = Vec::from_slice(self.alloc, disk.bytes());
+        let (Ok(bytes), Ok(())) = (copied, self.disks.try_reserve(1)) else {
+            self.full = true;
+            return Next::Failed;
+        };
+        let next = self.asks.next(disk);
+        if next == Next::Event {
+            self.disks.push_reserved(bytes);
+        }
+        next
+    }
+
+    fn message(&self) -> &[u8] {
+        self.asks.message()
+    }
+
+    fn cut(&self) -> Option<&Cut> {
+        self.asks.cut()
+    }
+}

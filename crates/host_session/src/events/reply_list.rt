@@ -1,0 +1,23 @@
+//! Replies that are put in a list.
+ghost use Rattle.host_session.specs.runs.Outputs.{listed};
+
+use crate::events::sinks::{NotTaken, ReplySink};
+use d64_image::Sectors;
+use request_cards::Reply;
+
+/// A list takes replies as far as it has room, and no memory. It holds none back.
+impl<D: Sectors> ReplySink<D> for Vec<Reply> {
+    ghost output = { listed };
+
+    fn tell(&mut self, reply: &Reply, _disk: &D) -> Result<(), NotTaken> {
+        if self.len() >= self.capacity() {
+            return Err(NotTaken);
+        }
+        self.push_reserved(*reply);
+        Ok(())
+    }
+
+    fn hand_on(&mut self) -> Result<(), NotTaken> {
+        Ok(())
+    }
+}

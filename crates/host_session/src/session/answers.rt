@@ -1,0 +1,119 @@
+//! A till's next request, kept on the disk.
+ghost use Rattle.std.specs.Prelude.{◌≡◌, ◌<◌, ◌+◌, false, is_none, true};
+ghost use Rattle.d64_image.specs.History.{IfCounted};
+ghost use Rattle.host_session.specs.session.Handling.{card_writes, kept_writes};
+ghost use Rattle.host_session.specs.session.Keeping.{HasItems, IsEither, IsKeeping, shop_after};
+ghost use Rattle.host_session.specs.shop.Files.{Files, HasFiles};
+ghost use Rattle.host_session.specs.shop.Puts.{Puts};
+ghost use Rattle.host_session.specs.shop.Selecting.{IsReady};
+ghost use Rattle.host_session.specs.shop.Shop.{IsSettled, IsShop, results_of, shop_of};
+ghost use Rattle.rel_records.specs.growth.Growth.{growth_writes};
+
+use crate::shop::completion::{complete_with, mark_answered};
+use crate::shop::growth::grow_stock;
+use crate::shop::records::put_answer;
+use crate::shop::shop_drive::ShopDrive;
+use d64_image::Sectors;
+use drive_channels::Dead;
+use request_cards::{Request, RequestCard};
+
+/// Writes the card of an answer that changes no quantity.
+fn put_refusal<D: Sectors>(
+    drive: &mut ShopDrive<D>,
+    request: &Request,
+    card: &RequestCard,
+) -> Result<(), Dead>
+    requires ready { IsReady D.history drive.old }
+    requires keeping { (f : Files) × HasFiles (D.history.image drive.old.disk) f × IsKeeping f request.now card.now }
+    requires refused { card.now.pending ≡ false }
+    ensures puts { Puts D.history drive.old drive.new result
+        (λ f. HasFiles (D.history.image drive.old.disk) f × IsKeeping f request.now card.now)
+        (λ f p. 1)
+        (λ f. IsEither (shop_of f) request.now)
+        (λ f i. IsSettled i (shop_after (shop_of f) request.now)) }
+    ensures counted { (f : Files) → HasFiles (D.history.image drive.old.disk) f → IsKeeping f request.now card.now
+        → IfCounted D.history drive.old.disk drive.new.disk (λ i. IsShop i (shop_after (shop_of f) request.now)) }
+{
+    put_answer(drive, request.till(), &card.print())
+}
+
+/// Writes a request's intent, and completes it. The records of its items are there.
+// In line, as all on the way to a device's write is: a return right behind a call of the system is dear.
+#[inline(always)]
+fn put_intent<D: Sectors>(
+    drive: &mut ShopDrive<D>,
+    request: &Request,
+    card: &RequestCard,
+) -> Result<(), Dead>
+    requires ready { IsReady D.history drive.old }
+    requires keeping { (f : Files) × HasFiles (D.history.image drive.old.disk) f × IsKeeping f request.now card.now
+        × HasItems f card.now }
+    requires intent { card.now.pending ≡ true }
+    ensures puts { Puts D.history drive.old drive.new result
+        (λ f. HasFiles (D.history.image drive.old.disk) f × IsKeeping f request.now card.now)
+        (λ f p. 2 + card_writes (results_of card.now.newest))
+        (λ f. IsEither (shop_of f) request.now)
+        (λ f i. IsSettled i (shop_after (shop_of f) request.now)) }
+    ensures counted { (f : Files) → HasFiles (D.history.image drive.old.disk) f → IsKeeping f request.now card.now
+        → IfCounted D.history drive.old.disk drive.new.disk (λ i. IsShop i (shop_after (shop_of f) request.now)) }
+{
+    let till = request.till();
+    let mut text = card.print();
+    put_answer(drive, till, &text)?;
+    // the answer differs from its intent by one byte
+    mark_answered(&mut text);
+    complete_with(drive, till, card, &text)
+}
+
+/// Grows STOCK for the item of a first set, then writes the intent and completes it.
+fn put_first_set<D: Sectors>(
+    drive: &mut ShopDrive<D>,
+    request: &Request,
+    card: &RequestCard,
+) -> Result<(), Dead>
+    requires ready { IsReady D.history drive.old }
+    requires keeping { (f : Files) × HasFiles (D.history.image drive.old.disk) f × IsKeeping f request.now card.now
+        × (is_none ((shop_of f).state.ledger.cards request.now.body.item) ≡ true) }
+    requires intent { card.now.pending ≡ true }
+    ensures { Puts D.history drive.old drive.new result
+        (λ f. HasFiles (D.history.image drive.old.disk) f × IsKeeping f request.now card.now)
+        (λ f p. growth_writes p.0.stock_file request.now.body.item + 2 + card_writes (results_of card.now.newest))
+        (λ f. IsEither (shop_of f) request.now)
+        (λ f i. IsSettled i (shop_after (shop_of f) request.now)) }
+{
+    grow_stock(drive, request.item())?;
+    put_intent(drive, request, card)
+}
+
+/// Keeps a till's next request with its answer: the card alone where it changes no quantity; else, after the growth of
+/// STOCK for an item that has no card, its intent, the item's card or both cards, and its answer.
+pub(crate) fn store_answer<D: Sectors>(
+    drive: &mut ShopDrive<D>,
+    request: &Request,
+    card: &RequestCard,
+    has_no_card: bool,
+) -> Result<(), Dead>
+    requires ready { IsReady D.history drive.old }
+    requires keeping { (f : Files) × HasFiles (D.history.image drive.old.disk) f × IsKeeping f request.now card.now
+        × (has_no_card ≡ is_none ((shop_of f).state.ledger.cards request.now.body.item)) }
+    ensures puts { Puts D.history drive.old drive.new result
+        (λ f. HasFiles (D.history.image drive.old.disk) f × IsKeeping f request.now card.now)
+        (λ f p. kept_writes p.0.stock_file request.now.body.item (results_of card.now.newest))
+        (λ f. IsEither (shop_of f) request.now)
+        (λ f i. IsSettled i (shop_after (shop_of f) request.now)) }
+    // but for a set of an item without a card, the shop is the one after once a write was counted
+    ensures counted { has_no_card ≡ false → (f : Files) → HasFiles (D.history.image drive.old.disk) f
+        → IsKeeping f request.now card.now
+        → IfCounted D.history drive.old.disk drive.new.disk (λ i. IsShop i (shop_after (shop_of f) request.now)) }
+    ensures refused { card.now.pending ≡ false → (f : Files) → HasFiles (D.history.image drive.old.disk) f
+        → IsKeeping f request.now card.now
+        → IfCounted D.history drive.old.disk drive.new.disk (λ i. IsShop i (shop_after (shop_of f) request.now)) }
+{
+    if !card.pending() {
+        return put_refusal(drive, request, card);
+    }
+    if has_no_card {
+        return put_first_set(drive, request, card);
+    }
+    put_intent(drive, request, card)
+}

@@ -1,0 +1,81 @@
+//! A message of a till, answered.
+ghost use Rattle.std.specs.Prelude.{◌≡◌, false, true};
+ghost use Rattle.host_session.specs.session.Answering.{IsAnswered};
+ghost use Rattle.host_session.specs.session.Handled.{IsHandled};
+ghost use Rattle.host_session.specs.shop.Shop.{IsShop, Shop, start_of};
+ghost use Rattle.request_cards.specs.Ledgers.{next_in, word_in};
+ghost use Rattle.request_cards.specs.Requests.{IsAsk};
+
+use crate::session::answers::store_answer;
+use crate::session::decisions::{decided, next_card, renew, standing_by};
+use crate::session::{Session, on_hand};
+use d64_image::Sectors;
+use request_cards::{Reply, Request, Standing, Word};
+
+impl<D: Sectors> Session<D> {
+    /// Answers a message of a till.
+    ///
+    /// What is no request is told `Syntax`. A request that isn't its till's next one is told what is kept of it, or why
+    /// it isn't taken; neither writes anything. The next request of a till is decided by the trade rule, and its answer
+    /// is kept on the disk before it is told: one write for an answer that changes no card; else, after the growth of
+    /// STOCK that a new card may take, the request's intent, its card or both cards, and its answer. Where the device
+    /// fails, now or in an earlier message, the reply is `MEDIA`, and the session is dead; the shop is then the one
+    /// before the message or the one after it.
+    pub fn handle(&mut self, message: &[u8]) -> Reply
+        ensures { IsHandled D.history self.old self.new message.now result }
+    {
+        let dead = self.dead;
+        let Some(request) = Request::parse(message) else {
+            return Reply::Syntax;
+        };
+        Reply::Told {
+            till: request.till(),
+            number: request.number(),
+            word: if dead {
+                Word::Media
+            } else {
+                self.word_on(&request)
+            },
+        }
+    }
+
+    /// What a till is told of its request.
+    fn word_on(&mut self, request: &Request) -> Word
+        requires ask { IsAsk request.now }
+        requires alive { self.old.dead ≡ false }
+        ensures quiet { (s : Shop) → IsShop (D.history.image self.old.disk) s
+            → next_in (start_of s) s.state request.now ≡ false
+            → (result ≡ word_in (start_of s) s.state request.now) × (self.new ≡ self.old) }
+        ensures answered { IsAnswered D.history self.old self.new request.now result }
+    {
+        match standing_by(&self.requests, self.tills, request) {
+            Standing::Settled(word) => word,
+            Standing::New => self.answer(request),
+        }
+    }
+
+    /// Answers its till's next request: decides it by the tables, keeps it on the disk, and renews the tables.
+    fn answer(&mut self, request: &Request) -> Word
+        requires ask { IsAsk request.now }
+        requires alive { self.old.dead ≡ false }
+        requires next { (s : Shop) → IsShop (D.history.image self.old.disk) s
+            → next_in (start_of s) s.state request.now ≡ true }
+        ensures { IsAnswered D.history self.old self.new request.now result }
+    {
+        let outcome = decided(&self.cards, self.top, request);
+        let card = next_card(&self.requests, request, outcome.answer);
+        let has_no_card = on_hand(&self.cards, request.item()).is_none();
+        let Ok(()) = store_answer(&mut self.drive, request, &card, has_no_card) else {
+            self.dead = true;
+            return Word::Media;
+        };
+        renew(
+            &mut self.cards,
+            &mut self.requests,
+            request,
+            &outcome,
+            card.answered(),
+        );
+        Word::Kept(outcome.answer)
+    }
+}

@@ -1,0 +1,73 @@
+//! The survey of a disk: its directory, and entry by entry what each owns.
+ghost use Rattle.std.specs.Prelude.{◌+◌, ◌*◌, ◌↔◌, IfErr, IfOk, IsOk, OnOk, length};
+ghost use Rattle.d64_image.specs.History.{NeverFailed, OnlyReads};
+ghost use Rattle.disk_layout.specs.Directory.{IsDirectory};
+ghost use Rattle.disk_layout.specs.Fault.{Holds, TellsFault};
+ghost use Rattle.disk_layout.specs.Layout.{IsLayout, IsSound, Layout, owners};
+ghost use Rattle.layout_check.specs.Calls.{Passes, TellsUnsound};
+ghost use Rattle.layout_check.specs.Survey.{IsSurveyOf, Surveys};
+
+use crate::files::survey_entry;
+use crate::owners::Owners;
+use crate::parts::Parts;
+use crate::survey::{Findings, Survey};
+use arrayvec::ArrayVec;
+use d64_image::{Place, Sectors};
+use disk_layout::{Fault, MOST_BLOCKS, Slot, directory_start, read_directory, walk_chain};
+
+/// Lists the entries of the directory, and its sectors.
+fn survey_directory<D: Sectors>(
+    disk: &mut D,
+    slots: &mut ArrayVec<Slot, 144>,
+    places: &mut ArrayVec<Place, MOST_BLOCKS>,
+) -> Result<(), Fault>
+    ensures directory { OnOk result (IsDirectory (D.history.image disk.old) places.new.items slots.new.items) }
+    ensures ok { OnOk result (Passes D.history disk.old disk.new (18 + length places.new.items)) }
+    ensures err { IfErr result (TellsUnsound D.history disk.old disk.new 738) }
+{
+    read_directory(disk, slots)?;
+    walk_chain(disk, directory_start(), places)?;
+    Ok(())
+}
+
+/// Surveys the disk as `survey` does, and judges beside that the bytes of the side sectors and the block counts.
+pub(crate) fn survey_files<D: Sectors>(disk: &mut D) -> Result<Findings, Fault>
+    ensures ok { IfOk result (Surveys D.history disk.old disk.new) }
+    ensures err { IfErr result (TellsUnsound D.history disk.old disk.new 2114) }
+{
+    let mut slots = ArrayVec::new();
+    // the directory's places stand where blocks will: a list of their own would take time to blank
+    let mut parts = Parts::new();
+    survey_directory(disk, &mut slots, &mut parts.blocks)?;
+    let mut owners = Owners::of_directory(parts.blocks.as_slice());
+    let mut unclean = None;
+    for (number, slot) in slots.as_slice().iter().enumerate() {
+        let found = survey_entry(disk, slot, number as u8, &mut owners, &mut parts)?;
+        unclean = unclean.or(found);
+    }
+    Ok(Findings {
+        survey: Survey::new(owners, slots.len()),
+        unclean,
+    })
+}
+
+/// Surveys the disk: where each link, each type, each record length and each side sector of the entries agrees and no
+/// sector has two owners, the answer tells the owners and the entries; else a fault that holds at its place, where of
+/// several it is open which. An image that has no such fault is sound. Counts of blocks, the map, and those bytes of
+/// side sectors that name nothing are not judged.
+///
+/// Nothing is written. Each owned sector is read twice at most, and no memory is taken.
+pub fn survey<D: Sectors>(disk: &mut D) -> Result<Survey, Fault>
+    ensures ok { IfOk result (λ s.
+        (l : Layout) × IsLayout (D.history.image disk.old) l × IsSurveyOf l s
+        × OnlyReads D.history disk.old disk.new (18 + 2 * length (owners l))) }
+    ensures err { IfErr result (Holds (D.history.failed_at disk.new) (D.history.image disk.old)) }
+    // neither a fault nor a layout is told always
+    ensures sound { NeverFailed D.history disk.old disk.new → (IsOk result ↔ IsSound (D.history.image disk.old)) }
+    ensures failures { TellsFault D.history disk.old disk.new result }
+    // the directory, all that may be owned twice, and the sectors of one entry once more
+    ensures reads { OnlyReads D.history disk.old disk.new 2114 }
+{
+    let found = survey_files(disk)?;
+    Ok(found.survey)
+}

@@ -1,0 +1,143 @@
+-- Runs over a file that is brought to the disk, once its sectors stand at their places.
+use Rattle.std.proofs.Common.{◌≡◌, ◌≢◌, ◌∙◌, ◌⊎◌, ⊎_elim, ℕ, Bool, Err, List, Ok, Option, Some, ap}
+use Rattle.std.proofs.Common.{false, refl, subst, sym, true}
+use Rattle.std.specs.Prelude.{IfErr}
+use Rattle.d64_image.specs.Images.{Image}
+use Rattle.d64_image.specs.Keeps.{Keeps, none_kept}
+use Rattle.host_session.specs.events.Telling.{Output}
+use Rattle.line_server.specs.Answering.{Answering}
+use Rattle.line_server.specs.Giving.{Input}
+use Rattle.shop_commands.specs.Durable.{AllStays}
+use Rattle.shop_commands.specs.Lasting.{Lasting, Whole, seen}
+use Rattle.shop_commands.specs.LastingImages.{are_image, image_of}
+use Rattle.shop_commands.specs.ImageFile.{IsTakenUp, placed, placed_file}
+use Rattle.shop_commands.specs.Plays.{IsFileFault, IsUntouched}
+use Rattle.shop_commands.specs.declared.durability.Durability.{Durability}
+use Rattle.shop_commands.specs.declared.durability.WritesAt.{Ghosts}
+use Rattle.shop_commands.specs.declared.faults.RunFault.{RunFault}
+use Rattle.shop_commands.specs.declared.faults.RunFault.TheVariants as faults
+use Rattle.shop_commands.specs.declared.image_file.ImageFile.{ImageFile}
+use Rattle.ledger_jobs.specs.DurableRuns.{IsDurableRun, IsFinished}
+use Rattle.ledger_jobs.specs.Ends.{Ended}
+use Rattle.ledger_jobs.specs.FileServes.{IsServeFault, IsUnserved}
+
+-- what stays at the end is what was looked at
+image_left : {F : Type 0} (held : F → Option (List ℕ)) (L : Lasting F) (W : Whole held) (synced sized : Bool) (f g : F)
+    → (synced ≡ true → g ≡ f) → held g ≡ held f → L.bytes g ≡ held g → (c : Image)
+    → image_of ((seen L W.lasting synced sized).bytes f) ≡ Some c → image_of (L.bytes g) ≡ Some c
+image_left held L W true sized f g untouched same stays c e = ap (λ x. image_of (L.bytes x)) (untouched refl) ∙ e
+image_left held L W false true f g untouched same stays c e =
+    let x = are_image (W.lasting.bytes f) c e in
+    ap image_of (stays ∙ same ∙ W.is_held f x.all x.are ∙ sym x.are) ∙ e
+image_left held L W false false f g untouched same stays c e = none_kept e
+
+module _ {F : Type 0} {G : Ghosts F} (durability : Durability) (image : List ℕ) (file after : F)
+    (first left last : ImageFile F G) (end ended : Ended) (IsRun : ImageFile F G → ImageFile F G → Ended → Type 0) where
+  -- whatever the run was, its file was taken up, brought to the disk and handed back
+  pub durable_run : IsTakenUp durability image file first → after ≡ placed_file last → IsRun first left end
+      → IsFinished end left last ended → IsDurableRun durability image file after ended IsRun
+  durable_run taken is_last run finished = record {
+    first = first;
+    left = left;
+    last = last;
+    taken = taken;
+    end = end;
+    run = run;
+    finished = finished;
+    is_after = sym is_last;
+    counted = λ some. subst (λ f. G.has_failed f ≡ true) (sym is_last) (finished.failed (left.blamed some));
+    lasts = λ each size now r. ap (λ b. image_of ((seen G.lasting G.whole.lasting b now.sized).bytes now.file))
+        (r.synced ∙ taken.synced each size);
+    holds = λ end size now r.
+        let is = taken.unsynced end size in
+        ap (λ b. image_of ((seen G.lasting G.whole.lasting b now.sized).bytes now.file)) (r.synced ∙ is.0)
+        ∙ ap (λ b. image_of ((seen G.lasting G.whole.lasting false b).bytes now.file)) (r.sized ∙ is.1);
+    remains = subst
+        (λ f. AllStays G.held G.lasting f → (c : Image) → placed.kept left ≡ Some c
+        → image_of (G.lasting.bytes f) ≡ Some c)
+        (sym is_last)
+        (image_left G.held G.lasting G.whole left.synced left.sized left.file last.file
+        (λ is. ap placed_file (finished.untouched is)) finished.same);
+  }
+
+-- a fault that blames neither the file nor the output tells that nothing was done
+module _ {F T : Type 0} (K : Keeps F) (o : Output T) (image script : List ℕ) (file after : F) (old new : T) where
+  nothing_done : (fault : RunFault) → IsFileFault K o image script file after old new fault → fault ≢ faults.File
+      → fault ≢ faults.Device → IsUntouched file after old new
+  nothing_done faults.ImageSize is _ _ = is.1
+  nothing_done (faults.Layout f) is _ _ = is.2
+  nothing_done faults.NoStock is _ _ = is.2
+  nothing_done faults.NoRequests is _ _ = is.2
+  nothing_done (faults.BadCard item) is _ _ = is.2
+  nothing_done (faults.BadRequestCard till) is _ _ = is.2
+  nothing_done faults.TwoIntents is _ _ = is.2
+  nothing_done (faults.BadLine line) is _ _ = is.2
+  nothing_done faults.File is other _ = absurd (other refl)
+  nothing_done faults.NoMemory is _ _ = is.1
+  nothing_done faults.Device is _ other = absurd (other refl)
+
+  pub undone : (end : Ended) → IfErr end (IsFileFault K o image script file after old new)
+      → IfErr end (λ fault. fault ≢ faults.File → fault ≢ faults.Device → IsUntouched file after old new)
+  undone (Ok x) is = tt
+  undone (Err fault) is = nothing_done fault is
+
+-- nor one of a service
+module _ {F R T : Type 0} (K : Keeps F) (i : Input R) (a : Answering T) (image : List ℕ) (file after : F)
+    (old_in new_in : R) (old new : T) where
+  nothing_served : (fault : RunFault) → IsServeFault K i a image file after old_in new_in old new fault
+      → fault ≢ faults.File → fault ≢ faults.Device → IsUnserved file after old_in new_in old new
+  nothing_served faults.ImageSize is _ _ = is.1
+  nothing_served (faults.Layout f) is _ _ = is.1
+  nothing_served faults.NoStock is _ _ = is.1
+  nothing_served faults.NoRequests is _ _ = is.1
+  nothing_served (faults.BadCard item) is _ _ = is.1
+  nothing_served (faults.BadRequestCard till) is _ _ = is.1
+  nothing_served faults.TwoIntents is _ _ = is.1
+  nothing_served (faults.BadLine line) is _ _ = absurd is
+  nothing_served faults.File is other _ = absurd (other refl)
+  nothing_served faults.NoMemory is _ _ = is.1
+  nothing_served faults.Device is _ other = absurd (other refl)
+
+  pub unserved : (end : Ended) → IfErr end (IsServeFault K i a image file after old_in new_in old new)
+      → IfErr end (λ fault. fault ≢ faults.File → fault ≢ faults.Device → IsUnserved file after old_in new_in old new)
+  unserved (Ok x) is = tt
+  unserved (Err fault) is = nothing_served fault is
+
+-- what a run that did nothing left is what was handed in
+module _ {F : Type 0} {G : Ghosts F} (file after : F) (first left last : ImageFile F G) (end ended : Ended)
+    (is_file : placed_file first ≡ file) (is_last : after ≡ placed_file last)
+    (told : (ended ≡ end) ⊎ (ended ≡ Err faults.Device))
+    (alone : IfErr end (λ fault. fault ≢ faults.File → last ≡ left)) where
+  handed_back : left ≡ first → last ≡ left → after ≡ file
+  handed_back same left_alone = is_last ∙ ap placed_file (left_alone ∙ same) ∙ is_file
+
+  module _ (Was Is : Type 0) (carry : last ≡ left → Was → Is) where
+    at_end : (e : Ended) → IfErr e (λ fault. fault ≢ faults.File → last ≡ left)
+        → IfErr e (λ fault. fault ≢ faults.File → fault ≢ faults.Device → Was)
+        → IfErr e (λ fault. fault ≢ faults.File → fault ≢ faults.Device → Is)
+    at_end (Ok x) left_alone was = tt
+    at_end (Err fault) left_alone was = λ other another. carry (left_alone other) (was other another)
+
+    pub left_so : IfErr end (λ fault. fault ≢ faults.File → fault ≢ faults.Device → Was)
+        → IfErr ended (λ fault. fault ≢ faults.File → fault ≢ faults.Device → Is)
+    left_so was = ⊎_elim
+        (λ same. subst (λ e. IfErr e (λ fault. fault ≢ faults.File → fault ≢ faults.Device → Is)) (sym same)
+        (at_end end alone was))
+        (λ device. subst (λ e. IfErr e (λ fault. fault ≢ faults.File → fault ≢ faults.Device → Is)) (sym device)
+        (λ other another. absurd (another refl)))
+        told
+
+  pub played_alone : {T : Type 0} (old new : T)
+      → IfErr end (λ fault. fault ≢ faults.File → fault ≢ faults.Device → IsUntouched first left old new)
+      → IfErr ended (λ fault. fault ≢ faults.File → fault ≢ faults.Device → IsUntouched file after old new)
+  played_alone old new = left_so (IsUntouched first left old new) (IsUntouched file after old new)
+      (λ left_alone x. (handed_back x.0 left_alone, x.1))
+
+  pub served_alone : {R T : Type 0} (old_in new_in : R) (old new : T)
+      → IfErr end (λ fault. fault ≢ faults.File → fault ≢ faults.Device
+      → IsUnserved first left old_in new_in old new)
+      → IfErr ended (λ fault. fault ≢ faults.File → fault ≢ faults.Device
+      → IsUnserved file after old_in new_in old new)
+  served_alone old_in new_in old new = left_so (IsUnserved first left old_in new_in old new)
+      (IsUnserved file after old_in new_in old new)
+      (λ left_alone x. ((handed_back x.0.0 left_alone, x.0.1), x.1))

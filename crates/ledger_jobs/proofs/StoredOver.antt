@@ -1,0 +1,174 @@
+-- What comes of storing records over the file of a mirror, from that over the mirror and whether it is broken.
+use Rattle.std.proofs.Common.{◌≡◌, ◌⊎◌, ℕ, List, Option, Result, Ok, Err, ap, inl, inr, length, refl, slice_get, Some}
+use Rattle.std.proofs.Common.{subst, ⊎_elim}
+use Rattle.std.specs.Prelude.{IfErr, OnOk}
+use Rattle.d64_image.proofs.FileRuns.{file_disk, held_by_file}
+use Rattle.d64_image.specs.FileDisks.{in_run}
+use Rattle.d64_image.specs.Keeps.{FileFailed, Keeps}
+use Rattle.d64_image.specs.Memory.{sectors_in}
+use Rattle.d64_image.specs.KeptMirrors.{is_broken, mirror, mirror_image}
+use Rattle.d64_image.specs.declared.kept_mirror.KeptMirror.{KeptMirror}
+use Rattle.d64_image.specs.declared.sector_file.SectorFile.{Ghosts}
+use Rattle.disk_layout.specs.Layout.{File, Layout}
+use Rattle.disk_layout.specs.Rest.{IsNamed}
+use Rattle.keeper_commands.specs.Faults.{IsLoadFault}
+use Rattle.keeper_commands.specs.Refusals.{IsLeft}
+use Rattle.keeper_commands.specs.Storing.{HasBadLine, HasNoStoreRoom, IsStoreDone, IsStoreFault, IsStoreRun}
+use Rattle.keeper_commands.specs.declared.faults.KeepFault.{KeepFault}
+use Rattle.keeper_commands.specs.declared.faults.KeepFault.TheVariants as keep
+use Rattle.shop_commands.specs.Plays.{IsTakenUp, IsUntouched}
+use Rattle.ledger_jobs.proofs.KeptOver.{is-done, is-refused, is-stopped}
+use Rattle.ledger_jobs.proofs.OverFiles.{broken_file, handed-back, kept_of_file, not_failed, refused_of_file}
+use Rattle.ledger_jobs.proofs.OverFiles.{same_file, taken_up, whole_file}
+use Rattle.ledger_jobs.specs.Kept.{IsKeptAsItWas, IsStoreOver, IsStoredFault, IsStoredFile, IsStoringRun}
+
+module _ {F W : Type 0} (K : Keeps F) (contents : W → Option (List ℕ)) (image name text : List ℕ) where
+  -- the image wasn't taken into memory
+  pub store-not-loaded : (file : F) (old : W) (fault : KeepFault) → IsLoadFault image fault
+      → IsStoreOver K contents image name text file file old old (Err fault)
+  store-not-loaded file old keep.ImageSize told =
+      is-refused image file file old old _ (IsStoredFault K image name text file file old old) keep.ImageSize refl
+      (told, (refl, refl)) (refl, refl)
+  store-not-loaded file old keep.NoMemory told =
+      is-stopped image file file old old _ (IsStoredFault K image name text file file old old) keep.NoMemory refl told
+      (told, (refl, refl))
+  store-not-loaded file old (keep.Layout fault) told = absurd told
+  store-not-loaded file old keep.NoFile told = absurd told
+  store-not-loaded file old keep.FileExists told = absurd told
+  store-not-loaded file old (keep.BadLine line) told = absurd told
+  store-not-loaded file old keep.DiskFull told = absurd told
+  store-not-loaded file old keep.File told = absurd told
+  store-not-loaded file old keep.Device told = absurd told
+  store-not-loaded file old keep.Geos told = absurd told
+  store-not-loaded file old keep.Format told = absurd told
+
+module _ {F : Type 0} {G : Ghosts F} (start : KeptMirror F G) (sound : is_broken start → ⊥) (untaken : start.taken.n ≡ 0)
+    (b : KeptMirror F G)
+    (image name text : List ℕ) where
+  abbrev run_of_file : IsStoreRun mirror image name text start b
+      → IsStoringRun (in_run G.keeps start.file) name text (file_disk start) (file_disk b)
+  run_of_file x = record {
+    layout = x.layout;
+    clean = x.clean;
+    number = x.number;
+    file = x.file;
+    first = x.first;
+    all = x.all;
+    are_lines = x.are_lines;
+    held = held_by_file start.file start b _ x.moments.held;
+    whole = λ few h. held_by_file start.file start b _ (x.whole few h);
+  }
+
+  module _ {W : Type 0} (contents : W → Option (List ℕ)) (size : length image ≡ 174848)
+      (holds : mirror_image start ≡ sectors_in image)
+      (old new : W) where
+    abbrev Stored : Type 0
+    Stored = IsStoredFile G.keeps contents image name text start.file b.file old new
+
+    abbrev Fault : KeepFault → Type 0
+    Fault = IsStoredFault G.keeps image name text start.file b.file old new
+
+    -- the file didn't fail
+    whole-ended : (is_broken b → ⊥) → (r : Result Unit KeepFault)
+        → OnOk r (IsStoreDone mirror contents image name text start b old new)
+        → IfErr r (IsStoreFault mirror image name text start b old new)
+        → IsStoreOver G.keeps contents image name text start.file b.file old new r
+    whole-ended whole (Ok x) ok err = is-done image start.file b.file old new Stored Fault size (
+      whole_file start sound untaken b ok.disk.run.moments.held whole,
+      taken_up start sound untaken b image size holds (record {
+        run = run_of_file ok.disk.run;
+        fits = ok.disk.fits;
+        clean = ok.disk.clean;
+        has = ok.disk.has;
+        quiet = λ so. record {
+          image = (ok.disk.quiet so).image;
+          held = held_by_file start.file start b _ (ok.disk.quiet so).held;
+          writes = ap G.keeps.writes (same_file start sound untaken b (ok.disk.quiet so) whole);
+        };
+        printed = ok.printed;
+      }),
+    )
+    whole-ended whole (Err keep.Geos) ok err = absurd err
+    whole-ended whole (Err keep.Format) ok err = absurd err
+    whole-ended whole (Err keep.ImageSize) ok err = absurd (err.0 size)
+    whole-ended whole (Err keep.NoMemory) ok err = is-stopped image start.file b.file old new Stored Fault keep.NoMemory
+        refl size
+        (size, (ap (λ (m : KeptMirror F G). m.file) err.1, err.2))
+    whole-ended whole (Err (keep.Layout fault)) ok err =
+        let same : IsUntouched start.file b.file old new = (ap (λ (m : KeptMirror F G). m.file) err.2, err.3) in
+        is-refused image start.file b.file old new Stored Fault (keep.Layout fault) refl (size, err.1, same) same
+    whole-ended whole (Err keep.NoFile) ok err =
+        let x = refused_of_file start sound untaken b image size holds old new _
+        (λ l. (k : ℕ) (f : File) → slice_get l.files k ≡ Some f → ¬ (IsNamed name f)) (λ l w. w) whole err in
+        is-refused image start.file b.file old new Stored Fault keep.NoFile refl x x.untouched
+    whole-ended whole (Err (keep.BadLine line)) ok err =
+        let x = refused_of_file start sound untaken b image size holds old new _ (HasBadLine name text line) (λ l w. w)
+        whole err in
+        is-refused image start.file b.file old new Stored Fault (keep.BadLine line) refl x x.untouched
+    whole-ended whole (Err keep.DiskFull) ok err =
+        let x = refused_of_file start sound untaken b image size holds old new _
+        (HasNoStoreRoom (sectors_in image) name text)
+        (λ l w. subst (λ img. HasNoStoreRoom img name text l) holds w) whole err in
+        is-refused image start.file b.file old new Stored Fault keep.DiskFull refl x x.untouched
+    whole-ended whole (Err keep.File) ok err = is-stopped image start.file b.file old new Stored Fault keep.File refl
+        size (
+          whole_file start sound untaken b err.0.moments.held whole,
+          taken_up start sound untaken b image size holds (run_of_file err.0, err.1),
+        )
+    whole-ended whole (Err keep.Device) ok err = absurd (not_failed start sound untaken b whole err.0)
+    whole-ended whole (Err keep.FileExists) ok err = absurd err
+
+    abbrev Kept : Type 0
+    Kept = IsKeptAsItWas G.keeps image start.file b.file old new
+        ⊎ IsTakenUp G.keeps image start.file b.file (λ disk left. IsStoringRun (in_run G.keeps start.file) name text
+        disk left)
+
+    kept-left : (Why : Layout → Type 0) → is_broken b → IsLeft mirror image start b old new Why
+        → FileFailed G.keeps start.file b.file × Kept
+    kept-left Why broken x = (
+      broken_file start sound untaken b x.quiet.held broken,
+      inl (taken_up start sound untaken b image size holds (kept_of_file start sound untaken b x.quiet), x.unprinted),
+    )
+
+    kept-run : is_broken b → IsStoreRun mirror image name text start b → FileFailed G.keeps start.file b.file × Kept
+    kept-run broken x = (
+      broken_file start sound untaken b x.moments.held broken,
+      inr (taken_up start sound untaken b image size holds (run_of_file x)),
+    )
+
+    -- whatever a run over a mirror that broke ended with
+    run-of : is_broken b → (r : Result Unit KeepFault)
+        → OnOk r (IsStoreDone mirror contents image name text start b old new)
+        → IfErr r (IsStoreFault mirror image name text start b old new) → FileFailed G.keeps start.file b.file × Kept
+    run-of broken (Ok x) ok err = kept-run broken ok.disk.run
+    run-of broken (Err keep.ImageSize) ok err = absurd (err.0 size)
+    run-of broken (Err keep.NoMemory) ok err = absurd (sound (subst (λ (m : KeptMirror F G). is_broken m) err.1 broken))
+    run-of broken (Err (keep.Layout fault)) ok err =
+        absurd (sound (subst (λ (m : KeptMirror F G). is_broken m) err.2 broken))
+    run-of broken (Err keep.NoFile) ok err = kept-left _ broken err
+    run-of broken (Err (keep.BadLine line)) ok err = kept-left _ broken err
+    run-of broken (Err keep.DiskFull) ok err = kept-left _ broken err
+    run-of broken (Err keep.File) ok err = kept-run broken err.0
+    run-of broken (Err keep.Device) ok err = ⊎_elim (λ x. kept-left _ broken x) (λ x. kept-run broken x) err.1
+    run-of broken (Err keep.FileExists) ok err = absurd err
+    run-of broken (Err keep.Geos) ok err = absurd err
+    run-of broken (Err keep.Format) ok err = absurd err
+
+    -- the file failed
+    broken-ended : is_broken b → (r : Result Unit KeepFault)
+        → OnOk r (IsStoreDone mirror contents image name text start b old new)
+        → IfErr r (IsStoreFault mirror image name text start b old new)
+        → IsStoreOver G.keeps contents image name text start.file b.file old new (Err keep.Device)
+    broken-ended broken r ok err = is-stopped image start.file b.file old new Stored Fault keep.Device refl size
+        (run-of broken r ok err)
+
+    -- the file that is handed back, and what is told of it
+    pub store-ended : (file : F) (r : Result Unit KeepFault) (out : F × Result Unit KeepFault) → start.file ≡ file
+        → out.0 ≡ b.file
+        → OnOk r (IsStoreDone mirror contents image name text start b old new)
+        → IfErr r (IsStoreFault mirror image name text start b old new)
+        → (is_broken b × (out.1 ≡ Err keep.Device)) ⊎ ((is_broken b → ⊥) × (out.1 ≡ r))
+        → IsStoreOver G.keeps contents image name text file out.0 old new out.1
+    store-ended file r out first after ok err end =
+        handed-back (λ f a e. IsStoreOver G.keeps contents image name text f a old new e) start b file r out first after
+        (λ broken. broken-ended broken r ok err) (λ whole. whole-ended whole r ok err) end

@@ -1,0 +1,88 @@
+-- What comes of what is asked for of a file, from what its command says.
+use Rattle.std.proofs.Common.{◌≡◌, ◌≢◌, ℕ, List, Option, Result, Ok, Err, arith, inl, inr, length, refl}
+use Rattle.std.specs.Prelude.{IfErr, OnOk}
+use Rattle.keeper_commands.specs.Bytes.{AreBytesPrinted, IsBytesFault}
+use Rattle.keeper_commands.specs.Records.{AreRecordsPrinted, IsRecordsFault}
+use Rattle.keeper_commands.specs.declared.faults.KeepFault.{KeepFault}
+use Rattle.keeper_commands.specs.declared.faults.KeepFault.TheVariants as keep
+use Rattle.ledger_jobs.specs.Keeping.{IsTaken, IsTakingFault, IsTakingRun, keep_end}
+use Rattle.ledger_jobs.specs.declared.jobs.Taking.{Taking}
+use Rattle.ledger_jobs.specs.declared.jobs.Taking.TheVariants as takings
+
+module _ {W : Type 0} (contents : W → Option (List ℕ)) (what : Taking) (image name : List ℕ) (old new : W) where
+  -- it was printed
+  taken : (r : Result Unit KeepFault) → keep_end r ≡ 0 → length image ≡ 174848
+      → IsTaken contents what image name old new
+      → IfErr r (IsTakingFault what image name) → IsTakingRun contents what image name old new r
+  taken r zero' size is told = record {
+    done = λ _. is;
+    fault = told;
+    size = λ other. absurd (other size);
+    untouched = λ one. absurd (omega (arith, one, zero'));
+    statuses = inl zero';
+  }
+
+  -- the image refuses it
+  refused : (fault : KeepFault) → keep_end (Err fault) ≡ 1 → new ≡ old → IsTakingFault what image name fault
+      → IsTakingRun contents what image name old new (Err fault)
+  refused fault one same told = record {
+    done = λ zero'. absurd (omega (arith, one, zero'));
+    fault = told;
+    size = λ _. one;
+    untouched = λ _. same;
+    statuses = inr (inl one);
+  }
+
+  -- the output failed, or there was no memory
+  stopped : (fault : KeepFault) → keep_end (Err fault) ≡ 3 → length image ≡ 174848 → IsTakingFault what image name fault
+      → IsTakingRun contents what image name old new (Err fault)
+  stopped fault three size told = record {
+    done = λ zero'. absurd (omega (arith, three, zero'));
+    fault = told;
+    size = λ other. absurd (other size);
+    untouched = λ one. absurd (omega (arith, three, one));
+    statuses = inr (inr three);
+  }
+
+module _ {W : Type 0} (contents : W → Option (List ℕ)) (image name : List ℕ) (old new : W) where
+  pub records-run : (r : Result Unit KeepFault) → OnOk r (AreRecordsPrinted contents image name old new)
+      → IfErr r (IsRecordsFault image name)
+      → IfErr r (λ fault. fault ≢ keep.File → new ≡ old) → IsTakingRun contents takings.Records image name old new r
+  records-run (Ok x) ok err untouched = taken contents takings.Records image name old new (Ok x) refl ok.is_file.size ok
+      tt
+  records-run (Err keep.ImageSize) ok err untouched = refused contents takings.Records image name old new _ refl
+      (untouched (λ e. cc)) err
+  records-run (Err (keep.Layout fault)) ok err untouched = refused contents takings.Records image name old new _ refl
+      (untouched (λ e. cc)) err
+  records-run (Err keep.NoFile) ok err untouched = refused contents takings.Records image name old new _ refl
+      (untouched (λ e. cc)) err
+  records-run (Err keep.File) ok err untouched = stopped contents takings.Records image name old new _ refl err.1.size
+      err
+  records-run (Err keep.NoMemory) ok err untouched = stopped contents takings.Records image name old new _ refl err err
+  records-run (Err keep.Device) ok err untouched = absurd err
+  records-run (Err keep.FileExists) ok err untouched = absurd err
+  records-run (Err (keep.BadLine line)) ok err untouched = absurd err
+  records-run (Err keep.DiskFull) ok err untouched = absurd err
+  records-run (Err keep.Geos) ok err untouched = absurd err
+  records-run (Err keep.Format) ok err untouched = absurd err
+
+  pub bytes-run : (r : Result Unit KeepFault) → OnOk r (AreBytesPrinted contents image name old new)
+      → IfErr r (IsBytesFault image name)
+      → IfErr r (λ fault. fault ≢ keep.File → new ≡ old) → IsTakingRun contents takings.Bytes image name old new r
+  bytes-run (Ok x) ok err untouched = taken contents takings.Bytes image name old new (Ok x) refl
+      ok.file.entry.has_entries.size ok tt
+  bytes-run (Err keep.ImageSize) ok err untouched = refused contents takings.Bytes image name old new _ refl
+      (untouched (λ e. cc)) err
+  bytes-run (Err (keep.Layout fault)) ok err untouched = refused contents takings.Bytes image name old new _ refl
+      (untouched (λ e. cc)) err
+  bytes-run (Err keep.NoFile) ok err untouched = refused contents takings.Bytes image name old new _ refl
+      (untouched (λ e. cc)) err
+  bytes-run (Err keep.File) ok err untouched = stopped contents takings.Bytes image name old new _ refl
+      err.entry.has_entries.size err
+  bytes-run (Err keep.NoMemory) ok err untouched = stopped contents takings.Bytes image name old new _ refl err err
+  bytes-run (Err keep.Device) ok err untouched = absurd err
+  bytes-run (Err keep.FileExists) ok err untouched = absurd err
+  bytes-run (Err (keep.BadLine line)) ok err untouched = absurd err
+  bytes-run (Err keep.DiskFull) ok err untouched = absurd err
+  bytes-run (Err keep.Geos) ok err untouched = absurd err
+  bytes-run (Err keep.Format) ok err untouched = absurd err

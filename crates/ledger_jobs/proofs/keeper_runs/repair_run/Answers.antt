@@ -1,0 +1,30 @@
+-- How the file was repaired is told by how the repair over its mirror ended, and whether the file failed.
+use Rattle.std.proofs.Common.{◌≡◌, ◌∙◌, ap, ap₂}
+use Rattle.d64_image.specs.Keeps.{kept_or}
+use Rattle.d64_image.specs.Memory.{disk_image, sectors_in}
+use Rattle.d64_image.specs.KeptMirrors.{mirror_image}
+use Rattle.ledger_jobs.proofs.Repaired.{file-ended}
+use Rattle.ledger_jobs.proofs.RepairEnds.{not-loaded}
+use Rattle.ledger_jobs.proofs.keeper_runs.repair_run.Goals as goal
+
+pub returns-in-Err : goal.returns-in-Err
+returns-in-Err g c = record {
+  run = not-loaded c.args.free g.F.SectorFile.keeps g.W.Write.contents c.args.image.now c.args.file
+      c.args.out.now c.in-Err.fault c.in-Err.ensures.err;
+}
+
+pub returns : goal.returns
+returns g c =
+    let start = c.new-mirror.result in
+    let image = c.args.image.now in
+    let loaded = c.in-Ok.ensures.ok in
+    let holds : mirror_image start ≡ sectors_in image =
+    ap₂ (λ f d. kept_or (g.F.SectorFile.keeps.kept f) d) c.new-mirror.ensures.file
+    (ap disk_image c.new-mirror.ensures.disk ∙ loaded.1) ∙ c.requires.agrees in
+    record {
+      run = file-ended start c.new-mirror.ensures.whole c.new-mirror.ensures.untaken c.repair_image-ended.new.disk
+          c.args.free g.W.Write.contents image loaded.0 holds
+          c.args.out.now c.repair_image-ended.new.out c.args.file c.repair_image-ended.result c.file_of.result
+          c.new-mirror.ensures.file
+          c.file_of.ensures.file c.repair_image-ended.ensures.ok c.repair_image-ended.ensures.err c.file_of.ensures.end;
+    }

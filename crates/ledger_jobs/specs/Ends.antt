@@ -1,0 +1,117 @@
+-- How a job ends, and the program's exit status then. All of it is our own.
+use Rattle.std.specs.Prelude.{ℕ, Bool, true, false, if◌then◌else◌, List, [], ◌++◌, Option, Some, None}
+use Rattle.std.specs.Prelude.{Result, Ok, Err, codes, decimal, nat_eq}
+use Rattle.std.specs.IoError.{error_kind}
+use Rattle.std.specs.declared.fs.locks.TryLockError.{TryLockError}
+use Rattle.std.specs.declared.fs.locks.TryLockError.TheVariants as locks
+use Rattle.std.specs.declared.io.Error.{Error}
+use Rattle.disk_layout.specs.Texts.{place_text}
+use Rattle.disk_layout.specs.declared.faults.Fault.{Fault}
+use Rattle.disk_pictures.specs.Faults.{picture_status, picture_text}
+use Rattle.disk_pictures.specs.declared.faults.PictureFault.{PictureFault}
+use Rattle.keeper_commands.specs.Faults.{keep_status, keep_text}
+use Rattle.keeper_commands.specs.declared.faults.KeepFault.{KeepFault}
+use Rattle.shop_commands.specs.Faults.{io_fault, run_status}
+use Rattle.shop_commands.specs.declared.dry_run.DryFault.{DryFault}
+use Rattle.shop_commands.specs.declared.dry_run.DryFault.TheVariants as dry
+use Rattle.shop_commands.specs.declared.faults.RunFault.{RunFault}
+use Rattle.shop_commands.specs.declared.faults.RunFault.TheVariants as run
+use Rattle.shop_commands.specs.Texts.{refusal_text as run_text}
+use Rattle.ledger_jobs.specs.declared.refusals.Refusal.{Refusal}
+use Rattle.ledger_jobs.specs.declared.refusals.Refusal.TheVariants as refusals
+
+-- the exit status of a job that isn't done
+abbrev pub refusal_status : Refusal → ℕ
+refusal_status (refusals.Run fault) = run_status fault
+refusal_status (refusals.Keep fault) = keep_status fault
+refusal_status (refusals.Draw fault) = picture_status fault
+refusal_status refusals.InUse = 3
+refusal_status (refusals.Kept n) = 1
+refusal_status refusals.Exists = 1
+refusal_status (refusals.Short p) = 1
+
+-- what is told of it
+abbrev pub refusal_text : Refusal → List ℕ
+refusal_text (refusals.Run fault) = run_text fault
+refusal_text (refusals.Keep fault) = keep_text fault
+refusal_text (refusals.Draw fault) = picture_text fault
+refusal_text refusals.InUse = codes "IN USE"
+refusal_text (refusals.Kept n) = codes "KEPT " ++ decimal n
+refusal_text refusals.Exists = codes "FILE EXISTS"
+refusal_text (refusals.Short p) = codes "SHORT " ++ place_text p
+
+-- it is told on standard error: all but what the output has told
+abbrev pub is_told : Refusal → Bool
+is_told (refusals.Run fault) = true
+is_told (refusals.Keep fault) = true
+is_told (refusals.Draw fault) = true
+is_told refusals.InUse = true
+is_told (refusals.Kept n) = false
+is_told refusals.Exists = true
+is_told (refusals.Short p) = true
+
+-- the line in which it is told
+abbrev pub refusal_line : Refusal → List ℕ
+refusal_line refusal = if is_told refusal then refusal_text refusal ++ codes "\n" else []
+
+-- what is told where a file isn't locked
+abbrev pub lock_refusal : TryLockError → Refusal
+lock_refusal locks.WouldBlock = refusals.InUse
+lock_refusal (locks.Error error) = refusals.Run (io_fault (error_kind error))
+
+-- a job is done, with the fault of the layout that it printed, where it printed one; or it isn't, for this reason
+abbrev pub JobEnd : Type 0
+JobEnd = Result (Option Fault) Refusal
+
+-- the exit status: 1 also where a fault was printed
+abbrev pub end_status : JobEnd → ℕ
+end_status (Ok None) = 0
+end_status (Ok (Some _)) = 1
+end_status (Err refusal) = refusal_status refusal
+
+-- a run over the bytes of a job's files is done, with the fault of the layout that it printed, where it printed one;
+-- or it isn't, for a fault
+abbrev pub Ended : Type 0
+Ended = Result (Option Fault) RunFault
+
+-- the exit status: 1 also where a fault was printed
+abbrev pub exit_status : Ended → ℕ
+exit_status (Ok None) = 0
+exit_status (Ok (Some _)) = 1
+exit_status (Err fault) = run_status fault
+
+-- the end of a job that prints no fault
+abbrev pub end_of : Result Unit RunFault → Ended
+end_of (Ok _) = Ok None
+end_of (Err fault) = Err fault
+
+-- the end of a run without a disk
+abbrev pub dry_end : Result Unit DryFault → Ended
+dry_end (Ok _) = Ok None
+dry_end (Err (dry.BadLine line)) = Err (run.BadLine line)
+dry_end (Err dry.Output) = Err run.File
+
+-- what came of asking the system, as it is told
+abbrev pub told_of : {T : Type 0} → Result T Error → Result T Refusal
+told_of (Ok it) = Ok it
+told_of (Err error) = Err (refusals.Run (io_fault (error_kind error)))
+
+-- what came of a run, as a job's end
+abbrev pub as_job : Ended → JobEnd
+as_job (Ok printed) = Ok printed
+as_job (Err fault) = Err (refusals.Run fault)
+
+-- what came of a run over the files of an image, as a job's end
+abbrev pub as_kept : Result Unit KeepFault → JobEnd
+as_kept (Ok _) = Ok None
+as_kept (Err fault) = Err (refusals.Keep fault)
+
+-- what came of a repair, as a job's end: so many sectors are left, or it wasn't done
+abbrev pub as_repaired : Result ℕ KeepFault → JobEnd
+as_repaired (Ok n) = if nat_eq n 0 then Ok None else Err (refusals.Kept n)
+as_repaired (Err fault) = Err (refusals.Keep fault)
+
+-- what came of a drawing, as a job's end
+abbrev pub as_drawn : Result (Option Fault) PictureFault → JobEnd
+as_drawn (Ok printed) = Ok printed
+as_drawn (Err fault) = Err (refusals.Draw fault)

@@ -1,0 +1,22 @@
+-- What holds of each job. Our own.
+use Rattle.std.specs.Prelude.{◌≤◌, ⊤, ℕ, List, take}
+use Rattle.keeper_commands.specs.Makes.{IsNewName}
+use Rattle.ledger_jobs.specs.Names.{name_bytes}
+use Rattle.ledger_jobs.specs.declared.jobs.Job.{Job}
+use Rattle.ledger_jobs.specs.declared.jobs.Job.TheVariants as jobs
+use Rattle.ledger_jobs.specs.declared.jobs.Reading.{Reading}
+use Rattle.ledger_jobs.specs.declared.jobs.Reading.TheVariants as readings
+use Rattle.rel_records.specs.File.{IsLength}
+
+-- the numbers of a job are in their ranges: tills 1 to 64, and of a file that is made the bytes of a record 1 to 254;
+-- and a new file can have its name
+abbrev pub IsFit : Job → Type 0
+IsFit (jobs.Format image tills) = (1 ≤ tills) × (tills ≤ 64)
+IsFit (jobs.FormatNew image tills) = (1 ≤ tills) × (tills ≤ 64)
+IsFit (jobs.Make image name length loss) = IsNewName (name_bytes name) × IsLength length
+IsFit _ = ⊤
+
+-- what is read of a file: a script whole, and of an image one byte more than a disk has at most
+abbrev pub needed : Reading → List ℕ → List ℕ
+needed readings.Dry all = all
+needed _ all = take 174849 all

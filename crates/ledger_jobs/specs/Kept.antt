@@ -1,0 +1,161 @@
+-- What comes of a relative file that is made on the disk of an image, or of records that are stored in one, over the
+-- image's bytes and its file. All of it is our own.
+use Rattle.std.specs.Prelude.{◌≡◌, ◌≢◌, ◌⊎◌, ℕ, List, Option, Result, Some, IfErr, length, slice_get}
+use Rattle.std.specs.Io.KnownBytes.{Appends}
+use Rattle.d64_image.specs.FileDisks.{in_run}
+use Rattle.d64_image.specs.History.{Changes, HeldOnly, History, WritesNothing}
+use Rattle.d64_image.specs.Keeps.{FileFailed, Keeps}
+use Rattle.d64_image.specs.Memory.{sectors_in}
+use Rattle.disk_layout.specs.Clean.{IsClean, IsCleanLayout}
+use Rattle.disk_layout.specs.Fault.{HoldsOfClean, nowhere}
+use Rattle.disk_layout.specs.Layout.{File, Layout, record_length}
+use Rattle.disk_layout.specs.Listed.{HasStock, NeverGrows}
+use Rattle.disk_layout.specs.Records.{records}
+use Rattle.disk_layout.specs.Rest.{IsFirst, IsNamed}
+use Rattle.disk_layout.specs.Whole.{HoldsWhole}
+use Rattle.disk_layout.specs.declared.faults.Fault.{Fault}
+use Rattle.keeper_commands.specs.Makes.{IsMadeDisk, IsMakeDone, IsMakeRun}
+use Rattle.keeper_commands.specs.Stores.{AreLinesOf, AreSo, NewRecord, changed_text, greatest, last_ones, stored}
+use Rattle.keeper_commands.specs.Storing.{HasBadLine, HasNoStoreRoom, IsStoring}
+use Rattle.keeper_commands.specs.declared.faults.KeepFault.{KeepFault}
+use Rattle.keeper_commands.specs.declared.faults.KeepFault.TheVariants as keep
+use Rattle.shop_commands.specs.Plays.{IsTakenUp, IsUnfailed, IsUntouched}
+use Rattle.ledger_jobs.specs.Keeping.{keep_end}
+use Rattle.rel_records.specs.Others.{HasRecords}
+use Rattle.rel_records.specs.Written.{grown_to}
+use Rattle.rel_records.specs.creation.Made.{HasNoRoom, IsTakenName}
+use Rattle.rel_records.specs.growth.Growth.{IsFull, records_had}
+use Rattle.script_lines.specs.Lines.{lines}
+
+-- What changes the disk of an image, over the file that was handed in and is handed back, ended so.
+pub record IsKeptOver {F W : Type 0} (image : List ℕ) (file new_file : F) (old new : W) (Done : Type 0)
+    (Fault : KeepFault → Type 0) (ended : Result Unit KeepFault) : Type 0 where
+  -- 0: it is done, and that was told
+  pub done : keep_end ended ≡ 0 → Done
+  -- else what is told is so
+  pub fault : IfErr ended Fault
+  -- 1: the image, or what was asked for, is in the way; neither file nor output was touched
+  pub size : length image ≢ 174848 → keep_end ended ≡ 1
+  pub untouched : keep_end ended ≡ 1 → IsUntouched file new_file old new
+  -- 3: the file or the output failed, or there was no memory
+  pub statuses : (keep_end ended ≡ 0) ⊎ ((keep_end ended ≡ 1) ⊎ (keep_end ended ≡ 3))
+
+-- The image is clean, this holds of its layout, and neither file nor output was touched.
+pub record IsRefused {F W : Type 0} (image : List ℕ) (file after : F) (old new : W) (Why : Layout → Type 0) : Type 0
+  where
+    pub size : length image ≡ 174848
+    pub layout : Layout
+    pub clean : IsCleanLayout (sectors_in image) layout
+    pub why : Why layout
+    pub untouched : IsUntouched file after old new
+
+-- The image isn't clean, for this fault, and neither file nor output was touched.
+abbrev pub IsUnclean : {F W : Type 0} → (image : List ℕ) → Fault → F → F → W → W → Type 0
+IsUnclean image fault file after old new =
+    (length image ≡ 174848) × HoldsOfClean nowhere (sectors_in image) fault × IsUntouched file after old new
+
+-- a relative file was made on the disk of the file, and that was printed
+abbrev pub IsMadeFile : {F W : Type 0} → Keeps F → (W → Option (List ℕ)) → (image name : List ℕ) → ℕ → F → F → W → W
+    → Type 0
+IsMadeFile K contents image name L file after old new =
+    IsUnfailed K file after
+    × IsTakenUp K image file after (λ disk left. IsMakeDone (in_run K file) contents image name L disk left old new)
+
+-- Why no file is made, or that not told: what the image holds is in the way, and then nothing was done; or the output
+-- failed, and then it is made; or the file did, and then it has the files of before, or those and the new one, and
+-- nothing was printed.
+abbrev pub IsMadeFault : {F W : Type 0} → Keeps F → (image name : List ℕ) → ℕ → F → F → W → W → KeepFault → Type 0
+IsMadeFault K image name L file after old new keep.ImageSize = (length image ≢ 174848) × IsUntouched file after old new
+IsMadeFault K image name L file after old new keep.NoMemory = (length image ≡ 174848) × IsUntouched file after old new
+IsMadeFault K image name L file after old new (keep.Layout fault) = IsUnclean image fault file after old new
+IsMadeFault K image name L file after old new keep.FileExists =
+    IsRefused image file after old new (λ l. IsTakenName l name)
+IsMadeFault K image name L file after old new keep.DiskFull =
+    IsRefused image file after old new (λ l. HasNoRoom (sectors_in image) l × ¬ (IsTakenName l name))
+IsMadeFault K image name L file after old new keep.File =
+    IsUnfailed K file after
+    × IsTakenUp K image file after (λ disk left. IsMadeDisk (in_run K file) image name L disk left)
+IsMadeFault K image name L file after old new keep.Device =
+    FileFailed K file after
+    × IsTakenUp K image file after (λ disk left. IsMakeRun (in_run K file) image name L disk left) × (new ≡ old)
+IsMadeFault K image name L file after old new _ = ⊥
+
+-- the making of a relative file on the disk of an image, over its file, ended so
+abbrev pub IsMakeOver : {F W : Type 0} → Keeps F → (W → Option (List ℕ)) → (image name : List ℕ) → ℕ → F → F → W → W
+    → Result Unit KeepFault → Type 0
+IsMakeOver K contents image name L file after old new ended =
+    IsKeptOver image file after old new (IsMadeFile K contents image name L file after old new)
+    (IsMadeFault K image name L file after old new) ended
+
+-- The disk was clean, `file` is the first closed relative file of the name, the text's lines are of these records,
+-- which it has or can have, and whatever was held on the way is sound, with a beginning of those that count.
+pub record IsStoringRun {D : Type 0} (S : History D) (name text : List ℕ) (old new : D) : Type 0 where
+  pub layout : Layout
+  pub clean : IsCleanLayout (S.image old) layout
+  -- its number among the entries
+  pub number : ℕ
+  pub file : File
+  pub first : IsFirst layout name number file
+  pub all : List NewRecord
+  pub are_lines : AreLinesOf (record_length file.slot) (records_had file) (lines text) all
+  pub held : HeldOnly S old new (IsStoring (S.image old) layout number file all)
+  -- files that are whole are so in each image held; only if a shop's REQUESTS is to grow nothing is said
+  pub whole : (NeverGrows (HasStock layout) file.slot → greatest all ≤ records_had file) → HoldsWhole S old new
+
+-- And there was room, all of them are stored, and the disk is clean; the lines of those that count, of each record its
+-- last, and were otherwise, and nothing else, were printed, in order.
+pub record IsStoringDone {D W : Type 0} (S : History D) (contents : W → Option (List ℕ)) (name text : List ℕ)
+    (old new : D) (before after : W) : Type 0 where
+  pub run : IsStoringRun S name text old new
+  pub fits : ¬ (IsFull (S.image old) run.file (greatest run.all))
+  pub clean : IsClean (S.image new)
+  pub has : HasRecords (S.image old) (S.image new) run.layout run.number
+      (stored (record_length run.file.slot) run.all (grown_to (S.image old) run.file (greatest run.all)))
+  -- where those that count were so already no sector was written
+  pub quiet : AreSo (record_length run.file.slot) (records (S.image old) run.file) (last_ones run.all)
+      → WritesNothing S old new
+  pub printed : Appends (contents before) (contents after)
+      (changed_text (record_length run.file.slot) (last_ones run.all)
+      (grown_to (S.image old) run.file (greatest run.all)))
+
+-- the records were stored on the disk of the file, and what was otherwise was printed
+abbrev pub IsStoredFile : {F W : Type 0} → Keeps F → (W → Option (List ℕ)) → (image name text : List ℕ) → F → F → W → W
+    → Type 0
+IsStoredFile K contents image name text file after old new =
+    IsUnfailed K file after
+    × IsTakenUp K image file after (λ disk left. IsStoringDone (in_run K file) contents name text disk left old new)
+
+-- What was kept is kept, no sector was written, and nothing was printed.
+abbrev pub IsKeptAsItWas : {F W : Type 0} → Keeps F → (image : List ℕ) → F → F → W → W → Type 0
+IsKeptAsItWas K image file after old new =
+    IsTakenUp K image file after (λ disk left. Changes (in_run K file) disk left 0 (λ c. c ≡ disk.image)) × (new ≡ old)
+
+-- Why records aren't stored, or that not told: what the image or the text holds is in the way, and then nothing was
+-- done; or the output or the file failed, and then what was stored until then stays.
+abbrev pub IsStoredFault : {F W : Type 0} → Keeps F → (image name text : List ℕ) → F → F → W → W → KeepFault → Type 0
+IsStoredFault K image name text file after old new keep.ImageSize = (length image ≢ 174848)
+    × IsUntouched file after old new
+IsStoredFault K image name text file after old new keep.NoMemory = (length image ≡ 174848)
+    × IsUntouched file after old new
+IsStoredFault K image name text file after old new (keep.Layout fault) = IsUnclean image fault file after old new
+IsStoredFault K image name text file after old new keep.NoFile = IsRefused image file after old new
+    (λ l. (k : ℕ) (f : File) → slice_get l.files k ≡ Some f → ¬ (IsNamed name f))
+IsStoredFault K image name text file after old new (keep.BadLine k) =
+    IsRefused image file after old new (HasBadLine name text k)
+IsStoredFault K image name text file after old new keep.DiskFull =
+    IsRefused image file after old new (HasNoStoreRoom (sectors_in image) name text)
+IsStoredFault K image name text file after old new keep.File =
+    IsUnfailed K file after
+    × IsTakenUp K image file after (λ disk left. IsStoringRun (in_run K file) name text disk left × IsClean left.image)
+IsStoredFault K image name text file after old new keep.Device =
+    FileFailed K file after
+    × (IsKeptAsItWas K image file after old new
+    ⊎ IsTakenUp K image file after (λ disk left. IsStoringRun (in_run K file) name text disk left))
+IsStoredFault K image name text file after old new _ = ⊥
+
+-- the storing of records on the disk of an image, over its file, ended so
+abbrev pub IsStoreOver : {F W : Type 0} → Keeps F → (W → Option (List ℕ)) → (image name text : List ℕ) → F → F → W → W
+    → Result Unit KeepFault → Type 0
+IsStoreOver K contents image name text file after old new ended =
+    IsKeptOver image file after old new (IsStoredFile K contents image name text file after old new)
+    (IsStoredFault K image name text file after old new) ended

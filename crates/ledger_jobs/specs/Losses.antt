@@ -1,0 +1,71 @@
+-- What becomes of a disk that has lost a part of a file. All of it is our own.
+use Rattle.std.specs.Prelude.{◌≡◌, ◌⊎◌, List, ℕ, Option, Some, None, Result, Ok, Err, length}
+use Rattle.d64_image.specs.declared.place.Place.{Place}
+use Rattle.cut_files.specs.Told.{IsCutShort, IsToldOfImage}
+use Rattle.keeper_commands.specs.declared.faults.KeepFault.{KeepFault}
+use Rattle.shop_commands.specs.declared.faults.RunFault.TheVariants as run
+use Rattle.ledger_jobs.specs.Ends.{JobEnd, as_job, as_kept, as_repaired, Ended}
+use Rattle.ledger_jobs.specs.Keeping.{IsTaken, IsTakingRun}
+use Rattle.ledger_jobs.specs.declared.jobs.Loss.{Loss}
+use Rattle.ledger_jobs.specs.declared.jobs.Loss.TheVariants as losses
+use Rattle.ledger_jobs.specs.declared.jobs.Taking.{Taking}
+use Rattle.ledger_jobs.specs.declared.refusals.Refusal.{Refusal}
+use Rattle.ledger_jobs.specs.declared.refusals.Refusal.TheVariants as refusals
+
+-- what is seen of an image, where it has the size of a disk
+abbrev pub IsSeen : (image : List ℕ) → Option (List ℕ) → Option Place → Type 0
+IsSeen image name (Some p) = (length image ≡ 174848) × IsToldOfImage image name (Some p)
+IsSeen image name None = length image ≡ 174848 → IsToldOfImage image name None
+
+-- Why a job isn't begun that accepts no loss: a file of the image is cut short, and its chain ends there; or there was
+-- no memory to see.
+abbrev pub IsLossFault : (image : List ℕ) → Refusal → Type 0
+IsLossFault image refusal = ((p : Place) × (refusal ≡ refusals.Short p) × IsCutShort image p)
+    ⊎ (refusal ≡ refusals.Run run.NoMemory)
+
+-- no file of the image is cut short, or what is lost may be lost
+abbrev pub MayBeLost : (image : List ℕ) → Loss → Type 0
+MayBeLost image loss = (loss ≡ losses.Accepted) ⊎ ((p : Place) → ¬ (IsCutShort image p))
+
+-- whether a job may change the image: a refusal, or none
+abbrev pub IsJudged : (image : List ℕ) → Loss → Option Refusal → Type 0
+IsJudged image loss None = MayBeLost image loss
+IsJudged image loss (Some refusal) = (loss ≡ losses.Refused) × IsLossFault image refusal
+
+-- A job that may change the image ended so: it was refused for what is lost, and what it was handed is untouched; or a
+-- run over the image ended so.
+abbrev pub IsGuarded : (image : List ℕ) → Loss → (Untouched : Type 0) → (IsRun : JobEnd → Type 0) → JobEnd → Type 0
+IsGuarded image loss Untouched IsRun end =
+    ((refusal : Refusal) × (end ≡ Err refusal) × (loss ≡ losses.Refused) × IsLossFault image refusal × Untouched)
+    ⊎ (MayBeLost image loss × IsRun end)
+
+-- a run that ended so is told as this end
+abbrev pub IsEndOf : (Ended → Type 0) → JobEnd → Type 0
+IsEndOf IsRun end = (ended : Ended) × (end ≡ as_job ended) × IsRun ended
+
+-- a run over the files of an image that ended so is told as this end
+abbrev pub IsKeptEndOf : (Result Unit KeepFault → Type 0) → JobEnd → Type 0
+IsKeptEndOf IsRun end = (ended : Result Unit KeepFault) × (end ≡ as_kept ended) × IsRun ended
+
+-- a repair that ended so is told as this end
+abbrev pub IsRepairedEndOf : (Result ℕ KeepFault → Type 0) → JobEnd → Type 0
+IsRepairedEndOf IsRun end = (ended : Result ℕ KeepFault) × (end ≡ as_repaired ended) × IsRun ended
+
+-- how a taking ends of a file that is cut short there, or isn't
+abbrev pub taken_end : Result Unit KeepFault → Option Place → JobEnd
+taken_end (Ok _) (Some p) = Err (refusals.Short p)
+taken_end (Ok _) None = Ok None
+taken_end (Err fault) _ = Err (refusals.Keep fault)
+
+-- What was asked for of the file of a name was printed, and then it is told whether that is all that the file had; or
+-- it wasn't printed. There may be no memory to see, and then nothing was printed.
+abbrev pub IsTakingEnd : {W : Type 0} → (contents : W → Option (List ℕ)) → Taking → (image name : List ℕ) → W → W
+    → JobEnd → Type 0
+IsTakingEnd contents what image name old new (Ok None) =
+    IsTakingRun contents what image name old new (Ok tt) × IsToldOfImage image (Some name) None
+IsTakingEnd contents what image name old new (Ok (Some _)) = ⊥
+IsTakingEnd contents what image name old new (Err (refusals.Short p)) =
+    IsTakingRun contents what image name old new (Ok tt) × IsToldOfImage image (Some name) (Some p)
+IsTakingEnd contents what image name old new (Err (refusals.Keep fault)) =
+    IsTakingRun contents what image name old new (Err fault)
+IsTakingEnd contents what image name old new (Err refusal) = (refusal ≡ refusals.Run run.NoMemory) × (new ≡ old)

@@ -1,0 +1,174 @@
+//! What the program can be asked to do.
+use crate::names::Name;
+use shop_commands::Durability;
+
+/// What is asked of the bytes of one file, which isn't written.
+#[derive(Clone, Copy, Debug, PartialEq, Eq)]
+pub enum Reading {
+    /// The directory of an image.
+    List,
+    /// Whether the layout of an image is clean, and else what is wrong with it.
+    Check,
+    /// What an image holds of a shop: how far new cards may go, the cards, and the last two requests of each till.
+    Show,
+    /// The replies to the messages of a script, from no cards on and without a disk.
+    Dry,
+}
+
+/// What is taken out of an image, of the first file of a name.
+#[derive(Clone, Copy, Debug, PartialEq, Eq)]
+pub enum Taking {
+    /// The records of a closed relative file, a line each.
+    Records,
+    /// The bytes of a closed file of any type.
+    Bytes,
+}
+
+/// How an image is drawn: which sector is whose, and what a check of it tells.
+#[derive(Clone, Copy, Debug, PartialEq, Eq)]
+pub enum Drawing {
+    /// A line for each track, for a terminal.
+    Map,
+    /// An HTML page with a drawing of the disk.
+    Picture,
+    /// A poster: an SVG file of its own with the same drawing, title, legend and directory.
+    Poster,
+}
+
+/// What a job does on a disk that has lost a part of a file.
+#[derive(Clone, Copy, Debug, PartialEq, Eq)]
+pub enum Loss {
+    /// It leaves the disk as it is.
+    Refused,
+    /// It goes on, and what is lost stays lost.
+    Accepted,
+}
+
+/// What a repair does with the sectors that the map calls taken and that no file owns.
+#[derive(Clone, Copy, Debug, PartialEq, Eq)]
+pub enum Unowned {
+    /// They stay taken.
+    Kept,
+    /// They become free.
+    Freed,
+}
+
+/// What a repair does with the sectors that it makes right.
+#[derive(Clone, Copy, Debug, PartialEq, Eq)]
+pub enum Effect {
+    /// It writes them.
+    Written,
+    /// It prints them alone, and the image stays as it is.
+    Printed,
+}
+
+/// What the words of a command line ask for.
+#[derive(Drop)]
+pub enum Job<'a> {
+    /// The image of an empty shop, in place of whatever the file held.
+    Format {
+        /// The image's path.
+        image: &'a str,
+        /// How many tills the shop has, 1 to 64. Who makes a job sees to it.
+        tills: u8,
+    },
+    /// The image of an empty shop, in a file that isn't there yet.
+    FormatNew {
+        /// The image's path.
+        image: &'a str,
+        /// How many tills the shop has, 1 to 64. Who makes a job sees to it.
+        tills: u8,
+    },
+    /// The directory of an image.
+    List {
+        /// The image's path.
+        image: &'a str,
+    },
+    /// Whether the layout of an image is clean, and otherwise what is wrong with it.
+    Check {
+        /// The image's path.
+        image: &'a str,
+    },
+    /// What an image holds of a shop: how far new cards may go, the cards, and the last two requests of each till.
+    Show {
+        /// The image's path.
+        image: &'a str,
+    },
+    /// The messages of a script, played on the shop of an image, which is brought to the disk at the end.
+    Play {
+        /// The image's path.
+        image: &'a str,
+        /// The script's path.
+        script: &'a str,
+    },
+    /// The same, but each sector is brought to the disk before the next is written.
+    PlaySynced {
+        /// The image's path.
+        image: &'a str,
+        /// The script's path.
+        script: &'a str,
+    },
+    /// The replies to the messages of a script, from no cards on and without a disk.
+    Dry {
+        /// The script's path.
+        script: &'a str,
+    },
+    /// The requests that come on standard input, line by line, to the shop of an image.
+    Serve {
+        /// The image's path.
+        image: &'a str,
+        /// When its sectors are brought to the disk.
+        durability: Durability,
+        /// What is done where the disk has lost a part of a file.
+        loss: Loss,
+    },
+    /// The map, the side sectors and the block counts of an image, made right.
+    Repair {
+        /// The image's path.
+        image: &'a str,
+        /// What is done where the disk has lost a part of a file.
+        loss: Loss,
+        /// What is done with sectors that are taken and no file's.
+        unowned: Unowned,
+        /// Whether the image is written.
+        effect: Effect,
+    },
+    /// What is taken out of an image that is read.
+    Take {
+        /// What is taken.
+        what: Taking,
+        /// The image's path.
+        image: &'a str,
+        /// The name of the file.
+        name: Name,
+    },
+    /// A relative file, made on the disk of an image.
+    Make {
+        /// The image's path.
+        image: &'a str,
+        /// The name of the file, which a new file can have. Who makes a job sees to it.
+        name: Name,
+        /// How many bytes a record has, 1 to 254. Who makes a job sees to it.
+        length: u8,
+        /// What is done where the disk has lost a part of a file.
+        loss: Loss,
+    },
+    /// Records from the lines of a text, stored in a relative file of an image.
+    Store {
+        /// The image's path.
+        image: &'a str,
+        /// The name of the file.
+        name: Name,
+        /// The text's path.
+        records: &'a str,
+        /// What is done where the disk has lost a part of a file.
+        loss: Loss,
+    },
+    /// An image that is read, drawn.
+    Draw {
+        /// How it is drawn.
+        what: Drawing,
+        /// The image's path.
+        image: &'a str,
+    },
+}

@@ -1,0 +1,134 @@
+//! What a keeper's job writes: the image at a path, over its file.
+ghost use Rattle.std.specs.Prelude.{◌≡◌, IfOk, length, vec_items};
+ghost use Rattle.d64_image.specs.Keeps.{Agrees};
+ghost use Rattle.d64_image.specs.Memory.{sectors_in};
+ghost use Rattle.keeper_commands.specs.Makes.{IsNewName};
+ghost use Rattle.shop_commands.specs.ImageFile.{is_synced, placed};
+ghost use Rattle.ledger_jobs.specs.Names.{name_bytes};
+ghost use Rattle.rel_records.specs.File.{IsLength};
+
+use crate::dispatch::{image_at, told};
+use crate::files::script_at;
+use crate::jobs::{Effect, Loss, Unowned};
+use crate::locks::own_image;
+use crate::losses::{dry_repair_guarded, make_guarded, repair_guarded, store_guarded};
+use crate::names::Name;
+use crate::refusals::Refusal;
+use disk_layout::Fault;
+use shop_commands::{Durability, ImageFile, Locks};
+use std::io::{Read, Write};
+use std::rt::Files;
+use system_files::opened_to_change;
+
+/// The file at a path that a keeper's job writes, and its bytes: it is this program's alone, and what it holds is on
+/// the disk. Each sector is brought to the disk before the next is written.
+fn image_to_keep<F, R>(rt: &R, path: &str) -> Result<(Vec<u8>, ImageFile<F>), Refusal>
+where
+    F: Read + Locks + Drop,
+    R: Files<File = F> + AllocGlobal,
+    ensures synced { IfOk result (λ taken. length (vec_items taken.0) ≡ 174848 → is_synced taken.1) }
+    ensures agrees { IfOk result (λ taken. Agrees (placed.kept taken.1) (sectors_in (vec_items taken.0))) }
+{
+    let durability = Durability::EachSector;
+    let mut file = told(opened_to_change(rt, path))?;
+    let image = own_image(rt.alloc(), &mut file, durability)?;
+    let placed = ImageFile::of_image(file, durability, image.as_slice());
+    Ok((image, placed))
+}
+
+/// Repairs the image at a path, over its file.
+fn do_written_repair<F, R, W>(
+    rt: &R,
+    path: &str,
+    free: bool,
+    loss: Loss,
+    out: &mut W,
+) -> Result<Option<Fault>, Refusal>
+where
+    F: Read + Locks + Drop,
+    R: Files<File = F> + AllocGlobal,
+    W: Write,
+{
+    let (image, file) = image_to_keep(rt, path)?;
+    let (_, ended) = repair_guarded(rt.alloc(), image.as_slice(), free, file, loss, out);
+    ended
+}
+
+/// Repairs the image at a path, over its file, or a copy of it in memory alone.
+pub(crate) fn do_repair<F, R, W>(
+    rt: &R,
+    path: &str,
+    unowned: Unowned,
+    effect: Effect,
+    loss: Loss,
+    out: &mut W,
+) -> Result<Option<Fault>, Refusal>
+where
+    F: Read + Locks + Drop,
+    R: Files<File = F> + Input + AllocGlobal,
+    W: Write,
+{
+    let free = unowned == Unowned::Freed;
+    if effect == Effect::Written {
+        return do_written_repair(rt, path, free, loss, out);
+    }
+    let image = image_at(rt, path)?;
+    dry_repair_guarded(rt.alloc(), image.as_slice(), free, loss, out)
+}
+
+/// Makes a relative file on the disk of the image at a path, over its file.
+pub(crate) fn do_make<F, R, W>(
+    rt: &R,
+    path: &str,
+    name: &Name,
+    length: u8,
+    loss: Loss,
+    out: &mut W,
+) -> Result<Option<Fault>, Refusal>
+where
+    F: Read + Locks + Drop,
+    R: Files<File = F> + AllocGlobal,
+    W: Write,
+    requires name { IsNewName (name_bytes name.now) }
+    requires length { IsLength length }
+{
+    let (image, file) = image_to_keep(rt, path)?;
+    let (_, made) = make_guarded(
+        rt.alloc(),
+        image.as_slice(),
+        name.as_bytes(),
+        length,
+        file,
+        loss,
+        out,
+    );
+    made
+}
+
+/// Stores the records of the text at a path in a relative file of the image at another, over its file.
+pub(crate) fn do_store<F, R, W>(
+    rt: &R,
+    path: &str,
+    name: &Name,
+    records: &str,
+    loss: Loss,
+    out: &mut W,
+) -> Result<Option<Fault>, Refusal>
+where
+    F: Read + Locks + Drop,
+    R: Files<File = F> + Input + AllocGlobal,
+    W: Write,
+{
+    let (image, file) = image_to_keep(rt, path)?;
+    let text = told(script_at(rt, records))?;
+    let (_, ended) = store_guarded(
+        rt.alloc(),
+        image.as_slice(),
+        name.as_bytes(),
+        text.as_slice(),
+        file,
+        loss,
+        out,
+    );
+    ended
+}

@@ -1,0 +1,139 @@
+//! What a keeper asks of an image, done over its bytes and its file.
+ghost use Rattle.std.specs.Prelude.{◌≡◌, ◌⊎◌, Err};
+ghost use Rattle.d64_image.specs.Keeps.{Agrees};
+ghost use Rattle.d64_image.specs.Memory.{sectors_in};
+ghost use Rattle.d64_image.specs.KeptMirrors.{is_broken, mirror_file};
+ghost use Rattle.keeper_commands.specs.declared.faults.KeepFault.TheVariants as faults;
+ghost use Rattle.ledger_jobs.specs.Keeping.{IsDryRepair, IsRepairOver, IsTakingRun};
+ghost use Rattle.ledger_jobs.specs.Kept.{IsMakeOver, IsStoreOver};
+ghost use Rattle.keeper_commands.specs.Makes.{IsNewName};
+ghost use Rattle.rel_records.specs.File.{IsLength};
+
+use crate::jobs::Taking;
+use d64_image::{KeptMirror, SectorFile};
+use keeper_commands::{
+    KeepFault, bytes_image, load, make_image, records_image, repair_image, store_image,
+};
+use std::alloc::Global;
+use std::io::Write;
+
+/// Prints what is asked for of the file of this name in an image. `name` has no shifted spaces at its end.
+pub fn taking_run<W: Write>(
+    alloc: Global,
+    what: Taking,
+    image: &[u8],
+    name: &[u8],
+    out: &mut W,
+) -> Result<(), KeepFault>
+    ensures run { IsTakingRun W.contents what image.now name.now out.old out.new result }
+{
+    match what {
+        Taking::Records => records_image(alloc, image, name, out),
+        Taking::Bytes => bytes_image(alloc, image, name, out),
+    }
+}
+
+/// The file of a mirror whose repair ended so: `Device` where the file failed.
+fn file_of<F: SectorFile, T: Drop>(
+    mirror: KeptMirror<F>,
+    ended: Result<T, KeepFault>,
+) -> (F, Result<T, KeepFault>)
+    ensures file { result.0 ≡ mirror_file mirror }
+    ensures end { (is_broken mirror × (result.1 ≡ Err faults.Device)) ⊎ ((is_broken mirror → ⊥) × (result.1 ≡ ended)) }
+{
+    let failed = mirror.is_broken();
+    let (file, _) = mirror.into_inner();
+    if failed {
+        return (file, Err(KeepFault::Device));
+    }
+    (file, ended)
+}
+
+/// Repairs the disk of the image that the file keeps as `repair_image` does, prints what was mended, and hands the file
+/// back, with the number of sectors that stay taken though no file owns them. Each sector is handed to the file before
+/// memory takes it. `Device` where the file failed, `File` where the output did.
+pub fn repair_run<F: SectorFile, W: Write>(
+    alloc: Global,
+    image: &[u8],
+    free: bool,
+    file: F,
+    out: &mut W,
+) -> (F, Result<u16, KeepFault>)
+    // where it is known what the file keeps, it is this image
+    requires agrees { Agrees (F.keeps.kept file) (sectors_in image.now) }
+    ensures run { IsRepairOver free F.keeps W.contents image.now file result.0 out.old out.new result.1 }
+{
+    let disk = match load(alloc, image) {
+        Ok(disk) => disk,
+        Err(fault) => return (file, Err(fault)),
+    };
+    let mut mirror = KeptMirror::new(file, disk);
+    let ended = repair_image(alloc, image, free, &mut mirror, out);
+    file_of(mirror, ended)
+}
+
+/// Repairs a copy of the image in memory, and prints what `repair_run` would print. Nothing else is written.
+pub fn dry_repair_run<W: Write>(
+    alloc: Global,
+    image: &[u8],
+    free: bool,
+    out: &mut W,
+) -> Result<u16, KeepFault>
+    ensures run { IsDryRepair free W.contents image.now out.old out.new result }
+{
+    let mut copy = load(alloc, image)?;
+    repair_image(alloc, image, free, &mut copy, out)
+}
+
+/// Makes a relative file with records of `length` bytes on the clean disk of the image that the file keeps, prints
+/// `MADE`, and hands the file back. Each sector is handed to the file before memory takes it. `FileExists`, `DiskFull`
+/// and what is wrong with the image leave file and output as they were. `Device` where the file failed: the new file is
+/// made or isn't. `File` where the output did: it is made.
+pub fn make_run<F: SectorFile, W: Write>(
+    alloc: Global,
+    image: &[u8],
+    name: &[u8],
+    length: u8,
+    file: F,
+    out: &mut W,
+) -> (F, Result<(), KeepFault>)
+    requires name { IsNewName name.now }
+    requires length { IsLength length }
+    // where it is known what the file keeps, it is this image
+    requires agrees { Agrees (F.keeps.kept file) (sectors_in image.now) }
+    ensures run { IsMakeOver F.keeps W.contents image.now name.now length file result.0 out.old out.new result.1 }
+{
+    let disk = match load(alloc, image) {
+        Ok(disk) => disk,
+        Err(fault) => return (file, Err(fault)),
+    };
+    let mut mirror = KeptMirror::new(file, disk);
+    let ended = make_image(alloc, image, name, length, &mut mirror, out);
+    file_of(mirror, ended)
+}
+
+/// Stores records, from the lines of a text, in the first closed relative file of this name of the clean disk of the
+/// image that the file keeps, prints the lines of those that were otherwise, and hands the file back. Each sector is
+/// handed to the file before memory takes it. `NoFile`, `BadLine`, `DiskFull` and what is wrong with the image leave
+/// file and output as they were. `Device` where the file failed, `File` where the output did: what was stored until
+/// then stays.
+pub fn store_run<F: SectorFile, W: Write>(
+    alloc: Global,
+    image: &[u8],
+    name: &[u8],
+    text: &[u8],
+    file: F,
+    out: &mut W,
+) -> (F, Result<(), KeepFault>)
+    // where it is known what the file keeps, it is this image
+    requires agrees { Agrees (F.keeps.kept file) (sectors_in image.now) }
+    ensures run { IsStoreOver F.keeps W.contents image.now name.now text.now file result.0 out.old out.new result.1 }
+{
+    let disk = match load(alloc, image) {
+        Ok(disk) => disk,
+        Err(fault) => return (file, Err(fault)),
+    };
+    let mut mirror = KeptMirror::new(file, disk);
+    let ended = store_image(alloc, image, name, text, &mut mirror, out);
+    file_of(mirror, ended)
+}

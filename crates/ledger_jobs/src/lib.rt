@@ -1,0 +1,40 @@
+//! The program over a runtime: its jobs, the files that they open, and how they end.
+#![tactic(auto)]
+
+mod dispatch;
+mod drawing;
+mod durable_runs;
+mod endings;
+mod explanations;
+mod files;
+mod jobs;
+mod keeper_files;
+mod keeper_runs;
+mod locks;
+mod losses;
+mod names;
+mod refusals;
+mod serving_files;
+mod serving_images;
+mod serving_runs;
+mod shop_runs;
+mod watched_files;
+
+pub use dispatch::{do_job, do_over, drawn_end, job_end};
+pub use drawing::drawing_run;
+pub use durable_runs::{play_durably, serve_durably};
+pub use endings::{Ending, end, tell};
+pub use explanations::{announce, explain, tell_cut};
+pub use jobs::{Drawing, Effect, Job, Loss, Reading, Taking, Unowned};
+pub use keeper_runs::{dry_repair_run, make_run, repair_run, store_run, taking_run};
+pub use losses::{
+    dry_repair_guarded, loss_refusal, make_guarded, repair_guarded, serve_guarded, store_guarded,
+    take_told,
+};
+pub use names::Name;
+pub use refusals::Refusal;
+pub use serving_files::serve_file;
+pub use serving_runs::serve_run;
+pub use shop_runs::{format_run, play_run, reading_run};
+pub use system_files::ClosedStreams;
+pub use watched_files::WhileThere;

@@ -1,0 +1,93 @@
+//! Image files that a job locks, reads, writes and brings to the disk.
+ghost use Rattle.std.specs.Prelude.{◌≡◌, IfOk, IfSome, OnOk, take, vec_items};
+ghost use Rattle.shop_commands.specs.Durable.{IsSynced};
+ghost use Rattle.ledger_jobs.specs.DurableRuns.{IsFinished};
+
+use crate::refusals::Refusal;
+use disk_layout::Fault;
+use shop_commands::{Durability, ImageFile, Locks, RunFault, WritesAt, read_image};
+use std::alloc::Global;
+use std::io::{self, Read};
+
+/// Locks an image's file for this program alone. Where each sector is brought to the disk, so is first what the file
+/// holds: an earlier program's writes may still be on their way. `InUse`; `Device` where that failed. Nothing was read
+/// or changed.
+pub(crate) fn lock_exclusive<F: Locks>(file: &mut F, durability: Durability) -> Result<(), Refusal>
+    ensures owned { OnOk result (F.IsOwned file.new) }
+    ensures shared { OnOk result (F.IsShared file.new) }
+    ensures synced { OnOk result (IsSynced F.held F.lasting durability file.new) }
+{
+    if let Err(error) = file.lock_alone() {
+        return Err(Refusal::of_lock(&error));
+    }
+    if durability == Durability::EachSector && file.sync().is_err() {
+        return Err(Refusal::Run(RunFault::Device));
+    }
+    Ok(())
+}
+
+/// Locks an image's file so that nobody writes it while it is read. `InUse`: nothing was read.
+pub(crate) fn lock_shared<F: Locks>(file: &mut F) -> Result<(), Refusal>
+    ensures shared { OnOk result (F.IsShared file.new) }
+{
+    match file.lock_shared() {
+        Ok(()) => Ok(()),
+        Err(error) => Err(Refusal::of_lock(&error)),
+    }
+}
+
+/// The bytes of an image that nobody writes while it is read.
+pub(crate) fn read_shared<F: Read + Locks>(alloc: Global, file: &mut F) -> io::Result<Vec<u8>>
+    requires shared { F.IsShared file.old }
+    ensures { IfOk result (λ bytes. IfSome (F.remaining file.old) (λ all. vec_items bytes ≡ take 174849 all)) }
+{
+    read_image(alloc, file)
+}
+
+/// The bytes of an image that this program has alone, and which are on the disk where each sector is brought there.
+fn read_locked<F: Locks>(alloc: Global, file: &mut F, durability: Durability) -> io::Result<Vec<u8>>
+    requires owned { F.IsOwned file.old }
+    requires shared { F.IsShared file.old }
+    requires synced { IsSynced F.held F.lasting durability file.old }
+    ensures bytes { IfOk result (λ bytes. IfSome (F.held file.new) (λ all. vec_items bytes ≡ take 174849 all)) }
+    ensures owned { F.IsOwned file.new }
+    ensures synced { IsSynced F.held F.lasting durability file.new }
+{
+    file.image(alloc)
+}
+
+/// The bytes of an image that is to be written: its file is this program's alone first, and where each sector is
+/// brought to the disk, what it holds is there. `InUse`; `Device` where that failed; and then what `read_image` tells.
+pub(crate) fn own_image<F: Locks>(
+    alloc: Global,
+    file: &mut F,
+    durability: Durability,
+) -> Result<Vec<u8>, Refusal>
+    ensures bytes { IfOk result (λ bytes. IfSome (F.held file.new) (λ all. vec_items bytes ≡ take 174849 all)) }
+    ensures owned { OnOk result (F.IsOwned file.new) }
+    ensures synced { OnOk result (IsSynced F.held F.lasting durability file.new) }
+{
+    lock_exclusive(file, durability)?;
+    match read_locked(alloc, file, durability) {
+        Ok(bytes) => Ok(bytes),
+        Err(error) => Err(Refusal::Run(RunFault::of_io(&error))),
+    }
+}
+
+/// How a run over a file ends once the rest of what it wrote is brought to the disk. `Device` where it was done, or its
+/// output alone failed, and that fails; a fault of the image or the script leaves nothing to bring there, and a file
+/// that failed isn't asked again.
+pub(crate) fn finished<F: WritesAt>(
+    file: &mut ImageFile<F>,
+    ended: Result<Option<Fault>, RunFault>,
+) -> Result<Option<Fault>, RunFault>
+    ensures { IsFinished {G = F.WritesAt.own} ended file.old file.new result }
+{
+    match &ended {
+        Ok(_) | Err(RunFault::File) => match file.finish() {
+            Ok(()) => ended,
+            Err(_) => Err(RunFault::Device),
+        },
+        Err(_) => ended,
+    }
+}

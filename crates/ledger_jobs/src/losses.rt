@@ -1,0 +1,209 @@
+//! What a disk has lost of its files: it is seen before a job changes the disk, and told where a file is taken out.
+ghost use Rattle.std.specs.Prelude.{◌≡◌, IfErr, IfOk, IfSome, option_map, take};
+ghost use Rattle.d64_image.specs.Keeps.{Agrees};
+ghost use Rattle.d64_image.specs.Memory.{sectors_in};
+ghost use Rattle.keeper_commands.specs.Makes.{IsNewName};
+ghost use Rattle.shop_commands.specs.Durable.{IsSynced};
+ghost use Rattle.shop_commands.specs.ImageFile.{placed};
+ghost use Rattle.shop_commands.specs.Plays.{IsUntouched};
+ghost use Rattle.shop_commands.specs.declared.faults.RunFault.TheVariants.{NoMemory};
+ghost use Rattle.ledger_jobs.specs.DurableRuns.{IsDurableRun};
+ghost use Rattle.ledger_jobs.specs.FileServes.{IsUnserved};
+ghost use Rattle.ledger_jobs.specs.Keeping.{IsDryRepair, IsRepairOver};
+ghost use Rattle.ledger_jobs.specs.Kept.{IsMakeOver, IsStoreOver};
+ghost use Rattle.ledger_jobs.specs.Losses.{IsEndOf, IsGuarded, IsJudged, IsKeptEndOf, IsRepairedEndOf, IsSeen};
+ghost use Rattle.ledger_jobs.specs.Losses.{IsTakingEnd, taken_end};
+ghost use Rattle.ledger_jobs.specs.Serves.{IsServeRun};
+ghost use Rattle.ledger_jobs.specs.declared.refusals.Refusal.TheVariants as refusals;
+ghost use Rattle.rel_records.specs.File.{IsLength};
+
+use crate::dispatch::{job_end, kept_end, repaired_end};
+use crate::durable_runs::serve_durably;
+use crate::jobs::{Loss, Taking};
+use crate::keeper_runs::{dry_repair_run, make_run, repair_run, store_run, taking_run};
+use crate::refusals::Refusal;
+use cut_files::find_image_cut;
+use d64_image::{ImageFault, KeptMirror, Place, SectorFile};
+use disk_layout::Fault;
+use keeper_commands::KeepFault;
+use line_server::{Answers, LineSource};
+use shop_commands::{Durability, ImageFile, RunFault, WritesAt};
+use std::alloc::Global;
+use std::io::Write;
+
+/// The place where the first file of an image is cut short, of all or of those of a name. None also where the image has
+/// another size, or its disk isn't sound. `NoMemory` alone may be told.
+pub(crate) fn cut_in(
+    alloc: Global,
+    image: &[u8],
+    name: Option<&[u8]>,
+) -> Result<Option<Place>, Refusal>
+    ensures ok { IfOk result (IsSeen image.now (option_map (λ n. n.now) name.entry)) }
+    ensures err { IfErr result (λ refusal. refusal ≡ refusals.Run NoMemory) }
+{
+    match find_image_cut(alloc, image, name) {
+        Ok(cut) => Ok(cut),
+        Err(ImageFault::Size) => Ok(None),
+        Err(ImageFault::NoMemory) => Err(Refusal::Run(RunFault::NoMemory)),
+    }
+}
+
+/// Why a job isn't begun that changes this image: `Short` if a file of it is cut short and no loss is accepted, or
+/// `NoMemory` to see that.
+pub fn loss_refusal(alloc: Global, image: &[u8], loss: Loss) -> Option<Refusal>
+    ensures { IsJudged image.now loss result }
+{
+    match loss {
+        Loss::Accepted => None,
+        Loss::Refused => match cut_in(alloc, image, None) {
+            Ok(None) => None,
+            Ok(Some(place)) => Some(Refusal::Short(place)),
+            Err(refusal) => Some(refusal),
+        },
+    }
+}
+
+/// Serves the shop of the image that the file has, as `serve_durably` does, unless a file of it is cut short and no loss
+/// is accepted: `Short` then, and nothing was read or changed.
+pub fn serve_guarded<F, R, T>(
+    alloc: Global,
+    image: &[u8],
+    file: F,
+    durability: Durability,
+    loss: Loss,
+    input: &mut R,
+    out: &mut T,
+) -> (F, Result<Option<Fault>, Refusal>)
+where
+    F: WritesAt,
+    R: LineSource<KeptMirror<ImageFile<F>>>,
+    T: Answers<KeptMirror<ImageFile<F>>>,
+    // where each sector is brought to the disk, so is what the file holds, and these bytes were read of that
+    requires synced { IsSynced F.held F.lasting durability file }
+    requires image { IfSome (F.held file) (λ all. image.now ≡ take 174849 all) }
+    ensures { IsGuarded image.now loss (IsUnserved file result.0 input.old input.new out.old out.new)
+        (IsEndOf (λ ended. IsDurableRun {G = F.WritesAt.own} durability image.now file result.0 ended
+        (λ first left end. IsServeRun placed R.input T.answering image.now first left
+        input.old input.new out.old out.new end))) result.1 }
+{
+    if let Some(refusal) = loss_refusal(alloc, image, loss) {
+        return (file, Err(refusal));
+    }
+    let (left, ended) = serve_durably(alloc, image, file, durability, input, out);
+    (left, job_end(ended))
+}
+
+/// Repairs the disk of the image that the file keeps, as `repair_run` does, unless a file of it is cut short and no loss
+/// is accepted: `Short` then, and nothing was printed or changed.
+pub fn repair_guarded<F: SectorFile, W: Write>(
+    alloc: Global,
+    image: &[u8],
+    free: bool,
+    file: F,
+    loss: Loss,
+    out: &mut W,
+) -> (F, Result<Option<Fault>, Refusal>)
+    // where it is known what the file keeps, it is this image
+    requires agrees { Agrees (F.keeps.kept file) (sectors_in image.now) }
+    ensures { IsGuarded image.now loss (IsUntouched file result.0 out.old out.new)
+        (IsRepairedEndOf (IsRepairOver free F.keeps W.contents image.now file result.0 out.old out.new)) result.1 }
+{
+    if let Some(refusal) = loss_refusal(alloc, image, loss) {
+        return (file, Err(refusal));
+    }
+    let (left, ended) = repair_run(alloc, image, free, file, out);
+    (left, repaired_end(ended))
+}
+
+/// Repairs a copy of the image in memory, as `dry_repair_run` does, unless a file of it is cut short and no loss is
+/// accepted: `Short` then, and nothing was printed.
+pub fn dry_repair_guarded<W: Write>(
+    alloc: Global,
+    image: &[u8],
+    free: bool,
+    loss: Loss,
+    out: &mut W,
+) -> Result<Option<Fault>, Refusal>
+    ensures { IsGuarded image.now loss (out.new ≡ out.old)
+        (IsRepairedEndOf (IsDryRepair free W.contents image.now out.old out.new)) result }
+{
+    if let Some(refusal) = loss_refusal(alloc, image, loss) {
+        return Err(refusal);
+    }
+    repaired_end(dry_repair_run(alloc, image, free, out))
+}
+
+/// Makes a relative file on the disk of the image that the file keeps, as `make_run` does, unless a file of it is cut
+/// short and no loss is accepted: `Short` then, and nothing was printed or changed.
+pub fn make_guarded<F: SectorFile, W: Write>(
+    alloc: Global,
+    image: &[u8],
+    name: &[u8],
+    length: u8,
+    file: F,
+    loss: Loss,
+    out: &mut W,
+) -> (F, Result<Option<Fault>, Refusal>)
+    requires name { IsNewName name.now }
+    requires length { IsLength length }
+    // where it is known what the file keeps, it is this image
+    requires agrees { Agrees (F.keeps.kept file) (sectors_in image.now) }
+    ensures { IsGuarded image.now loss (IsUntouched file result.0 out.old out.new)
+        (IsKeptEndOf (IsMakeOver F.keeps W.contents image.now name.now length file result.0 out.old out.new)) result.1 }
+{
+    if let Some(refusal) = loss_refusal(alloc, image, loss) {
+        return (file, Err(refusal));
+    }
+    let (left, ended) = make_run(alloc, image, name, length, file, out);
+    (left, kept_end(ended))
+}
+
+/// Stores records on the disk of the image that the file keeps, as `store_run` does, unless a file of it is cut short
+/// and no loss is accepted: `Short` then, and nothing was printed or changed.
+pub fn store_guarded<F: SectorFile, W: Write>(
+    alloc: Global,
+    image: &[u8],
+    name: &[u8],
+    text: &[u8],
+    file: F,
+    loss: Loss,
+    out: &mut W,
+) -> (F, Result<Option<Fault>, Refusal>)
+    // where it is known what the file keeps, it is this image
+    requires agrees { Agrees (F.keeps.kept file) (sectors_in image.now) }
+    ensures { IsGuarded image.now loss (IsUntouched file result.0 out.old out.new)
+        (IsKeptEndOf (IsStoreOver F.keeps W.contents image.now name.now text.now file result.0 out.old out.new))
+        result.1 }
+{
+    if let Some(refusal) = loss_refusal(alloc, image, loss) {
+        return (file, Err(refusal));
+    }
+    let (left, ended) = store_run(alloc, image, name, text, file, out);
+    (left, kept_end(ended))
+}
+
+/// How a taking ended of a file that is cut short there, or isn't.
+fn taken_end(ended: Result<(), KeepFault>, cut: Option<Place>) -> Result<Option<Fault>, Refusal>
+    ensures { result ≡ taken_end ended cut }
+{
+    match (ended, cut) {
+        (Ok(()), Some(place)) => Err(Refusal::Short(place)),
+        (ended, _) => kept_end(ended),
+    }
+}
+
+/// Prints what is asked for of the file of this name in an image, as `taking_run` does; `Short` where what was printed
+/// isn't all that the file had. `name` has no shifted spaces at its end.
+pub fn take_told<W: Write>(
+    alloc: Global,
+    what: Taking,
+    image: &[u8],
+    name: &[u8],
+    out: &mut W,
+) -> Result<Option<Fault>, Refusal>
+    ensures { IsTakingEnd W.contents what image.now name.now out.old out.new result }
+{
+    let cut = cut_in(alloc, image, Some(name))?;
+    let ended = taking_run(alloc, what, image, name, out);
+    taken_end(ended, cut)
+}

@@ -1,0 +1,87 @@
+//! Why a job isn't done.
+ghost use Rattle.std.specs.Prelude.{◌≡◌, Some};
+ghost use Rattle.ledger_jobs.specs.Ends.{is_told as told_there, lock_refusal, refusal_status, refusal_text};
+
+use d64_image::Place;
+use disk_pictures::PictureFault;
+use keeper_commands::KeepFault;
+use shop_commands::RunFault;
+use std::error::Error;
+use std::fmt::{self, Display, Formatter};
+use std::fs::TryLockError;
+
+/// Why a job isn't done, as it is told on standard error.
+#[derive(Clone, Copy, Debug, PartialEq, Eq)]
+pub enum Refusal {
+    /// What is wrong with the image or the script; or a file, the output or memory.
+    Run(RunFault),
+    /// The same of a job over the files of an image.
+    Keep(KeepFault),
+    /// The same of a job that draws an image.
+    Draw(PictureFault),
+    /// Another program has the image. Nothing was read or changed.
+    InUse,
+    /// The disk is repaired but for so many sectors, which stay taken though no file owns them. The output says so.
+    Kept(u16),
+    /// A file is to be made under a name that exists. Nothing was changed.
+    Exists,
+    /// A file of the image is cut short: its chain ends at this sector, too early.
+    Short(Place),
+}
+
+impl Refusal {
+    /// The exit status: 1 for what the image or the script holds, 3 for a file, the output, memory or another program.
+    pub fn status(&self) -> u8
+        ensures { result ≡ refusal_status self.now }
+    {
+        match self {
+            Refusal::Run(fault) => fault.status(),
+            Refusal::Keep(fault) => fault.status(),
+            Refusal::Draw(fault) => fault.status(),
+            Refusal::InUse => 3,
+            Refusal::Kept(_) => 1,
+            Refusal::Exists => 1,
+            Refusal::Short(_) => 1,
+        }
+    }
+
+    /// Whether it is told on standard error: all but what the output has told.
+    pub(crate) fn is_told(&self) -> bool
+        ensures { result ≡ told_there self.now }
+    {
+        match self {
+            Refusal::Run(_) | Refusal::Keep(_) | Refusal::Draw(_) => true,
+            Refusal::InUse | Refusal::Exists | Refusal::Short(_) => true,
+            Refusal::Kept(_) => false,
+        }
+    }
+
+    /// What is told where a file isn't locked for this reason: `InUse` where another program has it, else that it can't
+    /// be used.
+    pub(crate) fn of_lock(error: &TryLockError) -> Refusal
+        ensures { result ≡ lock_refusal error.now }
+    {
+        match error {
+            TryLockError::WouldBlock => Refusal::InUse,
+            TryLockError::Error(error) => Refusal::Run(RunFault::of_io(error)),
+        }
+    }
+}
+
+impl Display for Refusal {
+    ghost output = { λ refusal. Some (refusal_text refusal) };
+
+    fn fmt<W: fmt::Write>(&self, f: &mut Formatter<W>) -> fmt::Result {
+        match self {
+            Refusal::Run(fault) => fault.fmt(f),
+            Refusal::Keep(fault) => fault.fmt(f),
+            Refusal::Draw(fault) => fault.fmt(f),
+            Refusal::InUse => f.write_str("IN USE"),
+            Refusal::Kept(count) => write!(f, "KEPT {count}"),
+            Refusal::Exists => f.write_str("FILE EXISTS"),
+            Refusal::Short(place) => write!(f, "SHORT {}/{}", place.track(), place.sector()),
+        }
+    }
+}
+
+impl Error for Refusal {}

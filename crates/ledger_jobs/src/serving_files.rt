@@ -1,0 +1,54 @@
+//! Shops of images that are served over the files that keep them.
+ghost use Rattle.std.specs.Prelude.{◌≡◌, IfErr, IfOk};
+ghost use Rattle.d64_image.specs.Keeps.{Agrees};
+ghost use Rattle.d64_image.specs.Memory.{sectors_in};
+ghost use Rattle.ledger_jobs.specs.FileServes.{IsServeFault, IsServedFile, loop_fault};
+
+use d64_image::{KeptMirror, SectorFile};
+use host_session::LoopFault;
+use line_server::{Answers, LineSource, serve};
+use shop_commands::{RunFault, file_of, load};
+use std::alloc::Global;
+
+/// What is told of a shop whose service this fault ended: `File` of its input and of its output.
+fn told(fault: LoopFault) -> RunFault
+    ensures { result ≡ loop_fault fault }
+{
+    match fault {
+        LoopFault::Open(fault) => RunFault::of_opening(fault),
+        LoopFault::Input | LoopFault::Output => RunFault::File,
+        LoopFault::Device => RunFault::Device,
+    }
+}
+
+/// Serves the shop of an image line by line, as `serve` does, over the file that keeps the image. Each sector is handed
+/// to the file before memory takes it, and so before the reply to its line is told. The file is handed back.
+///
+/// `ImageSize`; `NoMemory` where there was none for the disk; and the faults of an opening, in its order: nothing was
+/// done or read then. `File`: the input couldn't be read, or the output failed; the lines before stand. `Device`: the
+/// file failed; the message of the last line counts or it doesn't.
+// Out of line: a session is large, and a frame that has its room touches each page of it.
+#[inline(never)]
+pub fn serve_file<F: SectorFile, R: LineSource<KeptMirror<F>>, T: Answers<KeptMirror<F>>>(
+    alloc: Global,
+    image: &[u8],
+    file: F,
+    input: &mut R,
+    out: &mut T,
+) -> Result<F, (RunFault, F)>
+    // where it is known what the file keeps, it is this image
+    requires agrees { Agrees (F.keeps.kept file) (sectors_in image.now) }
+    ensures ok { IfOk result (λ after.
+        IsServedFile F.keeps R.input T.answering image.now file after input.old input.new out.old out.new) }
+    ensures err { IfErr result (λ e.
+        IsServeFault F.keeps R.input T.answering image.now file e.1 input.old input.new out.old out.new e.0) }
+{
+    let disk = match load(alloc, image) {
+        Ok(disk) => disk,
+        Err(fault) => return Err((fault, file)),
+    };
+    match serve(KeptMirror::new(file, disk), input, out) {
+        Ok(mirror) => file_of(mirror, Ok(())),
+        Err((fault, mirror)) => file_of(mirror, Err(told(fault))),
+    }
+}

@@ -1,0 +1,84 @@
+//! Serving the shop of the image at a path, over its file.
+ghost use Rattle.std.specs.Prelude.{◌≡◌, IfSome, take};
+ghost use Rattle.shop_commands.specs.Durable.{IsSynced};
+
+use crate::dispatch::told;
+use crate::jobs::Loss;
+use crate::locks::own_image;
+use crate::losses::serve_guarded;
+use crate::refusals::Refusal;
+use crate::watched_files::{WhileThere, served_end};
+use disk_layout::Fault;
+use host_session::Printer;
+use shop_commands::{Durability, Locks, RunFault, WritesAt};
+use std::fs::OpenFile;
+use std::io::{BufReader, Read, Write};
+use std::rt::Files;
+use system_files::{FileName, Stays, opened_to_change};
+
+/// Serves the shop of this image, over its file, to what comes on standard input, while the file's name leads to it.
+fn serve_input<F, N, R, W>(
+    rt: &R,
+    image: &[u8],
+    file: F,
+    name: N,
+    durability: Durability,
+    loss: Loss,
+    out: &mut W,
+) -> Result<Option<Fault>, Refusal>
+where
+    F: WritesAt + Drop,
+    N: Stays + Drop,
+    R: Input + AllocGlobal,
+    W: Write,
+    requires synced { IsSynced F.held F.lasting durability file }
+    requires image { IfSome (F.held file) (λ all. image.now ≡ take 174849 all) }
+{
+    // A bare reader of standard input reads a byte a call.
+    let mut input = told(BufReader::new(rt.alloc(), rt.reader()))?;
+    let mut printer = Printer::new(out);
+    let mut answers = WhileThere::new(name, &mut printer);
+    let (_, ended) = serve_guarded(
+        rt.alloc(),
+        image,
+        file,
+        durability,
+        loss,
+        &mut input,
+        &mut answers,
+    );
+    served_end(ended, answers.is_gone())
+}
+
+/// The name of the file that was opened at a path. `Device` if the path leads elsewhere by now.
+fn name_of<'a, F: OpenFile, R: Files<File = F>>(
+    rt: &'a R,
+    path: &'a str,
+    file: &F,
+) -> Result<FileName<'a, R>, Refusal> {
+    let name = told(FileName::of(rt, path, file))?;
+    if !name.is_there() {
+        return Err(Refusal::Run(RunFault::Device));
+    }
+    Ok(name)
+}
+
+/// Serves the shop of the image at a path, over its file, to what comes on standard input. Once the path doesn't lead to
+/// that file any more, or the file has another length, the line at hand hears MEDIA, and it ends with `Device`.
+pub(crate) fn do_serving<F, R, W>(
+    rt: &R,
+    path: &str,
+    durability: Durability,
+    loss: Loss,
+    out: &mut W,
+) -> Result<Option<Fault>, Refusal>
+where
+    F: Read + Locks + OpenFile + Drop,
+    R: Files<File = F> + Input + AllocGlobal,
+    W: Write,
+{
+    let mut file = told(opened_to_change(rt, path))?;
+    let image = own_image(rt.alloc(), &mut file, durability)?;
+    let name = name_of(rt, path, &file)?;
+    serve_input(rt, image.as_slice(), file, name, durability, loss, out)
+}

@@ -1,0 +1,91 @@
+//! Replies that are told only while the shop's file is there.
+ghost use Rattle.std.specs.Prelude.{◌≡◌, if◌then◌else◌, Err};
+ghost use Rattle.shop_commands.specs.declared.faults.RunFault.TheVariants.{Device};
+ghost use Rattle.ledger_jobs.specs.WatchedFiles.{media_for as media, while_there};
+ghost use Rattle.ledger_jobs.specs.declared.refusals.Refusal.TheVariants.{Run};
+
+use crate::refusals::Refusal;
+use d64_image::Sectors;
+use disk_layout::Fault;
+use host_session::{NotTaken, ReplySink};
+use line_server::Answers;
+use request_cards::{Reply, Word};
+use shop_commands::RunFault;
+use system_files::Stays;
+
+/// What is told in the place of a reply if the file has gone: MEDIA to the same request. A message that is no request
+/// hears so.
+fn media_for(reply: &Reply) -> Reply
+    ensures { result ≡ media reply.now }
+{
+    match *reply {
+        Reply::Told { till, number, .. } => Reply::Told {
+            till,
+            number,
+            word: Word::Media,
+        },
+        Reply::Syntax => Reply::Syntax,
+        Reply::Cut => Reply::Cut,
+    }
+}
+
+/// An output to which replies are told while a file stays. Before each is told the file is looked for. Once it has gone,
+/// MEDIA is told in the place of the reply, and no other.
+#[derive(Drop)]
+pub struct WhileThere<'a, N, T> {
+    file: N,
+    out: &'a mut T,
+    gone: bool,
+}
+
+impl<'a, N, T> WhileThere<'a, N, T> {
+    /// Replies go to this output while the file is there.
+    pub fn new(file: N, out: &'a mut T) -> WhileThere<'a, N, T>
+        ensures same { result.out.ghost_name ≡ out.entry.ghost_name }
+        ensures out { result.out.now ≡ out.old }
+    {
+        WhileThere {
+            file,
+            out,
+            gone: false,
+        }
+    }
+
+    /// Whether the file had gone when a reply was to be told.
+    pub fn is_gone(&self) -> bool
+        ensures { result ≡ self.now.gone }
+    {
+        self.gone
+    }
+}
+
+impl<'a, D: Sectors, N: Stays, T: Answers<D>> ReplySink<D> for WhileThere<'a, N, T> {
+    ghost output = { while_there T.answering };
+
+    fn tell(&mut self, reply: &Reply, disk: &D) -> Result<(), NotTaken> {
+        if !self.gone && self.file.is_there() {
+            return self.out.answer(reply, disk);
+        }
+        self.gone = true;
+        let _ = self.out.answer(&media_for(reply), disk);
+        Err(NotTaken)
+    }
+
+    // Each reply was handed on behind it.
+    fn hand_on(&mut self) -> Result<(), NotTaken> {
+        Ok(())
+    }
+}
+
+/// The end of a service that ended so: `Device` if the file had gone.
+pub(crate) fn served_end(
+    ended: Result<Option<Fault>, Refusal>,
+    gone: bool,
+) -> Result<Option<Fault>, Refusal>
+    ensures { result ≡ (if gone then Err (Run Device) else ended) }
+{
+    if gone {
+        return Err(Refusal::Run(RunFault::Device));
+    }
+    ended
+}

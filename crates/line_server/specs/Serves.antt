@@ -1,0 +1,141 @@
+-- What comes of a shop that is served line by line. All of it is our own.
+use Rattle.std.specs.Prelude.{◌≡◌, ◌≢◌, ◌⊎◌, ◌<◌, ◌≤◌, ℕ, true, false, Err, IfErr, IfOk, IsOk, List, []}
+use Rattle.std.specs.Prelude.{◌∷◌, ◌++◌, OnSome, Result, length, option_to_list}
+use Rattle.std.specs.Io.KnownBytes.{Consumes, IsAtEnd}
+use Rattle.d64_image.specs.History.{Failed, History, NeverFailed}
+use Rattle.host_session.specs.Held.{Changes}
+use Rattle.request_cards.specs.Ledgers.{plain, replies}
+use Rattle.request_cards.specs.Reading.{request_of}
+use Rattle.request_cards.specs.Requests.{Ask}
+use Rattle.request_cards.specs.declared.reply.Reply.{Reply}
+use Rattle.script_lines.specs.Lines.{lines}
+use Rattle.host_session.specs.declared.faults.OpenFault.{OpenFault}
+use Rattle.host_session.specs.declared.runs.event_loop.LoopFault.{LoopFault}
+use Rattle.host_session.specs.declared.runs.event_loop.LoopFault.TheVariants as faults
+use Rattle.host_session.specs.events.Events.{requests_of}
+use Rattle.host_session.specs.events.Instants.{Instant, instant_of}
+use Rattle.host_session.specs.events.Quiet.{AskNothing}
+use Rattle.host_session.specs.events.Within.{AreFew, AreWithin, IsBounded}
+use Rattle.host_session.specs.runs.Chains.{HasRun, asked_over, over_instants, told_in}
+use Rattle.host_session.specs.runs.Loops.{IsToldToDevice}
+use Rattle.host_session.specs.runs.Runs.{HeldBeginnings, IsPlayedWhole, IsRefused, StoppedByDevice}
+use Rattle.host_session.specs.session.Opening.{IsAShop, Untouched, disk_of}
+use Rattle.host_session.specs.shop.Shop.{IsSettled, IsShop, Shop, start_of, with_state}
+use Rattle.line_server.specs.Answering.{Answering, answered}
+use Rattle.line_server.specs.Giving.{Input}
+use Rattle.line_server.specs.Inputs.{instants_in, line_messages}
+use Rattle.line_server.specs.Read.{AreWhole, LacksLf}
+
+-- When each line's reply was told, behind the requests `before`, the disk held the shop after that line, at rest.
+abbrev pub SettledInTurn : Shop → (before : List Ask) → List (List ℕ) → List (Reply × Instant) → Type 0
+SettledInTurn s before [] [] = Unit {0}
+SettledInTurn s before (l ∷ ls) (t ∷ ts) =
+    IsSettled t.1.image (with_state s (plain (start_of s) (before ++ option_to_list (request_of l))))
+    × SettledInTurn s (before ++ option_to_list (request_of l)) ls ts
+SettledInTurn s before _ _ = ⊥
+
+-- The lines of these bytes were handled one after another. Beside the reply to each, over the lines before it, stands
+-- the disk that it left.
+pub record AreHandled {D : Type 0} (h : History D) (s : Shop) (bytes : List ℕ) (turns : List (Reply × D))
+    (disk left : D) : Type 0 where
+  pub run : HasRun h s (line_messages bytes) turns disk left
+  pub replies_are : told_in turns ≡ replies (start_of s) [] (lines bytes)
+  pub in_turn : SettledInTurn s [] (lines bytes) (over_instants h turns)
+  -- each of them counts, and the shop is at rest
+  pub played : IsPlayedWhole h s (line_messages bytes) disk left (told_in turns)
+  pub rests : IsSettled (h.image left) (with_state s (plain (start_of s) (requests_of (lines bytes))))
+
+-- These lines were asked for, one after another: the first while the disk was as it was opened, each other while it was
+-- as it stands beside the reply to the line before.
+abbrev pub AreAskedFor : {D R : Type 0} → History D → Input R → List ℕ → (first : D) → List (Reply × D) → R → R → Type 0
+AreAskedFor h i bytes first turns old_in new_in =
+    i.asked old_in new_in (instants_in (asked_over h first turns (line_messages bytes)))
+
+-- The lines of these bytes were served: each was asked for once the reply to the one before it was told, and its own
+-- was told over the disk that it left, and handed on before the next one was told; and nothing else was asked for or
+-- told. The disk at the end is the one over which the last reply was told.
+pub record AreServed {D R T : Type 0} (h : History D) (i : Input R) (a : Answering T) (s : Shop) (bytes : List ℕ)
+    (disk left : D) (old_in new_in : R) (old new : T) : Type 0 where
+  pub turns : List (Reply × D)
+  pub handled : AreHandled h s bytes turns disk left
+  pub within : AreFew (line_messages bytes) → AreWithin h (line_messages bytes) turns handled.run.first
+  pub asked : AreAskedFor h i bytes handled.run.first turns old_in new_in
+  pub told : (answered a).told old new (over_instants h turns)
+
+-- The same of all replies but the last, which was broken off over the disk that is left, or told over it and couldn't
+-- be handed on, since the output failed; and nothing else was told.
+pub record AreServedToOutput {D R T : Type 0} (h : History D) (i : Input R) (a : Answering T) (s : Shop)
+    (bytes : List ℕ) (disk left : D) (old_in new_in : R) (old new : T) : Type 0 where
+  pub turns : List (Reply × D)
+  pub last : Reply × D
+  pub handled : AreHandled h s bytes (turns ++ last ∷ []) disk left
+  pub within : AreFew (line_messages bytes)
+      → AreWithin h (line_messages bytes) (turns ++ last ∷ []) handled.run.first
+  pub asked : AreAskedFor h i bytes handled.run.first turns old_in new_in
+  pub told : (answered a).broken_off old new (over_instants h turns) (last.0, instant_of h last.1)
+
+-- The lines of these bytes were handled up to the last, in which the device failed. The replies before its own were
+-- told and handed on, and nothing else but that one, or a part of it.
+pub record AreServedToDevice {D R T : Type 0} (h : History D) (i : Input R) (a : Answering T) (s : Shop)
+    (bytes : List ℕ) (disk left : D) (old_in new_in : R) (old new : T) : Type 0 where
+  pub run : IsToldToDevice h (answered a) s (line_messages bytes) disk left old new
+  pub within : AreFew (line_messages bytes)
+      → AreWithin h (line_messages bytes) (run.turns ++ (run.last, left) ∷ []) run.run.run.first
+  pub asked : AreAskedFor h i bytes run.run.run.first run.turns old_in new_in
+  pub stopped : StoppedByDevice h s (line_messages bytes) disk left (told_in run.turns ++ run.last ∷ [])
+
+-- No more sectors were written than an opening writes at most, and of a disk at rest none.
+abbrev pub IsUnwritten : {D : Type 0} → History D → Shop → D → D → Type 0
+IsUnwritten h s old new = Changes h old new 952 (λ i. IsShop i s) × (IsSettled (h.image old) s → Untouched h old new)
+
+-- The shop of a disk was served over an input and an output that were `old_in` and `old`, and are `new_in` and `new`.
+pub record IsServed {D R T : Type 0} (h : History D) (i : Input R) (a : Answering T) (disk : D) (old_in new_in : R)
+    (old new : T) (result : Result D (LoopFault × D)) : Type 0 where
+  -- the lines that were handled, each with its LF, and what was read behind them, which is no line
+  pub handled : List ℕ
+  pub rest : List ℕ
+  pub whole : AreWhole handled
+  pub lacks : LacksLf rest
+  pub read : Consumes (i.remaining old_in) (i.remaining new_in) (handled ++ rest)
+  -- A shop alone is served, and up to the end of the input.
+  pub shop : IfOk result (λ _. IsAShop (h.image disk))
+  pub end : IfOk result (λ _. OnSome (i.remaining old_in) (IsAtEnd (i.remaining new_in)))
+  -- At Ok each line was served.
+  pub ok : (s : Shop) → IsShop (h.image disk) s → IfOk result (λ left.
+      AreServed h i a s handled disk left old_in new_in old new)
+  -- The input failed: so was each line that it gave.
+  pub input : (s : Shop) → IsShop (h.image disk) s → IfErr result (λ e. e.0 ≡ faults.Input
+      → AreServed h i a s handled disk e.1 old_in new_in old new)
+  -- The output failed: each line was handled, and all replies but the last were handed on.
+  pub output : (s : Shop) → IsShop (h.image disk) s → IfErr result (λ e. e.0 ≡ faults.Output
+      → AreServedToOutput h i a s handled disk e.1 old_in new_in old new)
+  -- The device failed, in the last line.
+  pub device : (s : Shop) → IsShop (h.image disk) s → IfErr result (λ e. e.0 ≡ faults.Device
+      → AreServedToDevice h i a s handled disk e.1 old_in new_in old new)
+  -- At each moment the shop is that of a counted list of some beginning of the lines.
+  pub moments : (s : Shop) → IsShop (h.image disk) s
+      → HeldBeginnings h s (line_messages handled) disk (disk_of (λ d. d) result)
+  -- Where the lines ask nothing new, no more was written than an opening writes at most, and of a disk at rest nothing,
+  -- however it ends.
+  pub quiet : (s : Shop) → IsShop (h.image disk) s → AskNothing s (line_messages handled)
+      → IsUnwritten h s disk (disk_of (λ d. d) result)
+  -- 952 sectors were written at most, and 3618 for each line, however it ends. They are few, since the count of a
+  -- mirror, and so of a file, is exact below 2^64 - 1 alone.
+  pub writes : (s : Shop) → IsShop (h.image disk) s → AreFew (line_messages handled)
+      → IsBounded h (line_messages handled) disk (disk_of (λ d. d) result)
+  -- On a shop whose device doesn't fail it answers Ok, unless the input or the output fails.
+  pub plays : IsAShop (h.image disk) → NeverFailed h disk (disk_of (λ d. d) result)
+      → IfErr result (λ e. (e.0 ≡ faults.Input) ⊎ (e.0 ≡ faults.Output))
+  -- What an opening refuses is handed on, and then nothing was read or told.
+  pub «open» : IfErr result (λ e. (f : OpenFault) → e.0 ≡ faults.Open f
+      → IsRefused h disk f e.1 × (new_in ≡ old_in) × (new ≡ old))
+  -- The device is told of on a shop, where it failed; the input and the output on a shop.
+  pub cause : IfErr result (λ e. e.0 ≡ faults.Device → IsAShop (h.image disk) × Failed h disk e.1)
+  pub after : IfErr result (λ e. (e.0 ≡ faults.Input) ⊎ (e.0 ≡ faults.Output) → IsAShop (h.image disk))
+  -- The input is told of where it failed, or gave 2^64 - 1 lines; and however else it ends, it didn't fail.
+  pub failed : IfErr result (λ e. e.0 ≡ faults.Input
+      → (i.has_failed new_in ≡ true) ⊎ (18446744073709551615 ≤ length (lines handled)))
+  pub passed : ((left : D) → result ≢ Err (faults.Input, left)) → i.has_failed new_in ≡ i.has_failed old_in
+  -- So it ends well on a shop of which device, input and output say that they didn't fail, where there are fewer lines.
+  pub well : IsAShop (h.image disk) → NeverFailed h disk (disk_of (λ d. d) result) → i.has_failed new_in ≡ false
+      → a.has_failed new ≡ false → length (lines handled) < 18446744073709551615 → IsOk result

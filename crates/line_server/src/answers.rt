@@ -1,0 +1,28 @@
+//! Outputs to which each reply is told by itself and handed on.
+ghost use Rattle.host_session.specs.events.Instants.{instant_of};
+ghost use Rattle.host_session.specs.events.Telling.{IsTold};
+ghost use Rattle.line_server.specs.Answering.{Answering, answered, of_output};
+
+use d64_image::Sectors;
+use host_session::{NotTaken, ReplySink};
+use request_cards::Reply;
+
+/// An output of answers. All that can be told replies are such, and say no more than that.
+pub trait Answers<D: Sectors> {
+    /// What this output says of itself: what it was told, and whether it may have failed.
+    ghost answering: { Answering Self };
+
+    /// Tells this reply, and hands it on. Where that wasn't done, a part of it may have been told, or all of it. The
+    /// disk is lent as it is then.
+    fn answer(&mut self, reply: &Reply, disk: &D) -> Result<(), NotTaken>
+        ensures { IsTold (answered answering) self.old self.new reply.now (instant_of D.history disk.now) result };
+}
+
+impl<D: Sectors, T: ReplySink<D>> Answers<D> for T {
+    ghost answering = { of_output T.output };
+
+    fn answer(&mut self, reply: &Reply, disk: &D) -> Result<(), NotTaken> {
+        self.tell(reply, disk)?;
+        self.hand_on()
+    }
+}

@@ -1,0 +1,38 @@
+//! An output to which each reply is handed on by itself.
+ghost use Rattle.std.specs.Prelude.{◌≡◌};
+ghost use Rattle.line_server.specs.Answering.{answered};
+ghost use Rattle.line_server.specs.Flushing.{lent};
+
+use crate::answers::Answers;
+use d64_image::Sectors;
+use host_session::{NotTaken, ReplySink};
+use request_cards::Reply;
+
+/// An output to which what is held back is handed on behind each reply.
+#[derive(Drop)]
+pub struct Flushing<'a, T> {
+    out: &'a mut T,
+}
+
+impl<'a, T> Flushing<'a, T> {
+    /// Replies go to this output.
+    pub fn new(out: &'a mut T) -> Flushing<'a, T>
+        ensures same { result.out.ghost_name ≡ out.entry.ghost_name }
+        ensures out { result.out.now ≡ out.old }
+    {
+        Flushing { out }
+    }
+}
+
+impl<'a, D: Sectors, T: Answers<D>> ReplySink<D> for Flushing<'a, T> {
+    ghost output = { lent (answered T.answering) };
+
+    fn tell(&mut self, reply: &Reply, disk: &D) -> Result<(), NotTaken> {
+        self.out.answer(reply, disk)
+    }
+
+    // Each reply was handed on behind it.
+    fn hand_on(&mut self) -> Result<(), NotTaken> {
+        Ok(())
+    }
+}

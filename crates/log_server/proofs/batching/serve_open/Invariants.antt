@@ -1,0 +1,11 @@
+-- The batches so far: with each there is a line more.
+use Rattle.std.proofs.Common.{[], ◌≤◌, length}
+use Rattle.d64_image.specs.declared.mem_disk.MemDisk.{MemDisk}
+use Rattle.script_lines.specs.Lines.{lines}
+use Rattle.log_server.specs.Batches.{HasOpened, IsUnderWay}
+use Rattle.log_server.proofs.batching.serve_open.Given as goal
+
+abbrev pub invariant-loop : goal.invariant-loop
+invariant-loop g l = (disk : MemDisk) → HasOpened disk l.fn.session l.fn.room.kept.items
+    → (x : IsUnderWay g.L.ImageLog.history g.R.BatchSource.input g.T.Reports.output disk l.fn.log l.fn.input l.fn.out []
+    l.session l.room.kept.items l.log l.input l.out) × (l.counter ≤ length (lines x.handled))

@@ -1,0 +1,47 @@
+//! What a session's disk in memory came to, committed to a log.
+ghost use Rattle.std.specs.Prelude.{◌≡◌, length};
+ghost use Rattle.shop_log.specs.Marks.{Covers, NoneTouched};
+ghost use Rattle.log_server.specs.Keeping.{IsKept};
+
+use d64_image::MemDisk;
+use shop_log::{ImageLog, TouchedDisk};
+use std::io;
+
+/// How many sectors a disk has.
+const SECTORS: usize = 683;
+
+/// Brings the image that was committed last to what it is now, and returns which of the marked sectors that changed.
+fn bring(kept: &mut [[u8; 256]], now: &[[u8; 256]], marked: &[bool; 683]) -> [bool; 683]
+    requires kept { length kept.old ≡ 683 }
+    requires now { length now.now ≡ 683 }
+    ensures kept { length kept.new ≡ 683 }
+    // if every sector that changed is marked, every one is returned, and the image is as it is now
+    ensures covers { Covers marked.now kept.old now.now → Covers result kept.old now.now }
+    ensures brought { Covers marked.now kept.old now.now → kept.new ≡ now.now }
+    // no sector is returned that is the same
+    ensures same { kept.old ≡ now.now → NoneTouched result }
+{
+    let mut touched = [false; SECTORS];
+    for i in 0..SECTORS {
+        if marked[i] && kept[i] != now[i] {
+            kept[i] = now[i];
+            touched[i] = true;
+        }
+    }
+    touched
+}
+
+/// Commits the disk as it is now to the log, if it isn't the image that was committed last.
+pub(crate) fn keep<L: ImageLog>(
+    disk: &TouchedDisk<MemDisk>,
+    kept: &mut [[u8; 256]],
+    log: &mut L,
+) -> io::Result<()>
+    requires { length kept.old ≡ 683 }
+    ensures length { length kept.new ≡ 683 }
+    ensures kept { IsKept L.history disk.now kept.old kept.new log.old log.new result }
+{
+    let (now, _) = disk.disk().bytes().as_chunks::<256>();
+    let touched = bring(kept, now, disk.touched());
+    log.commit(now, &touched)
+}

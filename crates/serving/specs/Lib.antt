@@ -1,7 +1,0 @@
-pub mod Read
-pub mod Giving
-pub mod Batches
-pub mod Answering
-pub mod Inputs
-pub mod AtOnce
-pub mod Serves

@@ -1,0 +1,16 @@
+-- What was written, and the replies to the lines that are left, are all replies.
+use Rattle.std.proofs.Common.{◌≡◌, ℕ, List, ◌++◌, length}
+use Rattle.std.specs.Io.KnownBytes.{Appends}
+use Rattle.request_cards.specs.Ledgers.{replies_from, report}
+use Rattle.script_lines.specs.Lines.{lines}
+use Rattle.shop_commands.specs.Tables.{dry_start, state_of}
+use Rattle.shop_commands.proofs.dry_run.play.Given as goal
+
+abbrev pub invariant-loop-line : goal.invariant-loop-line
+invariant-loop-line g l =
+    (written : List ℕ) × Appends (g.W.Write.contents l.fn.out) (g.W.Write.contents l.out) written
+    × (written ++ report (replies_from dry_start (state_of l.table) (lines l.rest)) ≡ report
+    (replies_from dry_start (state_of l.fn.table) (lines l.script)))
+
+abbrev pub decreases-loop-line : goal.decreases-loop-line
+decreases-loop-line g l = length l.rest

@@ -1,0 +1,128 @@
+-- What the commands over an image make and find. The names of a fresh disk are our own.
+use Rattle.std.specs.Prelude.{◌≡◌, ◌≢◌, ◌⊎◌, ℕ, List, None, Option, Some, Err, Ok, Result, codes, length, slice_index}
+use Rattle.std.specs.Io.KnownBytes.{Appends}
+use Rattle.d64_image.specs.Images.{Image, IsImage, sector}
+use Rattle.d64_image.specs.Memory.{bytes_of, sectors_in}
+use Rattle.d64_image.specs.declared.place.Place.{Place}
+use Rattle.disk_layout.specs.Blank.{IsBlank}
+use Rattle.disk_layout.specs.Directory.{IsDirectory, map_place}
+use Rattle.disk_layout.specs.Clean.{IsClean}
+use Rattle.disk_layout.specs.Fault.{HoldsOfClean, HoldsOfDirectory, nowhere}
+use Rattle.disk_layout.specs.Whole.{IsWhole}
+use Rattle.disk_layout.specs.declared.faults.Fault.{Fault}
+use Rattle.disk_layout.specs.declared.slot.Slot.{Slot}
+use Rattle.host_session.specs.runs.Outputs.{AppendsPart}
+use Rattle.system_files.specs.Remains.{Remains}
+use Rattle.system_files.specs.Replacing.{IsNoDisk, NowAll, Since}
+use Rattle.shop_commands.specs.Texts.{listing}
+use Rattle.shop_commands.specs.declared.faults.RunFault.{RunFault}
+use Rattle.shop_commands.specs.declared.faults.RunFault.TheVariants as run
+
+-- every byte of the image is 0
+abbrev pub IsZero : Image → Type 0
+IsZero img = (p : Place) (i : ℕ) → slice_index (sector img p) i ≡ 0
+
+-- the disk of an empty shop with so many tills: the whole blank image over zeros, by the name and the id of our disks
+pub record IsFreshDisk (img : Image) (tills : ℕ) : Type 0 where
+  pub zeros : Image
+  pub zero : IsZero zeros
+  pub blank : IsBlank zeros img (codes "STOCK LEDGER") (codes "01") tills
+  -- 683 sectors of 256 bytes
+  pub whole : IsImage img
+  -- no file is shorter than what the disk says of it elsewhere
+  pub uncut : IsWhole img
+
+-- the bytes of such a disk, sector after sector
+pub record AreFreshBytes (tills : ℕ) (bytes : List ℕ) : Type 0 where
+  pub disk : Image
+  pub fresh : IsFreshDisk disk tills
+  pub bytes_of : bytes ≡ bytes_of disk
+
+-- if these bytes have the size of an image, all its files are whole: so where it is no sound disk's
+abbrev pub IsUncut : List ℕ → Type 0
+IsUncut s = length s ≡ 174848 → IsWhole (sectors_in s)
+
+-- The whole image of such a disk was written over a file that said this of itself: it holds that, and that remains if
+-- power goes. If power went on the way, there remained what could remain before, or no sound disk, or that image: so what
+-- could remain before, or whole files.
+pub record IsHandedOver {F : Type 0} (r : Remains F) (tills : ℕ) (old new : F) : Type 0 where
+  pub bytes : List ℕ
+  pub fresh : AreFreshBytes tills bytes
+  pub held : (all : List ℕ) → r.held old ≡ Some all → r.held new ≡ Some bytes
+  pub lasting : NowAll r new (λ s. s ≡ bytes)
+  pub remain : Since r old new (λ s. IsNoDisk s ⊎ (s ≡ bytes))
+  pub uncut : Since r old new IsUncut
+
+-- such an image was written in part, or whole
+pub record IsHandedPart {F : Type 0} (r : Remains F) (tills : ℕ) (old new : F) : Type 0 where
+  pub bytes : List ℕ
+  pub fresh : AreFreshBytes tills bytes
+  pub remain : Since r old new (λ s. IsNoDisk s ⊎ (s ≡ bytes))
+  pub uncut : Since r old new IsUncut
+
+-- what writing such an image came to: it was handed over whole, or in part where the file failed, or there was no
+-- memory, and nothing was done
+abbrev pub IsWritten : {F : Type 0} → Remains F → ℕ → F → F → Result Unit RunFault → Type 0
+IsWritten r tills old new (Ok _) = IsHandedOver r tills old new
+IsWritten r tills old new (Err run.File) = IsHandedPart r tills old new
+IsWritten r tills old new (Err run.NoMemory) = new ≡ old
+IsWritten r tills old new (Err _) = ⊥
+
+-- the file or the output failed: the file was handed a part of the image, and nothing was said; or all of it, and a
+-- part of what is said then
+abbrev pub IsFormattedPart : {F W : Type 0} → Remains F → (W → Option (List ℕ)) → ℕ → F → F → W → W → Type 0
+IsFormattedPart into contents tills file new_file old new =
+    (IsHandedPart into tills file new_file × (new ≡ old))
+    ⊎ (IsHandedOver into tills file new_file × AppendsPart (contents old) (contents new) (codes "FORMATTED\n"))
+
+-- what making such an image and saying so came to: the file was handed all of it, and that was said; or in part; or
+-- there was no memory, and nothing was done
+abbrev pub IsFormatted : {F W : Type 0} → Remains F → (W → Option (List ℕ)) → ℕ → F → F → W → W
+    → Result Unit RunFault → Type 0
+IsFormatted into contents tills file new_file old new (Ok _) =
+    IsHandedOver into tills file new_file × Appends (contents old) (contents new) (codes "FORMATTED\n")
+IsFormatted into contents tills file new_file old new (Err run.File) =
+    IsFormattedPart into contents tills file new_file old new
+IsFormatted into contents tills file new_file old new (Err run.NoMemory) = (new_file ≡ file) × (new ≡ old)
+IsFormatted into contents tills file new_file old new (Err _) = ⊥
+
+-- the image's directory, of an image that has the size of a disk
+pub record HasDirectory (image : List ℕ) : Type 0 where
+  pub size : length image ≡ 174848
+  pub sectors : List Place
+  pub entries : List Slot
+  pub directory : IsDirectory (sectors_in image) sectors entries
+
+-- the image was listed on an output that held `old` and holds `new`: it has a directory, and its listing was handed
+-- over
+pub record IsListed {W : Type 0} (contents : W → Option (List ℕ)) (image : List ℕ) (old new : W) : Type 0 where
+  pub listed : HasDirectory image
+  pub printed : Appends (contents old) (contents new) (listing (sector (sectors_in image) map_place) listed.entries)
+
+-- why an image isn't taken into memory
+abbrev pub IsLoadFault : List ℕ → RunFault → Type 0
+IsLoadFault image run.ImageSize = length image ≢ 174848
+IsLoadFault image run.NoMemory = length image ≡ 174848
+IsLoadFault image _ = ⊥
+
+-- why an image isn't listed: its size, a fault of its directory that holds, the output, or memory
+abbrev pub IsListFault : List ℕ → RunFault → Type 0
+IsListFault image run.ImageSize = length image ≢ 174848
+IsListFault image (run.Layout fault) = (length image ≡ 174848) × HoldsOfDirectory nowhere (sectors_in image) fault
+IsListFault image run.File = HasDirectory image
+IsListFault image run.NoMemory = length image ≡ 174848
+IsListFault image _ = ⊥
+
+-- what is said of an image: that it is clean, or a fault that holds of it
+abbrev pub IsVerdict : Image → Option Fault → Type 0
+IsVerdict img None = IsClean img
+IsVerdict img (Some fault) = HoldsOfClean nowhere img fault
+
+-- why an image isn't judged: its size, the output, or memory
+abbrev pub IsCheckFault : List ℕ → RunFault → Type 0
+IsCheckFault image run.File = length image ≡ 174848
+IsCheckFault image fault = IsLoadFault image fault
+
+-- why no disk is made: the file or the output, or memory
+abbrev pub IsFormatFault : RunFault → Type 0
+IsFormatFault fault = (fault ≡ run.File) ⊎ (fault ≡ run.NoMemory)

@@ -1,0 +1,12 @@
+pub mod Durable
+pub mod Faults
+pub mod FreshShops
+pub mod Images
+pub mod Lasting
+pub mod LastingImages
+pub mod ImageFile
+pub mod Plays
+pub mod Shops
+pub mod Shows
+pub mod Tables
+pub mod Texts

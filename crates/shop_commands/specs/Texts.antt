@@ -1,0 +1,91 @@
+-- What is printed of an image, byte by byte. A listing has the form of a drive's directory (1541 User's Guide,
+-- directory); how a fault is told is our own.
+use Rattle.std.specs.Prelude.{ℕ, ◌%◌, ◌++◌, [], not, ◌&&◌, List, Option, Some, None, if◌then◌else◌, codes, decimal}
+use Rattle.std.specs.Prelude.{flat_map, map, nat_eq, nat_le, nat_lt, slice_range, take_while}
+use Rattle.std.specs.Int.{bit_at}
+use Rattle.d64_image.specs.Images.{Sector}
+use Rattle.disk_layout.specs.Directory.{type_byte}
+use Rattle.disk_layout.specs.Layout.{count_field}
+use Rattle.disk_layout.specs.Texts.{fault_text}
+use Rattle.disk_layout.specs.View.{blocks_free}
+use Rattle.disk_layout.specs.declared.faults.Fault.{Fault}
+use Rattle.disk_layout.specs.declared.slot.Slot.{Slot}
+use Rattle.shop_commands.specs.declared.dry_run.DryFault.{DryFault}
+use Rattle.shop_commands.specs.declared.dry_run.DryFault.TheVariants as dry
+use Rattle.shop_commands.specs.declared.faults.RunFault.{RunFault}
+use Rattle.shop_commands.specs.declared.faults.RunFault.TheVariants as run
+
+-- why a command over an image isn't done
+abbrev pub refusal_text : RunFault → List ℕ
+refusal_text run.ImageSize = codes "IMAGE SIZE"
+refusal_text (run.Layout fault) = codes "LAYOUT " ++ fault_text fault
+refusal_text run.NoStock = codes "NO STOCK"
+refusal_text run.NoRequests = codes "NO REQUESTS"
+refusal_text (run.BadCard item) = codes "BAD CARD " ++ decimal item
+refusal_text (run.BadRequestCard till) = codes "BAD REQUEST CARD " ++ decimal till
+refusal_text run.TwoIntents = codes "TWO INTENTS"
+refusal_text (run.BadLine line) = codes "SCRIPT LINE " ++ decimal line
+refusal_text run.File = codes "FILE"
+refusal_text run.NoMemory = codes "NO MEMORY"
+refusal_text run.Device = codes "DEVICE"
+
+-- why a script isn't played
+abbrev pub dry_text : DryFault → List ℕ
+dry_text (dry.BadLine line) = codes "SCRIPT LINE " ++ decimal line
+dry_text dry.Output = codes "FILE"
+
+-- the line that a check prints: OK where nothing is wrong
+abbrev pub verdict_text : Option Fault → List ℕ
+verdict_text None = codes "OK\n"
+verdict_text (Some fault) = fault_text fault ++ codes "\n"
+
+-- a byte of the disk as it is printed: a question mark stands for each outside $20 to $7E
+abbrev pub shown : ℕ → ℕ
+shown b = if nat_le 32 b && nat_le b 126 then b else 63
+
+-- a name of a disk or a file between quotation marks, up to its first A0
+unfoldable pub quoted : List ℕ → List ℕ
+quoted padded = codes "\"" ++ (map shown (take_while (λ b. not (nat_eq b 160)) padded) ++ codes "\"")
+
+-- the types by their numbers, the low six bits of a type byte
+abbrev pub type_name : ℕ → List ℕ
+type_name kind =
+    if nat_eq kind 0 then codes "DEL"
+    else if nat_eq kind 1 then codes "SEQ"
+    else if nat_eq kind 2 then codes "PRG"
+    else if nat_eq kind 3 then codes "USR"
+    else if nat_eq kind 4 then codes "REL"
+    else codes "???"
+
+-- a type: a star stands before it where the file isn't closed, and < behind it where it is locked
+abbrev pub type_text : ℕ → List ℕ
+type_text byte =
+    (if nat_lt byte 128 then codes "*" else [])
+    ++ type_name (byte % 64)
+    ++ (if nat_eq (bit_at byte 6) 1 then codes "<" else [])
+
+-- an entry: its block count as stored, its name, its type
+unfoldable pub entry_text : Slot → List ℕ
+entry_text s =
+    decimal (count_field s)
+    ++ (codes " " ++ (quoted (slice_range s.bytes 5 21) ++ (codes " " ++ type_text (type_byte s))))
+
+-- the line of an entry
+abbrev pub entry_line : Slot → List ℕ
+entry_line s = entry_text s ++ codes "\n"
+
+-- the disk's name, its id and its version, as 18/0 has them
+unfoldable pub disk_text : Sector → List ℕ
+disk_text bytes =
+    codes "0 " ++ (quoted (slice_range bytes 144 160) ++ (codes " " ++ (map shown (slice_range bytes 162 164)
+    ++ (codes " " ++ map shown (slice_range bytes 165 167)))))
+
+-- the number of free blocks
+abbrev pub free_text : ℕ → List ℕ
+free_text blocks = decimal blocks ++ codes " BLOCKS FREE"
+
+-- the listing of a disk with these bytes of 18/0 and these entries: the disk, its entries, and the free blocks as 18/0
+-- counts them
+unfoldable pub listing : Sector → List Slot → List ℕ
+listing bytes entries =
+    disk_text bytes ++ codes "\n" ++ flat_map entry_line entries ++ free_text (blocks_free bytes) ++ codes "\n"

@@ -1,0 +1,75 @@
+//! The directory of an image, as it is printed.
+ghost use Rattle.std.specs.Prelude.{◌≡◌, ◌≢◌, IfErr, IfOk, OnOk, flat_map};
+ghost use Rattle.std.specs.Io.KnownBytes.{Appends};
+ghost use Rattle.d64_image.specs.Images.{sector};
+ghost use Rattle.d64_image.specs.Memory.{disk_image};
+ghost use Rattle.disk_layout.specs.Directory.{map_place as directory_map};
+ghost use Rattle.shop_commands.specs.Images.{IsListFault, IsListed};
+ghost use Rattle.shop_commands.specs.Texts.{entry_line, listing};
+ghost use Rattle.shop_commands.specs.declared.faults.RunFault.TheVariants as faults;
+
+use crate::bytes::{flush, load, put_line};
+use crate::faults::RunFault;
+use crate::texts::{DiskText, EntryText, FreeText};
+use arrayvec::ArrayVec;
+use d64_image::{MemDisk, Sectors};
+use disk_layout::{BamView, Slot, map_place, read_directory};
+use std::alloc::Global;
+use std::io::Write;
+
+/// The bytes of 18/0. A disk in memory gives them always.
+fn map_of(disk: &mut MemDisk) -> Result<[u8; 256], RunFault>
+    ensures ok { IfOk result (λ bytes. bytes ≡ sector (disk_image disk.old) directory_map) }
+    ensures err { IfErr result (λ _. ⊥) }
+{
+    let mut map = [0; 256];
+    if disk.read(map_place(), &mut map).is_err() {
+        return Err(RunFault::Device);
+    }
+    Ok(map)
+}
+
+/// Prints a line for each of these entries.
+fn put_entries<W: Write>(out: &mut W, slots: &[Slot]) -> Result<(), RunFault>
+    ensures ok { OnOk result
+        (Appends (W.contents out.old) (W.contents out.new) (flat_map entry_line slots.now)) }
+    ensures err { IfErr result (λ fault. fault ≡ faults.File) }
+{
+    for slot in slots {
+        put_line(out, EntryText(slot))?;
+    }
+    Ok(())
+}
+
+/// Prints the disk's name, id and version, a line for each entry, and the free blocks as the map
+/// counts them.
+fn put_directory<W: Write>(out: &mut W, map: &BamView<'_>, slots: &[Slot]) -> Result<(), RunFault>
+    ensures ok { OnOk result
+        (Appends (W.contents out.old) (W.contents out.new) (listing map.now.bytes.now slots.now)) }
+    ensures err { IfErr result (λ fault. fault ≡ faults.File) }
+{
+    put_line(out, DiskText(*map))?;
+    put_entries(out, slots)?;
+    put_line(out, FreeText(map.blocks_free()))?;
+    flush(out)
+}
+
+/// Prints the directory of the image. It is read and judged whole before anything is printed:
+/// `ImageSize` where the image hasn't the size of a disk, `Layout` where the directory's sectors
+/// aren't a chain on track 18 outside 18/0, `NoMemory` where there was none for the disk, `File`
+/// where the output failed, which may then have a part.
+pub fn list_image<W: Write>(alloc: Global, image: &[u8], out: &mut W) -> Result<(), RunFault>
+    // What is listed has a directory, whose listing was printed; and what is told holds.
+    ensures ok { OnOk result (IsListed W.contents image.now out.old out.new) }
+    ensures err { IfErr result (IsListFault image.now) }
+    // Only where the output failed something may have been printed.
+    ensures untouched { IfErr result (λ fault. (fault ≢ faults.File) → out.new ≡ out.old) }
+{
+    let mut disk = load(alloc, image)?;
+    let mut slots = ArrayVec::new();
+    if let Err(fault) = read_directory(&mut disk, &mut slots) {
+        return Err(RunFault::Layout(fault));
+    }
+    let map = map_of(&mut disk)?;
+    put_directory(out, &BamView::new(&map), slots.as_slice())
+}

@@ -1,0 +1,34 @@
+//! What the program's commands do, over bytes and writers.
+#![tactic(auto)]
+
+mod bytes;
+mod directory_listing;
+mod dry_run;
+mod durability;
+mod faults;
+mod formatting;
+mod image_file;
+mod judging;
+mod laws;
+mod locks;
+mod playing;
+mod reading;
+mod showing;
+mod shows;
+mod table;
+mod texts;
+
+pub use bytes::{load, put_whole};
+pub use directory_listing::list_image;
+pub use dry_run::{DryFault, dry};
+pub use durability::{Durability, WritesAt};
+pub use faults::RunFault;
+pub use formatting::{format_image, fresh_disk};
+pub use image_file::ImageFile;
+pub use judging::check_image;
+pub use laws::{dry_is_play, fresh_is_a_shop, run_tells_dry};
+pub use locks::Locks;
+pub use playing::{file_of, play_file, play_image};
+pub use reading::{read_image, read_script};
+pub use showing::show_image;
+pub use system_files::{EndedFile, OpensFile, OverwrittenFile};

@@ -1,0 +1,45 @@
+//! Files that one program at a time writes.
+use crate::durability::WritesAt;
+use crate::reading::read_image;
+use std::alloc::Global;
+use std::fs::{File, TryLockError};
+use std::io;
+
+/// A file that programs lock before they read or write it. The lock isn't waited for, and it falls with the open file,
+/// also where the program dies. It binds programs that ask for it, and no others.
+pub trait Locks: WritesAt {
+    ghost use Rattle.std.specs.Prelude.{◌≡◌, IfOk, IfSome, OnOk, take, vec_items};
+
+    /// Locks the file for this program alone. `WouldBlock` where another has a lock on it.
+    fn lock_alone(&mut self) -> Result<(), TryLockError>
+        ensures owned { OnOk result (Self.IsOwned self.new) }
+        ensures shared { OnOk result (Self.IsShared self.new) };
+
+    /// Locks the file so that others may read it too, and none writes it. `WouldBlock` where another has it alone.
+    fn lock_shared(&mut self) -> Result<(), TryLockError>
+        ensures shared { OnOk result (Self.IsShared self.new) };
+
+    /// The bytes of the image that it is: the first 174,849, or all of them where there are fewer. Nothing was read of
+    /// it before. Its error where it failed, or where there was no memory for them.
+    fn image(&mut self, alloc: Global) -> io::Result<Vec<u8>>
+        // it is locked first, alone or with others that read it
+        requires shared { Self.IsShared self.old }
+        ensures ok { IfOk result (λ bytes. IfSome (Self.held self.old) (λ all. vec_items bytes ≡ take 174849 all)) }
+        ensures owned { Self.IsOwned self.old → Self.IsOwned self.new }
+        ensures held { Self.held self.new ≡ Self.held self.old }
+        ensures lasting { Self.lasting.bytes self.new ≡ Self.lasting.bytes self.old };
+}
+
+impl Locks for File {
+    fn lock_alone(&mut self) -> Result<(), TryLockError> {
+        self.try_lock()
+    }
+
+    fn lock_shared(&mut self) -> Result<(), TryLockError> {
+        self.try_lock_shared()
+    }
+
+    fn image(&mut self, alloc: Global) -> io::Result<Vec<u8>> {
+        read_image(alloc, self)
+    }
+}

@@ -1,0 +1,104 @@
+//! Scripts played on the shop of a disk, and on that of an image over the image's file.
+ghost use Rattle.std.specs.Prelude.{◌≡◌, ◌≢◌, ◌⊎◌, Err, IfErr, IfOk, IsOk};
+ghost use Rattle.d64_image.specs.Keeps.{Agrees};
+ghost use Rattle.d64_image.specs.Memory.{sectors_in};
+ghost use Rattle.d64_image.specs.KeptMirrors.{is_broken, mirror_file};
+ghost use Rattle.host_session.specs.events.Telling.{TellsNone};
+ghost use Rattle.shop_commands.specs.Faults.{script_fault};
+ghost use Rattle.shop_commands.specs.Plays.{IsFileFault, IsPlayEnd, IsPlayedFile};
+ghost use Rattle.shop_commands.specs.declared.faults.RunFault.TheVariants as faults;
+
+use crate::bytes::load;
+use crate::faults::RunFault;
+use d64_image::{KeptMirror, SectorFile, Sectors};
+use host_session::{ReplySink, ScriptFault, play_script};
+use std::alloc::Global;
+
+/// What is told of a run that this fault ended. Replies that were told before it are handed on.
+fn told<D: Sectors, T: ReplySink<D>>(fault: ScriptFault, out: &mut T) -> RunFault
+    ensures value { result ≡ script_fault fault }
+    ensures silent { (fault ≢ ScriptFault.Output) → (fault ≢ ScriptFault.Device) → out.new ≡ out.old }
+    ensures told { TellsNone T.output out.old out.new }
+{
+    match fault {
+        ScriptFault::Output | ScriptFault::Device => {
+            // the fault is told, whatever comes of this
+            let _ = out.hand_on();
+        }
+        ScriptFault::Open(_) | ScriptFault::BadLine(_) => {}
+    }
+    RunFault::of_script(fault)
+}
+
+/// Plays the lines of a script on the shop of a disk, and tells the reply to each before the next is played. What was
+/// told is handed on at the end, also after a fault. The disk is handed back.
+///
+/// `BadLine`, the first bad line, and the faults of an opening, in its order: nothing was done then. After `File` the
+/// output failed; the lines that were played stand. `Device` where the device failed: the last reply is `MEDIA`, or
+/// `CUT` where it failed in the recovery.
+pub fn play_image<D: Sectors, T: ReplySink<D>>(
+    disk: D,
+    script: &[u8],
+    out: &mut T,
+) -> Result<D, (RunFault, D)>
+    ensures { IsPlayEnd D.history T.output disk script.now out.old out.new result }
+{
+    match play_script(disk, script, out) {
+        Ok(left) => match out.hand_on() {
+            Ok(()) => Ok(left),
+            Err(_) => Err((RunFault::File, left)),
+        },
+        Err((fault, left)) => Err((told::<D, T>(fault, out), left)),
+    }
+}
+
+/// The file of a mirror whose run ended so: `Device` where the file failed.
+pub fn file_of<F: SectorFile>(
+    mirror: KeptMirror<F>,
+    end: Result<(), RunFault>,
+) -> Result<F, (RunFault, F)>
+    ensures ok { IfOk result (λ file. (file ≡ mirror_file mirror) × ¬ (is_broken mirror) × IsOk end) }
+    ensures err { IfErr result (λ e. (e.1 ≡ mirror_file mirror)
+        × ((is_broken mirror × (e.0 ≡ faults.Device)) ⊎ (¬ (is_broken mirror) × (end ≡ Err e.0)))) }
+{
+    let failed = mirror.is_broken();
+    let (file, _) = mirror.into_inner();
+    if failed {
+        return Err((RunFault::Device, file));
+    }
+    match end {
+        Ok(()) => Ok(file),
+        Err(fault) => Err((fault, file)),
+    }
+}
+
+/// Plays the lines of a script on the shop of an image, as `play_image` does, over the file that keeps the image. Each
+/// sector is handed to the file before memory takes it, and so before the reply to its line is told. The file is handed
+/// back.
+///
+/// `ImageSize`; `NoMemory` where there was none for the disk; `BadLine`, the first bad line; and the faults of an
+/// opening, in its order. Nothing was done then. After `File` the output failed; the lines that were played stand.
+/// `Device` where the file failed.
+// Out of line: a session is large, and a frame that has its room touches each page of it.
+#[inline(never)]
+pub fn play_file<F: SectorFile, T: ReplySink<KeptMirror<F>>>(
+    alloc: Global,
+    image: &[u8],
+    script: &[u8],
+    file: F,
+    out: &mut T,
+) -> Result<F, (RunFault, F)>
+    // where it is known what the file keeps, it is this image
+    requires agrees { Agrees (F.keeps.kept file) (sectors_in image.now) }
+    ensures ok { IfOk result (λ after. IsPlayedFile F.keeps T.output image.now script.now file after out.old out.new) }
+    ensures err { IfErr result (λ e. IsFileFault F.keeps T.output image.now script.now file e.1 out.old out.new e.0) }
+{
+    let disk = match load(alloc, image) {
+        Ok(disk) => disk,
+        Err(fault) => return Err((fault, file)),
+    };
+    match play_image(KeptMirror::new(file, disk), script, out) {
+        Ok(mirror) => file_of(mirror, Ok(())),
+        Err((fault, mirror)) => file_of(mirror, Err(fault)),
+    }
+}

@@ -1,0 +1,62 @@
+//! A file that is opened when it is first written over.
+use crate::remaining::EndedFile;
+use std::io;
+
+/// Where a file is opened for writing: it isn't cut.
+pub trait OpensFile {
+    /// The opened file.
+    type File: EndedFile + Drop;
+
+    /// Opens the file.
+    fn open(&mut self) -> io::Result<Self::File>;
+
+    /// Brings the folder to the disk in which the file stands, so that its name stays if the machine loses power.
+    fn sync_folder(&mut self) -> io::Result<()>;
+}
+
+/// A file that is written over, and opened at the first use; nothing is touched before. Bringing it to the disk brings
+/// its folder there too.
+#[derive(Drop)]
+pub struct OverwrittenFile<O: OpensFile> {
+    opens: O,
+    file: Option<O::File>,
+}
+
+impl<O: OpensFile> OverwrittenFile<O> {
+    /// The file that is opened so, and isn't opened yet.
+    pub fn new(opens: O) -> OverwrittenFile<O> {
+        OverwrittenFile { opens, file: None }
+    }
+
+    /// How the file is opened.
+    pub fn opener(&self) -> &O {
+        &self.opens
+    }
+
+    /// The file, opened.
+    fn opened(&mut self) -> io::Result<&mut O::File> {
+        if self.file.is_none() {
+            let file = self.opens.open()?;
+            self.file = Some(file);
+        }
+        match &mut self.file {
+            Some(file) => Ok(file),
+            None => Err(io::Error::from(io::ErrorKind::NotFound)),
+        }
+    }
+}
+
+impl<O: OpensFile> EndedFile for OverwrittenFile<O> {
+    fn put_over(&mut self, bytes: &[u8], at: u64) -> io::Result<()> {
+        self.opened()?.put_over(bytes, at)
+    }
+
+    fn end_at(&mut self, bytes: u64) -> io::Result<()> {
+        self.opened()?.end_at(bytes)
+    }
+
+    fn sync_whole(&mut self) -> io::Result<()> {
+        self.opened()?.sync_whole()?;
+        self.opens.sync_folder()
+    }
+}

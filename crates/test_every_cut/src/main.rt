@@ -1,0 +1,132 @@
+//! Plays a day of messages on a disk, and tries each moment of it: `test_every_cut MESSAGES SEED ITEMS IMAGE`.
+#![tactic(auto)]
+
+mod bits;
+mod cuts;
+mod day;
+mod draw;
+mod events;
+mod found;
+mod ledger;
+mod old_disk;
+mod others;
+mod tried;
+
+use bits::turn_each_bit;
+use cuts::{Asked, close, open, reopen};
+use d64_image::MemDisk;
+use day::{DEEP, Shop, play_day};
+use draw::Draw;
+use found::{Found, or_say};
+use ledger::Ledger;
+use old_disk::{old_disk, open_message};
+use others::Others;
+use request_cards::{Reply, Word};
+use std::alloc::Global;
+use std::process::ExitCode;
+use std::{env, fs, io};
+use tried::Tried;
+
+/// A word that is a number; this one where there is no word. Err where it is no number.
+fn number(word: Option<String>, without: u16) -> Found<u16> {
+    match word {
+        Some(word) => or_say(
+            word.as_str().parse(),
+            "MESSAGES, SEED and ITEMS are numbers up to 65535",
+        ),
+        None => Ok(without),
+    }
+}
+
+/// The disk of our own with cards of version 1, each image of whose opening is tried; then at rest.
+fn old_shop(alloc: Global, tried: &mut Tried) -> Found<Shop> {
+    let (mut disk, ledger) = old_disk(alloc)?;
+    let others = Others::of(&mut disk)?;
+    let Some((request, answer)) = open_message(&ledger) else {
+        return Err("no intent stands open");
+    };
+    let message = request.print();
+    let asked = Asked {
+        message: message.as_slice(),
+        reply: Reply::Told {
+            till: request.till(),
+            number: request.number(),
+            word: Word::Kept(answer),
+        },
+    };
+    reopen(alloc, &disk, &asked, &ledger, &others, DEEP, tried)?;
+    let session = open(alloc, &disk, tried)?;
+    let (disk, _) = close(session, &others)?;
+    Ok(Shop {
+        disk,
+        ledger,
+        others,
+    })
+}
+
+/// The shop on an image of someone else's, which holds no card and no request yet.
+fn other_shop(alloc: Global, bytes: &[u8], tried: &mut Tried) -> Found<Shop> {
+    let mut disk = or_say(
+        MemDisk::load(alloc, bytes),
+        "the image has another size, or no memory",
+    )?;
+    let others = Others::of(&mut disk)?;
+    let session = open(alloc, &disk, tried)?;
+    let ledger = Ledger::new(session.tills(), others.top());
+    let is_empty = ledger.is_in(&session);
+    let (disk, _) = close(session, &others)?;
+    if !is_empty {
+        return Err("the image holds cards or requests, or has another top");
+    }
+    Ok(Shop {
+        disk,
+        ledger,
+        others,
+    })
+}
+
+/// Plays the day that the words name, and tells how much was tried.
+fn run(rt: &HostRuntime, tried: &mut Tried) -> Found<()> {
+    let mut words = or_say(env::args(rt), "no memory for the words")?;
+    words.next();
+    let word = words.next();
+    if word.is_none() {
+        turn_each_bit(rt.alloc(), tried)?;
+    }
+    let messages = number(word, 300)?;
+    let seed = number(words.next(), 1)?;
+    let items = number(words.next(), 150)?;
+    let mut shop = match words.next() {
+        None => old_shop(rt.alloc(), tried)?,
+        Some(path) => {
+            let bytes = or_say(fs::read(rt, path.as_str()), "the image isn't readable")?;
+            other_shop(rt.alloc(), bytes.as_slice(), tried)?
+        }
+    };
+    let mut draw = Draw::new(u64::from(seed), items, messages);
+    play_day(rt.alloc(), &mut shop, &mut draw, messages, tried)
+}
+
+/// Prints how much was tried, a line for each.
+fn tell(rt: &HostRuntime, rows: &[(&str, u64)]) -> io::Result<()> {
+    for (what, number) in rows {
+        println!(rt; "{what} {number}")?;
+    }
+    Ok(())
+}
+
+fn main(rt: HostRuntime) -> io::Result<ExitCode> {
+    let mut tried = Tried::nothing();
+    let result = run(&rt, &mut tried);
+    tell(&rt, &tried.rows())?;
+    match result {
+        Ok(()) => {
+            println!(rt; "no difference")?;
+            Ok(ExitCode::SUCCESS)
+        }
+        Err(what) => {
+            println!(rt; "{what}")?;
+            Ok(ExitCode::FAILURE)
+        }
+    }
+}

@@ -1,0 +1,41 @@
+-- Bytes that were written whole, in part or not at all.
+use Rattle.std.proofs.Common.{◌≡◌, ◌∙◌, ◌+◌, ◌++◌, ◌⊎◌, ℕ, List, [], Option, Some, Result, Ok, Err}
+use Rattle.std.proofs.Common.{ap, arith, drop, inl, inr}
+use Rattle.std.proofs.Common.{length, subst, sym, take, ⊎_elim}
+use Rattle.std.proofs.Math.Seq.{take-length}
+use Rattle.std.proofs.lemmas.List.{append-nil, take-append-drop}
+use Rattle.d64_image.specs.Offsets.{overwritten}
+use Rattle.shop_commands.specs.Durable.{IsOverwritten, WritesOver}
+use Rattle.shop_commands.specs.Lasting.{Lasting, StaysOr}
+
+-- whatever came of bringing them to the disk
+pub whole_written : {E : Type 0} (old new : List ℕ) (n : ℕ) (bytes : List ℕ) (r : Result Unit E)
+    → IsOverwritten (Some old) (Some new) n bytes → WritesOver (Some old) (Some new) n bytes r
+whole_written old new n bytes (Ok _) written = written
+whole_written old new n bytes (Err _) written =
+    (length bytes, subst (λ xs. IsOverwritten (Some old) (Some new) n xs) (sym (take-length bytes)) written)
+
+pub overwritten_none : (all : List ℕ) (n : ℕ) → overwritten all n [] ≡ all
+overwritten_none all n =
+    let none : n + 0 ≡ n = omega arith in
+    ap (λ xs. xs ++ drop (n + 0) all) (append-nil (take n all))
+    ∙ ap (λ m. take n all ++ drop m all) none
+    ∙ take-append-drop n all
+
+-- at an error
+pub part_written : (old new : List ℕ) (n : ℕ) (bytes part : List ℕ) (count : ℕ) → part ≡ take count bytes
+    → (Some new ≡ Some old) ⊎ (Some new ≡ Some (overwritten old n part))
+    → (k : ℕ) × IsOverwritten (Some old) (Some new) n (take k bytes)
+part_written old new n bytes part count is (inl same) = (0, λ le. same ∙ ap Some (sym (overwritten_none old n)))
+part_written old new n bytes part count is (inr written) =
+    (count, λ le. written ∙ ap (λ xs. Some (overwritten old n xs)) is)
+
+-- nothing came, where that was what there was
+pub none_came : {F : Type 0} (L : Lasting F) (a b : F) (same next : Option (List ℕ)) → L.bytes a ≡ same
+    → StaysOr L a b same → StaysOr L a b next
+none_came L a b same next is x = record {
+  now = inl (⊎_elim (λ e. e) (λ e. e ∙ sym is) x.now);
+  later = x.later;
+  each = λ all h. inl (⊎_elim (λ e. e) (λ e. is ∙ e) (x.each all h));
+  before = λ t all le h. ⊎_elim (λ s. inl s) (λ k. inr (inl (⊎_elim (λ e. e) (λ e. is ∙ e) k))) (x.before t all le h);
+}

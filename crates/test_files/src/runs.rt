@@ -1,0 +1,83 @@
+//! Scripts that are played on the shop of a file in memory, and shops that are served over one: so that each sector is
+//! on its disk before anything else is done, or all at the end.
+ghost use Rattle.std.specs.Prelude.{◌≡◌, Err, OnOk, true};
+ghost use Rattle.host_session.specs.events.Events.{messages_of};
+ghost use Rattle.script_lines.specs.Lines.{lines};
+ghost use Rattle.shop_commands.specs.declared.faults.RunFault.TheVariants as faults;
+ghost use Rattle.test_files.specs.Files.{file_held, has_failed};
+ghost use Rattle.test_files.specs.Services.{IsServedToDisk};
+ghost use Rattle.test_files.specs.Shops.{IsPlayedToDisk, StaysAShop, bytes_there};
+ghost use Rattle.test_files.specs.WholeFiles.{file_in, whole_held};
+ghost use Rattle.test_files.specs.WholeShops.{HoldsAShop, IsPlayedInFile};
+
+use crate::disk_file::DiskFile;
+use crate::whole_file::WholeFile;
+use d64_image::KeptMirror;
+use disk_layout::Fault;
+use host_session::ReplySink;
+use ledger_jobs::{play_durably, serve_durably};
+use line_server::{Answers, LineSource};
+use shop_commands::{Durability, ImageFile, RunFault};
+use std::alloc::Global;
+
+/// Plays a script on the shop of the image that the file holds: the file then, and how that ended. Wherever power is
+/// lost in it, the disk has the shop after a beginning of the lines.
+pub fn play_on_disk<T: ReplySink<KeptMirror<ImageFile<DiskFile>>>>(
+    alloc: Global,
+    image: &[u8],
+    script: &[u8],
+    file: DiskFile,
+    out: &mut T,
+) -> (DiskFile, Result<Option<Fault>, RunFault>)
+    requires there { bytes_there file ≡ file_held file }
+    requires image { image.now ≡ file_held file }
+    ensures done { OnOk result.1 (IsPlayedToDisk T.output script.now file result.0 out.old out.new) }
+    // all that it holds then is there
+    ensures held { OnOk result.1 (bytes_there result.0 ≡ file_held result.0) }
+    // however it ended
+    ensures stays { StaysAShop (messages_of (lines script.now)) file result.0 }
+    // the device is told of where a call of the file failed
+    ensures device { result.1 ≡ Err faults.Device → has_failed result.0 ≡ true }
+{
+    play_durably(alloc, image, script, file, Durability::EachSector, out)
+}
+
+/// Plays a script on the shop of the image that the file holds, and brings it to the disk at the end: the file then,
+/// and how that ended. Wherever the program dies in it, the file has the shop after a beginning of the lines.
+pub fn play_in_file<T: ReplySink<KeptMirror<ImageFile<WholeFile>>>>(
+    alloc: Global,
+    image: &[u8],
+    script: &[u8],
+    file: WholeFile,
+    out: &mut T,
+) -> (WholeFile, Result<Option<Fault>, RunFault>)
+    requires image { image.now ≡ whole_held file }
+    ensures done { OnOk result.1 (IsPlayedInFile T.output script.now file result.0 out.old out.new) }
+    // all that it holds then is there
+    ensures held { OnOk result.1 (bytes_there (file_in result.0) ≡ whole_held result.0) }
+    // however it ended
+    ensures stays { HoldsAShop (messages_of (lines script.now)) file result.0 }
+    // the device is told of where a call of the file failed
+    ensures device { result.1 ≡ Err faults.Device → has_failed (file_in result.0) ≡ true }
+{
+    play_durably(alloc, image, script, file, Durability::AtEnd, out)
+}
+
+/// Serves the shop of the image that the file holds, line by line: the file then, and how that ended. Wherever power is
+/// lost in it, the disk has the shop after a beginning of the lines; and while a reply is told, the one after its line.
+pub fn serve_on_disk<R, T>(
+    alloc: Global,
+    image: &[u8],
+    file: DiskFile,
+    input: &mut R,
+    out: &mut T,
+) -> (DiskFile, Result<Option<Fault>, RunFault>)
+where
+    R: LineSource<KeptMirror<ImageFile<DiskFile>>>,
+    T: Answers<KeptMirror<ImageFile<DiskFile>>>,
+    requires there { bytes_there file ≡ file_held file }
+    requires image { image.now ≡ file_held file }
+    ensures { IsServedToDisk R.input T.answering file result.0 input.old input.new out.old out.new result.1 }
+{
+    serve_durably(alloc, image, file, Durability::EachSector, input, out)
+}

@@ -1,0 +1,57 @@
+//! A file in memory in which no write leaves a part of itself.
+ghost use Rattle.std.specs.Prelude.{◌≡◌};
+ghost use Rattle.test_files.specs.Files.{is_whole};
+
+use crate::disk_file::DiskFile;
+use shop_commands::WritesAt;
+use std::io;
+
+/// A file whose writes, where they fail, leave what it held: what it holds at any moment is known, and with it what is
+/// left where its program dies.
+#[derive(Drop)]
+pub struct WholeFile {
+    file: DiskFile,
+    ghost whole: { is_whole file },
+}
+
+impl WholeFile {
+    ghost use Rattle.test_files.specs.WholeFiles.{file_in};
+
+    /// Such a file.
+    pub fn new(file: DiskFile) -> WholeFile
+        requires whole { is_whole file }
+        ensures { file_in result ≡ file }
+    {
+        WholeFile { file }
+    }
+
+    /// The file.
+    pub fn into_inner(self) -> DiskFile
+        ensures { result ≡ file_in self }
+    {
+        let WholeFile { file } = self;
+        file
+    }
+}
+
+impl WritesAt for WholeFile {
+    ghost use Rattle.std.specs.Prelude.{◌≡◌, Some};
+    ghost use Rattle.test_files.specs.Files.{has_failed};
+    ghost use Rattle.test_files.specs.WholeFiles.{file_in, whole_file, whole_held, whole_lasting};
+
+    ghost held = { λ f. Some (whole_held f) };
+
+    ghost lasting = { whole_lasting };
+
+    ghost whole = { whole_file };
+
+    ghost has_failed = { λ f. has_failed (file_in f) };
+
+    fn write_all_at(&mut self, bytes: &[u8], at: u64) -> io::Result<()> {
+        self.file.write_noted(bytes, at)
+    }
+
+    fn sync(&mut self) -> io::Result<()> {
+        self.file.bring_noted()
+    }
+}

@@ -1,0 +1,121 @@
+//! Days on files whose disks are known: played whole, and with a call that fails.
+use crate::images::formatted;
+use disk_layout::Fault;
+use host_session::Printer;
+use shop_commands::{RunFault, show_image};
+use std::process::Abort;
+use test_files::{Bringing, DiskFile, IMAGE_BYTES, WholeFile, play_in_file, play_on_disk};
+
+const SCRIPT: &[u8] = b"1,1,S,42,120\n1,2,I,42,20\n";
+
+/// What is shown of the shop before the lines and after each.
+pub(crate) const SHOPS: [&[u8]; 3] = [
+    b"TOP 9256\n",
+    b"TOP 9256\nCARD 42,120\nTILL 1,1,S,42,120,DONE,120\n",
+    b"TOP 9256\nCARD 42,100\nTILL 1,2,I,42,20,DONE,100\nPRIOR 1,1,S,42,120,DONE,120\n",
+];
+
+/// The image of a fresh shop.
+pub(crate) fn fresh(rt: &(impl AllocGlobal + Abort)) -> Vec<u8> {
+    formatted(rt, 2)
+}
+
+/// Plays the script on a file of this image, of which so many calls pass: how that ends, and the file then.
+fn played(
+    rt: &(impl AllocGlobal + Abort),
+    image: &[u8],
+    bringing: Bringing,
+    calls: u64,
+) -> (DiskFile, Result<Option<Fault>, RunFault>) {
+    if image.len() != IMAGE_BYTES {
+        panic!(rt; "no image");
+    }
+    let file = DiskFile::new(rt.alloc(), image, bringing).expect(rt, "a file");
+    let file = file.failing(calls, 100, false);
+    let mut out = Printer::new(Vec::new(rt.alloc()));
+    play_on_disk(rt.alloc(), image, SCRIPT, file, &mut out)
+}
+
+/// Which shop is on the disk once such a day has ended, and whether that ended well.
+fn shop_after(
+    rt: &(impl AllocGlobal + Abort),
+    bringing: Bringing,
+    calls: u64,
+) -> (Option<usize>, bool) {
+    let image = fresh(rt);
+    let (file, ended) = played(rt, image.as_slice(), bringing, calls);
+    (shop_of(rt, file.disk().bytes()), ended == Ok(None))
+}
+
+/// Which shop an image has.
+fn shop_of(rt: &(impl AllocGlobal + Abort), image: &[u8]) -> Option<usize> {
+    let mut shown = Vec::new(rt.alloc());
+    let _ = show_image(rt.alloc(), image, &mut shown);
+    SHOPS.iter().position(|shop| *shop == shown.as_slice())
+}
+
+/// Plays the script in a file that is synced at the end alone, of which so many calls pass: the shop that it holds
+/// then, the one on its disk, and whether that ended well.
+fn shops_in_file(
+    rt: &(impl AllocGlobal + Abort),
+    calls: u64,
+) -> (Option<usize>, Option<usize>, bool) {
+    let image = fresh(rt);
+    if image.len() != IMAGE_BYTES {
+        panic!(rt; "no image");
+    }
+    let file = DiskFile::new(rt.alloc(), image.as_slice(), Bringing::WhenSynced);
+    let file = WholeFile::new(file.expect(rt, "a file").failing(calls, 0, false));
+    let mut out = Printer::new(Vec::new(rt.alloc()));
+    let (file, ended) = play_in_file(rt.alloc(), image.as_slice(), SCRIPT, file, &mut out);
+    let file = file.into_inner();
+    let there = shop_of(rt, file.disk().bytes());
+    (shop_of(rt, file.held()), there, ended == Ok(None))
+}
+
+/// Sees that the disk has this shop, and that the day ended so.
+fn leaves(rt: &(impl AllocGlobal + Abort), bringing: Bringing, calls: u64, wanted: (usize, bool)) {
+    let (shop, done) = shop_after(rt, bringing, calls);
+    assert!(rt;
+        shop == Some(wanted.0) && done == wanted.1,
+        "{calls}: {shop:?}, {done}"
+    );
+}
+
+#[test]
+fn a_day_is_on_the_disk(rt: HostRuntime) {
+    leaves(&rt, Bringing::WhenSynced, u64::MAX, (2, true));
+    leaves(&rt, Bringing::Flushing, u64::MAX, (2, true));
+}
+
+#[test]
+fn a_failing_call_leaves_a_beginning(rt: HostRuntime) {
+    leaves(&rt, Bringing::WhenSynced, 1, (0, false));
+    let mut before = (0, false);
+    for calls in 0..120u64 {
+        let (shop, done) = shop_after(&rt, Bringing::WhenSynced, calls);
+        let now = (shop.unwrap_or(0), done);
+        assert!(&rt; now >= before && (now.0 == 2 || !done), "{calls}: {now:?}");
+        before = now;
+        if done {
+            break;
+        }
+    }
+    assert!(&rt; before == (2, true), "{before:?}");
+}
+
+#[test]
+fn a_file_that_is_synced_at_the_end_holds_a_beginning(rt: HostRuntime) {
+    let mut before = (0, 0, false);
+    for calls in 0..60u64 {
+        let (held, there, done) = shops_in_file(&rt, calls);
+        let now = (held.unwrap_or(0), there.unwrap_or(0), done);
+        let is_brought = now.1 == if done { 2 } else { 0 };
+        assert!(&rt; now >= before && is_brought, "{calls}: {now:?}");
+        before = now;
+        if done {
+            break;
+        }
+    }
+    assert!(&rt; before == (2, 2, true), "{before:?}");
+}

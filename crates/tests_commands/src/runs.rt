@@ -1,0 +1,114 @@
+//! Runs of the commands: what they print, show and tell.
+use crate::comparing::{holds, same};
+use crate::files::{Paper, Tape, new_tape};
+use host_session::Printer;
+use shop_commands::{
+    DryFault, ImageFile, RunFault, check_image, dry, list_image, play_file, show_image,
+};
+use std::fmt::Display;
+use std::io::Write;
+use std::process::Abort;
+
+/// How a run ended, and the file that it handed back.
+pub(crate) fn parted(
+    run: Result<ImageFile<Tape>, (RunFault, ImageFile<Tape>)>,
+) -> (Result<(), RunFault>, Tape) {
+    match run {
+        Ok(file) => (Ok(()), file.into_inner()),
+        Err((fault, file)) => (Err(fault), file.into_inner()),
+    }
+}
+
+/// Plays a script on the image, over a file that takes so many bytes: how it ends, and the file.
+pub(crate) fn played_within<W: Write>(
+    rt: &(impl AllocGlobal + Abort),
+    image: &[u8],
+    script: &[u8],
+    room: usize,
+    out: &mut W,
+) -> (Result<(), RunFault>, Tape) {
+    let file = ImageFile::new(new_tape(rt, image, room));
+    let mut printer = Printer::new(out);
+    parted(play_file(rt.alloc(), image, script, file, &mut printer))
+}
+
+/// The same over a file that takes all.
+pub(crate) fn played<W: Write>(
+    rt: &(impl AllocGlobal + Abort),
+    image: &[u8],
+    script: &[u8],
+    out: &mut W,
+) -> (Result<(), RunFault>, Tape) {
+    played_within(rt, image, script, usize::MAX, out)
+}
+
+/// Plays a script without a disk: how it ends.
+pub(crate) fn dried<W: Write>(script: &[u8], out: &mut W) -> Result<(), DryFault> {
+    dry(script, out)
+}
+
+/// Judges an image: whether a fault is told.
+pub(crate) fn judged<W: Write>(
+    rt: &impl AllocGlobal,
+    image: &[u8],
+    out: &mut W,
+) -> Result<bool, RunFault> {
+    match check_image(rt.alloc(), image, out) {
+        Ok(found) => Ok(found.is_some()),
+        Err(fault) => Err(fault),
+    }
+}
+
+/// Lists an image: how that ends.
+pub(crate) fn listed<W: Write>(
+    rt: &impl AllocGlobal,
+    image: &[u8],
+    out: &mut W,
+) -> Result<(), RunFault> {
+    list_image(rt.alloc(), image, out)
+}
+
+/// Shows the shop of an image: how that ends.
+pub(crate) fn shown<W: Write>(
+    rt: &impl AllocGlobal,
+    image: &[u8],
+    out: &mut W,
+) -> Result<(), RunFault> {
+    show_image(rt.alloc(), image, out)
+}
+
+/// Sees that this was printed, and handed on by a flush.
+pub(crate) fn is_printed(rt: &impl Abort, out: &Paper, wanted: &[u8]) {
+    same(rt, out.bytes.as_slice(), wanted);
+    same(rt, out.handed, wanted.len());
+}
+
+/// Sees that the image is clean and that this is shown of it.
+pub(crate) fn is_shown(rt: &(impl AllocGlobal + Abort), image: &[u8], text: &[u8]) {
+    let mut out = Vec::new(rt.alloc());
+    let found = judged(rt, image, &mut out);
+    same(rt, (found, out.as_slice()), (Ok(false), b"OK\n"));
+    shows(rt, image, text);
+}
+
+/// Sees that this is shown of the image.
+pub(crate) fn shows(rt: &(impl AllocGlobal + Abort), image: &[u8], text: &[u8]) {
+    let mut out = Vec::new(rt.alloc());
+    let ended = shown(rt, image, &mut out);
+    same(rt, (ended, out.as_slice()), (Ok(()), text));
+}
+
+/// Sees that a command isn't done, and that this is told.
+pub(crate) fn is_told(rt: &(impl AllocGlobal + Abort), ended: Result<(), RunFault>, text: &str) {
+    match ended {
+        Ok(()) => holds(rt, false, text),
+        Err(fault) => has_text(rt, fault, text),
+    }
+}
+
+/// Sees that a fault is told by this text.
+pub(crate) fn has_text<F: Display + Drop>(rt: &(impl AllocGlobal + Abort), fault: F, text: &str) {
+    let mut told = Vec::new(rt.alloc());
+    let _ = write!(told, "{fault}");
+    same(rt, told.as_slice(), text.as_bytes());
+}

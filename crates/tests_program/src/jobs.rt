@@ -1,0 +1,126 @@
+//! The job that words ask for, told in a line.
+use crate::memory::Errors;
+use crate::runs::texts_of;
+use command_line::command_line;
+use ledger_cli::{Job, job};
+use ledger_jobs::{Drawing, Effect, Loss, Name, Taking, Unowned};
+use shop_commands::Durability;
+use std::alloc::Global;
+use std::cell::RefCell;
+use std::io::Write;
+
+/// A job: its subcommand, its image, its script or records, and its tills, the length of its records or how many bytes
+/// its name has, where it has them.
+type Row<'a> = (&'a str, &'a str, &'a str, u8);
+
+/// How many bytes a name has.
+fn bytes_of(name: &Name) -> u8 {
+    name.as_bytes().len().min(255) as u8
+}
+
+/// The row of a job.
+fn row_of<'a>(job: &Job<'a>) -> Row<'a> {
+    match *job {
+        Job::Format { image, tills } => ("format", image, "", tills),
+        Job::FormatNew { image, tills } => ("format new", image, "", tills),
+        Job::List { image } => ("list", image, "", 0),
+        Job::Check { image } => ("check", image, "", 0),
+        Job::Show { image } => ("show", image, "", 0),
+        Job::Dry { script } => ("dry", "", script, 0),
+        Job::Play { image, script } => ("play", image, script, 0),
+        Job::PlaySynced { image, script } => ("play synced", image, script, 0),
+        Job::Serve { image, .. } => ("serve", image, "", 0),
+        Job::Repair { image, .. } => ("repair", image, "", 0),
+        Job::Take {
+            what: Taking::Records,
+            image,
+            ref name,
+        } => ("records", image, "", bytes_of(name)),
+        Job::Take {
+            what: Taking::Bytes,
+            image,
+            ref name,
+        } => ("bytes", image, "", bytes_of(name)),
+        Job::Make { image, length, .. } => ("make", image, "", length),
+        Job::Store {
+            image,
+            ref name,
+            records,
+            ..
+        } => ("store", image, records, bytes_of(name)),
+        Job::Draw {
+            what: Drawing::Map,
+            image,
+        } => ("map", image, "", 0),
+        Job::Draw {
+            what: Drawing::Picture,
+            image,
+        } => ("picture", image, "", 0),
+        Job::Draw {
+            what: Drawing::Poster,
+            image,
+        } => ("picture --svg", image, "", 0),
+    }
+}
+
+/// What is said of a disk that has lost a part of a file.
+fn said_of(loss: Loss) -> &'static str {
+    match loss {
+        Loss::Refused => "",
+        Loss::Accepted => ", loss accepted",
+    }
+}
+
+/// What is said of each thing that the flags of a job choose.
+fn chosen_by(job: &Job<'_>) -> [&'static str; 3] {
+    match job {
+        Job::Serve {
+            durability,
+            loss,
+            ..
+        } => match durability {
+            Durability::EachSector => [said_of(*loss), "", ""],
+            Durability::AtEnd => [said_of(*loss), ", unsynced", ""],
+        },
+        Job::Repair {
+            loss,
+            unowned,
+            effect,
+            ..
+        } => {
+            let freed = match unowned {
+                Unowned::Kept => "",
+                Unowned::Freed => ", freed",
+            };
+            let printed = match effect {
+                Effect::Written => "",
+                Effect::Printed => ", printed",
+            };
+            [said_of(*loss), freed, printed]
+        }
+        Job::Make { loss, .. } | Job::Store { loss, .. } => [said_of(*loss), "", ""],
+        _ => ["", "", ""],
+    }
+}
+
+/// Writes what the words ask for, or the number of the fault and the status that they end with. The words are as those
+/// of a runtime. Whether it was written.
+pub(crate) fn asked(alloc: Global, words: &[u8], out: &RefCell<Vec<u8>>) -> bool {
+    let texts = texts_of(alloc, words);
+    let mut out = Errors(out);
+    let told = match &job(alloc, texts.as_slice()) {
+        Ok(job) => {
+            let (name, image, other, number) = row_of(job);
+            let [first, second, third] = chosen_by(job);
+            write!(
+                out,
+                "{name}, {image}, {other}, {number}{first}{second}{third}"
+            )
+        }
+        Err(fault) => write!(out, "fault {}, status {}", fault.number(), fault.status()),
+    };
+    if command_line(alloc, texts.as_slice()).is_explained {
+        let _ = write!(out, ", explained");
+    }
+    told.is_ok()
+}

@@ -1,0 +1,281 @@
+//! Outputs that are full, or don't hand on what they took, and image files that fail while they are written.
+ghost use Rattle.ledger_jobs.specs.Jobs.{IsFit};
+
+use crate::memory::Runtime;
+use crate::scenes::{each, first_scene};
+use ledger_jobs::{Drawing, Effect, Job, Loss, Unowned, do_job, end};
+use std::io::{self, Write};
+use std::process::Abort;
+
+/// Outputs that are full. The messages are records' lines too: of two of record 1 the last counts.
+const FULL: &[u8] = b"
+script 1,1,S,1,5|1,2,S,1,6|
+input 1,1,S,1,5|1,2,S,1,6|
+output-takes 12 bytes
+$ ledger_cli serve a.d64
+prints 1,1,DONE,5|1
+tells FILE|
+ends 3
+written
+
+script 1,1,S,1,5|1,2,S,1,6|
+input 1,1,S,1,5|1,2,S,1,6|
+output-takes 2 bytes
+$ ledger_cli repair a.d64
+prints OK
+tells FILE|
+ends 3
+
+script 1,1,S,1,5|1,2,S,1,6|
+input 1,1,S,1,5|1,2,S,1,6|
+output-takes 3 bytes
+$ ledger_cli make a.d64 CARDS --length 30
+prints MAD
+tells FILE|
+ends 3
+written
+
+script 1,1,S,1,5|1,2,S,1,6|
+input 1,1,S,1,5|1,2,S,1,6|
+output-takes 8 bytes
+$ ledger_cli store a.d64 REQUESTS s.txt
+prints 1,\"2,S,1
+tells FILE|
+ends 3
+written
+
+script 1,1,S,1,5|1,2,S,1,6|
+input 1,1,S,1,5|1,2,S,1,6|
+output-takes 4 bytes
+$ ledger_cli map a.d64
+prints    0
+tells FILE|
+ends 3
+
+script 1,1,S,1,5|1,2,S,1,6|
+input 1,1,S,1,5|1,2,S,1,6|
+output-takes 5 bytes
+$ ledger_cli picture a.d64
+prints <!DOC
+tells FILE|
+ends 3
+
+script 1,1,S,1,5|1,2,S,1,6|
+input 1,1,S,1,5|1,2,S,1,6|
+output-takes 5 bytes
+$ ledger_cli records a.d64 REQUESTS
+prints 1,\"\\f
+tells FILE|
+ends 3
+
+script 1,1,S,1,5|1,2,S,1,6|
+input 1,1,S,1,5|1,2,S,1,6|
+output-takes 1 bytes
+$ ledger_cli bytes a.d64 REQUESTS
+prints \xff
+tells FILE|
+ends 3
+
+script 1,1,S,1,5|1,2,S,1,6|
+input 1,1,S,1,5|1,2,S,1,6|
+output-takes 10 bytes
+$ ledger_cli list a.d64
+prints 0 \"STOCK L
+tells FILE|
+ends 3
+
+script 1,1,S,1,5|1,2,S,1,6|
+input 1,1,S,1,5|1,2,S,1,6|
+output-takes 2 bytes
+$ ledger_cli check a.d64
+prints OK
+tells FILE|
+ends 3
+
+script 1,1,S,1,5|1,2,S,1,6|
+input 1,1,S,1,5|1,2,S,1,6|
+output-takes 0 bytes
+$ ledger_cli show a.d64
+tells FILE|
+ends 3
+
+script 1,1,S,1,5|1,2,S,1,6|
+input 1,1,S,1,5|1,2,S,1,6|
+output-takes 12 bytes
+$ ledger_cli dry s.txt
+prints 1,1,DONE,5|1
+tells FILE|
+ends 3
+
+script 1,1,S,1,5|1,2,S,1,6|
+input 1,1,S,1,5|1,2,S,1,6|
+output-takes 12 bytes
+$ ledger_cli play a.d64 s.txt
+prints 1,1,DONE,5|1
+tells FILE|
+ends 3
+written
+
+script 1,1,S,1,5|1,2,S,1,6|
+input 1,1,S,1,5|1,2,S,1,6|
+output-takes 0 bytes
+$ ledger_cli format a.d64 --tills 2
+tells FILE|
+ends 3
+rewritten
+
+script 1,1,S,1,5|1,2,S,1,6|
+input 1,1,S,1,5|1,2,S,1,6|
+output-takes 0 bytes
+$ ledger_cli --help
+tells FILE|
+ends 3
+
+script 1,1,S,1,5|1,2,S,1,6|
+input 1,1,S,1,5|1,2,S,1,6|
+output-takes 5 bytes
+$ ledger_cli --version
+prints ledge
+tells FILE|
+ends 3
+";
+
+#[test]
+fn full_outputs_are_told(rt: HostRuntime) {
+    each(&rt, FULL);
+}
+
+/// A writer that takes everything and hands nothing on.
+#[derive(Drop)]
+struct Kept(usize);
+
+impl Write for Kept {
+    fn write(&mut self, buf: &[u8]) -> io::Result<usize> {
+        self.0 = self.0.saturating_add(buf.len());
+        Ok(buf.len())
+    }
+
+    fn flush(&mut self) -> io::Result<()> {
+        Err(io::Error::from(io::ErrorKind::StorageFull))
+    }
+}
+
+/// Sees that the job ends with status 3 over an output that hands nothing on.
+fn hands_on(rt: &(impl AllocGlobal + Abort), job: &Job<'static>, printed: usize)
+    requires { IsFit job.now }
+{
+    let scene = first_scene(rt);
+    let runtime = Runtime {
+        memory: &scene.memory,
+        words: b"",
+        input: b"",
+    };
+    let mut out = Kept(0);
+    let mut told = Vec::new(rt.alloc());
+    let ending = end(do_job(&runtime, job, &mut out), &mut told);
+    let left = (ending.status, ending.told, told.as_slice(), out.0);
+    assert_eq!(rt; left, (3, Ok(()), b"FILE\n".as_slice(), printed));
+}
+
+const LIST_JOB: Job<'static> = Job::List { image: "a.d64" };
+
+const CHECK_JOB: Job<'static> = Job::Check { image: "a.d64" };
+
+const DRY_JOB: Job<'static> = Job::Dry { script: "s.txt" };
+
+const REPAIR_JOB: Job<'static> = Job::Repair {
+    image: "a.d64",
+    loss: Loss::Refused,
+    unowned: Unowned::Kept,
+    effect: Effect::Written,
+};
+
+const MAP_JOB: Job<'static> = Job::Draw {
+    what: Drawing::Map,
+    image: "a.d64",
+};
+
+const PICTURE_JOB: Job<'static> = Job::Draw {
+    what: Drawing::Picture,
+    image: "a.d64",
+};
+
+const PLAY_JOB: Job<'static> = Job::Play {
+    image: "a.d64",
+    script: "s.txt",
+};
+
+#[test]
+fn outputs_that_hand_nothing_on_are_told(rt: HostRuntime) {
+    hands_on(&rt, &LIST_JOB, 70);
+    hands_on(&rt, &CHECK_JOB, 3);
+    hands_on(&rt, &DRY_JOB, 11);
+    hands_on(&rt, &PLAY_JOB, 11);
+    hands_on(&rt, &REPAIR_JOB, 3);
+    hands_on(&rt, &MAP_JOB, 953);
+    hands_on(&rt, &PICTURE_JOB, 72691);
+}
+
+/// Scripts on an image whose file fails: at the third sector of growth, in the recovery after power went, in a part of a
+/// sector; and where nothing is written.
+const BROKEN: &[u8] = b"
+script 1,1,S,15,7|1,2,S,15,8|
+disk-takes 512 bytes
+$ ledger_cli play a.d64 s.txt
+prints 1,1,MEDIA|
+tells DEVICE|
+ends 3
+written
+size 174848
+
+script @4 1,1,S,15,7|1,1,S,15,7|
+disk-takes 1024 bytes
+$ ledger_cli play a.d64 s.txt
+prints CUT|
+tells DEVICE|
+ends 3
+written
+size 174848
+
+script 1,1,R,7,5|
+disk-takes 100 bytes
+$ ledger_cli play a.d64 s.txt
+prints 1,1,MEDIA|
+tells DEVICE|
+ends 3
+written
+size 174848
+
+script @3 x|
+disk-takes 0 bytes
+$ ledger_cli play a.d64 s.txt
+prints CUT|
+size 174848
+";
+
+#[test]
+fn files_fail(rt: HostRuntime) {
+    each(&rt, BROKEN);
+}
+
+/// An image isn't made where no more than this is taken.
+const ROOM: &[u8] = b"
+no image
+disk-takes 0 bytes
+$ ledger_cli format a.d64 --tills 2
+tells FILE|
+ends 3
+at-most 0 bytes
+
+no image
+disk-takes 174847 bytes
+$ ledger_cli format a.d64 --tills 2
+tells FILE|
+ends 3
+at-most 174847 bytes
+";
+
+#[test]
+fn an_image_needs_room(rt: HostRuntime) {
+    each(&rt, ROOM);
+}

@@ -1,0 +1,352 @@
+//! Rows as texts: what stands where the program is run, its command line, and what it leaves.
+//!
+//! A row ends at an empty line. At its beginning the image of a shop stands at `a.d64` and the script `1,1,S,1,5` at
+//! `s.txt`, nothing is on standard input, and nothing fails. A line begins with a word; its text is what stands behind
+//! the space, with `|` for the end of a line and `3*` for what stands there three times.
+//!
+//! What the program finds:
+//! - `image`, `script`, `input`: a file at `a.d64` or `s.txt`, or standard input, with this text; `feed`: the image
+//!   at `a.d64` is on standard input, too
+//! - `no`, `folder`, `read-only`, `pipe` with `image` or `script`: what stands at its path
+//! - `shop`: the shop; `keep`: the image at `a.d64` is the shop from here on, also for the rows below; `aside`: it is put
+//!   aside
+//! - `hurt`: a change of the image (`HURTS`); `resize`: its bytes, by cutting it or by zeros
+//!
+//! What fails, in the next run alone:
+//! - `sync`, `folder-sync`: the call of this number that brings the image, or the folder, to the disk
+//! - `disk-takes`, `output-takes`: so many bytes are taken; `input-fails`: behind its bytes
+//! - `others`: another program has the image `alone`, or is `reading` it; or the system can't say (`unknown`)
+//! - `unreadable`: the image can be opened, and reading it fails
+//! - `gone`, `cut`: from this look at its name on the image is elsewhere, or has half of its bytes
+//!
+//! The run, by a command line as a shell splits it: `$` with standard error that no person reads, `person` with one who
+//! does, `waiting` with one who doesn't see the output. `job` only prints which job the command line asks for, by
+//! `ledger_cli::job`. `run` does that job by `ledger_cli::run`, over the bytes of `a.d64` and `s.txt` or standard input.
+//!
+//! What it leaves; of what isn't named nothing is printed or told, the status is 0, nothing is written, and standard
+//! input isn't opened by its name. In every row no other file is made, changed, renamed or removed:
+//! - `prints`, `tells`, `ends`: the output, standard error, the status; a text that ends with `..` is its beginning, one
+//!   that begins with `..` too a part of it
+//! - `written`: the image is another; `rewritten`: it was written, and is the same; `leaves` with `the shop`, `another`
+//!   or `the one aside`
+//! - `size`, `at-most`: its bytes; `writes`, `syncs`, `folder-syncs`: how many there were; `reads-behind`: how many syncs
+//!   before it was read; `pieces`: in how many writes the output was taken
+//! - `synced`: one sync before the first write, and one behind each
+//! - `unlocked`: the image was read without a lock, as a script
+use crate::jobs::asked;
+use crate::memory::{Errors, Memory, Runtime};
+use crate::runs::ran;
+use crate::stored::{Kind, Others, Stored};
+use crate::texts::{cut, number_of, text_in, text_of, took, words_of};
+use command_line::{Audience, program};
+use std::cell::Cell;
+use std::process::Abort;
+
+/// A row as it is gone through.
+#[derive(Drop)]
+pub(crate) struct Scene {
+    pub(crate) memory: Memory,
+    /// The image of the shop, and what stood at `a.d64` and at `s.txt` before the run.
+    shop: Stored,
+    image: Stored,
+    script: Stored,
+    /// An image that was put aside.
+    aside: Stored,
+    /// Whether a line spoke of an image that was written, and whether all that the last run left is known to be told.
+    written: Cell<bool>,
+    told: Cell<bool>,
+}
+
+/// Changes of an image: a name, where bytes stand, and these bytes.
+const HURTS: [(&[u8], u64, &[u8]); 16] = [
+    // 17/0 links to itself.
+    (b"LOOP", 86016, b"\x11\x00"),
+    // Track 1 has a free sector too few in the map at 18/0.
+    (b"WRONG MAP", 91396, b"\x14"),
+    // 2/5, which nobody owns, is taken in the map.
+    (b"UNOWNED", 91400, b"\x14\xDF"),
+    // GEOS wrote its signature into 18/0; and the format byte is another drive's.
+    (b"GEOS", 91565, b"GEOS format V1.0"),
+    (b"FORMAT", 91394, b"B"),
+    // The entry of STOCK in 18/1 has a block too many.
+    (b"COUNT", 91678, b"\x03"),
+    // 18/1 links to a sector outside track 18, so that the directory's sectors are no chain on it.
+    (b"NO DIRECTORY", 91648, b"\x13\x00"),
+    // 18/1 links to itself.
+    (b"DIRECTORY LOOP", 91648, b"\x12\x01"),
+    // A third entry, over the block of REQUESTS.
+    (b"OWNED TWICE", 91714, b"\x82\x11\x02X"),
+    (b"STICK FOR STOCK", 91653, b"STICK"),
+    (b"RESTS FOR REQUESTS", 91685, b"RESTS"),
+    (b"CARD 1", 86018, b"K,00002,000000001\r"),
+    (b"CARD 3", 86054, b"K,00004,000000001\r"),
+    (b"REQUEST CARD 2", 86657, b"hello"),
+    (
+        b"INTENT 1",
+        86530,
+        b"I,000000001,S,00001,000000005,0,000000005\r",
+    ),
+    (
+        b"INTENT 2",
+        86657,
+        b"I,000000001,S,00002,000000005,0,000000005\r",
+    ),
+];
+
+/// Changes an image. Whether there is such a change.
+fn hurt(image: &Stored, name: &[u8]) -> bool {
+    for (known, at, bytes) in &HURTS {
+        if name == *known {
+            return image.put_over(*bytes, *at);
+        }
+    }
+    false
+}
+
+/// Puts such a thing in the place of the image or the script. Whether the words say so.
+fn stands(memory: &Memory, kind: &[u8], place: &[u8]) -> bool {
+    let place = if place == b"script".as_slice() {
+        &memory.script
+    } else {
+        &memory.image
+    };
+    match kind {
+        b"no" => place.hold(Kind::Missing, b""),
+        b"folder" => place.turn(Kind::Folder),
+        b"read-only" => place.turn(Kind::ReadOnly),
+        b"pipe" => place.turn(Kind::Stream),
+        _ => false,
+    }
+}
+
+/// Puts there what the program finds. Whether the line says so.
+fn finds(scene: &Scene, word: &[u8], text: &[u8]) -> bool {
+    let memory = &scene.memory;
+    match word {
+        b"image" => memory.image.hold(Kind::Plain, text),
+        b"script" => memory.script.hold(Kind::Plain, text),
+        b"input" => memory.input.hold(Kind::Plain, text),
+        b"feed" => memory.input.copy(&memory.image),
+        b"shop" => memory.image.copy(&scene.shop),
+        b"keep" => scene.shop.copy(&memory.image),
+        b"aside" => scene.aside.copy(&memory.image),
+        b"hurt" => hurt(&memory.image, text),
+        b"resize" => memory.image.resize(number_of(text) as u64).is_ok(),
+        _ => stands(memory, word, text),
+    }
+}
+
+/// Lets something fail in the next run. Whether the line says so.
+fn fails(memory: &Memory, word: &[u8], text: &[u8]) -> bool {
+    let number = number_of(text);
+    match word {
+        b"sync" => memory.image.bad_sync.set(number),
+        b"folder-sync" => memory.folder.bad_sync.set(number),
+        b"disk-takes" => memory.image.room.set(number),
+        b"output-takes" => memory.room.set(number),
+        b"input-fails" => memory.fails.set(true),
+        b"unreadable" => memory.image.unreadable.set(true),
+        b"gone" => memory.image.gone_at.set(number),
+        b"cut" => memory.image.cut_at.set(number),
+        b"others" => memory.image.others.set(match text {
+            b"alone" => Others::Alone,
+            b"reading" => Others::Reading,
+            _ => Others::Unknown,
+        }),
+        _ => return false,
+    }
+    true
+}
+
+/// How often something was done with the image, its folder or the output, or how many bytes stand there.
+fn counted(memory: &Memory, word: &[u8]) -> Option<usize> {
+    match word {
+        b"size" => Some(memory.image.size()),
+        b"writes" => Some(memory.image.writes.get()),
+        b"syncs" => Some(memory.image.syncs.get()),
+        b"folder-syncs" => Some(memory.folder.syncs.get()),
+        b"reads-behind" => Some(memory.image.syncs_before.get()),
+        b"pieces" => Some(memory.prints.get()),
+        _ => None,
+    }
+}
+
+/// Whether each sector was brought to the disk before the next was written.
+fn is_synced(image: &Stored) -> bool {
+    let counted = image.writes.get().saturating_add(1);
+    image.syncs.get() == counted && image.most_waiting.get() <= 1
+}
+
+/// Whether the line says what the program left of the image, which no line needs to say if it wasn't written.
+fn leaves(scene: &Scene, word: &[u8], text: &[u8]) -> bool {
+    let image = &scene.memory.image;
+    let holds = match word {
+        b"written" => !image.is_as(&scene.image),
+        b"rewritten" => image.is_as(&scene.image),
+        b"leaves" if text == b"the one aside".as_slice() => image.is_as(&scene.aside),
+        b"leaves" => image.is_as(&scene.shop) == (text == b"the shop".as_slice()),
+        b"at-most" => image.size() <= number_of(text),
+        _ => false,
+    };
+    if holds {
+        scene.written.set(true);
+    }
+    holds
+}
+
+/// Whether the line says what the program left.
+fn sees(scene: &Scene, word: &[u8], text: &[u8]) -> bool {
+    let memory = &scene.memory;
+    match word {
+        b"prints" => took(&memory.out, text),
+        b"tells" => took(&memory.err, text),
+        b"ends" => memory.status.replace(0) as usize == number_of(text),
+        b"synced" => is_synced(&memory.image),
+        b"unlocked" => memory.image.unlocked.replace(false),
+        _ => match counted(memory, word) {
+            Some(number) => number == number_of(text),
+            None => leaves(scene, word, text),
+        },
+    }
+}
+
+/// Whether nothing is left of the last run that no line spoke of.
+fn is_told(scene: &Scene) -> bool {
+    if scene.told.replace(true) {
+        return true;
+    }
+    let memory = &scene.memory;
+    took(&memory.out, b"")
+        && took(&memory.err, b"")
+        && memory.status.get() == 0
+        && !memory.image.unlocked.get()
+        && !memory.reopened.get()
+        && !memory.meddled.get()
+        && memory.script.is_as(&scene.script)
+        && (scene.written.get()
+            || memory.image.writes.get() == 0 && memory.image.is_as(&scene.image))
+}
+
+/// Notes what stands there before a run. Whether there was memory for it.
+fn noted(scene: &Scene) -> bool {
+    scene.memory.forget();
+    scene.written.set(false);
+    scene.image.copy(&scene.memory.image) && scene.script.copy(&scene.memory.script)
+}
+
+/// Runs the program. Whether nothing was left of the run before.
+fn runs(scene: &Scene, told: Audience, line: &[u8]) -> bool {
+    let memory = &scene.memory;
+    let begins = is_told(scene) && noted(scene);
+    let words = words_of(memory.alloc, line);
+    let Ok(input) = memory.input.bytes.try_borrow() else {
+        return false;
+    };
+    let runtime = Runtime {
+        memory,
+        words: words.as_slice(),
+        input: input.get_ref().as_slice(),
+    };
+    memory
+        .status
+        .set(program(&runtime, told, &mut Errors(&memory.err)));
+    memory.mend();
+    scene.told.set(false);
+    begins
+}
+
+/// Writes to the output which job a command line asks for. Whether nothing was left of the run before.
+fn asks(scene: &Scene, line: &[u8]) -> bool {
+    let alloc = scene.memory.alloc;
+    let words = words_of(alloc, line);
+    let begins = is_told(scene) && noted(scene);
+    scene.told.set(false);
+    begins && asked(alloc, words.as_slice(), &scene.memory.out)
+}
+
+/// Runs the job that a command line asks for over the bytes of its files. Whether it could be, and nothing was left of the
+/// run before.
+fn runs_job(scene: &Scene, line: &[u8]) -> bool {
+    let words = words_of(scene.memory.alloc, line);
+    let begins = is_told(scene) && noted(scene);
+    scene.told.set(false);
+    begins && ran(&scene.memory, words.as_slice())
+}
+
+/// Begins a row. Whether nothing was left of the row before.
+fn begins(scene: &Scene) -> bool {
+    let memory = &scene.memory;
+    is_told(scene)
+        && memory.image.copy(&scene.shop)
+        && memory.script.hold(Kind::Plain, b"1,1,S,1,5\n")
+        && memory.input.hold(Kind::Plain, b"")
+}
+
+/// Does what a line says, or sees that it is so. Whether it is.
+fn holds(scene: &Scene, line: &[u8]) -> bool {
+    let (word, rest) = cut(line, b' ').unwrap_or((line, b""));
+    match word {
+        b"" => return begins(scene),
+        b"$" => return runs(scene, Audience::Program, rest),
+        b"person" => return runs(scene, Audience::Person, rest),
+        b"waiting" => return runs(scene, Audience::Waiting, rest),
+        b"job" => return asks(scene, rest),
+        b"run" => return runs_job(scene, rest),
+        _ => {}
+    }
+    let text = text_of(scene.memory.alloc, rest);
+    let text = text.as_slice();
+    fails(&scene.memory, word, text)
+        || sees(scene, word, text)
+        || is_told(scene) && finds(scene, word, text)
+}
+
+/// Sees that each line of these rows holds.
+fn each_line(rt: &impl Abort, scene: &Scene, rows: &[u8]) {
+    for line in rows.split(|byte| *byte == b'\n') {
+        let holds = line.starts_with(b"#") || holds(scene, line);
+        match (scene.memory.out.try_borrow(), scene.memory.err.try_borrow()) {
+            (Ok(out), Ok(err)) => {
+                let left = (text_in(out.as_slice()), text_in(err.as_slice()));
+                assert!(rt;
+                    holds,
+                    "{:?}: printed, told, ended {:?} {}",
+                    text_in(line),
+                    left,
+                    scene.memory.status.get()
+                );
+            }
+            _ => assert!(rt; false, "what was written is free"),
+        }
+    }
+}
+
+/// The shop of most rows: empty, with two tills.
+const SHOP: &[u8] = b"no image
+no script
+$ ledger_cli format a.d64 --tills 2
+prints FORMATTED|
+written
+keep
+";
+
+/// A row at its beginning.
+pub(crate) fn first_scene(rt: &(impl AllocGlobal + Abort)) -> Scene {
+    let alloc = rt.alloc();
+    let scene = Scene {
+        memory: Memory::new(alloc),
+        shop: Stored::new(alloc),
+        image: Stored::new(alloc),
+        script: Stored::new(alloc),
+        aside: Stored::new(alloc),
+        written: Cell::new(false),
+        told: Cell::new(true),
+    };
+    each_line(rt, &scene, SHOP);
+    scene
+}
+
+/// Sees that these rows hold.
+pub(crate) fn each(rt: &(impl AllocGlobal + Abort), rows: &[u8]) {
+    each_line(rt, &first_scene(rt), rows);
+}

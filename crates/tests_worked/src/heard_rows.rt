@@ -1,0 +1,95 @@
+//! Replies with what the disk held when each was told.
+use crate::comparing::same_at;
+use crate::disks::{fresh, loaded};
+use crate::sessions::{asked, says};
+use host_session::{
+    RecordedEvents, RecordedReplies, RecordedReply, ScriptEvents, ScriptFault, play_script, run,
+};
+use std::process::Abort;
+
+/// A day on which power goes once: line 2 is cut behind its first write, and asked again.
+const DAY: &[u8] = b"1,1,S,42,120\n@1 2,1,R,42,5\n2,1,R,42,5\n1,2,I,42,200\n";
+
+/// What the copy of the disk beside a reply holds: it is at rest, and a request sent again
+/// has this answer, without a write.
+fn holds(
+    rt: &(impl Abort + AllocGlobal),
+    turn: &RecordedReply,
+    message: &[u8],
+    reply: &[u8],
+    row: u32,
+) {
+    let disk = loaded(rt, turn.bytes.as_slice());
+    let (told, _, recovery, writes) = asked(rt, &disk, message);
+    same_at(rt, (says(told, reply), recovery, writes), (true, 0, 0), row);
+}
+
+#[test]
+fn each_reply_is_told_over_its_own_disk(rt: HostRuntime) {
+    let mut out = RecordedReplies::new(rt.alloc(), 9);
+    let played = play_script(fresh(&rt), DAY, &mut out).is_ok();
+    same_at(&rt, (played, out.turns().len()), (true, 4), "told");
+    let [first, cut, again, short] = out.turns() else {
+        return;
+    };
+    holds(&rt, first, b"1,1,S,42,120", b"1,1,DONE,120", 1);
+    holds(&rt, cut, b"2,1,R,42,5", b"2,1,DONE,125", 2);
+    holds(&rt, again, b"2,1,R,42,5", b"2,1,DONE,125", 3);
+    holds(&rt, short, b"1,2,I,42,200", b"1,2,SHORT,125", 4);
+    same_at(&rt, says(cut.reply, b"CUT"), true, "cut");
+    same_at(&rt, says(short.reply, b"1,2,SHORT,125"), true, "short");
+}
+
+// The first line is asked for over the disk as it was opened, each other over the disk that the line before it left.
+#[test]
+fn each_line_is_asked_for_over_what_the_last_one_left(rt: HostRuntime) {
+    let mut asks = RecordedEvents::new(rt.alloc(), ScriptEvents::new(DAY));
+    let mut out = RecordedReplies::new(rt.alloc(), 9);
+    let ran = run(fresh(&rt), &mut asks, &mut out).is_ok();
+    let counts = (ran, asks.disks().len(), out.turns().len());
+    same_at(&rt, counts, (true, 4, 4), "told");
+    let [opened, second, third, last] = asks.disks() else {
+        return;
+    };
+    let [first, cut, again, _] = out.turns() else {
+        return;
+    };
+    same_at(&rt, opened.as_slice() == fresh(&rt).bytes(), true, "opened");
+    same_at(
+        &rt,
+        second.as_slice() == first.bytes.as_slice(),
+        true,
+        "second",
+    );
+    same_at(&rt, third.as_slice() == cut.bytes.as_slice(), true, "third");
+    same_at(&rt, last.as_slice() == again.bytes.as_slice(), true, "last");
+}
+
+// It takes one reply; the second line is handled, and nothing is handled behind it.
+#[test]
+fn an_output_takes_one_reply(rt: HostRuntime) {
+    let mut out = RecordedReplies::new(rt.alloc(), 1);
+    let Err((fault, left)) = play_script(fresh(&rt), DAY, &mut out) else {
+        return;
+    };
+    same_at(
+        &rt,
+        (fault, out.turns().len()),
+        (ScriptFault::Output, 1),
+        "told",
+    );
+    let (reply, _, recovery, writes) = asked(&rt, &left, b"2,1,R,42,5");
+    same_at(
+        &rt,
+        (says(reply, b"2,1,DONE,125"), recovery, writes),
+        (true, 0, 0),
+        "sent again",
+    );
+    let (reply, _, _, writes) = asked(&rt, &left, b"1,2,I,42,200");
+    same_at(
+        &rt,
+        (says(reply, b"1,2,SHORT,125"), writes),
+        (true, 1),
+        "not yet",
+    );
+}

@@ -1,5 +1,0 @@
-use Rattle.std.proofs.Common.{length, ◌≡◌}
-use Rattle.tool_benchmarks.proofs.requests.all_tills.Given as goal
-
-abbrev pub invariant-loop-below : goal.invariant-loop-below
-invariant-loop-below l = length l.tills.items ≡ l.below

@@ -1,4 +1,0 @@
-use Rattle.tool_every_cut.proofs.cuts.+reopen.Given as goal
-
-abbrev pub decreases-reopen : goal.decreases-reopen
-decreases-reopen l = l.deep
