@@ -222,7 +222,7 @@ def page():
     side, faults = side_table()
     used, lines = set(), [HEAD]
     ordered = [it.split(":")[0] for it in (TOP / "crates.txt").read_text().split("\n") if it and not it.startswith("#")]
-    for crate in [it for it in ordered if not it.startswith(("tool_", "example_"))]:
+    for crate in [it for it in ordered if not it.startswith(("test_", "benchmarks", "example_"))]:
         modules = sorted({module for of, module, _ in below if of == crate})
         lines += [f"\n## `{crate}`"] if modules else []
         for module in modules:

@@ -8,7 +8,7 @@ import re
 from pathlib import Path
 
 TOP = Path(__file__).resolve().parent.parent
-KINDS = {"rows_": "tests", "tests_": "tests", "tool_": "tools, examples", "example_": "tools, examples"}
+KINDS = {"tests_": "tests", "test_": "tools, examples", "benchmarks": "tools, examples", "example_": "tools, examples"}
 
 
 def kind_of(crate):

@@ -2,12 +2,12 @@
 #![tactic(auto)]
 
 mod faults;
-mod program;
 mod progress;
+mod runner;
 mod starting;
 mod words;
 
 pub use faults::JobFault;
-pub use program::{Audience, program};
+pub use runner::{Audience, program};
 pub use starting::hold_streams;
 pub use words::{CommandLine, command_line, job};

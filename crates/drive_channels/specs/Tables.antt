@@ -27,7 +27,7 @@ use Rattle.disk_layout.specs.Clean.{IsClean}
 use Rattle.disk_layout.specs.Layout.{File, IsSound, Layout, record_length}
 use Rattle.disk_layout.specs.Records.{records}
 use Rattle.layout_check.specs.Repaired.{IsRepaired}
-use Rattle.layout_check.specs.declared.survey.Survey.{Survey}
+use Rattle.layout_check.specs.declared.survey_outcome.Survey.{Survey}
 use Rattle.rel_records.specs.Others.{HasRecords}
 use Rattle.rel_records.specs.Written.{IsRecord, grown_to, with_written}
 use Rattle.rel_records.specs.growth.Growth.{IsFull, IsTooLarge, blocks_for, records_had}

@@ -18,7 +18,7 @@ use Rattle.layout_check.specs.Mended.{IsMended}
 use Rattle.layout_check.specs.Keeping.{FreesNothing, RepairsKeeping}
 use Rattle.layout_check.specs.RepairOrder.{ClearsSpare, IsRightBut, repair_order}
 use Rattle.layout_check.specs.Repaired.{Repairs}
-use Rattle.layout_check.specs.declared.survey.Survey.{Survey}
+use Rattle.layout_check.specs.declared.survey_outcome.Survey.{Survey}
 use Rattle.keeper_commands.specs.Faults.{IsLoadFault}
 use Rattle.keeper_commands.specs.Kinds.{IsKindFault, IsPlainDisk}
 use Rattle.keeper_commands.specs.Repairs.{GoesInOrder, IsMendedAs, IsMendedDisk, IsRepairFault, IsRepairRun, MendsAs, TellsKeep}

@@ -11,7 +11,7 @@ use Rattle.disk_layout.specs.declared.faults.Fault.{Fault}
 use Rattle.layout_check.specs.Mended.{IsMended}
 use Rattle.layout_check.specs.RepairOrder.{ClearsSpare, IsRight, repair_order}
 use Rattle.layout_check.specs.Survey.{IsSurveyOf}
-use Rattle.layout_check.specs.declared.survey.Survey.{Survey}
+use Rattle.layout_check.specs.declared.survey_outcome.Survey.{Survey}
 use Rattle.std.specs.Prelude.{◌↔◌, ℕ, ◌≤◌, ◌+◌, ◌*◌, IfErr, IfOk, IsOk, OnOk, Result, length}
 
 -- the new image is clean and has the files of the old one, which the survey tells

@@ -26,8 +26,8 @@ use Rattle.disk_layout.specs.Layout.{File, IsFile, IsLayout, Layout, file_owns, 
 use Rattle.layout_check.specs.Calls.{Passes}
 use Rattle.layout_check.specs.Exact.{ToldOfFiles}
 use Rattle.layout_check.specs.Owners.{owner_of}
-use Rattle.layout_check.specs.declared.survey.Findings.{Findings}
-use Rattle.layout_check.specs.declared.survey.Survey.{Survey}
+use Rattle.layout_check.specs.declared.survey_outcome.Findings.{Findings}
+use Rattle.layout_check.specs.declared.survey_outcome.Survey.{Survey}
 use Rattle.layout_check.specs.declared.owners.Owners.{Owners}
 
 -- the map, the directory and what these files own

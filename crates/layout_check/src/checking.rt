@@ -8,9 +8,9 @@ ghost use Rattle.layout_check.specs.Calls.{Passes};
 ghost use Rattle.layout_check.specs.Exact.{HasMap, TellsUnclean};
 ghost use Rattle.layout_check.specs.Survey.{IsSurveyOf, IsToldBy};
 
-use crate::chain_survey::survey_files;
 use crate::maps::check_bits;
-use crate::survey::Survey;
+use crate::survey_outcome::Survey;
+use crate::survey_walk::survey_files;
 use d64_image::Sectors;
 use disk_layout::{Fault, map_place, read_sector};
 

@@ -9,7 +9,7 @@ ghost use Rattle.layout_check.specs.Owners.{owner_of};
 ghost use Rattle.layout_check.specs.Survey.{IsToldBy};
 
 use crate::owners::Owners;
-use crate::survey::Survey;
+use crate::survey_outcome::Survey;
 use d64_image::{Place, Sectors};
 use disk_layout::{BamView, Fault, map_place, read_sector};
 

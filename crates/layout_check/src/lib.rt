@@ -2,7 +2,6 @@
 #![tactic(auto)]
 
 mod blocks;
-mod chain_survey;
 mod checking;
 mod entry;
 mod files;
@@ -14,9 +13,10 @@ mod parts;
 mod recounting;
 mod repairing;
 mod sides;
-mod survey;
+mod survey_outcome;
+mod survey_walk;
 
-pub use chain_survey::survey;
 pub use checking::check;
 pub use repairing::{repair, repair_keeping};
-pub use survey::Survey;
+pub use survey_outcome::Survey;
+pub use survey_walk::survey;

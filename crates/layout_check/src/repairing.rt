@@ -5,12 +5,12 @@ ghost use Rattle.disk_layout.specs.Layout.{IsLayout, Layout};
 ghost use Rattle.layout_check.specs.Keeping.{MakesCleanBut, MarksTaken, RepairsKeeping};
 ghost use Rattle.layout_check.specs.Repaired.{Repairs};
 
-use crate::chain_survey::survey;
 use crate::keeping::taken_sectors;
 use crate::mending::{mend_entries, mend_map};
 use crate::owners::Owners;
 use crate::recounting::mend_counts;
-use crate::survey::Survey;
+use crate::survey_outcome::Survey;
+use crate::survey_walk::survey;
 use d64_image::Sectors;
 use disk_layout::Fault;
 

@@ -2,7 +2,7 @@ use Rattle.std.proofs.Common.{inl, inr, refl}
 use Rattle.disk_layout.proofs.lemmas.layouts.Twice.{told-unsound}
 use Rattle.drive_channels.proofs.Refusals.{fact, quiet}
 use Rattle.drive_channels.proofs.commands.validate.Goals as goal
-use Rattle.layout_check.specs.declared.survey.Survey.{Survey}
+use Rattle.layout_check.specs.declared.survey_outcome.Survey.{Survey}
 
 pub returns-in-Ok : goal.returns-in-Ok
 returns-in-Ok g c =

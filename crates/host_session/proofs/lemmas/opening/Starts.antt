@@ -7,7 +7,7 @@ use Rattle.disk_layout.specs.Fault.{Holds, TellsFault}
 use Rattle.disk_layout.specs.Layout.{IsSound, Layout}
 use Rattle.disk_layout.specs.declared.faults.Fault.{Fault}
 use Rattle.layout_check.specs.Repaired.{IsRepaired}
-use Rattle.layout_check.specs.declared.survey.Survey.{Survey}
+use Rattle.layout_check.specs.declared.survey_outcome.Survey.{Survey}
 use Rattle.disk_layout.proofs.lemmas.layouts.Layouts.{IsLayout-one}
 use Rattle.layout_check.specs.Mended.{IsMended}
 use Rattle.host_session.specs.shop.Files.{Files, HasFiles}

@@ -6,7 +6,7 @@ use Rattle.layout_check.proofs.lemmas.judging.Calls.{any_answer, passes_then}
 use Rattle.layout_check.proofs.lemmas.judging.Inexact.{clean_tells, clean_then}
 use Rattle.layout_check.proofs.lemmas.judging.Judged.{kept-tells, survey-passes}
 use Rattle.layout_check.proofs.lemmas.judging.Verdict.{clean-layout, map-at, survey-told, told-clean}
-use Rattle.layout_check.specs.declared.survey.Survey.{Survey}
+use Rattle.layout_check.specs.declared.survey_outcome.Survey.{Survey}
 use Rattle.layout_check.proofs.checking.check.Goals as goal
 
 pub returns-in_err-found-clause-err : goal.returns-in_err-found-clause-err

@@ -31,7 +31,7 @@ use Rattle.layout_check.specs.Exact.{ToldOfFiles}
 use Rattle.layout_check.specs.SurveyedEntry.{SurveysEntry, TellsOrClashes}
 use Rattle.layout_check.specs.Owners.{IsSystem}
 use Rattle.layout_check.specs.Survey.{IsSurveyed, IsTable, Surveys, taken}
-use Rattle.layout_check.specs.declared.survey.Survey.{Survey}
+use Rattle.layout_check.specs.declared.survey_outcome.Survey.{Survey}
 use Rattle.layout_check.specs.declared.owners.Owners.{Owners}
 use Rattle.layout_check.proofs.lemmas.finding.SurveySteps.{survey-start, survey-step}
 

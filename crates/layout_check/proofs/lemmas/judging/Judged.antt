@@ -66,7 +66,7 @@ use Rattle.layout_check.specs.Exact.{
 }
 use Rattle.layout_check.specs.Sides.{IsSoundSide, IsWalkOfSides}
 use Rattle.layout_check.specs.Survey.{Surveys}
-use Rattle.layout_check.specs.declared.survey.Findings.{Findings}
+use Rattle.layout_check.specs.declared.survey_outcome.Findings.{Findings}
 
 -- exact bytes are all that a sound image asks
 pub exact-sound : (img : Image) (s : Slot) (blocks sides : List Place) (j : ℕ) (p : Place) → length sides ≤ 6

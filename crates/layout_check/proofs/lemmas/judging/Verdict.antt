@@ -49,8 +49,8 @@ use Rattle.layout_check.specs.Keeping.{MarksTaken}
 use Rattle.layout_check.specs.Marked.{IsMarked, IsRightMap, IsWrongMap, ones_on}
 use Rattle.layout_check.specs.Owners.{owner_of}
 use Rattle.layout_check.specs.Survey.{IsSurveyOf, IsToldBy, Surveys}
-use Rattle.layout_check.specs.declared.survey.Findings.{Findings}
-use Rattle.layout_check.specs.declared.survey.Survey.{Survey}
+use Rattle.layout_check.specs.declared.survey_outcome.Findings.{Findings}
+use Rattle.layout_check.specs.declared.survey_outcome.Survey.{Survey}
 use Rattle.layout_check.specs.declared.owners.Owners.{Owners}
 
 -- what holds of each that is in the list

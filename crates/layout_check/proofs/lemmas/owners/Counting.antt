@@ -27,7 +27,7 @@ use Rattle.disk_layout.specs.Rest.{others, taken_by_others}
 use Rattle.layout_check.specs.Open.{IsShut}
 use Rattle.layout_check.specs.Owners.{owner_of}
 use Rattle.layout_check.specs.Survey.{IsSurveyOf}
-use Rattle.layout_check.specs.declared.survey.Survey.{Survey}
+use Rattle.layout_check.specs.declared.survey_outcome.Survey.{Survey}
 use Rattle.layout_check.proofs.lemmas.owners.Ranks.{rank, rank-all, rank-in, rank-none, rank-out}
 
 -- a sector of track 18 stands at 357 to 375 in an image, and no other does

@@ -19,7 +19,7 @@ use Rattle.layout_check.proofs.lemmas.judging.Verdict.{marks-of}
 use Rattle.layout_check.specs.Keeping.{AreMarked, AreStray, IsTakenTable, MarksTaken}
 use Rattle.layout_check.specs.Owners.{owner_of}
 use Rattle.layout_check.specs.Survey.{IsSurveyOf, IsToldBy}
-use Rattle.layout_check.specs.declared.survey.Survey.{Survey}
+use Rattle.layout_check.specs.declared.survey_outcome.Survey.{Survey}
 use Rattle.layout_check.specs.declared.owners.Owners.{Owners}
 
 unowned : (t : Owners) (p : Place) → ¬ (owner_of t p ≢ 255) → owner_of t p ≡ 255

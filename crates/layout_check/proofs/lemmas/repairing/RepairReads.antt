@@ -23,7 +23,7 @@ use Rattle.layout_check.specs.Reads.{ReadsFew, is_at, is_in, owned_by, owned_if}
 use Rattle.layout_check.specs.Recounted.{IsCountOf, IsRecountOf}
 use Rattle.layout_check.specs.Sides.{HasParts}
 use Rattle.layout_check.specs.Survey.{IsSurveyOf}
-use Rattle.layout_check.specs.declared.survey.Survey.{Survey}
+use Rattle.layout_check.specs.declared.survey_outcome.Survey.{Survey}
 
 -- what was found of a relative entry are the file's sectors
 pub found-owned : (img : Image) (l : Layout) (f : File) (s : Slot) (blocks sides : List Place) → IsLayout img l

@@ -20,7 +20,7 @@ use Rattle.layout_check.specs.Mended.{AreExactFor, IsMended, KeepsLayouts, Mends
 use Rattle.layout_check.specs.Recounted.{AreCounted, KeepsButCounts}
 use Rattle.layout_check.specs.Repaired.{IsRepaired, MendsFrom}
 use Rattle.layout_check.specs.Survey.{IsSurveyOf, IsToldBy}
-use Rattle.layout_check.specs.declared.survey.Survey.{Survey}
+use Rattle.layout_check.specs.declared.survey_outcome.Survey.{Survey}
 
 -- map, side sectors and counts in turn: the last image is the mended one
 pub repaired : (strays : List Place) (a b c d : Image) (l : Layout) → IsLayout a l → HasMapBut strays b

@@ -51,7 +51,7 @@ use Rattle.layout_check.specs.Owners.{owner_of}
 use Rattle.layout_check.specs.Mended.{AreExactFor, KeepsLayouts, SameMap}
 use Rattle.layout_check.specs.Recounted.{AreCounted, IsSameButCounts}
 use Rattle.layout_check.specs.Survey.{IsSurveyOf}
-use Rattle.layout_check.specs.declared.survey.Survey.{Survey}
+use Rattle.layout_check.specs.declared.survey_outcome.Survey.{Survey}
 
 -- what a file that stays keeps
 module _ (a c : Image) (f g : File) (e : stays_of a f ≡ stays_of c g) where

@@ -20,12 +20,8 @@ use Rattle.layout_check.proofs.lemmas.repairing.RepairRuns.{
   mends_after,
   mends_none,
 }
-<<<<<<< HEAD
 use Rattle.layout_check.proofs.lemmas.repairing.RepairWhole.{reads-held, repair-held}
-use Rattle.layout_check.specs.declared.outcome.Survey.{Survey}
-=======
-use Rattle.layout_check.specs.declared.survey.Survey.{Survey}
->>>>>>> house
+use Rattle.layout_check.specs.declared.survey_outcome.Survey.{Survey}
 use Rattle.layout_check.proofs.repairing.repair.Goals as goal
 
 pub mend-requires : goal.mend-requires

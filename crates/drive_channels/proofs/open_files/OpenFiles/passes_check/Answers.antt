@@ -10,7 +10,7 @@ use Rattle.drive_channels.specs.declared.open_files.OpenFiles.{OpenFiles}
 use Rattle.drive_channels.specs.declared.open_file.NamedFile.{NamedFile}
 use Rattle.drive_channels.specs.declared.open_file.OpenFile.{OpenFile}
 use Rattle.drive_channels.proofs.open_files.OpenFiles.passes_check.Goals as goal
-use Rattle.layout_check.specs.declared.survey.Survey.{Survey}
+use Rattle.layout_check.specs.declared.survey_outcome.Survey.{Survey}
 
 pub returns-in_default : goal.returns-in_default
 returns-in_default g c =

@@ -2,7 +2,7 @@
 use Rattle.std.proofs.Common.{Err, ap, arith, refl, ◌∙◌}
 use Rattle.std.proofs.lemmas.Result.{err_from_is_err_and}
 use Rattle.d64_image.proofs.Moments.{reads_then, reads_weaker}
-use Rattle.layout_check.specs.declared.survey.Survey.{Survey}
+use Rattle.layout_check.specs.declared.survey_outcome.Survey.{Survey}
 use Rattle.host_session.proofs.lemmas.judging.Judgments.{device-error, judged-error, refused-error}
 use Rattle.host_session.proofs.shop.files.find_files.Goals as goal
 

@@ -10,7 +10,7 @@ ghost use Rattle.layout_check.specs.Survey.{IsSurveyOf, Surveys};
 use crate::files::survey_entry;
 use crate::owners::Owners;
 use crate::parts::Parts;
-use crate::survey::{Findings, Survey};
+use crate::survey_outcome::{Findings, Survey};
 use arrayvec::ArrayVec;
 use d64_image::{Place, Sectors};
 use disk_layout::{Fault, MOST_BLOCKS, Slot, directory_start, read_directory, walk_chain};

@@ -1,8 +1,8 @@
 -- Sector by sector: counted, or another entry's, or on track 18.
 use Rattle.std.proofs.Common.{arith, refl}
 use Rattle.layout_check.proofs.lemmas.owners.Counting.{counted-all, counted-free, counted-none, counted-shut}
-use Rattle.layout_check.proofs.survey.Survey.outside.Goals as goal
-use Rattle.layout_check.proofs.survey.Survey.outside.Goals.{then-is_open, else-is_open}
+use Rattle.layout_check.proofs.survey_outcome.Survey.outside.Goals as goal
+use Rattle.layout_check.proofs.survey_outcome.Survey.outside.Goals.{then-is_open, else-is_open}
 
 pub loop-index-init : goal.loop-index-init
 loop-index-init c = record { counted = counted-none c.args.self.now c.args.entry; few = omega arith }

@@ -5,7 +5,7 @@ use Rattle.disk_layout.specs.declared.slot.Slot.{Slot}
 use Rattle.layout_check.proofs.lemmas.judging.Calls.{tells_weaker}
 use Rattle.layout_check.proofs.lemmas.finding.Progress.{far-end, far-entry, far-start, far-step, far-tells, listed-as}
 use Rattle.layout_check.proofs.lemmas.finding.Progress.{same-system}
-use Rattle.layout_check.proofs.chain_survey.survey_files.Goals as goal
+use Rattle.layout_check.proofs.survey_walk.survey_files.Goals as goal
 
 pub loop-number-init : goal.loop-number-init
 loop-number-init g c = far-start g.D.Sectors.history c.args.disk.now c.survey_directory.new.disk

@@ -1,7 +1,7 @@
 //! The whole program, over a runtime.
 ghost use Rattle.std.specs.Prelude.{◌≡◌, ◌≢◌, if◌then◌else◌};
 ghost use Rattle.ledger_jobs.specs.Jobs.{IsFit};
-ghost use Rattle.command_line.specs.declared.program.Audience.TheVariants.{Person, Program, Waiting};
+ghost use Rattle.command_line.specs.declared.runner.Audience.TheVariants.{Person, Program, Waiting};
 
 use crate::faults::JobFault;
 use crate::progress::{Watched, is_long};

@@ -1,6 +1,6 @@
 -- The table tells what the map, the directory and the files own.
 use Rattle.disk_layout.specs.Layout.{owners}
-use Rattle.layout_check.proofs.survey.Survey.is_owned.Goals as goal
+use Rattle.layout_check.proofs.survey_outcome.Survey.is_owned.Goals as goal
 
 pub returns : goal.returns
 unfolding owners

@@ -2,7 +2,7 @@
 use Rattle.std.proofs.Common.{ℕ, arith}
 use Rattle.std.proofs.lemmas.Result.{err_from_is_err_and}
 use Rattle.layout_check.proofs.lemmas.finding.Roots.{again-tells, directory-passes, directory-tells, directory-walked}
-use Rattle.layout_check.proofs.chain_survey.survey_directory.Goals as goal
+use Rattle.layout_check.proofs.survey_walk.survey_directory.Goals as goal
 
 pub returns-in_err-read_directory : goal.returns-in_err-read_directory
 returns-in_err-read_directory g c =

@@ -4,8 +4,8 @@ use Rattle.std.proofs.lemmas.Result.{err_from_is_err_and}
 use Rattle.layout_check.proofs.lemmas.judging.Calls.{any_answer}
 use Rattle.layout_check.proofs.lemmas.judging.Judged.{survey-passes}
 use Rattle.layout_check.proofs.lemmas.finding.Progress.{told-sound}
-use Rattle.layout_check.specs.declared.survey.Survey.{Survey}
-use Rattle.layout_check.proofs.chain_survey.survey.Goals as goal
+use Rattle.layout_check.specs.declared.survey_outcome.Survey.{Survey}
+use Rattle.layout_check.proofs.survey_walk.survey.Goals as goal
 
 pub returns-in_err-found-clause-err : goal.returns-in_err-found-clause-err
 returns-in_err-found-clause-err g c =
