@@ -16,7 +16,7 @@ use Rattle.drive_channels.specs.Inside.{HasLooked, channel_of, shown}
 use Rattle.drive_channels.specs.Moments.{IsCreatingFor, IsCreatingFrom, IsOpenedBy, IsOpenedFor}
 use Rattle.drive_channels.specs.Spelling.{IsName, IsWish, Wish}
 use Rattle.drive_channels.specs.State.{Channel, View}
-use Rattle.drive_channels.specs.Tables.{Opens, OpensFile, ReplySink, when◌then◌otherwise◌}
+use Rattle.drive_channels.specs.Tables.{Opens, OpensFile, Tells, when◌then◌otherwise◌}
 use Rattle.drive_channels.specs.declared.open_file.OpenFile.{OpenFile}
 use Rattle.drive_channels.specs.declared.open_files.OpenFiles.{OpenFiles}
 use Rattle.drive_channels.specs.declared.status.Status.{Status}
@@ -182,7 +182,7 @@ free number o low high closed h = elim h [
 pub past : (x : View) (number : ℕ) (text : List ℕ) (y : View) (w : Wish) → 2 ≤ number → number ≤ 14 → x.channel ≡ None
     → IsWish text w
     → (when (x.checked ≡ false)
-    × ¬ (IsClean x.image) then ReplySink x statuses.DirError y otherwise
+    × ¬ (IsClean x.image) then Tells x statuses.DirError y otherwise
     ((w : Wish) → IsWish text w → OpensFile (record x { checked = true }) number w y))
     → Opens x number text y
 past x number text y w low high closed is rest = inr
@@ -190,7 +190,7 @@ past x number text y w low high closed is rest = inr
 
 -- a call with a text that asks for no file
 pub unspelled : (x : View) (number : ℕ) (text : List ℕ) (y : View) → 2 ≤ number → number ≤ 14 → x.channel ≡ None
-    → ((w : Wish) → ¬ (IsWish text w)) → ReplySink x statuses.SyntaxError y → Opens x number text y
+    → ((w : Wish) → ¬ (IsWish text w)) → Tells x statuses.SyntaxError y → Opens x number text y
 unspelled x number text y low high closed none tells = inr
     (free number x.channel low high closed, inl ((λ asked. none asked.0 asked.1), tells))
 

@@ -66,8 +66,8 @@ abbrev pub when◌then◌otherwise◌ : Type 0 → Type 0 → Type 0 → Type 0
 when c then does otherwise rest = (c × does) ⊎ (¬ c × rest)
 
 -- the status is this one; nothing else changes
-abbrev pub ReplySink : View → Status → View → Type 0
-ReplySink x status y = y ≡ record x { status = status }
+abbrev pub Tells : View → Status → View → Type 0
+Tells x status y = y ≡ record x { status = status }
 
 -- the channel is open at record 1, position 1 of this entry
 abbrev pub OpensAt : View → ℕ → ℕ → View → Type 0
@@ -81,24 +81,24 @@ OpensAt x number entry y = y ≡ record x {
 abbrev pub Creates : View → ℕ → List ℕ → Option ℕ → View → Type 0
 Creates x number name None y = ⊥
 Creates x number name (Some L) y =
-    when IsNoRoom x.image then ReplySink x DiskFull y otherwise
+    when IsNoRoom x.image then Tells x DiskFull y otherwise
     ((entry : ℕ) × Makes x.image y.image name L entry × OpensAt x number entry y)
 
 -- open, once the channel, the text and the disk are seen to be good
 abbrev pub OpensFile : View → ℕ → Wish → View → Type 0
 OpensFile x number w y =
-    when IsNone w.length × ¬ (HasFile x.image w.name) then ReplySink x FileNotFound y otherwise
-    when HasOther x.image w.name w.length then ReplySink x RecordNotPresent y otherwise
-    when ¬ (HasFile x.image w.name) × HasEntry x.image w.name then ReplySink x TypeMismatch y otherwise
+    when IsNone w.length × ¬ (HasFile x.image w.name) then Tells x FileNotFound y otherwise
+    when HasOther x.image w.name w.length then Tells x RecordNotPresent y otherwise
+    when ¬ (HasFile x.image w.name) × HasEntry x.image w.name then Tells x TypeMismatch y otherwise
     when ¬ (HasFile x.image w.name) then Creates x number w.name w.length y otherwise
     ((entry : ℕ) × (f : File) × IsNamedFile x.image w.name entry f × (y.image ≡ x.image) × OpensAt x number entry y)
 
 -- open
 abbrev pub Opens : View → ℕ → List ℕ → View → Type 0
 Opens x number text y =
-    when (number < 2) ⊎ ((14 < number) ⊎ IsSome x.channel) then ReplySink x NoChannel y otherwise
-    when ¬ ((w : Wish) × IsWish text w) then ReplySink x SyntaxError y otherwise
-    when (x.checked ≡ false) × ¬ (IsClean x.image) then ReplySink x DirError y otherwise
+    when (number < 2) ⊎ ((14 < number) ⊎ IsSome x.channel) then Tells x NoChannel y otherwise
+    when ¬ ((w : Wish) × IsWish text w) then Tells x SyntaxError y otherwise
+    when (x.checked ≡ false) × ¬ (IsClean x.image) then Tells x DirError y otherwise
     ((w : Wish) → IsWish text w → OpensFile (record x { checked = true }) number w y)
 
 -- the open channel but where it has this number
@@ -125,8 +125,8 @@ InFile x P = (c : Channel) (l : Layout) (f : File) → x.channel ≡ Some c → 
 -- P, with the record and the position that are wanted
 abbrev pub MovesTo : View → ℕ → ℕ → View → Channel → Layout → File → Type 0
 MovesTo x r position y c l f =
-    when record_length f.slot < position then ReplySink x Overflow y otherwise
-    when 720 < blocks_for (record_length f.slot) r then ReplySink x FileTooLarge y otherwise
+    when record_length f.slot < position then Tells x Overflow y otherwise
+    when 720 < blocks_for (record_length f.slot) r then Tells x FileTooLarge y otherwise
     (y ≡ record x {
       channel = Some (record c { record_number = r; position = position });
       status = if nat_lt (records_had f) r then RecordNotPresent else Ok;
@@ -134,8 +134,8 @@ MovesTo x r position y c l f =
 
 abbrev pub Moves : View → List ℕ → View → Type 0
 Moves x text y =
-    when ¬ ((length text ≡ 4) ⊎ (length text ≡ 5)) then ReplySink x SyntaxError y otherwise
-    when ¬ (HasOn x.channel (wanted_channel text)) then ReplySink x NoChannel y otherwise
+    when ¬ ((length text ≡ 4) ⊎ (length text ≡ 5)) then Tells x SyntaxError y otherwise
+    when ¬ (HasOn x.channel (wanted_channel text)) then Tells x NoChannel y otherwise
     InFile x (MovesTo x (wanted_record text) (wanted_position text) y)
 
 -- a repair, and what it tells: 00 where the disk was sound, and is clean now; else 71, and nothing is changed
@@ -151,11 +151,11 @@ Validates x y = ValidatesTo x.image y.image y.status × (y ≡ record x { image 
 -- command
 abbrev pub Commands : View → List ℕ → View → Type 0
 Commands x text y =
-    when text ≡ [] then ReplySink x SyntaxError y otherwise
+    when text ≡ [] then Tells x SyntaxError y otherwise
     when IsValidate text then Validates x y otherwise
-    when IsInitialize text then ReplySink x Ok y otherwise
+    when IsInitialize text then Tells x Ok y otherwise
     when BeginsWithP text then Moves x text y otherwise
-    ReplySink x UnknownCommand y
+    Tells x UnknownCommand y
 
 -- the place after this one: the next record's first byte
 abbrev pub next_place : Channel → Option Channel
@@ -164,7 +164,7 @@ next_place c = Some (record c { record_number = c.record_number + 1; position = 
 -- write, in the file of the open channel
 abbrev pub WritesIn : View → List ℕ → View → Channel → Layout → File → Type 0
 WritesIn x text y c l f =
-    when IsTooLarge f c.record_number ⊎ IsFull x.image f c.record_number then ReplySink x FileTooLarge y otherwise
+    when IsTooLarge f c.record_number ⊎ IsFull x.image f c.record_number then Tells x FileTooLarge y otherwise
     when text ≡ [] then (HasRecords x.image y.image l c.entry (grown_to x.image f c.record_number)
     × (y ≡ record x { image = y.image; status = Ok })) otherwise
     (HasRecords x.image y.image l c.entry (with_written (record_length f.slot) c.record_number c.position text
@@ -178,18 +178,18 @@ WritesIn x text y c l f =
 -- write
 abbrev pub Writes : View → ℕ → List ℕ → View → Type 0
 Writes x number text y =
-    when ¬ (HasOn x.channel number) then ReplySink x FileNotOpen y otherwise
+    when ¬ (HasOn x.channel number) then Tells x FileNotOpen y otherwise
     InFile x (WritesIn x text y)
 
 -- read, in the file of the open channel
 abbrev pub ReadsIn : View → List ℕ → View → Channel → Layout → File → Type 0
 ReadsIn x given y c l f =
-    when records_had f < c.record_number then (ReplySink x RecordNotPresent y × (given ≡ [])) otherwise
+    when records_had f < c.record_number then (Tells x RecordNotPresent y × (given ≡ [])) otherwise
     ((bytes : List ℕ) × IsRecord (records x.image f) c.record_number bytes × IsGiven (drop (c.position - 1) bytes) given
     × (y ≡ record x { channel = next_place c; status = Ok }))
 
 -- read
 abbrev pub Reads : View → ℕ → List ℕ → View → Type 0
 Reads x number given y =
-    when ¬ (HasOn x.channel number) then (ReplySink x FileNotOpen y × (given ≡ [])) otherwise
+    when ¬ (HasOn x.channel number) then (Tells x FileNotOpen y × (given ≡ [])) otherwise
     InFile x (ReadsIn x given y)

@@ -37,7 +37,7 @@ impl<D: Sectors> Drive<D> {
     ghost use Rattle.std.specs.Prelude.{false, None, IfOk, OnOk};
     ghost use Rattle.drive_channels.specs.Serving.{Serves};
     ghost use Rattle.drive_channels.specs.State.{view_of};
-    ghost use Rattle.drive_channels.specs.Tables.{ReplySink};
+    ghost use Rattle.drive_channels.specs.Tables.{Tells};
     ghost use Rattle.drive_channels.specs.declared.status.Status.TheVariants as statuses;
 
     /// A drive over this disk, just switched on: no channel is open, the status is 73, and nothing was read.
@@ -80,7 +80,7 @@ impl<D: Sectors> Drive<D> {
     pub fn status(&mut self) -> Result<Status, Dead>
         ensures serves { Serves D.history self.old self.new result }
         ensures told { IfOk result (λ s. s ≡ self.old.status) }
-        ensures row { OnOk result (ReplySink (view_of D.history self.old) statuses.Ok (view_of D.history self.new)) }
+        ensures row { OnOk result (Tells (view_of D.history self.old) statuses.Ok (view_of D.history self.new)) }
         ensures disk { self.new.disk ≡ self.old.disk }
     {
         if self.dead {

@@ -26,12 +26,12 @@ pub record AreFilesOf (img : Image) (f : Files) (x : LedgerFiles) : Type 0 where
   pub top_is : x.top ≡ f.top
 
 -- the result holds what the record holds: nothing, a card, or other bytes
-abbrev pub ReplySink : {C : Type 0} → (List ℕ → Option C) → ℕ → List ℕ → Held C → Type 0
-ReplySink card_of long bytes held.Empty = bytes ≡ empty_record long
-ReplySink card_of long bytes (held.Card c) = card_of bytes ≡ Some c
-ReplySink card_of long bytes held.Other = (bytes ≢ empty_record long) × (card_of bytes ≡ None)
+abbrev pub Tells : {C : Type 0} → (List ℕ → Option C) → ℕ → List ℕ → RecordContent C → Type 0
+Tells card_of long bytes held.Empty = bytes ≡ empty_record long
+Tells card_of long bytes (held.Card c) = card_of bytes ≡ Some c
+Tells card_of long bytes held.Other = (bytes ≢ empty_record long) × (card_of bytes ≡ None)
 
 -- record r of these is told, and None where there is none
-abbrev pub TellsRecord : {C : Type 0} → (List ℕ → Option C) → ℕ → List (List ℕ) → ℕ → Option (Held C) → Type 0
+abbrev pub TellsRecord : {C : Type 0} → (List ℕ → Option C) → ℕ → List (List ℕ) → ℕ → Option (RecordContent C) → Type 0
 TellsRecord card_of long rs r None = length rs < r
-TellsRecord card_of long rs r (Some h) = (bytes : List ℕ) × (record_at rs r ≡ Some bytes) × ReplySink card_of long bytes h
+TellsRecord card_of long rs r (Some h) = (bytes : List ℕ) × (record_at rs r ≡ Some bytes) × Tells card_of long bytes h

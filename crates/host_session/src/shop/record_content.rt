@@ -3,7 +3,7 @@ ghost use Rattle.std.specs.Prelude.{◌≡◌, ◌≤◌, ◌↔◌, ℕ, IsTrue
 ghost use Rattle.disk_layout.specs.Records.{empty_record};
 ghost use Rattle.host_session.specs.declared.faults.OpenFault.TheVariants.{Device};
 ghost use Rattle.host_session.specs.shop.Files.{Files};
-ghost use Rattle.host_session.specs.shop.Found.{AreFilesOf, ReplySink, TellsRecord};
+ghost use Rattle.host_session.specs.shop.Found.{AreFilesOf, Tells, TellsRecord};
 ghost use Rattle.host_session.specs.shop.LoadedShop.{JudgesRecord};
 ghost use Rattle.rel_records.specs.reading.Kept.{IsKept};
 ghost use Rattle.request_cards.specs.CardReading.{request_card_of, stock_card_of};
@@ -52,7 +52,7 @@ fn is_empty(bytes: &[u8]) -> bool
 fn what_is_held<C>(card: Option<C>, bytes: &[u8]) -> RecordContent<C>
     requires some { 1 ≤ length bytes.now }
     ensures { (card_of : List ℕ → Option C) → card_of bytes.now ≡ card
-        → ReplySink card_of (length bytes.now) bytes.now result }
+        → Tells card_of (length bytes.now) bytes.now result }
 {
     match card {
         Some(card) => RecordContent::Card(card),
@@ -95,7 +95,7 @@ pub(crate) fn read_till<D: Sectors>(
 #[inline(always)]
 fn item_held(bytes: &[u8]) -> RecordContent<StockCard>
     requires { length bytes.now ≡ 18 }
-    ensures { ReplySink stock_card_of 18 bytes.now result }
+    ensures { Tells stock_card_of 18 bytes.now result }
 {
     let bytes = bytes.first_chunk::<STOCK_CARD_LENGTH>().unwrap();
     what_is_held(StockCard::parse(bytes), bytes)

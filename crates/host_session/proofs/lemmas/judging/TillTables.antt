@@ -11,7 +11,7 @@ use Rattle.disk_layout.specs.Records.{empty_record}
 use Rattle.request_cards.specs.CardReading.{request_card_of}
 use Rattle.request_cards.specs.CardTexts.{Card}
 use Rattle.host_session.specs.shop.Files.{Files, record_at}
-use Rattle.host_session.specs.shop.Found.{ReplySink, TellsRecord}
+use Rattle.host_session.specs.shop.Found.{Tells, TellsRecord}
 use Rattle.host_session.specs.declared.shop.record_content.RecordContent.{RecordContent}
 use Rattle.host_session.specs.shop.LoadedShop.{AreTills, IsJudgedTill, IsReadTo, PassesRecords, listed}
 use Rattle.host_session.specs.session.Opening.{IsBadTill, IsLowest, LacksRecord}
@@ -24,14 +24,14 @@ use Rattle.host_session.proofs.lemmas.judging.TableEntries.{blank-request, nth-n
 use Rattle.host_session.proofs.lemmas.judging.TableEntries.{record_at-past}
 
 -- what a read of a record tells
-pub told-none : {C : Type 0} (card_of : List ℕ → Option C) (long : ℕ) (rs : List (List ℕ)) (r : ℕ) (o : Option (Held C))
-    → ((h : Held C) → o ≢ Some h) → TellsRecord card_of long rs r o → length rs < r
+pub told-none : {C : Type 0} (card_of : List ℕ → Option C) (long : ℕ) (rs : List (List ℕ)) (r : ℕ) (o : Option (RecordContent C))
+    → ((h : RecordContent C) → o ≢ Some h) → TellsRecord card_of long rs r o → length rs < r
 told-none card_of long rs r None ne told = told
 told-none card_of long rs r (Some h) ne told = absurd (ne h refl)
 
-pub told-some : {C : Type 0} (card_of : List ℕ → Option C) (long : ℕ) (rs : List (List ℕ)) (r : ℕ) (o : Option (Held C))
-    (h : Held C) → o ≡ Some h → TellsRecord card_of long rs r o
-    → (bytes : List ℕ) × (record_at rs r ≡ Some bytes) × ReplySink card_of long bytes h
+pub told-some : {C : Type 0} (card_of : List ℕ → Option C) (long : ℕ) (rs : List (List ℕ)) (r : ℕ) (o : Option (RecordContent C))
+    (h : RecordContent C) → o ≡ Some h → TellsRecord card_of long rs r o
+    → (bytes : List ℕ) × (record_at rs r ≡ Some bytes) × Tells card_of long bytes h
 told-some card_of long rs r o h e told = subst (TellsRecord card_of long rs r) e told
 
 -- a till's record, judged

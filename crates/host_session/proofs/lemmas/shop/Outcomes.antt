@@ -98,17 +98,17 @@ abbrev IsThereOr : Body → ℕ → Option ℕ → Option ℕ → Room → Kind 
 IsThereOr b r on there room kind = ((r ≡ b.item) × IsSome on)
     ⊎ (((r ≡ b.to) × IsSome there) ⊎ ((kind ≡ Set) × (r ≡ b.item) × IsFits room))
 
-abbrev ReplySink : Body → ℕ → Type 0 → Outcome → Type 0
-ReplySink b r R o = Contains (items (results_in b o.answer)) r → R
+abbrev Tells : Body → ℕ → Type 0 → Outcome → Type 0
+Tells b r R o = Contains (items (results_in b o.answer)) r → R
 
 one-item : (b : Body) (q r : ℕ) → Contains (items (results_in b (answers.Done q))) r → r ≡ b.item
 one-item b q r c = elim (Contains-cases r b.item [] c) [ inl e ↦ sym e | inr d ↦ absurd (Contains-nil r d) ]
 
-none-item : (b : Body) (a : Answer) (r : ℕ) (R : Type 0) → is_done a ≡ false → ReplySink b r R (refused a)
+none-item : (b : Body) (a : Answer) (r : ℕ) (R : Type 0) → is_done a ≡ false → Tells b r R (refused a)
 none-item b a r R e c = absurd (Contains-nil r (subst (λ rs. Contains (items rs) r) (results-refused b a e) c))
 
 there-rows : (b : Body) (r : ℕ) (on there : Option ℕ) (room : Room) (kind : Kind) (q : ℕ)
-    → ReplySink b r (IsThereOr b r on there room kind) (trade_row on there room kind q)
+    → Tells b r (IsThereOr b r on there room kind) (trade_row on there room kind q)
 unfolding IsFits
 there-rows b r (Some on) there room Set q = λ c. inl (one-item b q r c, refl)
 there-rows b r None there rooms.Fits Set q = λ c. inr (inr (refl, one-item b q r c, tt))
@@ -116,19 +116,19 @@ there-rows b r None there rooms.Full Set q = none-item b answers.DiskFull r _ re
 there-rows b r None there rooms.TooLarge Set q = none-item b answers.TooLarge r _ refl
 there-rows b r None there room Receive q = none-item b answers.NoCard r _ refl
 there-rows b r (Some on) there room Receive q =
-    cond_both (nat_lt 999999999 (on + q)) _ _ (ReplySink b r (IsThereOr b r (Some on) there room Receive))
+    cond_both (nat_lt 999999999 (on + q)) _ _ (Tells b r (IsThereOr b r (Some on) there room Receive))
     (λ _. none-item b (answers.Over on) r _ refl) (λ _ c. inl (one-item b (on + q) r c, refl))
 there-rows b r None there room Issue q = none-item b answers.NoCard r _ refl
 there-rows b r (Some on) there room Issue q =
-    cond_both (nat_lt on q) _ _ (ReplySink b r (IsThereOr b r (Some on) there room Issue))
+    cond_both (nat_lt on q) _ _ (Tells b r (IsThereOr b r (Some on) there room Issue))
     (λ _. none-item b (answers.Short on) r _ refl) (λ _ c. inl (one-item b (on - q) r c, refl))
 there-rows b r None None room Move q = none-item b answers.NoCard r _ refl
 there-rows b r None (Some n) room Move q = none-item b answers.NoCard r _ refl
 there-rows b r (Some n) None room Move q = none-item b answers.NoCard r _ refl
 there-rows b r (Some on) (Some there) room Move q =
-    cond_both (nat_lt on q) _ _ (ReplySink b r (IsThereOr b r (Some on) (Some there) room Move))
+    cond_both (nat_lt on q) _ _ (Tells b r (IsThereOr b r (Some on) (Some there) room Move))
     (λ _. none-item b (answers.Short on) r _ refl)
-    (λ _. cond_both (nat_lt 999999999 (there + q)) _ _ (ReplySink b r (IsThereOr b r (Some on) (Some there) room Move))
+    (λ _. cond_both (nat_lt 999999999 (there + q)) _ _ (Tells b r (IsThereOr b r (Some on) (Some there) room Move))
     (λ _. none-item b (answers.Over there) r _ refl)
     (λ _ c. elim (Contains-cases r b.item (b.to ∷ []) c) [
       | inl e ↦ inl (sym e, refl)

@@ -8,8 +8,8 @@ use Rattle.host_session.proofs.lemmas.session.Answered.{known-keeping, known-num
 use Rattle.host_session.proofs.lemmas.session.Answered.{stands-dead}
 use Rattle.host_session.proofs.session.Session.answer.Goals as goal
 
-pub keep-requires-clause-ready : goal.keep-requires-clause-ready
-keep-requires-clause-ready g c = c.self.invariant.1 (ap (λ d. d.dead) c.self.view_is ∙ c.requires.alive)
+pub store_answer-requires-clause-ready : goal.store_answer-requires-clause-ready
+store_answer-requires-clause-ready g c = c.self.invariant.1 (ap (λ d. d.dead) c.self.view_is ∙ c.requires.alive)
 
 pub renew-requires-clause-item : goal.renew-requires-clause-item
 renew-requires-clause-item g c = c.decided-outcome.ensures.item
@@ -30,8 +30,8 @@ next_card-card-requires-clause-next g c =
     c.self.inside.tills c.self.inside.cards c.self.inside.requests
     c.self.view_is c.self.invariant.0 c.args.request.now c.requires.ask c.requires.alive c.requires.next
 
-pub keep-requires-clause-keeping : goal.keep-requires-clause-keeping
-keep-requires-clause-keeping g c =
+pub store_answer-requires-clause-keeping : goal.store_answer-requires-clause-keeping
+store_answer-requires-clause-keeping g c =
     known-keeping g.D.Sectors.history c.self.inside.drive c.args.self.now c.self.inside.dead c.self.inside.top
     c.self.inside.tills c.self.inside.cards c.self.inside.requests
     c.self.view_is c.self.invariant.0 c.args.request.now c.requires.ask c.requires.alive c.requires.next

@@ -2,7 +2,7 @@
 use Rattle.std.proofs.Common.{Some, inl, inr, refl, subst, sym, ◌∙◌}
 use Rattle.std.proofs.lemmas.Result.{err_from_is_err_and}
 use Rattle.request_cards.specs.CardReading.{stock_card_of}
-use Rattle.host_session.specs.shop.Found.{ReplySink}
+use Rattle.host_session.specs.shop.Found.{Tells}
 use Rattle.host_session.specs.shop.LoadedShop.{IsJudgedItem}
 use Rattle.host_session.proofs.lemmas.judging.StockTables.{bad-bytes, bad-item, judged-blank, judged-intended}
 use Rattle.host_session.proofs.lemmas.judging.StockTables.{judged-stock, left-alone}
@@ -53,7 +53,7 @@ returns-in-Empty g c = record {
       c.in-Some.is (c.in_ok-held.ensures.ok f a) in
       let left = left-alone f c.args.item c.args.new.now h c.new_quantity-intended.result
       c.new_quantity-intended.ensures (sym c.is_some.ensures ∙ c.if-is_some.false) in
-      judged-blank f c.args.item left bytes here (subst (ReplySink stock_card_of 18 bytes) c.in-Empty.is told);
+      judged-blank f c.args.item left bytes here (subst (Tells stock_card_of 18 bytes) c.in-Empty.is told);
   err = λ f p. tt;
   kept = c.in_ok-held.ensures.kept;
   reads = c.in_ok-held.ensures.reads;
@@ -69,7 +69,7 @@ returns-else-item g c = record {
       let left = left-alone f c.args.item c.args.new.now h c.new_quantity-intended.result
       c.new_quantity-intended.ensures (sym c.is_some.ensures ∙ c.if-is_some.false) in
       let known = judged-stock f c.args.item left bytes here c.in-Card.card
-      (subst (ReplySink stock_card_of 18 bytes) c.in-Card.is told) (sym c.item.ensures.value ∙ c.if-item.false) in
+      (subst (Tells stock_card_of 18 bytes) c.in-Card.is told) (sym c.item.ensures.value ∙ c.if-item.false) in
       subst (λ q. IsJudgedItem f c.args.item (Some (Some q))) (sym c.quantity.ensures.value) known;
   err = λ f p. tt;
   kept = c.in_ok-held.ensures.kept;
@@ -89,7 +89,7 @@ returns-then-item g c = record {
       inr (
         refl,
         bad-item f c.args.item left bytes here c.in-Card.card
-            (subst (ReplySink stock_card_of 18 bytes) c.in-Card.is told) (λ e. c.if-item.true (c.item.ensures.value ∙ e)),
+            (subst (Tells stock_card_of 18 bytes) c.in-Card.is told) (λ e. c.if-item.true (c.item.ensures.value ∙ e)),
       );
   kept = c.in_ok-held.ensures.kept;
   reads = c.in_ok-held.ensures.reads;
@@ -105,7 +105,7 @@ returns-in-Other g c = record {
       c.in-Some.is (c.in_ok-held.ensures.ok f a) in
       let left = left-alone f c.args.item c.args.new.now h c.new_quantity-intended.result
       c.new_quantity-intended.ensures (sym c.is_some.ensures ∙ c.if-is_some.false) in
-      inr (refl, bad-bytes f c.args.item left bytes here (subst (ReplySink stock_card_of 18 bytes) c.in-Other.is told));
+      inr (refl, bad-bytes f c.args.item left bytes here (subst (Tells stock_card_of 18 bytes) c.in-Other.is told));
   kept = c.in_ok-held.ensures.kept;
   reads = c.in_ok-held.ensures.reads;
   failures = c.in_ok-held.ensures.failures;

@@ -4,7 +4,7 @@ use Rattle.std.proofs.lemmas.Bool.{false≢true}
 use Rattle.std.proofs.lemmas.Result.{err_from_is_err_and}
 use Rattle.request_cards.proofs.CardReading.{card_is}
 use Rattle.request_cards.specs.CardReading.{request_card_of}
-use Rattle.host_session.specs.shop.Found.{ReplySink}
+use Rattle.host_session.specs.shop.Found.{Tells}
 use Rattle.host_session.proofs.lemmas.judging.TillTables.{bad-intent, bad-other, judged-card, judged-empty}
 use Rattle.host_session.proofs.lemmas.judging.TillTables.{lacks-answered, lacks-none, lacks-some, told-none, told-some}
 use Rattle.host_session.proofs.shop.judgment.judge_till.Goals.{else-pending-via-then-pending+else-passes}
@@ -16,7 +16,7 @@ new_quantities-requires-clause-fits g c =
     let (f, a) = c.requires.of in
     let (bytes, here, told) = told-some request_card_of 127 f.requests c.args.till c.in_ok-held.field-0 c.in-Some.held
     c.in-Some.is (c.in_ok-held.ensures.ok f a) in
-    let reads = subst (ReplySink request_card_of 127 bytes) c.in-Card.is told in
+    let reads = subst (Tells request_card_of 127 bytes) c.in-Card.is told in
     ((card_is bytes c.in-Card.card).0 reads).0
 
 pub returns-in_err-held : goal.returns-in_err-held
@@ -46,7 +46,7 @@ returns-in-Empty g c = record {
   ok = λ f a.
       let (bytes, here, told) = told-some request_card_of 127 f.requests c.args.till c.in_ok-held.field-0 c.in-Some.held
       c.in-Some.is (c.in_ok-held.ensures.ok f a) in
-      judged-empty f c.args.till bytes here (subst (ReplySink request_card_of 127 bytes) c.in-Empty.is told);
+      judged-empty f c.args.till bytes here (subst (Tells request_card_of 127 bytes) c.in-Empty.is told);
   err = λ f a. tt;
   kept = c.in_ok-held.ensures.kept;
   reads = c.in_ok-held.ensures.reads;
@@ -59,7 +59,7 @@ returns-else-pending g c = record {
       let img = g.D.Sectors.history.image c.args.disk.now in
       let (bytes, here, told) = told-some request_card_of 127 f.requests c.args.till c.in_ok-held.field-0 c.in-Some.held
       c.in-Some.is (c.in_ok-held.ensures.ok f a) in
-      let reads = subst (ReplySink request_card_of 127 bytes) c.in-Card.is told in
+      let reads = subst (Tells request_card_of 127 bytes) c.in-Card.is told in
       judged-card f c.args.till bytes here c.in-Card.card reads (elim c.else-pending.branch [
         | else-pending-via-then-pending+else-passes w ↦
             let many = w.records.ensures.exact img a.has.layout a.has.stock_place a.has.stock_file a.stock_of
@@ -83,7 +83,7 @@ returns-then-passes g c = record {
       let img = g.D.Sectors.history.image c.args.disk.now in
       let (bytes, here, told) = told-some request_card_of 127 f.requests c.args.till c.in_ok-held.field-0 c.in-Some.held
       c.in-Some.is (c.in_ok-held.ensures.ok f a) in
-      let reads = subst (ReplySink request_card_of 127 bytes) c.in-Card.is told in
+      let reads = subst (Tells request_card_of 127 bytes) c.in-Card.is told in
       let many = c.records.ensures.exact img a.has.layout a.has.stock_place a.has.stock_file a.stock_of
       ∙ ap length (sym a.has.stock) in
       inr (
@@ -106,7 +106,7 @@ returns-in-Other g c = record {
       inr (
         refl,
         bad-other f c.args.till bytes here c.requires.high
-            (subst (ReplySink request_card_of 127 bytes) c.in-Other.is told),
+            (subst (Tells request_card_of 127 bytes) c.in-Other.is told),
       );
   kept = c.in_ok-held.ensures.kept;
   reads = c.in_ok-held.ensures.reads;

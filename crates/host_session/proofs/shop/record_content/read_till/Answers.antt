@@ -4,7 +4,7 @@ use Rattle.std.specs.Prelude.{Some}
 use Rattle.std.proofs.lemmas.Option.{MatchOption-at_some}
 use Rattle.host_session.specs.shop.Files.{record_at}
 use Rattle.request_cards.specs.CardReading.{request_card_of}
-use Rattle.host_session.specs.shop.Found.{ReplySink}
+use Rattle.host_session.specs.shop.Found.{Tells}
 use Rattle.host_session.proofs.lemmas.judging.Readings.{absent-told, past-last, till-read, whole-chunk}
 use Rattle.host_session.proofs.shop.record_content.read_till.Goals as goal
 
@@ -40,7 +40,7 @@ returns-in-Ok g c =
           let same = whole-chunk _ _ 127 long chunk ∙ c.as_slice.ensures.value in (
             c.unwrap-bytes.result.now,
             ap (λ r. record_at f.requests r) (sym c.from.ensures) ∙ read.0 ∙ ap Some (sym same),
-            subst (λ n. ReplySink request_card_of n c.unwrap-bytes.result.now c.what_is_held.result)
+            subst (λ n. Tells request_card_of n c.unwrap-bytes.result.now c.what_is_held.result)
                 (ap length same ∙ read.1) (c.what_is_held.ensures request_card_of (sym c.parse.ensures.exact)),
           );
       err = λ f a. tt;
