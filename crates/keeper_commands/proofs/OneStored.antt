@@ -195,7 +195,8 @@ module _ {D : Type 0} (S : History D) (a b : D) (l : Layout) (n : ℕ) (f : File
 
       held-whole : HoldsWhole S a d
       held-whole h = then S a b d IsWhole (reads_change S a b 3 IsWhole read.reads h).held
-          (weaker S b d _ IsWhole (λ i held. writing-whole (S.image b) i l n f _ x.number 1 x.bytes
+          (weaker S b d (IsWriting (S.image b) l n f (added (record_length f.slot) (records_had f) x.number) x.number 1
+          x.bytes) IsWhole (λ i held. writing-whole (S.image b) i l n f _ x.number 1 x.bytes
           (added-none (record_length f.slot) (records_had f) x.number reached) held
           (subst IsWhole (sym read.reads.image) h)) (wrote.file l n f of-read).moments.held)
 

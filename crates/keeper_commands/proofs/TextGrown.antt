@@ -17,7 +17,7 @@ use Rattle.rel_records.proofs.lemmas.writing.Grown.{size-kept}
 use Rattle.rel_records.specs.Calls.{FindsFile, Grows}
 use Rattle.rel_records.specs.File.{IsFileOf, entry_of, length_of, records_in}
 use Rattle.rel_records.specs.Others.{LeavesRecords}
-use Rattle.rel_records.specs.Written.{grown_to}
+use Rattle.rel_records.specs.Written.{IsGrowingTo, grown_to}
 use Rattle.rel_records.specs.declared.faults.RelFault.{RelFault}
 use Rattle.rel_records.specs.declared.faults.RelFault.TheVariants as rel
 use Rattle.rel_records.specs.declared.rel_file.RelFile.{RelFile}
@@ -137,7 +137,7 @@ module _ {D W : Type 0} (S : History D) (image name text : List ℕ) (a b : D) (
       -- where REQUESTS of a shop doesn't grow
       pub growing-whole : {r : Result (Unit {0}) RelFault} → Grows S b c v w (greatest xs) r
           → (NeverGrows (HasStock clean.0) it.0.slot → greatest xs ≤ records_had it.0) → HoldsWhole S b c
-      growing-whole grows few h = weaker S b c _ IsWhole
+      growing-whole grows few h = weaker S b c (IsGrowingTo (S.image b) clean.0 (entry_of v) it.0 (greatest xs)) IsWhole
           (λ i g. g.3 (λ never. added-none (record_length it.0.slot) (records_had it.0) (greatest xs) (few never)) h)
           (grows.file clean.0 (entry_of v) it.0 found-of).moments.held
 

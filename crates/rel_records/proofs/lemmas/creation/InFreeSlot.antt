@@ -208,9 +208,11 @@ module _ {D : Type 0} (S : History D) (d e : D) (l : Layout) (st : Site) (bytes 
   still c x =
       let unowned = unowned-two (S.image d) l st.map.bytes st.block st.side h.taken in
       let layout = h.taken.clean.layout in
-      let was = files-before (S.image d) c st.map.bytes (st.block ∷ st.side ∷ []) l layout unowned h.taken.header x in
-      (inl was, before-whole (S.image d) c l h.taken.clean was.layout (before-same (S.image d) c st.map.bytes
-      (st.block ∷ st.side ∷ []) l layout unowned x))
+      let was = files-before (S.image d) c st.map.bytes (st.block ∷ st.side ∷ []) l layout unowned h.taken.header x in (
+        inl was,
+        before-whole (S.image d) c l h.taken.clean was.layout (before-same (S.image d) c st.map.bytes
+            (st.block ∷ st.side ∷ []) l layout unowned x),
+      )
 
   pub sectors-moments : Changes S d e 4 (IsCreating (S.image d) l name L)
   sectors-moments = changes_weaker S d e 3 4 _ _ (omega arith) still prepared

@@ -203,9 +203,11 @@ module _ {D : Type 0} (S : History D) (d e : D) (l : Layout) (st : Site) (fresh 
       let three = fresh ∷ st.block ∷ st.side ∷ [] in
       let unowned = unowned-three (S.image d) l st.map.bytes st.block st.side fresh h.taken in
       let layout = h.taken.clean.layout in
-      let was = files-before (S.image d) c st.map.bytes three l layout unowned h.taken.header x in
-      (inl was, before-whole (S.image d) c l h.taken.clean was.layout (before-same (S.image d) c st.map.bytes three l
-      layout unowned x))
+      let was = files-before (S.image d) c st.map.bytes three l layout unowned h.taken.header x in (
+        inl was,
+        before-whole (S.image d) c l h.taken.clean was.layout (before-same (S.image d) c st.map.bytes three l
+            layout unowned x),
+      )
 
   pub directory-moments : Changes S d e 5 (IsCreating (S.image d) l name L)
   directory-moments = changes_weaker S d e 4 5 _ _ (omega arith) still prepared

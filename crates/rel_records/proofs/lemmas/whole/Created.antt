@@ -1,5 +1,5 @@
 -- A creation keeps files whole: before the entry is written, and after.
-use Rattle.std.proofs.Common.{◌≡◌, ℕ, ◌-◌, ◌≤◌, inl, inr, List, [], ◌∷◌, ◌++◌, map, length, sym, ◌∙◌, ap, ap₂, arith}
+use Rattle.std.proofs.Common.{◌≡◌, ◌≢◌, ℕ, ◌-◌, ◌≤◌, inl, inr, List, [], ◌∷◌, ◌++◌, map, length, sym, ◌∙◌, ap, ap₂, arith}
 use Rattle.std.proofs.Common.{subst, slice_index, IsTrue}
 use Rattle.std.proofs.lemmas.List.Elements.{Contains-append_cases, Contains-append_left, Contains-append_right}
 use Rattle.std.specs.Prelude.{Contains, Some, flat_map, nat_le, slice_get, ◌&&◌, ◌||◌}
@@ -95,7 +95,7 @@ module _ (a c : Image) (p : Place) (bytes : Sector) (l m : Layout) (fs gs : List
       ap (λ t. (nat_le 129 t && nat_le t 131) || (nat_le 193 t && nat_le t 195)) kind in (
         λ t. omega (arith, (stays f on).0, old.counted (plain ∙ t)),
         λ t q last zeros. (let own = get-contains f.blocks _ q last in
-            let apart = λ one. off (let P : Place → Type 0 = Contains (flat_map file_owns l.files) in
+            let apart : p ≢ q = λ one. off (let P : Place → Type 0 = Contains (flat_map file_owns l.files) in
             subst P (sym one) (flat_map-in file_owns l.files f q on (Contains-append_left f.blocks f.sides q own))) in
             old.ended (ap₂ (λ x y. x || y) (ap is_rel_type kind) plain ∙ t) q last
             (same q (owned-block l f q on own) ∙ unless-same c p q bytes apart ∙ zeros)),
@@ -127,9 +127,9 @@ module _ (a c : Image) (p : Place) (bytes : Sector) (l m : Layout) (fs gs : List
         | inl e ↦ (let Q : File → Type 0 = IsLong (put c p bytes) in subst Q e new-long)
         | inr rest ↦ elim (Contains-append_cases (map (reread (put c p bytes)) fs) (map (reread (put c p bytes)) gs) y
             rest) [
-          | inl d ↦ from fs (λ f on. rw split (Contains-append_left fs gs f on)) y d
-          | inr d ↦ from gs (λ f on. rw split (Contains-append_right fs gs f on)) y d
-        ]
+              | inl d ↦ from fs (λ f on. rw split (Contains-append_left fs gs f on)) y d
+              | inr d ↦ from gs (λ f on. rw split (Contains-append_right fs gs f on)) y d
+            ]
       ]
 
   pub more-whole : IsWhole (put c p bytes)
