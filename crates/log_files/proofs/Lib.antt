@@ -1,5 +1,10 @@
 mod Marks
 mod Steps
+mod Times
+mod Moves
+mod Renewed
+mod Unknown
+mod Viewed
 mod Brought
 mod Landed
 mod Made
