@@ -60,7 +60,7 @@ fn marked(rt: &(impl Abort + AllocGlobal), log: &[u8]) -> Vec<u8> {
 }
 
 /// What a folder has.
-fn found(rt: &(impl Abort + AllocGlobal), folder: &mut MemFolder) -> Found {
+fn held(rt: &(impl Abort + AllocGlobal), folder: &mut MemFolder) -> Found {
     let mut image = room(rt);
     if image.len() != 683 || folder.read_image(image.as_mut_slice()).is_err() {
         return Found::Failed;
@@ -80,7 +80,7 @@ fn landed(rt: &(impl Abort + AllocGlobal), image: &[[u8; 256]], log: &[u8]) -> F
     }
     let mut folder = MemFolder::with_log(rt.alloc(), image, log).expect(rt, "there is memory");
     match land(&mut folder, now.as_mut_slice(), shop.as_mut_slice()) {
-        Ok(()) => found(rt, &mut folder),
+        Ok(()) => held(rt, &mut folder),
         Err(LogFault::Unfit(Misfit::NoBase)) => Found::NoBase,
         Err(LogFault::Unfit(Misfit::Foreign)) => Found::Foreign,
         Err(LogFault::File(_)) => Found::Failed,
@@ -179,7 +179,7 @@ fn a_service_begins_and_ends(rt: HostRuntime) {
     }
     let (mut folder, end) = log.end();
     same(&rt, end.is_ok(), true);
-    same(&rt, found(&rt, &mut folder), Found::After);
+    same(&rt, held(&rt, &mut folder), Found::After);
 }
 
 /// Behind the base of 46 blocks and 933 commits of one fewer than 46 of the 1,024 are free: 1,000 need a second log.
@@ -204,5 +204,5 @@ fn a_full_log_is_renewed(rt: HostRuntime) {
     }
     let (mut folder, end) = log.end();
     same(&rt, end.is_ok(), true);
-    same(&rt, found(&rt, &mut folder), Found::After);
+    same(&rt, held(&rt, &mut folder), Found::After);
 }
