@@ -37,10 +37,13 @@ fn value_of<'a>(matches: &ArgMatches<'a>, name: &str) -> &'a str
 }
 
 /// All values of an argument, in their order.
-fn values_of<'m, 'a>(matches: &'m ArgMatches<'a>, name: &str) -> &'m [&'a str]
+fn values_of<'m, 'a: 'm>(matches: &'m ArgMatches<'a>, name: &str) -> &'m [&'a str]
     ensures { map (λ value. value.now) result.now ≡ values name.now (rows_of (found_of matches.now)) }
 {
-    matches.get_strs(name).unwrap_or(&[])
+    match matches.get_strs(name) {
+        Some(values) => values,
+        None => &[],
+    }
 }
 
 /// The number of tills that a text spells: 1 to 64, in decimal digits without leading zeros.
