@@ -210,6 +210,12 @@ IsStoringJob rows image (Ok _) = ⊥
 IsStoringJob rows image (Err faults.Name) = HasNoName rows
 IsStoringJob rows image (Err _) = ⊥
 
+-- the job that prints this of these images; or there was no memory for it
+abbrev pub IsSeveral : Overview → List (Bor Text) → Result Job JobFault → Type 0
+IsSeveral what images result =
+    ((all : Vec (Bor Text) Global) × (result ≡ Ok (jobs.Several what all)) × (vec_items all ≡ images))
+    ⊎ ((e : Error) × (result ≡ Err (faults.Words e)) × HasKind [] e)
+
 -- and of one that prints this of one image, or of several
 abbrev pub IsOverviewJob : List Row → Overview → Result Job JobFault → Type 0
 IsOverviewJob rows what result =

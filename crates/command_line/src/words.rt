@@ -1,14 +1,14 @@
 //! Reading the words of the command line.
 ghost use Rattle.std.specs.Prelude.{◌≡◌, ◌≤◌, ℕ, IfErr, IfOk, IfSome, IsNone, List, MatchResult, [], map, option_map};
-ghost use Rattle.clap.specs.Words.{HasKind, fault_of, found_of, matches_of, rows_of, subcommand_of, subcommand_rows_of};
-ghost use Rattle.command_table.specs.Grammar.{ledger, value, values};
+ghost use Rattle.clap.specs.Words.{HasKind, all_of, fault_of, found_of, matches_of, rows_of, subcommand_of, subcommand_rows_of};
+ghost use Rattle.command_table.specs.Grammar.{ledger, value};
 ghost use Rattle.request_cards.specs.Reading.{number_in};
 ghost use Rattle.byte_text.specs.Texts.{AreBytes};
 ghost use Rattle.keeper_commands.specs.Makes.{IsNewName};
 ghost use Rattle.ledger_jobs.specs.Jobs.{IsFit};
 ghost use Rattle.ledger_jobs.specs.Names.{IsNameOf, name_bytes};
-ghost use Rattle.command_line.specs.Jobs.{IsHeard, IsJob, IsMakingJob, IsNoJob, IsOverviewJob, IsParse, IsStoringJob};
-ghost use Rattle.command_line.specs.Jobs.{IsTakingJob};
+ghost use Rattle.command_line.specs.Jobs.{IsHeard, IsJob, IsMakingJob, IsNoJob, IsOverviewJob, IsParse, IsSeveral};
+ghost use Rattle.command_line.specs.Jobs.{IsStoringJob, IsTakingJob};
 ghost use Rattle.command_line.specs.Jobs.{effect_in, format_job, job_of_one, loss_in, picture_job, play_job, unowned_in};
 ghost use Rattle.rel_records.specs.File.{IsLength};
 ghost use Rattle.command_line.specs.Jobs.{is_explained as explained, is_given as given, serve_durability as of_serve};
@@ -36,14 +36,12 @@ fn value_of<'a>(matches: &ArgMatches<'a>, name: &str) -> &'a str
     matches.get_str(name).unwrap_or("")
 }
 
-/// All values of an argument, in their order.
-fn values_of<'m, 'a: 'm>(matches: &'m ArgMatches<'a>, name: &str) -> &'m [&'a str]
-    ensures { map (λ value. value.now) result.now ≡ values name.now (rows_of (found_of matches.now)) }
+/// All values of an argument, in their order; None if it has none.
+fn values_of<'m, 'a>(matches: &'m ArgMatches<'a>, name: &str) -> Option<&'m [&'a str]>
+    ensures { option_map (λ values. map (λ value. value.now) values.now) result
+        ≡ all_of name.now (rows_of (found_of matches.now)) }
 {
-    match matches.get_strs(name) {
-        Some(values) => values,
-        None => &[],
-    }
+    matches.get_strs(name)
 }
 
 /// The number of tills that a text spells: 1 to 64, in decimal digits without leading zeros.
@@ -161,6 +159,21 @@ fn of_one<'a>(what: Overview, image: &'a str) -> Job<'a>
     }
 }
 
+/// The job that prints this of these images.
+fn of_several<'a>(
+    alloc: Global,
+    what: Overview,
+    images: &[&'a str],
+) -> Result<Job<'a>, JobFault>
+    ensures { IsSeveral what images.now result }
+{
+    let mut all = Vec::new(alloc);
+    match all.extend_from_slice(images) {
+        Ok(()) => Ok(Job::Several { what, images: all }),
+        Err(error) => Err(JobFault::Words(Error::from(error))),
+    }
+}
+
 /// The job that prints this of one image, or of several.
 fn viewing<'a>(
     alloc: Global,
@@ -169,15 +182,14 @@ fn viewing<'a>(
 ) -> Result<Job<'a>, JobFault>
     ensures { IsOverviewJob (rows_of (found_of matches.now)) what result }
 {
-    let images = values_of(matches, "IMAGE");
+    let image = value_of(matches, "IMAGE");
+    let Some(images) = values_of(matches, "IMAGE") else {
+        return Ok(of_one(what, image));
+    };
     if images.len() < 2 {
-        return Ok(of_one(what, value_of(matches, "IMAGE")));
+        return Ok(of_one(what, image));
     }
-    let mut all = Vec::new(alloc);
-    match all.extend_from_slice(images) {
-        Ok(()) => Ok(Job::Several { what, images: all }),
-        Err(error) => Err(JobFault::Words(Error::from(error))),
-    }
+    of_several(alloc, what, images)
 }
 
 /// The job that plays a script on an image.

@@ -1,8 +1,11 @@
 //! Several images, each read as if it were alone; what is printed of it stands behind its name.
-ghost use Rattle.std.specs.Prelude.{◌≡◌, IfErr, IfOk, Some, vec_items};
+ghost use Rattle.std.specs.Prelude.{◌≡◌, IfErr, IfOk, OnOk, Some, vec_items};
 ghost use Rattle.std.specs.Io.KnownBytes.{Appends};
 ghost use Rattle.shop_commands.specs.declared.faults.RunFault.TheVariants as faults;
-ghost use Rattle.ledger_jobs.specs.Overviews.{IsOneOfSeveral, IsOverview, IsToldAs};
+ghost use Rattle.ledger_jobs.specs.Ends.{as_job};
+ghost use Rattle.ledger_jobs.specs.Overviews.{EndsAs, IsOneOfSeveral, IsOverview, IsToldAs};
+ghost use Rattle.ledger_jobs.specs.Runs.{IsReadingEnd};
+ghost use Rattle.named_lines.specs.Named.{named};
 
 use crate::dispatch::{drawn_end, image_at, job_end};
 use crate::drawing::drawing_run;
@@ -21,6 +24,18 @@ use system_files::ShownPath;
 /// How many bytes memory is taken for at once for what one image prints: more than a directory or a map has.
 const ROOM: usize = 32768;
 
+/// Does what is asked of these bytes.
+fn read<W: Write>(
+    alloc: Global,
+    what: Reading,
+    image: &[u8],
+    out: &mut W,
+) -> Result<Option<Fault>, Refusal>
+    ensures { EndsAs as_job result (IsReadingEnd W.contents what image.now out.old out.new) }
+{
+    job_end(reading_run(alloc, what, image, out))
+}
+
 /// Prints what is asked of one image, as if it were alone.
 fn overview<W: Write>(
     alloc: Global,
@@ -31,9 +46,20 @@ fn overview<W: Write>(
     ensures { IsOverview W.contents what image.now out.old out.new result }
 {
     match what {
-        Overview::List => job_end(reading_run(alloc, Reading::List, image, out)),
-        Overview::Check => job_end(reading_run(alloc, Reading::Check, image, out)),
+        Overview::List => read(alloc, Reading::List, image, out),
+        Overview::Check => read(alloc, Reading::Check, image, out),
         Overview::Map => drawn_end(drawing_run(alloc, Drawing::Map, image, out)),
+    }
+}
+
+/// Prints a text behind the image's name, line by line. `File` if the output failed.
+fn put_text<W: Write>(name: &[u8], text: &[u8], out: &mut W) -> Result<(), RunFault>
+    ensures ok { OnOk result (Appends (W.contents out.old) (W.contents out.new) (named name.now text.now)) }
+    ensures err { IfErr result (λ fault. fault ≡ faults.File) }
+{
+    match put_named(out, name, text) {
+        Ok(()) => Ok(()),
+        Err(_) => Err(RunFault::File),
     }
 }
 
@@ -49,9 +75,10 @@ fn tell_named<W: Write>(
     ensures err { IfErr result (λ fault. fault ≡ faults.File) }
 {
     let ending = end(ended, &mut text);
-    if ending.told.is_err() || put_named(out, name, text.as_slice()).is_err() {
+    let Ok(()) = ending.told else {
         return Err(RunFault::File);
-    }
+    };
+    put_text(name, text.as_slice(), out)?;
     Ok(ending.status)
 }
 
