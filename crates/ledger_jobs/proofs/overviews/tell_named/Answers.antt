@@ -1,11 +1,10 @@
 -- The line of the end stands behind the text.
 use Rattle.std.proofs.Common.{◌≡◌, ◌++◌, ◌∙◌, Global, Vec, append-nil, ap, refl, subst, sym, ℕ}
-use Rattle.std.proofs.lemmas.Bool.{false≢true}
 use Rattle.std.specs.Prelude.{IfErr, IsOk, Ok, Err, OnOk, Result, Some, vec_items}
 use Rattle.std.specs.Io.KnownBytes.{Appends}
 use Rattle.named_lines.specs.Named.{named}
 use Rattle.ledger_jobs.specs.Ends.{JobEnd, end_line, refusal_line}
-use Rattle.host_session.specs.declared.events.printing.NotTaken.{NotTaken}
+use Rattle.host_session.specs.declared.events.sinks.NotTaken.{NotTaken}
 use Rattle.ledger_jobs.proofs.overviews.tell_named.Goals as goal
 
 line-behind : (end : JobEnd) (old new : Vec ℕ Global) (told : Result Unit NotTaken) → told ≡ Ok tt
