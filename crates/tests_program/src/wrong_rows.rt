@@ -155,20 +155,12 @@ $ ledger_cli list
 tells error: the following required arguments were not provided:|  <IMAGE>|..
 ends 2
 
-$ ledger_cli list a.d64 b.d64
-tells error: unexpected argument 'b.d64' found|..
-ends 2
-
 $ ledger_cli list a.d64 --tills 2
 tells error: unexpected argument '--tills' found|..
 ends 2
 
 $ ledger_cli check
 tells error: the following required arguments were not provided:|  <IMAGE>|..
-ends 2
-
-$ ledger_cli check a.d64 b.d64
-tells error: unexpected argument 'b.d64' found|..
 ends 2
 
 $ ledger_cli repair
@@ -241,10 +233,6 @@ ends 2
 
 $ ledger_cli map
 tells error: the following required arguments were not provided:|  <IMAGE>|..
-ends 2
-
-$ ledger_cli map a.d64 b.d64
-tells error: unexpected argument 'b.d64' found|..
 ends 2
 
 $ ledger_cli picture
