@@ -8,6 +8,7 @@ use Rattle.clap.specs.declared.error.Error.{Error}
 use Rattle.clap.specs.declared.parser.matches.ArgMatches.{ArgMatches}
 use Rattle.command_table.specs.Grammar.{ledger, value}
 use Rattle.command_line.specs.Jobs.{Has, HasNoName, HasNoNewName, IsHeard, IsJob, IsMakingJob, IsNoJob, IsParse}
+use Rattle.command_line.specs.Jobs.{AreTooMany, IsForOne, IsPictureJob}
 use Rattle.command_line.specs.Jobs.{IsOnlyImage, IsOverviewJob, IsStoringJob, IsTakingJob, is_given, job_of_one}
 use Rattle.command_line.specs.Jobs.{tills_in, word_of_overview, word_of_taking}
 use Rattle.ledger_jobs.specs.Jobs.{IsFit}
@@ -110,10 +111,12 @@ play-met found rows image script false given is by-image by-script =
 -- and with --svg or without that of `picture`
 pub picture-met : (found : Option (Text × List Row)) (rows : List Row) (image : Bor Text) (svg : Bool)
     → is_given (codes "svg") rows ≡ svg → found ≡ Some (codes "picture", rows)
-    → image.now ≡ value (codes "IMAGE") rows
+    → image.now ≡ value (codes "IMAGE") rows → IsForOne rows
     → IsJob found (if svg then jobs.Draw drawings.Poster image else jobs.Draw drawings.Picture image)
-picture-met found rows image true given is by-image = record { rows = rows; is = is; holds = (by-image, given) }
-picture-met found rows image false given is by-image = record { rows = rows; is = is; holds = (by-image, given) }
+picture-met found rows image true given is by-image one =
+    record { rows = rows; is = is; holds = (by-image, (given, one)) }
+picture-met found rows image false given is by-image one =
+    record { rows = rows; is = is; holds = (by-image, (given, one)) }
 
 pub picture-fit : (image : Bor Text) (svg : Bool)
     → IsFit (if svg then jobs.Draw drawings.Poster image else jobs.Draw drawings.Picture image)
@@ -132,6 +135,7 @@ heard-as-asked (Err (faults.Words e)) asked heard same = λ is. sym same ∙ is
 heard-as-asked (Err faults.Tills) asked heard same = same
 heard-as-asked (Err faults.Name) asked heard same = same
 heard-as-asked (Err faults.Length) asked heard same = same
+heard-as-asked (Err faults.Images) asked heard same = same
 
 -- what it takes out of an image is the job of a subcommand that was met, or its name is none
 pub taking-met : (o : Option (Bor Text × Bor ArgMatches)) (found : Option (Text × List Row)) (name : Bor Text)
@@ -152,6 +156,7 @@ taking-met o found name at what image (Ok (jobs.Format path tills)) told some is
 taking-met o found name at what image (Ok (jobs.FormatNew path tills)) told some is by-image taking = absurd taking
 taking-met o found name at what image (Ok (jobs.List path)) told some is by-image taking = absurd taking
 taking-met o found name at what image (Ok (jobs.Several asked paths)) told some is by-image taking = absurd taking
+taking-met o found name at what image (Ok (jobs.Sheet paths)) told some is by-image taking = absurd taking
 taking-met o found name at what image (Ok (jobs.Check path)) told some is by-image taking = absurd taking
 taking-met o found name at what image (Ok (jobs.Show path)) told some is by-image taking = absurd taking
 taking-met o found name at what image (Ok (jobs.Play path script)) told some is by-image taking = absurd taking
@@ -169,6 +174,7 @@ taking-met o found name at what image (Ok (jobs.Draw asked path)) told some is b
 taking-met o found name at what image (Err faults.Name) told some is by-image taking =
     ((refl, inl (what, met-has o found name at (word_of_taking what) HasNoName told some is taking)), tt)
 taking-met o found name at what image (Err faults.Tills) told some is by-image taking = absurd taking
+taking-met o found name at what image (Err faults.Images) told some is by-image taking = absurd taking
 taking-met o found name at what image (Err (faults.Words e)) told some is by-image taking = absurd taking
 taking-met o found name at what image (Err faults.Length) told some is by-image taking = absurd taking
 
@@ -187,6 +193,7 @@ making-met o found name at image (Ok (jobs.Format path tills)) told some is by-i
 making-met o found name at image (Ok (jobs.FormatNew path tills)) told some is by-image job = absurd job
 making-met o found name at image (Ok (jobs.List path)) told some is by-image job = absurd job
 making-met o found name at image (Ok (jobs.Several asked paths)) told some is by-image job = absurd job
+making-met o found name at image (Ok (jobs.Sheet paths)) told some is by-image job = absurd job
 making-met o found name at image (Ok (jobs.Check path)) told some is by-image job = absurd job
 making-met o found name at image (Ok (jobs.Show path)) told some is by-image job = absurd job
 making-met o found name at image (Ok (jobs.Play path script)) told some is by-image job = absurd job
@@ -202,6 +209,7 @@ making-met o found name at image (Err faults.Name) told some is by-image job =
 making-met o found name at image (Err faults.Length) told some is by-image job =
     ((refl, met-has o found name at (codes "make") _ told some is job), tt)
 making-met o found name at image (Err faults.Tills) told some is by-image job = absurd job
+making-met o found name at image (Err faults.Images) told some is by-image job = absurd job
 making-met o found name at image (Err (faults.Words e)) told some is by-image job = absurd job
 
 -- what stores records in one is the job of the subcommand that was met, or its words give none
@@ -217,6 +225,7 @@ storing-met o found name at image (Ok (jobs.Format path tills)) told some is by-
 storing-met o found name at image (Ok (jobs.FormatNew path tills)) told some is by-image job = absurd job
 storing-met o found name at image (Ok (jobs.List path)) told some is by-image job = absurd job
 storing-met o found name at image (Ok (jobs.Several asked paths)) told some is by-image job = absurd job
+storing-met o found name at image (Ok (jobs.Sheet paths)) told some is by-image job = absurd job
 storing-met o found name at image (Ok (jobs.Check path)) told some is by-image job = absurd job
 storing-met o found name at image (Ok (jobs.Show path)) told some is by-image job = absurd job
 storing-met o found name at image (Ok (jobs.Play path script)) told some is by-image job = absurd job
@@ -231,6 +240,7 @@ storing-met o found name at image (Err faults.Name) told some is by-image job =
     ((refl, inr (inl (met-has o found name at (codes "store") HasNoName told some is job))), tt)
 storing-met o found name at image (Err faults.Length) told some is by-image job = absurd job
 storing-met o found name at image (Err faults.Tills) told some is by-image job = absurd job
+storing-met o found name at image (Err faults.Images) told some is by-image job = absurd job
 storing-met o found name at image (Err (faults.Words e)) told some is by-image job = absurd job
 
 -- the only image is that of its job
@@ -265,3 +275,25 @@ viewing-met o found name at what r told some is (inr (inl several)) =
 viewing-met o found name at what r told some is (inr (inr none)) =
     let P : Result Job JobFault → Type 0 = λ j. MatchResult j (IsJob found) (IsNoJob [] found) × IfOk j IsFit in
     subst P (sym none.1) (none.2, tt)
+
+-- what draws an image, or images on a sheet, is the job of `picture`; or there are too many, or there was no memory
+pub picturing-met : (o : Option (Bor Text × Bor ArgMatches)) (found : Option (Text × List Row)) (name : Bor Text)
+    (at : Bor ArgMatches) (r : Result Job JobFault)
+    → option_map (λ (p : Bor Text × Bor ArgMatches). (p.0.now, rows_of (found_of p.1.now))) o ≡ found
+    → o ≡ Some (name, at) → name.now ≡ codes "picture"
+    → IsPictureJob (rows_of (found_of at.now)) r → MatchResult r (IsJob found) (IsNoJob [] found) × IfOk r IsFit
+picturing-met o found name at r told some is (inl (image, same, by-image, one)) =
+    let P : Result Job JobFault → Type 0 = λ j. MatchResult j (IsJob found) (IsNoJob [] found) × IfOk j IsFit in
+    let rows = rows_of (found_of at.now) in
+    let svg = is_given (codes "svg") rows in
+    let met = picture-met found rows image svg refl (met-is o found name at (codes "picture") told some is) by-image one in
+    subst P (sym same) (met, picture-fit image svg)
+picturing-met o found name at r told some is (inr (inl (images, same, are))) =
+    let P : Result Job JobFault → Type 0 = λ j. MatchResult j (IsJob found) (IsNoJob [] found) × IfOk j IsFit in
+    subst P (sym same) (met-has o found name at (codes "picture") _ told some is are, tt)
+picturing-met o found name at r told some is (inr (inr (inl (same, many)))) =
+    let P : Result Job JobFault → Type 0 = λ j. MatchResult j (IsJob found) (IsNoJob [] found) × IfOk j IsFit in
+    subst P (sym same) ((refl, met-has o found name at (codes "picture") AreTooMany told some is many), tt)
+picturing-met o found name at r told some is (inr (inr (inr (e, same, kind)))) =
+    let P : Result Job JobFault → Type 0 = λ j. MatchResult j (IsJob found) (IsNoJob [] found) × IfOk j IsFit in
+    subst P (sym same) (kind, tt)
