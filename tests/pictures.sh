@@ -16,6 +16,8 @@
 #   sector; by keyboard each file is one stop, and Enter shows it alone;
 # - the poster (`picture --svg`) is to the byte that of pages.py, leads nowhere, and Chromium, librsvg and Inkscape show each
 #   sector in the same colours as on the page;
+# - a contact sheet of 100 images, two of them refused, is to the byte that of pages.py, printed in less than a second; each
+#   sector of eight small drawings has its shade's colour in Chromium, and each drawing less than 12,000 bytes;
 # - elements and attributes of the page in the browser are the page's own, and names are shown as they are typed, and as a C64 shows
 #   them where that differs;
 # - the page names nothing outside of itself, asks for nothing but itself (the browser's own account, and a proxy on the
