@@ -160,11 +160,7 @@ fn of_one<'a>(what: Overview, image: &'a str) -> Job<'a>
 }
 
 /// The job that prints this of these images.
-fn of_several<'a>(
-    alloc: Global,
-    what: Overview,
-    images: &[&'a str],
-) -> Result<Job<'a>, JobFault>
+fn of_several<'a>(alloc: Global, what: Overview, images: &[&'a str]) -> Result<Job<'a>, JobFault>
     ensures { IsSeveral what images.now result }
 {
     let mut all = Vec::new(alloc);
@@ -175,11 +171,7 @@ fn of_several<'a>(
 }
 
 /// The job that prints this of one image, or of several.
-fn viewing<'a>(
-    alloc: Global,
-    matches: &ArgMatches<'a>,
-    what: Overview,
-) -> Result<Job<'a>, JobFault>
+fn viewing<'a>(alloc: Global, matches: &ArgMatches<'a>, what: Overview) -> Result<Job<'a>, JobFault>
     ensures { IsOverviewJob (rows_of (found_of matches.now)) what result }
 {
     let image = value_of(matches, "IMAGE");

@@ -23,6 +23,8 @@ several-viewed rows what images r (inl made) are =
 several-viewed rows what images r (inr none) are = inr (inr none)
 
 pub returns : goal.returns
-returns c = several-viewed (rows_of (found_of c.args.matches.now)) c.args.what _ c.of_several.result c.of_several.ensures
-    (given-values c.values_of.result c.in-Some.images
-    (all_of (codes "IMAGE") (rows_of (found_of c.args.matches.now))) c.in-Some.is c.values_of.ensures, c.if-images-lt2.false)
+returns c = several-viewed (rows_of (found_of c.args.matches.now)) c.args.what _ c.of_several.result c.of_several.ensures (
+  given-values c.values_of.result c.in-Some.images
+      (all_of (codes "IMAGE") (rows_of (found_of c.args.matches.now))) c.in-Some.is c.values_of.ensures,
+  c.if-images-lt2.false,
+)
