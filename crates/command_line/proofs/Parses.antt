@@ -8,16 +8,11 @@ use Rattle.clap.specs.declared.error.Error.{Error}
 use Rattle.clap.specs.declared.parser.matches.ArgMatches.{ArgMatches}
 use Rattle.command_table.specs.Grammar.{ledger, value}
 use Rattle.command_line.specs.Jobs.{Has, HasNoName, HasNoNewName, IsHeard, IsJob, IsMakingJob, IsNoJob, IsParse}
-use Rattle.command_line.specs.Jobs.{AreTooMany, IsForOne, IsPictureJob}
-use Rattle.command_line.specs.Jobs.{IsOnlyImage, IsOverviewJob, IsStoringJob, IsTakingJob, is_given, job_of_one}
-use Rattle.command_line.specs.Jobs.{tills_in, word_of_overview, word_of_taking}
+use Rattle.command_line.specs.Jobs.{IsStoringJob, IsTakingJob, is_given, tills_in, word_of_taking}
 use Rattle.ledger_jobs.specs.Jobs.{IsFit}
 use Rattle.ledger_jobs.specs.Names.{IsNameOf, name_bytes}
-use Rattle.ledger_jobs.specs.declared.jobs.Drawing.TheVariants as drawings
 use Rattle.ledger_jobs.specs.declared.jobs.Job.{Job}
 use Rattle.ledger_jobs.specs.declared.jobs.Job.TheVariants as jobs
-use Rattle.ledger_jobs.specs.declared.jobs.Overview.{Overview}
-use Rattle.ledger_jobs.specs.declared.jobs.Overview.TheVariants as overviews
 use Rattle.ledger_jobs.specs.declared.jobs.Taking.{Taking}
 use Rattle.command_line.specs.declared.faults.JobFault.{JobFault}
 use Rattle.command_line.specs.declared.faults.JobFault.TheVariants as faults
@@ -107,21 +102,6 @@ play-met found rows image script true given is by-image by-script =
     record { rows = rows; is = is; holds = (by-image, by-script, given) }
 play-met found rows image script false given is by-image by-script =
     record { rows = rows; is = is; holds = (by-image, by-script, given) }
-
--- and with --svg or without that of `picture`
-pub picture-met : (found : Option (Text × List Row)) (rows : List Row) (image : Bor Text) (svg : Bool)
-    → is_given (codes "svg") rows ≡ svg → found ≡ Some (codes "picture", rows)
-    → image.now ≡ value (codes "IMAGE") rows → IsForOne rows
-    → IsJob found (if svg then jobs.Draw drawings.Poster image else jobs.Draw drawings.Picture image)
-picture-met found rows image true given is by-image one =
-    record { rows = rows; is = is; holds = (by-image, (given, one)) }
-picture-met found rows image false given is by-image one =
-    record { rows = rows; is = is; holds = (by-image, (given, one)) }
-
-pub picture-fit : (image : Bor Text) (svg : Bool)
-    → IsFit (if svg then jobs.Draw drawings.Poster image else jobs.Draw drawings.Picture image)
-picture-fit image true = tt
-picture-fit image false = tt
 
 pub play-fit : (image script : Bor Text) (synced : Bool)
     → IsFit (if synced then jobs.PlaySynced image script else jobs.Play image script)
@@ -242,58 +222,3 @@ storing-met o found name at image (Err faults.Length) told some is by-image job 
 storing-met o found name at image (Err faults.Tills) told some is by-image job = absurd job
 storing-met o found name at image (Err faults.Images) told some is by-image job = absurd job
 storing-met o found name at image (Err (faults.Words e)) told some is by-image job = absurd job
-
--- the only image is that of its job
-pub one-viewed : (rows : List Row) (what : Overview) (image : Bor Text) (job : Job) → job ≡ job_of_one what image
-    → IsOnlyImage rows image.now → IsOverviewJob rows what (Ok job)
-one-viewed rows what image job is only = inl (image, ap (λ (j : Job). Ok j) is, only)
-
-only-met : (o : Option (Bor Text × Bor ArgMatches)) (found : Option (Text × List Row)) (name : Bor Text)
-    (at : Bor ArgMatches) (what : Overview) (image : Bor Text)
-    → option_map (λ (p : Bor Text × Bor ArgMatches). (p.0.now, rows_of (found_of p.1.now))) o ≡ found
-    → o ≡ Some (name, at) → name.now ≡ word_of_overview what → IsOnlyImage (rows_of (found_of at.now)) image.now
-    → IsJob found (job_of_one what image) × IsFit (job_of_one what image)
-only-met o found name at overviews.List image told some is only =
-    (met-has o found name at (codes "list") _ told some is only, tt)
-only-met o found name at overviews.Check image told some is only =
-    (met-has o found name at (codes "check") _ told some is only, tt)
-only-met o found name at overviews.Map image told some is only =
-    (met-has o found name at (codes "map") _ told some is only, tt)
-
--- what prints this of one image or of several is the job of the subcommand that was met, or there was no memory
-pub viewing-met : (o : Option (Bor Text × Bor ArgMatches)) (found : Option (Text × List Row)) (name : Bor Text)
-    (at : Bor ArgMatches) (what : Overview) (r : Result Job JobFault)
-    → option_map (λ (p : Bor Text × Bor ArgMatches). (p.0.now, rows_of (found_of p.1.now))) o ≡ found
-    → o ≡ Some (name, at) → name.now ≡ word_of_overview what
-    → IsOverviewJob (rows_of (found_of at.now)) what r → MatchResult r (IsJob found) (IsNoJob [] found) × IfOk r IsFit
-viewing-met o found name at what r told some is (inl only) =
-    let P : Result Job JobFault → Type 0 = λ j. MatchResult j (IsJob found) (IsNoJob [] found) × IfOk j IsFit in
-    subst P (sym only.1) (only-met o found name at what only.0 told some is only.2)
-viewing-met o found name at what r told some is (inr (inl several)) =
-    let P : Result Job JobFault → Type 0 = λ j. MatchResult j (IsJob found) (IsNoJob [] found) × IfOk j IsFit in
-    subst P (sym several.1) (met-has o found name at (word_of_overview what) _ told some is several.2, tt)
-viewing-met o found name at what r told some is (inr (inr none)) =
-    let P : Result Job JobFault → Type 0 = λ j. MatchResult j (IsJob found) (IsNoJob [] found) × IfOk j IsFit in
-    subst P (sym none.1) (none.2, tt)
-
--- what draws an image, or images on a sheet, is the job of `picture`; or there are too many, or there was no memory
-pub picturing-met : (o : Option (Bor Text × Bor ArgMatches)) (found : Option (Text × List Row)) (name : Bor Text)
-    (at : Bor ArgMatches) (r : Result Job JobFault)
-    → option_map (λ (p : Bor Text × Bor ArgMatches). (p.0.now, rows_of (found_of p.1.now))) o ≡ found
-    → o ≡ Some (name, at) → name.now ≡ codes "picture"
-    → IsPictureJob (rows_of (found_of at.now)) r → MatchResult r (IsJob found) (IsNoJob [] found) × IfOk r IsFit
-picturing-met o found name at r told some is (inl (image, same, by-image, one)) =
-    let P : Result Job JobFault → Type 0 = λ j. MatchResult j (IsJob found) (IsNoJob [] found) × IfOk j IsFit in
-    let rows = rows_of (found_of at.now) in
-    let svg = is_given (codes "svg") rows in
-    let met = picture-met found rows image svg refl (met-is o found name at (codes "picture") told some is) by-image one in
-    subst P (sym same) (met, picture-fit image svg)
-picturing-met o found name at r told some is (inr (inl (images, same, are))) =
-    let P : Result Job JobFault → Type 0 = λ j. MatchResult j (IsJob found) (IsNoJob [] found) × IfOk j IsFit in
-    subst P (sym same) (met-has o found name at (codes "picture") _ told some is are, tt)
-picturing-met o found name at r told some is (inr (inr (inl (same, many)))) =
-    let P : Result Job JobFault → Type 0 = λ j. MatchResult j (IsJob found) (IsNoJob [] found) × IfOk j IsFit in
-    subst P (sym same) ((refl, met-has o found name at (codes "picture") AreTooMany told some is many), tt)
-picturing-met o found name at r told some is (inr (inr (inr (e, same, kind)))) =
-    let P : Result Job JobFault → Type 0 = λ j. MatchResult j (IsJob found) (IsNoJob [] found) × IfOk j IsFit in
-    subst P (sym same) (kind, tt)

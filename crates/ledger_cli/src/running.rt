@@ -4,10 +4,10 @@ ghost use Rattle.ledger_cli.specs.Runs.{IsJobRun, IsRead, IsRun};
 ghost use Rattle.ledger_jobs.specs.Jobs.{IsFit};
 
 use crate::changing::{Ended, format, make, play, repair, serve, store};
-use shop_commands::RunFault;
 use ledger_jobs::{
     Job, Reading, Refusal, drawing_run, drawn_end, end, job_end, reading_run, take_told,
 };
+use shop_commands::RunFault;
 use std::alloc::Global;
 use std::io::{Seek, Write};
 

@@ -7,8 +7,10 @@ use Rattle.ledger_jobs.specs.declared.jobs.Overview.TheVariants as overviews
 use Rattle.ledger_jobs.specs.declared.jobs.Taking.TheVariants as takings
 use Rattle.ledger_jobs.specs.Jobs.{IsFit}
 use Rattle.command_line.specs.Jobs.{IsJob, is_given}
+use Rattle.command_line.proofs.Pictures.{picturing-met}
 use Rattle.command_line.proofs.Parses.{format-fit, format-met, making-met, met-has, met-is}
-use Rattle.command_line.proofs.Parses.{picturing-met, play-fit, play-met, storing-met, taking-met, viewing-met}
+use Rattle.command_line.proofs.Parses.{play-fit, play-met, storing-met, taking-met}
+use Rattle.command_line.proofs.Views.{viewing-met}
 use Rattle.command_line.proofs.words.job_of.Goals as goal
 
 pub returns-in_default : goal.returns-in_default
