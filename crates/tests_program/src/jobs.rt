@@ -60,6 +60,15 @@ fn row_of<'a>(job: &Job<'a>) -> Row<'a> {
             what: Drawing::Poster,
             image,
         } => ("picture --svg", image, "", 0),
+        Job::Sheet { ref images } => {
+            let [first, second] = [0, 1].map(|at| images.get(at).copied().unwrap_or(""));
+            (
+                "picture --sheet",
+                first,
+                second,
+                images.len().min(255) as u8,
+            )
+        }
         Job::Several { what, ref images } => {
             let name = match what {
                 Overview::List => "list several",
