@@ -18,6 +18,7 @@ mod refusals;
 mod serving_files;
 mod serving_images;
 mod serving_runs;
+mod sheets;
 mod shop_runs;
 mod watched_files;
 
