@@ -1,6 +1,6 @@
 //! The subcommands, a row each.
 use crate::help_texts::{
-    BYTES, CHECK, DRY, FORMAT, LIST, MAKE, MAP, PICTURE, PLAY, RECORDS, REPAIR, SERVE, SHOW, STORE,
+    BYTES, CHECK, COPY, DRY, FORMAT, LIST, MAKE, MAP, PICTURE, PLAY, RECORDS, REPAIR, SERVE, SHOW, STORE,
 };
 
 /// A value that has to stand behind the name of a subcommand, or a flag, which may stand there or not.
@@ -70,7 +70,7 @@ const ACCEPT_LOSS: Value = Value {
 };
 
 /// All subcommands, in the order in which help lists them.
-pub(crate) const SUBCOMMANDS: [Subcommand; 14] = [
+pub(crate) const SUBCOMMANDS: [Subcommand; 15] = [
     // format IMAGE --tills T [--new]
     Subcommand {
         name: "format",
@@ -129,10 +129,10 @@ pub(crate) const SUBCOMMANDS: [Subcommand; 14] = [
             },
         ],
     },
-    // serve IMAGE [--unsynced] [--accept-loss]
+    // serve IMAGE [--unsynced] [--accept-loss] [--in-place]
     Subcommand {
         name: "serve",
-        about: "Answers the messages on standard input, each before the next is read",
+        about: "Answers the messages on standard input, over a log beside the image",
         more: SERVE,
         values: &[
             IMAGE,
@@ -140,9 +140,30 @@ pub(crate) const SUBCOMMANDS: [Subcommand; 14] = [
                 name: "unsynced",
                 word: Some("unsynced"),
                 is_flag: true,
-                help: "Leaves it to the system when sectors are synced",
+                help: "Leaves it to the system when replies are on the disk",
             },
             ACCEPT_LOSS,
+            Value {
+                name: "in-place",
+                word: Some("in-place"),
+                is_flag: true,
+                help: "Uses no log: writes and syncs each sector in IMAGE itself",
+            },
+        ],
+    },
+    // copy IMAGE NEW
+    Subcommand {
+        name: "copy",
+        about: "Copies the image as it is now, also while it is served",
+        more: COPY,
+        values: &[
+            IMAGE,
+            Value {
+                name: "NEW",
+                word: None,
+                is_flag: false,
+                help: "The copy's path, where no file may stand yet",
+            },
         ],
     },
     // repair IMAGE [--accept-loss] [--free] [--dry-run]
