@@ -5,6 +5,7 @@ pub mod FileServes
 pub mod Jobs
 pub mod Keeping
 pub mod Kept
+pub mod LoggedRuns
 pub mod Losses
 pub mod Names
 pub mod Runs

@@ -25,7 +25,7 @@ pub use drawing::drawing_run;
 pub use durable_runs::{play_durably, serve_durably};
 pub use endings::{Ending, end, tell};
 pub use explanations::{announce, explain, tell_cut};
-pub use jobs::{Drawing, Effect, Job, Loss, Reading, Taking, Unowned};
+pub use jobs::{Drawing, Effect, Job, Loss, Reading, Taking, Unowned, Way};
 pub use keeper_runs::{dry_repair_run, make_run, repair_run, store_run, taking_run};
 pub use losses::{
     dry_repair_guarded, loss_refusal, make_guarded, repair_guarded, serve_guarded, store_guarded,
