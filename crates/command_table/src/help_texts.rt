@@ -16,9 +16,9 @@ that they print.\n\
 pub(crate) const FORMAT: &str =
     "Prints FORMATTED once the image is on the disk. Without --new it replaces IMAGE\n\
 if that exists, and removes its log first.\n\
-Status 0: made. 1, with --new: FILE EXISTS, or LOG if only its log stands there:\n\
-nothing was done. 2: TILLS: T isn't 1 to 64. 3: FILE (the file, its folder or\n\
-the output failed), NO MEMORY, IN USE.\n\
+Status 0: made. 1: FILE EXISTS, with --new (IMAGE, or its log): nothing was done.\n\
+2: TILLS: T isn't 1 to 64. 3: FILE (the file, its folder or the output failed),\n\
+NO MEMORY, IN USE.\n\
 Example: ledger format --new shop.d64 --tills 4";
 
 /// What `list` prints, its statuses, and an example.
@@ -70,8 +70,8 @@ Example: ledger serve shop.d64 < messages.txt";
 /// What `copy` prints, its statuses, and an example.
 pub(crate) const COPY: &str =
     "Prints COPIED once the copy is on the disk. The copy needs no log.\n\
-Status 0: copied. 1: IMAGE SIZE, LOG, or FILE EXISTS: nothing was done. 3: FILE,\n\
-NO MEMORY, IN USE.\n\
+Status 0: copied. 1: IMAGE SIZE, LOG, or FILE EXISTS (NEW, or its log): nothing\n\
+was done. 3: FILE, NO MEMORY, IN USE.\n\
 Example: ledger copy shop.d64 backup.d64";
 
 /// What `repair` prints, its statuses, and an example.

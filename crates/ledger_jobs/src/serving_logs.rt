@@ -1,52 +1,51 @@
 //! Serving the shop of the image at a path, over a log beside it.
 use crate::dispatch::told;
-use crate::image_logs::{is_sized, log_refusal, opened_alone, sectors};
+use crate::image_logs::{is_sized, log_refusal, opened_alone};
 use crate::jobs::Loss;
-use crate::losses::serve_logged_guarded;
+use crate::losses::{loss_refusal, serve_logged_guarded};
 use crate::refusals::Refusal;
 use crate::serving_images::name_of;
 use crate::watched_files::{WhileThere, served_end};
 use disk_layout::Fault;
 use host_session::Printer;
-use log_files::{ImageFolder, LiveLog, SystemLog, begin};
-use shop_commands::{Durability, Locks, RunFault};
+use log_files::{ImageFolder, LiveLog, LogFolder, LogNames, land_in};
+use shop_commands::{Durability, EndedFile, Locks, RunFault};
+use shop_log::LogFile;
 use std::fs::OpenFile;
-use std::io::{BufReader, Read, Write};
-use std::os::unix::fs::FileExt;
+use std::io::{BufReader, Write};
 use std::rt::Files;
-use system_files::Stays;
+use system_files::{Stays, opened_to_change};
 
-/// The log of a real file.
-type FileLog<'a, F, R> = LiveLog<SystemLog<F>, ImageFolder<'a, R>>;
-
-/// A log that was begun beside an image, and the sectors of its shop.
-struct Begun<'a, F, R> {
-    log: FileLog<'a, F, R>,
-    shop: Vec<[u8; 256]>,
-}
-
-/// A new log beside the image at a path, whose file this program has alone. A log that was there is landed first, and
-/// then others may read the image. `Log` if the log that was there gives no image: nothing was changed. `InUse` if
-/// another program took the image meanwhile: the log stays.
-fn begun<'a, F, R>(rt: &'a R, path: &str, image: F) -> Result<Begun<'a, F, R>, Refusal>
+/// The folder of the image at a path, which this program has alone.
+fn folder_of<'a, F, R>(
+    rt: &'a R,
+    names: &'a LogNames,
+    path: &str,
+    durability: Durability,
+) -> Result<ImageFolder<'a, R>, Refusal>
 where
-    F: Read + FileExt + Locks + OpenFile + Drop,
+    F: EndedFile + Drop,
     R: Files<File = F> + AllocGlobal,
 {
-    let alloc = rt.alloc();
-    let mut now = sectors(alloc)?;
-    let mut shop = sectors(alloc)?;
-    let mut folder = told(ImageFolder::new(rt, alloc, path, image))?;
-    let log = match begin(alloc, &mut folder, now.as_mut_slice(), shop.as_mut_slice()) {
-        Ok(log) => log,
+    let image = told(opened_to_change(rt, path))?;
+    let synced = durability == Durability::EachSector;
+    told(ImageFolder::new(rt, rt.alloc(), names, image, synced))
+}
+
+/// The sectors of the shop that a folder gives, which the image has from then on. `Log` if its log gives none: nothing
+/// was changed. `Short` if a file of the image is cut short and no loss is accepted.
+fn shop_of<L: LogFile, D: LogFolder<L>, R: AllocGlobal>(
+    rt: &R,
+    folder: &mut D,
+    loss: Loss,
+) -> Result<Vec<[u8; 256]>, Refusal> {
+    let shop = match land_in(rt.alloc(), folder) {
+        Ok(shop) => shop,
         Err(fault) => return Err(log_refusal(&fault)),
     };
-    if let Err(error) = folder.image_mut().lock_shared() {
-        return Err(Refusal::of_lock(&error));
-    }
-    match LiveLog::new(alloc, folder, log, shop.as_slice()) {
-        Ok(log) => Ok(Begun { log, shop }),
-        Err(_) => Err(Refusal::Run(RunFault::NoMemory)),
+    match loss_refusal(rt.alloc(), shop.as_slice().as_flattened(), loss) {
+        None => Ok(shop),
+        Some(refusal) => Err(refusal),
     }
 }
 
@@ -58,16 +57,12 @@ fn unlanded(ended: Result<Option<Fault>, Refusal>) -> Result<Option<Fault>, Refu
     }
 }
 
-/// Lands the log of a service that ended so, unless a commit of it failed or the image's file has gone: then it stays
-/// where it is, and the next beginning lands it. `Device` if it couldn't be landed.
-fn landed<F, R>(
-    log: FileLog<'_, F, R>,
+/// Lands the log of a service that ended so, unless a commit of it failed or the image's file has gone: then the log
+/// stays where it is, and the next beginning lands it. `Device` if it couldn't be landed.
+fn landed_end<L: LogFile, D: LogFolder<L> + Drop>(
+    log: LiveLog<L, D>,
     ended: Result<Option<Fault>, Refusal>,
-) -> Result<Option<Fault>, Refusal>
-where
-    F: Read + FileExt + OpenFile + Drop,
-    R: Files<File = F>,
-{
+) -> Result<Option<Fault>, Refusal> {
     if let Err(Refusal::Run(RunFault::Device)) = ended {
         return ended;
     }
@@ -77,29 +72,31 @@ where
     }
 }
 
-/// Serves a shop over its log to what comes on standard input, while the name of the image's file leads to it.
-fn serve_begun<F, N, R, W>(
+/// Serves the shop of this image over a log that was begun with it, to what comes on standard input, while the name of
+/// the image's file leads to it. Then the log is landed.
+fn serve_begun<L, D, N, R, W>(
     rt: &R,
-    begun: Begun<'_, F, R>,
+    image: &[u8],
+    log: LiveLog<L, D>,
     name: N,
     loss: Loss,
     out: &mut W,
 ) -> Result<Option<Fault>, Refusal>
 where
-    F: Read + FileExt + OpenFile + Drop,
+    L: LogFile,
+    D: LogFolder<L> + Drop,
     N: Stays + Drop,
-    R: Files<File = F> + Input + AllocGlobal,
+    R: Input + AllocGlobal,
     W: Write,
 {
+    let mut log = log;
     // A bare reader of standard input reads a byte a call.
     let mut input = told(BufReader::new(rt.alloc(), rt.reader()))?;
     let mut printer = Printer::new(out);
     let mut answers = WhileThere::new(name, &mut printer);
-    let Begun { mut log, shop } = begun;
-    let image = shop.as_slice().as_flattened();
-    let ended =
-        serve_logged_guarded(rt.alloc(), image, &mut log, loss, &mut input, &mut answers);
-    landed(log, served_end(ended, answers.is_gone()))
+    let ended = serve_logged_guarded(rt.alloc(), image, &mut log, loss, &mut input, &mut answers);
+    let gone = answers.is_gone();
+    landed_end(log, served_end(ended, gone))
 }
 
 /// Serves the shop of the image at a path, over a log beside it, to what comes on standard input. Other programs may read
@@ -109,20 +106,29 @@ where
 pub(crate) fn do_logged_serving<F, R, W>(
     rt: &R,
     path: &str,
-    _durability: Durability,
+    durability: Durability,
     loss: Loss,
     out: &mut W,
 ) -> Result<Option<Fault>, Refusal>
 where
-    F: Read + FileExt + Locks + OpenFile + Drop,
+    F: EndedFile + Locks + OpenFile + Drop,
     R: Files<File = F> + Input + AllocGlobal,
     W: Write,
 {
-    let image = opened_alone(rt, path)?;
+    let alloc = rt.alloc();
+    let mut image = opened_alone(rt, path)?;
     if !is_sized(&image)? {
         return Err(Refusal::Run(RunFault::ImageSize));
     }
     let name = name_of(rt, path, &image)?;
-    let begun = begun(rt, path, image)?;
-    serve_begun(rt, begun, name, loss, out)
+    let names = told(LogNames::of(rt, alloc, path))?;
+    let mut folder = folder_of(rt, &names, path, durability)?;
+    let shop = shop_of(rt, &mut folder, loss)?;
+    let bytes = told(shop.as_slice().as_flattened().to_vec(alloc).map_err(From::from))?;
+    let log = told(LiveLog::begin(alloc, folder, shop))?;
+    // others may read it from here on
+    if let Err(error) = image.lock_shared() {
+        return Err(Refusal::of_lock(&error));
+    }
+    serve_begun(rt, bytes.as_slice(), log, name, loss, out)
 }
