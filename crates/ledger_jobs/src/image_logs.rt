@@ -7,7 +7,7 @@ use crate::locks::lock_exclusive;
 use crate::refusals::Refusal;
 use log_files::{ImageFolder, ImageView, LogFault, LogNames, land_in, view_in};
 use shop_commands::{Durability, EndedFile, Locks, RunFault};
-use std::fs::OpenFile;
+use std::fs::{File, OpenFile};
 use std::io::{self, ErrorKind};
 use std::rt::Files;
 use system_files::{opened_to_change, opened_to_read};
@@ -31,6 +31,15 @@ pub(crate) fn is_sized<F: OpenFile>(file: &F) -> Result<bool, Refusal> {
     Ok(found.len() == IMAGE_BYTES)
 }
 
+/// Whether anything stands at a path.
+fn is_there<R: Files>(rt: &R, path: &str) -> io::Result<bool> {
+    match rt.metadata(path) {
+        Ok(_) => Ok(true),
+        Err(error) if error.kind() == ErrorKind::NotFound => Ok(false),
+        Err(error) => Err(error),
+    }
+}
+
 /// The regular file at a path, opened to be changed, which this program has alone. `InUse` where another has it.
 pub(crate) fn opened_alone<F, R>(rt: &R, path: &str) -> Result<F, Refusal>
 where
@@ -42,20 +51,34 @@ where
     Ok(file)
 }
 
-/// The sectors of the image at a path, which this program has alone, and beside which no log stands any more: one that
-/// stood there was landed. `Log` if that gives no image: nothing was changed.
-fn landed<F, R>(rt: &R, path: &str) -> Result<(), Refusal>
+/// Lands the log that stands beside the image at a path, which this program has alone. `Log` if it gives no image: nothing
+/// was changed.
+fn land_beside<F, R>(rt: &R, names: &LogNames, path: &str) -> Result<(), Refusal>
 where
-    F: EndedFile + Drop,
+    F: EndedFile + OpenFile + Drop,
     R: Files<File = F> + AllocGlobal,
 {
-    let names = told(LogNames::of(rt, rt.alloc(), path))?;
     let image = told(opened_to_change(rt, path))?;
-    let mut folder = told(ImageFolder::new(rt, rt.alloc(), &names, image, true))?;
+    let mut folder = told(ImageFolder::new(rt, rt.alloc(), names, image, true))?;
     match land_in(rt.alloc(), &mut folder) {
         Ok(_) => Ok(()),
         Err(fault) => Err(log_refusal(&fault)),
     }
+}
+
+/// Sees that no log stands beside the image at a path, which this program has alone: one that stands there is landed, and
+/// that there is none is brought to the disk. Whoever came before may have been killed after a log's removal.
+fn settle_log<F, R>(rt: &R, path: &str) -> Result<(), Refusal>
+where
+    F: EndedFile + OpenFile + Drop,
+    R: Files<File = F> + AllocGlobal,
+{
+    let names = told(LogNames::of(rt, rt.alloc(), path))?;
+    if told(is_there(rt, names.log()))? {
+        return land_beside(rt, &names, path);
+    }
+    let folder = told(File::open(rt, names.folder()))?;
+    told(folder.sync_all())
 }
 
 /// The image's file at a path, which this program has alone and which is going to be written: a log that stood beside it
@@ -68,7 +91,7 @@ where
 {
     let image = opened_alone(rt, path)?;
     if is_sized(&image)? {
-        landed(rt, path)?;
+        settle_log(rt, path)?;
     }
     Ok(image)
 }
@@ -99,9 +122,5 @@ where
 /// Whether a file stands where the log of an image at this path would.
 pub(crate) fn has_log<R: Files + AllocGlobal>(rt: &R, path: &str) -> io::Result<bool> {
     let names = LogNames::of(rt, rt.alloc(), path)?;
-    match rt.metadata(names.log()) {
-        Ok(_) => Ok(true),
-        Err(error) if error.kind() == ErrorKind::NotFound => Ok(false),
-        Err(error) => Err(error),
-    }
+    is_there(rt, names.log())
 }

@@ -27,12 +27,15 @@ pub fn serve_logged<L: ImageLog, R: BatchSource, T: Reports<L>>(
     ensures run { IsLoggedRun L.history R.input T.output image.now log.old log.new input.old input.new
         out.old out.new result }
 {
-    let disk = load(alloc, image)?;
+    let disk = match load(alloc, image) {
+        Ok(disk) => disk,
+        Err(fault) => return Err(fault),
+    };
     let Ok(mut room) = Room::new(alloc) else {
         return Err(RunFault::NoMemory);
     };
     match serve_batches(disk, log, input, out, &mut room) {
-        Ok(_) => Ok(()),
-        Err((fault, _)) => Err(told(fault)),
+        Ok(_left) => Ok(()),
+        Err((fault, _left)) => Err(told(fault)),
     }
 }

@@ -1,4 +1,6 @@
 //! Serving the shop of the image at a path, over a log beside it.
+ghost use Rattle.std.specs.Prelude.{◌≡◌, IfOk, length};
+
 use crate::dispatch::told;
 use crate::image_logs::{is_sized, log_refusal, opened_alone};
 use crate::jobs::Loss;
@@ -24,7 +26,7 @@ fn folder_of<'a, F, R>(
     durability: Durability,
 ) -> Result<ImageFolder<'a, R>, Refusal>
 where
-    F: EndedFile + Drop,
+    F: EndedFile + OpenFile + Drop,
     R: Files<File = F> + AllocGlobal,
 {
     let image = told(opened_to_change(rt, path))?;
@@ -38,7 +40,9 @@ fn shop_of<L: LogFile, D: LogFolder<L>, R: AllocGlobal>(
     rt: &R,
     folder: &mut D,
     loss: Loss,
-) -> Result<Vec<[u8; 256]>, Refusal> {
+) -> Result<Vec<[u8; 256]>, Refusal>
+    ensures { IfOk result (λ shop. length shop.items ≡ 683) }
+{
     let shop = match land_in(rt.alloc(), folder) {
         Ok(shop) => shop,
         Err(fault) => return Err(log_refusal(&fault)),
