@@ -80,6 +80,8 @@ pub(crate) fn copy_image<F: Write + Seek, W: Write>(
     if image.len() != IMAGE_BYTES {
         return Err(RunFault::ImageSize);
     }
-    write_over(file, image)?;
-    put_whole(out, b"COPIED\n")
+    match write_over(file, image) {
+        Ok(()) => put_whole(out, b"COPIED\n"),
+        Err(fault) => Err(fault),
+    }
 }

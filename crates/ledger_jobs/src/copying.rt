@@ -28,10 +28,10 @@ pub fn copy_run<F: EndedFile, W: Write>(
     if image.len() != IMAGE_BYTES {
         return Err(RunFault::ImageSize);
     }
-    if replace_image(file, image).is_err() {
-        return Err(RunFault::File);
+    match replace_image(file, image) {
+        Ok(()) => put_whole(out, b"COPIED\n"),
+        Err(_) => Err(RunFault::File),
     }
-    put_whole(out, b"COPIED\n")
 }
 
 /// The end of a copy.
