@@ -73,11 +73,11 @@ module _ {D : Type 0} (h : FolderHistory D) where
           (stays : (log : List ℕ) → AllLeft h a (HasLog log) → AllLeft h b (HasLog log))
           (ok : (x : Folder) → h.held a ≡ Some x → x.image ≡ now
           → (h.held b ≡ Some (with_image shop x)) × AllLeft h b (HasImage (with_image shop x))) where
-        whole : (h.held b ≡ Some (with_image shop (with_log (marked_log f) s)))
+        pub whole : (h.held b ≡ Some (with_image shop (with_log (marked_log f) s)))
             × AllLeft h b (HasImage (with_image shop (with_log (marked_log f) s)))
         whole = ok (with_log (marked_log f) s) marked.0 (sym is_now)
 
-        brought : AllLeft h b (IsBrought shop)
+        pub brought : AllLeft h b (IsBrought shop)
         brought o may = (whole.1 o may, gives_shop o (stays (marked_log f) marked.1 o may))
 
         pub landed : (new : D) → ((x : Image) → AllLeft h b (IsBrought x) → LeavesFolders h b new (IsBrought x))

@@ -1,5 +1,9 @@
 mod Marks
 mod Steps
+mod Moves
+mod Renewed
+mod Unknown
+mod Viewed
 mod Brought
 mod Landed
 mod Made

@@ -116,6 +116,7 @@ module _ {D : Type 0} (h : FolderHistory D) (old a : D) (shop : Image) (s : Fold
               left = λ o may. (
                 (named_all o (keep.outcomes o may)).0,
                 has_name o (keep.outcomes o may) (lasts (named stands.bytes (being_made s)) there o may).making,
+                (lasts (named stands.bytes (being_made s)) there o may).making,
               );
               lent = keep.lent ∙ lent;
             }

@@ -1,5 +1,5 @@
 -- The mark of a log that was found.
-use Rattle.std.proofs.Common.{◌≡◌, ◌≤◌, ◌+◌, ◌⊎◌, ◌∙◌, ℕ, List, [], ◌∷◌, ap, arith, eqb, inl, inr, length, not, refl, slice_index, subst, sym, ⊎_elim}
+use Rattle.std.proofs.Common.{◌≡◌, ◌≤◌, ◌+◌, ◌-◌, ◌⊎◌, ◌∙◌, ℕ, List, [], ◌∷◌, ap, arith, eqb, inl, inr, length, not, refl, slice_index, subst, sym, ⊎_elim}
 use Rattle.std.specs.Prelude.{Err, IsSome, None, Ok, OnOk, Option, Result, Some}
 use Rattle.std.proofs.lemmas.Bool.{false≢true}
 use Rattle.d64_image.specs.Images.{Image}
@@ -98,30 +98,34 @@ module _ {D F : Type 0} (h : FolderHistory D) (g : FileHistory F) (old : D) (sho
           subst (GivesOneOf shops) (sym closed.2) (torn_gives from.0 torn.0 closed.0 (was from.0 from.1) torn.1 torn.2))
           from.2
 
-      while_open : (from : Folder) (c : List ℕ) → h.may_leave a from → g.left_since marked (h.lent a) c
+      while_open : (k : ℕ) (from : Folder) (c : List ℕ) → k ≡ h.lent a → h.may_leave a from → g.left_since marked k c
           → GivesOneOf shops (with_log c from)
-      while_open from c may left =
+      while_open k from c is may was_left =
+          let left = subst (λ (t : ℕ). g.left_since marked t c) is was_left in
           ⊎_elim
           (λ before. torn_gives from c c (was from may)
           (g.only_now file c (subst (λ (t : ℕ). g.left_since file t c) (sym lent) before)) (unmarked_yet c))
           (λ torn. torn_gives from torn.0 c (was from may) torn.1 torn.2)
           (since (h.lent a) c (omega (arith, lent)) left)
 
+      -- a moment of the folder before the log was lent
+      while_lent : (t : ℕ) (o : Folder) → t ≤ h.moment a → h.left_since new t o → h.left_since a t o ⊎ GivesOneOf shops o
+      while_lent t o le left = ⊎_elim
+          (λ then. ⊎_elim
+          (λ before. inl before.1)
+          (λ open_then. inr (subst (GivesOneOf shops) (sym open_then.4)
+          (while_open (h.lent a + (t - (h.moment a + 1))) open_then.0 open_then.2 (omega (arith, le)) open_then.1 open_then.3)))
+          then)
+          (λ after. inr (now o after))
+          (returned.since t o (omega (arith, le)) left)
+
       pub mark_moments : LeavesFolders h old new (GivesOneOf shops)
       mark_moments = record {
         later = omega (arith, opened_moments.later, returned.later);
-        each = λ o left. ⊎_elim
-            (λ before. opened_moments.each o before)
-            (λ after. ⊎_elim
-            (λ open_then. subst (GivesOneOf shops) (sym open_then.4) (while_open open_then.0 open_then.2 open_then.1 open_then.3))
-            (now o) after)
-            (returned.since (h.moment old) o opened_moments.later left);
-        before = λ t o le left. ⊎_elim
-            (λ before. opened_moments.before t o le before)
-            (λ after. inr (⊎_elim
-            (λ open_then. subst (GivesOneOf shops) (sym open_then.4) (while_open open_then.0 open_then.2 open_then.1 open_then.3))
-            (now o) after))
-            (returned.since t o (omega (arith, le, opened_moments.later)) left);
+        each = λ o left. ⊎_elim (λ before. opened_moments.each o before) (λ gives. gives)
+            (while_lent (h.moment old) o opened_moments.later left);
+        before = λ t o le left. ⊎_elim (λ before. opened_moments.before t o le before) (λ gives. inr gives)
+            (while_lent t o (omega (arith, le, opened_moments.later)) left);
       }
 
       module _ (f : List ℕ) (log : s.log ≡ Some f)

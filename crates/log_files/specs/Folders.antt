@@ -1,5 +1,5 @@
 -- The folder in which an image stands, with its log beside it: what it holds, and what a power loss may leave. Our own.
-use Rattle.std.specs.Prelude.{ℕ, ◌≡◌, ◌≤◌, ◌⊎◌, Bool, IsSome, List, None, OnErr, OnOk, Option, Result, Some, slice_set, true}
+use Rattle.std.specs.Prelude.{ℕ, ◌+◌, ◌-◌, ◌≡◌, ◌≤◌, ◌⊎◌, Bool, IsSome, List, None, OnErr, OnOk, Option, Result, Some, slice_set, true}
 use Rattle.d64_image.specs.Images.{Image}
 use Rattle.shop_log.specs.Files.{FileHistory}
 
@@ -143,14 +143,21 @@ module _ {D F : Type 0} (h : FolderHistory D) (g : FileHistory F) where
     pub held : (s : Folder) (f : List ℕ) → h.held d ≡ Some s → s.log ≡ Some f → g.held file ≡ Some f
     pub left : (c : List ℕ) → g.may_leave file c → (s : Folder) × h.may_leave d s × (s.log ≡ Some c)
 
-  -- The log's file was closed: the log holds what the file does. What a power loss might have left while it was open counts.
+  -- What a power loss might have left while this file is the log: of the folder from the moment t on, if that is one
+  -- before the file was lent, and of the file from its moment k on.
+  abbrev pub LeftOpen : D → F → ℕ → ℕ → Folder → Type 0
+  LeftOpen d file t k s = ((t ≤ h.moment d) × h.left_since d t s)
+      ⊎ ((from : Folder) × h.may_leave d from × (c : List ℕ) × g.left_since file k c × (s ≡ with_log c from))
+
+  -- The log's file was closed: the log holds what the file does. The moments of the file while it was open count as
+  -- moments of the folder, one after the folder's own.
   pub record IsReturned {E : Type 0} (old new : D) (file : F) (result : Result Unit E) : Type 0 where
     pub held : (s : Folder) (f : List ℕ) → h.held old ≡ Some s → g.held file ≡ Some f → h.held new ≡ Some (with_log f s)
     -- now
     pub outcomes : (s : Folder) → h.may_leave new s → (from : Folder) × h.may_leave old from
         × ((s ≡ from) × (from.log ≡ None) ⊎ ((c : List ℕ) × g.may_leave file c × (s ≡ with_log c from)))
     pub later : h.moment old ≤ h.moment new
-    pub since : (t : ℕ) (s : Folder) → t ≤ h.moment old → h.left_since new t s → h.left_since old t s
-        ⊎ ((from : Folder) × h.may_leave old from × (c : List ℕ) × g.left_since file (h.lent old) c × (s ≡ with_log c from))
-        ⊎ h.may_leave new s
+    pub counted : (s : Folder) → h.held old ≡ Some s → h.moment old + 1 + (g.moment file - h.lent old) ≤ h.moment new
+    pub since : (t : ℕ) (s : Folder) → t ≤ h.moment old + 1 + (g.moment file - h.lent old) → h.left_since new t s
+        → LeftOpen old file t (h.lent old + (t - (h.moment old + 1))) s ⊎ h.may_leave new s
     pub failures : CountsFailure h old new result

@@ -13,6 +13,6 @@ pub record Serves {F D : Type 0} {G : Ghosts F} (h : FolderHistory D) (d : D) (l
   pub held : h.held d ≡ Some some
   pub image : some.image ≡ shop
   pub beside : some.log ≡ Some stands.bytes
-  pub left : AllLeft h d (λ s. (s.image ≡ shop) × (s.log ≡ Some stands.bytes))
+  pub left : AllLeft h d (λ s. (s.image ≡ shop) × (s.log ≡ Some stands.bytes) × (s.making ≡ some.making))
   -- the folder speaks of the log as it is now
   pub lent : h.lent d ≡ G.history.moment (log_file log)

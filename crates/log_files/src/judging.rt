@@ -7,7 +7,7 @@ use shop_log::{BLOCK, BLOCKS, is_marked, read_base, recover};
 use thiserror::Error;
 
 /// How many bytes a log has.
-const LOG_BYTES: usize = BLOCK * (BLOCKS + 1);
+pub(crate) const LOG_BYTES: usize = BLOCK * (BLOCKS + 1);
 
 /// Why a log beside an image gives none.
 #[derive(Clone, Copy, Debug, PartialEq, Eq, Error)]

@@ -62,7 +62,7 @@ module _ {F T E : Type 0} {G : Ghosts F} (l : Log F G) (new : F) (result : Resul
 module _ {F : Type 0} {G : Ghosts F} (l : Log F G) (now : Image) (touched : List Bool) (sized : length now ≡ 683)
     (none : NoneTouched touched) (start before : Image) (s : StandsFor l start before)
     (covers : Covers touched before now) where
-  quiet : before ≡ now
+  pub quiet : before ≡ now
   quiet =
       let long : length before ≡ 683 = ap length (sym s.image)
       ∙ length-replayed (block_at s.bytes) blank (committed (block_at s.bytes) (whole_blocks s.bytes))
@@ -77,7 +77,7 @@ module _ {F : Type 0} {G : Ghosts F} (l : Log F G) (now : Image) (touched : List
       let log = is_log l start before s in
       started G.history l.file (λ c. IsLeft start before now c × (is_marked c ≡ false)) (λ c may.
       subst (λ (x : List ℕ). IsLeft start before now x × (is_marked x ≡ false)) (sym ((at_rest l start before s).durable c may)) (
-        record { based = has_base l start before s; base = s.base; image = inl s.image },
+        record { size = log.size; based = has_base l start before s; base = s.base; image = inl s.image },
         ap not (eq-eqb (slice_index s.bytes 4194304) 0 (log.zeros 4194304 (omega (arith, log.within)))),
       ))
 

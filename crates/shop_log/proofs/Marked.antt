@@ -45,6 +45,7 @@ module _ (f : List ℕ) (size : length f ≡ 4198400) where
 
   pub mark_left : (c : List ℕ) → Mixed 4194304 (1 ∷ []) f c → 0 < base_end f → IsLeft (base_of f) (recovered f) (recovered f) c
   mark_left c mixed some = record {
+    size = mixed.size ∙ size;
     based = omega (arith, some, same_base_end c mixed);
     base = same_base c mixed;
     image = inl (same_recovered c mixed);

@@ -141,6 +141,7 @@ module _ (f : List ℕ) (end : ℕ) (log : IsLog f end) (B : ℕ → List ℕ) (
         let ends = base_same some in
         let few : first_commit (block_at f) end ≤ end = first_few (block_at f) end in
         record {
+          size = size;
           based = omega (arith, ends, some);
           base = ap (replayed (block_at c) blank) ends
               ∙ replayed_alike (block_at c) (block_at f) blank (first_commit (block_at f) end) (λ q low. same_before q (omega (arith, few)))

@@ -45,6 +45,7 @@ pub record IsAtRest {F : Type 0} (h : FileHistory F) (file : F) (end : ℕ) : Ty
 
 -- After a power loss: a log with this base that stands for one of two images.
 pub record IsLeft (start before after : Image) (f : List ℕ) : Type 0 where
+  pub size : length f ≡ 4198400
   pub based : 0 < base_end f
   pub base : base_of f ≡ start
   pub image : (recovered f ≡ before) ⊎ (recovered f ≡ after)

@@ -16,7 +16,7 @@ mod touched_disk;
 
 pub use blocks::BLOCK;
 pub use image_log::ImageLog;
-pub use log::{BLOCKS, Log, MOST};
+pub use log::{BLOCKS, Log, MOST, none_touched};
 pub use log_file::LogFile;
 pub use mem_log::MemLog;
 pub use replaying::{is_marked, read_base, recover};

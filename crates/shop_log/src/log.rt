@@ -32,7 +32,7 @@ pub struct Log<F: LogFile> {
 }
 
 /// Whether no sector was touched.
-fn none_touched(touched: &[bool; 683]) -> bool
+pub fn none_touched(touched: &[bool; 683]) -> bool
     ensures none { IsTrue result → NoneTouched touched.now }
     ensures all { NoneTouched touched.now → IsTrue result }
 {
@@ -73,6 +73,13 @@ impl<F: LogFile> Log<F> {
         ensures { result ≡ false ↔ log_end self.now + 46 ≤ 1024 }
     {
         self.end + MOST > BLOCKS
+    }
+
+    /// Whether it takes no more commits: it was marked, or a call on its file failed.
+    pub fn is_closed(&self) -> bool
+        ensures { IsTrue result ↔ is_closed self.now }
+    {
+        self.closed
     }
 
     /// Makes the image as it is now durable, by the sectors that were touched since the last commit: `touched[i]` says

@@ -1,0 +1,146 @@
+//! The folder of an image, of the system.
+ghost use Rattle.log_files.specs.Unknown.{unknown_folder};
+ghost use Rattle.std.specs.Prelude.{◌≡◌, ◌<◌, length};
+
+use crate::judging::LOG_BYTES;
+use crate::log_folder::LogFolder;
+use crate::log_names::{LogNames, forget_making, sync_names};
+use crate::system_log::SystemLog;
+use std::alloc::Global;
+use std::cell::Cell;
+use std::fs::{OpenFile, OpenOptions};
+use std::io::{self, Read, Seek, SeekFrom};
+use std::os::unix::fs::MetadataExt;
+use std::rt::Files;
+use system_files::{EndedFile, opened_to_change, opened_to_read, regular};
+
+/// An image's open file, and the names of its log beside it. It is read, written, synced and closed, and not locked: the
+/// caller does that. Nothing is known of what it holds: that it satisfies the contract of `LogFolder` is trusted.
+#[derive(Drop)]
+pub struct ImageFolder<'a, R: Files> {
+    rt: &'a R,
+    alloc: Global,
+    names: &'a LogNames,
+    image: R::File,
+    synced: bool,
+}
+
+/// The bytes of a log: all of them, or one more than a log has.
+pub(crate) fn log_bytes<F: Read + Drop>(alloc: Global, file: &mut F) -> io::Result<Vec<u8>> {
+    let mut bytes = Vec::with_capacity(alloc, LOG_BYTES + 1)?;
+    file.take(LOG_BYTES as u64 + 1).read_to_end(&mut bytes)?;
+    Ok(bytes)
+}
+
+/// The log's file, open to be read. None if there is no log.
+pub(crate) fn log_to_read<R: Files>(rt: &R, names: &LogNames) -> io::Result<Option<R::File>> {
+    match opened_to_read(rt, names.log()) {
+        Ok(file) => Ok(Some(file)),
+        Err(error) if error.kind() == io::ErrorKind::NotFound => Ok(None),
+        Err(error) => Err(error),
+    }
+}
+
+/// Reads the 683 sectors of an image.
+pub(crate) fn read_sectors<F: Read + Seek>(file: &mut F, image: &mut [[u8; 256]]) -> io::Result<()>
+    ensures { length image.new ≡ length image.old }
+{
+    file.seek(SeekFrom::Start(0))?;
+    file.read_exact(image.as_flattened_mut())
+}
+
+impl<'a, R: Files> ImageFolder<'a, R>
+where
+    R::File: EndedFile + OpenFile,
+{
+    /// The folder of the image whose file this is, open to be read and written. `synced` says whether each commit is
+    /// brought to the disk; all else is. `InvalidInput` if it isn't a regular file, or has a second name, by which it
+    /// would have another log.
+    pub fn new(
+        rt: &'a R,
+        alloc: Global,
+        names: &'a LogNames,
+        image: R::File,
+        synced: bool,
+    ) -> io::Result<ImageFolder<'a, R>> {
+        if regular(OpenFile::metadata(&image))?.nlink() > 1 {
+            return Err(io::ErrorKind::InvalidInput.into());
+        }
+        Ok(ImageFolder {
+            rt,
+            alloc,
+            names,
+            image,
+            synced,
+        })
+    }
+
+    /// An open file as the log, or as one in the making.
+    fn log_of(&self, file: R::File, synced: bool) -> SystemLog<'a, R> {
+        SystemLog {
+            rt: self.rt,
+            name: self.names.log(),
+            file,
+            named: Cell::new(false),
+            synced,
+        }
+    }
+}
+
+impl<'a, R: Files> LogFolder<SystemLog<'a, R>> for ImageFolder<'a, R>
+where
+    R::File: EndedFile + OpenFile,
+{
+    ghost history = { unknown_folder };
+
+    fn read_image(&mut self, image: &mut [[u8; 256]]) -> io::Result<()> {
+        read_sectors(&mut self.image, image)
+    }
+
+    fn write_sector(&mut self, index: usize, sector: &[u8; 256]) -> io::Result<()> {
+        self.image.put_over(sector, 256 * index as u64)
+    }
+
+    fn sync_image(&mut self) -> io::Result<()> {
+        self.image.sync_whole()
+    }
+
+    fn read_log(&mut self) -> io::Result<Option<Vec<u8>>> {
+        match log_to_read(self.rt, self.names)? {
+            Some(mut file) => Ok(Some(log_bytes(self.alloc, &mut file)?)),
+            None => Ok(None),
+        }
+    }
+
+    fn open_log(&mut self) -> io::Result<SystemLog<'a, R>> {
+        let file = opened_to_change(self.rt, self.names.log())?;
+        Ok(self.log_of(file, true))
+    }
+
+    fn close_log(&mut self, file: SystemLog<'a, R>) -> io::Result<()> {
+        drop(file);
+        Ok(())
+    }
+
+    fn make_log(&mut self) -> io::Result<SystemLog<'a, R>> {
+        forget_making(self.rt, self.names)?;
+        let mut how = OpenOptions::new();
+        how.write(true).create_new(true);
+        let file = how.open(self.rt, self.names.making())?;
+        Ok(self.log_of(file, self.synced))
+    }
+
+    fn name_log(&mut self, file: &SystemLog<'a, R>) -> io::Result<()> {
+        self.rt.rename(self.names.making(), self.names.log())?;
+        file.named.set(true);
+        Ok(())
+    }
+
+    fn remove_log(&mut self) -> io::Result<()> {
+        self.rt.remove_file(self.names.log())
+    }
+
+    fn sync_folder(&mut self) -> io::Result<()> {
+        sync_names(self.rt, self.names)
+    }
+}

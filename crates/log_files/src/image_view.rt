@@ -1,0 +1,72 @@
+//! An image and its log, of the system, as a reader sees them.
+ghost use Rattle.log_files.specs.Views.{unseen};
+
+use crate::image_folder::{log_bytes, log_to_read, read_sectors};
+use crate::log_names::LogNames;
+use crate::viewing::ViewsImage;
+use shop_log::{BLOCK, BLOCKS};
+use std::alloc::Global;
+use std::fs::OpenFile;
+use std::io::{self, Read, Seek, SeekFrom};
+use std::rt::Files;
+
+/// An image's open file, and its log, which is opened when it is read and stays open. Nothing is written. What the log
+/// holds is brought to the disk when it is read, so that what is shown stays if the power fails. Nothing is known of what
+/// it holds: that it satisfies the contract of `ViewsImage` is trusted.
+#[derive(Drop)]
+pub struct ImageView<'a, R: Files> {
+    rt: &'a R,
+    alloc: Global,
+    names: &'a LogNames,
+    image: R::File,
+    log: Option<R::File>,
+}
+
+impl<'a, R: Files> ImageView<'a, R> {
+    /// The image whose file this is, open to be read. The caller has a shared lock on it.
+    pub fn new(rt: &'a R, alloc: Global, names: &'a LogNames, image: R::File) -> ImageView<'a, R> {
+        ImageView {
+            rt,
+            alloc,
+            names,
+            image,
+            log: None,
+        }
+    }
+}
+
+/// The byte behind the blocks of a log; 0 if the file ends before it.
+fn byte_behind<F: Read + Seek>(file: &mut F) -> io::Result<u8> {
+    file.seek(SeekFrom::Start((BLOCK * BLOCKS) as u64))?;
+    let mut byte = [0];
+    file.read(&mut byte)?;
+    Ok(byte[0])
+}
+
+impl<R: Files> ViewsImage for ImageView<'_, R>
+where
+    R::File: OpenFile,
+{
+    ghost seen = { unseen };
+
+    fn read_log(&mut self) -> io::Result<Option<Vec<u8>>> {
+        let Some(mut file) = log_to_read(self.rt, self.names)? else {
+            return Ok(None);
+        };
+        let bytes = log_bytes(self.alloc, &mut file)?;
+        file.sync_data()?;
+        self.log = Some(file);
+        Ok(Some(bytes))
+    }
+
+    fn read_image(&mut self, image: &mut [[u8; 256]]) -> io::Result<()> {
+        read_sectors(&mut self.image, image)
+    }
+
+    fn read_mark(&mut self) -> io::Result<bool> {
+        match &mut self.log {
+            Some(file) => Ok(byte_behind(file)? != 0),
+            None => Ok(false),
+        }
+    }
+}

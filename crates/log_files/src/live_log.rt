@@ -1,0 +1,132 @@
+//! A log that is renewed when it is full.
+ghost use Rattle.std.specs.Prelude.{◌≡◌, length};
+
+use crate::ending::end_log;
+use crate::landing::LogFault;
+use crate::log_folder::LogFolder;
+use crate::making::make_new;
+use crate::renewing::renew;
+use shop_log::{ImageLog, Log, LogFile, none_touched};
+use std::alloc::Global;
+use std::io;
+
+/// An open log and the folder in which it stands. A commit that leaves no room for a further one brings the image to
+/// IMAGE, and a new log takes the place of the full one.
+#[derive(Drop)]
+pub struct LiveLog<F: LogFile, D> {
+    alloc: Global,
+    folder: D,
+    // None once it couldn't be renewed
+    log: Option<Log<F>>,
+    // the image that the log began with, which IMAGE has
+    base: Vec<[u8; 256]>,
+    // whether the log had a commit, or a part of one
+    used: bool,
+    ghost sized: { length base.items ≡ 683 },
+}
+
+impl<F: LogFile, D: LogFolder<F> + Drop> LiveLog<F, D> {
+    ghost use Rattle.std.specs.Prelude.{◌⊎◌, IfOk, OnErr, OnOk, Some, true};
+    ghost use Rattle.d64_image.specs.Images.{Image};
+    ghost use Rattle.log_files.specs.Folders.{AllLeft, Folder};
+    ghost use Rattle.log_files.specs.Bringing.{IsBrought, RestsAlone};
+    ghost use Rattle.log_files.specs.LiveLogs.{IsEnding, of_live};
+    ghost use Rattle.shop_log.specs.ImageLogs.{IsEither, LeavesImages};
+    ghost use Rattle.shop_log.specs.Marks.{Covers};
+
+    /// Makes a log in a folder that was landed with this image. At an error the folder gives the same image.
+    pub fn begin(alloc: Global, mut folder: D, shop: Vec<[u8; 256]>) -> io::Result<LiveLog<F, D>>
+        requires sized { length shop.items ≡ 683 }
+        ensures stands { IfOk result (λ live. (s : Folder) → D.history.held folder ≡ Some s → s.image ≡ shop.items
+            → AllLeft D.history folder (IsBrought shop.items) → (of_live D.history).stands_for live shop.items) }
+    {
+        let log = make_new(alloc, &mut folder, shop.as_slice())?;
+        Ok(LiveLog {
+            alloc,
+            folder,
+            log: Some(log),
+            base: shop,
+            used: false,
+        })
+    }
+
+    /// Commits to the log, which must have room. Returns whether it is full then.
+    fn append(&mut self, now: &[[u8; 256]], touched: &[bool; 683]) -> io::Result<bool>
+        requires sized { length now.now ≡ 683 }
+        ensures ok { OnOk result ((before : Image) → (of_live D.history).stands_for self.old before
+            → Covers touched.now before now.now → (of_live D.history).stands_for self.new now.now) }
+        ensures any_moment { (before : Image) → (of_live D.history).stands_for self.old before
+            → Covers touched.now before now.now
+            → LeavesImages (of_live D.history) self.old self.new (IsEither before now.now) }
+        ensures cause { OnErr result (((of_live D.history).is_over self.old ≡ true)
+            ⊎ ((of_live D.history).has_failed self.new ≡ true)) }
+        ensures err { OnErr result ((of_live D.history).is_over self.new ≡ true) }
+    {
+        let Some(log) = &mut self.log else {
+            return Err(io::ErrorKind::Other.into());
+        };
+        if log.is_full() {
+            return Err(io::ErrorKind::StorageFull.into());
+        }
+        self.used = true;
+        log.commit(now, touched)?;
+        Ok(log.is_full())
+    }
+
+    /// Puts a new log in the place of the full one, with this image as its base, which IMAGE gets before. At an error it
+    /// has no log.
+    fn renew(&mut self, now: &[[u8; 256]]) -> io::Result<()>
+        requires sized { length now.now ≡ 683 }
+        ensures ok { OnOk result ((of_live D.history).stands_for self.old now.now
+            → (of_live D.history).stands_for self.new now.now) }
+        ensures any_moment { (of_live D.history).stands_for self.old now.now
+            → LeavesImages (of_live D.history) self.old self.new (λ c. c ≡ now.now) }
+        ensures cause { OnErr result ((of_live D.history).has_failed self.new ≡ true) }
+        ensures err { OnErr result ((of_live D.history).is_over self.new ≡ true) }
+    {
+        let Some(log) = self.log.take() else {
+            return Err(io::ErrorKind::Other.into());
+        };
+        let base = self.base.as_slice();
+        let new = renew(self.alloc, &mut self.folder, log, base, now)?;
+        self.base.as_mut_slice().copy_from_slice(now);
+        self.used = false;
+        self.log = Some(new);
+        Ok(())
+    }
+
+    /// Lands the log, and returns the folder: IMAGE has the log's image then, and the log is gone. If the log takes no more
+    /// commits, this is an error, and the files are left alone: the next beginning lands it. At an error the folder gives
+    /// the image that it gave.
+    pub fn end(self) -> (D, Result<(), LogFault>)
+        ensures any_moment { (image : Image) → (of_live D.history).stands_for self image → IsEnding D.history self result.0 image }
+        ensures ok { OnOk result.1 ((image : Image) → (of_live D.history).stands_for self image
+            → RestsAlone D.history result.0 image) }
+    {
+        let LiveLog {
+            alloc,
+            mut folder,
+            log,
+            mut base,
+            ..
+        } = self;
+        let ended = end_log(alloc, &mut folder, log, base.as_mut_slice());
+        (folder, ended)
+    }
+}
+
+impl<F: LogFile, D: LogFolder<F> + Drop> ImageLog for LiveLog<F, D> {
+    ghost use Rattle.log_files.specs.LiveLogs.{of_live};
+
+    ghost history = { of_live D.history };
+
+    fn commit(&mut self, now: &[[u8; 256]], touched: &[bool; 683]) -> io::Result<()> {
+        if none_touched(touched) {
+            return Ok(());
+        }
+        if self.append(now, touched)? {
+            return self.renew(now);
+        }
+        Ok(())
+    }
+}

@@ -1,0 +1,34 @@
+//! A full log that is renewed.
+ghost use Rattle.std.specs.Prelude.{◌≡◌, Bool, IfOk, Some, length};
+ghost use Rattle.log_files.specs.LiveLogs.{IsRenewing, Stands};
+ghost use Rattle.log_files.specs.Serving.{Serves};
+
+use crate::bringing::bring;
+use crate::log_folder::LogFolder;
+use crate::making::make_new;
+use crate::marking::mark_found;
+use shop_log::{Log, LogFile};
+use std::alloc::Global;
+use std::io;
+
+/// Marks the log, brings this image to IMAGE, and makes a new log with the image as its base, which takes the name of the
+/// old one. `base` is what IMAGE has. At an error the folder gives the image.
+pub(crate) fn renew<F: LogFile, D: LogFolder<F>>(
+    alloc: Global,
+    folder: &mut D,
+    log: Log<F>,
+    base: &[[u8; 256]],
+    now: &[[u8; 256]],
+) -> io::Result<Log<F>>
+    requires base { length base.now ≡ 683 }
+    requires sized { length now.now ≡ 683 }
+    ensures any_moment { (used : Bool) → Stands D.history folder.old (Some log) used base.now now.now
+        → IsRenewing D.history folder.old (Some log) used folder.new now.now }
+    ensures ok { IfOk result (λ new. (used : Bool) → Stands D.history folder.old (Some log) used base.now now.now
+        → Serves D.history folder.new new now.now) }
+{
+    folder.close_log(log.into_file())?;
+    mark_found(folder)?;
+    bring(folder, base, now)?;
+    make_new(alloc, folder, now)
+}

@@ -1,0 +1,58 @@
+//! A log's file of the system.
+ghost use Rattle.log_files.specs.Unknown.{unknown_file};
+
+use shop_log::LogFile;
+use std::cell::Cell;
+use std::fs::OpenFile;
+use std::io;
+use std::rt::Files;
+use system_files::{EndedFile, FileName, Stays};
+
+/// A log's file, open. Once it has the name of the log, each sync sees that the name still leads to it. Nothing is known
+/// of what it holds: that it satisfies the contract of `LogFile` is trusted.
+#[derive(Drop)]
+pub struct SystemLog<'a, R: Files> {
+    pub(crate) rt: &'a R,
+    // the log's name
+    pub(crate) name: &'a str,
+    pub(crate) file: R::File,
+    // whether it has the name
+    pub(crate) named: Cell<bool>,
+    // whether it is brought to the disk once it has the name
+    pub(crate) synced: bool,
+}
+
+impl<R: Files> SystemLog<'_, R>
+where
+    R::File: OpenFile,
+{
+    /// An error if the log's name leads to another file, to none, or to one of another length.
+    fn see_name(&self) -> io::Result<()> {
+        if FileName::of(self.rt, self.name, &self.file)?.is_there() {
+            return Ok(());
+        }
+        Err(io::ErrorKind::NotFound.into())
+    }
+}
+
+impl<R: Files> LogFile for SystemLog<'_, R>
+where
+    R::File: EndedFile + OpenFile,
+{
+    ghost history = { unknown_file };
+
+    fn write_at(&mut self, at: usize, bytes: &[u8]) -> io::Result<()> {
+        self.file.put_over(bytes, at as u64)
+    }
+
+    // its length never changes once it has the name, so the bytes alone are brought to the disk then
+    fn sync(&mut self) -> io::Result<()> {
+        if !self.named.get() {
+            return self.file.sync_whole();
+        }
+        if self.synced {
+            self.file.sync_data()?;
+        }
+        self.see_name()
+    }
+}
