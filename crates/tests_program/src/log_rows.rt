@@ -63,7 +63,7 @@ $ ledger_cli check a.d64
 prints OK|
 logged
 $ ledger_cli records a.d64 REQUESTS
-prints ..,S,00001,000000005,...
+prints ..,S,00001,000000005,..
 logged
 script 1,2,R,1,4|
 $ ledger_cli play a.d64 s.txt
