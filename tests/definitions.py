@@ -1,60 +1,37 @@
 #!/usr/bin/env python3
-"""Makes docs/DEFINITIONS.md from the comments over the definitions in crates/*/specs/.
+"""Makes docs/DEFINITIONS.md from the comments over the definitions in crates/*/specs/, but for those that docs/CORE.md has.
 
-It names each definition that a contract of a public function, trait or type cites and that has an example or a source of its own,
-is a fact (with a capital) or a history of a device, source or output, or is cited by contracts of two files or of another crate;
-all but those of the tools and examples. Behind a name stands the example that decides it.
-A line of its own, with the comment over it and its source where the heading of its file doesn't name it, has each fact that
-contracts of another crate cite, and what has its sentence there. Examples, further sources, and sentences for definitions without a
-comment, or with one that leaves much to their fields, stand in docs/definitions.txt.
+It has each definition that a document of NAMING uses, and each fact (with a capital) or history of a device, source or output that
+contracts of public functions, traits and types of another crate cite: the comment over it, its source where the heading of its file
+doesn't name it, and the example that decides it. Examples, further sources, and sentences for definitions without a comment, or with
+one that leaves much to their fields, stand in docs/definitions.txt.
 
 Without words the page is written. With `--check` nothing is written, and the status is 1 where the page isn't up to date.
-In both cases the status is 1 where the side table names what no public contract rests on, or a definition has no sentence."""
+In both cases the status is 1 where the side table names what no public contract rests on, or a definition has no sentence, or a name
+that NAMING uses stands neither here nor in docs/CORE.md."""
 
 import re
 import sys
 from pathlib import Path
 
-TOP = Path(__file__).resolve().parent.parent
-CRATES = sorted(it.parent.name for it in TOP.glob("crates/*/src"))
-WORD = r"[A-Za-z_][\w'-]*"
+sys.dont_write_bytecode = True
+sys.path.insert(0, str(Path(__file__).resolve().parent))
+from core import in_core  # noqa: E402
+from spec_files import CRATES, TOP, WORD, ends_head, everything, heading, imports, named, side_table, without_comments  # noqa: E402
+
+# the documents each of whose names has a sentence
+NAMING = ("README.md", "docs/PROMISES.md", "docs/PROOF.md")
 # the types of what devices, files, sources and outputs say of themselves
-HISTORIES = r"(?::|→) (History|Keeps|Source|Output) [^→]*$"
+HISTORIES = r"(?::|→) (History|Keeps|Source|Output) [^→\n]*$"
 # how the sources outside this repository are called
 SOURCES = r"Guide|D64|Standard"
 HEAD = """# Definitions
 
-The definitions that contracts of public calls and types cite, by crate and file. `crates/CRATE/specs/NAME.antt` has the sentence
-above each. In brackets stands the example that decides it: a theorem, or a row. A line of its own has each fact that contracts of
-another crate cite, and each definition whose sentence stands only here. Not listed: auxiliary definitions, values without an example
-that only one file cites, and definitions of tools and examples. "The Guide" is the 1541 User's Guide; a definition that names no
-source is our own. *The disk with STOCK* has one relative file of one block. `tests/definitions.py` makes this page; [PROOF.md](PROOF.md)
-says how to read a definition."""
-
-
-def without_comments(text, mark):
-    return re.sub(rf"^\s*{mark}.*$|\s{mark} .*$", "", text, flags=re.M)
-
-
-def imports(text, keyword):
-    """The words of this repository's specs/ that a file takes in, by the names that it gives them: their crate, module and name."""
-    found = {}
-    for crate, module, names in re.findall(rf"{keyword} Rattle\.(\w+)\.specs\.([\w.]+)\.\{{([^}}]*)\}}", text):
-        for part in names.split(",") if crate in CRATES else []:
-            name, _, other = part.strip().partition(" as ")
-            found[other or name] = (crate, module, name)
-    modules = re.findall(rf"{keyword} Rattle\.(\w+)\.specs\.([\w.]+) as (\w+)", text)
-    return found, {name: (crate, module) for crate, module, name in modules if crate in CRATES}
-
-
-def cited(text, known):
-    """The words of specs/ in a text, by what its file takes in."""
-    names, modules = known
-    found = {names[word] for word in re.findall(WORD, text) if word in names}
-    for module, word in re.findall(rf"({WORD})\.({WORD})", text):
-        if module in modules:
-            found.add((*modules[module], word))
-    return found
+[CORE.md](CORE.md) has the definitions on which the promise of the product rests. Here are others, by crate and file: those that the
+README, [PROMISES.md](PROMISES.md) or [PROOF.md](PROOF.md) use, and the facts that contracts of several crates cite. The rest stand
+in `crates/CRATE/specs/`. In brackets: the example that decides a definition, a theorem or a test
+(`docs/definitions.txt`). "The Guide" is the 1541 User's Guide; a definition that names no source is our own. *The disk with STOCK* has
+one relative file of one block. `tests/definitions.py` makes this page."""
 
 
 def public_names(crate):
@@ -66,11 +43,6 @@ def public_names(crate):
     for several, one in re.findall(r"pub use [\w:]+::(?:\{([^}]*)\}|(\w+));", root.read_text()):
         names |= {it.strip() for it in (several or one).split(",")}
     return names
-
-
-def ends_head(line, is_first):
-    """Whether a function's contract ends with this line: its body begins, or it has none."""
-    return line.strip() in ("{", "{}") or line.endswith(";") or is_first and line.endswith(("{", "}"))
 
 
 def contracts(text, names):
@@ -99,57 +71,6 @@ def contracts(text, names):
     return "\n".join(kept)
 
 
-def definitions(crate):
-    """The public definitions of a crate's specs/: for each name of a module the words that it uses."""
-    found = {}
-    for file in sorted((TOP / "crates" / crate / "specs").rglob("*.antt")):
-        text = without_comments(file.read_text(), "--")
-        module = ".".join(file.relative_to(TOP / "crates" / crate / "specs").with_suffix("").parts)
-        heads = list(re.finditer(rf"^ *(?:(?:abbrev|unfoldable|ext) )*pub (?:(record|data) )?({WORD})", text, re.M))
-        heads = [it for it in heads if it[1] or "abbrev" in it[0] or "unfoldable" in it[0]]
-        names, modules = imports(text, "use")
-        known = {**names, **{it[2]: (crate, module, it[2]) for it in heads}}, modules
-        for at, it in enumerate(heads):
-            end = heads[at + 1].start() if at + 1 < len(heads) else len(text)
-            found[crate, module, it[2]] = cited(text[it.end() : end], known)
-    return found
-
-
-def comment_over(lines, at):
-    """The comment that stands right over a line."""
-    start = at
-    while start > 0 and lines[start - 1].lstrip().startswith("--"):
-        start -= 1
-    return " ".join(it.strip()[2:].strip() for it in lines[start:at])
-
-
-def comments(crate, module):
-    """The heading of a file of specs/, and in their order its definitions: the comment over each, and whether it says what is so."""
-    lines = (TOP / "crates" / crate / "specs" / f"{module.replace('.', '/')}.antt").read_text().split("\n")
-    end = next(at for at, it in enumerate(lines) if not it.startswith("--"))
-    found = {}
-    for at, line in enumerate(lines):
-        head = re.match(rf" *(?:(?:abbrev|unfoldable|ext) )*pub (record |data )?({WORD})", line)
-        if head and head[2] not in found and (head[1] or re.search(r"\b(abbrev|unfoldable)\b", line[: head.start(2)])):
-            found[head[2]] = comment_over(lines, at), head[2][0].isupper() or re.search(HISTORIES, line)
-    return comment_over(lines, end), found
-
-
-def side_table():
-    """The lines of docs/definitions.txt: for a crate and a name its sentence `=`, its source `<` and its example `:`."""
-    found, faults, crate = {}, [], None
-    for line in (TOP / "docs" / "definitions.txt").read_text().split("\n"):
-        head = re.match(r"\[(\w+)\]$", line)
-        row = re.match(rf"({WORD}) ?([=<:]) (.+)", line)
-        if head:
-            crate = head[1]
-        elif row and (crate, row[1], row[2]) not in found:
-            found[crate, row[1], row[2]] = row[3]
-        elif line and not line.startswith("#"):
-            faults.append(f"not read, or twice: {crate}/{line}")
-    return found, faults
-
-
 def unknown_examples(side):
     """What is named as an example, and is no word of a proof or a test, no theorem of specs/, and no name of a file or crate."""
     known = set(CRATES)
@@ -163,27 +84,36 @@ def unknown_examples(side):
     return [f"no such example: {it[0]}/{it[1]}: {word}" for it, word in named if word not in known]
 
 
-def rested_on():
+def rested_on(known):
     """The definitions that contracts cite, each with the files of these, and all on which they rest."""
-    defined = {}
-    for crate in CRATES:
-        defined.update(definitions(crate))
     wanted = {}
     for crate in CRATES:
         names = public_names(crate)
         for file in sorted((TOP / "crates" / crate / "src").rglob("*.rt")):
             if not file.stem.endswith("tests"):
                 text = without_comments(file.read_text(), "//")
-                for it in cited(contracts(text, names), imports(text, "ghost use")):
-                    if it in defined:
+                for it in named(contracts(text, names), imports(text, "ghost use"), "//"):
+                    if it in known:
                         wanted.setdefault(it, set()).add((crate, file))
     below, left = set(wanted), list(wanted)
     while left:
-        for it in defined[left.pop()]:
-            if it in defined and it not in below:
-                below.add(it)
-                left.append(it)
+        new = {it for it in known[left.pop()].uses if it in known} - below
+        below |= new
+        left += new
     return wanted, below
+
+
+def names_of_documents():
+    """The words in backticks in the documents of NAMING, but for those that a function, a clause or a field has too."""
+    texts = [re.sub(r"(?ms)^```.*?^```", "", (TOP / it).read_text()) for it in NAMING]
+    words = {word for text in texts for code in re.findall(r"`([^`\n]+)`", text) for word in re.findall(WORD, code)}
+    others = set()
+    for file in TOP.glob("crates/*/src/**/*.rt"):
+        others.update(re.findall(rf"\b(?:fn|ensures|requires|ghost|mod|struct|enum|trait) ({WORD})", file.read_text()))
+    for file in TOP.glob("crates/*/specs/**/*.antt"):
+        others.update(re.findall(rf"(?m)^ +pub «?({WORD})»? :", file.read_text()))
+    subcommands = (TOP / "crates/command_table/src/subcommands.rt").read_text()
+    return words - others - set(re.findall(r'name: "([a-z-]+)"', subcommands))
 
 
 def sentence(text):
@@ -202,45 +132,42 @@ def heading_sources(heading):
     return "".join(f" {sentence if all_of_it else it[0]}" for it, sentence, all_of_it in zip(named, sentences, whole))
 
 
-def told(crate, module, name, found, side, files):
-    """What the page has of a definition: its name, sentence and example, and whether it has a line; None where it isn't named."""
-    comment, is_fact = found
-    text, source = sentence(side.get((crate, name, "="), comment))
+def row(key, it, side, files, is_used):
+    """What the page has of a definition: its name, sentence, source and example; None where it doesn't stand there."""
+    crate, _, name = key
+    text, source = sentence(side.get((crate, name, "="), " ".join(line.strip()[2:].strip() for line in it.comment)))
     source = side.get((crate, name, "<"), source)
     example = side.get((crate, name, ":"), "")
+    is_fact = name[0].isupper() or re.search(HISTORIES, it.text.split("\n")[0])
     is_elsewhere = any(of != crate for of, _ in files)
-    if not files or not (source or example or is_fact or is_elsewhere or len(files) > 1):
+    if not (is_used or is_fact and is_elsewhere):
         return None
     shown = [f"source: {source}"] * bool(source) + [example] * bool(example)
-    has_line = is_fact and (is_elsewhere or (crate, name, "=") in side) or not comment
-    return text, f"`{name}`" + f": {text}." * has_line + f" [{'; '.join(shown)}]" * bool(shown), has_line
+    return f"- `{name}`: {text}." + f" [{'; '.join(shown)}]" * bool(shown)
 
 
 def page():
     """The page, and what is wrong with its sources."""
-    wanted, below = rested_on()
-    side, faults = side_table()
-    used, lines = set(), [HEAD]
+    known = {key: it for key, it in everything().items() if key[1]}
+    (wanted, below), core, used = rested_on(known), in_core(), names_of_documents()
+    (side, faults), lines, named_here = side_table(), [HEAD], set(core)
     ordered = [it.split(":")[0] for it in (TOP / "crates.txt").read_text().split("\n") if it and not it.startswith("#")]
-    for crate in [it for it in ordered if not it.startswith(("test_", "benchmarks", "example_"))]:
-        modules = sorted({module for of, module, _ in below if of == crate})
-        lines += [f"\n## `{crate}`"] if modules else []
-        for module in modules:
-            heading, found = comments(crate, module)
-            names, rows = [], []
-            for name in [it for it in found if (crate, module, it) in below]:
-                used |= {(crate, name, mark) for mark in "=<:"}
-                row = told(crate, module, name, found[name], side, wanted.get((crate, module, name), set()))
-                if row and not row[0]:
-                    faults.append(f"no sentence: {crate}/{module}/{name}")
-                if row:
-                    (rows if row[2] else names).append(row[1])
-            source = heading_sources(heading).replace("1541 User's Guide", "the Guide").replace("the the", "the")
-            beside = f": {', '.join(names)}" if names else ""
-            lines += [f"\n**`{module.replace('.', '/')}`**{source.rstrip('.')}{beside}"] if names or rows else []
-            lines += ["", *[f"- {row}" for row in rows]] if rows else []
-    faults += unknown_examples(side)
-    faults += [f"no public contract rests on it: {crate}/{name}" for crate, name, mark in sorted(set(side) - used)]
+    for crate in ordered:
+        is_product, parts = not crate.startswith(("test_", "benchmarks", "example_")), []
+        for module in sorted({module for of, module, _ in below if of == crate}):
+            keys = [it for it in known if it[:2] == (crate, module) and it in below and it not in core]
+            keys = [it for it in keys if is_product or it[2] in used]
+            rows = {it: row(it, known[it], side, wanted.get(it, set()), it[2] in used) for it in keys}
+            faults += [f"no sentence: {'/'.join(it)}" for it in keys if "`: ." in (rows[it] or "")]
+            source = heading_sources(heading(crate, module)).replace("1541 User's Guide", "the Guide").replace("the the", "the")
+            kept = [it for it in rows.values() if it]
+            parts += [f"\n**`{module.replace('.', '/')}`**{source.rstrip('.')}\n", *kept] if kept else []
+            named_here |= set(keys)
+        lines += [f"\n## `{crate}`", *parts] if parts else []
+    unknown = used & {name for _, _, name in known} - {name for _, _, name in named_here}
+    faults += [f"{', '.join(NAMING)}: no sentence for {it}" for it in sorted(unknown)] + unknown_examples(side)
+    rested = {(crate, name) for crate, _, name in below | core}
+    faults += [f"no public contract rests on it: {'/'.join(it)}" for it in sorted({it[:2] for it in side} - rested)]
     return "\n".join(lines) + "\n", faults
 
 
@@ -251,7 +178,7 @@ def main():
         faults += [] if place.read_text() == text else ["docs/DEFINITIONS.md isn't up to date: run tests/definitions.py"]
     else:
         place.write_text(text)
-    print("\n".join(faults) or "docs/DEFINITIONS.md has each fact that a public contract cites")
+    print("\n".join(faults) or "docs/DEFINITIONS.md and docs/CORE.md have each fact that a public contract cites")
     return 1 if faults else 0
 
 

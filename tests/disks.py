@@ -174,11 +174,11 @@ def with_all_free(path):
 
 
 def of_longest_page(path, target):
-    """A disk made to have the longest page: eighteen sectors of directory, 144 entries named by sixteen `&`, and a map that
-    calls each sector free. All other sectors are one chain. The first 163 are the first entry's blocks; each entry has as
+    """A disk made to have the longest page: eighteen sectors of directory, 144 entries named by fifteen `&` and $C2, and a map
+    that calls each sector free. All other sectors are one chain. The first 163 are the first entry's blocks; each entry has as
     many side sectors next to the blocks that it begins with as these need, and the next entry begins with the last of them."""
     image = with_all_free(path)
-    image.put(MAP, 0x90, b"&" * 16).put(MAP, 0xA2, b"&&").put(MAP, 0xA5, b"&&")
+    image.put(MAP, 0x90, b"&" * 15 + b"\xc2").put(MAP, 0xA2, b"&&").put(MAP, 0xA5, b"&&")
     directory = [(18, sector) for sector in range(1, 19)]
     others = [place for place in PLACES if place[0] != 18]
     for chain in (directory, others[::-1]):
@@ -187,7 +187,7 @@ def of_longest_page(path, target):
     blocks = 163
     for number in range(144):
         more = min(blocks + (blocks + 119) // 120, len(others))
-        slot = bytes([0xC4, *others[blocks - 1]]) + b"&" * 16 + bytes([*others[more - 1], 1])
+        slot = bytes([0xC4, *others[blocks - 1]]) + b"&" * 15 + b"\xc2" + bytes([*others[more - 1], 1])
         image.put(directory[number // 8], 32 * (number % 8) + 2, slot.ljust(28, b"\0") + b"\xff\xff")
         blocks = more
     return image.save(target)
@@ -255,6 +255,14 @@ def named(path, target):
     names = (b"<SCRIPT>", b"&amp;", b"\"onload=\"alert(1", b"<script>alert(1)", b"</g></svg>\\", b"\x00\x0d\xc1\xff'-->]]>\x7f")
     for number, name in enumerate(names):
         image.put_entry(number, 5, name.ljust(16, b"\xa0"))
+    return image.save(target)
+
+
+def with_every_byte(path, target):
+    """A disk of sixteen entries and more, whose first sixteen names have the 256 bytes."""
+    image = Image(path)
+    for number in range(16):
+        image.put_entry(number, 5, bytes(range(16 * number, 16 * number + 16)))
     return image.save(target)
 
 

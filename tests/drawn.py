@@ -34,6 +34,26 @@ def html_name(name):
     return re.sub("[&<>]", lambda found: f"\\{ord(found[0]):02x}", name_text(name))
 
 
+# what a C64 shows from $40, $60 and $A0 on after it was switched on (Programmer's Reference Guide, appendix C), in Unicode 13
+LETTERS = "@ABCDEFGHIJKLMNOPQRSTUVWXYZ[£]↑←"
+SHIFTED = "─♠🭲🭸🭷🭶🭺🭱🭴╮╰╯🭼╲╱🭽🭾●🭻♥🭰╭╳○♣🭵♦┼🮌│π◥"
+BLOCKS = "\u00a0▌▄▔▁▏🮕▕🮏◤🮇├▗└┐▂┌┴┬┤▎▍🮈🮂🮃▃🭿▖▝┘▘▚"
+
+
+def sign(byte):
+    """A byte as a C64 shows it; one of the control codes, and the quotation mark, as it is typed."""
+    if byte < 64 or 0x80 <= byte < 0xA0:
+        return name_text(bytes([byte]))
+    return {2: LETTERS, 3: SHIFTED, 5: BLOCKS, 6: SHIFTED, 7: SHIFTED if byte == 0xFF else BLOCKS}[byte // 32][
+        30 if byte == 0xFF else byte % 32]
+
+
+def signs(name):
+    """A name as a C64 shows it, and nothing where that's what is typed."""
+    shown = "".join(map(sign, name))
+    return "" if shown == name_text(name) else shown
+
+
 class Entry:
     """A used entry of the directory, and the sectors that its links come to."""
 
@@ -41,6 +61,7 @@ class Entry:
         self.kind = raw[2]
         self.name = name_text(raw[5:21].rstrip(b"\xa0"))
         self.shown = html_name(raw[5:21].rstrip(b"\xa0"))
+        self.signs = signs(raw[5:21].rstrip(b"\xa0"))
         self.first, self.side, self.length = tuple(raw[3:5]), tuple(raw[21:23]), raw[23]
         self.count = raw[30] + 256 * raw[31]
         self.blocks, self.sides, self.last = [], [], 0
@@ -89,6 +110,9 @@ class Disk:
 
     def disk_name(self):
         return html_name(self.sector(MAP)[0x90:0xA0].rstrip(b"\xa0"))
+
+    def disk_signs(self):
+        return signs(self.sector(MAP)[0x90:0xA0].rstrip(b"\xa0"))
 
     def _directory(self):
         places, place = [], DIRECTORY

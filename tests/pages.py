@@ -1,10 +1,10 @@
 #!/usr/bin/env python3
 """What `picture` prints of an image, by the rules and to the byte, in plain Python over drawn.py:
 
-    tests/pages.py IMAGE VERDICT [--svg]
+    tests/pages.py IMAGE VERDICT [--svg|--tile]
 
 VERDICT is what `check` prints, which isn't judged here. The parts that are the same on each page and poster (style, dashes, legend,
-end) are taken from specs/Pictures.antt and specs/Posters.antt, where the contracts have them."""
+end) are taken from specs/Pictures.antt, specs/Posters.antt and specs/Sheets.antt, where the contracts have them."""
 
 import re
 import sys
@@ -27,7 +27,7 @@ WORDS = {
 
 def fixed(name):
     """A text that the definition of this name gives."""
-    text = (SPECS / "Pictures.antt").read_text(encoding="utf-8") + (SPECS / "Posters.antt").read_text(encoding="utf-8")
+    text = "".join((SPECS / f"{it}.antt").read_text(encoding="utf-8") for it in ("Pictures", "Posters", "Sheets"))
     found = re.search(rf'^{name} = codes\s+"((?:[^"\\]|\\.)*)"', text, re.M)
     return re.sub(r"\\(.)", lambda one: {"n": "\n"}.get(one[1], one[1]), found[1])
 
@@ -126,13 +126,15 @@ class Page:
     def row(self, number):
         entry = self.disk.entries[number]
         cells = f"{entry.length}</td><td>{entry.records()}" if entry.has_records() else "</td><td>"
-        return (f'<tr><td><i class="{look(number)}"></i></td><td>{entry.count}</td><td><a href="#f{number}">{html(entry.shown)}</a></td>'
+        return (f'<tr><td><i class="{look(number)}"></i></td><td>{entry.count}</td><td><a href="#f{number}">{html(entry.shown)}</a>'
+                f"<bdi>{html(entry.signs)}</bdi></td>"
                 f"<td>{entry.type_text('&lt;')}</td><td>{cells}</td></tr>\n")
 
     def text(self):
         name = html(self.disk.disk_name())
         title = (f'<!DOCTYPE html>\n<html lang="en">\n<meta charset="utf-8">\n<meta name="viewport" content="width=device-width,'
-                 f'initial-scale=1">\n<title>{name}</title>\n<style>{fixed("style")}{fixed("dashes")}</style>\n<h1>{name}</h1>\n'
+                 f'initial-scale=1">\n<title>{name}</title>\n<style>{fixed("style")}{fixed("dashes")}</style>\n<h1>{name}'
+                 f"<bdi>{html(self.disk.disk_signs())}</bdi></h1>\n"
                  "<p>1541 disk, id ")
         told = (f'{html(html_name(self.map[162:164]))} {html(html_name(self.map[165:167]))}</p>\n<p class="{"bad" if self.fault else "good"}">'
                 f"<b>{self.verdict}</b> {self.summary()}</p>\n<main>\n"
@@ -150,14 +152,15 @@ class Page:
         column, line = number // 36 % 4, number % 36
         return (f'<svg x="{20 + 65 * column}" y="{306 + 3 * line}" width="63" height="3"><path class="{look(number)}" d="M0 1.5h3"/>'
                 f'<text class="e" x="10" y="2.3">{entry.count}</text><text x="11.5" y="2.3">{entry.type_text("&lt;")}</text>'
-                f'<text x="19" y="2.3">{html(entry.shown)}</text></svg>\n')
+                f'<svg x="19" width="22" height="3"><text y="2.3">{html(entry.shown)}</text></svg>'
+                f'<text x="41.5" y="2.3">{html(entry.signs)}</text></svg>\n')
 
     def poster(self):
         name = html(self.disk.disk_name())
         head = ('<svg xmlns="http://www.w3.org/2000/svg" width="297mm" height="420mm" viewBox="0 0 297 420">\n'
                 f'<title>{name}</title>\n<style>{fixed("poster_style")}{fixed("dashes")}</style>\n'
                 f'<rect class="paper" width="297" height="420"/>\n<text class="name" x="148.5" y="24">{name}</text>\n'
-                f'<text class="told" x="148.5" y="33">1541 disk, id {html(html_name(self.map[162:164]))} '
+                f'<text class="told" x="148.5" y="33"><tspan>{html(self.disk.disk_signs())}</tspan> 1541 disk, id {html(html_name(self.map[162:164]))} '
                 f'{html(html_name(self.map[165:167]))}</text>\n<text class="told" x="148.5" y="40">{self.summary()}</text>\n'
                 '<svg x="23.5" y="44" width="250" height="250" viewBox="-36600 -36600 73200 73200">\n<svg x="-6900" y="-1200" '
                 f'width="13800" height="2400" viewBox="-6900 -1200 13800 2400"><text class="hub" y="400">{name}</text></svg>\n'
@@ -166,9 +169,49 @@ class Page:
         return head + self.drawing() + fixed("poster_legend") + lines + "</svg>\n"
 
 
+    def shade(self, place):
+        """Which of the 29 shades of a contact sheet a sector has."""
+        if place == self.fault:
+            return 0
+        owner = self.disk.owner.get(place)
+        if owner is None:
+            return 3 if self.disk.is_free(place) else 4
+        if owner[0] in ("map", "directory"):
+            return 1 if owner[0] == "map" else 2
+        return (5 if owner[1] == "block" else 17) + owner[0] % 12
+
+    def tile(self, path):
+        """The tile of a contact sheet, of the image at this path."""
+        strokes = [""] * 29
+        for place in PLACES:
+            strokes[self.shade(place)] += f"M{place[0]} {place[1]}h.8"
+        free = sum(self.map[4 * track] for track in range(1, 36) if track != 18)
+        return (f'<figure class="{"bad" if self.fault else "good"}"><svg viewBox="0 -1 37 23" aria-hidden="true">'
+                + "".join(f'<path class="p{number}" d="{drawn}"/>' for number, drawn in enumerate(strokes))
+                + f'</svg><figcaption><code>{path_text(path)}</code> <span>{html(self.disk.disk_name())}'
+                f"<bdi>{html(self.disk.disk_signs())}</bdi></span> <b>{self.verdict}</b> <span>{free} blocks free</span>"
+                "</figcaption></figure>\n")
+
+
+def path_text(path):
+    return html(html_name(str(path).encode()))
+
+
+def refused_tile(path, told):
+    """The tile of an image that isn't drawn, of which this is told."""
+    return f'<figure class="bad"><figcaption><code>{path_text(path)}</code> <b>{html(told)}</b></figcaption></figure>\n'
+
+
+def sheet(tiles):
+    """The contact sheet of these tiles."""
+    return ('<!DOCTYPE html>\n<html lang="en">\n<meta charset="utf-8">\n<meta name="viewport" content="width=device-width,'
+            f'initial-scale=1">\n<title>Disks: {len(tiles)}</title>\n<style>{fixed("sheet_style")}</style>\n'
+            f'<h1>Disks: {len(tiles)}</h1>\n<main>\n' + "".join(tiles) + fixed("sheet_end"))
+
+
 def main(image, verdict, how=None):
     page = Page(Path(image).read_bytes(), verdict)
-    sys.stdout.write(page.poster() if how == "--svg" else page.text())
+    sys.stdout.write(page.poster() if how == "--svg" else page.tile(image) if how == "--tile" else page.text())
 
 
 if __name__ == "__main__":

@@ -23,7 +23,7 @@ from palette import DARKER, LIGHT, rgb
 from renderings import see_dark, see_keys, see_label, see_paper, see_phone, see_poster
 from served import run, want
 
-LARGEST = 150_000
+LARGEST = 165_000
 SLOWEST = 1.0
 # dots of the screen for a pixel of the page: a ring is 27 dots wide then
 DOTS = 4
@@ -41,7 +41,7 @@ RED, WHITE = (0xD4, 0, 0), (255, 255, 255)
 
 # what the page's own markup is: each element's attributes, sorted
 MARKUP = {
-    "html": ["lang"], "head": [], "title": [], "style": [], "body": [], "h1": [], "b": [], "main": [], "div": [], "ul": [],
+    "html": ["lang"], "head": [], "title": [], "style": [], "body": [], "h1": [], "bdi": [], "b": [], "main": [], "div": [], "ul": [],
     "table": [], "tbody": [], "tr": [], "th": [], "td": [], "text": ["y"], "path": ["d"], "li": ["class"], "a": ["href"]}
 RING_ATTRIBUTES = ["r", "stroke-dashoffset"]
 VARIED = {"g": [["aria-hidden", "transform"], ["id"], ["class", "id"], ["class"]], "i": [[], ["class"]], "p": [[], ["class"]],
@@ -161,10 +161,12 @@ def see_markup(name, browser, wanted):
         tag = tag if tag in MARKUP else tag.lower()
         own = VARIED.get(tag) or [MARKUP.get(tag)]
         want(attributes in own, f"{name}: a foreign element {tag} {attributes}")
-    shown = browser.value("[document.querySelector('title').textContent, document.querySelector('h1').textContent, "
+    shown = browser.value("[document.querySelector('title').textContent, document.querySelector('h1').firstChild.textContent, "
                           "document.querySelector('svg text').textContent, "
                           "...[...document.querySelectorAll('td a')].map(e => e.textContent)]")
     want(shown == [wanted.disk.disk_name()] * 3 + [entry.shown for entry in wanted.disk.entries], f"{name}: names {shown}")
+    signs = browser.value("[...document.querySelectorAll('bdi')].map(e => e.textContent)")
+    want(signs == [wanted.disk.disk_signs()] + [entry.signs for entry in wanted.disk.entries], f"{name}: signs {signs}")
     return len(elements)
 
 
@@ -298,6 +300,7 @@ def made_disks(program, folder):
     for word, hurt in disks.FAULTS.items():
         yield word.lower(), hurt(sound).save(folder / f"{word.lower()}.d64")
     yield "crowded", disks.crowded(folder, folder / "crowded.d64", b"A PROGRAM OF '87")
+    yield "every byte", disks.with_every_byte(folder / "crowded.d64", folder / "every_byte.d64")
     yield "crowded by &", disks.crowded(folder, folder / "crowded_by.d64", b"&" * 16)
     yield "longest page", disks.of_longest_page(full, folder / "longest.d64")
 

@@ -16,10 +16,11 @@
 #   sector; by keyboard each file is one stop, and Enter shows it alone;
 # - the poster (`picture --svg`) is to the byte that of pages.py, leads nowhere, and Chromium and librsvg show each sector in the
 #   same colours as on the page;
-# - elements and attributes of the page in the browser are the page's own, and names are shown as they are written;
+# - elements and attributes of the page in the browser are the page's own, and names are shown as they are typed, and as a C64 shows
+#   them where that differs;
 # - the page names nothing outside of itself, asks for nothing but itself (the browser's own account, and a proxy on the
 #   loopback that it would have to ask), logs nothing and runs nothing; a page that does all this is heard;
-# - it has less than 150,000 bytes, that of a disk made to have the longest page too;
+# - it has less than 165,000 bytes, that of a disk made to have the longest page too;
 # - a frame is shown in less than a second after all of it was read, by the browser's clock, which begins when the page is
 #   asked for: the least of three times, or of ten where other work slows them.
 # Nothing leaves the machine.

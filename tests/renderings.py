@@ -134,5 +134,8 @@ def see_poster(name, program, path, image, verdict, folder, browser, compare):
     subprocess.run(["rsvg-convert", "-w", str(297 * UNIT), "-o", folder / "poster.png", file], check=True)
     whole = Image.open(folder / "poster.png").convert("RGB")
     compare(whole.crop((left, top, left + side, top + side)), "librsvg, on the poster,")
-    lines = [part.text or "" for part in root.iter(f"{SVG}text") if part.get("x") == "19"]
-    want(lines == [entry.shown for entry in Page(image, verdict).disk.entries], f"{name}: the poster's lines {lines}")
+    entries = Page(image, verdict).disk.entries
+    lines = [part.find(f"{SVG}text").text or "" for part in root.iter(f"{SVG}svg") if part.get("x") == "19"]
+    want(lines == [entry.shown for entry in entries], f"{name}: the poster's lines {lines}")
+    signs = [part.text or "" for part in root.iter(f"{SVG}text") if part.get("x") == "41.5"]
+    want(signs == [entry.signs for entry in entries], f"{name}: the poster's signs {signs}")

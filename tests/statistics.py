@@ -5,14 +5,15 @@ functions, tests and mutants there are.  tests/statistics.py
 A line of a contract is one of a clause (`ensures`, `requires`) or of another ghost item; tests are code."""
 
 import re
+import sys
 from pathlib import Path
 
-TOP = Path(__file__).resolve().parent.parent
-KINDS = {"tests_": "tests", "test_": "tools, examples", "benchmarks": "tools, examples", "example_": "tools, examples"}
+sys.dont_write_bytecode = True
+sys.path.insert(0, str(Path(__file__).resolve().parent))
+from outline import TOP, groups  # noqa: E402
 
-
-def kind_of(crate):
-    return next((kind for start, kind in KINDS.items() if crate.startswith(start)), "the product")
+# the rows of the table, by the headings of crates.txt
+KINDS = {"Product": "the product", "Tests": "tests", "Tools": "tools, examples", "Example": "tools, examples"}
 
 
 def code_and_contract(text):
@@ -36,15 +37,15 @@ def lines_of(crate, folder):
 
 
 def main():
-    rows = {}
+    rows, kinds = {}, {crate: KINDS[group] for group, crates in groups().items() for crate in crates}
     for crate in sorted(it.parent for it in TOP.glob("crates/*/src")):
         sources = [it.read_text() for it in crate.glob("src/**/*.rt")]
         code, contract = (sum(column) for column in zip(*map(code_and_contract, sources)))
         functions = sum(len(re.findall(r"(?m)^\s*(?:pub(?:\([a-z]+\))? )?fn ", it)) for it in sources)
         tests = sum(it.count("#[test]") for it in sources)
         counts = (1, code, contract, lines_of(crate, "specs"), lines_of(crate, "proofs"), functions, tests)
-        row = rows.setdefault(kind_of(crate.name), [0] * len(counts))
-        rows[kind_of(crate.name)] = [had + more for had, more in zip(row, counts)]
+        row = rows.setdefault(kinds[crate.name], [0] * len(counts))
+        rows[kinds[crate.name]] = [had + more for had, more in zip(row, counts)]
     print("| | Crates | Code | Contracts | Definitions | Proofs | Functions | Tests |\n|---|---|---|---|---|---|---|---|")
     for kind, row in sorted(rows.items(), key=lambda it: -it[1][4]):
         print(f"| {kind} | {' | '.join(f'{it:,}' for it in row)} |")

@@ -9,7 +9,7 @@ use Rattle.disk_layout.proofs.lemmas.lists.Once.{all-in}
 use Rattle.disk_layout.specs.Directory.{IsDirectory}
 use Rattle.disk_layout.specs.Layout.{File, IsFile, IsLayout, Layout}
 use Rattle.disk_layout.specs.declared.slot.Slot.{Slot}
-use Rattle.rel_records.specs.Listed.{HasStock, IsStock}
+use Rattle.disk_layout.specs.Listed.{HasStock, IsStock}
 
 -- one place, one entry
 pub one-entry : (slots : List Slot) (k n : ℕ) (s t : Slot) → k ≡ n → slice_get slots k ≡ Some s

@@ -6,9 +6,9 @@ use Rattle.d64_image.specs.Images.{Image, Sector, sector}
 use Rattle.d64_image.specs.declared.place.Place.{Place}
 use Rattle.disk_layout.specs.Layout.{File, is_rel, is_rel_type}
 use Rattle.disk_layout.specs.declared.slot.Slot.{Slot}
-use Rattle.rel_records.proofs.lemmas.whole.Files.{rel-not-plain}
+use Rattle.disk_layout.proofs.lemmas.whole.Files.{rel-not-plain}
 use Rattle.cut_files.specs.Cut.{IsCutIn, IsListedPast, IsShort}
-use Rattle.rel_records.specs.Listed.{ListsWell, NeverGrows, is_plain}
+use Rattle.disk_layout.specs.Listed.{ListsWell, NeverGrows, is_plain}
 
 -- where both grow or neither does, the same is listed well
 lists-as : (img : Image) (a b : Type 0) (bytes : Sector) (used : ℕ) → (b → a) → ListsWell img a bytes used

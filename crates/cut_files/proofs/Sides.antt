@@ -9,7 +9,7 @@ use Rattle.disk_layout.proofs.lemmas.lists.Lists.{get-some}
 use Rattle.disk_layout.specs.Chain.{named_at}
 use Rattle.disk_layout.specs.Layout.{File, IsRelFile}
 use Rattle.cut_files.specs.Cut.{IsListedPast}
-use Rattle.rel_records.specs.Listed.{ListsOne, ListsWell, used_of}
+use Rattle.disk_layout.specs.Listed.{ListsOne, ListsWell, used_of}
 
 -- the last side sector that points to a block of the chain
 pub last-side : (img : Image) (f : File) → IsRelFile img f → 1 ≤ length f.blocks

@@ -8,7 +8,7 @@ use Rattle.d64_image.specs.declared.place.Place.{Place}
 use Rattle.disk_layout.specs.Directory.{map_place}
 use Rattle.disk_layout.specs.Layout.{File, Layout, count_field, is_rel, owners}
 use Rattle.disk_layout.specs.Map.{IsFree}
-use Rattle.rel_records.specs.Listed.{HasStock, ListsWell, NeverGrows, is_plain, used_of}
+use Rattle.disk_layout.specs.Listed.{HasStock, ListsWell, NeverGrows, is_plain, used_of}
 
 -- the side sectors of a relative file list more data blocks than they may
 pub record IsListedPast (img : Image) (never_grows : Type 0) (f : File) : Type 0 where

@@ -5,7 +5,7 @@ ghost use Rattle.d64_image.specs.Memory.{disk_image};
 ghost use Rattle.disk_layout.specs.Fault.{Holds, nowhere};
 ghost use Rattle.disk_layout.specs.Layout.{IsLayout, IsSound, Layout};
 ghost use Rattle.cut_files.specs.Cut.{HasStray};
-ghost use Rattle.rel_records.specs.Listed.{HasStock};
+ghost use Rattle.disk_layout.specs.Listed.{HasStock};
 ghost use Rattle.cut_files.specs.Told.{IsAsked, IsToldOf};
 
 use crate::listed::bytes_at;

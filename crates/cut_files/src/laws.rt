@@ -4,7 +4,7 @@ ghost use Rattle.std.specs.Prelude.{None};
 ghost use Rattle.d64_image.specs.Images.{Image};
 ghost use Rattle.disk_layout.specs.Layout.{IsLayout, Layout};
 ghost use Rattle.cut_files.specs.Told.{HasNoCut};
-ghost use Rattle.rel_records.specs.Whole.{IsWhole};
+ghost use Rattle.disk_layout.specs.Whole.{IsWhole};
 
 /// On a disk whose files are whole (`IsWhole` of `rel_records`, which the moments of sessions, runs, growth and repair
 /// keep) no file is cut short: `find_cut` and `find_image_cut` find none.

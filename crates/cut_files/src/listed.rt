@@ -6,7 +6,7 @@ ghost use Rattle.d64_image.specs.declared.place.Place.{Place};
 ghost use Rattle.disk_layout.specs.Chain.{named_at};
 ghost use Rattle.disk_layout.specs.Layout.{File, IsRelFile};
 ghost use Rattle.cut_files.specs.Cut.{IsListedPast};
-ghost use Rattle.rel_records.specs.Listed.{EndsBy, ListsOne, ListsWell};
+ghost use Rattle.disk_layout.specs.Listed.{EndsBy, ListsOne, ListsWell};
 
 use d64_image::{MemDisk, Place, Sectors};
 use disk_layout::{EntryView, POINTERS, SideView, Slot};

@@ -2,7 +2,7 @@
 ghost use Rattle.std.specs.Prelude.{◌≡◌, ◌↔◌, ℕ, IsTrue, Some, slice_get, slice_range};
 ghost use Rattle.disk_layout.specs.Rest.{slot_name};
 ghost use Rattle.disk_layout.specs.declared.slot.Slot.{Slot};
-ghost use Rattle.rel_records.specs.Listed.{IsStock, NeverGrows, is_plain};
+ghost use Rattle.disk_layout.specs.Listed.{IsStock, NeverGrows, is_plain};
 
 use disk_layout::{EntryView, Slot, padded_name};
 

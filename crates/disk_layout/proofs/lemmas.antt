@@ -8,3 +8,4 @@ pub mod growth
 pub mod counts
 pub mod kept
 pub mod blank
+pub mod whole

@@ -9,6 +9,7 @@ use Rattle.disk_layout.specs.Layout.{File, Layout}
 use Rattle.disk_layout.specs.Records.{empty_record, records}
 use Rattle.disk_layout.specs.Rest.{IsFirst}
 use Rattle.disk_layout.specs.Room.{IsTopOf}
+use Rattle.disk_layout.specs.Whole.{IsWhole}
 
 -- STOCK: its block ends with index 253, behind 14 records of 18 bytes
 abbrev pub stock_file : ℕ → File
@@ -44,6 +45,11 @@ pub record IsCleanBlank (img : Image) (n : ℕ) (blocks : List Place) : Type 0 w
 abbrev pub BlankIsClean : Type 0
 BlankIsClean = (old new : Image) (name id : List ℕ) (tills : ℕ) → 1 ≤ tills → tills ≤ 64 → IsImage new
     → (blank : IsBlank old new name id tills) → IsCleanBlank new (request_blocks tills) blank.blocks
+
+-- and all its files are whole
+abbrev pub BlankIsWhole : Type 0
+BlankIsWhole = (old new : Image) (name id : List ℕ) (tills : ℕ) → 1 ≤ tills → tills ≤ 64 → IsImage new
+    → IsBlank old new name id tills → IsWhole new
 
 -- the greatest record number of STOCK on the blank image, with so many tills: of the 664 sectors outside track 18
 -- REQUESTS

@@ -10,6 +10,7 @@ pub mod Fault
 pub mod Free
 pub mod InOrder
 pub mod Layout
+pub mod Listed
 pub mod Listing
 pub mod Map
 pub mod Number
@@ -21,3 +22,4 @@ pub mod Side
 pub mod Texts
 pub mod View
 pub mod Visited
+pub mod Whole

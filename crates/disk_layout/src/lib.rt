@@ -20,7 +20,7 @@ mod visited;
 pub use access::{read_sector, write_other, write_sector};
 pub use bam::Bam;
 pub use blank::blank_image;
-pub use blank_laws::{blank_has_top, blank_is_clean};
+pub use blank_laws::{blank_has_top, blank_is_clean, blank_is_whole};
 pub use chain::walk_chain;
 pub use chain_prefix::walk_as_far;
 pub use directory::{directory_start, map_place, read_directory};

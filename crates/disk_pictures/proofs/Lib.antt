@@ -13,12 +13,14 @@ pub mod Owned
 pub mod Owning
 pub mod Paddings
 pub mod PageMarkup
+pub mod PetsciiMarkup
 pub mod PlainBytes
 pub mod PosterMarkup
 pub mod PosterTold
 pub mod Printing
 pub mod Rows
 pub mod Shared
+pub mod SheetMarkup
 pub mod Sides
 pub mod Sound
 pub mod SoundPrinted

@@ -9,7 +9,7 @@ use Rattle.disk_pictures.proofs.PlainBytes.{no-quote, plain-escaped, plain-none}
 use Rattle.disk_pictures.specs.Html.{escaped, html_byte, html_of, is_long, plain_byte}
 use Rattle.disk_pictures.specs.Markup.{BeginsEscape, IsEscaped, is_markup, markup_of}
 
-both-none : (xs ys : List ℕ) → markup_of xs ≡ [] → markup_of ys ≡ [] → markup_of (xs ++ ys) ≡ []
+pub both-none : (xs ys : List ℕ) → markup_of xs ≡ [] → markup_of ys ≡ [] → markup_of (xs ++ ys) ≡ []
 both-none xs ys a b = filter-append is_markup xs ys ∙ rw (a, b) refl
 
 -- a character that isn't the quotation mark, escaped
@@ -27,7 +27,7 @@ digit-quote : (t : Bool) (n : ℕ) → nat_eq (if t then 48 + n else 87 + n) 34 
 digit-quote true n = ne_eqb (48 + n) 34 (λ e. omega (arith, e))
 digit-quote false n = ne_eqb (87 + n) 34 (λ e. omega (arith, e))
 
-byte-none : (p : Bool) (b : ℕ) → is_plain b ≡ p
+pub byte-none : (p : Bool) (b : ℕ) → is_plain b ≡ p
     → markup_of (flat_map escaped (if p then b ∷ [] else 92 ∷ digit (b / 16) ∷ digit (b % 16) ∷ [])) ≡ []
 byte-none true b plain =
     both-none (escaped b) [] (escaped-none b (no-quote _ _ (nat_eq b 34) (nat_eq b 92) plain)) refl
@@ -66,7 +66,7 @@ begins-more xs ys (rest, e) = (
   ],
 )
 
-both-escaped : (xs ys : List ℕ) → IsEscaped xs → IsEscaped ys → IsEscaped (xs ++ ys)
+pub both-escaped : (xs ys : List ℕ) → IsEscaped xs → IsEscaped ys → IsEscaped (xs ++ ys)
 both-escaped [] ys a b = b
 both-escaped (c ∷ cs) ys a b = (λ e. begins-more cs ys (a.0 e), both-escaped cs ys a.1 b)
 
@@ -82,7 +82,7 @@ escape-escaped false false true c amp =
     ((λ e. ([], inr (inr refl))), (no 103 _ refl, (no 116 _ refl, (no 59 _ refl, tt))))
 escape-escaped false false false c amp = (no c [] amp, tt)
 
-texts-escaped : (cs : List ℕ) → IsEscaped (flat_map escaped cs)
+pub texts-escaped : (cs : List ℕ) → IsEscaped (flat_map escaped cs)
 texts-escaped [] = tt
 texts-escaped (c ∷ cs) = both-escaped (escaped c) (flat_map escaped cs)
     (escape-escaped (nat_eq c 38) (nat_eq c 60) (nat_eq c 62) c refl) (texts-escaped cs)

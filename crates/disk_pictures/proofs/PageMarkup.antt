@@ -76,15 +76,6 @@ module _ (f g : Show) (same : (bytes : List ℕ) → IsSameMarkup (f bytes) (g b
   unfolding drawing_text
   on-drawing v map l = behind _ _ _ (before _ _ _ (each (file_group f l) (file_group g l) (on-file l) 0 l.files))
 
-  on-title : (map : Sector) → IsSameMarkup (title_text f map) (title_text g map)
-  unfolding title_text
-  on-title map =
-      let name = disk_name map in
-      behind (codes "<!DOCTYPE html>\n<html lang=\"en\">\n<meta charset=\"utf-8\">\n<meta name=\"viewport\" content=\"width=device-width,initial-scale=1\">\n<title>") _ _
-      (both (f name) (g name) _ _ (same name)
-      (behind (codes "</title>\n<style>") _ _ (behind style _ _ (behind dashes _ _ (behind (codes "</style>\n<h1>") _ _
-      (before (f name) (g name) _ (same name)))))))
-
   on-named : (file : Option File) → IsSameMarkup (named f file) (named g file)
   on-named None = alike []
   on-named (Some d) = same (name_of d.slot)
@@ -136,22 +127,37 @@ module _ (f g : Show) (same : (bytes : List ℕ) → IsSameMarkup (f bytes) (g b
       (behind (codes "</p>\n<main>\n<svg viewBox=\"-36600 -36600 73200 73200\" role=\"img\" aria-label=\"The disk as 35 rings of sectors, each in the colour of its file; the table lists the files\">\n<svg x=\"-6900\" y=\"-1200\" width=\"13800\" height=\"2400\" viewBox=\"-6900 -1200 13800 2400\"><text y=\"400\">") _ _
       (before (f name) (g name) (codes "</text></svg>\n<g transform=\"rotate(-90)\" aria-hidden=\"true\">\n") (same name)))))))))))
 
-  on-link : (k : ℕ) (name : List ℕ) → IsSameMarkup (link_text f k name) (link_text g k name)
+-- the parts with names as a C64 shows them
+module _ (f g : Show) (same : (bytes : List ℕ) → IsSameMarkup (f bytes) (g bytes)) (s u : Show)
+    (alike-signs : (bytes : List ℕ) → IsSameMarkup (s bytes) (u bytes)) where
+  on-title : (map : Sector) → IsSameMarkup (title_text f s map) (title_text g u map)
+  unfolding title_text
+  on-title map =
+      let name = disk_name map in
+      behind (codes "<!DOCTYPE html>\n<html lang=\"en\">\n<meta charset=\"utf-8\">\n<meta name=\"viewport\" content=\"width=device-width,initial-scale=1\">\n<title>") _ _
+      (both (f name) (g name) _ _ (same name)
+      (behind (codes "</title>\n<style>") _ _ (behind style _ _ (behind dashes _ _ (behind (codes "</style>\n<h1>") _ _
+      (both (f name) (g name) _ _ (same name)
+      (behind (codes "<bdi>") _ _ (before (s name) (u name) _ (alike-signs name)))))))))
+
+  on-link : (k : ℕ) (name : List ℕ) → IsSameMarkup (link_text f s k name) (link_text g u k name)
   unfolding link_text
   on-link k name =
       behind (codes "<a href=\"#f") _ _
-      (behind (decimal k) _ _ (behind (codes "\">") _ _ (before (f name) (g name) _ (same name))))
+      (behind (decimal k) _ _ (behind (codes "\">") _ _ (both (f name) (g name) _ _ (same name)
+      (behind (codes "</a><bdi>") _ _ (before (s name) (u name) _ (alike-signs name))))))
 
-  on-row : (k : ℕ) (d : File) → IsSameMarkup (row_text f k d) (row_text g k d)
+  on-row : (k : ℕ) (d : File) → IsSameMarkup (row_text f s k d) (row_text g u k d)
   unfolding row_text
   on-row k d =
       behind (codes "<tr><td><i class=\"") _ _
       (behind (look k) _ _ (behind (codes "\"></i></td><td>") _ _
       (behind (decimal (count_field d.slot)) _ _ (behind (codes "</td><td>") _ _
-      (before (link_text f k (name_of d.slot)) (link_text g k (name_of d.slot)) _ (on-link k (name_of d.slot)))))))
+      (before (link_text f s k (name_of d.slot)) (link_text g u k (name_of d.slot)) _ (on-link k (name_of d.slot)))))))
 
   pub on-page : (v : Option Fault) (map : Sector) (l : Layout)
-      → IsSameMarkup (page_text f v map l) (page_text g v map l)
+      → IsSameMarkup (page_text f s v map l) (page_text g u v map l)
   unfolding page_text
-  on-page v map l = both _ _ _ _ (on-title map) (both _ _ _ _ (on-told v map l) (both _ _ _ _ (on-drawing v map l)
-      (behind legend_text _ _ (before _ _ _ (each (row_text f) (row_text g) on-row 0 l.files)))))
+  on-page v map l = both _ _ _ _ (on-title map) (both _ _ _ _ (on-told f g same v map l)
+      (both _ _ _ _ (on-drawing f g same v map l)
+      (behind legend_text _ _ (before _ _ _ (each (row_text f s) (row_text g u) on-row 0 l.files)))))

@@ -9,20 +9,20 @@ use Rattle.disk_pictures.specs.Html.{html_byte, html_of, is_long, plain_byte}
 use Rattle.disk_pictures.specs.Markup.{IsEscaped, markup_of}
 
 -- no character that HTML is marked up or escaped by
-record IsQuiet (c : ℕ) : Type 0 where
+pub record IsQuiet (c : ℕ) : Type 0 where
   pub quote : c ≢ 34
   pub less : c ≢ 60
   pub greater : c ≢ 62
   pub amp : c ≢ 38
 
-quiet-none : (c : ℕ) (cs : List ℕ) → IsQuiet c → markup_of cs ≡ [] → markup_of (c ∷ cs) ≡ []
+pub quiet-none : (c : ℕ) (cs : List ℕ) → IsQuiet c → markup_of cs ≡ [] → markup_of (c ∷ cs) ≡ []
 quiet-none c cs q e =
     let a = ne_eqb c 34 q.quote in
     let b = ne_eqb c 60 q.less in
     let d = ne_eqb c 62 q.greater in
     rw (a, b, d) e
 
-quiet-escaped : (c : ℕ) (cs : List ℕ) → IsQuiet c → IsEscaped cs → IsEscaped (c ∷ cs)
+pub quiet-escaped : (c : ℕ) (cs : List ℕ) → IsQuiet c → IsEscaped cs → IsEscaped (c ∷ cs)
 quiet-escaped c cs q rest = (λ e. absurd (q.amp e), rest)
 
 digit-quiet : (n : ℕ) → IsQuiet (digit n)

@@ -7,6 +7,7 @@ use Rattle.disk_layout.specs.Layout.{File, Layout, count_field}
 use Rattle.disk_layout.specs.declared.faults.Fault.{Fault}
 use Rattle.disk_pictures.specs.Html.{html_of}
 use Rattle.disk_pictures.specs.Names.{disk_name, name_of}
+use Rattle.disk_pictures.specs.Petscii.{petscii_of}
 use Rattle.disk_pictures.specs.Pictures.{look}
 use Rattle.disk_pictures.specs.Posters.{line_left, line_start, line_top, poster_line, poster_told}
 use Rattle.disk_pictures.specs.Sentences.{summary_text}
@@ -31,7 +32,8 @@ pub line-written : (k : ℕ) (f : File) (count byte : ℕ) (name : List ℕ)
     → count ≡ count_field f.slot → byte ≡ type_byte f.slot → name ≡ name_of f.slot
     → line_start k ++ (codes "<text class=\"e\" x=\"10\" y=\"2.3\">" ++ (decimal count
     ++ (codes "</text><text x=\"11.5\" y=\"2.3\">" ++ (type_text (codes "&lt;") byte
-    ++ (codes "</text><text x=\"19\" y=\"2.3\">" ++ (html_of name ++ codes "</text></svg>\n"))))))
-    ≡ poster_line html_of k f
+    ++ (codes "</text><svg x=\"19\" width=\"22\" height=\"3\"><text y=\"2.3\">" ++ (html_of name
+    ++ (codes "</text></svg><text x=\"41.5\" y=\"2.3\">" ++ (petscii_of name ++ codes "</text></svg>\n"))))))))
+    ≡ poster_line html_of petscii_of k f
 unfolding poster_line
 line-written k f count byte name a b c = rw (a, b, c) refl

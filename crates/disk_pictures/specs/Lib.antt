@@ -7,9 +7,12 @@ pub mod Markup
 pub mod Names
 pub mod Outcomes
 pub mod Owners
+pub mod Petscii
 pub mod Pictures
 pub mod Posters
 pub mod Sectors
 pub mod Sentences
 pub mod Sharing
+pub mod Sheets
 pub mod Texts
+pub mod Tiles

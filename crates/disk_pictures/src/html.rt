@@ -12,9 +12,11 @@ pub(crate) struct Html<'a>(pub &'a [u8]);
 
 /// A byte of the disk in HTML, escaped or without an escape.
 #[derive(Clone, Copy)]
-struct HtmlByte {
-    byte: u8,
-    escaped: bool,
+pub(crate) struct HtmlByte {
+    /// The byte.
+    pub(crate) byte: u8,
+    /// Whether it is escaped.
+    pub(crate) escaped: bool,
 }
 
 impl Display for HtmlByte {

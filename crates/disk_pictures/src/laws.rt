@@ -11,25 +11,32 @@ ghost use Rattle.disk_pictures.specs.Drawings.{IsDrawn, IsDrawnOnce, IsOwnedBy, 
 ghost use Rattle.disk_pictures.specs.Html.{Show, html_of};
 ghost use Rattle.disk_pictures.specs.Maps.{IsEntrys, entry_mark, is_wide, sector_mark};
 ghost use Rattle.disk_pictures.specs.Markup.{IsEscaped, markup_of};
+ghost use Rattle.disk_pictures.specs.Petscii.{petscii_of};
 ghost use Rattle.disk_pictures.specs.Pictures.{drawing_text, page_text, picture_page};
 ghost use Rattle.disk_pictures.specs.Posters.{poster_of, poster_text};
 ghost use Rattle.disk_pictures.specs.Sectors.{as_printed, by_number, drawing_by, times};
+ghost use Rattle.disk_pictures.specs.Sheets.{refused_tile, tile_text};
 ghost use Rattle.disk_pictures.specs.Texts.{is_fault_at};
 ghost use Rattle.disk_pictures.specs.declared.owners.Owner.{Owner};
 ghost use Rattle.disk_pictures.specs.declared.owners.Owner.TheVariants as kinds;
 
-/// Bytes of a disk have no quotation mark, no `<` and no `>` where they are shown in a page, and each `&` of theirs
-/// begins an escape; a name of at most 16 bytes takes at most 48. So the markup of the page, or of the poster, of an image,
+/// Bytes of a disk have no quotation mark, no `<` and no `>` where they are shown in a page, as typed or as a C64 shows
+/// them, and each `&` of theirs begins an escape; a name of at most 16 bytes takes at most 48 as it is typed. So the markup of the page, the poster or the tile of an image,
 /// whatever its bytes are, is that of the one in which none of them is shown: names, id and version of a disk bring in nothing but
 /// text.
 pub fn names_bring_no_markup()
     ensures none { (bytes : List ℕ) → markup_of (html_of bytes) ≡ [] }
     ensures escaped { (bytes : List ℕ) → IsEscaped (html_of bytes) }
+    ensures signs { (bytes : List ℕ) → (markup_of (petscii_of bytes) ≡ []) × IsEscaped (petscii_of bytes) }
     ensures short { (bytes : List ℕ) → length bytes ≤ 16 → length (html_of bytes) ≤ 48 }
     ensures page { (v : Option Fault) (map : Sector) (l : Layout)
-        → markup_of (picture_page v map l) ≡ markup_of (page_text (λ _. []) v map l) }
+        → markup_of (picture_page v map l) ≡ markup_of (page_text (λ _. []) (λ _. []) v map l) }
     ensures poster { (v : Option Fault) (map : Sector) (l : Layout)
-        → markup_of (poster_of v map l) ≡ markup_of (poster_text (λ _. []) v map l) }
+        → markup_of (poster_of v map l) ≡ markup_of (poster_text (λ _. []) (λ _. []) v map l) }
+    ensures tile { (path : List ℕ) (v : Option Fault) (map : Sector) (l : Layout)
+        → markup_of (tile_text html_of petscii_of path v map l) ≡ markup_of (tile_text (λ _. []) (λ _. []) path v map l) }
+    ensures refused { (path told : List ℕ)
+        → markup_of (refused_tile html_of path told) ≡ markup_of (refused_tile (λ _. []) path told) }
 {}
 
 /// Of what is drawn of an image each sector of the disk has the one owner that it is drawn as, which has it; and

@@ -16,14 +16,17 @@ mod others;
 mod output;
 mod owners;
 mod page;
+mod petscii;
 mod picture_printing;
 mod poster;
 mod poster_printing;
 mod reading;
 mod sentences;
 mod sharing;
+mod sheet_printing;
 mod signs;
 mod texts;
+mod tiles;
 mod verdicts;
 mod white_lines;
 
@@ -35,3 +38,4 @@ pub use laws::{
 pub use map_printing::map_image;
 pub use picture_printing::picture_image;
 pub use poster_printing::poster_image;
+pub use sheet_printing::{MOST_TILES, sheet_begin, sheet_finish, sheet_refusal, sheet_tile};

@@ -3,6 +3,7 @@ ghost use Rattle.std.specs.Prelude.{◌≡◌, Some};
 ghost use Rattle.disk_pictures.specs.Drawings.{file_in};
 ghost use Rattle.disk_pictures.specs.Held.{drawn_in};
 ghost use Rattle.disk_pictures.specs.Html.{html_of};
+ghost use Rattle.disk_pictures.specs.Petscii.{petscii_of};
 ghost use Rattle.disk_pictures.specs.Pictures.{cells_text, link_text, row_text, title_text, told_text, verdict_class};
 
 use crate::arcs::Look;
@@ -10,6 +11,7 @@ use crate::drawing::Drawing;
 use crate::drawn_file::DrawnFile;
 use crate::html::Html;
 use crate::names::{entry_name, header_name};
+use crate::petscii::Petscii;
 use crate::sentences::Summary;
 use crate::texts::{TypeText, VerdictText};
 use disk_layout::{BamView, EntryView, Fault};
@@ -19,7 +21,7 @@ use std::fmt::{self, Display, Formatter};
 /// stay apart for people who are colour-blind, and one of four shapes.
 const STYLE: &str = ":root{color-scheme:light dark}body{margin:24px;background:#fbfaf7;color:#222;\
     font:14px/1.4 ui-monospace,Menlo,Consolas,\"DejaVu Sans Mono\",monospace}h1{font-size:20px;margin:0}\
-    p{margin:4px 0 12px}a{color:inherit}main{display:grid;gap:16px 32px;\
+    h1,p{overflow-wrap:anywhere}bdi:not(:empty){margin-left:2ch}p{margin:4px 0 12px}a{color:inherit}main{display:grid;gap:16px 32px;\
     grid-template-columns:minmax(0,720px) minmax(0,1fr)}main>div{max-height:calc(100vh - 130px);overflow:auto}\
     main>svg{width:100%;height:auto}table{border-collapse:collapse}td,th{padding:1px 8px;text-align:right;\
     white-space:pre}tr>:nth-child(3),tr>:nth-child(4){text-align:left}td a{display:inline-block;max-width:20ch;\
@@ -59,7 +61,8 @@ const STYLE: &str = ":root{color-scheme:light dark}body{margin:24px;background:#
     .c10{stroke:#a5fdbe;color:#a5fdbe}.c10 .s{stroke:#d2fede}.c11{stroke:#fff700;color:#fff700}.c11 .s{stroke:#fffb80}}\
     @page{size:A4;margin:10mm}@media print{*{print-color-adjust:exact;-webkit-print-color-adjust:exact}body{margin:0;\
     font-size:10px}main{display:block}main>svg{display:block;width:130mm;margin:0 auto}main>div{max-height:none;\
-    overflow:visible;columns:60mm;font-size:7px;line-height:1.15}td,th{padding:0 3px}i{width:9px;height:7px}\
+    overflow:visible;columns:90mm;font-size:7px;line-height:1.15}main>div:has(tr:nth-child(81)){columns:60mm}\
+    main>div:has(tr:nth-child(81)) bdi{display:none}td,th{padding:0 3px}i{width:9px;height:7px}\
     i.w1{padding:1px 0}i.w2{padding:2px 0}i.w3{padding:0 3px}.hint,.all{display:none}}";
 
 /// The dash of each ring: the arc of a sector less 200, and then nothing; and half as long, for entries of the fourth
@@ -123,7 +126,7 @@ pub(crate) const END: &str = "</table>\n<p class=\"all\"><a href=\"#all\">Show a
     </div>\n</main>\n";
 
 /// How what a check told is styled.
-fn class_of(found: Option<Fault>) -> &'static str
+pub(crate) fn class_of(found: Option<Fault>) -> &'static str
     ensures { result.now ≡ verdict_class found }
 {
     match found {
@@ -132,20 +135,21 @@ fn class_of(found: Option<Fault>) -> &'static str
     }
 }
 
-/// The head of the page, from 18/0: the disk's name and the style.
+/// The head of the page, from 18/0: the disk's name, as it is typed and as a C64 shows it, and the style.
 #[derive(Clone, Copy)]
 pub(crate) struct Title<'a>(pub &'a [u8; 256]);
 
 impl Display for Title<'_> {
-    ghost output = { λ title. Some (title_text html_of title.0.now) };
+    ghost output = { λ title. Some (title_text html_of petscii_of title.0.now) };
 
     fn fmt<W: fmt::Write>(&self, f: &mut Formatter<W>) -> fmt::Result {
-        let name = Html(header_name(self.0));
+        let bytes = header_name(self.0);
+        let (name, signs) = (Html(bytes), Petscii(bytes));
         write!(
             f,
             "<!DOCTYPE html>\n<html lang=\"en\">\n<meta charset=\"utf-8\">\n\
             <meta name=\"viewport\" content=\"width=device-width,initial-scale=1\">\n<title>{name}</title>\n\
-            <style>{STYLE}{DASHES}</style>\n<h1>{name}</h1>\n<p>1541 disk, id "
+            <style>{STYLE}{DASHES}</style>\n<h1>{name}<bdi>{signs}</bdi></h1>\n<p>1541 disk, id "
         )
     }
 }
@@ -200,7 +204,7 @@ impl Display for Cells<'_> {
     }
 }
 
-/// The name of an entry, which leads to its group.
+/// The name of an entry, which leads to its group, and beside it as a C64 shows it.
 #[derive(Clone, Copy)]
 struct Link<'a> {
     number: usize,
@@ -208,10 +212,15 @@ struct Link<'a> {
 }
 
 impl Display for Link<'_> {
-    ghost output = { λ link. Some (link_text html_of link.number link.name.now) };
+    ghost output = { λ link. Some (link_text html_of petscii_of link.number link.name.now) };
 
     fn fmt<W: fmt::Write>(&self, f: &mut Formatter<W>) -> fmt::Result {
-        write!(f, "<a href=\"#f{}\">{}</a>", self.number, Html(self.name))
+        let (name, signs) = (Html(self.name), Petscii(self.name));
+        write!(
+            f,
+            "<a href=\"#f{}\">{name}</a><bdi>{signs}</bdi>",
+            self.number
+        )
     }
 }
 
@@ -225,7 +234,7 @@ pub(crate) struct Row<'a> {
 }
 
 impl Display for Row<'_> {
-    ghost output = { λ entry. Some (row_text html_of entry.number (file_in entry.file.now)) };
+    ghost output = { λ entry. Some (row_text html_of petscii_of entry.number (file_in entry.file.now)) };
 
     fn fmt<W: fmt::Write>(&self, f: &mut Formatter<W>) -> fmt::Result {
         let entry = EntryView::new(&self.file.slot.bytes);

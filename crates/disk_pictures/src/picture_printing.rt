@@ -6,6 +6,7 @@ ghost use Rattle.disk_layout.specs.Layout.{IsLayout, Layout};
 ghost use Rattle.disk_pictures.specs.Drawings.{file_in};
 ghost use Rattle.disk_pictures.specs.Held.{drawn_in};
 ghost use Rattle.disk_pictures.specs.Html.{html_of};
+ghost use Rattle.disk_pictures.specs.Petscii.{petscii_of};
 ghost use Rattle.disk_pictures.specs.Outcomes.{IsPictureFault, IsPicturePrinted, map_in};
 ghost use Rattle.disk_pictures.specs.Pictures.{drawing_text, fault_group, file_group, group_head};
 ghost use Rattle.disk_pictures.specs.Pictures.{own_block, own_side, picture_page, row_text, system_group};
@@ -187,7 +188,7 @@ fn put_files<W: Write>(out: &mut W, drawing: &Drawing) -> Result<(), PictureFaul
 /// Prints the rows of the table.
 fn put_rows<W: Write>(out: &mut W, files: &[DrawnFile]) -> Result<(), PictureFault>
     ensures ok { OnOk result (Appends (W.contents out.old) (W.contents out.new)
-        (numbered (row_text html_of) 0 (map file_in files.now))) }
+        (numbered (row_text html_of petscii_of) 0 (map file_in files.now))) }
     ensures err { IfErr result (λ fault. fault ≡ faults.File) }
 {
     for (number, file) in files.iter().enumerate() {
@@ -246,7 +247,7 @@ fn put_page<W: Write>(
 /// Prints the disk as one HTML page with an SVG drawing: 35 rings, an arc for each sector, a colour and a width for each
 /// entry, its side sectors in another shade, the fault in red. If you point at a sector, it shows its place and its
 /// owner; a click on a name shows that entry alone. The page has no script and loads nothing, and names of the disk stand in it
-/// as text alone. What a check of the disk tells stands in it, and is answered too. A disk that is hurt is drawn as far
+/// as text alone, as they are typed and as a C64 shows them. What a check of the disk tells stands in it, and is answered too. A disk that is hurt is drawn as far
 /// as its links go; of a sound one it is the page of its layout.
 ///
 /// `ImageSize`; `NoMemory`; `Layout` where the directory's sectors aren't a chain on track 18: nothing was printed

@@ -3,6 +3,7 @@ ghost use Rattle.std.specs.Prelude.{◌≡◌, Some};
 ghost use Rattle.disk_pictures.specs.Drawings.{file_in};
 ghost use Rattle.disk_pictures.specs.Held.{drawn_in};
 ghost use Rattle.disk_pictures.specs.Html.{html_of};
+ghost use Rattle.disk_pictures.specs.Petscii.{petscii_of};
 ghost use Rattle.disk_pictures.specs.Posters.{line_left, line_start, line_top, poster_head, poster_line, poster_told};
 
 use crate::arcs::Look;
@@ -11,6 +12,7 @@ use crate::drawn_file::DrawnFile;
 use crate::html::Html;
 use crate::names::{entry_name, header_name};
 use crate::page::DASHES;
+use crate::petscii::Petscii;
 use crate::sentences::Summary;
 use crate::texts::TypeText;
 use disk_layout::{BamView, EntryView, Fault};
@@ -54,22 +56,23 @@ pub(crate) const LEGEND: &str =
 /// The end of the poster.
 pub(crate) const END: &str = "</svg>\n";
 
-/// The head of the poster, from 18/0: the disk's name and the style.
+/// The head of the poster, from 18/0: the disk's name, as it is typed and as a C64 shows it, and the style.
 #[derive(Clone, Copy)]
 pub(crate) struct Head<'a>(pub &'a [u8; 256]);
 
 impl Display for Head<'_> {
-    ghost output = { λ head. Some (poster_head html_of head.0.now) };
+    ghost output = { λ head. Some (poster_head html_of petscii_of head.0.now) };
 
     fn fmt<W: fmt::Write>(&self, f: &mut Formatter<W>) -> fmt::Result {
-        let name = Html(header_name(self.0));
+        let bytes = header_name(self.0);
+        let (name, signs) = (Html(bytes), Petscii(bytes));
         write!(
             f,
             "<svg xmlns=\"http://www.w3.org/2000/svg\" width=\"297mm\" height=\"420mm\" viewBox=\"0 0 297 420\">\n\
             <title>{name}</title>\n<style>{STYLE}{DASHES}</style>\n\
             <rect class=\"paper\" width=\"297\" height=\"420\"/>\n\
             <text class=\"name\" x=\"148.5\" y=\"24\">{name}</text>\n\
-            <text class=\"told\" x=\"148.5\" y=\"33\">1541 disk, id "
+            <text class=\"told\" x=\"148.5\" y=\"33\"><tspan>{signs}</tspan> 1541 disk, id "
         )
     }
 }
@@ -138,7 +141,7 @@ impl Display for LineStart {
     }
 }
 
-/// The line of an entry.
+/// The line of an entry: its block count, its type, and its name, as it is typed and as a C64 shows it.
 #[derive(Clone, Copy)]
 pub(crate) struct Line<'a> {
     /// The entry's number.
@@ -148,10 +151,11 @@ pub(crate) struct Line<'a> {
 }
 
 impl Display for Line<'_> {
-    ghost output = { λ entry. Some (poster_line html_of entry.number (file_in entry.file.now)) };
+    ghost output = { λ entry. Some (poster_line html_of petscii_of entry.number (file_in entry.file.now)) };
 
     fn fmt<W: fmt::Write>(&self, f: &mut Formatter<W>) -> fmt::Result {
         let entry = EntryView::new(&self.file.slot.bytes);
+        let name = entry_name(&self.file.slot);
         let kind = TypeText {
             byte: entry.type_byte(),
             locked: "&lt;",
@@ -159,10 +163,12 @@ impl Display for Line<'_> {
         writeln!(
             f,
             "{}<text class=\"e\" x=\"10\" y=\"2.3\">{}</text><text x=\"11.5\" y=\"2.3\">{kind}</text>\
-            <text x=\"19\" y=\"2.3\">{}</text></svg>",
+            <svg x=\"19\" width=\"22\" height=\"3\"><text y=\"2.3\">{}</text></svg>\
+            <text x=\"41.5\" y=\"2.3\">{}</text></svg>",
             LineStart(self.number),
             entry.block_count(),
-            Html(entry_name(&self.file.slot))
+            Html(name),
+            Petscii(name)
         )
     }
 }

@@ -6,6 +6,7 @@ ghost use Rattle.disk_layout.specs.Layout.{IsLayout, Layout};
 ghost use Rattle.disk_pictures.specs.Drawings.{file_in};
 ghost use Rattle.disk_pictures.specs.Held.{drawn_in};
 ghost use Rattle.disk_pictures.specs.Html.{html_of};
+ghost use Rattle.disk_pictures.specs.Petscii.{petscii_of};
 ghost use Rattle.disk_pictures.specs.Outcomes.{IsPictureFault, IsPosterPrinted, map_in};
 ghost use Rattle.disk_pictures.specs.Posters.{poster_line, poster_of};
 ghost use Rattle.disk_pictures.specs.Texts.{numbered};
@@ -25,7 +26,7 @@ use std::io::Write;
 /// Prints the lines of the entries.
 fn put_lines<W: Write>(out: &mut W, files: &[DrawnFile]) -> Result<(), PictureFault>
     ensures ok { OnOk result (Appends (W.contents out.old) (W.contents out.new)
-        (numbered (poster_line html_of) 0 (map file_in files.now))) }
+        (numbered (poster_line html_of petscii_of) 0 (map file_in files.now))) }
     ensures err { IfErr result (λ fault. fault ≡ faults.File) }
 {
     for (number, file) in files.iter().enumerate() {

@@ -9,7 +9,6 @@ pub mod Openings
 pub mod Opens
 pub mod Orders
 pub mod Refusals
-pub mod RepairWhole
 pub mod Rows
 pub mod Steady
 pub mod Wishes

@@ -4,7 +4,7 @@ use Rattle.std.specs.Prelude.{ℕ, ◌≤◌, ◌+◌, ◌⊎◌}
 use Rattle.d64_image.specs.History as devices
 use Rattle.d64_image.specs.History.{History}
 use Rattle.d64_image.specs.Images.{Image}
-use Rattle.rel_records.specs.Whole.{IsWhole}
+use Rattle.disk_layout.specs.Whole.{IsWhole}
 
 -- From old to new the device held only images that have P.
 pub record HeldOnly {D : Type 0} (S : History D) (old new : D) (P : Image → Type 0) : Type 0 where

@@ -5,13 +5,15 @@ use Rattle.std.specs.Prelude.{OnOk}
 use Rattle.std.specs.Io.KnownBytes.{Appends}
 use Rattle.std.proofs.KnownBytes.{Appends-nil, Appends-trans}
 use Rattle.std.proofs.lemmas.List.{length-append}
-use Rattle.d64_image.proofs.Moments.{changes_then, changes_weaker, no_change, no_write, no_write_then}
+use Rattle.d64_image.proofs.Moments.{at_end, changes_then, changes_weaker, no_change, no_write, no_write_then, start}
+use Rattle.d64_image.proofs.Moments.{then}
 use Rattle.d64_image.specs.History.{History}
 use Rattle.d64_image.specs.Images.{Image}
 use Rattle.disk_layout.proofs.lemmas.layouts.Layouts.{IsLayout-one}
 use Rattle.disk_layout.specs.Clean.{IsClean, IsCleanLayout}
 use Rattle.disk_layout.specs.Layout.{File, IsLayout, Layout, record_length}
 use Rattle.disk_layout.specs.Records.{records}
+use Rattle.disk_layout.specs.Whole.{IsWhole}
 use Rattle.rel_records.proofs.lemmas.Kept.{has_same, keeps_same, leaves_leaves, leaves_then, places-stay}
 use Rattle.rel_records.proofs.lemmas.growth.Grows.{had-of, count-is}
 use Rattle.rel_records.proofs.lemmas.writing.Grown.{size-kept}
@@ -60,6 +62,7 @@ module _ {D W : Type 0} (S : History D) (contents : W → Option (List ℕ)) (l 
   none-stored a o v clean of = record {
     ok = (leaves-same (S.image a) l n f v clean of, refl, Appends-nil (contents o));
     moments = no_change S a _ (records (S.image a) f, refl, has_same (S.image a) l n f v of);
+    whole = λ h. start S a IsWhole h;
     quiet = λ so. no_write S a;
     clean = tt;
     told = refl;
@@ -74,6 +77,7 @@ module _ {D W : Type 0} (S : History D) (contents : W → Option (List ℕ)) (l 
     moments = changes_weaker S a c (2 * length xs) (2 * length (xs ++ ys)) _ _ (omega (arith, length-append xs ys))
         (λ i (ts, part, has). (ts, part-front (record_length f.slot) xs ys (records (S.image a) f) ts part, has))
         s.moments;
+    whole = s.whole;
     quiet = λ so. s.quiet (so-front (record_length f.slot) (records (S.image a) f) xs ys so);
     clean = s.clean;
     told = s.told;
@@ -133,6 +137,7 @@ module _ {D W : Type 0} (S : History D) (contents : W → Option (List ℕ)) (l 
             (λ i (ts, part, has). (ts, part-front (record_length f.slot) xs ys (records (S.image a) f) ts part, has))
             first.moments)
             (changes_weaker S b c (2 * length ys) (2 * length ys) _ _ (omega arith) behind second.moments);
+        whole = λ h. then S a b c IsWhole (first.whole h) (second.whole (at_end S a b IsWhole (first.whole h)));
         quiet = λ so. no_write_then S a b c
             (first.quiet (so-front (record_length f.slot) (records (S.image a) f) xs ys so))
             (second.quiet (both-so so));

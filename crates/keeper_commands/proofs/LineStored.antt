@@ -65,6 +65,7 @@ module _ {D W : Type 0} (S : History D) (contents : W → Option (List ℕ)) (a 
   line-failed fault one = record {
     ok = tt;
     moments = moments-one one.moments;
+    whole = one.whole;
     quiet = λ so. one.quiet so.0;
     clean = λ e. absurd (device-no-file fault one.err e);
     told = subst (λ (e : KeepFault). TellsKeep {T = Unit {0}} S a d (Err e)) (sym one.err)
@@ -81,6 +82,7 @@ module _ {D W : Type 0} (S : History D) (contents : W → Option (List ℕ)) (a 
           (one-same (record_length f.slot) x (records (S.image a) f) one.ok.2) (Appends-nil (contents o)),
     );
     moments = moments-one one.moments;
+    whole = one.whole;
     quiet = λ so. one.quiet so.0;
     clean = tt;
     told = one.told;
@@ -98,6 +100,7 @@ module _ {D W : Type 0} (S : History D) (contents : W → Option (List ℕ)) (a 
           (one-line_text (record_length f.slot) x (records (S.image a) f) one.ok.2) printed,
     );
     moments = moments-one one.moments;
+    whole = one.whole;
     quiet = λ so. one.quiet so.0;
     clean = tt;
     told = one.told;
@@ -109,6 +112,7 @@ module _ {D W : Type 0} (S : History D) (contents : W → Option (List ℕ)) (a 
   line-unprinted one = record {
     ok = tt;
     moments = moments-one one.moments;
+    whole = one.whole;
     quiet = λ so. one.quiet so.0;
     clean = λ e. (one.ok.0.layout, one.ok.0.clean);
     told = one.told;

@@ -4,12 +4,13 @@ use Rattle.std.proofs.Common.{Result, Ok, Err, true, false, length, refl, subst,
 use Rattle.std.specs.Prelude.{is_err}
 use Rattle.std.proofs.Math.Nat.{suc-mul}
 use Rattle.std.proofs.lemmas.List.{append-nil}
-use Rattle.d64_image.proofs.Moments.{changes_weaker, failed_later, reads_change, reads_no_write}
+use Rattle.d64_image.proofs.Moments.{changes_weaker, failed_later, reads_change, reads_no_write, then, weaker}
 use Rattle.d64_image.specs.History.{Changes, Failed, History}
 use Rattle.d64_image.specs.Images.{Image}
 use Rattle.disk_layout.specs.Clean.{IsClean}
 use Rattle.disk_layout.specs.Layout.{File, Layout, record_length}
 use Rattle.disk_layout.specs.Records.{records}
+use Rattle.disk_layout.specs.Whole.{HoldsWhole, IsWhole}
 use Rattle.rel_records.proofs.lemmas.Kept.{has_same}
 use Rattle.rel_records.proofs.lemmas.growth.RunCosts.{added-none, growth-none}
 use Rattle.rel_records.proofs.lemmas.growth.Grows.{had-of, count-is}
@@ -81,6 +82,13 @@ writing-over i c l n f x le (inr (inr (has, kept))) = (
       (grown-none i f x.number le) has,
 )
 
+-- where no record is added, whole files stay so
+writing-whole : (i c : Image) (l : Layout) (n : ℕ) (f : File) (m r pos : ℕ) (text : List ℕ) → m ≡ 0
+    → IsWriting i l n f m r pos text c → IsWhole i → IsWhole c
+writing-whole i c l n f m r pos text none (inl (k, few, has, kept)) w = kept (λ never. none) w
+writing-whole i c l n f m r pos text none (inr (inl (has, kept))) w = kept (λ never. none) w
+writing-whole i c l n f m r pos text none (inr (inr (has, kept))) w = kept (λ never. none) w
+
 is-done : (r : Result (Unit {0}) RelFault) → is_err r ≡ false → IsDone r
 is-done (Ok x) ok = tt
 is-done (Err e) ok = absurd cc
@@ -132,6 +140,7 @@ module _ {D : Type 0} (S : History D) (a b : D) (l : Layout) (n : ℕ) (f : File
   not-read err = record {
     ok = tt;
     moments = as-it-is;
+    whole = λ h. (reads_change S a b 3 IsWhole read.reads h).held;
     quiet = λ so. reads_no_write S a b 3 read.reads;
     err = refl;
     told = read-fails S r a b (records (S.image a) f) x.number read.failures read.told (read.not_present l n f of) low
@@ -159,6 +168,7 @@ module _ {D : Type 0} (S : History D) (a b : D) (l : Layout) (n : ℕ) (f : File
         sym (so-unchanged (record_length f.slot) (records (S.image a) f) x text there.there long fits same),
       );
       moments = as-it-is;
+      whole = λ h. (reads_change S a b 3 IsWhole read.reads h).held;
       quiet = λ so. reads_no_write S a b 3 read.reads;
       err = tt;
       told = ok-told S a b r read.failures ok;
@@ -183,6 +193,13 @@ module _ {D : Type 0} (S : History D) (a b : D) (l : Layout) (n : ℕ) (f : File
           (λ i h. writing-over (S.image b) i l n f x reached h)
           (wrote.file l n f of-read).moments)
 
+      held-whole : HoldsWhole S a d
+      held-whole h = then S a b d IsWhole (reads_change S a b 3 IsWhole read.reads h).held
+          (weaker S b d (IsWriting (S.image b) l n f (added (record_length f.slot) (records_had f) x.number) x.number 1
+          x.bytes) IsWhole (λ i held. writing-whole (S.image b) i l n f _ x.number 1 x.bytes
+          (added-none (record_length f.slot) (records_had f) x.number reached) held
+          (subst IsWhole (sym read.reads.image) h)) (wrote.file l n f of-read).moments.held)
+
       not-so : IsSo (record_length f.slot) (records (S.image a) f) x → ⊥
       not-so so = other-not_so (record_length f.slot) (records (S.image a) f) x text there.there long fits other so
 
@@ -191,6 +208,7 @@ module _ {D : Type 0} (S : History D) (a b : D) (l : Layout) (n : ℕ) (f : File
       not-written err = record {
         ok = tt;
         moments = over;
+        whole = held-whole;
         quiet = λ so. absurd (not-so so);
         err = refl;
         told = failed_later S a b d (ok-told S a b r read.failures ok) (write-fails S b d l n f v w x s of-read reached
@@ -210,6 +228,7 @@ module _ {D : Type 0} (S : History D) (a b : D) (l : Layout) (n : ℕ) (f : File
           sym (other-changed (record_length f.slot) (records (S.image a) f) x text there.there long fits other),
         );
         moments = over;
+        whole = held-whole;
         quiet = λ so. absurd (not-so so);
         err = tt;
         told = ok-told S b d s wrote.failures done ∙ ok-told S a b r read.failures ok;

@@ -11,6 +11,7 @@ use Rattle.disk_layout.specs.Directory.{map_place}
 use Rattle.disk_layout.specs.Fault.{Holds, TellsFault, nowhere}
 use Rattle.disk_layout.specs.InOrder.{GoesOver, IsUnderWay}
 use Rattle.disk_layout.specs.Layout.{IsLayout, IsSound, Layout}
+use Rattle.disk_layout.specs.Whole.{IsWhole}
 use Rattle.disk_layout.specs.declared.faults.Fault.{Fault}
 use Rattle.disk_layout.specs.declared.faults.Fault.TheVariants as faults
 use Rattle.layout_check.specs.Mended.{IsMended}
@@ -68,6 +69,7 @@ module _ {D : Type 0} (S : History D) where
     err = tt;
     moments = h.moments;
     frees = λ _. h.frees;
+    whole = h.whole;
     order = h.order;
     spare = h.spare;
     unsound = h.unsound;
@@ -78,6 +80,7 @@ module _ {D : Type 0} (S : History D) where
     err = h.err;
     moments = h.moments;
     frees = λ _. h.frees;
+    whole = h.whole;
     order = h.order;
     spare = h.spare;
     unsound = h.unsound;
@@ -105,6 +108,7 @@ module _ {D : Type 0} (S : History D) where
     err = tt;
     moments = h.moments;
     frees = λ e. absurd (false≢true (sym e));
+    whole = h.whole;
     order = freed-order a b h.order;
     spare = h.spare;
     unsound = h.unsound;
@@ -117,6 +121,7 @@ module _ {D : Type 0} (S : History D) where
     err = h.err;
     moments = h.moments;
     frees = λ e. absurd (false≢true (sym e));
+    whole = h.whole;
     order = freed-order a b h.order;
     spare = h.spare;
     unsound = h.unsound;
@@ -139,6 +144,7 @@ module _ {D : Type 0} (S : History D) where
       plain = plain;
       moments = λ l is. changes-quiet a b c 883 (IsMended (S.image a) l) (mends.moments l is) quiet;
       frees = λ kept. changes-quiet a b c 883 (FreesNothing (S.image a)) (mends.frees kept) quiet;
+      whole = λ w. held-quiet a b c IsWhole (mends.whole w) quiet;
       order = λ l strays is are. over-quiet a b c (IsRightBut strays l) (repair_order l) (mends.order l strays is are)
           quiet;
       unsound = λ no_layout. changes-quiet a b c 0 (λ i. i ≡ S.image a) (left-alone no_layout) quiet;
@@ -150,6 +156,7 @@ module _ {D : Type 0} (S : History D) where
       plain = plain;
       moments = mends.moments;
       frees = mends.frees;
+      whole = mends.whole;
       order = mends.order;
       unsound = left-alone;
     }

@@ -1,20 +1,23 @@
 -- The file that a text is stored in: it is found, its lines are judged, and it grows; or why not.
 use Rattle.std.proofs.Common.{◌≡◌, ◌≢◌, ◌≤◌, ◌⊎◌, ⊎_elim, inl, inr, ℕ, ◌+◌, ◌*◌, List, Result, Ok, Err, length}
 use Rattle.std.proofs.Common.{refl, subst, sym, ap, arith}
-use Rattle.d64_image.proofs.Moments.{changes_weaker, failed_later, no_write_then, reads_no_write}
+use Rattle.d64_image.proofs.Moments.{changes_weaker, failed_later, no_write_then, reads_change, reads_no_write, then, weaker}
 use Rattle.d64_image.specs.History.{Changes, History, WritesNothing}
 use Rattle.d64_image.specs.Images.{Image}
 use Rattle.disk_layout.specs.Clean.{IsClean}
 use Rattle.disk_layout.specs.Layout.{File, Layout, record_length}
+use Rattle.disk_layout.specs.Listed.{HasStock, NeverGrows}
 use Rattle.disk_layout.specs.Rest.{IsFirst}
+use Rattle.disk_layout.specs.Whole.{HoldsWhole, IsWhole}
 use Rattle.rel_records.proofs.lemmas.Kept.{growing_same}
 use Rattle.rel_records.proofs.lemmas.growth.Grows.{had-of}
+use Rattle.rel_records.proofs.lemmas.growth.RunCosts.{added-none}
 use Rattle.rel_records.proofs.lemmas.writing.Composed.{reads_first}
 use Rattle.rel_records.proofs.lemmas.writing.Grown.{size-kept}
 use Rattle.rel_records.specs.Calls.{FindsFile, Grows}
 use Rattle.rel_records.specs.File.{IsFileOf, entry_of, length_of, records_in}
 use Rattle.rel_records.specs.Others.{LeavesRecords}
-use Rattle.rel_records.specs.Written.{grown_to}
+use Rattle.rel_records.specs.Written.{IsGrowingTo, grown_to}
 use Rattle.rel_records.specs.declared.faults.RelFault.{RelFault}
 use Rattle.rel_records.specs.declared.faults.RelFault.TheVariants as rel
 use Rattle.rel_records.specs.declared.rel_file.RelFile.{RelFile}
@@ -105,8 +108,9 @@ module _ {D W : Type 0} (S : History D) (image name text : List ℕ) (a b : D) (
 
       abbrev pub run-over : (d : D) → Changes S b d (growth_writes it.0 (greatest xs) + 2 * length (last_ones xs))
           (IsStoring (S.image b) clean.0 (entry_of v) it.0 xs)
+          → ((NeverGrows (HasStock clean.0) it.0.slot → greatest xs ≤ records_had it.0) → HoldsWhole S b d)
           → IsStoreRun S image name text a d
-      run-over d changes = record {
+      run-over d changes whole = record {
         size = size;
         layout = clean.0;
         clean = clean.1;
@@ -119,6 +123,8 @@ module _ {D W : Type 0} (S : History D) (image name text : List ℕ) (a b : D) (
             (growth_writes it.0 (greatest xs) + 2 * length (last_ones xs))
             (λ (i : Image). IsStoring i clean.0 (entry_of v) it.0 xs) (omega arith) found.reads
             (inl (growing_same (S.image a) clean.0 (entry_of v) it.0 v _ it.2)) changes;
+        whole = λ few h. then S a b d IsWhole (reads_change S a b 702 IsWhole found.reads h).held
+            (whole few (subst IsWhole (sym found.reads.image) h));
       }
 
       growing : {r : Result (Unit {0}) RelFault} → Grows S b c v w (greatest xs) r
@@ -127,6 +133,13 @@ module _ {D W : Type 0} (S : History D) (image name text : List ℕ) (a b : D) (
       growing grows = changes_weaker S b c (growth_writes it.0 (greatest xs))
           (growth_writes it.0 (greatest xs) + 2 * length (last_ones xs)) _ _ (omega arith)
           (λ i g. inl g) (grows.file clean.0 (entry_of v) it.0 found-of).moments
+
+      -- where REQUESTS of a shop doesn't grow
+      pub growing-whole : {r : Result (Unit {0}) RelFault} → Grows S b c v w (greatest xs) r
+          → (NeverGrows (HasStock clean.0) it.0.slot → greatest xs ≤ records_had it.0) → HoldsWhole S b c
+      growing-whole grows few h = weaker S b c (IsGrowingTo (S.image b) clean.0 (entry_of v) it.0 (greatest xs)) IsWhole
+          (λ i g. g.3 (λ never. added-none (record_length it.0.slot) (records_had it.0) (greatest xs) (few never)) h)
+          (grows.file clean.0 (entry_of v) it.0 found-of).moments.held
 
       no-such : (e : RelFault) → e ≢ rel.Full → e ≢ rel.Device → Grows S b c v w (greatest xs) (Err e) → ⊥
       no-such e x y grows = ⊎_elim
@@ -139,7 +152,7 @@ module _ {D W : Type 0} (S : History D) (image name text : List ℕ) (a b : D) (
           → IsStoreFault S image name text a c o o (keep_fault e)
       grow-refused rel.Full grows = no-room grows
       grow-refused rel.Device grows =
-          (failed_later S a b c found.failures grows.failures, inr (run-over c (growing grows)))
+          (failed_later S a b c found.failures grows.failures, inr (run-over c (growing grows) (growing-whole grows)))
       grow-refused rel.TooLarge grows = absurd (no-such rel.TooLarge (λ e. cc) (λ e. cc) grows)
       grow-refused rel.Overflow grows = absurd (no-such rel.Overflow (λ e. cc) (λ e. cc) grows)
       grow-refused rel.NotFound grows = absurd (no-such rel.NotFound (λ e. cc) (λ e. cc) grows)

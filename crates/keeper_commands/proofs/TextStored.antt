@@ -3,13 +3,15 @@ use Rattle.std.proofs.Common.{◌≡◌, ◌≤◌, inl, inr, ℕ, ◌+◌, ◌*
 use Rattle.std.proofs.Common.{refl, subst, sym, ap, ap₂, ◌∙◌, arith}
 use Rattle.std.specs.Io.KnownBytes.{Appends, Keeps}
 use Rattle.std.proofs.KnownBytes.{Appends-kept}
-use Rattle.d64_image.proofs.Moments.{changes_then, changes_weaker, failed_later, no_write_then, reads_no_write}
+use Rattle.d64_image.proofs.Moments.{at_end, changes_then, changes_weaker, failed_later, no_write_then, reads_no_write}
+use Rattle.d64_image.proofs.Moments.{then}
 use Rattle.d64_image.specs.History.{Failed, History, WritesNothing}
 use Rattle.d64_image.specs.Images.{Image}
 use Rattle.disk_layout.specs.Clean.{IsClean}
 use Rattle.disk_layout.specs.Layout.{File, Layout, record_length}
 use Rattle.disk_layout.specs.Records.{records}
 use Rattle.disk_layout.specs.Rest.{IsFirst}
+use Rattle.disk_layout.specs.Whole.{IsWhole}
 use Rattle.rel_records.proofs.lemmas.Kept.{leaves_has, leaves_then}
 use Rattle.rel_records.specs.Calls.{FindsFile, Grows, GrowsFile}
 use Rattle.rel_records.specs.File.{IsFileOf, entry_of, length_of, records_in}
@@ -22,7 +24,7 @@ use Rattle.script_lines.specs.Lines.{lines}
 use Rattle.keeper_commands.proofs.LastOnes.{lines-numbers, ones-greatest, stored-ones}
 use Rattle.keeper_commands.proofs.OneStored.{grown-none}
 use Rattle.keeper_commands.proofs.Reached.{so-there}
-use Rattle.keeper_commands.proofs.TextGrown.{found-of, grown-are, run-over, same-length}
+use Rattle.keeper_commands.proofs.TextGrown.{found-of, grown-are, growing-whole, run-over, same-length}
 use Rattle.keeper_commands.specs.Stores.{AreLinesOf, AreSo, IsPartStored, NewRecord, TellsLast}
 use Rattle.keeper_commands.specs.Stores.{changed_text, greatest, last_ones, stored}
 use Rattle.keeper_commands.specs.Storing.{IsStoreDone, IsStoreFault, IsStoreRun, IsStoredDisk, IsStoring, IsStoringOver}
@@ -77,6 +79,9 @@ module _ {D W : Type 0} (S : History D) (image name text : List ℕ) (a b : D) (
         (omega arith) (λ i g. inl g) has-grown.moments)
         (changes_weaker S c d (2 * length (last_ones xs)) (2 * length (last_ones xs)) _ _ (omega arith) over
         then-stored.moments))
+        (λ few h. let grown-whole = growing-whole S image name text a b size clean o v found xs are table tells c w grows
+        few h in
+        then S b c d IsWhole grown-whole (then-stored.whole (at_end S b c IsWhole grown-whole)))
 
     -- where those that count were so already nothing was written
     none-written : AreSo (record_length it.0.slot) (records (S.image a) it.0) (last_ones xs) → WritesNothing S a d

@@ -13,6 +13,7 @@ use Rattle.disk_layout.specs.Layout.{IsLayout, IsSound, Layout}
 use Rattle.disk_layout.specs.Map.{map_bit}
 use Rattle.disk_layout.specs.Same.{SameFiles}
 use Rattle.disk_layout.specs.Texts.{place_text}
+use Rattle.disk_layout.specs.Whole.{HoldsWhole}
 use Rattle.disk_layout.specs.declared.faults.Fault.{Fault}
 use Rattle.disk_layout.specs.declared.faults.Fault.TheVariants.{Device}
 use Rattle.layout_check.specs.Keeping.{AreStray, FreesNothing, IsCleanBut}
@@ -99,6 +100,7 @@ pub record MendsAs {D : Type 0} (free : Bool) (S : History D) (old new : D) (res
   pub err : IfErr result (Holds (S.failed_at new) (S.image old))
   pub moments : MendsFrom S old new 883
   pub frees : FreesAsAsked free S old new
+  pub whole : HoldsWhole S old new
   pub order : GoesInOrder free S old new
   pub spare : ClearsSpare (S.image old) (S.image new)
   pub unsound : (IsSound (S.image old) → ⊥) → OnlyReads S old new 2114
@@ -111,6 +113,8 @@ pub record IsRepairRun {D : Type 0} (free : Bool) (S : History D) (image : List 
   pub plain : IsPlainDisk (sector (S.image old) map_place)
   pub moments : MendsFrom S old new 883
   pub frees : FreesAsAsked free S old new
+  -- files that are whole are so in each image held
+  pub whole : HoldsWhole S old new
   pub order : GoesInOrder free S old new
   pub unsound : ¬ (IsSound (S.image old)) → Changes S old new 0 (λ c. c ≡ S.image old)
 

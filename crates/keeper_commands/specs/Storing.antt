@@ -10,6 +10,8 @@ use Rattle.disk_layout.specs.Fault.{HoldsOfClean, nowhere}
 use Rattle.disk_layout.specs.Layout.{File, Layout, record_length}
 use Rattle.disk_layout.specs.Records.{records}
 use Rattle.disk_layout.specs.Rest.{IsFirst, IsNamed}
+use Rattle.disk_layout.specs.Listed.{HasStock, NeverGrows}
+use Rattle.disk_layout.specs.Whole.{HoldsWhole}
 use Rattle.rel_records.specs.File.{length_of}
 use Rattle.rel_records.specs.Others.{HasRecords, LeavesRecords}
 use Rattle.rel_records.specs.Written.{IsGrowingTo, grown_to}
@@ -37,6 +39,7 @@ pub record StoresOne {D : Type 0} (S : History D) (old new : D) (l : Layout) (n 
       × (length_of w ≡ length_of v) × (changed ≡ is_changed (record_length f.slot) x (records (S.image old) f)))
   pub moments : Changes S old new 2
       (IsStoringOver (S.image old) l n (record_length f.slot) (x ∷ []) (records (S.image old) f))
+  pub whole : HoldsWhole S old new
   pub quiet : IsSo (record_length f.slot) (records (S.image old) f) x → WritesNothing S old new
   pub err : IfErr result (λ fault. fault ≡ keep.Device)
   pub told : TellsKeep S old new result
@@ -53,6 +56,7 @@ pub record StoresLines {D W : Type 0} (S : History D) (contents : W → Option (
         × Appends (contents before) (contents after) (changed_text (record_length f.slot) xs (records (S.image old) f)))
     pub moments : Changes S old new (2 * length xs)
         (IsStoringOver (S.image old) l n (record_length f.slot) xs (records (S.image old) f))
+    pub whole : HoldsWhole S old new
     pub quiet : AreSo (record_length f.slot) (records (S.image old) f) xs → WritesNothing S old new
     -- where the output failed the disk is clean
     pub clean : IfErr result (λ fault. fault ≡ keep.File → IsClean (S.image new))
@@ -82,6 +86,8 @@ pub record IsStoreRun {D : Type 0} (S : History D) (image name text : List ℕ) 
   pub are_lines : AreLinesOf (record_length file.slot) (records_had file) (lines text) all
   pub moments : Changes S old new (growth_writes file (greatest all) + 2 * length (last_ones all))
       (IsStoring (S.image old) layout number file all)
+  -- files that are whole are so in each image held; only if a shop's REQUESTS is to grow nothing is said
+  pub whole : (NeverGrows (HasStock layout) file.slot → greatest all ≤ records_had file) → HoldsWhole S old new
 
 -- And there was room, all of them are stored, and the disk is clean; where those that count were so already nothing was
 -- written.

@@ -13,6 +13,7 @@ use Rattle.disk_layout.specs.InOrder.{AreMade, GoesOver}
 use Rattle.disk_layout.specs.Layout.{IsLayout, IsSound, Layout, is_rel, owners}
 use Rattle.disk_layout.specs.Map.{IsFree, IsMapOf}
 use Rattle.disk_layout.specs.Same.{SameFiles}
+use Rattle.disk_layout.specs.Whole.{HoldsWhole}
 use Rattle.disk_layout.specs.declared.faults.Fault.{Fault}
 use Rattle.layout_check.specs.Mended.{TellsDevice}
 use Rattle.layout_check.specs.Owners.{owner_of}
@@ -106,6 +107,8 @@ pub record RepairsKeeping {D : Type 0} (S : History D) (old new : D) (result : R
   pub moments : MendsFrom S old new 883
   -- in no image held a sector is free that wasn't
   pub frees : Changes S old new 883 (FreesNothing (S.image old))
+  -- files that are whole are so in each image held
+  pub whole : HoldsWhole S old new
   -- no sector that is right is written, the others once, the map first, then the side sectors, then the directory
   pub order : (l : Layout) (strays : List Place) → IsLayout (S.image old) l → AreStray (S.image old) l strays
       → GoesOver S old new (IsRightBut strays l) (repair_order l)

@@ -6,6 +6,7 @@ use Rattle.disk_layout.specs.Fault.{Holds, TellsFault}
 use Rattle.disk_layout.specs.InOrder.{AreMade, GoesOver}
 use Rattle.disk_layout.specs.Layout.{IsLayout, IsSound, Layout, owners}
 use Rattle.disk_layout.specs.Same.{SameFiles}
+use Rattle.disk_layout.specs.Whole.{HoldsWhole}
 use Rattle.disk_layout.specs.declared.faults.Fault.{Fault}
 use Rattle.layout_check.specs.Mended.{IsMended}
 use Rattle.layout_check.specs.RepairOrder.{ClearsSpare, IsRight, repair_order}
@@ -33,6 +34,8 @@ pub record Repairs {D : Type 0} (S : History D) (old new : D) (result : Result S
   -- neither a fault nor a layout is told always
   pub sound : NeverFailed S old new → (IsOk result ↔ IsSound (S.image old))
   pub moments : MendsFrom S old new 883
+  -- files that are whole are so in each image held
+  pub whole : HoldsWhole S old new
   -- no sector that is right is written, the others once, the map first, then the side sectors, then the directory
   pub order : (l : Layout) → IsLayout (S.image old) l → GoesOver S old new (IsRight l) (repair_order l)
   -- at Ok all of these are right, and every other sector is as it was

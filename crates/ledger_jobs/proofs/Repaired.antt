@@ -18,6 +18,7 @@ use Rattle.disk_layout.specs.Directory.{map_place}
 use Rattle.disk_layout.specs.Fault.{Holds, nowhere}
 use Rattle.disk_layout.specs.InOrder.{GoesOver}
 use Rattle.disk_layout.specs.Layout.{IsSound}
+use Rattle.disk_layout.specs.Whole.{IsWhole}
 use Rattle.disk_layout.specs.declared.faults.Fault.{Fault}
 use Rattle.layout_check.specs.Keeping.{FreesNothing}
 use Rattle.keeper_commands.specs.Kinds.{HasFormatByte, HasGeosSign, IsPlainDisk}
@@ -58,6 +59,7 @@ module _ {F : Type 0} {G : Ghosts F} (start : KeptMirror F G) (sound : is_broken
       plain = x.plain;
       moments = λ l is. changes_of_file start sound untaken b 883 _ (omega arith) (x.moments l is);
       frees = λ kept. changes_of_file start sound untaken b 883 _ (omega arith) (x.frees kept);
+      whole = λ h. held_by_file start.file start b _ (x.whole h);
       order = λ l strays is are. over_of_file _ _ 883 _ (omega arith) (x.moments l is) (x.order l strays is are);
       unsound = λ none. changes_of_file start sound untaken b 0 _ (omega arith) (x.unsound none);
     }
@@ -95,6 +97,7 @@ module _ {F : Type 0} {G : Ghosts F} (start : KeptMirror F G) (sound : is_broken
           frees = λ _. changes_weaker mirror start b 0 883 (FreesNothing (mirror_image start))
               (FreesNothing (mirror_image start)) (omega arith) (λ c h. h)
               (no_write_change mirror start b (FreesNothing (mirror_image start)) quiet (λ p free'. free'));
+          whole = λ h. (no_write_change mirror start b IsWhole quiet h).held;
           order = λ l strays is are. absurd (unsound (l, is));
           unsound = λ _. no_write_change mirror start b (λ c. c ≡ mirror_image start) quiet refl;
         }

@@ -56,6 +56,7 @@ module _ {F : Type 0} {G : Ghosts F} (start : KeptMirror F G) (sound : is_broken
     all = x.all;
     are_lines = x.are_lines;
     held = held_by_file start.file start b _ x.moments.held;
+    whole = λ few h. held_by_file start.file start b _ (x.whole few h);
   }
 
   module _ {W : Type 0} (contents : W → Option (List ℕ)) (size : length image ≡ 174848)

@@ -9,8 +9,10 @@ use Rattle.d64_image.specs.Memory.{sectors_in}
 use Rattle.disk_layout.specs.Clean.{IsClean, IsCleanLayout}
 use Rattle.disk_layout.specs.Fault.{HoldsOfClean, nowhere}
 use Rattle.disk_layout.specs.Layout.{File, Layout, record_length}
+use Rattle.disk_layout.specs.Listed.{HasStock, NeverGrows}
 use Rattle.disk_layout.specs.Records.{records}
 use Rattle.disk_layout.specs.Rest.{IsFirst, IsNamed}
+use Rattle.disk_layout.specs.Whole.{HoldsWhole}
 use Rattle.disk_layout.specs.declared.faults.Fault.{Fault}
 use Rattle.keeper_commands.specs.Makes.{IsMadeDisk, IsMakeDone, IsMakeRun}
 use Rattle.keeper_commands.specs.Stores.{AreLinesOf, AreSo, NewRecord, changed_text, greatest, last_ones, stored}
@@ -97,6 +99,8 @@ pub record IsStoringRun {D : Type 0} (S : History D) (name text : List ℕ) (old
   pub all : List NewRecord
   pub are_lines : AreLinesOf (record_length file.slot) (records_had file) (lines text) all
   pub held : HeldOnly S old new (IsStoring (S.image old) layout number file all)
+  -- files that are whole are so in each image held; only if a shop's REQUESTS is to grow nothing is said
+  pub whole : (NeverGrows (HasStock layout) file.slot → greatest all ≤ records_had file) → HoldsWhole S old new
 
 -- And there was room, all of them are stored, and the disk is clean; the lines of those that count, of each record its
 -- last, and were otherwise, and nothing else, were printed, in order.

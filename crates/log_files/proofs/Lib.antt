@@ -1,5 +1,6 @@
 mod Marks
 mod Steps
+mod Times
 mod Moves
 mod Renewed
 mod Unknown

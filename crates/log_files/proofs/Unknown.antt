@@ -98,4 +98,5 @@ returned old new file r = record {
   counted = λ s never. absurd (none-some s never);
   since = λ t s le left. inr tt;
   failures = counts old new r;
+  file_failures = λ failed. refl;
 }

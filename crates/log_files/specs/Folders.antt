@@ -161,3 +161,5 @@ module _ {D F : Type 0} (h : FolderHistory D) (g : FileHistory F) where
     pub since : (t : ℕ) (s : Folder) → t ≤ h.moment old + 1 + (g.moment file - h.lent old) → h.left_since new t s
         → LeftOpen old file t (h.lent old + (t - (h.moment old + 1))) s ⊎ h.may_leave new s
     pub failures : CountsFailure h old new result
+    -- a failure of the file is one of the folder
+    pub file_failures : g.has_failed file ≡ true → h.has_failed new ≡ true

@@ -1,5 +1,5 @@
 //! An image that is brought to IMAGE, and a log that is taken away.
-ghost use Rattle.std.specs.Prelude.{◌≡◌, ◌<◌, [], List, OnOk, Some, ℕ, length, slice_index_or};
+ghost use Rattle.std.specs.Prelude.{◌≡◌, ◌<◌, [], List, OnErr, OnOk, Some, ℕ, length, slice_index_or, true};
 ghost use Rattle.d64_image.specs.Images.{Image};
 ghost use Rattle.log_files.specs.Bringing.{HasLog, IsAlone, IsBrought, RestsAlone};
 ghost use Rattle.log_files.specs.Folders.{AllLeft, Folder, HasImage, LeavesFolders, with_image, with_sector};
@@ -25,6 +25,7 @@ fn bring_sector<F: LogFile, D: LogFolder<F>>(
     ensures ok { OnOk result ((s : Folder) → D.history.held folder.old ≡ Some s
         → slice_index_or s.image index [] ≡ now.now
         → D.history.held folder.new ≡ Some (with_sector index sector.now s)) }
+    ensures cause { OnErr result (D.history.has_failed folder.new ≡ true) }
 {
     if now == sector {
         return Ok(());
@@ -47,6 +48,7 @@ pub(crate) fn bring<F: LogFile, D: LogFolder<F>>(
     ensures ok { OnOk result ((s : Folder) → D.history.held folder.old ≡ Some s → s.image ≡ now.now
         → (D.history.held folder.new ≡ Some (with_image shop.now s))
         × AllLeft D.history folder.new (HasImage (with_image shop.now s))) }
+    ensures cause { OnErr result (D.history.has_failed folder.new ≡ true) }
 {
     for i in 0..SECTORS {
         bring_sector(folder, i, &now[i], &shop[i])?;
@@ -60,6 +62,7 @@ pub(crate) fn unlog<F: LogFile, D: LogFolder<F>>(folder: &mut D) -> io::Result<(
         → LeavesFolders D.history folder.old folder.new (IsBrought shop) }
     ensures ok { OnOk result ((shop : Image) (s : Folder) → D.history.held folder.old ≡ Some s → s.image ≡ shop
         → AllLeft D.history folder.old (IsBrought shop) → RestsAlone D.history folder.new shop) }
+    ensures cause { OnErr result (D.history.has_failed folder.new ≡ true) }
 {
     folder.remove_log()?;
     folder.sync_folder()

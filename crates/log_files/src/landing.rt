@@ -1,5 +1,5 @@
 //! A log that is brought to its image, and removed.
-ghost use Rattle.std.specs.Prelude.{◌≡◌, IfErr, IfOk, List, OnOk, Some, ℕ, length, option_map};
+ghost use Rattle.std.specs.Prelude.{◌≡◌, ◌⊎◌, IfErr, IfOk, List, OnErr, OnOk, Some, ℕ, length, option_map, true};
 ghost use Rattle.d64_image.specs.Images.{Image};
 ghost use Rattle.log_files.specs.Bringing.{IsFound, IsSettledAs, RestsAlone};
 ghost use Rattle.log_files.specs.Faults.{IsMisfit};
@@ -49,6 +49,7 @@ fn settle<F: LogFile, D: LogFolder<F>>(folder: &mut D) -> io::Result<()>
     ensures any_moment { (shops : List Image) → AllLeft D.history folder.old (GivesOneOf shops)
         → LeavesFolders D.history folder.old folder.new (GivesOneOf shops) }
     ensures ok { OnOk result ((s : Folder) → D.history.held folder.old ≡ Some s → AllLeft D.history folder.new (IsSettledAs s)) }
+    ensures cause { OnErr result (D.history.has_failed folder.new ≡ true) }
 {
     folder.sync_image()?;
     folder.sync_folder()
@@ -67,6 +68,7 @@ fn find<F: LogFile, D: LogFolder<F>>(
     ensures read { IfOk result (λ log. (s : Folder) → D.history.held folder.old ≡ Some s
         → (D.history.held folder.new ≡ Some s) × (now.new ≡ s.image) × (option_map (λ bytes. bytes.items) log ≡ s.log)) }
     ensures settled { OnOk result ((s : Folder) → D.history.held folder.old ≡ Some s → AllLeft D.history folder.new (IsSettledAs s)) }
+    ensures cause { OnErr result (D.history.has_failed folder.new ≡ true) }
 {
     settle(folder)?;
     folder.read_image(now)?;
@@ -87,6 +89,7 @@ fn land_found<F: LogFile, D: LogFolder<F>>(
     ensures ok { OnOk result ((shops : List Image) (s : Folder) (f : List ℕ) → IsFound D.history folder.old shops s
         → s.log ≡ Some f → now.now ≡ s.image → LogGives f s.image shop.now
         → RestsAlone D.history folder.new shop.now) }
+    ensures cause { OnErr result (D.history.has_failed folder.new ≡ true) }
 {
     mark_found(folder)?;
     bring(folder, now, shop)?;
@@ -109,6 +112,7 @@ fn land_log<F: LogFile, D: LogFolder<F>>(
         → s.log ≡ Some log.now → now.now ≡ s.image → RestsAlone D.history folder.new shop.new × Gives s shop.new) }
     ensures refused { IfErr result (λ e. IsMisfit e → (folder.new ≡ folder.old)
         × ((given : Image) → LogGives log.now now.now given → ⊥)) }
+    ensures cause { IfErr result (λ e. IsMisfit e ⊎ (D.history.has_failed folder.new ≡ true)) }
 {
     judge(log, now, shop)?;
     land_found(folder, now, shop)?;
@@ -136,6 +140,7 @@ pub fn land<F: LogFile, D: LogFolder<F>>(
         → RestsAlone D.history folder.new shop.new × Gives s shop.new) }
     ensures refused { IfErr result (λ e. IsMisfit e → (s : Folder) → D.history.held folder.old ≡ Some s
         → (D.history.held folder.new ≡ Some s) × ((given : Image) → Gives s given → ⊥)) }
+    ensures cause { IfErr result (λ e. IsMisfit e ⊎ (D.history.has_failed folder.new ≡ true)) }
 {
     match find(folder, now)? {
         Some(log) => land_log(folder, log.as_slice(), now, shop),

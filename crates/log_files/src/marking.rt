@@ -19,6 +19,7 @@ fn put_mark<F: LogFile>(file: &mut F) -> io::Result<()>
         → (from : List ℕ) × F.history.may_leave file.old from × MarkTorn from c }
     ensures ok { OnOk result ((f : List ℕ) → F.history.held file.old ≡ Some f → 4194304 ≤ length f
         → (F.history.held file.new ≡ Some (marked_log f)) × Only (marked_log f) (F.history.may_leave file.new)) }
+    ensures cause { OnErr result (F.history.has_failed file.new ≡ true) }
 {
     file.write_at(BLOCK * BLOCKS, &[1])?;
     file.sync()
@@ -31,6 +32,7 @@ pub(crate) fn mark_found<F: LogFile, D: LogFolder<F>>(folder: &mut D) -> io::Res
     ensures ok { OnOk result ((shops : List Image) (s : Folder) (f : List ℕ) → IsFound D.history folder.old shops s
         → s.log ≡ Some f → (D.history.held folder.new ≡ Some (with_log (marked_log f) s))
         × AllLeft D.history folder.new (HasLog (marked_log f))) }
+    ensures cause { OnErr result (D.history.has_failed folder.new ≡ true) }
 {
     let mut file = folder.open_log()?;
     let marked = put_mark(&mut file);

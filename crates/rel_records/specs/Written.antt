@@ -30,7 +30,7 @@ use Rattle.d64_image.specs.Images.{Image, Sector}
 use Rattle.disk_layout.specs.Layout.{File, Layout, record_length}
 use Rattle.disk_layout.specs.Records.{empty_record, records}
 use Rattle.rel_records.specs.Others.{HasRecords}
-use Rattle.rel_records.specs.Whole.{KeepsWhole}
+use Rattle.disk_layout.specs.Whole.{KeepsWhole}
 use Rattle.rel_records.specs.declared.faults.RelFault.{RelFault}
 use Rattle.rel_records.specs.declared.faults.RelFault.TheVariants.{Overflow}
 use Rattle.rel_records.specs.growth.Growth.{added, records_had}

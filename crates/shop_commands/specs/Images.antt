@@ -8,6 +8,7 @@ use Rattle.disk_layout.specs.Blank.{IsBlank}
 use Rattle.disk_layout.specs.Directory.{IsDirectory, map_place}
 use Rattle.disk_layout.specs.Clean.{IsClean}
 use Rattle.disk_layout.specs.Fault.{HoldsOfClean, HoldsOfDirectory, nowhere}
+use Rattle.disk_layout.specs.Whole.{IsWhole}
 use Rattle.disk_layout.specs.declared.faults.Fault.{Fault}
 use Rattle.disk_layout.specs.declared.slot.Slot.{Slot}
 use Rattle.host_session.specs.runs.Outputs.{AppendsPart}
@@ -28,6 +29,8 @@ pub record IsFreshDisk (img : Image) (tills : ℕ) : Type 0 where
   pub blank : IsBlank zeros img (codes "STOCK LEDGER") (codes "01") tills
   -- 683 sectors of 256 bytes
   pub whole : IsImage img
+  -- no file is shorter than what the disk says of it elsewhere
+  pub uncut : IsWhole img
 
 -- the bytes of such a disk, sector after sector
 pub record AreFreshBytes (tills : ℕ) (bytes : List ℕ) : Type 0 where
@@ -35,20 +38,27 @@ pub record AreFreshBytes (tills : ℕ) (bytes : List ℕ) : Type 0 where
   pub fresh : IsFreshDisk disk tills
   pub bytes_of : bytes ≡ bytes_of disk
 
+-- if these bytes have the size of an image, all its files are whole: so where it is no sound disk's
+abbrev pub IsUncut : List ℕ → Type 0
+IsUncut s = length s ≡ 174848 → IsWhole (sectors_in s)
+
 -- The whole image of such a disk was written over a file that said this of itself: it holds that, and that remains if
--- power goes. If power went on the way, there remained what could remain before, or no sound disk, or that image.
+-- power goes. If power went on the way, there remained what could remain before, or no sound disk, or that image: so what
+-- could remain before, or whole files.
 pub record IsHandedOver {F : Type 0} (r : Remains F) (tills : ℕ) (old new : F) : Type 0 where
   pub bytes : List ℕ
   pub fresh : AreFreshBytes tills bytes
   pub held : (all : List ℕ) → r.held old ≡ Some all → r.held new ≡ Some bytes
   pub lasting : NowAll r new (λ s. s ≡ bytes)
   pub remain : Since r old new (λ s. IsNoDisk s ⊎ (s ≡ bytes))
+  pub uncut : Since r old new IsUncut
 
 -- such an image was written in part, or whole
 pub record IsHandedPart {F : Type 0} (r : Remains F) (tills : ℕ) (old new : F) : Type 0 where
   pub bytes : List ℕ
   pub fresh : AreFreshBytes tills bytes
   pub remain : Since r old new (λ s. IsNoDisk s ⊎ (s ≡ bytes))
+  pub uncut : Since r old new IsUncut
 
 -- what writing such an image came to: it was handed over whole, or in part where the file failed, or there was no
 -- memory, and nothing was done

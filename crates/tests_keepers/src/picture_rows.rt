@@ -1,9 +1,12 @@
-//! Maps, pages and posters of the blank disk for two tills with bytes changed, compared by length and Adler-32 with
+//! Maps, pages, posters and tiles of the blank disk for two tills with bytes changed, compared by length and Adler-32 with
 //! those that a plain program (tests/pages.py) printed of the same disks; and what is refused.
 use crate::comparing::same_at;
 use crate::disks::{Change, changed};
 use disk_layout::Fault;
-use disk_pictures::{PictureFault, map_image, picture_image, poster_image};
+use disk_pictures::{
+    PictureFault, map_image, picture_image, poster_image, sheet_begin, sheet_finish, sheet_refusal,
+    sheet_tile,
+};
 use std::io::Write;
 use std::process::Abort;
 
@@ -19,6 +22,8 @@ struct Row {
     picture: (usize, u32),
     /// The same of the poster.
     poster: (usize, u32),
+    /// The same of the tile of `a.d64`.
+    tile: (usize, u32),
 }
 
 /// The blank disk; a program file whose block links to itself; a name with all that HTML escapes beside a free bit of a
@@ -29,36 +34,41 @@ const DRAWN: [Row; 6] = [
         changes: &[],
         told: "",
         map: (953, 1142270344),
-        picture: (72691, 756032670),
-        poster: (69928, 3210088397),
+        picture: (72876, 1008363360),
+        poster: (70070, 173029948),
+        tile: (6495, 3143173840),
     },
     Row {
         changes: &[(18, 1, 34, &[0x82]), (17, 2, 0, &[17, 2])],
         told: "LOOP 17/2",
         map: (939, 2397676979),
-        picture: (73023, 593726344),
-        poster: (70258, 597456508),
+        picture: (73208, 2173685322),
+        poster: (70400, 619421931),
+        tile: (6501, 654837719),
     },
     Row {
         changes: &[(18, 1, 5, b"<B>&\"\xC1"), (18, 0, 69, &[0xF1])],
         told: "MAPWRONG 17/0",
         map: (969, 1940827406),
-        picture: (73273, 3279209916),
-        poster: (70500, 4179275445),
+        picture: (73478, 4218032070),
+        poster: (70662, 3447709789),
+        tile: (6505, 3225356550),
     },
     Row {
         changes: &[(18, 1, 34, &[0x44])],
         told: "UNCLOSED 18/1",
         map: (945, 2130552632),
-        picture: (73055, 2142345072),
-        poster: (70286, 2465890625),
+        picture: (73240, 1622202930),
+        poster: (70428, 2173873072),
+        tile: (6505, 769853690),
     },
     Row {
         changes: &[(18, 0, 0x90, b"&<SCRIPT>"), (18, 0, 4, &[20, 0xFE])],
         told: "MAPWRONG 1/0",
         map: (963, 3336612860),
-        picture: (73072, 4015561943),
-        poster: (70300, 1577551367),
+        picture: (73257, 686481305),
+        poster: (70442, 4043092086),
+        tile: (6514, 1739459663),
     },
     Row {
         changes: &[
@@ -102,8 +112,9 @@ const DRAWN: [Row; 6] = [
         ],
         told: "",
         map: (4102, 4053475222),
-        picture: (78381, 409489350),
-        poster: (77876, 2989124672),
+        picture: (78896, 1838676902),
+        poster: (79908, 2333523949),
+        tile: (6495, 2124023512),
     },
 ];
 
@@ -163,6 +174,11 @@ fn are_drawn(rt: &(impl Abort + AllocGlobal), rows: &[Row]) {
             row.told,
         );
         same_at(rt, (out.len(), adler(out.as_slice())), row.poster, row.told);
+        out.clear();
+        let status = sheet_tile(rt.alloc(), "a.d64", disk.bytes(), &mut out);
+        let wanted = if row.told.is_empty() { 0 } else { 1 };
+        same_at(rt, status, Ok(wanted), row.told);
+        same_at(rt, (out.len(), adler(out.as_slice())), row.tile, row.told);
     }
 }
 
@@ -185,4 +201,21 @@ fn what_isnt_drawn_is_told(rt: HostRuntime) {
     isnt_drawn(&rt, b"", "IMAGE SIZE");
     let disk = changed(&rt, &[(18, 1, 0, &[19, 0])]);
     isnt_drawn(&rt, disk.bytes(), "LAYOUT BADLINK 18/1");
+}
+
+#[test]
+fn what_isnt_drawn_has_its_tile(rt: HostRuntime) {
+    let mut out = Vec::new(rt.alloc());
+    same_at(&rt, sheet_begin(&mut out, 2), Ok(()), "begun");
+    let refused = sheet_refusal("a&b.d64", "FILE", &mut out);
+    same_at(&rt, refused, Ok(()), "refused");
+    let status = sheet_tile(rt.alloc(), "b.d64", b"", &mut out);
+    same_at(&rt, status, Ok(1), "of another size");
+    same_at(&rt, sheet_finish(&mut out), Ok(()), "finished");
+    same_at(
+        &rt,
+        (out.len(), adler(out.as_slice())),
+        (3511, 3919946357),
+        "the sheet",
+    );
 }

@@ -3,6 +3,7 @@ pub mod BlankClean
 pub mod BlankParts
 pub mod BlankPlaces
 pub mod BlankTop
+pub mod BlankWhole
 pub mod Blanks
 pub mod FreeAndOwned
 pub mod Freeing

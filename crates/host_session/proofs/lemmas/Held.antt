@@ -14,7 +14,7 @@ use Rattle.d64_image.specs.declared.sector_file.SectorFile.{Ghosts}
 use Rattle.d64_image.specs.declared.fuse.Fuse.{Fuse}
 use Rattle.host_session.specs.Held.{Changes, HeldOnly}
 use Rattle.disk_layout.specs.Layout.{File, Layout}
-use Rattle.rel_records.specs.Whole.{IsWhole, KeepsWhole}
+use Rattle.disk_layout.specs.Whole.{IsWhole, KeepsWhole}
 use Rattle.rel_records.specs.Written.{IsWriting}
 
 module _ {D : Type 0} (S : History D) where

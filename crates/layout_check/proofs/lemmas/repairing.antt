@@ -4,6 +4,7 @@ pub mod OwnedSums
 pub mod RepairOrder
 pub mod RepairReads
 pub mod RepairRuns
+pub mod RepairWhole
 pub mod Repairs
 pub mod RightCounts
 pub mod RightDirectory
@@ -12,4 +13,5 @@ pub mod RightSides
 pub mod RightSlots
 pub mod RightWrites
 pub mod Rights
+pub mod StaysSame
 pub mod Strays

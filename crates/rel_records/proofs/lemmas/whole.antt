@@ -1,5 +1,5 @@
 -- Files that are as long as the disk says.
-pub mod Ends
+pub mod Created
 pub mod Files
 pub mod Filled
 pub mod Linked

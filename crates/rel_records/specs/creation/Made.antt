@@ -27,6 +27,7 @@ use Rattle.disk_layout.specs.Records.{empty_record, records}
 use Rattle.disk_layout.specs.Rest.{IsNamed, header_of, slot_name}
 use Rattle.disk_layout.specs.Same.{AddsFile, stays_of}
 use Rattle.disk_layout.specs.View.{blocks_free}
+use Rattle.disk_layout.specs.Whole.{IsWhole}
 use Rattle.rel_records.specs.File.{IsFileOf, entry_of}
 use Rattle.rel_records.specs.creation.Room.{AreFullSectors, IsFirstRoom}
 use Rattle.disk_layout.specs.declared.slot.Slot.{Slot}
@@ -62,9 +63,9 @@ pub record HasFileMore (a : Image) (l : Layout) (name : List ℕ) (L : ℕ) (c :
   pub one : length file.blocks ≡ 1
   pub records_are : records c file ≡ replicate (254 / L) (empty_record L)
 
--- every image held: the files of before, or one more
+-- every image held: the files of before, or one more; where all files were whole, they are
 abbrev pub IsCreating : Image → Layout → List ℕ → ℕ → Image → Type 0
-IsCreating a l name L c = HasFilesOf a l c ⊎ HasFileMore a l name L c
+IsCreating a l name L c = (HasFilesOf a l c ⊎ HasFileMore a l name L c) × (IsWhole a → IsWhole c)
 
 -- how many sectors are written: map, data block, side sector, and the one with the free slot; where all eight slots of
 -- each

@@ -13,7 +13,7 @@ use Rattle.layout_check.proofs.lemmas.finding.Roots.{directory-tells}
 use Rattle.layout_check.specs.Survey.{IsSurveyOf}
 use Rattle.cut_files.proofs.Entries.{entries-listed, stock-in, stock-of}
 use Rattle.cut_files.specs.Cut.{HasStray}
-use Rattle.rel_records.specs.Listed.{HasStock}
+use Rattle.disk_layout.specs.Listed.{HasStock}
 use Rattle.cut_files.specs.Told.{IsToldOf}
 use Rattle.cut_files.proofs.cuts.find_cut.Goals as goal
 

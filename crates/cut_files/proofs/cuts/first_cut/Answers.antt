@@ -12,7 +12,7 @@ use Rattle.cut_files.proofs.Entries.{entry-at, file-at, one-entry}
 use Rattle.cut_files.proofs.Places.{below-or-here}
 use Rattle.cut_files.proofs.Shorts.{cut-as}
 use Rattle.cut_files.specs.Cut.{HasStray, IsCutIn}
-use Rattle.rel_records.specs.Listed.{HasStock}
+use Rattle.disk_layout.specs.Listed.{HasStock}
 use Rattle.cut_files.specs.Told.{IsAsked}
 use Rattle.cut_files.proofs.cuts.first_cut.Goals as goal
 use Rattle.cut_files.proofs.cuts.first_cut.Goals.{then-is_asked+in_default, else-is_asked}

@@ -4,8 +4,8 @@ use Rattle.d64_image.specs.Images.{Image}
 use Rattle.d64_image.specs.declared.place.Place.{Place}
 use Rattle.disk_layout.specs.Layout.{File, Layout}
 use Rattle.cut_files.specs.Cut.{HasStray, IsCutAt, IsShort}
-use Rattle.rel_records.specs.Listed.{HasStock}
-use Rattle.rel_records.specs.Whole.{IsWholeFile}
+use Rattle.disk_layout.specs.Listed.{HasStock}
+use Rattle.disk_layout.specs.Whole.{IsWholeFile}
 use Rattle.cut_files.proofs.laws.whole_is_uncut.Goals as goal
 
 uncut : (img : Image) (l : Layout) (f : File) (p : Place) → IsWholeFile img l f → IsCutAt img l f p → ⊥

@@ -4,7 +4,7 @@ use Rattle.std.specs.Prelude.{Some, ◌↔◌, slice_get}
 use Rattle.d64_image.specs.Images.{Image, sector}
 use Rattle.d64_image.specs.Memory.{disk_image}
 use Rattle.cut_files.proofs.Sides.{last-side, past-judged, same-bytes}
-use Rattle.rel_records.specs.Listed.{ListsWell}
+use Rattle.disk_layout.specs.Listed.{ListsWell}
 use Rattle.cut_files.proofs.listed.is_listed_past.Goals as goal
 
 pub returns-in-Some-clause-told : goal.returns-in-Some-clause-told

@@ -4,7 +4,7 @@ use Rattle.std.proofs.lemmas.Bool.{false≢true}
 use Rattle.std.proofs.lemmas.Option.{slice_get_read, slice_get_within}
 use Rattle.cut_files.proofs.Entries.{one-entry}
 use Rattle.cut_files.proofs.Places.{below-or-here}
-use Rattle.rel_records.specs.Listed.{IsStock}
+use Rattle.disk_layout.specs.Listed.{IsStock}
 use Rattle.cut_files.proofs.names.has_stock.Goals as goal
 
 pub returns-then-is_stock : goal.returns-then-is_stock

@@ -1,7 +1,7 @@
 use Rattle.std.proofs.Common.{◌≡◌, ◌<◌, ℕ}
 use Rattle.std.specs.Prelude.{Some, slice_get}
 use Rattle.disk_layout.specs.declared.slot.Slot.{Slot}
-use Rattle.rel_records.specs.Listed.{IsStock}
+use Rattle.disk_layout.specs.Listed.{IsStock}
 use Rattle.cut_files.proofs.names.has_stock.Given as goal
 
 abbrev pub invariant-loop-slot : goal.invariant-loop-slot

@@ -12,15 +12,16 @@ use Rattle.disk_pictures.specs.Drawings.{file_in}
 use Rattle.disk_pictures.specs.Held.{drawn_in}
 use Rattle.disk_pictures.specs.Html.{html_of}
 use Rattle.disk_pictures.specs.Pictures.{drawing_text}
+use Rattle.disk_pictures.specs.Petscii.{petscii_of}
 use Rattle.disk_pictures.specs.Posters.{poster_head, poster_legend, poster_line, poster_of, poster_text, poster_told}
 use Rattle.disk_pictures.specs.Texts.{numbered}
 use Rattle.disk_pictures.proofs.poster_printing.put_poster.Goals as goal
 
 all-printed : (a b c d e f h i : Option (List ℕ)) (v : Option Fault) (bytes : Sector) (l : Layout)
-    → Appends a b (poster_head html_of bytes)
+    → Appends a b (poster_head html_of petscii_of bytes)
     → Appends b c (poster_told html_of v bytes l) → Appends c d (drawing_text html_of v bytes l)
     → Appends d e poster_legend
-    → Appends e f (numbered (poster_line html_of) 0 l.files) → Appends f h (codes "</svg>\n") → Keeps h i
+    → Appends e f (numbered (poster_line html_of petscii_of) 0 l.files) → Appends f h (codes "</svg>\n") → Keeps h i
     → Appends a i (poster_of v bytes l)
 unfolding poster_text
 all-printed a b c d e f h i v bytes l head told drawing legend lines end kept =
@@ -33,7 +34,7 @@ unfolding poster_legend
 returns-clause-ok g c =
     let d = c.args.drawing.now in
     let lines = subst (λ fs. Appends (g.W.Write.contents c.put-3.new.out) (g.W.Write.contents c.put_lines.new.out)
-    (numbered (poster_line html_of) 0 (map file_in fs))) c.as_slice.ensures.value c.in_ok-put_lines.ensures.ok in
+    (numbered (poster_line html_of petscii_of) 0 (map file_in fs))) c.as_slice.ensures.value c.in_ok-put_lines.ensures.ok in
     at-ok c.flush.result (all-printed _ _ _ _ _ _ _ _ c.args.found d.map (drawn_in d)
     c.in_ok-put.ensures.ok
     c.in_ok-put-2.ensures.ok

@@ -14,9 +14,7 @@ use Rattle.rel_records.specs.Written.{IsWriting, grown_by, half_written, room_in
 use Rattle.rel_records.specs.Written.{with_written, written}
 use Rattle.host_session.specs.shop.Files.{Files, HasFiles, with_record}
 use Rattle.host_session.specs.shop.Shop.{IsShop, Shop}
-use Rattle.disk_layout.specs.InOrder.{GoesOver}
-use Rattle.drive_channels.proofs.RepairWhole.{repair-held}
-use Rattle.layout_check.specs.RepairOrder.{IsRight, repair_order}
+use Rattle.disk_layout.specs.Whole.{HoldsWhole}
 use Rattle.layout_check.specs.Repaired.{MendsFrom}
 use Rattle.host_session.proofs.lemmas.writing.Layers.{on-requests}
 use Rattle.host_session.proofs.lemmas.writing.Mended.{repair-shop}
@@ -117,9 +115,8 @@ module _ (old new : Image) (f : Files) (h : HasFiles old f)
 
 -- A repair keeps the shop at each moment.
 pub repair-moments : {D : Type 0} (S : History D) (a b : D) (s : Shop) → IsShop (S.image a) s → MendsFrom S a b 883
-    → ((l : Layout) → IsLayout (S.image a) l → GoesOver S a b (IsRight l) (repair_order l))
-    → Changes S a b 883 (λ i. IsShop i s)
-repair-moments S a b s x m order =
+    → HoldsWhole S a b → Changes S a b 883 (λ i. IsShop i s)
+repair-moments S a b s x m whole =
     let l = x.has.layout in
     let is = x.has.is_layout in
     let h = m l is in
@@ -132,7 +129,7 @@ repair-moments S a b s x m order =
           | inl early ↦ inl early
           | inr mended ↦ inr (repair-shop (S.image a) c s x mended)
         ];
-        whole = λ w. repair-held S a b l [] is h.held (order l is).held w;
+        whole = whole;
       };
       writes = h.writes;
     }

@@ -20,6 +20,7 @@ use Rattle.layout_check.proofs.lemmas.repairing.RepairRuns.{
   mends_after,
   mends_none,
 }
+use Rattle.layout_check.proofs.lemmas.repairing.RepairWhole.{reads-held, repair-held}
 use Rattle.layout_check.specs.declared.survey_outcome.Survey.{Survey}
 use Rattle.layout_check.proofs.repairing.repair.Goals as goal
 
@@ -38,6 +39,7 @@ returns-in_err-found g c =
       err = rw (p.1, p.2) c.in_err-found.ensures.err;
       sound = λ never. rw p.1 (c.in_err-found.ensures.sound never);
       moments = mends_none S _ _ 2114 reads;
+      whole = reads-held S _ _ 2114 reads;
       order = λ l is. over_none S (IsRight l) (repair_order l) _ _ 2114 reads;
       made = λ m also. rw p.1 tt;
       spare = λ changed. absurd (changed (ap (λ i. sector i map_place) reads.image));
@@ -61,6 +63,8 @@ returns g c =
       err = tt;
       sound = λ never. let l = c.in_ok-found.ensures.ok in (λ _. (l.0, l.1), λ _. refl);
       moments = mends_after S _ _ _ 2114 c.in_ok-found.ensures.reads mends.moments;
+      whole = repair-held S _ _ l [] is (mends_after S _ _ _ 2114 c.in_ok-found.ensures.reads mends.moments l is).held
+          (order_after S (IsRight l) l _ _ _ 2114 is c.survey.ensures.reads (mends.order l)).held;
       order = λ m also. order_after S (IsRight m) m _ _ _ 2114 also c.survey.ensures.reads (mends.order m);
       made = λ m also.
           let same = c.survey.ensures.reads.image in
@@ -91,6 +95,8 @@ returns-in_err-mend g c =
       sound = λ never. absurd (device_sound S _ _ _ _ c.in_ok-found.ensures.failures mended.failures
           never);
       moments = mends_after S _ _ _ 2114 c.in_ok-found.ensures.reads mends.moments;
+      whole = repair-held S _ _ l [] is (mends_after S _ _ _ 2114 c.in_ok-found.ensures.reads mends.moments l is).held
+          (order_after S (IsRight l) l _ _ _ 2114 is c.survey.ensures.reads (mends.order l)).held;
       order = λ m also. order_after S (IsRight m) m _ _ _ 2114 also c.survey.ensures.reads (mends.order m);
       made = λ m also. rw p.1 tt;
       spare = spare_after S _ _ _ 2114 c.survey.ensures.reads mends.spare;

@@ -17,6 +17,7 @@ use Rattle.layout_check.proofs.lemmas.repairing.RepairRuns.{
   mends_none,
   told_after,
 }
+use Rattle.layout_check.proofs.lemmas.repairing.RepairWhole.{reads-held, repair-held}
 use Rattle.layout_check.proofs.lemmas.repairing.Strays.{frees_none}
 use Rattle.layout_check.proofs.repairing.repair_keeping.Goals as goal
 
@@ -41,6 +42,7 @@ returns-in_err-found g c =
       sound = λ never. rw p.1 (c.in_err-found.ensures.sound never);
       moments = mends_none S _ _ 2114 reads;
       frees = frees_none S _ _ 2114 reads;
+      whole = reads-held S _ _ 2114 reads;
       order = λ l strays is are. over_none S (IsRightBut strays l) (repair_order l) _ _ 2114 reads;
       made = λ l strays is are. rw p.1 tt;
       spare = λ changed. absurd (changed (ap (λ i. sector i map_place) reads.image));
@@ -64,6 +66,7 @@ returns-in_err-taken g c =
       sound = λ never. absurd (device_sound S _ _ _ _ c.in_ok-found.ensures.failures told never);
       moments = mends_none S _ _ 2115 reads;
       frees = frees_none S _ _ 2115 reads;
+      whole = reads-held S _ _ 2115 reads;
       order = λ l strays is are. over_none S (IsRightBut strays l) (repair_order l) _ _ 2115 reads;
       made = λ l strays is are. rw p.1 tt;
       spare = λ changed. absurd (changed (ap (λ i. sector i map_place) reads.image));
@@ -91,6 +94,8 @@ returns-in_err-mend g c =
       sound = λ never. absurd (device_sound S _ _ _ _ same told never);
       moments = mends.moments;
       frees = mends.frees;
+      whole = repair-held S _ _ t.layout t.strays t.sound (mends.moments t.layout t.sound).held
+          (mends.order t.layout t.strays t.sound t.are).held;
       order = mends.order;
       made = λ l strays is are. rw p.1 tt;
       spare = mends.spare;
@@ -118,6 +123,8 @@ returns g c =
       sound = λ never. (λ _. (l, is), λ _. refl);
       moments = mends.moments;
       frees = mends.frees;
+      whole = repair-held S _ _ t.layout t.strays t.sound (mends.moments t.layout t.sound).held
+          (mends.order t.layout t.strays t.sound t.are).held;
       order = mends.order;
       made = mends.made;
       spare = mends.spare;

@@ -2,9 +2,10 @@
 use Rattle.std.proofs.Common.{refl, subst, sym}
 use Rattle.log_files.specs.Folders.{IsReturned}
 use Rattle.log_files.specs.LiveLogs.{IsRenewing}
-use Rattle.log_files.proofs.Moves.{on_ok, under_name}
+use Rattle.log_files.proofs.Moves.{under_name}
 use Rattle.log_files.proofs.Renewed.{ended, found, renewing, rests}
 use Rattle.log_files.proofs.Steps.{started}
+use Rattle.log_files.proofs.Times.{on_ok}
 use Rattle.log_files.proofs.ending.end_log.Goals as goal
 
 pub returns-in_err-close_log-clause-any_moment : goal.returns-in_err-close_log-clause-any_moment

@@ -1,29 +1,6 @@
 -- A new file whose entry goes into a free slot: its sectors are written, then the entry, by one write.
-use Rattle.std.proofs.Common.{
-  ◌≡◌,
-  ◌≢◌,
-  ℕ,
-  ◌+◌,
-  ◌<◌,
-  ◌≤◌,
-  inl,
-  inr,
-  false,
-  true,
-  List,
-  [],
-  ◌∷◌,
-  ◌++◌,
-  ap,
-  arith,
-  length,
-  map,
-  refl,
-  slice_index,
-  subst,
-  sym,
-  ◌∙◌,
-}
+use Rattle.std.proofs.Common.{◌≡◌, ◌≢◌, ℕ, ◌+◌, ◌<◌, ◌≤◌, inl, inr, false, true, List, [], ◌∷◌, ◌++◌, ap, arith, length}
+use Rattle.std.proofs.Common.{map, refl, slice_index, subst, sym, ◌∙◌}
 use Rattle.std.specs.Prelude.{Contains, Some, flat_map, slice_get}
 use Rattle.std.proofs.lemmas.List.{length-map}
 use Rattle.std.proofs.lemmas.List.Elements.{Contains-append_left, Contains-append_right}
@@ -33,22 +10,24 @@ use Rattle.d64_image.specs.History.{Changes, HeldOnly, History, OldOr}
 use Rattle.d64_image.specs.Images.{Image, IsImage, IsSector, Sector, put, sector}
 use Rattle.d64_image.specs.declared.place.Place.{Place}
 use Rattle.disk_layout.proofs.lemmas.chains.Chains.{AgreeAt}
-use Rattle.disk_layout.proofs.lemmas.counts.Recounts.{reread}
+use Rattle.disk_layout.proofs.lemmas.counts.Recounts.{reread, slot-of}
 use Rattle.disk_layout.proofs.lemmas.growth.GrowthRecords.{get-seam}
 use Rattle.disk_layout.proofs.lemmas.lists.Once.{Contains-cases, Contains-here, Contains-nil, Contains-there}
 use Rattle.disk_layout.specs.Entries.{rel_entry}
-use Rattle.disk_layout.specs.Directory.{is_used, map_place, slot_in}
-use Rattle.disk_layout.specs.Layout.{File, Layout, file_owns, owners}
+use Rattle.disk_layout.specs.Directory.{is_used, map_place, slot_in, type_byte}
+use Rattle.disk_layout.specs.Layout.{File, Layout, count_field, file_owns, owners}
 use Rattle.disk_layout.specs.Map.{IsMapOf}
 use Rattle.disk_layout.specs.Side.{side_sector}
+use Rattle.disk_layout.specs.Whole.{IsWhole}
 use Rattle.rel_records.proofs.lemmas.directory.Entered.{IsEntry, entry-apart, entry-links, entry-used, is-entry}
 use Rattle.rel_records.proofs.lemmas.creation.Creating.{with_new}
 use Rattle.rel_records.proofs.lemmas.directory.FullSlots.{slots-before}
-use Rattle.rel_records.proofs.lemmas.creation.InSlot.{Made, TakesSlot, made}
+use Rattle.rel_records.proofs.lemmas.creation.InSlot.{Made, TakesSlot, made, not_file, slot-stays}
 use Rattle.rel_records.proofs.lemmas.creation.NewClean.{file-more, is-new, map-same, two-among}
 use Rattle.rel_records.proofs.lemmas.creation.NewFiles.{IsNewFile, new_file}
-use Rattle.rel_records.proofs.lemmas.creation.NewWrites.{files-before}
+use Rattle.rel_records.proofs.lemmas.creation.NewWrites.{before-same, files-before}
 use Rattle.rel_records.proofs.lemmas.creation.StillClean.{made-clean}
+use Rattle.rel_records.proofs.lemmas.whole.Created.{before-whole, more-whole}
 use Rattle.rel_records.specs.creation.Made.{HasFilesOf, IsCreating}
 use Rattle.rel_records.specs.creation.NewFile.{ChangesOnly, HasNewSectors, IsEntered, IsTakenFor}
 use Rattle.rel_records.specs.growth.Next.{IsFresh}
@@ -211,14 +190,29 @@ module _ (a c : Image) (l : Layout) (st : Site) (bytes : Sector) (name : List �
       links low high a l _ st st.place wb (made-clean takes h.taken.clean same entry.count right it) it.adds
       (inl (h.room, refl)) at-entry refl refl refl
 
+  -- whole files stay whole
+  pub slot-whole : IsWhole a → IsWhole (put c st.place bytes)
+  slot-whole = more-whole a c st.place bytes l _ it.before it.after (slot_in st.place bytes st.number) st.block st.side u
+      L h.taken.clean.layout it.split refl (made-clean takes h.taken.clean same entry.count right it) same
+      (not_file takes)
+      (λ f d. let still = slot-stays takes f.slot (slot-of c l f was.layout d) in
+      (ap count_field still, sym (ap type_byte still)))
+      (rw entry.kind refl) fresh
+
 module _ {D : Type 0} (S : History D) (d e : D) (l : Layout) (st : Site) (bytes : Sector) (name : List ℕ) (L : ℕ)
     (h : IsSlotSite (S.image d) l st) (is_for : IsSlotEntry name L st bytes) (low : 1 ≤ L) (high : L ≤ 254)
     (prepared : Changes S d e 3 (ChangesOnly (S.image d) st.map.bytes (st.block ∷ st.side ∷ []))) where
   -- while its sectors are written the files are there as before
   still : (c : Image) → ChangesOnly (S.image d) st.map.bytes (st.block ∷ st.side ∷ []) c
       → IsCreating (S.image d) l name L c
-  still c x = inl (files-before (S.image d) c st.map.bytes (st.block ∷ st.side ∷ []) l h.taken.clean.layout
-      (unowned-two (S.image d) l st.map.bytes st.block st.side h.taken) h.taken.header x)
+  still c x =
+      let unowned = unowned-two (S.image d) l st.map.bytes st.block st.side h.taken in
+      let layout = h.taken.clean.layout in
+      let was = files-before (S.image d) c st.map.bytes (st.block ∷ st.side ∷ []) l layout unowned h.taken.header x in (
+        inl was,
+        before-whole (S.image d) c l h.taken.clean was.layout (before-same (S.image d) c st.map.bytes
+            (st.block ∷ st.side ∷ []) l layout unowned x),
+      )
 
   pub sectors-moments : Changes S d e 4 (IsCreating (S.image d) l name L)
   sectors-moments = changes_weaker S d e 3 4 _ _ (omega arith) still prepared
@@ -231,9 +225,16 @@ module _ {D : Type 0} (S : History D) (d e : D) (l : Layout) (st : Site) (bytes 
         (S.whole e) (put_is_image (S.image e) st.place bytes (S.whole e) sized) (subst P h.bytes is_for.entered)
         is_for.few low high
 
+    entry-whole : IsWhole (S.image d) → IsWhole (put (S.image e) st.place bytes)
+    entry-whole =
+        let P : Sector → Type 0 = λ x. IsEntered x bytes st.number (rel_entry name st.block st.side L 2) in
+        slot-whole (S.image d) (S.image e) l st bytes name L h (at_end S d e _ prepared.held) has
+        (S.whole e) (put_is_image (S.image e) st.place bytes (S.whole e) sized) (subst P h.bytes is_for.entered)
+        is_for.few low high
+
     pub entry-moments : (f : D) → HeldOnly S e f (OldOr (S.image e) (put (S.image e) st.place bytes))
         → S.writes f ≤ S.writes e + 1 → Changes S d f 4 (IsCreating (S.image d) l name L)
     entry-moments f held counted =
         let before = changes_weaker S d e 3 3 _ (IsCreating (S.image d) l name L) (omega arith) still prepared in
         one_write_more S d e f 3 (S.image e) (put (S.image e) st.place bytes) _ before held counted
-        (at_end S d e _ before.held) (inr entry-more.more)
+        (at_end S d e _ before.held) (inr entry-more.more, entry-whole)

@@ -1,7 +1,7 @@
 -- A new file whose entry goes into a new directory sector: its sectors and that one are written, then the link to it.
 use Rattle.std.proofs.Common.{◌≡◌, ◌≢◌, ℕ, ◌+◌, ◌<◌, ◌≤◌, inl, inr, true, false, List, [], ◌∷◌, ◌++◌, ap, append_assoc}
 use Rattle.std.proofs.Common.{append-nil, arith, length, map, refl, slice_index, subst, sym, ◌∙◌, ◌*◌}
-use Rattle.std.specs.Prelude.{Contains, Some, flat_map, nat_eq, not, slice_get, ◌↔◌}
+use Rattle.std.specs.Prelude.{Contains, Some, flat_map, nat_eq, not, slice_get}
 use Rattle.std.proofs.lemmas.List.{length-map}
 use Rattle.std.proofs.lemmas.List.Elements.{Contains-append_left, Contains-append_right}
 use Rattle.d64_image.proofs.Images.{put_is_image, sector-put_other}
@@ -15,22 +15,25 @@ use Rattle.disk_layout.proofs.lemmas.counts.Recounts.{reread}
 use Rattle.disk_layout.proofs.lemmas.growth.GrowthRecords.{get-seam}
 use Rattle.disk_layout.proofs.lemmas.growth.LongerDirectory.{IsRelinked}
 use Rattle.disk_layout.proofs.lemmas.lists.Lists.{snoc-last}
-use Rattle.disk_layout.proofs.lemmas.lists.Once.{Contains-cases, Contains-here, Contains-nil, Contains-there, insert-in}
-use Rattle.disk_layout.proofs.lemmas.lists.Once.{insert-out}
+use Rattle.disk_layout.proofs.lemmas.lists.Once.{Contains-cases, Contains-here, Contains-nil, Contains-there}
+use Rattle.disk_layout.proofs.lemmas.lists.Once.{EachOnce-apart}
+use Rattle.disk_layout.specs.Clean.{IsCleanLayout}
 use Rattle.disk_layout.specs.Entries.{rel_entry}
 use Rattle.disk_layout.specs.Chain.{EachOnce}
 use Rattle.disk_layout.specs.Directory.{is_used, map_place, slot_in}
 use Rattle.disk_layout.specs.Layout.{File, Layout, file_owns, owners}
 use Rattle.disk_layout.specs.Map.{IsMapOf}
 use Rattle.disk_layout.specs.Side.{side_sector}
+use Rattle.disk_layout.specs.Whole.{IsWhole}
 use Rattle.rel_records.proofs.lemmas.directory.Entered.{IsEntry, entry-used, is-entry}
 use Rattle.rel_records.proofs.lemmas.creation.Creating.{with_new}
 use Rattle.rel_records.proofs.lemmas.directory.FullSlots.{files-full}
 use Rattle.rel_records.proofs.lemmas.creation.InSector.{linked-adds, linked-clean}
 use Rattle.rel_records.proofs.lemmas.creation.OnceLinked.{once-linked}
-use Rattle.rel_records.proofs.lemmas.creation.NewClean.{file-more, is-new, map-same, two-among}
+use Rattle.rel_records.proofs.lemmas.creation.NewClean.{file-more, is-new, map-same, three-among}
 use Rattle.rel_records.proofs.lemmas.creation.NewFiles.{IsNewFile, new_file, owners-new}
-use Rattle.rel_records.proofs.lemmas.creation.NewWrites.{files-before}
+use Rattle.rel_records.proofs.lemmas.creation.NewWrites.{before-same, files-before}
+use Rattle.rel_records.proofs.lemmas.whole.Created.{before-whole, linked-stays, more-whole}
 use Rattle.rel_records.specs.creation.Made.{HasFilesOf, IsCreating}
 use Rattle.rel_records.specs.creation.NewFile.{ChangesOnly, HasNewSectors, IsLinkedTo, IsNewDirectory}
 use Rattle.rel_records.specs.creation.NewFile.{IsTakenForDirectory}
@@ -56,28 +59,6 @@ unowned-three a l new_map block side fresh taken q c own = elim (Contains-cases 
   ]
 ]
 
--- three places among the others, or before them
-three-among : (dir ys : List Place) (block side fresh q : Place)
-    → Contains (fresh ∷ side ∷ block ∷ map_place ∷ (dir ++ ys)) q ↔ Contains
-    (map_place ∷ (((dir ++ fresh ∷ []) ++ ys) ++ block ∷ (side ∷ []))) q
-three-among dir ys block side fresh q =
-    let two = two-among ((dir ++ fresh ∷ []) ++ ys) [] block side q in
-    let flat : ((dir ++ fresh ∷ []) ++ ys) ++ [] ≡ dir ++ fresh ∷ ys = simp (append_assoc, append-nil) in (
-      λ c. two.0 (let P : List Place → Type 0 = λ ps. Contains (side ∷ block ∷ map_place ∷ ps) q in subst P (sym flat)
-          (elim (Contains-cases q fresh (side ∷ block ∷ map_place ∷ (dir ++ ys)) c) [
-            | inl e ↦ let R : Place → Type 0 = Contains (side ∷ block ∷ map_place ∷ (dir ++ fresh ∷ ys)) in
-                subst R e
-                (Contains-append_right (side ∷ block ∷ map_place ∷ dir) (fresh ∷ ys) fresh (Contains-here fresh ys))
-            | inr d ↦ insert-in (side ∷ block ∷ map_place ∷ dir) ys fresh q d
-          ])),
-      λ c. (let P : List Place → Type 0 = λ ps. Contains (side ∷ block ∷ map_place ∷ ps) q in
-          elim (insert-out (side ∷ block ∷ map_place ∷ dir) ys fresh q (subst P flat (two.1 c))) [
-            | inl e ↦ let R : Place → Type 0 = Contains (fresh ∷ side ∷ block ∷ map_place ∷ (dir ++ ys)) in
-                subst R e (Contains-here fresh (side ∷ block ∷ map_place ∷ (dir ++ ys)))
-            | inr d ↦ Contains-there q fresh (side ∷ block ∷ map_place ∷ (dir ++ ys)) d
-          ]),
-    )
-
 module _ (a c : Image) (l : Layout) (st : Site) (fresh : Place) (first_bytes bytes : Sector) (name : List ℕ) (L : ℕ)
     (h : IsSectorSite a l st fresh)
     (changes : ChangesOnly a st.map.bytes (fresh ∷ st.block ∷ st.side ∷ []) c)
@@ -95,12 +76,18 @@ module _ (a c : Image) (l : Layout) (st : Site) (fresh : Place) (first_bytes byt
       (changes.rest q (λ e. h.taken.clean.layout.once.0 (let P : Place → Type 0 = Contains (owners l) in subst P e own))
       (λ d. unowned-three a l st.map.bytes st.block st.side fresh h.taken q d own))
 
+  listed : Contains l.directory st.place
+  listed = let P : List Place → Type 0 = λ ps. Contains ps st.place in
+      subst P (sym h.full.split)
+      (Contains-append_right h.full.front (st.place ∷ []) st.place (Contains-here st.place []))
+
   owned : Contains (owners l) st.place
   unfolding owners
-  owned = Contains-append_left l.directory (flat_map file_owns l.files) st.place
-      (let P : List Place → Type 0 = λ ps. Contains ps st.place in
-      subst P (sym h.full.split)
-      (Contains-append_right h.full.front (st.place ∷ []) st.place (Contains-here st.place [])))
+  owned = Contains-append_left l.directory (flat_map file_owns l.files) st.place listed
+
+  not-file : ¬ (Contains (flat_map file_owns l.files) st.place)
+  unfolding owners
+  not-file = EachOnce-apart l.directory (flat_map file_owns l.files) was.layout.once.1 st.place listed
 
   here : sector c st.place ≡ sector a st.place
   here = sym (same st.place owned)
@@ -183,13 +170,23 @@ module _ (a c : Image) (l : Layout) (st : Site) (fresh : Place) (first_bytes byt
       ap (slice_get (with_new (put c st.place bytes) l.files [] k)) (sym long)
       ∙ get-seam (map (reread (put c st.place bytes)) l.files) [] k
 
+  now-clean : IsCleanLayout (put c st.place bytes)
+      (record { directory = l.directory ++ fresh ∷ []; files = with_new (put c st.place bytes) l.files [] k })
+  now-clean = linked-clean c l st.place bytes wc.size relinked a was.layout was is_last fresh st.block st.side u
+      linked.link (ap (λ x. slice_index x 0) there ∙ made.ends) h.taken.on_18 h.taken.no_fresh used free new once
+      h.taken.clean same entry.count right
+
+  -- whole files stay whole
+  pub sector-whole : IsWhole a → IsWhole (put c st.place bytes)
+  sector-whole = more-whole a c st.place bytes l _ l.files [] (slot_in fresh (sector c fresh) 0) st.block st.side u L
+      h.taken.clean.layout (sym (append-nil l.files)) refl now-clean same
+      not-file (linked-stays c l st.place bytes wc.size relinked was.layout) (rw entry.kind refl) blocks
+
   -- the image has the files of before and the new one, and is clean
   pub sector-more : HasFileAt a l name L st fresh (put c st.place bytes)
   sector-more = file-more (put c st.place bytes) (slot_in fresh (sector c fresh) 0) name st.block st.side L entry blocks
       links low high a l _ st fresh wb
-      (linked-clean c l st.place bytes wc.size relinked a was.layout was is_last fresh st.block st.side u linked.link
-      (ap (λ x. slice_index x 0) there ∙ made.ends) h.taken.on_18 h.taken.no_fresh used free new once h.taken.clean
-      same entry.count right)
+      now-clean
       (linked-adds c l st.place bytes wc.size relinked a was.layout was is_last fresh st.block st.side u linked.link
       (ap (λ x. slice_index x 0) there ∙ made.ends) h.taken.on_18 h.taken.no_fresh used free new once)
       (inr (h.full.full, (h.lowest, (refl, refl)))) at-entry refl (sym h.number) refl
@@ -202,9 +199,15 @@ module _ {D : Type 0} (S : History D) (d e : D) (l : Layout) (st : Site) (fresh 
   -- while its sectors are written the files are there as before
   still : (c : Image) → ChangesOnly (S.image d) st.map.bytes (fresh ∷ st.block ∷ st.side ∷ []) c
       → IsCreating (S.image d) l name L c
-  still c x = inl
-      (files-before (S.image d) c st.map.bytes (fresh ∷ st.block ∷ st.side ∷ []) l h.taken.clean.layout
-      (unowned-three (S.image d) l st.map.bytes st.block st.side fresh h.taken) h.taken.header x)
+  still c x =
+      let three = fresh ∷ st.block ∷ st.side ∷ [] in
+      let unowned = unowned-three (S.image d) l st.map.bytes st.block st.side fresh h.taken in
+      let layout = h.taken.clean.layout in
+      let was = files-before (S.image d) c st.map.bytes three l layout unowned h.taken.header x in (
+        inl was,
+        before-whole (S.image d) c l h.taken.clean was.layout (before-same (S.image d) c st.map.bytes three l
+            layout unowned x),
+      )
 
   pub directory-moments : Changes S d e 5 (IsCreating (S.image d) l name L)
   directory-moments = changes_weaker S d e 4 5 _ _ (omega arith) still prepared
@@ -219,9 +222,16 @@ module _ {D : Type 0} (S : History D) (d e : D) (l : Layout) (st : Site) (fresh 
         (S.whole e) (put_is_image (S.image e) st.place bytes (S.whole e) sized) (subst P h.bytes is_for.linked)
         is_for.made is_for.few low high
 
+    link-whole : IsWhole (S.image d) → IsWhole (put (S.image e) st.place bytes)
+    link-whole =
+        let P : Sector → Type 0 = λ x. IsLinkedTo x bytes fresh in
+        sector-whole (S.image d) (S.image e) l st fresh first_bytes bytes name L h (at_end S d e _ prepared.held) has
+        there (S.whole e) (put_is_image (S.image e) st.place bytes (S.whole e) sized) (subst P h.bytes is_for.linked)
+        is_for.made is_for.few low high
+
     pub link-moments : (f : D) → HeldOnly S e f (OldOr (S.image e) (put (S.image e) st.place bytes))
         → S.writes f ≤ S.writes e + 1 → Changes S d f 5 (IsCreating (S.image d) l name L)
     link-moments f held counted =
         let before = changes_weaker S d e 4 4 _ (IsCreating (S.image d) l name L) (omega arith) still prepared in
         one_write_more S d e f 4 (S.image e) (put (S.image e) st.place bytes) _ before held counted
-        (at_end S d e _ before.held) (inr link-more.more)
+        (at_end S d e _ before.held) (inr link-more.more, link-whole)

@@ -61,11 +61,11 @@ module _ (c : Image) (l : Layout) (p : Place) (bytes : Sector) (full : length c 
   there : sector (put c p bytes) p ≡ bytes
   there = sector-put_same c p bytes full
 
-  entry-any : (ps : List Place) (s : Slot) → Contains (flat_map (λ q. slots_in q (sector c q)) ps) s
+  pub entry-any : (ps : List Place) (s : Slot) → Contains (flat_map (λ q. slots_in q (sector c q)) ps) s
       → SameEntry s (reslot (put c p bytes) s)
   entry-any ps s d = tail-entry s (reslot (put c p bytes) s) refl refl (slot-relinked c p bytes full relinked ps s d)
 
-  count-any : (ps : List Place) (s : Slot) → Contains (flat_map (λ q. slots_in q (sector c q)) ps) s
+  pub count-any : (ps : List Place) (s : Slot) → Contains (flat_map (λ q. slots_in q (sector c q)) ps) s
       → count_field (reslot (put c p bytes) s) ≡ count_field s
   count-any ps s d =
       let e = slot-relinked c p bytes full relinked ps s d in

@@ -116,12 +116,12 @@ module _ (a c : Image) (l : Layout) (n : ℕ) (f : File) (v : RelFile) (of : IsF
 
   -- at each moment
   pub creating-stays : (name : List ℕ) (L : ℕ) → IsCreating a l name L c → StaysOf a c f v
-  creating-stays name L (inl was) = before-stays was
-  creating-stays name L (inr more) = more-stays name L more
+  creating-stays name L (inl was, kept) = before-stays was
+  creating-stays name L (inr more, kept) = more-stays name L more
 
 -- nothing is written yet
 creating-none : (a : Image) (l : Layout) (name : List ℕ) (L : ℕ) → IsLayout a l → IsCreating a l name L a
-creating-none a l name L h = inl (record { layout = h; files = refl; header = refl })
+creating-none a l name L h = (inl (record { layout = h; files = refl; header = refl }), λ w. w)
 
 module _ {D : Type 0} (S : History D) (d e : D) (quiet : WritesNothing S d e) (l : Layout) (name : List ℕ) (L : ℕ)
     (h : IsLayout (S.image d) l) where

@@ -1,31 +1,11 @@
 -- What makes a new file's sectors and its entry a file, and the map with them.
-use Rattle.std.proofs.Common.{
-  ◌≡◌,
-  ℕ,
-  ◌+◌,
-  ◌*◌,
-  ◌/◌,
-  ◌≤◌,
-  inl,
-  inr,
-  true,
-  List,
-  [],
-  ◌∷◌,
-  ◌++◌,
-  ap,
-  arith,
-  refl,
-  slice_index,
-  subst,
-  sym,
-  ◌∙◌,
-}
+use Rattle.std.proofs.Common.{◌≡◌, ℕ, ◌+◌, ◌*◌, ◌/◌, ◌≤◌, inl, inr, true, List, [], ◌∷◌, ◌++◌, ap, append_assoc, append-nil}
+use Rattle.std.proofs.Common.{arith, refl, slice_index, subst, sym, ◌∙◌}
 use Rattle.std.specs.Prelude.{Contains, Some, replicate, slice_get, ◌↔◌}
 use Rattle.std.proofs.lemmas.List.Elements.{Contains-append_cases, Contains-append_left, Contains-append_right}
 use Rattle.d64_image.specs.Images.{Image, IsImage, Sector, sector}
 use Rattle.d64_image.specs.declared.place.Place.{Place}
-use Rattle.disk_layout.proofs.lemmas.lists.Once.{Contains-cases, Contains-here, Contains-there, insert-out}
+use Rattle.disk_layout.proofs.lemmas.lists.Once.{Contains-cases, Contains-here, Contains-there, insert-in, insert-out}
 use Rattle.disk_layout.specs.Clean.{IsCleanLayout}
 use Rattle.disk_layout.specs.Directory.{map_place}
 use Rattle.disk_layout.specs.Layout.{Layout, is_rel, record_length}
@@ -146,3 +126,25 @@ two-among xs ys block side q = (in-there, out)
             (Contains-there q block (map_place ∷ (xs ++ ys)) f)
       ]
     ]
+
+-- three places among the others, or before them
+pub three-among : (dir ys : List Place) (block side fresh q : Place)
+    → Contains (fresh ∷ side ∷ block ∷ map_place ∷ (dir ++ ys)) q ↔ Contains
+    (map_place ∷ (((dir ++ fresh ∷ []) ++ ys) ++ block ∷ (side ∷ []))) q
+three-among dir ys block side fresh q =
+    let two = two-among ((dir ++ fresh ∷ []) ++ ys) [] block side q in
+    let flat : ((dir ++ fresh ∷ []) ++ ys) ++ [] ≡ dir ++ fresh ∷ ys = simp (append_assoc, append-nil) in (
+      λ c. two.0 (let P : List Place → Type 0 = λ ps. Contains (side ∷ block ∷ map_place ∷ ps) q in subst P (sym flat)
+          (elim (Contains-cases q fresh (side ∷ block ∷ map_place ∷ (dir ++ ys)) c) [
+            | inl e ↦ let R : Place → Type 0 = Contains (side ∷ block ∷ map_place ∷ (dir ++ fresh ∷ ys)) in
+                subst R e
+                (Contains-append_right (side ∷ block ∷ map_place ∷ dir) (fresh ∷ ys) fresh (Contains-here fresh ys))
+            | inr d ↦ insert-in (side ∷ block ∷ map_place ∷ dir) ys fresh q d
+          ])),
+      λ c. (let P : List Place → Type 0 = λ ps. Contains (side ∷ block ∷ map_place ∷ ps) q in
+          elim (insert-out (side ∷ block ∷ map_place ∷ dir) ys fresh q (subst P flat (two.1 c))) [
+            | inl e ↦ let R : Place → Type 0 = Contains (fresh ∷ side ∷ block ∷ map_place ∷ (dir ++ ys)) in
+                subst R e (Contains-here fresh (side ∷ block ∷ map_place ∷ (dir ++ ys)))
+            | inr d ↦ Contains-there q fresh (side ∷ block ∷ map_place ∷ (dir ++ ys)) d
+          ]),
+    )

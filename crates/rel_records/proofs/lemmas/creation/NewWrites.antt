@@ -27,6 +27,7 @@ use Rattle.d64_image.proofs.Moments.{at_end, one_write_more, write_change}
 use Rattle.d64_image.specs.History.{Changes, HeldOnly, History, OldOr}
 use Rattle.d64_image.specs.Images.{Image, Sector, put, sector}
 use Rattle.d64_image.specs.declared.place.Place.{Place}
+use Rattle.disk_layout.proofs.lemmas.chains.Chains.{AgreeAt}
 use Rattle.disk_layout.proofs.lemmas.lists.Once.{Contains-there}
 use Rattle.disk_layout.specs.Directory.{map_place}
 use Rattle.disk_layout.specs.Layout.{IsLayout, Layout, owners}
@@ -91,13 +92,18 @@ new-sectors a b c d map made links m block side L la lb lc is block_off side_off
       links = ap (λ i. sector i side) three ∙ sector-put_same c side links lc ∙ exact;
     }
 
+-- where nobody owned these sectors, all that is owned is as it was
+pub before-same : (a c : Image) (map : Sector) (ps : List Place) (l : Layout) → IsLayout a l
+    → ((q : Place) → Contains ps q → ¬ (Contains (owners l) q)) → ChangesOnly a map ps c → AgreeAt a c (owners l)
+before-same a c map ps l h unowned changes q own =
+    sym (changes.rest q (λ e. h.once.0 (let P : Place → Type 0 = Contains (owners l) in subst P e own))
+    (λ on. unowned q on own))
+
 -- where nobody owned these sectors, and the new map has the old header, the files are there as before
 pub files-before : (a c : Image) (map : Sector) (ps : List Place) (l : Layout) → IsLayout a l
     → ((q : Place) → Contains ps q → ¬ (Contains (owners l) q)) → (take 4 map ≡ take 4 (sector a map_place))
     × (drop 144 map ≡ drop 144 (sector a map_place)) → ChangesOnly a map ps c → HasFilesOf a l c
-files-before a c map ps l h unowned header changes = creating-before a c l h
-    (λ q own. sym (changes.rest q (λ e. h.once.0 (let P : Place → Type 0 = Contains (owners l) in subst P e own))
-    (λ on. unowned q on own)))
+files-before a c map ps l h unowned header changes = creating-before a c l h (before-same a c map ps l h unowned changes)
     (elim changes.map [
       | inl e ↦ ap (λ s. take 4 s ++ drop 144 s) e
       | inr e ↦ ap (λ s. take 4 s ++ drop 144 s) e ∙ ap₂ (λ x y. x ++ y) header.0 header.1

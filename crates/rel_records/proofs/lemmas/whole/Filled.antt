@@ -23,12 +23,13 @@ use Rattle.rel_records.proofs.lemmas.filling.Ending.{ended-clean, ended-others}
 use Rattle.rel_records.proofs.lemmas.filling.Fulls.{full-last}
 use Rattle.rel_records.proofs.lemmas.filling.ReadyToEnd.{IsReadyToEnd}
 use Rattle.rel_records.proofs.lemmas.filling.Standing.{blocks-some, file-rel, last-at, last-in, place, pos, same-last, split}
-use Rattle.rel_records.proofs.lemmas.whole.Ends.{zeros-at}
-use Rattle.rel_records.proofs.lemmas.whole.Files.{HasEnd, chain-some, clean-whole, not-zeros, same-files}
+use Rattle.disk_layout.proofs.lemmas.whole.Ends.{zeros-at}
+use Rattle.disk_layout.proofs.lemmas.whole.Files.{HasEnd, chain-some, not-zeros}
+use Rattle.rel_records.proofs.lemmas.whole.Files.{clean-whole, same-files}
 use Rattle.rel_records.proofs.lemmas.whole.Written.{none-reaches}
-use Rattle.rel_records.specs.Listed.{HasStock, IsStock, NeverGrows, is_plain}
+use Rattle.disk_layout.specs.Listed.{HasStock, IsStock, NeverGrows, is_plain}
 use Rattle.rel_records.specs.Others.{KeepsOthers}
-use Rattle.rel_records.specs.Whole.{IsWhole}
+use Rattle.disk_layout.specs.Whole.{IsWhole}
 use Rattle.rel_records.specs.declared.growth.step_parts.Parts.{Parts}
 use Rattle.rel_records.specs.growth.Growth.{full}
 use Rattle.rel_records.specs.growth.Steps.{IsAt, IsFilledUp, IsRunTo}

@@ -22,10 +22,11 @@ use Rattle.rel_records.proofs.lemmas.steps.Counting.{clean-again, same-entry}
 use Rattle.rel_records.proofs.lemmas.steps.LaidOut.{IsStep, each, place, rel-file, split}
 use Rattle.rel_records.proofs.lemmas.steps.LastBlocks.{made}
 use Rattle.rel_records.proofs.lemmas.steps.Others.{others-kept}
-use Rattle.rel_records.proofs.lemmas.whole.Files.{AreExact, agree-exact, clean-whole, exact-whole, not-zeros}
+use Rattle.disk_layout.proofs.lemmas.whole.Files.{AreExact, exact-whole, not-zeros}
+use Rattle.rel_records.proofs.lemmas.whole.Files.{agree-exact, clean-whole}
 use Rattle.rel_records.proofs.lemmas.whole.Files.{whole-now}
 use Rattle.rel_records.specs.Others.{KeepsOthers}
-use Rattle.rel_records.specs.Whole.{IsWhole}
+use Rattle.disk_layout.specs.Whole.{IsWhole}
 use Rattle.rel_records.specs.declared.growth.step_parts.Parts.{Parts}
 use Rattle.rel_records.specs.growth.Preparing.{IsPrepared}
 use Rattle.rel_records.specs.growth.Steps.{IsFilledUp}

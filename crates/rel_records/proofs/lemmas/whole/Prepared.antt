@@ -25,12 +25,14 @@ use Rattle.rel_records.proofs.lemmas.steps.LaidOut.{rel-file, sides-once, size-i
 use Rattle.rel_records.proofs.lemmas.steps.Others.{others-kept}
 use Rattle.rel_records.proofs.lemmas.steps.Preparing.{after-stays, before-stays, blocks-stay, file-in, preparing-layout}
 use Rattle.rel_records.proofs.lemmas.steps.Sided.{get-once, get-there}
-use Rattle.rel_records.proofs.lemmas.whole.Ends.{ends-exact}
-use Rattle.rel_records.proofs.lemmas.whole.Files.{AreExact, HasEnd, agree-exact, chain-some, clean-exact, exact-ends}
-use Rattle.rel_records.proofs.lemmas.whole.Files.{none-behind, rel-whole, whole-now}
-use Rattle.rel_records.specs.Listed.{EndsBy, HasStock, ListsOneMore, ListsWell, NeverGrows, is_plain, used_of}
+use Rattle.disk_layout.proofs.lemmas.whole.Ends.{ends-exact}
+use Rattle.disk_layout.proofs.lemmas.whole.Files.{AreExact, HasEnd, chain-some, clean-exact, exact-ends}
+use Rattle.rel_records.proofs.lemmas.whole.Files.{agree-exact}
+use Rattle.disk_layout.proofs.lemmas.whole.Files.{none-behind, rel-whole}
+use Rattle.rel_records.proofs.lemmas.whole.Files.{whole-now}
+use Rattle.disk_layout.specs.Listed.{EndsBy, HasStock, ListsOneMore, ListsWell, NeverGrows, is_plain, used_of}
 use Rattle.rel_records.specs.Others.{KeepsOthers}
-use Rattle.rel_records.specs.Whole.{IsWhole}
+use Rattle.disk_layout.specs.Whole.{IsWhole}
 use Rattle.rel_records.specs.declared.growth.step_parts.Parts.{Parts}
 use Rattle.rel_records.specs.growth.Preparing.{IsPreparing}
 use Rattle.rel_records.specs.growth.Steps.{AreSidedFrom, IsBefore}

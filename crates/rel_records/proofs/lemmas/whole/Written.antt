@@ -20,10 +20,11 @@ use Rattle.rel_records.proofs.lemmas.reading.Opened.{file-rel}
 use Rattle.rel_records.proofs.lemmas.writing.Bytes.{patched-low}
 use Rattle.rel_records.proofs.lemmas.writing.OneBlock.{one-more, patched-sector, same-count}
 use Rattle.rel_records.proofs.lemmas.writing.Writings.{clean-block, keeps-block}
-use Rattle.rel_records.proofs.lemmas.whole.Files.{HasEnd, clean-whole, not-zeros}
+use Rattle.disk_layout.proofs.lemmas.whole.Files.{HasEnd, not-zeros}
+use Rattle.rel_records.proofs.lemmas.whole.Files.{clean-whole}
 use Rattle.rel_records.specs.File.{IsFileOf, length_of, records_in}
-use Rattle.rel_records.specs.Listed.{is_plain}
-use Rattle.rel_records.specs.Whole.{IsWhole}
+use Rattle.disk_layout.specs.Listed.{is_plain}
+use Rattle.disk_layout.specs.Whole.{IsWhole}
 use Rattle.rel_records.specs.Written.{patched}
 use Rattle.rel_records.specs.declared.rel_file.RelFile.{RelFile}
 

@@ -40,7 +40,7 @@ use Rattle.rel_records.proofs.lemmas.writing.OneBlock.{half-moment, old-moment, 
 use Rattle.rel_records.proofs.lemmas.writing.TwoBlocks.{leaves-first, leaves-second}
 use Rattle.rel_records.specs.File.{IsFileOf, length_of, records_in}
 use Rattle.rel_records.specs.Others.{LeavesRecords}
-use Rattle.rel_records.specs.Whole.{IsWhole}
+use Rattle.disk_layout.specs.Whole.{IsWhole}
 use Rattle.rel_records.specs.Written.{IsWriting, patched, room_in_first, with_half, with_written, written}
 use Rattle.rel_records.specs.declared.rel_file.RelFile.{RelFile}
 

@@ -8,7 +8,7 @@ use Rattle.disk_layout.specs.Records.{records}
 use Rattle.rel_records.proofs.lemmas.Kept.{has-others, leaves_leaves, leaves_then}
 use Rattle.rel_records.specs.File.{IsFileOf, length_of}
 use Rattle.rel_records.specs.Others.{HasRecords, KeepsRelFiles, LeavesRecords}
-use Rattle.rel_records.specs.Whole.{KeepsWhole}
+use Rattle.disk_layout.specs.Whole.{KeepsWhole}
 use Rattle.rel_records.specs.Written.{IsGrowingBy, IsWriting, grown_by, with_half, with_written}
 use Rattle.rel_records.specs.declared.rel_file.RelFile.{RelFile}
 

@@ -42,7 +42,7 @@ use Rattle.rel_records.proofs.lemmas.writing.Bytes.{length-patched, patched-high
 use Rattle.rel_records.proofs.lemmas.writing.Writings.{leaves-written}
 use Rattle.rel_records.specs.File.{IsFileOf, length_of, records_in}
 use Rattle.rel_records.specs.Others.{HasRecords, LeavesRecords}
-use Rattle.rel_records.specs.Whole.{IsWhole}
+use Rattle.disk_layout.specs.Whole.{IsWhole}
 use Rattle.rel_records.specs.Written.{IsWriting, patched, with_half, with_written}
 use Rattle.rel_records.specs.declared.rel_file.RelFile.{RelFile}
 

@@ -29,7 +29,7 @@ returns-in-Ok g c =
       err = tt;
       moments = λ s h.
           subst (λ d. Changes S c.args.disk d 883 (λ i. IsShop i s)) same
-          (repair-moments S c.args.disk c.repair.new.disk s h c.repair.ensures.moments c.repair.ensures.order);
+          (repair-moments S c.args.disk c.repair.new.disk s h c.repair.ensures.moments c.repair.ensures.whole);
       quiet = λ clean.
           subst (λ d. Untouched S c.args.disk d) same
           (no_write_change S c.args.disk c.repair.new.disk (λ i. i ≡ S.image c.args.disk)
@@ -44,7 +44,7 @@ returns-in-Err g c =
       ready = tt;
       ok = λ f h. tt;
       err = refl;
-      moments = λ s h. repair-moments S c.args.disk c.repair.new.disk s h c.repair.ensures.moments c.repair.ensures.order;
+      moments = λ s h. repair-moments S c.args.disk c.repair.new.disk s h c.repair.ensures.moments c.repair.ensures.whole;
       quiet = λ clean.
           no_write_change S c.args.disk c.repair.new.disk (λ i. i ≡ S.image c.args.disk) (c.repair.ensures.quiet clean)
           refl;

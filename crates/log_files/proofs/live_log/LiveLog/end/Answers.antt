@@ -1,5 +1,5 @@
 -- The log is landed.
-use Rattle.log_files.proofs.Moves.{on_ok}
+use Rattle.log_files.proofs.Times.{on_ok}
 use Rattle.log_files.proofs.live_log.LiveLog.end.Goals as goal
 
 pub returns-clause-any_moment : goal.returns-clause-any_moment

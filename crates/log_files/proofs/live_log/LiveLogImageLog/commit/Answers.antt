@@ -3,7 +3,7 @@ use Rattle.std.proofs.Common.{inl, inr, refl, subst}
 use Rattle.shop_log.specs.ImageLogs.{IsEither}
 use Rattle.shop_log.proofs.Ends.{quiet}
 use Rattle.log_files.specs.LiveLogs.{Stands, of_live}
-use Rattle.log_files.proofs.Moves.{joined, not_none, on_err, on_ok, started, weaker}
+use Rattle.log_files.proofs.Times.{joined, not_none, on_err, on_ok, started, weaker}
 use Rattle.log_files.proofs.live_log.LiveLogImageLog.commit.Goals as goal
 
 pub returns-then-none_touched : goal.returns-then-none_touched

@@ -11,7 +11,7 @@ use Rattle.disk_layout.proofs.lemmas.lists.Listed.{length-place_bytes}
 use Rattle.disk_layout.specs.Chain.{named_at}
 use Rattle.disk_layout.specs.Layout.{sides_for}
 use Rattle.disk_layout.specs.Side.{link_bytes, padded, place_bytes, pointers_of, side_sector}
-use Rattle.rel_records.specs.Listed.{EndsBy, used_of}
+use Rattle.disk_layout.specs.Listed.{EndsBy, used_of}
 
 -- track 0 has no sector
 pub none-at : (bytes : Sector) (i : ℕ) → slice_index bytes i ≡ 0 → named_at bytes i ≡ None
@@ -50,7 +50,7 @@ link-none : (o : Option Place) (u : ℕ) (ys : List ℕ) → o ≡ None → get_
 link-none (Some q) u ys e = cc
 link-none None u ys e = refl
 
-get-none : {X : Type 0} (xs : List X) (k : ℕ) → length xs ≤ k → slice_get xs k ≡ None
+pub get-none : {X : Type 0} (xs : List X) (k : ℕ) → length xs ≤ k → slice_get xs k ≡ None
 get-none [] k le = refl
 get-none (x ∷ xs) zero le = absurd (omega (arith, le))
 get-none (x ∷ xs) (suc k) le = get-none xs k (omega (arith, le))

@@ -1,73 +1,34 @@
 -- A repair keeps files whole at each moment: what its side sectors list is as it was, or exact.
-use Rattle.std.proofs.Common.{◌≡◌, ◌⊎◌, ℕ, ◌+◌, ◌-◌, ◌*◌, ◌/◌, ◌<◌, ◌≤◌, inl, inr, List, [], ◌∷◌, ◌++◌, map, length}
-use Rattle.std.proofs.Common.{sym, ◌∙◌, ap, ap₂, arith, subst, Bool, IsTrue, slice_index, take, drop}
-use Rattle.std.proofs.lemmas.List.{get_or-drop, get_or-take}
+use Rattle.std.proofs.Common.{◌≡◌, ℕ, ◌+◌, ◌-◌, ◌*◌, ◌/◌, ◌<◌, ◌≤◌, inl, inr, List, ◌∷◌, ◌++◌, map, length, sym, ◌∙◌, ap, ap₂}
+use Rattle.std.proofs.Common.{arith, subst, IsTrue, slice_index}
 use Rattle.std.proofs.lemmas.List.Elements.{Contains-append_cases, Contains-append_left}
-use Rattle.std.specs.Prelude.{Contains, Some, flat_map, get_or, nat_eq, nat_le, slice_get, slice_range, ◌&&◌, ◌||◌}
-use Rattle.d64_image.proofs.Places.{same_or_other}
-use Rattle.d64_image.specs.History.{HeldOnly, History}
+use Rattle.std.specs.Prelude.{Contains, Some, flat_map, nat_eq, nat_le, slice_get, slice_range, ◌&&◌, ◌||◌}
+use Rattle.d64_image.proofs.Moments.{reads_change}
+use Rattle.d64_image.specs.History.{HeldOnly, History, OnlyReads}
 use Rattle.d64_image.specs.Images.{Image, Sector, sector}
 use Rattle.d64_image.specs.declared.place.Place.{Place}
 use Rattle.disk_layout.proofs.lemmas.counts.Recount.{slot-there}
 use Rattle.disk_layout.proofs.lemmas.counts.Recounts.{slot-of}
-use Rattle.disk_layout.proofs.lemmas.kept.Kept.{entry-byte, kept-of_stays}
 use Rattle.disk_layout.proofs.lemmas.layouts.Agree.{owned-by_files}
 use Rattle.disk_layout.proofs.lemmas.layouts.Frames.{side-owned}
 use Rattle.disk_layout.proofs.lemmas.layouts.Layouts.{IsLayout-one, get-contains}
 use Rattle.disk_layout.proofs.lemmas.lists.Lists.{alike}
-use Rattle.disk_layout.proofs.lemmas.lists.Once.{Contains-cases, Contains-here, Contains-nil, Contains-there, all-in}
+use Rattle.disk_layout.proofs.lemmas.lists.Once.{Contains-cases, Contains-here, Contains-there, all-in}
+use Rattle.disk_layout.proofs.lemmas.whole.Ends.{ends-exact}
+use Rattle.disk_layout.proofs.lemmas.whole.Files.{chain-some, map-at, none-behind, rel-not-plain}
 use Rattle.disk_layout.specs.Chain.{named_at}
 use Rattle.disk_layout.specs.Directory.{map_place, slot_in, type_byte}
 use Rattle.disk_layout.specs.InOrder.{IsUnderWay}
-use Rattle.disk_layout.specs.Layout.{File, IsFile, IsLayout, IsRelFile, Layout, count_field, file_owns, is_rel, owners, record_length}
-use Rattle.disk_layout.specs.Rest.{Kept}
+use Rattle.disk_layout.specs.Layout.{File, IsFile, IsLayout, IsRelFile, Layout, count_field, file_owns, is_rel, owners}
+use Rattle.disk_layout.specs.Layout.{record_length}
+use Rattle.disk_layout.specs.Listed.{EndsBy, HasStock, ListsOne, ListsOneMore, ListsWell, NeverGrows, is_plain, used_of}
 use Rattle.disk_layout.specs.Same.{IsCountByte, Stays, stays_of}
+use Rattle.disk_layout.specs.Whole.{IsWhole, IsWholeFile}
 use Rattle.layout_check.proofs.lemmas.repairing.Repairs.{owners-same}
+use Rattle.layout_check.proofs.lemmas.repairing.StaysSame.{count-byte, in-or-out, range-byte, same-byte, same-length}
+use Rattle.layout_check.proofs.lemmas.repairing.StaysSame.{same-name, same-rel, stock-stays}
 use Rattle.layout_check.specs.Mended.{IsMended}
 use Rattle.layout_check.specs.RepairOrder.{IsRightBut, repair_order, sides_of}
-use Rattle.rel_records.proofs.lemmas.whole.Ends.{ends-exact}
-use Rattle.rel_records.proofs.lemmas.whole.Files.{chain-some, map-at, none-behind, rel-not-plain}
-use Rattle.rel_records.specs.Listed.{EndsBy, HasStock, ListsOne, ListsOneMore, ListsWell, NeverGrows, is_plain, used_of}
-use Rattle.rel_records.specs.Whole.{IsWhole, IsWholeFile}
-
--- what a file that stays keeps of its entry
-same-byte : (a c : Image) (f g : File) → stays_of a f ≡ stays_of c g → (i : ℕ) → i < 28
-    → slice_index f.slot.bytes (2 + i) ≡ slice_index g.slot.bytes (2 + i)
-same-byte a c f g e i lt = sym (entry-byte f.slot.bytes i lt) ∙ ap (λ (s : Stays). slice_index s.entry i) e
-    ∙ entry-byte g.slot.bytes i lt
-
-same-rel : (a c : Image) (f g : File) → stays_of a f ≡ stays_of c g → is_rel f.slot ≡ is_rel g.slot
-same-rel a c f g e = ap (λ (t : ℕ). nat_eq t 132 || nat_eq t 196) (same-byte a c f g e 0 (omega arith))
-
-same-length : (a c : Image) (f g : File) → stays_of a f ≡ stays_of c g → record_length f.slot ≡ record_length g.slot
-same-length a c f g e = same-byte a c f g e 21 (omega arith)
-
-same-name : (a c : Image) (f g : File) → stays_of a f ≡ stays_of c g
-    → slice_range f.slot.bytes 5 21 ≡ slice_range g.slot.bytes 5 21
-same-name a c f g e = ap (λ (r : Kept). r.name) (kept-of_stays a c f g e)
-
-in-or-out : (ps : List Place) (q : Place) → Contains ps q ⊎ ¬ (Contains ps q)
-in-or-out [] q = inr (λ c. Contains-nil q c)
-in-or-out (p ∷ ps) q = elim (same_or_other p q) [
-  | inl e ↦ inl (let P : Place → Type 0 = Contains (p ∷ ps) in subst P e (Contains-here p ps))
-  | inr ne ↦ elim (in-or-out ps q) [
-    | inl c ↦ inl (Contains-there q p ps c)
-    | inr out ↦ inr (λ c. elim (Contains-cases q p ps c) [ inl e ↦ ne e | inr d ↦ out d ])
-  ]
-]
-
--- a byte of part of a list
-range-byte : (xs : List ℕ) (a k i : ℕ) → i < k → slice_index (slice_range xs a (a + k)) i ≡ slice_index xs (a + i)
-range-byte xs a k i lt =
-    let n : a + k - a ≡ k = omega arith in
-    ap (λ m. get_or (take m (drop a xs)) i 0) n ∙ get_or-take k (drop a xs) i 0 lt ∙ get_or-drop a xs i 0
-
-count-byte : (p : Place) (bytes : Sector) (n i : ℕ) → i < 2
-    → slice_index (slice_range (slot_in p bytes n).bytes 30 32) i ≡ slice_index bytes (32 * n + 30 + i)
-count-byte p bytes n i lt =
-    let e : 32 * n + (30 + i) ≡ 32 * n + 30 + i = omega arith in
-    range-byte (slot_in p bytes n).bytes 30 2 i lt ∙ range-byte bytes (32 * n) 32 (30 + i) (omega (arith, lt))
-    ∙ ap (slice_index bytes) e
 
 module _ (a c : Image) (l : Layout) (strays : List Place) (is : IsLayout a l) (mended : IsMended a l c)
     (way : IsUnderWay (IsRightBut strays l) (repair_order l) a c) (w : IsWhole a) where
@@ -200,41 +161,13 @@ module _ (a c : Image) (l : Layout) (strays : List Place) (is : IsLayout a l) (m
             ]
             ∙ sym (count-byte p (sector a p) n i lt)
 
-    stock-back : HasStock m → HasStock l
-    stock-back (i, g, at, stock) =
-        let (h, was, same) = alike (stays_of c) (stays_of a) m.files l.files i g mended.same.files at in
-        let P : Bool → Type 0 = IsTrue in (
-          i,
-          h,
-          was,
-          (
-            subst P (sym (same-rel a c h g same)) stock.0,
-            same-name a c h g same ∙ stock.1,
-            same-length a c h g same ∙ stock.2,
-          ),
-        )
-
-    stock-on : HasStock l → HasStock m
-    stock-on (i, g, at, stock) =
-        let (h, was, same) = alike (stays_of a) (stays_of c) l.files m.files i g (sym mended.same.files) at in
-        let P : Bool → Type 0 = IsTrue in (
-          i,
-          h,
-          was,
-          (
-            subst P (sym (same-rel c a h g same)) stock.0,
-            same-name c a h g same ∙ stock.1,
-            same-length c a h g same ∙ stock.2,
-          ),
-        )
-
     never-back : NeverGrows (HasStock m) y.slot → NeverGrows (HasStock l) x.slot
     never-back (shop, long, name) =
-        (stock-back shop, same-length a c x y e ∙ long, same-name a c x y e ∙ name)
+        (stock-stays a c l m mended.same.files shop, same-length a c x y e ∙ long, same-name a c x y e ∙ name)
 
     never-on : NeverGrows (HasStock l) x.slot → NeverGrows (HasStock m) y.slot
     never-on (shop, long, name) =
-        (stock-on shop, sym (same-length a c x y e) ∙ long, sym (same-name a c x y e) ∙ name)
+        (stock-stays c a m l (sym mended.same.files) shop, sym (same-length a c x y e) ∙ long, sym (same-name a c x y e) ∙ name)
 
     side-at : (q : Place) → slice_get y.sides ((length y.blocks - 1) / 120) ≡ Some q
         → slice_get x.sides ((length x.blocks - 1) / 120) ≡ Some q
@@ -290,3 +223,8 @@ repair-held S a b l strays is mended way w = record {
     ]
   ];
 }
+
+-- and where nothing is written
+pub reads-held : {D : Type 0} (S : History D) (a b : D) (n : ℕ) → OnlyReads S a b n → IsWhole (S.image a)
+    → HeldOnly S a b IsWhole
+reads-held S a b n reads w = (reads_change S a b n IsWhole reads w).held

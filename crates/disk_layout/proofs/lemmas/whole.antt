@@ -1,0 +1,3 @@
+-- Files that are as long as the disk says.
+pub mod Ends
+pub mod Files
