@@ -70,7 +70,8 @@ fn landed_end<L: LogFile, D: LogFolder<L> + Drop>(
     if let Err(Refusal::Run(RunFault::Device)) = ended {
         return ended;
     }
-    match log.end() {
+    let (_, landed) = log.end();
+    match landed {
         Ok(()) => ended,
         Err(_) => unlanded(ended),
     }

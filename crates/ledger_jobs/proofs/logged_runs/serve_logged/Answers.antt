@@ -11,8 +11,8 @@ returns-in-Err g c = record {
       c.args.input.now c.args.input.now c.args.out.now c.args.out.now c.in-Err.fault c.in-Err.ensures.err (refl, refl, refl);
 }
 
-pub returns-in-Err-room : goal.returns-in-Err-room
-returns-in-Err-room g c = record { run = (c.in-Ok.ensures.ok.0, refl, refl, refl) }
+pub returns-in_default : goal.returns-in_default
+returns-in_default g c = record { run = (c.in-Ok.ensures.ok.0, (refl, refl, refl)) }
 
 pub returns-in-Ok-serve_batches : goal.returns-in-Ok-serve_batches
 returns-in-Ok-serve_batches g c =
@@ -20,11 +20,11 @@ returns-in-Ok-serve_batches g c =
     record {
       run = logged_to g.L.ImageLog.history g.R.BatchSource.input g.T.Reports.output c.args.image.now c.args.log.now
           c.serve_batches.new.log c.args.input.now c.serve_batches.new.input c.args.out.now c.serve_batches.new.out
-          c.in-Ok.disk loaded.0 loaded.1 (λ left. Ok left) c.in-Ok-serve_batches.left c.in-Ok-serve_batches.ensures;
+          c.in-Ok.disk loaded.0 loaded.1 (λ left. Ok left) c.in-Ok-serve_batches._left c.in-Ok-serve_batches.ensures;
     }
 
-pub returns-in-Err-serve_batches : goal.returns-in-Err-serve_batches
-returns-in-Err-serve_batches g c =
+pub returns : goal.returns
+returns g c =
     let loaded = c.in-Ok.ensures.ok in
     record {
       run = subst (λ (f : RunFault). IsLoggedFault g.L.ImageLog.history g.R.BatchSource.input g.T.Reports.output
@@ -32,6 +32,6 @@ returns-in-Err-serve_batches g c =
           c.serve_batches.new.out f) (sym c.told.ensures)
           (logged_fault g.L.ImageLog.history g.R.BatchSource.input g.T.Reports.output c.args.image.now c.args.log.now
           c.serve_batches.new.log c.args.input.now c.serve_batches.new.input c.args.out.now c.serve_batches.new.out
-          c.in-Ok.disk loaded.0 loaded.1 c.in-Err-serve_batches.fault c.in-Err-serve_batches.left
+          c.in-Ok.disk loaded.0 loaded.1 c.in-Err-serve_batches.fault c.in-Err-serve_batches._left
           c.in-Err-serve_batches.ensures);
     }
