@@ -1,10 +1,9 @@
 #!/usr/bin/env python3
 """Makes docs/DEFINITIONS.md from the comments over the definitions in crates/*/specs/, but for those that docs/CORE.md has.
 
-It has each definition that a document of NAMING uses, and each fact (with a capital) or history of a device, source or output that
-contracts of public functions, traits and types of another crate cite: the comment over it, its source where the heading of its file
-doesn't name it, and the example that decides it. Examples, further sources, and sentences for definitions without a comment, or with
-one that leaves much to their fields, stand in docs/definitions.txt.
+It has each definition that a document of NAMING uses: the comment over it, its source where the heading of its file doesn't name it,
+and the example that decides it. Examples, further sources, and sentences for definitions without a comment, or with one that leaves
+much to their fields, stand in docs/definitions.txt.
 
 Without words the page is written. With `--check` nothing is written, and the status is 1 where the page isn't up to date.
 In both cases the status is 1 where the side table names what no public contract rests on, or a definition has no sentence, or a name
@@ -21,17 +20,14 @@ from spec_files import CRATES, TOP, WORD, ends_head, everything, heading, import
 
 # the documents each of whose names has a sentence
 NAMING = ("README.md", "docs/PROMISES.md", "docs/PROOF.md")
-# the types of what devices, files, sources and outputs say of themselves
-HISTORIES = r"(?::|→) (History|Keeps|Source|Output) [^→\n]*$"
 # how the sources outside this repository are called
 SOURCES = r"Guide|D64|Standard"
 HEAD = """# Definitions
 
-[CORE.md](CORE.md) has the definitions on which the promise of the product rests. Here are others, by crate and file: those that the
-README, [PROMISES.md](PROMISES.md) or [PROOF.md](PROOF.md) use, and the facts that contracts of several crates cite. The rest stand
-in `crates/CRATE/specs/`. In brackets: the example that decides a definition, a theorem or a test
-(`docs/definitions.txt`). "The Guide" is the 1541 User's Guide; a definition that names no source is our own. *The disk with STOCK* has
-one relative file of one block. `tests/definitions.py` makes this page."""
+[CORE.md](CORE.md) has the definitions on which the promise of the product rests. Here are others, by crate and file: those that
+[PROMISES.md](PROMISES.md) uses. The rest stand in `crates/CRATE/specs/`, each under a sentence. In brackets: the example that decides
+a definition, a theorem or a test. "The Guide" is the 1541 User's Guide; a definition that names no source is our own.
+`tests/definitions.py` makes this page."""
 
 
 def public_names(crate):
@@ -85,22 +81,20 @@ def unknown_examples(side):
 
 
 def rested_on(known):
-    """The definitions that contracts cite, each with the files of these, and all on which they rest."""
-    wanted = {}
+    """The definitions that contracts cite, and all on which they rest."""
+    below = set()
     for crate in CRATES:
         names = public_names(crate)
         for file in sorted((TOP / "crates" / crate / "src").rglob("*.rt")):
             if not file.stem.endswith("tests"):
                 text = without_comments(file.read_text(), "//")
-                for it in named(contracts(text, names), imports(text, "ghost use"), "//"):
-                    if it in known:
-                        wanted.setdefault(it, set()).add((crate, file))
-    below, left = set(wanted), list(wanted)
+                below |= {it for it in named(contracts(text, names), imports(text, "ghost use"), "//") if it in known}
+    left = list(below)
     while left:
         new = {it for it in known[left.pop()].uses if it in known} - below
         below |= new
         left += new
-    return wanted, below
+    return below
 
 
 def names_of_documents():
@@ -132,16 +126,12 @@ def heading_sources(heading):
     return "".join(f" {sentence if all_of_it else it[0]}" for it, sentence, all_of_it in zip(named, sentences, whole))
 
 
-def row(key, it, side, files, is_used):
-    """What the page has of a definition: its name, sentence, source and example; None where it doesn't stand there."""
+def row(key, it, side):
+    """What the page has of a definition: its name, sentence, source and example."""
     crate, _, name = key
     text, source = sentence(side.get((crate, name, "="), " ".join(line.strip()[2:].strip() for line in it.comment)))
     source = side.get((crate, name, "<"), source)
     example = side.get((crate, name, ":"), "")
-    is_fact = name[0].isupper() or re.search(HISTORIES, it.text.split("\n")[0])
-    is_elsewhere = any(of != crate for of, _ in files)
-    if not (is_used or is_fact and is_elsewhere):
-        return None
     shown = [f"source: {source}"] * bool(source) + [example] * bool(example)
     return f"- `{name}`: {text}." + f" [{'; '.join(shown)}]" * bool(shown)
 
@@ -149,19 +139,17 @@ def row(key, it, side, files, is_used):
 def page():
     """The page, and what is wrong with its sources."""
     known = {key: it for key, it in everything().items() if key[1]}
-    (wanted, below), core, used = rested_on(known), in_core(), names_of_documents()
+    below, core, used = rested_on(known), in_core(), names_of_documents()
     (side, faults), lines, named_here = side_table(), [HEAD], set(core)
     ordered = [it.split(":")[0] for it in (TOP / "crates.txt").read_text().split("\n") if it and not it.startswith("#")]
     for crate in ordered:
-        is_product, parts = not crate.startswith(("test_", "benchmarks", "example_")), []
+        parts = []
         for module in sorted({module for of, module, _ in below if of == crate}):
             keys = [it for it in known if it[:2] == (crate, module) and it in below and it not in core]
-            keys = [it for it in keys if is_product or it[2] in used]
-            rows = {it: row(it, known[it], side, wanted.get(it, set()), it[2] in used) for it in keys}
-            faults += [f"no sentence: {'/'.join(it)}" for it in keys if "`: ." in (rows[it] or "")]
+            rows = {it: row(it, known[it], side) for it in keys if it[2] in used}
+            faults += [f"no sentence: {'/'.join(it)}" for it, text in rows.items() if "`: ." in text]
             source = heading_sources(heading(crate, module)).replace("1541 User's Guide", "the Guide").replace("the the", "the")
-            kept = [it for it in rows.values() if it]
-            parts += [f"\n**`{module.replace('.', '/')}`**{source.rstrip('.')}\n", *kept] if kept else []
+            parts += [f"\n**`{module.replace('.', '/')}`**{source.rstrip('.')}\n", *rows.values()] if rows else []
             named_here |= set(keys)
         lines += [f"\n## `{crate}`", *parts] if parts else []
     unknown = used & {name for _, _, name in known} - {name for _, _, name in named_here}
@@ -178,7 +166,7 @@ def main():
         faults += [] if place.read_text() == text else ["docs/DEFINITIONS.md isn't up to date: run tests/definitions.py"]
     else:
         place.write_text(text)
-    print("\n".join(faults) or "docs/DEFINITIONS.md and docs/CORE.md have each fact that a public contract cites")
+    print("\n".join(faults) or "docs/DEFINITIONS.md and docs/CORE.md have each definition that the documents name")
     return 1 if faults else 0
 
 

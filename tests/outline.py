@@ -1,6 +1,6 @@
 #!/usr/bin/env python3
 """Makes crates/README.md, the outline of the crates: those of crates.txt under its headings, each with the first sentence of its
-README and, of the product, where its tests stand.  tests/outline.py [--check]
+README and, of the product, where its tests stand and whether a command uses it.  tests/outline.py [--check]
 
 Without words the page is written. With `--check` nothing is written, and the status is 1 where the page isn't up to date. In both
 cases it is 1 where
@@ -85,7 +85,7 @@ def figure_faults(product, every):
 def main():
     found, faults, lines = groups(), [], [HEAD]
     stands_on = {crate: below for crates in found.values() for crate, below in crates.items()}
-    every = list(stands_on)
+    every, in_program = list(stands_on), {"ledger"} | all_below("ledger", stands_on)
     folders = sorted(it.parent.name for it in TOP.glob("crates/*/src"))
     faults += [f"crates.txt: no {it}" for it in folders if it not in every]
     for group, crates in found.items():
@@ -94,7 +94,8 @@ def main():
         for crate in crates:
             said, wrong = tests_of(crate, stands_on) if group == "Product" else ("", [])
             faults += wrong
-            lines += [f"- [`{crate}`]({crate}/README.md): {first_sentence(crate)}. {said}".rstrip()]
+            said += " No command uses it yet." if group == "Product" and crate not in in_program else ""
+            lines += [f"- [`{crate}`]({crate}/README.md): {first_sentence(crate)}. {said.lstrip()}".rstrip()]
         lines += [""]
     faults += figure_faults(found["Product"], every)
     place, text = TOP / "crates" / "README.md", "\n".join(lines).rstrip() + "\n"

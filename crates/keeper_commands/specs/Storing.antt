@@ -1,5 +1,5 @@
 -- What a disk holds while records are stored from their lines, and what is left and told in the end. Our own.
-use Rattle.std.specs.Prelude.{◌≡◌, ◌≢◌, ◌⊎◌, Bool, ℕ, ◌+◌, ◌*◌, List, [], ◌∷◌, ◌++◌, Option, Result, Some, IfErr, IfOk}
+use Rattle.std.specs.Prelude.{◌≡◌, ◌≢◌, ◌⊎◌, ◌≤◌, Bool, ℕ, ◌+◌, ◌*◌, List, [], ◌∷◌, ◌++◌, Option, Result, Some, IfErr, IfOk}
 use Rattle.std.specs.Prelude.{OnOk, drop, length, slice_get}
 use Rattle.std.specs.Io.KnownBytes.{Appends}
 use Rattle.d64_image.specs.History.{Changes, Failed, History, WritesNothing}

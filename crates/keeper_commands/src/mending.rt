@@ -221,7 +221,7 @@ fn mended<D: Sectors>(disk: &mut D, free: bool) -> Result<u16, Fault>
 /// If `free` is false no sector becomes free: those that the map calls taken and no file owns are left. If it is true
 /// these become free, and none is left. But for what is left a sound disk is made clean, with the same files: each
 /// sector that isn't right is written once, and every image that the disk holds on the way is sound and has the same
-/// files.
+/// files. Files that are whole stay so in each of these images: no cut of power leaves one cut short.
 ///
 /// `ImageSize`, `NoMemory`, `Geos` if 18/0 has GEOS's signature, `Format` if its format byte isn't $41, and `Layout` if
 /// the disk isn't sound, for a fault that holds: then nothing was written or printed. `Device` if the device failed; what

@@ -19,7 +19,8 @@ use std::io::Write;
 /// text is one that `read_line` reads, of any record that the file has or can have, in any order; of two lines of one
 /// record the last counts, and the others are judged alone. The file grows first, once, to the greatest record; then
 /// the lines that count are stored in order, each record that is otherwise with the line's bytes and zeros behind them.
-/// Records of which there is no line stay. Every image that the disk holds on the way is sound, has the other files as
+/// Records of which there is no line stay. Files that are whole stay so at each moment, unless a shop's `REQUESTS` grows:
+/// power that goes then leaves it with one block more listed than its chain has. Every image that the disk holds on the way is sound, has the other files as
 /// they are, and a beginning of the lines that count stored, where of the next record the first part may be new. So the
 /// same text, stored again, writes and prints nothing.
 ///

@@ -33,7 +33,7 @@ fn mend<D: Sectors>(disk: &mut D, taken: &Owners) -> Result<(), Fault>
 /// Written are the map where a bit or a count in it is wrong (then the bits past the tracks' last sectors become 0),
 /// the side sectors that haven't exactly their bytes, in the order of the directory, and the directory sectors in which
 /// a block count is wrong, each once: so none of a clean disk. Every image that the disk holds on the way is sound and
-/// has the same files. At most 5543 reads are made, at `Ok` 37 and seven a sector
+/// has the same files; those that are whole stay so in each. At most 5543 reads are made, at `Ok` 37 and seven a sector
 /// of the directory or a file.
 ///
 /// A sector that the map calls taken and that nobody owns becomes free: `repair_keeping` leaves it taken.
@@ -51,7 +51,8 @@ pub fn repair<D: Sectors>(disk: &mut D) -> Result<Survey, Fault>
 /// taken. Returns how many such sectors there are; but for them the disk is clean. They may be blocks that were written
 /// by direct access, or that a program keeps in a way of its own.
 ///
-/// Every image that the disk holds on the way is sound, has the same files, and calls no sector free that wasn't. At
+/// Every image that the disk holds on the way is sound, has the same files, whole ones whole, and calls no sector free
+/// that wasn't. At
 /// most 5544 reads are made, at `Ok` 38 and seven a sector of the directory or a file.
 ///
 /// A disk that isn't sound is left as it is, and the survey's fault returned. `Device` is returned if the device failed;

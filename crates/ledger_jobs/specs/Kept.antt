@@ -1,6 +1,6 @@
 -- What comes of a relative file that is made on the disk of an image, or of records that are stored in one, over the
 -- image's bytes and its file. All of it is our own.
-use Rattle.std.specs.Prelude.{◌≡◌, ◌≢◌, ◌⊎◌, ℕ, List, Option, Result, Some, IfErr, length, slice_get}
+use Rattle.std.specs.Prelude.{◌≡◌, ◌≢◌, ◌⊎◌, ◌≤◌, ℕ, List, Option, Result, Some, IfErr, length, slice_get}
 use Rattle.std.specs.Io.KnownBytes.{Appends}
 use Rattle.d64_image.specs.FileDisks.{in_run}
 use Rattle.d64_image.specs.History.{Changes, HeldOnly, History, WritesNothing}

@@ -144,7 +144,8 @@ fn file_at(site: &Site, size: u8) -> RelFile
 /// directory has neither a free slot nor a free sector. Both write nothing. The name isn't judged: whoever asks sees to
 /// it that it has no shifted space, and that the first closed relative file of it, if any, has another record length.
 ///
-/// Fifty-five sectors at most are read, unless the device fails; the last write makes the file.
+/// Fifty-five sectors at most are read, unless the device fails; the last write makes the file. Files that are whole stay
+/// so in each image that the disk holds on the way.
 pub fn create<D: Sectors>(disk: &mut D, name: &[u8], size: u8) -> Result<RelFile, RelFault>
     requires clean { IsClean (D.history.image disk.old) }
     requires name { length name.now ≤ 16 }

@@ -1,10 +1,11 @@
 -- An image that is made and said to be, by how its two steps ended.
-use Rattle.std.proofs.Common.{◌≡◌, ◌⊎◌, ◌∙◌, ℕ, List, Option, Result, Ok, Err, ap, inl, inr, refl, subst, sym}
+use Rattle.std.proofs.Common.{◌≡◌, ◌≤◌, ◌⊎◌, ◌∙◌, ℕ, List, Option, Result, Ok, Err, ap, inl, inr, refl, subst, sym}
 use Rattle.std.specs.Prelude.{IfErr, IsOk, OnOk, codes}
 use Rattle.std.specs.Io.KnownBytes.{Appends}
 use Rattle.d64_image.specs.Chunks.{sectors_in-bytes_of}
 use Rattle.d64_image.specs.Images.{Image}
 use Rattle.d64_image.specs.Memory.{sectors_in}
+use Rattle.disk_layout.proofs.lemmas.blank.BlankWhole.{blank-files-whole}
 use Rattle.disk_layout.specs.Whole.{IsWhole}
 use Rattle.host_session.specs.runs.Outputs.{AppendsPart}
 use Rattle.system_files.specs.Remains.{Remains}
@@ -26,9 +27,9 @@ no_memory into tills file result fault told is =
     (subst (λ f. IsWritten into tills file file (Err f)) (sym is) refl)
 
 -- what remains of a replaced image is what could remain before, or whole
-uncut : {F : Type 0} (into : Remains F) (tills : ℕ) (file new_file : F) (bytes : List ℕ) → AreFreshBytes tills bytes
-    → Since into file new_file (λ s. IsNoDisk s ⊎ (s ≡ bytes)) → Since into file new_file IsUncut
-uncut into tills file new_file bytes fresh remain = record {
+uncut : {F : Type 0} (into : Remains F) (tills : ℕ) (file new_file : F) (bytes : List ℕ) → 1 ≤ tills → tills ≤ 64
+    → AreFreshBytes tills bytes → Since into file new_file (λ s. IsNoDisk s ⊎ (s ≡ bytes)) → Since into file new_file IsUncut
+uncut into tills file new_file bytes some few fresh remain = record {
   later = remain.later;
   each = λ t s le left. elim (remain.each t s le left) [
     | inl before ↦ inl before
@@ -41,13 +42,14 @@ uncut into tills file new_file bytes fresh remain = record {
   where
     of-bytes : IsWhole (sectors_in bytes)
     of-bytes = let P : Image → Type 0 = IsWhole in
-        subst P (sym (ap sectors_in fresh.bytes_of ∙ sectors_in-bytes_of fresh.disk fresh.fresh.whole)) fresh.fresh.uncut
+        subst P (sym (ap sectors_in fresh.bytes_of ∙ sectors_in-bytes_of fresh.disk fresh.fresh.whole))
+        (blank-files-whole fresh.fresh.zeros fresh.disk _ _ tills some few fresh.fresh.whole fresh.fresh.blank)
 
 -- the bytes of a disk were written whole
-pub written : {F E : Type 0} (into : Remains F) (tills : ℕ) (file new_file : F) (bytes : List ℕ)
-    → AreFreshBytes tills bytes → (put : Result Unit E) → put ≡ Ok tt → IsReplaced into file new_file bytes put
+pub written : {F E : Type 0} (into : Remains F) (tills : ℕ) (file new_file : F) (bytes : List ℕ) → 1 ≤ tills
+    → tills ≤ 64 → AreFreshBytes tills bytes → (put : Result Unit E) → put ≡ Ok tt → IsReplaced into file new_file bytes put
     → IsHandedOver into tills file new_file
-written {F} {E} into tills file new_file bytes fresh put ok is =
+written {F} {E} into tills file new_file bytes some few fresh put ok is =
     let whole = subst (λ (x : Result Unit E). IsReplaced into file new_file bytes x) ok is in
     record {
       bytes = bytes;
@@ -55,19 +57,19 @@ written {F} {E} into tills file new_file bytes fresh put ok is =
       held = whole.held;
       lasting = whole.ok;
       remain = whole.remain;
-      uncut = uncut into tills file new_file bytes fresh whole.remain;
+      uncut = uncut into tills file new_file bytes some few fresh whole.remain;
     }
 
 -- or a part of them
-pub written_part : {F E : Type 0} (into : Remains F) (tills : ℕ) (file new_file : F) (bytes : List ℕ)
-    → AreFreshBytes tills bytes → (put : Result Unit E) → IsReplaced into file new_file bytes put
+pub written_part : {F E : Type 0} (into : Remains F) (tills : ℕ) (file new_file : F) (bytes : List ℕ) → 1 ≤ tills
+    → tills ≤ 64 → AreFreshBytes tills bytes → (put : Result Unit E) → IsReplaced into file new_file bytes put
     → IsHandedPart into tills file new_file
-written_part into tills file new_file bytes fresh put is =
+written_part into tills file new_file bytes some few fresh put is =
     record {
       bytes = bytes;
       fresh = fresh;
       remain = is.remain;
-      uncut = uncut into tills file new_file bytes fresh is.remain;
+      uncut = uncut into tills file new_file bytes some few fresh is.remain;
     }
 
 -- the image wasn't written whole, and nothing was said

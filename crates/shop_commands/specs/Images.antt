@@ -29,8 +29,6 @@ pub record IsFreshDisk (img : Image) (tills : ℕ) : Type 0 where
   pub blank : IsBlank zeros img (codes "STOCK LEDGER") (codes "01") tills
   -- 683 sectors of 256 bytes
   pub whole : IsImage img
-  -- no file is shorter than what the disk says of it elsewhere
-  pub uncut : IsWhole img
 
 -- the bytes of such a disk, sector after sector
 pub record AreFreshBytes (tills : ℕ) (bytes : List ℕ) : Type 0 where

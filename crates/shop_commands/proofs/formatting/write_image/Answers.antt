@@ -16,12 +16,12 @@ pub returns : goal.returns
 returns g c =
     let fresh : AreFreshBytes c.args.tills c.bytes.result.now =
     record { disk = disk_image c.in_ok-disk.disk; fresh = c.in_ok-disk.ensures.ok; bytes_of = c.bytes.ensures.value } in
-    written_part g.F.EndedFile.remains c.args.tills c.args.file.now c.replace_image.new.file c.bytes.result.now fresh
-    c.replace_image.result c.replace_image.ensures
+    written_part g.F.EndedFile.remains c.args.tills c.args.file.now c.replace_image.new.file c.bytes.result.now
+    c.requires.some c.requires.few fresh c.replace_image.result c.replace_image.ensures
 
 pub returns-in-Ok : goal.returns-in-Ok
 returns-in-Ok g c =
     let fresh : AreFreshBytes c.args.tills c.bytes.result.now =
     record { disk = disk_image c.in_ok-disk.disk; fresh = c.in_ok-disk.ensures.ok; bytes_of = c.bytes.ensures.value } in
-    written g.F.EndedFile.remains c.args.tills c.args.file.now c.replace_image.new.file c.bytes.result.now fresh
-    c.replace_image.result c.in-Ok.is c.replace_image.ensures
+    written g.F.EndedFile.remains c.args.tills c.args.file.now c.replace_image.new.file c.bytes.result.now
+    c.requires.some c.requires.few fresh c.replace_image.result c.in-Ok.is c.replace_image.ensures

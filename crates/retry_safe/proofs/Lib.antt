@@ -1,0 +1,6 @@
+mod Asking
+pub mod Examples
+mod Played
+mod Received
+mod Repeats
+mod Safe

@@ -1,0 +1,27 @@
+-- An opening whose power goes.
+use Rattle.std.proofs.Common.{ap, ◌∙◌}
+use Rattle.d64_image.specs.Fuses.{fuse_disk}
+use Rattle.host_session.proofs.lemmas.events.Cuts.{cut_later, cut_moments}
+use Rattle.retry_safe.proofs.power_loss.open_until.Goals as goal
+
+pub returns-in-Ok : goal.returns-in-Ok
+returns-in-Ok g c =
+    let closed = c.into_inner.ensures ∙ ap fuse_disk c.close.ensures in
+    record {
+      moments = λ s shop.
+          cut_moments g.D.Sectors.history s 952 c.args.disk c.into_inner.result c.new.result c.in-Ok.session.disk
+          c.new.ensures.disk closed shop (c.in-Ok.ensures.moments s);
+      later = λ s shop.
+          cut_later g.D.Sectors.history s 952 c.args.disk c.into_inner.result c.new.result c.in-Ok.session.disk
+          c.new.ensures.disk closed shop (c.in-Ok.ensures.moments s);
+    }
+
+pub returns-in-Err : goal.returns-in-Err
+returns-in-Err g c = record {
+  moments = λ s shop.
+      cut_moments g.D.Sectors.history s 952 c.args.disk c.into_inner-in-Err.result c.new.result c.in-Err.fuse
+      c.new.ensures.disk c.into_inner-in-Err.ensures shop (c.in-Err.ensures.moments s);
+  later = λ s shop.
+      cut_later g.D.Sectors.history s 952 c.args.disk c.into_inner-in-Err.result c.new.result c.in-Err.fuse
+      c.new.ensures.disk c.into_inner-in-Err.ensures shop (c.in-Err.ensures.moments s);
+}

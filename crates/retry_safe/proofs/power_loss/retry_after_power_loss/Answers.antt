@@ -1,0 +1,33 @@
+-- The promise, of the three steps.
+use Rattle.std.proofs.Common.{◌≡◌}
+use Rattle.host_session.specs.declared.runs.plays.PlayFault.TheVariants as faults
+use Rattle.host_session.specs.events.Events.{message_of}
+use Rattle.host_session.proofs.lemmas.Held.{at_end}
+use Rattle.std.specs.Prelude.{map}
+use Rattle.retry_safe.proofs.Asking.{not_told}
+use Rattle.retry_safe.proofs.Safe.{no_memory, safe}
+use Rattle.retry_safe.proofs.power_loss.retry_after_power_loss.Goals as goal
+
+pub returns-in-Ok : goal.returns-in-Ok
+returns-in-Ok g c =
+    let h = g.D.Sectors.history in
+    record {
+      safe = λ s shop.
+          let left = c.in-Ok.ensures.left s shop in
+          safe h s (map message_of c.args.events.now) c.args.power c.args.again.now c.args.disk c.in-Ok.left
+          c.open_until_each.result _ _ c.ask.result left (c.open_until_each.ensures.moments _ left.shop)
+          (c.open_until_each.ensures.later _ left.shop)
+          (c.ask.ensures.asked _ (at_end h _ _ _ (c.open_until_each.ensures.moments _ left.shop)));
+      memory = not_told c.ask.result (λ e. e.0 ≡ faults.NoMemory) _ c.ask.ensures.room;
+    }
+
+pub returns-in-Err : goal.returns-in-Err
+returns-in-Err g c =
+    let h = g.D.Sectors.history in
+    let kept = c.in-Err.ensures.memory in
+    record {
+      safe = λ s shop.
+          no_memory h s (map message_of c.args.events.now) c.args.power c.args.again.now c.args.disk c.in-Err.disk _ _ shop
+          kept.0 kept.1;
+      memory = λ is. kept;
+    }

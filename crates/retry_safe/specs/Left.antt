@@ -1,0 +1,34 @@
+-- What a run leaves in which power goes for good. All of it is our own.
+use Rattle.std.specs.Prelude.{◌≡◌, ◌≤◌, ◌<◌, ◌++◌, ℕ, List, [], length, map}
+use Rattle.d64_image.specs.History.{History, NeverFailed}
+use Rattle.d64_image.specs.Images.{Image}
+use Rattle.host_session.specs.Held.{HeldOnly}
+use Rattle.host_session.specs.events.Events.{Message}
+use Rattle.host_session.specs.events.Quiet.{AreUncut}
+use Rattle.host_session.specs.events.Within.{most_of_run}
+use Rattle.host_session.specs.shop.Shop.{IsShop, Shop, start_of, with_state}
+use Rattle.request_cards.specs.Ledgers.{State, plain}
+use Rattle.request_cards.specs.declared.reply.Reply.{Reply}
+use Rattle.retry_safe.specs.Turns.{Answered, CountsOnce, EachTurn, Turn, counted_in}
+
+-- the image is this shop's, whatever its cards
+abbrev pub IsOfShop : Shop → Image → Type 0
+IsOfShop s image = (state : State) × IsShop image (with_state s state)
+
+-- some of these events were received, from the first on, and no other
+abbrev pub IsReceived : List Message → List Turn → Type 0
+IsReceived events turns = (missed : List Message) × (map (λ t. t.message) turns ++ missed ≡ events)
+
+-- Events were played over a shop's disk up to a power loss, or to their end.
+pub record IsLeft {D : Type 0} (h : History D) (s : Shop) (events : List Message) (power : ℕ) (disk left : D)
+    (old new : List Reply) : Type 0 where
+  pub turns : List Turn
+  pub received : IsReceived events turns
+  pub told : new ≡ old ++ map (λ t. t.reply) turns
+  pub answered : EachTurn (Answered s) [] turns
+  pub counts : EachTurn (CountsOnce s) [] turns
+  pub all : AreUncut events → most_of_run (length events) < power → NeverFailed h disk left
+      → map (λ t. t.message) turns ≡ events
+  pub shop : IsShop (h.image left) (with_state s (plain (start_of s) (counted_in turns)))
+  pub held : HeldOnly h disk left (IsOfShop s)
+  pub later : h.failures disk ≤ h.failures left

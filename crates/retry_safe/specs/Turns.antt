@@ -1,0 +1,67 @@
+-- The messages that a run received, each with what it counted and what was told. All of it is our own.
+use Rattle.std.specs.Prelude.{◌≡◌, ◌≢◌, ℕ, Bool, List, [], ◌∷◌, ◌++◌, Some, flat_map, option_to_list}
+use Rattle.std.specs.List.{AllByRecursion}
+use Rattle.request_cards.specs.declared.reply.Reply.{Reply}
+use Rattle.request_cards.specs.declared.reply.Reply.TheVariants.{Cut}
+use Rattle.request_cards.specs.Ledgers.{plain, reply}
+use Rattle.request_cards.specs.Reading.{request_of}
+use Rattle.request_cards.specs.Requests.{Ask}
+use Rattle.host_session.specs.events.Counted.{MayCount}
+use Rattle.host_session.specs.events.Events.{Message}
+use Rattle.host_session.specs.session.Handling.{IsMedia}
+use Rattle.host_session.specs.shop.Shop.{Shop, start_of}
+
+-- One message that was received.
+pub record Turn : Type 0 where
+  pub message : Message
+  -- the device failed in it, or power went for good
+  pub failed : Bool
+  -- what it counts: its request once, or nothing
+  pub counted : List Ask
+  -- what was told
+  pub reply : Reply
+
+-- the request that a message is, if it is one
+abbrev pub asks_in : List ℕ → List Ask
+asks_in bytes = option_to_list (request_of bytes)
+
+-- the requests that count, in order
+abbrev pub counted_in : List Turn → List Ask
+counted_in turns = flat_map (λ t. t.counted) turns
+
+-- P holds of each turn, beside the requests counted before it
+abbrev pub EachTurn : (List Ask → Turn → Type 0) → List Ask → List Turn → Type 0
+EachTurn P before [] = Unit {0}
+EachTurn P before (t ∷ ts) = P before t × EachTurn P (before ++ t.counted) ts
+
+-- the till was answered: power didn't go in its message, and the device didn't fail
+abbrev pub IsAnswer : Reply → Type 0
+IsAnswer r = (r ≢ Cut) × ¬ (IsMedia r)
+
+-- A message that was answered counts, and the answer is the one over the requests counted before it.
+abbrev pub Answered : Shop → List Ask → Turn → Type 0
+Answered s before t = IsAnswer t.reply
+    → (t.counted ≡ asks_in t.message.bytes) × (t.reply ≡ reply (start_of s) before (request_of t.message.bytes))
+
+-- What any message counts (`Counts` of host_session has the cases). Where power went in it, it counts nothing if it went
+-- before the first write, and its request if later, but a first set may count or not up to write 3619; and where power
+-- went for good, or the device failed, a message may count or not.
+abbrev pub CountsOnce : Shop → List Ask → Turn → Type 0
+CountsOnce s before t = MayCount s.top (plain (start_of s) before) (request_of t.message.bytes) t.message.cut_after
+    t.failed t.counted
+
+-- none of these requests is of the till of that one
+abbrev pub NoneOfTill : Ask → List Ask → Type 0
+NoneOfTill a asks = AllByRecursion (λ b. b.till ≢ a.till) asks
+
+-- This message counted its request behind these, and behind it no request of its till counted.
+pub record IsLastOfTill (bytes : List ℕ) (before : List Ask) (turns : List Turn) : Type 0 where
+  pub first : List Turn
+  pub turn : Turn
+  pub later : List Turn
+  pub parts : turns ≡ first ++ turn ∷ later
+  pub counted_before : counted_in first ≡ before
+  pub ask : Ask
+  pub is : request_of bytes ≡ Some ask
+  pub counts : turn.counted ≡ ask ∷ []
+  pub none_later : NoneOfTill ask (counted_in later)

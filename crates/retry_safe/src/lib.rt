@@ -1,0 +1,8 @@
+//! The product's promise as one call: events, a power loss, the next opening, and a request asked again.
+#![tactic(auto)]
+
+mod power_loss;
+#[cfg(test)]
+mod tests;
+
+pub use power_loss::retry_after_power_loss;

@@ -1,0 +1,41 @@
+//! The call on a disk in memory, with power that goes after each number of writes that a first set can take. What a till
+//! is told comes from the trade rule, by hand.
+use crate::retry_after_power_loss;
+use d64_image::MemDisk;
+use disk_layout::blank_image;
+use host_session::Event;
+use request_cards::Reply;
+use std::process::Abort;
+
+/// A shop for two tills.
+fn fresh(rt: &(impl Abort + AllocGlobal)) -> MemDisk {
+    let mut disk = MemDisk::zeroed(rt.alloc()).expect(rt, "memory for a disk");
+    blank_image(&mut disk, b"STOCK LEDGER", *b"01", 2).expect(rt, "a blank disk");
+    disk
+}
+
+#[test]
+fn a_repeat_hears_the_kept_answer_wherever_power_goes(rt: HostRuntime) {
+    let set = [Event {
+        message: b"1,1,S,15,7",
+        cut: None,
+    }];
+    for power in 0..12 {
+        let mut replies: Vec<Reply> = Vec::new(rt.alloc());
+        let ran = retry_after_power_loss(
+            fresh(&rt),
+            &set,
+            power,
+            &[1, 0, 2],
+            b"1,1,S,15,7",
+            &mut replies,
+        );
+        let Ok((session, reply)) = ran else {
+            panic!(rt; "not opened");
+        };
+        assert_eq!(rt; reply.print().as_slice(), b"1,1,DONE,7".as_slice());
+        let on_hand = session.card(15);
+        let _disk = session.close();
+        assert_eq!(rt; on_hand, Ok(Some(7)));
+    }
+}

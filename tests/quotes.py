@@ -1,0 +1,53 @@
+#!/usr/bin/env python3
+"""Sees that what documents quote whole stands so in the sources.
+
+In README.md and docs/*.md a line `<!-- FILE: NAME -->` stands before a block of code that quotes the definition NAME of FILE, with
+the comment over it. Both have to be the same, line by line. `--write` puts the definition into the block. Without words nothing is
+written, and the status is 1 where a block isn't up to date, where NAME isn't there, or where nothing is quoted."""
+
+import re
+import sys
+from pathlib import Path
+
+TOP = Path(__file__).resolve().parent.parent
+QUOTE = re.compile(r"(<!-- (\S+): (\w+) -->\n+```\w*\n)(.*?)(```\n)", re.S)
+
+
+def definition(file, name):
+    """A definition with the comment over it, from its file; None where it isn't there."""
+    lines = (TOP / file).read_text(encoding="utf-8").split("\n")
+    heads = [at for at, line in enumerate(lines) if re.match(rf"(unfoldable |abbrev )?pub (record |data )?{name}\b", line)]
+    if len(heads) != 1:
+        return None
+    begin = end = heads[0]
+    while begin and lines[begin - 1].startswith("--"):
+        begin -= 1
+    while end + 1 < len(lines) and (lines[end + 1].startswith(" ") or re.match(rf"{name}\b", lines[end + 1])):
+        end += 1
+    return "\n".join(lines[begin : end + 1]) + "\n"
+
+
+def main(words):
+    faults = quoted = 0
+    for page in [TOP / "README.md", *sorted((TOP / "docs").glob("*.md"))]:
+        text = page.read_text(encoding="utf-8")
+        made = text
+        for head, file, name, block, foot in QUOTE.findall(text):
+            quoted += 1
+            wanted = definition(file, name) if (TOP / file).exists() else None
+            if wanted is None:
+                print(f"{page.relative_to(TOP)}: {file} has no {name}")
+                faults += 1
+            elif block != wanted:
+                made = made.replace(head + block + foot, head + wanted + foot)
+                if "--write" not in words:
+                    print(f"{page.relative_to(TOP)}: {name} isn't as in {file}")
+                    faults += 1
+        if made != text and "--write" in words:
+            page.write_text(made, encoding="utf-8")
+    print(f"{quoted} definitions are quoted")
+    return int(bool(faults) or not quoted)
+
+
+if __name__ == "__main__":
+    sys.exit(main(sys.argv[1:]))
