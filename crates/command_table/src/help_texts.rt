@@ -68,8 +68,7 @@ DEVICE (also if IMAGE no longer names the file that is served).\n\
 Example: ledger serve shop.d64 < messages.txt";
 
 /// What `copy` prints, its statuses, and an example.
-pub(crate) const COPY: &str =
-    "Prints COPIED once the copy is on the disk. The copy needs no log.\n\
+pub(crate) const COPY: &str = "Prints COPIED once the copy is on the disk. The copy needs no log.\n\
 Status 0: copied. 1: IMAGE SIZE, LOG, or FILE EXISTS (NEW, or its log): nothing\n\
 was done. 3: FILE, NO MEMORY, IN USE.\n\
 Example: ledger copy shop.d64 backup.d64";

@@ -1,6 +1,7 @@
 //! The subcommands, a row each.
 use crate::help_texts::{
-    BYTES, CHECK, COPY, DRY, FORMAT, LIST, MAKE, MAP, PICTURE, PLAY, RECORDS, REPAIR, SERVE, SHOW, STORE,
+    BYTES, CHECK, COPY, DRY, FORMAT, LIST, MAKE, MAP, PICTURE, PLAY, RECORDS, REPAIR, SERVE, SHOW,
+    STORE,
 };
 
 /// A value that has to stand behind the name of a subcommand, or a flag, which may stand there or not.

@@ -283,7 +283,11 @@ where
 fn tell_made<E: Write>(job: &Job<'_>, err: &mut E) {
     match job {
         Job::Copy { copy, .. } => {
-            tell_of(err, copy, "it or its log is there already; choose another name");
+            tell_of(
+                err,
+                copy,
+                "it or its log is there already; choose another name",
+            );
         }
         _ => tell_of(
             err,

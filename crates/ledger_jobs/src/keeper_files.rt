@@ -9,8 +9,8 @@ ghost use Rattle.rel_records.specs.File.{IsLength};
 
 use crate::dispatch::{image_at, told};
 use crate::files::script_at;
-use crate::jobs::{Effect, Loss, Unowned};
 use crate::image_logs::opened_and_landed;
+use crate::jobs::{Effect, Loss, Unowned};
 use crate::locks::own_image;
 use crate::losses::{dry_repair_guarded, make_guarded, repair_guarded, store_guarded};
 use crate::names::Name;

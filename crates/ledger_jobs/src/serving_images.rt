@@ -3,8 +3,8 @@ ghost use Rattle.std.specs.Prelude.{◌≡◌, IfSome, take};
 ghost use Rattle.shop_commands.specs.Durable.{IsSynced};
 
 use crate::dispatch::told;
-use crate::jobs::Loss;
 use crate::image_logs::opened_and_landed;
+use crate::jobs::Loss;
 use crate::locks::own_image;
 use crate::losses::serve_guarded;
 use crate::refusals::Refusal;

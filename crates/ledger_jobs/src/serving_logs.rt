@@ -129,7 +129,12 @@ where
     let names = told(LogNames::of(rt, alloc, path))?;
     let mut folder = folder_of(rt, &names, path, durability)?;
     let shop = shop_of(rt, &mut folder, loss)?;
-    let bytes = told(shop.as_slice().as_flattened().to_vec(alloc).map_err(From::from))?;
+    let bytes = told(
+        shop.as_slice()
+            .as_flattened()
+            .to_vec(alloc)
+            .map_err(From::from),
+    )?;
     let log = told(LiveLog::begin(alloc, folder, shop))?;
     // others may read it from here on
     if let Err(error) = image.lock_shared() {
