@@ -4,13 +4,24 @@ use crate::help_texts::{
     STORE,
 };
 
+/// How often a value stands behind the name of a subcommand.
+#[derive(Clone, Copy, Debug, PartialEq, Eq)]
+pub(crate) enum Count {
+    /// Once.
+    One,
+    /// Once or more often. No other value without a word of its own may stand behind it.
+    Several,
+    /// It is a flag: never or once, and it has no value of its own.
+    Flag,
+}
+
 /// A value that has to stand behind the name of a subcommand, or a flag, which may stand there or not.
 pub(crate) struct Value {
     /// What help calls it; a flag has its word here too.
     pub(crate) name: &'static str,
     /// The word behind two hyphens, where it has one.
     pub(crate) word: Option<&'static str>,
-    pub(crate) is_flag: bool,
+    pub(crate) count: Count,
     pub(crate) help: &'static str,
 }
 
@@ -26,15 +37,23 @@ pub(crate) struct Subcommand {
 const IMAGE: Value = Value {
     name: "IMAGE",
     word: None,
-    is_flag: false,
+    count: Count::One,
     help: "The disk's image, a D64 file of 35 tracks",
+};
+
+/// The images of a subcommand that takes several.
+const IMAGES: Value = Value {
+    name: "IMAGE",
+    word: None,
+    count: Count::Several,
+    help: "The disk's image, a D64 file of 35 tracks; or several",
 };
 
 /// The script of a subcommand.
 const SCRIPT: Value = Value {
     name: "SCRIPT",
     word: None,
-    is_flag: false,
+    count: Count::One,
     help: "The script, a line each message; /dev/stdin is standard input",
 };
 
@@ -42,7 +61,7 @@ const SCRIPT: Value = Value {
 const NAME: Value = Value {
     name: "NAME",
     word: None,
-    is_flag: false,
+    count: Count::One,
     help: "The file's name; \\c1 is the byte with these two hex digits",
 };
 
@@ -50,7 +69,7 @@ const NAME: Value = Value {
 const RECORD_LINES: Value = Value {
     name: "RECORDS",
     word: None,
-    is_flag: false,
+    count: Count::One,
     help: "The records as `records` prints them, or /dev/stdin",
 };
 
@@ -58,7 +77,7 @@ const RECORD_LINES: Value = Value {
 pub(crate) const EXPLAIN: Value = Value {
     name: "explain",
     word: Some("explain"),
-    is_flag: true,
+    count: Count::Flag,
     help: "Says more on standard error if the command fails",
 };
 
@@ -66,7 +85,7 @@ pub(crate) const EXPLAIN: Value = Value {
 const ACCEPT_LOSS: Value = Value {
     name: "accept-loss",
     word: Some("accept-loss"),
-    is_flag: true,
+    count: Count::Flag,
     help: "Goes on if a file has lost its end (SHORT)",
 };
 
@@ -82,30 +101,30 @@ pub(crate) const SUBCOMMANDS: [Subcommand; 15] = [
             Value {
                 name: "T",
                 word: Some("tills"),
-                is_flag: false,
+                count: Count::One,
                 help: "How many tills the shop has, 1 to 64",
             },
             Value {
                 name: "new",
                 word: Some("new"),
-                is_flag: true,
+                count: Count::Flag,
                 help: "Refuses to replace an image that exists",
             },
         ],
     },
-    // list IMAGE
+    // list IMAGE..
     Subcommand {
         name: "list",
-        about: "Prints the directory of the image",
+        about: "Prints the directory of an image, or of several",
         more: LIST,
-        values: &[IMAGE],
+        values: &[IMAGES],
     },
-    // check IMAGE
+    // check IMAGE..
     Subcommand {
         name: "check",
-        about: "Checks the layout of the image: prints OK, or a fault and its sector",
+        about: "Checks the layout of images: prints OK, or a fault and its sector",
         more: CHECK,
-        values: &[IMAGE],
+        values: &[IMAGES],
     },
     // show IMAGE
     Subcommand {
@@ -125,7 +144,7 @@ pub(crate) const SUBCOMMANDS: [Subcommand; 15] = [
             Value {
                 name: "sync",
                 word: Some("sync"),
-                is_flag: true,
+                count: Count::Flag,
                 help: "Syncs each sector before the next is written",
             },
         ],
@@ -140,14 +159,14 @@ pub(crate) const SUBCOMMANDS: [Subcommand; 15] = [
             Value {
                 name: "unsynced",
                 word: Some("unsynced"),
-                is_flag: true,
+                count: Count::Flag,
                 help: "Leaves it to the system when replies are on the disk",
             },
             ACCEPT_LOSS,
             Value {
                 name: "in-place",
                 word: Some("in-place"),
-                is_flag: true,
+                count: Count::Flag,
                 help: "Uses no log: writes and syncs each sector in IMAGE itself",
             },
         ],
@@ -162,7 +181,7 @@ pub(crate) const SUBCOMMANDS: [Subcommand; 15] = [
             Value {
                 name: "NEW",
                 word: None,
-                is_flag: false,
+                count: Count::One,
                 help: "The copy's path, where no file may stand yet",
             },
         ],
@@ -178,13 +197,13 @@ pub(crate) const SUBCOMMANDS: [Subcommand; 15] = [
             Value {
                 name: "free",
                 word: Some("free"),
-                is_flag: true,
+                count: Count::Flag,
                 help: "Frees the sectors that are taken and belong to no file",
             },
             Value {
                 name: "dry-run",
                 word: Some("dry-run"),
-                is_flag: true,
+                count: Count::Flag,
                 help: "Prints the same lines, and writes nothing",
             },
         ],
@@ -214,7 +233,7 @@ pub(crate) const SUBCOMMANDS: [Subcommand; 15] = [
             Value {
                 name: "L",
                 word: Some("length"),
-                is_flag: false,
+                count: Count::One,
                 help: "How many bytes a record has, 1 to 254",
             },
             ACCEPT_LOSS,
@@ -227,12 +246,12 @@ pub(crate) const SUBCOMMANDS: [Subcommand; 15] = [
         more: STORE,
         values: &[IMAGE, NAME, RECORD_LINES, ACCEPT_LOSS],
     },
-    // map IMAGE
+    // map IMAGE..
     Subcommand {
         name: "map",
         about: "Prints the owner of each sector, the files, and the result of a check",
         more: MAP,
-        values: &[IMAGE],
+        values: &[IMAGES],
     },
     // picture IMAGE [--svg]
     Subcommand {
@@ -244,7 +263,7 @@ pub(crate) const SUBCOMMANDS: [Subcommand; 15] = [
             Value {
                 name: "svg",
                 word: Some("svg"),
-                is_flag: true,
+                count: Count::Flag,
                 help: "Prints a poster, as an SVG file of its own",
             },
         ],

@@ -32,6 +32,7 @@ refusal_status (refusals.Kept n) = 1
 refusal_status refusals.Exists = 1
 refusal_status refusals.Log = 1
 refusal_status (refusals.Short p) = 1
+refusal_status (refusals.Several greatest) = greatest
 
 -- what is told of it
 abbrev pub refusal_text : Refusal → List ℕ
@@ -43,6 +44,7 @@ refusal_text (refusals.Kept n) = codes "KEPT " ++ decimal n
 refusal_text refusals.Exists = codes "FILE EXISTS"
 refusal_text refusals.Log = codes "LOG"
 refusal_text (refusals.Short p) = codes "SHORT " ++ place_text p
+refusal_text (refusals.Several greatest) = codes "STATUS " ++ decimal greatest
 
 -- it is told on standard error: all but what the output has told
 abbrev pub is_told : Refusal → Bool
@@ -54,6 +56,7 @@ is_told (refusals.Kept n) = false
 is_told refusals.Exists = true
 is_told refusals.Log = true
 is_told (refusals.Short p) = true
+is_told (refusals.Several greatest) = false
 
 -- the line in which it is told
 abbrev pub refusal_line : Refusal → List ℕ
@@ -78,6 +81,11 @@ abbrev pub end_status : JobEnd → ℕ
 end_status (Ok None) = 0
 end_status (Ok (Some _)) = 1
 end_status (Err refusal) = refusal_status refusal
+
+-- what is told of it on standard error
+abbrev pub end_line : JobEnd → List ℕ
+end_line (Ok _) = []
+end_line (Err refusal) = refusal_line refusal
 
 -- a run over the bytes of a job's files is done, with the fault of the layout that it printed, where it printed one;
 -- or it isn't, for a fault

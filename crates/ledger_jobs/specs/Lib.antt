@@ -9,6 +9,7 @@ pub mod Kept
 pub mod LoggedRuns
 pub mod Losses
 pub mod Names
+pub mod Overviews
 pub mod Runs
 pub mod Serves
 pub mod WatchedFiles

@@ -16,6 +16,7 @@ use crate::keeper_files::{do_make, do_repair, do_store};
 use crate::locks::{lock_shared, own_image, read_shared};
 use crate::losses::take_told;
 use crate::names::Name;
+use crate::overviews::do_several;
 use crate::refusals::Refusal;
 use crate::serving_images::do_serving;
 use crate::serving_logs::do_logged_serving;
@@ -310,7 +311,8 @@ where
 /// before the image is written, and read in the place of the image otherwise. `InUse` where another program has it; `Log`
 /// if its log gives no image; `File` where a file couldn't be opened or read, and the faults of `reading_run`,
 /// `format_run`, `play_durably`, `serve_guarded`, `serve_logged_guarded`, `copy_run`, `repair_guarded`, `make_guarded`,
-/// `store_guarded`, `take_told` and `drawing_run`.
+/// `store_guarded`, `take_told` and `drawing_run`. What is wrong with one of several images is printed, and only an
+/// output that failed ends the job before the last of them.
 pub fn do_job<F, R, W>(rt: &R, job: &Job<'_>, out: &mut W) -> Result<Option<Fault>, Refusal>
 where
     F: EndedFile + Read + Locks + OpenFile + Drop,
@@ -363,5 +365,6 @@ where
             ref name,
         } => do_taking(rt, what, image, name, out),
         Job::Draw { what, image } => do_drawing(rt, what, image, out),
+        Job::Several { what, ref images } => do_several(rt, what, images.as_slice(), out),
     }
 }

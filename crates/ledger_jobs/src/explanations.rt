@@ -93,6 +93,7 @@ fn subject_of(refusal: Refusal) -> About {
         Refusal::Exists => About::Made,
         Refusal::Log => About::Image(FOREIGN_LOG),
         Refusal::Short(_) => About::Image(CUT_SHORT),
+        Refusal::Several(_) => About::Nothing,
     }
 }
 
@@ -104,6 +105,7 @@ fn image_of<'a>(job: &Job<'a>) -> &'a str {
         Job::Play { image, .. } | Job::PlaySynced { image, .. } | Job::Serve { image, .. } => image,
         Job::Repair { image, .. } | Job::Take { image, .. } | Job::Draw { image, .. } => image,
         Job::Make { image, .. } | Job::Store { image, .. } | Job::Copy { image, .. } => image,
+        Job::Several { images, .. } => images.first().copied().unwrap_or(""),
         Job::Dry { script } => script,
     }
 }
@@ -125,7 +127,7 @@ fn writes(job: &Job<'_>) -> bool {
         Job::Play { .. } | Job::PlaySynced { .. } | Job::Serve { .. } => true,
         Job::Repair { .. } | Job::Make { .. } | Job::Store { .. } => true,
         Job::List { .. } | Job::Check { .. } | Job::Show { .. } | Job::Dry { .. } => false,
-        Job::Take { .. } | Job::Draw { .. } | Job::Copy { .. } => false,
+        Job::Take { .. } | Job::Draw { .. } | Job::Copy { .. } | Job::Several { .. } => false,
     }
 }
 

@@ -16,6 +16,7 @@ mod locks;
 mod logged_runs;
 mod losses;
 mod names;
+mod overviews;
 mod refusals;
 mod serving_files;
 mod serving_images;
@@ -30,7 +31,7 @@ pub use drawing::drawing_run;
 pub use durable_runs::{play_durably, serve_durably};
 pub use endings::{Ending, end, tell};
 pub use explanations::{announce, explain, tell_cut};
-pub use jobs::{Drawing, Effect, Job, Loss, Reading, Taking, Unowned, Way};
+pub use jobs::{Drawing, Effect, Job, Loss, Overview, Reading, Taking, Unowned, Way};
 pub use keeper_runs::{dry_repair_run, make_run, repair_run, store_run, taking_run};
 pub use logged_runs::serve_logged;
 pub use losses::{
@@ -38,6 +39,7 @@ pub use losses::{
     serve_logged_guarded, store_guarded, take_told,
 };
 pub use names::Name;
+pub use overviews::overview_run;
 pub use refusals::Refusal;
 pub use serving_files::serve_file;
 pub use serving_runs::serve_run;

@@ -29,6 +29,9 @@ pub enum Refusal {
     Log,
     /// A file of the image is cut short: its chain ends at this sector, too early.
     Short(Place),
+    /// Of several images at least one has a fault or is refused. The output says which and why. This is the greatest exit
+    /// status of theirs.
+    Several(u8),
 }
 
 impl Refusal {
@@ -45,6 +48,7 @@ impl Refusal {
             Refusal::Exists => 1,
             Refusal::Log => 1,
             Refusal::Short(_) => 1,
+            Refusal::Several(greatest) => *greatest,
         }
     }
 
@@ -55,7 +59,7 @@ impl Refusal {
         match self {
             Refusal::Run(_) | Refusal::Keep(_) | Refusal::Draw(_) => true,
             Refusal::InUse | Refusal::Exists | Refusal::Log | Refusal::Short(_) => true,
-            Refusal::Kept(_) => false,
+            Refusal::Kept(_) | Refusal::Several(_) => false,
         }
     }
 
@@ -84,6 +88,7 @@ impl Display for Refusal {
             Refusal::Exists => f.write_str("FILE EXISTS"),
             Refusal::Log => f.write_str("LOG"),
             Refusal::Short(place) => write!(f, "SHORT {}/{}", place.track(), place.sector()),
+            Refusal::Several(greatest) => write!(f, "STATUS {greatest}"),
         }
     }
 }
