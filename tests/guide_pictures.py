@@ -37,7 +37,7 @@ class Page:
     """What a page of `picture` has: its style, words, table and drawing."""
 
     def __init__(self, page):
-        text = re.sub("<meta [^>]*>", "", page.decode("ascii")) + "</html>"
+        text = re.sub("<meta [^>]*>", "", page.decode("utf-8")) + "</html>"
         self.tree = ElementTree.fromstring(re.sub("^<!DOCTYPE html>", "", text))
         # the rules for light screens
         self.style, _, self.more = self.tree.findtext("style").partition("@media")

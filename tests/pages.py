@@ -152,14 +152,14 @@ class Page:
         column, line = number // 36 % 4, number % 36
         return (f'<svg x="{20 + 65 * column}" y="{306 + 3 * line}" width="63" height="3"><path class="{look(number)}" d="M0 1.5h3"/>'
                 f'<text class="e" x="10" y="2.3">{entry.count}</text><text x="11.5" y="2.3">{entry.type_text("&lt;")}</text>'
-                f'<svg x="19" width="22" height="3"><text y="2.3">{html(entry.shown)}</text></svg>'
+                f'<g transform="translate(19)" clip-path="url(#n)"><text y="2.3">{html(entry.shown)}</text></g>'
                 f'<text x="41.5" y="2.3">{html(entry.signs)}</text></svg>\n')
 
     def poster(self):
         name = html(self.disk.disk_name())
         head = ('<svg xmlns="http://www.w3.org/2000/svg" width="297mm" height="420mm" viewBox="0 0 297 420">\n'
                 f'<title>{name}</title>\n<style>{fixed("poster_style")}{fixed("dashes")}</style>\n'
-                f'<rect class="paper" width="297" height="420"/>\n<text class="name" x="148.5" y="24">{name}</text>\n'
+                f'<clipPath id="n"><rect width="22" height="3"/></clipPath>\n<rect class="paper" width="297" height="420"/>\n<text class="name" x="148.5" y="24">{name}</text>\n'
                 f'<text class="told" x="148.5" y="33"><tspan>{html(self.disk.disk_signs())}</tspan> 1541 disk, id {html(html_name(self.map[162:164]))} '
                 f'{html(html_name(self.map[165:167]))}</text>\n<text class="told" x="148.5" y="40">{self.summary()}</text>\n'
                 '<svg x="23.5" y="44" width="250" height="250" viewBox="-36600 -36600 73200 73200">\n<svg x="-6900" y="-1200" '

@@ -20,7 +20,8 @@ import disks
 from browser import Browser, Proxy
 from drawn import MAP, PLACES, Disk, sectors_on
 from palette import DARKER, LIGHT, rgb
-from renderings import see_dark, see_keys, see_label, see_paper, see_phone, see_poster
+from pages import Page
+from renderings import see_dark, see_keys, see_label, see_paper, see_phone, see_poster, see_sheet
 from served import run, want
 
 LARGEST = 165_000
@@ -310,7 +311,12 @@ def main(program, folder):
     with tempfile.TemporaryDirectory() as home:
         browser = Browser(home, proxy)
         try:
-            seen = [see_page(program, browser, proxy, name, path, folder) for name, path in made_disks(program, folder)]
+            made = list(made_disks(program, folder))
+            seen = [see_page(program, browser, proxy, name, path, folder) for name, path in made]
+            verdicts = [run(program, "check", path)[1][-1] for _, path in made]
+            pages = [(path, Page(path.read_bytes(), verdict)) for (_, path), verdict in zip(made, verdicts)]
+            seconds, size = see_sheet(program, browser, pages, folder, LIGHT)
+            print(f"sheet of 100 images: {size} bytes in {1000 * seconds:.0f} ms", flush=True)
             see_control(browser, proxy, folder)
         finally:
             browser.close()

@@ -1,8 +1,8 @@
 #!/bin/sh
 # Looks at the pages of `picture` as a keeper does, with a real browser:
 #   tests/pictures.sh PROGRAM [FOLDER]
-# PROGRAM is what `tools/program` prints. Wants Debian's packages chromium, librsvg2-bin, poppler-utils, python3-pil,
-# cc1541 and cbmconvert; where one isn't installed, nothing is compared. In FOLDER, where it is given, images, pages and what the
+# PROGRAM is what `tools/program` prints. Wants Debian's packages chromium, librsvg2-bin, poppler-utils, inkscape,
+# python3-pil, cc1541 and cbmconvert; where one isn't installed, nothing is compared. In FOLDER, where it is given, images, pages and what the
 # browser shows of them are kept.
 # The disks: a blank one, a shop after the README's day, a full one, the same with a map that calls each sector free; one of
 # cc1541 (types, locked, unclosed, a separator, a scratched entry), one of cbmconvert with relative files, one of both; one
@@ -14,8 +14,10 @@
 # - on a phone the page has one column and nothing beyond the edge; in the dark each sector has the dark page's colour; printed
 #   it takes one sheet, with the colours of all files in their lines; a screen reader meets one image with a sentence, and no
 #   sector; by keyboard each file is one stop, and Enter shows it alone;
-# - the poster (`picture --svg`) is to the byte that of pages.py, leads nowhere, and Chromium and librsvg show each sector in the
-#   same colours as on the page;
+# - the poster (`picture --svg`) is to the byte that of pages.py, leads nowhere, and Chromium, librsvg and Inkscape show each
+#   sector in the same colours as on the page;
+# - a contact sheet of 100 images, two of them refused, is to the byte that of pages.py, printed in less than a second; each
+#   sector of eight small drawings has its shade's colour in Chromium, and each drawing less than 12,000 bytes;
 # - elements and attributes of the page in the browser are the page's own, and names are shown as they are typed, and as a C64 shows
 #   them where that differs;
 # - the page names nothing outside of itself, asks for nothing but itself (the browser's own account, and a proxy on the
@@ -27,7 +29,7 @@
 set -e
 top=$(CDPATH= cd -- "$(dirname -- "$0")/.." && pwd)
 program=${1:?"which program?"}
-for tool in chromium rsvg-convert pdftoppm cc1541 cbmconvert; do
+for tool in chromium rsvg-convert pdftoppm inkscape cc1541 cbmconvert; do
     command -v "$tool" >/dev/null || { echo "pictures: $tool is not installed; nothing was compared"; exit 0; }
 done
 /usr/bin/python3 -c 'import PIL' 2>/dev/null || { echo "pictures: python3-pil is not installed; nothing was compared"; exit 0; }

@@ -4,13 +4,14 @@ of a poster. For pictures.py, which has the disks."""
 import base64
 import re
 import subprocess
+import time
 import xml.etree.ElementTree as tree
 
 from PIL import Image
 
 from drawn import PLACES
-from pages import Page
-from palette import DARK, rgb
+from pages import Page, refused_tile, sheet
+from palette import DARK, DARKER, rgb
 from served import want
 
 PHONE = {"width": 390, "height": 844, "deviceScaleFactor": 2, "mobile": True}
@@ -120,7 +121,7 @@ def see_poster(name, program, path, image, verdict, folder, browser, compare):
     want(done.returncode == (0 if verdict == "OK" else 1), f"{name}: the poster's status is {done.returncode}")
     root = tree.fromstring(done.stdout)
     want(root.get("viewBox") == "0 0 297 420" and root.find(f"{SVG}title") is not None, f"{name}: the poster's size, or title")
-    want(not re.search(rb"href|url\(|@import|<script", done.stdout), f"{name}: the poster leads out of itself")
+    want(not re.search(rb"href|url\((?!#n\))|@import|<script", done.stdout), f"{name}: the poster leads out of itself")
     file = folder / f"{name}.svg"
     file.write_bytes(done.stdout)
     browser.open(file.as_uri())
@@ -134,8 +135,75 @@ def see_poster(name, program, path, image, verdict, folder, browser, compare):
     subprocess.run(["rsvg-convert", "-w", str(297 * UNIT), "-o", folder / "poster.png", file], check=True)
     whole = Image.open(folder / "poster.png").convert("RGB")
     compare(whole.crop((left, top, left + side, top + side)), "librsvg, on the poster,")
+    # it complains about a desktop that isn't there, and draws
+    subprocess.run(["inkscape", "--export-type=png", "-w", str(297 * UNIT), "-o", folder / "inkscape.png", file], check=True,
+                   capture_output=True)
+    whole = Image.open(folder / "inkscape.png").convert("RGB")
+    compare(whole.crop((left, top, left + side, top + side)), "Inkscape, on the poster,")
     entries = Page(image, verdict).disk.entries
-    lines = [part.find(f"{SVG}text").text or "" for part in root.iter(f"{SVG}svg") if part.get("x") == "19"]
+    lines = [part.find(f"{SVG}text").text or "" for part in root.iter(f"{SVG}g") if part.get("clip-path") == "url(#n)"]
     want(lines == [entry.shown for entry in entries], f"{name}: the poster's lines {lines}")
     signs = [part.text or "" for part in root.iter(f"{SVG}text") if part.get("x") == "41.5"]
     want(signs == [entry.signs for entry in entries], f"{name}: the poster's signs {signs}")
+
+
+# of a small drawing the widest stroke's middle, and how many pixels a unit of it has in a browser's picture
+STROKE, SMALL = 0.4, 16
+# the shades of a contact sheet, as specs/Sheets.antt names them
+SHEET_SYSTEM = [(0xD4, 0, 0), (0x16, 0x16, 0x16), (0x5E, 0x5E, 0x5E), (0xE8, 0xE4, 0xD9), (0x7B, 0x75, 0x67)]
+MOST_SMALL, MOST_SECONDS = 12_000, 1.0
+
+
+def shade_colour(number, colours):
+    """The colour of a shade: of the system, of a file, or half as light of its side sectors."""
+    if number < 5:
+        return SHEET_SYSTEM[number]
+    colour = rgb(colours[(number - 5) % 12])
+    return colour if number < 17 else tuple(round(DARKER * part) for part in colour)
+
+
+def see_small(name, browser, number, page, colours):
+    """Each sector of a small drawing has its shade's colour in the browser."""
+    box = browser.value(f"(r => ({{x: r.x, y: r.y, width: r.width}}))(document.querySelectorAll('figure svg')[{number}]"
+                        ".getBoundingClientRect())")
+    scale = box["width"] / 37
+    picture = browser.shot(box["x"], box["y"], box["width"], 23 * scale).convert("RGB")
+    dots = picture.width / 37
+    for place in PLACES:
+        track, sector = place
+        colour = picture.getpixel((int((track + STROKE) * dots), int((sector + 1) * dots)))
+        wanted = shade_colour(page.shade(place), colours)
+        want(near(colour, wanted, 3), f"{name}: on the sheet {place} is {colour}, wanted {wanted}")
+
+
+def see_sheet(program, browser, pages, folder, colours):
+    """A contact sheet of 100 images is to the byte what the rules make of them, in the order that was given, with a tile for each that
+    is refused; it is printed in less than a second, asks for nothing, and fits a phone. `pages` are paths and their pages."""
+    empty, missing = folder / "empty.d64", folder / "missing.d64"
+    empty.write_bytes(b"")
+    tiles = [(path, page.tile(path), page) for path, page in pages]
+    tiles += [(empty, refused_tile(empty, "IMAGE SIZE"), None), (missing, refused_tile(missing, "FILE"), None)]
+    hundred = [tiles[number % len(tiles)] for number in range(100)]
+    started = time.monotonic()
+    done = subprocess.run([program, "picture", "--sheet", *(path for path, _, _ in hundred)], capture_output=True, timeout=60)
+    seconds = time.monotonic() - started
+    want(done.stdout.decode() == sheet([tile for _, tile, _ in hundred]), "the sheet differs from that of pages.py")
+    want(done.returncode == 3 and done.stderr == b"", f"the sheet's status is {done.returncode}, and it tells {done.stderr}")
+    want(seconds < MOST_SECONDS, f"the sheet took {seconds:.2f} s")
+    for tile in re.findall(rb"<svg viewBox=\"0 -1.*?</svg>", done.stdout):
+        want(len(tile) < MOST_SMALL, f"a small drawing has {len(tile)} bytes")
+    file = folder / "sheet.html"
+    file.write_bytes(done.stdout)
+    browser.ask("Emulation.setDeviceMetricsOverride", width=37 * SMALL * 2 + 200, height=4200, deviceScaleFactor=2, mobile=False)
+    browser.open(file.as_uri())
+    browser.value("document.querySelector('main').style.gridTemplateColumns = '%dpx'" % (37 * SMALL))
+    for number in range(min(8, len(pages))):
+        see_small("sheet", browser, number, pages[number][1], colours)
+    counted = browser.value("[document.querySelectorAll('figure').length, document.querySelectorAll('figure svg').length]")
+    want(counted == [100, sum(page is not None for _, _, page in hundred)], f"the sheet has {counted} tiles and drawings")
+    browser.ask("Emulation.setDeviceMetricsOverride", **PHONE)
+    browser.open(file.as_uri())
+    width = browser.value("document.documentElement.scrollWidth")
+    want(width <= 390, f"on a phone the sheet is {width} wide")
+    want(browser.requests() == [file.as_uri()] and browser.complaints() == [], "the sheet asks or complains")
+    return seconds, len(done.stdout)

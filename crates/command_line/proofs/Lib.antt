@@ -1,2 +1,3 @@
 pub mod Parses
+pub mod Pictures
 pub mod Views

@@ -11,7 +11,6 @@ use Rattle.command_line.specs.Jobs.{Has, HasNoName, HasNoNewName, IsHeard, IsJob
 use Rattle.command_line.specs.Jobs.{IsStoringJob, IsTakingJob, is_given, tills_in, word_of_taking}
 use Rattle.ledger_jobs.specs.Jobs.{IsFit}
 use Rattle.ledger_jobs.specs.Names.{IsNameOf, name_bytes}
-use Rattle.ledger_jobs.specs.declared.jobs.Drawing.TheVariants as drawings
 use Rattle.ledger_jobs.specs.declared.jobs.Job.{Job}
 use Rattle.ledger_jobs.specs.declared.jobs.Job.TheVariants as jobs
 use Rattle.ledger_jobs.specs.declared.jobs.Taking.{Taking}
@@ -104,19 +103,6 @@ play-met found rows image script true given is by-image by-script =
 play-met found rows image script false given is by-image by-script =
     record { rows = rows; is = is; holds = (by-image, by-script, given) }
 
--- and with --svg or without that of `picture`
-pub picture-met : (found : Option (Text × List Row)) (rows : List Row) (image : Bor Text) (svg : Bool)
-    → is_given (codes "svg") rows ≡ svg → found ≡ Some (codes "picture", rows)
-    → image.now ≡ value (codes "IMAGE") rows
-    → IsJob found (if svg then jobs.Draw drawings.Poster image else jobs.Draw drawings.Picture image)
-picture-met found rows image true given is by-image = record { rows = rows; is = is; holds = (by-image, given) }
-picture-met found rows image false given is by-image = record { rows = rows; is = is; holds = (by-image, given) }
-
-pub picture-fit : (image : Bor Text) (svg : Bool)
-    → IsFit (if svg then jobs.Draw drawings.Poster image else jobs.Draw drawings.Picture image)
-picture-fit image true = tt
-picture-fit image false = tt
-
 pub play-fit : (image script : Bor Text) (synced : Bool)
     → IsFit (if synced then jobs.PlaySynced image script else jobs.Play image script)
 play-fit image script true = tt
@@ -129,6 +115,7 @@ heard-as-asked (Err (faults.Words e)) asked heard same = λ is. sym same ∙ is
 heard-as-asked (Err faults.Tills) asked heard same = same
 heard-as-asked (Err faults.Name) asked heard same = same
 heard-as-asked (Err faults.Length) asked heard same = same
+heard-as-asked (Err faults.Images) asked heard same = same
 
 -- what it takes out of an image is the job of a subcommand that was met, or its name is none
 pub taking-met : (o : Option (Bor Text × Bor ArgMatches)) (found : Option (Text × List Row)) (name : Bor Text)
@@ -149,6 +136,7 @@ taking-met o found name at what image (Ok (jobs.Format path tills)) told some is
 taking-met o found name at what image (Ok (jobs.FormatNew path tills)) told some is by-image taking = absurd taking
 taking-met o found name at what image (Ok (jobs.List path)) told some is by-image taking = absurd taking
 taking-met o found name at what image (Ok (jobs.Several asked paths)) told some is by-image taking = absurd taking
+taking-met o found name at what image (Ok (jobs.Sheet paths)) told some is by-image taking = absurd taking
 taking-met o found name at what image (Ok (jobs.Check path)) told some is by-image taking = absurd taking
 taking-met o found name at what image (Ok (jobs.Show path)) told some is by-image taking = absurd taking
 taking-met o found name at what image (Ok (jobs.Play path script)) told some is by-image taking = absurd taking
@@ -167,6 +155,7 @@ taking-met o found name at what image (Ok (jobs.Draw asked path)) told some is b
 taking-met o found name at what image (Err faults.Name) told some is by-image taking =
     ((refl, inl (what, met-has o found name at (word_of_taking what) HasNoName told some is taking)), tt)
 taking-met o found name at what image (Err faults.Tills) told some is by-image taking = absurd taking
+taking-met o found name at what image (Err faults.Images) told some is by-image taking = absurd taking
 taking-met o found name at what image (Err (faults.Words e)) told some is by-image taking = absurd taking
 taking-met o found name at what image (Err faults.Length) told some is by-image taking = absurd taking
 
@@ -185,6 +174,7 @@ making-met o found name at image (Ok (jobs.Format path tills)) told some is by-i
 making-met o found name at image (Ok (jobs.FormatNew path tills)) told some is by-image job = absurd job
 making-met o found name at image (Ok (jobs.List path)) told some is by-image job = absurd job
 making-met o found name at image (Ok (jobs.Several asked paths)) told some is by-image job = absurd job
+making-met o found name at image (Ok (jobs.Sheet paths)) told some is by-image job = absurd job
 making-met o found name at image (Ok (jobs.Check path)) told some is by-image job = absurd job
 making-met o found name at image (Ok (jobs.Show path)) told some is by-image job = absurd job
 making-met o found name at image (Ok (jobs.Play path script)) told some is by-image job = absurd job
@@ -201,6 +191,7 @@ making-met o found name at image (Err faults.Name) told some is by-image job =
 making-met o found name at image (Err faults.Length) told some is by-image job =
     ((refl, met-has o found name at (codes "make") _ told some is job), tt)
 making-met o found name at image (Err faults.Tills) told some is by-image job = absurd job
+making-met o found name at image (Err faults.Images) told some is by-image job = absurd job
 making-met o found name at image (Err (faults.Words e)) told some is by-image job = absurd job
 
 -- what stores records in one is the job of the subcommand that was met, or its words give none
@@ -216,6 +207,7 @@ storing-met o found name at image (Ok (jobs.Format path tills)) told some is by-
 storing-met o found name at image (Ok (jobs.FormatNew path tills)) told some is by-image job = absurd job
 storing-met o found name at image (Ok (jobs.List path)) told some is by-image job = absurd job
 storing-met o found name at image (Ok (jobs.Several asked paths)) told some is by-image job = absurd job
+storing-met o found name at image (Ok (jobs.Sheet paths)) told some is by-image job = absurd job
 storing-met o found name at image (Ok (jobs.Check path)) told some is by-image job = absurd job
 storing-met o found name at image (Ok (jobs.Show path)) told some is by-image job = absurd job
 storing-met o found name at image (Ok (jobs.Play path script)) told some is by-image job = absurd job
@@ -231,4 +223,5 @@ storing-met o found name at image (Err faults.Name) told some is by-image job =
     ((refl, inr (inl (met-has o found name at (codes "store") HasNoName told some is job))), tt)
 storing-met o found name at image (Err faults.Length) told some is by-image job = absurd job
 storing-met o found name at image (Err faults.Tills) told some is by-image job = absurd job
+storing-met o found name at image (Err faults.Images) told some is by-image job = absurd job
 storing-met o found name at image (Err (faults.Words e)) told some is by-image job = absurd job

@@ -12,6 +12,7 @@ job_number (jobs.Words e) = 1
 job_number jobs.Tills = 2
 job_number jobs.Name = 3
 job_number jobs.Length = 4
+job_number jobs.Images = 5
 
 -- the exit status for words that give no job: 3 for want of memory, 0 where help or the version is asked for
 abbrev pub words_status : ErrorKind → ℕ
@@ -25,3 +26,4 @@ job_status (jobs.Words e) = words_status (kind_of e)
 job_status jobs.Tills = 2
 job_status jobs.Name = 2
 job_status jobs.Length = 2
+job_status jobs.Images = 2

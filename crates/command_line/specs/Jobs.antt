@@ -106,11 +106,25 @@ abbrev pub picture_job : List Row → Bor Text → Job
 picture_job rows image =
     if is_given (codes "svg") rows then jobs.Draw drawings.Poster image else jobs.Draw drawings.Picture image
 
+-- no sheet is asked for, and there is one image
+abbrev pub IsForOne : List Row → Type 0
+IsForOne rows = (is_given (codes "sheet") rows ≡ false) × (length (values (codes "IMAGE") rows) < 2)
+
+-- these are the images, in their order, for a sheet that has room for them
+abbrev pub AreOnSheet : List Row → List (Bor Text) → Type 0
+AreOnSheet rows images = (is_given (codes "sheet") rows ≡ true)
+    × (map (λ image. image.now) images ≡ values (codes "IMAGE") rows) × (length images ≤ 400)
+
+-- there are several images and no sheet is asked for, or more than a sheet has room for
+abbrev pub AreTooMany : List Row → Type 0
+AreTooMany rows = ((is_given (codes "sheet") rows ≡ false) × (2 ≤ length (values (codes "IMAGE") rows)))
+    ⊎ ((is_given (codes "sheet") rows ≡ true) × (400 < length (values (codes "IMAGE") rows)))
+
 -- the flags ask for this drawing; `map` has none, and draws one image so
 abbrev pub IsDrawnBy : Drawing → List Row → Type 0
 IsDrawnBy drawings.Map rows = length (values (codes "IMAGE") rows) < 2
-IsDrawnBy drawings.Picture rows = is_given (codes "svg") rows ≡ false
-IsDrawnBy drawings.Poster rows = is_given (codes "svg") rows ≡ true
+IsDrawnBy drawings.Picture rows = (is_given (codes "svg") rows ≡ false) × IsForOne rows
+IsDrawnBy drawings.Poster rows = (is_given (codes "svg") rows ≡ true) × IsForOne rows
 
 -- the words ask for more of what isn't done, before the subcommand or behind it
 abbrev pub is_explained : List Row → Option (Text × List Row) → Bool
@@ -164,6 +178,7 @@ IsJob found (jobs.FormatNew image tills) = Has found (codes "format")
     × (is_given (codes "new") rows ≡ true))
 IsJob found (jobs.List image) = Has found (codes "list") (λ rows. IsOnlyImage rows image.now)
 IsJob found (jobs.Check image) = Has found (codes "check") (λ rows. IsOnlyImage rows image.now)
+IsJob found (jobs.Sheet images) = Has found (codes "picture") (λ rows. AreOnSheet rows (vec_items images))
 IsJob found (jobs.Several what images) = Has found (word_of_overview what) (λ rows. AreImages rows (vec_items images))
 IsJob found (jobs.Show image) = Has found (codes "show") (λ rows. image.now ≡ value (codes "IMAGE") rows)
 IsJob found (jobs.Play image script) = Has found (codes "play")
@@ -232,6 +247,22 @@ IsOverviewJob rows what result =
     ⊎ (((images : Vec (Bor Text) Global) × (result ≡ Ok (jobs.Several what images)) × AreImages rows (vec_items images))
     ⊎ ((e : Error) × (result ≡ Err (faults.Words e)) × HasKind [] e))
 
+-- the sheet of these images; or there are too many for it, or there was no memory
+abbrev pub IsSheet : List (Bor Text) → Result Job JobFault → Type 0
+IsSheet images result =
+    ((all : Vec (Bor Text) Global) × (result ≡ Ok (jobs.Sheet all)) × (vec_items all ≡ images) × (length images ≤ 400))
+    ⊎ (((result ≡ Err faults.Images) × (400 < length images))
+    ⊎ ((e : Error) × (result ≡ Err (faults.Words e)) × HasKind [] e))
+
+-- and of one that draws one image, or images on a sheet
+abbrev pub IsPictureJob : List Row → Result Job JobFault → Type 0
+IsPictureJob rows result =
+    ((image : Bor Text) × (result ≡ Ok (picture_job rows image)) × (image.now ≡ value (codes "IMAGE") rows)
+    × IsForOne rows)
+    ⊎ (((images : Vec (Bor Text) Global) × (result ≡ Ok (jobs.Sheet images)) × AreOnSheet rows (vec_items images))
+    ⊎ (((result ≡ Err faults.Images) × AreTooMany rows)
+    ⊎ ((e : Error) × (result ≡ Err (faults.Words e)) × HasKind [] e)))
+
 -- the text of NAME is none that the subcommand takes
 abbrev pub IsRefusedName : Option (Text × List Row) → Type 0
 IsRefusedName found =
@@ -246,3 +277,4 @@ IsNoJob kinds found faults.Tills = (kinds ≡ []) × Has found (codes "format") 
 IsNoJob kinds found faults.Name = (kinds ≡ []) × IsRefusedName found
 IsNoJob kinds found faults.Length =
     (kinds ≡ []) × Has found (codes "make") (λ rows. HasNewName rows × (length_in rows ≡ None))
+IsNoJob kinds found faults.Images = (kinds ≡ []) × Has found (codes "picture") AreTooMany

@@ -21,10 +21,13 @@ pub enum JobFault {
     /// The length of a record isn't one of 1 to 254, in decimal digits without leading zeros.
     #[error("LENGTH")]
     Length,
+    /// There are several images to be drawn, but not on a sheet; or more than a sheet has room for.
+    #[error("IMAGES")]
+    Images,
 }
 
 impl JobFault {
-    /// The fault's number: 1 for `Words`, 2 for `Tills`, 3 for `Name`, 4 for `Length`.
+    /// The fault's number: 1 for `Words`, 2 for `Tills`, 3 for `Name`, 4 for `Length`, 5 for `Images`.
     pub fn number(&self) -> u8
         ensures { result ≡ job_number self.now }
     {
@@ -33,6 +36,7 @@ impl JobFault {
             JobFault::Tills => 2,
             JobFault::Name => 3,
             JobFault::Length => 4,
+            JobFault::Images => 5,
         }
     }
 
@@ -46,7 +50,7 @@ impl JobFault {
                 ErrorKind::DisplayHelp | ErrorKind::DisplayVersion => 0,
                 _ => 2,
             },
-            JobFault::Tills | JobFault::Name | JobFault::Length => 2,
+            JobFault::Tills | JobFault::Name | JobFault::Length | JobFault::Images => 2,
         }
     }
 }

@@ -66,6 +66,10 @@ fn explain_words<E: Write>(fault: &JobFault, err: &mut E) {
         JobFault::Words(_) => Ok(()),
         JobFault::Tills => writeln!(err, "ledger: T is 1 to 64"),
         JobFault::Length => writeln!(err, "ledger: L is 1 to 254"),
+        JobFault::Images => writeln!(
+            err,
+            "ledger: several images are drawn on a sheet (--sheet), which has room for 400"
+        ),
         JobFault::Name => writeln!(
             err,
             "ledger: NAME has 1 to 16 bytes; one that isn't plain text is a backslash and two digits, as \\c1"
@@ -87,7 +91,9 @@ fn refuse_words<R: Print + Eprint, E: Write>(
             return end(Err(Refusal::Run(RunFault::NoMemory)), err).status;
         }
         JobFault::Words(error) => error.print(rt),
-        JobFault::Tills | JobFault::Name | JobFault::Length => writeln!(err, "{fault}"),
+        JobFault::Tills | JobFault::Name | JobFault::Length | JobFault::Images => {
+            writeln!(err, "{fault}")
+        }
     };
     if told != Audience::Program {
         explain_words(fault, err);

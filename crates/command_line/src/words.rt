@@ -7,8 +7,8 @@ ghost use Rattle.byte_text.specs.Texts.{AreBytes};
 ghost use Rattle.keeper_commands.specs.Makes.{IsNewName};
 ghost use Rattle.ledger_jobs.specs.Jobs.{IsFit};
 ghost use Rattle.ledger_jobs.specs.Names.{IsNameOf, name_bytes};
-ghost use Rattle.command_line.specs.Jobs.{IsHeard, IsJob, IsMakingJob, IsNoJob, IsOverviewJob, IsParse, IsSeveral};
-ghost use Rattle.command_line.specs.Jobs.{IsStoringJob, IsTakingJob};
+ghost use Rattle.command_line.specs.Jobs.{IsHeard, IsJob, IsMakingJob, IsNoJob, IsOverviewJob, IsParse, IsPictureJob};
+ghost use Rattle.command_line.specs.Jobs.{IsSeveral, IsSheet, IsStoringJob, IsTakingJob};
 ghost use Rattle.command_line.specs.Jobs.{effect_in, format_job, job_of_one, loss_in, picture_job, play_job, unowned_in};
 ghost use Rattle.rel_records.specs.File.{IsLength};
 ghost use Rattle.command_line.specs.Jobs.{is_explained as explained, is_given as given, serve_durability as of_serve};
@@ -17,6 +17,7 @@ ghost use Rattle.command_line.specs.Jobs.{way_in};
 use crate::faults::JobFault;
 use clap::{ArgMatches, Error};
 use command_table::ledger_command;
+use disk_pictures::MOST_TILES;
 use ledger_jobs::{Drawing, Effect, Job, Loss, Name, Overview, Taking, Unowned, Way};
 use request_cards::number;
 use shop_commands::Durability;
@@ -141,7 +142,7 @@ fn formatting<'a>(matches: &ArgMatches<'a>, image: &'a str, tills: u8) -> Job<'a
 }
 
 /// The job that draws an image as a page or as a poster.
-fn picturing<'a>(matches: &ArgMatches<'a>, image: &'a str) -> Job<'a>
+fn drawn_alone<'a>(matches: &ArgMatches<'a>, image: &'a str) -> Job<'a>
     ensures { result ≡ picture_job (rows_of (found_of matches.now)) image.entry }
 {
     if is_given(matches, "svg") {
@@ -155,6 +156,37 @@ fn picturing<'a>(matches: &ArgMatches<'a>, image: &'a str) -> Job<'a>
             image,
         }
     }
+}
+
+/// The job that draws these images on a sheet.
+fn on_sheet<'a>(alloc: Global, images: &[&'a str]) -> Result<Job<'a>, JobFault>
+    ensures { IsSheet images.now result }
+{
+    if images.len() > MOST_TILES {
+        return Err(JobFault::Images);
+    }
+    let mut all = Vec::new(alloc);
+    match all.extend_from_slice(images) {
+        Ok(()) => Ok(Job::Sheet { images: all }),
+        Err(error) => Err(JobFault::Words(Error::from(error))),
+    }
+}
+
+/// The job that draws an image as a page or as a poster, or images on a sheet.
+fn picturing<'a>(alloc: Global, matches: &ArgMatches<'a>) -> Result<Job<'a>, JobFault>
+    ensures { IsPictureJob (rows_of (found_of matches.now)) result }
+{
+    let Some(images) = values_of(matches, "IMAGE") else {
+        // A parse without an image is refused.
+        return Err(JobFault::Words(Error::from(AllocError)));
+    };
+    if is_given(matches, "sheet") {
+        return on_sheet(alloc, images);
+    }
+    if images.len() >= 2 {
+        return Err(JobFault::Images);
+    }
+    Ok(drawn_alone(matches, value_of(matches, "IMAGE")))
 }
 
 /// The job that prints this of one image.
@@ -305,7 +337,7 @@ fn job_of<'a>(alloc: Global, matches: &ArgMatches<'a>) -> Result<Job<'a>, JobFau
         "make" => making(found, image),
         "store" => storing(found, image),
         "map" => viewing(alloc, found, Overview::Map),
-        "picture" => Ok(picturing(found, image)),
+        "picture" => picturing(alloc, found),
         "dry" => Ok(Job::Dry { script }),
         // No other subcommand can be met.
         _ => Err(JobFault::Words(Error::from(AllocError))),

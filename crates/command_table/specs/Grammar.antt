@@ -91,9 +91,9 @@ store = may_accept_loss (with_rule (with_rule (over_image (codes "store")) (requ
 abbrev pub map : App
 map = over_images (codes "map")
 
--- picture IMAGE [--svg]
+-- picture IMAGE.. [--svg] [--sheet]
 abbrev pub picture : App
-picture = with_rule (over_image (codes "picture")) (flag (codes "svg"))
+picture = with_rule (with_rule (over_images (codes "picture")) (flag (codes "svg"))) (flag (codes "sheet"))
 
 -- dry SCRIPT
 abbrev pub dry : App

@@ -132,9 +132,11 @@ Example: ledger map old.d64";
 pub(crate) const PICTURE: &str =
     "Draws a damaged disk too, as far as its links can be followed. The page loads\n\
 nothing and has no script, and neither does the poster (297 by 420 mm).\n\
-Status 0: the disk is clean. 1: a fault, or the image is refused. 3: FILE,\n\
-NO MEMORY, IN USE.\n\
-Example: ledger picture old.d64 > old.html";
+A sheet has a tile for each image, also for one that is refused.\n\
+Status 0: the disk is clean. 1: a fault, or the image is refused. 2: IMAGES:\n\
+several without --sheet, or more than 400. 3: FILE, NO MEMORY, IN USE. A sheet\n\
+ends with the greatest status of its images.\n\
+Example: ledger picture --sheet ./*.d64 > all.html";
 
 /// What `dry` prints, its statuses, and an example.
 pub(crate) const DRY: &str = "Prints the replies that a fresh disk with 64 tills would give.\n\

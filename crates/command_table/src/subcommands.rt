@@ -253,18 +253,24 @@ pub(crate) const SUBCOMMANDS: [Subcommand; 15] = [
         more: MAP,
         values: &[IMAGES],
     },
-    // picture IMAGE [--svg]
+    // picture IMAGE.. [--svg] [--sheet]
     Subcommand {
         name: "picture",
         about: "Prints a drawing of the disk as an HTML page, or as a poster",
         more: PICTURE,
         values: &[
-            IMAGE,
+            IMAGES,
             Value {
                 name: "svg",
                 word: Some("svg"),
                 count: Count::Flag,
                 help: "Prints a poster, as an SVG file of its own",
+            },
+            Value {
+                name: "sheet",
+                word: Some("sheet"),
+                count: Count::Flag,
+                help: "Prints a page with a small drawing of each image, at most 400",
             },
         ],
     },

@@ -22,7 +22,7 @@ module _ (f g : Show) (same : (bytes : List ℕ) → IsSameMarkup (f bytes) (g b
       behind (codes "<svg xmlns=\"http://www.w3.org/2000/svg\" width=\"297mm\" height=\"420mm\" viewBox=\"0 0 297 420\">\n<title>") _ _
       (both (f name) (g name) _ _ (same name)
       (behind (codes "</title>\n<style>") _ _ (behind poster_style _ _ (behind dashes _ _
-      (behind (codes "</style>\n<rect class=\"paper\" width=\"297\" height=\"420\"/>\n<text class=\"name\" x=\"148.5\" y=\"24\">") _ _
+      (behind (codes "</style>\n<clipPath id=\"n\"><rect width=\"22\" height=\"3\"/></clipPath>\n<rect class=\"paper\" width=\"297\" height=\"420\"/>\n<text class=\"name\" x=\"148.5\" y=\"24\">") _ _
       (both (f name) (g name) _ _ (same name)
       (behind (codes "</text>\n<text class=\"told\" x=\"148.5\" y=\"33\"><tspan>") _ _
       (before (s name) (u name) _ (alike-signs name)))))))))
@@ -46,8 +46,8 @@ module _ (f g : Show) (same : (bytes : List ℕ) → IsSameMarkup (f bytes) (g b
       behind (line_start k) _ _
       (behind (codes "<text class=\"e\" x=\"10\" y=\"2.3\">") _ _
       (behind (decimal (count_field d.slot)) _ _ (behind (codes "</text><text x=\"11.5\" y=\"2.3\">") _ _
-      (behind (type_text (codes "&lt;") (type_byte d.slot)) _ _ (behind (codes "</text><svg x=\"19\" width=\"22\" height=\"3\"><text y=\"2.3\">") _ _
-      (both (f name) (g name) _ _ (same name) (behind (codes "</text></svg><text x=\"41.5\" y=\"2.3\">") _ _
+      (behind (type_text (codes "&lt;") (type_byte d.slot)) _ _ (behind (codes "</text><g transform=\"translate(19)\" clip-path=\"url(#n)\"><text y=\"2.3\">") _ _
+      (both (f name) (g name) _ _ (same name) (behind (codes "</text></g><text x=\"41.5\" y=\"2.3\">") _ _
       (before (s name) (u name) _ (alike-signs name)))))))))
 
   pub on-poster : (v : Option Fault) (map : Sector) (l : Layout)

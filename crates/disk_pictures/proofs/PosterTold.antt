@@ -32,8 +32,8 @@ pub line-written : (k : ℕ) (f : File) (count byte : ℕ) (name : List ℕ)
     → count ≡ count_field f.slot → byte ≡ type_byte f.slot → name ≡ name_of f.slot
     → line_start k ++ (codes "<text class=\"e\" x=\"10\" y=\"2.3\">" ++ (decimal count
     ++ (codes "</text><text x=\"11.5\" y=\"2.3\">" ++ (type_text (codes "&lt;") byte
-    ++ (codes "</text><svg x=\"19\" width=\"22\" height=\"3\"><text y=\"2.3\">" ++ (html_of name
-    ++ (codes "</text></svg><text x=\"41.5\" y=\"2.3\">" ++ (petscii_of name ++ codes "</text></svg>\n"))))))))
+    ++ (codes "</text><g transform=\"translate(19)\" clip-path=\"url(#n)\"><text y=\"2.3\">" ++ (html_of name
+    ++ (codes "</text></g><text x=\"41.5\" y=\"2.3\">" ++ (petscii_of name ++ codes "</text></svg>\n"))))))))
     ≡ poster_line html_of petscii_of k f
 unfolding poster_line
 line-written k f count byte name a b c = rw (a, b, c) refl

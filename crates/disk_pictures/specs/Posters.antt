@@ -23,7 +23,7 @@ unfoldable pub poster_head : Show → Show → Sector → List ℕ
 poster_head show signs map =
     codes "<svg xmlns=\"http://www.w3.org/2000/svg\" width=\"297mm\" height=\"420mm\" viewBox=\"0 0 297 420\">\n<title>" ++ (show (disk_name map)
     ++ (codes "</title>\n<style>" ++ (poster_style ++ (dashes
-    ++ (codes "</style>\n<rect class=\"paper\" width=\"297\" height=\"420\"/>\n<text class=\"name\" x=\"148.5\" y=\"24\">" ++ (show (disk_name map)
+    ++ (codes "</style>\n<clipPath id=\"n\"><rect width=\"22\" height=\"3\"/></clipPath>\n<rect class=\"paper\" width=\"297\" height=\"420\"/>\n<text class=\"name\" x=\"148.5\" y=\"24\">" ++ (show (disk_name map)
     ++ (codes "</text>\n<text class=\"told\" x=\"148.5\" y=\"33\"><tspan>" ++ (signs (disk_name map)
     ++ codes "</tspan> 1541 disk, id "))))))))
 
@@ -59,8 +59,8 @@ unfoldable pub poster_line : Show → Show → ℕ → File → List ℕ
 poster_line show signs k f =
     line_start k ++ (codes "<text class=\"e\" x=\"10\" y=\"2.3\">" ++ (decimal (count_field f.slot)
     ++ (codes "</text><text x=\"11.5\" y=\"2.3\">" ++ (type_text (codes "&lt;") (type_byte f.slot)
-    ++ (codes "</text><svg x=\"19\" width=\"22\" height=\"3\"><text y=\"2.3\">" ++ (show (name_of f.slot)
-    ++ (codes "</text></svg><text x=\"41.5\" y=\"2.3\">" ++ (signs (name_of f.slot) ++ codes "</text></svg>\n"))))))))
+    ++ (codes "</text><g transform=\"translate(19)\" clip-path=\"url(#n)\"><text y=\"2.3\">" ++ (show (name_of f.slot)
+    ++ (codes "</text></g><text x=\"41.5\" y=\"2.3\">" ++ (signs (name_of f.slot) ++ codes "</text></svg>\n"))))))))
 
 -- the poster, by how bytes of the disk are shown
 unfoldable pub poster_text : Show → Show → Option Fault → Sector → Layout → List ℕ

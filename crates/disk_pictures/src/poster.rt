@@ -70,6 +70,7 @@ impl Display for Head<'_> {
             f,
             "<svg xmlns=\"http://www.w3.org/2000/svg\" width=\"297mm\" height=\"420mm\" viewBox=\"0 0 297 420\">\n\
             <title>{name}</title>\n<style>{STYLE}{DASHES}</style>\n\
+            <clipPath id=\"n\"><rect width=\"22\" height=\"3\"/></clipPath>\n\
             <rect class=\"paper\" width=\"297\" height=\"420\"/>\n\
             <text class=\"name\" x=\"148.5\" y=\"24\">{name}</text>\n\
             <text class=\"told\" x=\"148.5\" y=\"33\"><tspan>{signs}</tspan> 1541 disk, id "
@@ -163,7 +164,7 @@ impl Display for Line<'_> {
         writeln!(
             f,
             "{}<text class=\"e\" x=\"10\" y=\"2.3\">{}</text><text x=\"11.5\" y=\"2.3\">{kind}</text>\
-            <svg x=\"19\" width=\"22\" height=\"3\"><text y=\"2.3\">{}</text></svg>\
+            <g transform=\"translate(19)\" clip-path=\"url(#n)\"><text y=\"2.3\">{}</text></g>\
             <text x=\"41.5\" y=\"2.3\">{}</text></svg>",
             LineStart(self.number),
             entry.block_count(),

@@ -20,6 +20,7 @@ use crate::overviews::do_several;
 use crate::refusals::Refusal;
 use crate::serving_images::do_serving;
 use crate::serving_logs::do_logged_serving;
+use crate::sheets::do_sheet;
 use crate::shop_runs::{format_run, reading_run};
 use disk_layout::Fault;
 use disk_pictures::PictureFault;
@@ -365,6 +366,7 @@ where
             ref name,
         } => do_taking(rt, what, image, name, out),
         Job::Draw { what, image } => do_drawing(rt, what, image, out),
+        Job::Sheet { ref images } => do_sheet(rt, images.as_slice(), out),
         Job::Several { what, ref images } => do_several(rt, what, images.as_slice(), out),
     }
 }

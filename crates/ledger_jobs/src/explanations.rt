@@ -105,7 +105,10 @@ fn image_of<'a>(job: &Job<'a>) -> &'a str {
         Job::Play { image, .. } | Job::PlaySynced { image, .. } | Job::Serve { image, .. } => image,
         Job::Repair { image, .. } | Job::Take { image, .. } | Job::Draw { image, .. } => image,
         Job::Make { image, .. } | Job::Store { image, .. } | Job::Copy { image, .. } => image,
-        Job::Several { images, .. } => images.first().copied().unwrap_or(""),
+        Job::Several { images, .. } | Job::Sheet { images } => images
+            .first()
+            .copied()
+            .unwrap_or(""),
         Job::Dry { script } => script,
     }
 }
@@ -127,7 +130,8 @@ fn writes(job: &Job<'_>) -> bool {
         Job::Play { .. } | Job::PlaySynced { .. } | Job::Serve { .. } => true,
         Job::Repair { .. } | Job::Make { .. } | Job::Store { .. } => true,
         Job::List { .. } | Job::Check { .. } | Job::Show { .. } | Job::Dry { .. } => false,
-        Job::Take { .. } | Job::Draw { .. } | Job::Copy { .. } | Job::Several { .. } => false,
+        Job::Take { .. } | Job::Draw { .. } | Job::Copy { .. } => false,
+        Job::Several { .. } | Job::Sheet { .. } => false,
     }
 }
 

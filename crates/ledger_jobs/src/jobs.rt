@@ -200,6 +200,11 @@ pub enum Job<'a> {
         /// The image's path.
         image: &'a str,
     },
+    /// Images that are read, drawn on a contact sheet in their order.
+    Sheet {
+        /// The images' paths.
+        images: Vec<&'a str>,
+    },
     /// Several images that are read, in their order: what is printed of each, and why it is refused, behind its name.
     Several {
         /// What is printed of each.

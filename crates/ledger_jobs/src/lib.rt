@@ -22,6 +22,7 @@ mod serving_files;
 mod serving_images;
 mod serving_logs;
 mod serving_runs;
+mod sheets;
 mod shop_runs;
 mod watched_files;
 

@@ -61,13 +61,23 @@ fn row_of<'a>(job: &Job<'a>) -> Row<'a> {
             what: Drawing::Poster,
             image,
         } => ("picture --svg", image, "", 0),
+        Job::Sheet { ref images } => {
+            let [first, second] = [0, 1].map(|at| images.get(at).copied().unwrap_or(""));
+            (
+                "picture --sheet",
+                first,
+                second,
+                images.len().min(255) as u8,
+            )
+        }
         Job::Several { what, ref images } => {
             let name = match what {
                 Overview::List => "list several",
                 Overview::Check => "check several",
                 Overview::Map => "map several",
             };
-            let [first, second] = [0, 1].map(|at| images.get(at).copied().unwrap_or(""));
+            let first = images.first().copied().unwrap_or("");
+            let second = images.get(1).copied().unwrap_or("");
             (name, first, second, images.len().min(255) as u8)
         }
     }

@@ -7,8 +7,9 @@ use Rattle.ledger_jobs.specs.declared.jobs.Overview.TheVariants as overviews
 use Rattle.ledger_jobs.specs.declared.jobs.Taking.TheVariants as takings
 use Rattle.ledger_jobs.specs.Jobs.{IsFit}
 use Rattle.command_line.specs.Jobs.{IsJob, is_given}
-use Rattle.command_line.proofs.Parses.{format-fit, format-met, making-met, met-has, met-is, picture-fit}
-use Rattle.command_line.proofs.Parses.{picture-met, play-fit, play-met, storing-met, taking-met}
+use Rattle.command_line.proofs.Pictures.{picturing-met}
+use Rattle.command_line.proofs.Parses.{format-fit, format-met, making-met, met-has, met-is}
+use Rattle.command_line.proofs.Parses.{play-fit, play-met, storing-met, taking-met}
 use Rattle.command_line.proofs.Views.{viewing-met}
 use Rattle.command_line.proofs.words.job_of.Goals as goal
 
@@ -135,10 +136,6 @@ returns-in-map c =
 
 pub returns-in-picture : goal.returns-in-picture
 returns-in-picture c =
-    let svg = is_given (codes "svg") (rows_of (found_of c.in-Some.found.now)) in
-    let is = met-is c.parsed_subcommand.result _ c.in-Some.name c.in-Some.found _ c.parsed_subcommand.ensures c.in-Some.is c.in-picture.is in
-    record {
-      job = subst (IsJob _) (sym c.picturing.ensures)
-          (picture-met _ _ c.value_of-image.result svg refl is c.value_of-image.ensures);
-      fit = subst IsFit (sym c.picturing.ensures) (picture-fit c.value_of-image.result svg);
-    }
+    let met = picturing-met c.parsed_subcommand.result _ c.in-Some.name c.in-Some.found c.picturing.result
+    c.parsed_subcommand.ensures c.in-Some.is c.in-picture.is c.picturing.ensures in
+    record { job = met.0; fit = met.1 }

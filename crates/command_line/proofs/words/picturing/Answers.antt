@@ -1,0 +1,41 @@
+-- The sheet has the images of the words, or there are too many for it.
+use Rattle.std.proofs.Common.{◌≡◌, ◌<◌, ◌∙◌, Bor, List, Option, Result, Some, [], ap, arith, inl, inr, length, subst, sym, true}
+use Rattle.std.proofs.Common.{ℕ}
+use Rattle.std.specs.Prelude.{codes, map, option_map, unwrap_or}
+use Rattle.std.proofs.lemmas.List.{length-map}
+use Rattle.clap.specs.Words.{Row, Text, all_of, found_of, rows_of}
+use Rattle.command_table.specs.Grammar.{values}
+use Rattle.command_line.specs.Jobs.{AreOnSheet, IsPictureJob, IsSheet, is_given}
+use Rattle.ledger_jobs.specs.declared.jobs.Job.{Job}
+use Rattle.command_line.specs.declared.faults.JobFault.{JobFault}
+use Rattle.command_line.proofs.words.picturing.Goals as goal
+
+given-values : (o : Option (Bor (List (Bor Text)))) (given : Bor (List (Bor Text))) (rows : Option (List Text))
+    → o ≡ Some given → option_map (λ (s : Bor (List (Bor Text))). map (λ (v : Bor Text). v.now) s.now) o ≡ rows
+    → map (λ (v : Bor Text). v.now) given.now ≡ unwrap_or rows []
+given-values o given rows is told =
+    ap (λ (t : Option (Bor (List (Bor Text)))). unwrap_or
+    (option_map (λ (s : Bor (List (Bor Text))). map (λ (v : Bor Text). v.now) s.now) t) []) (sym is)
+    ∙ ap (λ (r : Option (List Text)). unwrap_or r []) told
+
+too-many : (rows : List Row) (images : List (Bor Text)) → map (λ (v : Bor Text). v.now) images ≡ values (codes "IMAGE") rows
+    → 400 < length images → 400 < length (values (codes "IMAGE") rows)
+too-many rows images told many =
+    let long = length-map images (λ (v : Bor Text). v.now) in
+    let same = ap length told in
+    omega (arith, long, same, many)
+
+drawn : (rows : List Row) (images : List (Bor Text)) (r : Result Job JobFault) → is_given (codes "sheet") rows ≡ true
+    → map (λ (v : Bor Text). v.now) images ≡ values (codes "IMAGE") rows → IsSheet images r → IsPictureJob rows r
+drawn rows images r given told (inl (all, same, items, few)) =
+    inr (inl (all, same, subst (AreOnSheet rows) (sym items) (given, told, few)))
+drawn rows images r given told (inr (inl (same, many))) =
+    inr (inr (inl (same, inr (given, too-many rows images told many))))
+drawn rows images r given told (inr (inr none)) = inr (inr (inr none))
+
+pub returns-then-is_given : goal.returns-then-is_given
+returns-then-is_given c =
+    let rows = rows_of (found_of c.args.matches.now) in
+    drawn rows c.in-Some.images.now c.on_sheet.result (sym c.is_given.ensures ∙ c.if-is_given.true)
+    (given-values c.values_of.result c.in-Some.images (all_of (codes "IMAGE") rows) c.in-Some.is c.values_of.ensures)
+    c.on_sheet.ensures

@@ -1,0 +1,62 @@
+//! Images drawn on a contact sheet, and what is refused of several images that are to be drawn.
+use crate::scenes::each;
+
+/// Sheets of images, also of those that can't be read; the status is the greatest of theirs.
+const DRAWN: &[u8] = b"
+$ ledger_cli picture --sheet a.d64
+prints <!DOCTYPE html>|<html lang=\"en\">|..
+
+$ ledger_cli picture a.d64 --sheet a.d64
+prints <!DOCTYPE html>|<html lang=\"en\">|..
+
+hurt LOOP
+$ ledger_cli picture --sheet a.d64 s.txt
+prints <!DOCTYPE html>|<html lang=\"en\">|..
+ends 1
+
+$ ledger_cli picture --sheet b.d64 a.d64
+prints <!DOCTYPE html>|<html lang=\"en\">|..
+ends 3
+
+others alone
+$ ledger_cli picture --sheet a.d64
+prints <!DOCTYPE html>|<html lang=\"en\">|..
+ends 3
+
+output-takes 0
+$ ledger_cli picture --sheet a.d64
+tells FILE|
+ends 3
+";
+
+#[test]
+fn sheets_are_drawn(rt: HostRuntime) {
+    each(&rt, DRAWN);
+}
+
+/// The jobs that words ask for, and too many images.
+const ASKED: &[u8] = b"
+job ledger picture --sheet a.d64 b.d64
+prints picture --sheet, a.d64, b.d64, 2
+job ledger picture b.d64 --sheet
+prints picture --sheet, b.d64, , 1
+job ledger picture a.d64 b.d64
+prints fault 5, status 2
+
+$ ledger_cli picture a.d64 b.d64
+tells IMAGES|
+ends 2
+
+$ ledger_cli picture --svg a.d64 b.d64
+tells IMAGES|
+ends 2
+
+person ledger_cli picture a.d64 b.d64
+tells IMAGES|ledger: several images are drawn on a sheet (--sheet), which has room for 400|
+ends 2
+";
+
+#[test]
+fn too_many_images_are_refused(rt: HostRuntime) {
+    each(&rt, ASKED);
+}
