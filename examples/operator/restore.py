@@ -4,8 +4,8 @@
     restore.py /var/lib/ledger/shop1.d64 /var/backups/ledger --journal /var/lib/ledger/shop1.lines \\
         --unit ledger-bridge-mqtt@1
 
-It prints each step before it does it, and ends at the first that fails. The image that was there is set aside and never
-removed. Give `--copy N` for another copy than the newest sound one. If the journal is lost, `--without-journal` goes on
+It prints each step before it does it, and ends at the first that fails. The image that was there, and its log, are set
+aside and never removed. Give `--copy N` for another copy than the newest sound one. If the journal is lost, `--without-journal` goes on
 with the copy alone: that loses what was asked since, and the tills that asked have to begin again. Status 1: a step failed;
 the last line says what stands."""
 
@@ -73,8 +73,11 @@ class Restore:
     def put(self):
         """Puts the new image in the old one's place."""
         self.say("Sets the old image aside, and puts the new one in its place")
-        if self.given.image.exists():
-            self.aside(self.given.image)
+        # what `serve` left beside the image if it was killed: the new image isn't its
+        log = self.given.image.with_name(f"{self.given.image.name}-log")
+        for path in (log, self.given.image):
+            if path.exists():
+                self.aside(path)
         if self.given.without_journal and Path(self.given.journal).exists():
             self.aside(Path(self.given.journal))
         copies.sync(self.new)

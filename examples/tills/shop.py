@@ -175,14 +175,20 @@ class Serve:
             raise Stale(f"the image isn't its journal's (till {till}: {image}, journal {kept}). {cure}")
 
     def show(self):
-        """The lines that `show` prints of a copy: `serve` has the image's lock, and has brought it to rest."""
-        with open(self.command[2], "rb") as image, tempfile.NamedTemporaryFile() as copy:
-            copy.write(image.read())
-            copy.flush()
-            told = subprocess.run([self.command[0], "show", copy.name], capture_output=True, text=True)
+        """The lines that `show` prints. A `serve` with `--in-place` has the image's lock alone, and has brought it to rest:
+        then those of a copy."""
+        told = self.told_of(self.command[2])
+        if told.returncode == 3 and told.stderr.startswith("IN USE"):
+            with open(self.command[2], "rb") as image, tempfile.NamedTemporaryFile() as copy:
+                copy.write(image.read())
+                copy.flush()
+                told = self.told_of(copy.name)
         if told.returncode != 0:
             raise Gone(told.returncode, told.stderr.strip())
         return told.stdout.splitlines()
+
+    def told_of(self, image):
+        return subprocess.run([self.command[0], "show", image], capture_output=True, text=True)
 
     def shown(self):
         """Each till's last request and its answer, as `show` prints them."""
