@@ -1,4 +1,4 @@
-//! What `ledger serve IMAGE [--unsynced]` does and prints, as plain Rust without proofs: the yardstick of serve.sh.
+//! What `ledger serve --in-place IMAGE [--unsynced]` does and prints, as plain Rust without proofs: the yardstick of serve.sh.
 //! The image has to be a clean shop; the calls of the system are those of the program.
 use std::fs::OpenOptions;
 use std::io::{self, BufRead, Write};
@@ -65,10 +65,10 @@ fn main() {
     let words: Vec<String> = std::env::args().skip(1).collect();
     let words: Vec<&str> = words.iter().map(String::as_str).collect();
     match words[..] {
-        ["serve", image] => serve(image, true),
-        ["serve", image, "--unsynced"] => serve(image, false),
+        ["serve", "--in-place", image] => serve(image, true),
+        ["serve", "--in-place", image, "--unsynced"] => serve(image, false),
         _ => {
-            eprintln!("serve_plain serve IMAGE [--unsynced]");
+            eprintln!("serve_plain serve --in-place IMAGE [--unsynced]");
             exit(2);
         }
     }

@@ -2,8 +2,9 @@
 """Times programs that answer lines, a line at a time over pipes:
 
     bench/serve_turns.py day REQUESTS                   prints a mixed day of 64 tills, always the same
-    bench/serve_turns.py turns DAY REPLIES COMMAND..    sends each line of DAY when the one before is answered, keeps
-                                                        the replies in REPLIES, and prints the milliseconds of a turn
+    bench/serve_turns.py turns AT_HAND DAY REPLIES COMMAND..
+                                                        sends so many lines of DAY at once when those before are answered,
+                                                        keeps the replies in REPLIES, and prints the milliseconds of a line
     bench/serve_turns.py opening RUNS COMMAND..         the least milliseconds from the start to a first reply, and the
                                                         memory then, of which shared pages count by share"""
 
@@ -17,16 +18,17 @@ sys.path.insert(0, str(Path(__file__).resolve().parent.parent / "tests"))
 from days import day
 
 
-def turns(lines, command):
-    """The replies, and the milliseconds of each turn in rising order."""
+def turns(at_hand, lines, command):
+    """The replies, and the milliseconds of a line in each turn, in rising order."""
     process = subprocess.Popen(command, stdin=subprocess.PIPE, stdout=subprocess.PIPE)
     replies, times = [], []
-    for line in lines:
+    for first in range(0, len(lines), at_hand):
+        burst = lines[first : first + at_hand]
         started = time.perf_counter()
-        process.stdin.write(line)
+        process.stdin.write(b"".join(burst))
         process.stdin.flush()
-        replies.append(process.stdout.readline())
-        times.append(1000 * (time.perf_counter() - started))
+        replies += [process.stdout.readline() for _ in burst]
+        times.append(1000 * (time.perf_counter() - started) / len(burst))
     process.stdin.close()
     if process.wait() != 0:
         sys.exit(f"serve_turns: {command} ended with status {process.returncode}")
@@ -51,8 +53,8 @@ def main():
     match sys.argv[1:]:
         case ["day", requests]:
             print("\n".join(day(random.Random(1541), int(requests), [400])))
-        case ["turns", path, kept, *command]:
-            replies, times = turns(Path(path).read_bytes().splitlines(keepends=True), command)
+        case ["turns", at_hand, path, kept, *command]:
+            replies, times = turns(int(at_hand), Path(path).read_bytes().splitlines(keepends=True), command)
             Path(kept).write_bytes(b"".join(replies))
             count = len(times)
             mean, median, late = sum(times) / count, times[count // 2], times[count * 99 // 100]

@@ -86,7 +86,7 @@ def main():
     with tempfile.TemporaryDirectory() as place:
         folder = Path(place)
         for change in CHANGES:
-            for words in ([], ["--unsynced"]):
+            for words in ([], ["--unsynced"], ["--in-place"], ["--in-place", "--unsynced"]):
                 for line in (b"1,2,I,15,1", b"1,1,S,15,7", b"2,1,R,15,1"):
                     fresh(folder)
                     served = Served(folder, *words)
@@ -96,17 +96,19 @@ def main():
                     want(name, served.ask(line), b",".join(line.split(b",")[:2]) + b",MEDIA")
                     want(name, served.end(), (3, b"DEVICE\n"))
                     tried += 1
-        # the goods of a shop whose copy came in its place are sold once
-        fresh(folder)
-        first = Served(folder)
-        want("stock", first.ask(b"1,1,S,15,10"), b"1,1,DONE,10")
-        shutil.copy(folder / "s.d64", folder / "copy.d64")
-        (folder / "copy.d64").rename(folder / "s.d64")
-        second = Served(folder)
-        want("the second sells", second.ask(b"2,1,I,15,10"), b"2,1,DONE,0")
-        want("the first doesn't", first.ask(b"3,1,I,15,3"), b"3,1,MEDIA")
-        want("the first", first.end(), (3, b"DEVICE\n"))
-        want("the second", second.end(), (0, b""))
+        # the goods of a shop whose copy came in its place are sold once: in place, and over a log, which the second lands
+        for words, told in (["--in-place"], b"3,1,MEDIA"), ([], b""):
+            fresh(folder)
+            first = Served(folder, *words)
+            want("stock", first.ask(b"1,1,S,15,10"), b"1,1,DONE,10")
+            shutil.copy(folder / "s.d64", folder / "copy.d64")
+            (folder / "copy.d64").rename(folder / "s.d64")
+            second = Served(folder, *words)
+            want("the second sells", second.ask(b"2,1,I,15,10"), b"2,1,DONE,0")
+            want("the first doesn't", first.ask(b"3,1,I,15,3"), told)
+            want("the first", first.end(), (3, b"DEVICE\n"))
+            want("the second", second.end(), (0, b""))
+            tried += 1
         # what stays in its place goes on
         fresh(folder)
         served = Served(folder)
@@ -115,7 +117,7 @@ def main():
         os.link(folder / "s.d64", folder / "other.d64")
         want("a file that came back", served.ask(b"1,1,S,15,7"), b"1,1,DONE,7")
         want("its end", served.end(), (0, b""))
-    print(f"moved_files: {tried + 2} changes under a running serve: each was noticed, and what stayed went on")
+    print(f"moved_files: {tried + 1} changes under a running serve: each was noticed, and what stayed went on")
 
 
 main()

@@ -4,12 +4,13 @@
     tests/serve_ends.py PROGRAM
 
 PROGRAM is what `tools/program` prints. It prints a line for each thing tried:
-- a reply comes while the input stays open, and the lines are answered in order, however they come;
+- over the log and in place: a reply comes while the input stays open, and the lines are answered in order, however they come;
 - unfinished, empty, long and `@` lines, bytes that are no text; a line of many megabytes takes no memory;
-- two programs on one image, a holder that was killed, readers beside readers;
+- two programs on one image that is served in place, a holder that was killed, readers beside readers (`serve_logs.py` tries what
+  stands beside a log);
 - an output that is full or closed, an input that is a folder, images that are none;
-- with `strace` installed: each write and each sync of a request fails once (EIO): `MEDIA` and `DEVICE` are told, it
-  isn't tried again, and the next `serve` answers the repeat.
+- with `strace` installed: each write and each sync of a request in place fails once (EIO): `MEDIA` and `DEVICE` are told, it
+  isn't tried again, and the next `serve` answers the repeat. Over the log a sync fails once: `DEVICE`, and no reply.
 The status is 1 at the first difference."""
 
 import fcntl
@@ -33,21 +34,23 @@ class Ends:
     def __init__(self, program, folder):
         self.program, self.folder = program, folder
         self.image = folder / "shop.d64"
+        # the words behind each `serve`
+        self.way = []
 
     def fresh(self):
         sure(self.program, "format", self.image, "--tills", 4)
 
     def serve(self, *words, **more):
-        return Served(self.program, self.image, *words, **more)
+        return Served(self.program, self.image, *self.way, *words, **more)
 
     def served(self, stdin, *words, **more):
-        return run(self.program, "serve", self.image, *words, stdin=stdin, **more)
+        return run(self.program, "serve", self.image, *self.way, *words, stdin=stdin, **more)
 
     def writing(self):
         """The words that write an image, and what stands behind it; `format` last, which changes it."""
         empty = script(self.folder, [])
-        return [["serve"], ["play", empty], ["play", empty, "--sync"], ["repair"], ["make", "CARDS", "--length", 30],
-                ["store", "STOCK", empty], ["format", "--tills", 8]]
+        return [["serve"], ["serve", "--in-place"], ["play", empty], ["play", empty, "--sync"], ["repair"],
+                ["make", "CARDS", "--length", 30], ["store", "STOCK", empty], ["format", "--tills", 8]]
 
     def show(self):
         return sure(self.program, "show", self.image)
@@ -214,7 +217,7 @@ class Ends:
             times += 1
             self.fresh()
             shown = self.show()
-            served = Served(self.program, self.image, before=injecting(call, times))
+            served = Served(self.program, self.image, "--in-place", before=injecting(call, times))
             reply = served.ask(GROWS)
             status, out, err = served.finish()
             if (status, reply) == (0, "1,1,DONE,7"):
@@ -228,6 +231,16 @@ class Ends:
                 want(ended == ("1,1,MEDIA", [], 3, "DEVICE"), f"{where}: {ended}")
             self.answered(GROWS, "1,1,DONE,7")
             want(sure(self.program, "check", self.image) == ["OK"], f"{where}: check isn't OK behind it")
+
+
+    def log_fails(self):
+        """The sync of a commit fails once."""
+        self.fresh()
+        served = Served(self.program, self.image, before=injecting("fdatasync", 1))
+        want(served.ask(GROWS) is None, "a reply is told though the log isn't on the disk")
+        want(served.finish() == (3, [], "DEVICE"), "a log that isn't on the disk doesn't end with DEVICE")
+        self.answered(GROWS, "1,1,DONE,7")
+        want(sure(self.program, "check", self.image) == ["OK"], "check isn't OK behind it")
 
 
 def injecting(call, times):
@@ -248,6 +261,7 @@ def try_device(ends):
     writes = ends.device_fails("pwrite64", None)
     syncs = ends.device_fails("fdatasync", 1)
     want(writes > 0 and syncs > writes, f"{writes} writes and {syncs} syncs")
+    ends.log_fails()
     each = f"each of {writes} writes and {syncs} syncs of a request"
     print(f"{each} fails once: MEDIA, DEVICE, and the repeat is answered")
 
@@ -258,9 +272,12 @@ def main():
     with tempfile.TemporaryDirectory() as folder:
         ends = Ends(str(Path(sys.argv[1]).resolve()), Path(folder))
         lines = [ends.reply_while_open, ends.in_order, ends.unfinished, ends.odd_lines, ends.long_line]
-        for tried in [*lines, ends.in_use, ends.readers, ends.output_fails, ends.input_fails, ends.no_image]:
-            tried()
-            print(f"{tried.__name__}: {' '.join(tried.__doc__.split())}", flush=True)
+        everywhere = [*lines, ends.output_fails, ends.input_fails, ends.no_image]
+        for ends.way, all_tried in ([], [*everywhere, ends.readers]), (["--in-place"], [*everywhere, ends.in_use]):
+            for tried in all_tried:
+                tried()
+                where = " ".join(ends.way) or "over the log"
+                print(f"{where}: {tried.__name__}: {' '.join(tried.__doc__.split())}", flush=True)
         try_device(ends)
 
 

@@ -4,7 +4,7 @@
     tests/serve_kill.py PROGRAM [KILLS] [SEED]
 
 PROGRAM is what `tools/program` prints. A client sends the lines of days of 1,500
-lines of 64 tills, one at a time or up to eight ahead; `serve`, synced or not, is killed (SIGKILL) at random moments,
+lines of 64 tills, one at a time or up to eight ahead; `serve`, over the log or in place, synced or not, is killed (SIGKILL) at random moments,
 also while it opens the shop, and started again at once: it is never told `IN USE`, for the lock falls with the
 process. What wasn't answered is sent again.
 - Each reply is the one that `dry` gives, in order, and `show` after a kill tells a shop.
@@ -31,12 +31,12 @@ class Client:
         self.program, self.folder, self.draw, self.words = program, folder, draw, words
         self.image = folder / "shop.d64"
         self.kills = self.missed = self.lines = 0
-        # the seconds that a turn takes
-        self.turn = 0.005
+        # the seconds that a turn takes, and an opening at most: over a log it makes that first
+        self.turn, self.opening = 0.005, 0.01 if "--in-place" in words else 0.1
 
     def killer(self, served, answered):
         """Kills within the time of an opening, or of two turns."""
-        return threading.Timer(self.draw.uniform(0, 2 * self.turn if answered else 0.01), served.process.kill)
+        return threading.Timer(self.draw.uniform(0, 2 * self.turn if answered else self.opening), served.process.kill)
 
     def live(self, lines, replies, mortal):
         """One life of `serve`: how many of the lines were answered before it was killed, or all."""
@@ -107,10 +107,10 @@ def main():
     kills = int(sys.argv[2]) if len(sys.argv) > 2 else 1000
     draw = random.Random(int(sys.argv[3]) if len(sys.argv) > 3 else 1541)
     with tempfile.TemporaryDirectory() as folder:
-        for words in [[], ["--unsynced"]]:
+        for words in [[], ["--unsynced"], ["--in-place"], ["--in-place", "--unsynced"]]:
             client = Client(program, Path(folder), draw, words)
-            while client.kills < kills // 2:
-                client.one_day(min(100, kills // 2 - client.kills))
+            while client.kills < kills // 4:
+                client.one_day(min(100, kills // 4 - client.kills))
             how = " ".join(["serve", *words])
             missed = f"{client.missed} of them left lines without a reply"
             print(f"{how}: {client.kills} kills, {missed}, {client.lines} lines: no difference", flush=True)

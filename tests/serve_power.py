@@ -1,5 +1,6 @@
 #!/usr/bin/env python3
-"""Lets power go while the built program serves a day of requests, and looks at what it left:
+"""Lets power go while the built program serves a day of requests in place, and looks at what it left (`crash_states.py` does so
+over the log):
 
     tests/serve_power.py PROGRAM [CUTS] [SEED]
 
@@ -45,7 +46,7 @@ class Machine:
         moments = self.draw.choice([self.draw.randint(0, 8), self.draw.randint(0, 120)])
         power = {"LD_PRELOAD": str(self.library), "DURABLE": str(self.medium)}
         power |= {"CUT": str(moments), "SEED": str(self.draw.randint(1, 10**6))}
-        return Served(self.program, self.image, *self.words, env={**os.environ, **power})
+        return Served(self.program, self.image, "--in-place", *self.words, env={**os.environ, **power})
 
     def wrong(self, served):
         """What is wrong with an end without a reply, or None where power went."""

@@ -142,8 +142,9 @@ taking-met o found name at what image (Ok (jobs.Show path)) told some is by-imag
 taking-met o found name at what image (Ok (jobs.Play path script)) told some is by-image taking = absurd taking
 taking-met o found name at what image (Ok (jobs.PlaySynced path script)) told some is by-image taking = absurd taking
 taking-met o found name at what image (Ok (jobs.Dry path)) told some is by-image taking = absurd taking
-taking-met o found name at what image (Ok (jobs.Serve path durability loss)) told some is by-image taking =
+taking-met o found name at what image (Ok (jobs.Serve path way durability loss)) told some is by-image taking =
     absurd taking
+taking-met o found name at what image (Ok (jobs.Copy path copy)) told some is by-image taking = absurd taking
 taking-met o found name at what image (Ok (jobs.Repair path loss unowned effect)) told some is by-image taking =
     absurd taking
 taking-met o found name at what image (Ok (jobs.Make path text length loss)) told some is by-image taking =
@@ -179,7 +180,8 @@ making-met o found name at image (Ok (jobs.Show path)) told some is by-image job
 making-met o found name at image (Ok (jobs.Play path script)) told some is by-image job = absurd job
 making-met o found name at image (Ok (jobs.PlaySynced path script)) told some is by-image job = absurd job
 making-met o found name at image (Ok (jobs.Dry path)) told some is by-image job = absurd job
-making-met o found name at image (Ok (jobs.Serve path durability loss)) told some is by-image job = absurd job
+making-met o found name at image (Ok (jobs.Serve path way durability loss)) told some is by-image job = absurd job
+making-met o found name at image (Ok (jobs.Copy path copy)) told some is by-image job = absurd job
 making-met o found name at image (Ok (jobs.Repair path loss unowned effect)) told some is by-image job = absurd job
 making-met o found name at image (Ok (jobs.Take asked path text)) told some is by-image job = absurd job
 making-met o found name at image (Ok (jobs.Store path text records loss)) told some is by-image job = absurd job
@@ -211,7 +213,8 @@ storing-met o found name at image (Ok (jobs.Show path)) told some is by-image jo
 storing-met o found name at image (Ok (jobs.Play path script)) told some is by-image job = absurd job
 storing-met o found name at image (Ok (jobs.PlaySynced path script)) told some is by-image job = absurd job
 storing-met o found name at image (Ok (jobs.Dry path)) told some is by-image job = absurd job
-storing-met o found name at image (Ok (jobs.Serve path durability loss)) told some is by-image job = absurd job
+storing-met o found name at image (Ok (jobs.Serve path way durability loss)) told some is by-image job = absurd job
+storing-met o found name at image (Ok (jobs.Copy path copy)) told some is by-image job = absurd job
 storing-met o found name at image (Ok (jobs.Repair path loss unowned effect)) told some is by-image job = absurd job
 storing-met o found name at image (Ok (jobs.Take asked path text)) told some is by-image job = absurd job
 storing-met o found name at image (Ok (jobs.Make path text length loss)) told some is by-image job = absurd job

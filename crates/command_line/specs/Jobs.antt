@@ -28,6 +28,8 @@ use Rattle.ledger_jobs.specs.declared.jobs.Taking.{Taking}
 use Rattle.ledger_jobs.specs.declared.jobs.Taking.TheVariants as takings
 use Rattle.ledger_jobs.specs.declared.jobs.Unowned.{Unowned}
 use Rattle.ledger_jobs.specs.declared.jobs.Unowned.TheVariants as unowneds
+use Rattle.ledger_jobs.specs.declared.jobs.Way.{Way}
+use Rattle.ledger_jobs.specs.declared.jobs.Way.TheVariants as ways
 use Rattle.ledger_jobs.specs.Names.{IsNameOf, name_bytes}
 use Rattle.command_line.specs.declared.faults.JobFault.{JobFault}
 use Rattle.command_line.specs.declared.faults.JobFault.TheVariants as faults
@@ -69,7 +71,11 @@ word_of_drawing drawings.Poster = codes "picture"
 abbrev pub is_given : Text → List Row → Bool
 is_given flag rows = bytes_eq (value flag rows) (codes "true")
 
--- when the image of a shop that is served is brought to the disk: behind each sector, but with --unsynced at the end
+-- where the requests of a shop that is served come to the disk first: in a log, but with --in-place in the image itself
+abbrev pub way_in : List Row → Way
+way_in rows = if is_given (codes "in-place") rows then ways.InPlace else ways.OverLog
+
+-- when what is served is brought to the disk: before each reply, but with --unsynced when the system likes
 abbrev pub serve_durability : List Row → Durability
 serve_durability rows = if is_given (codes "unsynced") rows then durabilities.AtEnd else durabilities.EachSector
 
@@ -182,8 +188,11 @@ IsJob found (jobs.PlaySynced image script) = Has found (codes "play")
     (λ rows. (image.now ≡ value (codes "IMAGE") rows) × (script.now ≡ value (codes "SCRIPT") rows)
     × (is_given (codes "sync") rows ≡ true))
 IsJob found (jobs.Dry script) = Has found (codes "dry") (λ rows. script.now ≡ value (codes "SCRIPT") rows)
-IsJob found (jobs.Serve image durability loss) = Has found (codes "serve")
-    (λ rows. (image.now ≡ value (codes "IMAGE") rows) × (durability ≡ serve_durability rows) × (loss ≡ loss_in rows))
+IsJob found (jobs.Serve image way durability loss) = Has found (codes "serve")
+    (λ rows. (image.now ≡ value (codes "IMAGE") rows) × (way ≡ way_in rows) × (durability ≡ serve_durability rows)
+    × (loss ≡ loss_in rows))
+IsJob found (jobs.Copy image copy) = Has found (codes "copy")
+    (λ rows. (image.now ≡ value (codes "IMAGE") rows) × (copy.now ≡ value (codes "NEW") rows))
 IsJob found (jobs.Repair image loss unowned effect) = Has found (codes "repair")
     (λ rows. (image.now ≡ value (codes "IMAGE") rows) × (loss ≡ loss_in rows) × (unowned ≡ unowned_in rows)
     × (effect ≡ effect_in rows))

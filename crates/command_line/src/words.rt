@@ -12,12 +12,13 @@ ghost use Rattle.command_line.specs.Jobs.{IsSeveral, IsSheet, IsStoringJob, IsTa
 ghost use Rattle.command_line.specs.Jobs.{effect_in, format_job, job_of_one, loss_in, picture_job, play_job, unowned_in};
 ghost use Rattle.rel_records.specs.File.{IsLength};
 ghost use Rattle.command_line.specs.Jobs.{is_explained as explained, is_given as given, serve_durability as of_serve};
+ghost use Rattle.command_line.specs.Jobs.{way_in};
 
 use crate::faults::JobFault;
 use clap::{ArgMatches, Error};
 use command_table::ledger_command;
 use disk_pictures::MOST_TILES;
-use ledger_jobs::{Drawing, Effect, Job, Loss, Name, Overview, Taking, Unowned};
+use ledger_jobs::{Drawing, Effect, Job, Loss, Name, Overview, Taking, Unowned, Way};
 use request_cards::number;
 use shop_commands::Durability;
 use std::alloc::{AllocError, Global};
@@ -74,7 +75,18 @@ fn is_given<'a>(matches: &ArgMatches<'a>, flag: &str) -> bool
     value_of(matches, flag) == "true"
 }
 
-/// When the image that is served is brought to the disk.
+/// Where the requests of a shop that is served come to the disk first.
+fn way<'a>(matches: &ArgMatches<'a>) -> Way
+    ensures { result ≡ way_in (rows_of (found_of matches.now)) }
+{
+    if is_given(matches, "in-place") {
+        Way::InPlace
+    } else {
+        Way::OverLog
+    }
+}
+
+/// When what is served is brought to the disk.
 fn serve_durability<'a>(matches: &ArgMatches<'a>) -> Durability
     ensures { result ≡ of_serve (rows_of (found_of matches.now)) }
 {
@@ -306,8 +318,13 @@ fn job_of<'a>(alloc: Global, matches: &ArgMatches<'a>) -> Result<Job<'a>, JobFau
         "play" => Ok(playing(found, image, script)),
         "serve" => Ok(Job::Serve {
             image,
+            way: way(found),
             durability: serve_durability(found),
             loss: loss(found),
+        }),
+        "copy" => Ok(Job::Copy {
+            image,
+            copy: value_of(found, "NEW"),
         }),
         "repair" => Ok(Job::Repair {
             image,

@@ -55,9 +55,14 @@ play = with_rule (with_rule (over_image (codes "play")) (required (codes "SCRIPT
 abbrev pub may_accept_loss : App → App
 may_accept_loss a = with_rule a (flag (codes "accept-loss"))
 
--- serve IMAGE [--unsynced] [--accept-loss]
+-- serve IMAGE [--unsynced] [--accept-loss] [--in-place]
 abbrev pub serve : App
-serve = may_accept_loss (with_rule (over_image (codes "serve")) (flag (codes "unsynced")))
+serve = with_rule (may_accept_loss (with_rule (over_image (codes "serve")) (flag (codes "unsynced"))))
+    (flag (codes "in-place"))
+
+-- copy IMAGE NEW
+abbrev pub copy : App
+copy = with_rule (over_image (codes "copy")) (required (codes "NEW"))
 
 -- repair IMAGE [--accept-loss] [--free] [--dry-run]
 abbrev pub repair : App
@@ -116,8 +121,8 @@ with_command a command = with_subcommand a (explainable command).top
 
 -- a program that has the subcommands for a shop too
 abbrev pub with_shop : App → App
-with_shop a = with_command (with_command (with_command (with_command (with_command (with_command
-    a format) list) check) show) play) serve
+with_shop a = with_command (with_command (with_command (with_command (with_command (with_command (with_command
+    a format) list) check) show) play) serve) copy
 
 -- a program that has the subcommands for the files of a disk too
 abbrev pub with_files : App → App

@@ -5,6 +5,8 @@ pub(crate) const MORE: &str =
     "Exit status: 0 success; 1 a fault was found, or an image, a script or records\n\
 were refused; 2 the command line was refused; 3 a file, the output or memory\n\
 failed, or another program has the image (IN USE).\n\
+While IMAGE-log stands beside IMAGE, the shop is what the log says, and each\n\
+command reads it there. Status 1 and LOG: the log is of another image.\n\
 On a terminal, or with --explain, a second line on standard error names the file\n\
 or says what to do. README.md describes the commands, docs/KEEPERS.md every word\n\
 that they print.\n\
@@ -13,9 +15,10 @@ that they print.\n\
 /// What `format` prints, its statuses, and an example.
 pub(crate) const FORMAT: &str =
     "Prints FORMATTED once the image is on the disk. Without --new it replaces IMAGE\n\
-if that exists.\n\
-Status 0: made. 1: FILE EXISTS, with --new: nothing was done. 2: TILLS: T isn't\n\
-1 to 64. 3: FILE (the file, its folder or the output failed), NO MEMORY, IN USE.\n\
+if that exists, and removes its log first.\n\
+Status 0: made. 1: FILE EXISTS, with --new (IMAGE, or its log): nothing was done.\n\
+2: TILLS: T isn't 1 to 64. 3: FILE (the file, its folder or the output failed),\n\
+NO MEMORY, IN USE.\n\
 Example: ledger format --new shop.d64 --tills 4";
 
 /// What `list` prints, its statuses, and an example.
@@ -59,12 +62,20 @@ Example: ledger play shop.d64 day.txt";
 
 /// What `serve` prints, its statuses, and an example.
 pub(crate) const SERVE: &str =
-    "Prints the reply to a line once all that it needs is on the disk, and only then\n\
-reads the next line.\n\
+    "Takes the lines at hand, 512 at most, syncs once, and prints their replies. What\n\
+they changed is in IMAGE-log until the input ends; other commands read it there.\n\
+With --in-place it writes IMAGE itself, and prints each reply before it reads the\n\
+next line.\n\
 Status 0: the input ended. 1: the image isn't a shop, or a file of the disk has\n\
-lost its end (SHORT): nothing was done. 3: FILE, NO MEMORY, IN USE, DEVICE (also\n\
-if IMAGE no longer names the file that is served).\n\
+lost its end (SHORT), or LOG: nothing was done. 3: FILE, NO MEMORY, IN USE,\n\
+DEVICE (also if IMAGE no longer names the file that is served).\n\
 Example: ledger serve shop.d64 < messages.txt";
+
+/// What `copy` prints, its statuses, and an example.
+pub(crate) const COPY: &str = "Prints COPIED once the copy is on the disk. The copy needs no log.\n\
+Status 0: copied. 1: IMAGE SIZE, LOG, or FILE EXISTS (NEW, or its log): nothing\n\
+was done. 3: FILE, NO MEMORY, IN USE.\n\
+Example: ledger copy shop.d64 backup.d64";
 
 /// What `repair` prints, its statuses, and an example.
 pub(crate) const REPAIR: &str =

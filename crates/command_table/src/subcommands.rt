@@ -1,6 +1,7 @@
 //! The subcommands, a row each.
 use crate::help_texts::{
-    BYTES, CHECK, DRY, FORMAT, LIST, MAKE, MAP, PICTURE, PLAY, RECORDS, REPAIR, SERVE, SHOW, STORE,
+    BYTES, CHECK, COPY, DRY, FORMAT, LIST, MAKE, MAP, PICTURE, PLAY, RECORDS, REPAIR, SERVE, SHOW,
+    STORE,
 };
 
 /// How often a value stands behind the name of a subcommand.
@@ -89,7 +90,7 @@ const ACCEPT_LOSS: Value = Value {
 };
 
 /// All subcommands, in the order in which help lists them.
-pub(crate) const SUBCOMMANDS: [Subcommand; 14] = [
+pub(crate) const SUBCOMMANDS: [Subcommand; 15] = [
     // format IMAGE --tills T [--new]
     Subcommand {
         name: "format",
@@ -148,10 +149,10 @@ pub(crate) const SUBCOMMANDS: [Subcommand; 14] = [
             },
         ],
     },
-    // serve IMAGE [--unsynced] [--accept-loss]
+    // serve IMAGE [--unsynced] [--accept-loss] [--in-place]
     Subcommand {
         name: "serve",
-        about: "Answers the messages on standard input, each before the next is read",
+        about: "Answers the messages on standard input, over a log beside the image",
         more: SERVE,
         values: &[
             IMAGE,
@@ -159,9 +160,30 @@ pub(crate) const SUBCOMMANDS: [Subcommand; 14] = [
                 name: "unsynced",
                 word: Some("unsynced"),
                 count: Count::Flag,
-                help: "Leaves it to the system when sectors are synced",
+                help: "Leaves it to the system when replies are on the disk",
             },
             ACCEPT_LOSS,
+            Value {
+                name: "in-place",
+                word: Some("in-place"),
+                count: Count::Flag,
+                help: "Uses no log: writes and syncs each sector in IMAGE itself",
+            },
+        ],
+    },
+    // copy IMAGE NEW
+    Subcommand {
+        name: "copy",
+        about: "Copies the image as it is now, also while it is served",
+        more: COPY,
+        values: &[
+            IMAGE,
+            Value {
+                name: "NEW",
+                word: None,
+                count: Count::One,
+                help: "The copy's path, where no file may stand yet",
+            },
         ],
     },
     // repair IMAGE [--accept-loss] [--free] [--dry-run]

@@ -1,5 +1,5 @@
 -- What making the image of an empty shop leaves of a file that is written and sought. Our own.
-use Rattle.std.specs.Prelude.{◌≡◌, ◌⊎◌, ℕ, List, [], ◌∷◌, ◌++◌, Option, None, Some, Result, Ok, Err, codes, drop, replicate, take}
+use Rattle.std.specs.Prelude.{◌≡◌, ◌≢◌, ◌⊎◌, ℕ, length, List, [], ◌∷◌, ◌++◌, Option, None, Some, Result, Ok, Err, codes, drop, replicate, take}
 use Rattle.std.specs.Io.KnownBytes.{Appends, Keeps}
 use Rattle.std.specs.Io.Seek.{StaysAt}
 use Rattle.d64_image.specs.Mirrors.{IsHanded, IsSought}
@@ -67,6 +67,26 @@ module _ {F : Type 0} (position : F → Option ℕ) (bytes contents : F → Opti
     pub image : List ℕ
     pub fresh : AreFreshBytes tills image
     pub written : AreWrittenInPart old new (image_writes image)
+
+  -- An image was written over a file. If it is known what the file held, it holds the image now, and behind it what it
+  -- held behind as many bytes.
+  pub record IsImageHanded (image : List ℕ) (old new : F) : Type 0 where
+    pub written : AreWritten old new (image_writes image)
+    pub holds : (held : F → Option (List ℕ)) → SaysWhatItHolds held → (all : List ℕ) → held old ≡ Some all
+        → held new ≡ Some (image ++ drop 174848 all)
+
+  -- what copying an image and saying so came to: all of it was written, and that was said; or it has another size, and
+  -- nothing was done; or the file failed, and nothing was said, or the output did
+  abbrev pub IsImageCopied : {W : Type 0} → (W → Option (List ℕ)) → (image : List ℕ) → F → F → W → W
+      → Result Unit RunFault → Type 0
+  IsImageCopied told image file after old new (Ok _) = (length image ≡ 174848)
+      × IsImageHanded image file after × Appends (told old) (told new) (codes "COPIED\n")
+  IsImageCopied told image file after old new (Err run.ImageSize) =
+      (length image ≢ 174848) × (after ≡ file) × (new ≡ old)
+  IsImageCopied told image file after old new (Err run.File) = (length image ≡ 174848)
+      × ((AreWrittenInPart file after (image_writes image) × (new ≡ old))
+      ⊎ (IsImageHanded image file after × AppendsPart (told old) (told new) (codes "COPIED\n")))
+  IsImageCopied told image file after old new (Err _) = ⊥
 
   -- what making such an image and saying so came to: all of it was written, and that was said; the file failed, and
   -- nothing was said, or the output did; or there was no memory, and nothing was done

@@ -3,7 +3,7 @@ use Rattle.std.specs.Prelude.{◌≡◌, ◌≢◌, ◌⊎◌, ℕ, Bool, false,
 use Rattle.d64_image.specs.Memory.{sectors_in}
 use Rattle.d64_image.specs.declared.device_as_file.DeviceAsFile.{DeviceAsFile}
 use Rattle.d64_image.specs.declared.mirror.Mirror.{Mirror}
-use Rattle.ledger_cli.specs.Making.{IsImageMade}
+use Rattle.ledger_cli.specs.Making.{IsImageCopied, IsImageMade}
 use Rattle.ledger_cli.specs.Streams.{HandsSectors, IsBegun, WhyUnbegun, stream, stream_file}
 use Rattle.disk_layout.specs.declared.faults.Fault.{Fault}
 use Rattle.host_session.specs.runs.Outputs.{AppendsPart, written}
@@ -82,6 +82,12 @@ module _ {F : Type 0} (position : F → Option ℕ) (bytes contents : F → Opti
   IsFormatted told tills (Some file) after old new end = (left : F) × (after ≡ Some left)
       × EndsAs (λ ended. as_job (end_of ended)) end (IsImageMade position bytes contents told tills file left old new)
 
+  -- the copy of the image to the file ended so; without a file it isn't made
+  abbrev pub IsCopyJob : (W → Option (List ℕ)) → List ℕ → Option F → Option F → W → W → JobEnd → Type 0
+  IsCopyJob told image None after old new end = (after ≡ None) × (new ≡ old) × (end ≡ Err (refusals.Run run.File))
+  IsCopyJob told image (Some file) after old new end = (left : F) × (after ≡ Some left)
+      × EndsAs (λ ended. as_job (end_of ended)) end (IsImageCopied position bytes contents told image file left old new)
+
   -- the play of a script did
   abbrev pub IsPlayed : (W → Option (List ℕ)) → (image script : List ℕ) → Option F → Option F → W → W → JobEnd → Type 0
   IsPlayed told image script file after old new end = IsOverFile image file after old new end
@@ -141,8 +147,9 @@ module _ {F : Type 0} (position : F → Option ℕ) (bytes contents : F → Opti
       IsPlayed told image script file after old new end
   IsJobRun told (jobs.PlaySynced path text) image script file after old new end =
       IsPlayed told image script file after old new end
-  IsJobRun told (jobs.Serve path durability loss) image script file after old new end =
+  IsJobRun told (jobs.Serve path way durability loss) image script file after old new end =
       IsServed image loss file after old new end
+  IsJobRun told (jobs.Copy path copy) image script file after old new end = IsCopyJob told image file after old new end
   IsJobRun told (jobs.Repair path loss u effect) image script file after old new end =
       IsRepairJob told image u effect loss file after old new end
   IsJobRun told (jobs.Make path name L loss) image script file after old new end =

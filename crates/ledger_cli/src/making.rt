@@ -1,7 +1,7 @@
 //! Making the image of an empty shop over any file that is written and sought.
 ghost use Rattle.std.specs.Prelude.{◌≡◌, ◌≤◌, IfErr, None, OnOk, length};
 ghost use Rattle.d64_image.specs.Mirrors.{IsHanded};
-ghost use Rattle.ledger_cli.specs.Making.{IsHandedPart, IsImageMade, IsWriting, image_writes};
+ghost use Rattle.ledger_cli.specs.Making.{IsHandedPart, IsImageCopied, IsImageMade, IsWriting, image_writes};
 ghost use Rattle.shop_commands.specs.declared.faults.RunFault.TheVariants as faults;
 
 use shop_commands::{RunFault, fresh_disk, put_whole};
@@ -12,6 +12,9 @@ use std::io::{Seek, SeekFrom, Write};
 const DIRECTORY: usize = 91_648;
 
 const BEHIND: usize = 91_904;
+
+/// How many bytes an image has.
+const IMAGE_BYTES: usize = 174_848;
 
 /// A first sector of a directory that links to track 255, which no disk has.
 const SPOILED: [u8; 256] = [255; 256];
@@ -60,4 +63,25 @@ pub(crate) fn make_image<F: Write + Seek, W: Write>(
     let disk = fresh_disk(alloc, tills)?;
     write_over(file, disk.bytes())?;
     put_whole(out, b"FORMATTED\n")
+}
+
+/// Writes an image over what the file holds, and prints so on `out`. A longer file keeps what it held behind the image.
+///
+/// `ImageSize`: nothing was done. `File` if the file failed, which then has a beginning of the writes and nothing is
+/// printed, or `out`, which then has a beginning of what is printed.
+pub(crate) fn copy_image<F: Write + Seek, W: Write>(
+    image: &[u8],
+    file: &mut F,
+    out: &mut W,
+) -> Result<(), RunFault>
+    ensures { IsImageCopied F.stream_position F.stream_bytes F.contents W.contents image.now file.old file.new
+        out.old out.new result }
+{
+    if image.len() != IMAGE_BYTES {
+        return Err(RunFault::ImageSize);
+    }
+    match write_over(file, image) {
+        Ok(()) => put_whole(out, b"COPIED\n"),
+        Err(fault) => Err(fault),
+    }
 }

@@ -3,7 +3,7 @@ ghost use Rattle.std.specs.Prelude.{◌≡◌, Option};
 ghost use Rattle.ledger_cli.specs.Runs.{IsJobRun, IsRead, IsRun};
 ghost use Rattle.ledger_jobs.specs.Jobs.{IsFit};
 
-use crate::changing::{Ended, format, make, play, repair, serve, store};
+use crate::changing::{Ended, copy, format, make, play, repair, serve, store};
 use ledger_jobs::{
     Job, Reading, Refusal, drawing_run, drawn_end, end, job_end, reading_run, take_told,
 };
@@ -39,6 +39,7 @@ fn obey<F: Write + Seek + Drop, W: Write>(
         Job::Dry { .. } => (file, read(alloc, Reading::Dry, script, out)),
         Job::Play { .. } | Job::PlaySynced { .. } => play(alloc, image, script, file, out),
         Job::Serve { loss, .. } => serve(alloc, image, script, loss, file, out),
+        Job::Copy { .. } => copy(image, file, out),
         Job::Repair {
             loss,
             unowned,
@@ -65,12 +66,12 @@ fn obey<F: Write + Seek + Drop, W: Write>(
 /// Does a job over the bytes of its files, prints what it prints, reports in a line on `err` why it isn't done, and
 /// returns the exit status and the file. Bytes that the job doesn't read are empty: `image` are those of IMAGE, `script`
 /// those of SCRIPT or RECORDS, or of `serve`'s standard input. `file` is IMAGE for writing, at its start, for a job that
-/// writes it; without one such a job ends with 3 and `FILE`, and nothing is printed. A job that only reads leaves it as
-/// it was. A job over several images ends with 3 and `FILE`, since only one has its bytes here: call `overview_run` for
-/// each.
+/// writes it, and the copy for `Copy`; without one such a job ends with 3 and `FILE`, and nothing is printed. A job that
+/// only reads leaves it as it was. There are no logs: `Serve` writes the image itself, whatever way the job says. A job
+/// over several images ends with 3 and `FILE`, since only one has its bytes here: call `overview_run` for each.
 ///
-/// The file is handed each sector at 256 times its index, before memory takes it, and nothing else; `Format` hands it the
-/// whole image. It can't be ended: what a longer file held behind an image stays there. Whether it was there before, and
+/// The file is handed each sector at 256 times its index, before memory takes it, and nothing else; `Format` and `Copy`
+/// hand it the whole image. It can't be ended: what a longer file held behind an image stays there. Whether it was there before, and
 /// when its sectors come to the disk, is up to the caller. If it fails the status is 3, and of what it was handed in that
 /// call nothing is known.
 pub fn run_over<F: Write + Seek + Drop, W: Write, E: Write>(

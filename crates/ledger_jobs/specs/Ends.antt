@@ -17,6 +17,8 @@ use Rattle.shop_commands.specs.declared.dry_run.DryFault.TheVariants as dry
 use Rattle.shop_commands.specs.declared.faults.RunFault.{RunFault}
 use Rattle.shop_commands.specs.declared.faults.RunFault.TheVariants as run
 use Rattle.shop_commands.specs.Texts.{refusal_text as run_text}
+use Rattle.log_files.specs.declared.landing.LogFault.{LogFault}
+use Rattle.log_files.specs.declared.landing.LogFault.TheVariants as logs
 use Rattle.ledger_jobs.specs.declared.refusals.Refusal.{Refusal}
 use Rattle.ledger_jobs.specs.declared.refusals.Refusal.TheVariants as refusals
 
@@ -28,6 +30,7 @@ refusal_status (refusals.Draw fault) = picture_status fault
 refusal_status refusals.InUse = 3
 refusal_status (refusals.Kept n) = 1
 refusal_status refusals.Exists = 1
+refusal_status refusals.Log = 1
 refusal_status (refusals.Short p) = 1
 refusal_status (refusals.Several greatest) = greatest
 
@@ -39,6 +42,7 @@ refusal_text (refusals.Draw fault) = picture_text fault
 refusal_text refusals.InUse = codes "IN USE"
 refusal_text (refusals.Kept n) = codes "KEPT " ++ decimal n
 refusal_text refusals.Exists = codes "FILE EXISTS"
+refusal_text refusals.Log = codes "LOG"
 refusal_text (refusals.Short p) = codes "SHORT " ++ place_text p
 refusal_text (refusals.Several greatest) = codes "STATUS " ++ decimal greatest
 
@@ -50,6 +54,7 @@ is_told (refusals.Draw fault) = true
 is_told refusals.InUse = true
 is_told (refusals.Kept n) = false
 is_told refusals.Exists = true
+is_told refusals.Log = true
 is_told (refusals.Short p) = true
 is_told (refusals.Several greatest) = false
 
@@ -61,6 +66,11 @@ refusal_line refusal = if is_told refusal then refusal_text refusal ++ codes "\n
 abbrev pub lock_refusal : TryLockError → Refusal
 lock_refusal locks.WouldBlock = refusals.InUse
 lock_refusal (locks.Error error) = refusals.Run (io_fault (error_kind error))
+
+-- what is told of a log that a folder has
+abbrev pub log_refusal : LogFault → Refusal
+log_refusal (logs.Unfit why) = refusals.Log
+log_refusal (logs.File error) = refusals.Run (io_fault (error_kind error))
 
 -- a job is done, with the fault of the layout that it printed, where it printed one; or it isn't, for this reason
 abbrev pub JobEnd : Type 0

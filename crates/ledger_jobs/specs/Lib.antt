@@ -1,3 +1,4 @@
+pub mod Copies
 pub mod Drawings
 pub mod DurableRuns
 pub mod Ends
@@ -5,6 +6,7 @@ pub mod FileServes
 pub mod Jobs
 pub mod Keeping
 pub mod Kept
+pub mod LoggedRuns
 pub mod Losses
 pub mod Names
 pub mod Overviews

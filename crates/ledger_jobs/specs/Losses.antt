@@ -3,8 +3,9 @@ use Rattle.std.specs.Prelude.{◌≡◌, ◌⊎◌, List, ℕ, Option, Some, Non
 use Rattle.d64_image.specs.declared.place.Place.{Place}
 use Rattle.cut_files.specs.Told.{IsCutShort, IsToldOfImage}
 use Rattle.keeper_commands.specs.declared.faults.KeepFault.{KeepFault}
+use Rattle.shop_commands.specs.declared.faults.RunFault.{RunFault}
 use Rattle.shop_commands.specs.declared.faults.RunFault.TheVariants as run
-use Rattle.ledger_jobs.specs.Ends.{JobEnd, as_job, as_kept, as_repaired, Ended}
+use Rattle.ledger_jobs.specs.Ends.{JobEnd, as_job, as_kept, as_repaired, end_of, Ended}
 use Rattle.ledger_jobs.specs.Keeping.{IsTaken, IsTakingRun}
 use Rattle.ledger_jobs.specs.declared.jobs.Loss.{Loss}
 use Rattle.ledger_jobs.specs.declared.jobs.Loss.TheVariants as losses
@@ -42,6 +43,10 @@ IsGuarded image loss Untouched IsRun end =
 -- a run that ended so is told as this end
 abbrev pub IsEndOf : (Ended → Type 0) → JobEnd → Type 0
 IsEndOf IsRun end = (ended : Ended) × (end ≡ as_job ended) × IsRun ended
+
+-- a run that prints no fault and ended so is told as this end
+abbrev pub IsEndOfRun : (Result Unit RunFault → Type 0) → JobEnd → Type 0
+IsEndOfRun IsRun end = (ended : Result Unit RunFault) × (end ≡ as_job (end_of ended)) × IsRun ended
 
 -- a run over the files of an image that ended so is told as this end
 abbrev pub IsKeptEndOf : (Result Unit KeepFault → Type 0) → JobEnd → Type 0

@@ -6,10 +6,12 @@ ghost use Rattle.ledger_jobs.specs.Ends.{as_drawn, as_job, as_kept, as_repaired,
 ghost use Rattle.ledger_jobs.specs.Jobs.{IsFit, needed};
 ghost use Rattle.ledger_jobs.specs.Runs.{IsReadingEnd, IsReadingOf};
 
+use crate::copying::do_copying;
 use crate::drawing::drawing_run;
 use crate::durable_runs::play_durably;
 use crate::files::{AtPath, Older, STANDARD_INPUT, room_for, script_at};
-use crate::jobs::{Drawing, Job, Reading, Taking};
+use crate::image_logs::{logged_image, opened_and_landed};
+use crate::jobs::{Drawing, Job, Reading, Taking, Way};
 use crate::keeper_files::{do_make, do_repair, do_store};
 use crate::locks::{lock_shared, own_image, read_shared};
 use crate::losses::take_told;
@@ -17,6 +19,7 @@ use crate::names::Name;
 use crate::overviews::do_several;
 use crate::refusals::Refusal;
 use crate::serving_images::do_serving;
+use crate::serving_logs::do_logged_serving;
 use crate::sheets::do_sheet;
 use crate::shop_runs::{format_run, reading_run};
 use disk_layout::Fault;
@@ -30,7 +33,7 @@ use std::alloc::Global;
 use std::fs::{File, OpenFile};
 use std::io::{self, Read, Write};
 use std::rt::Files;
-use system_files::{opened_to_change, opened_to_read};
+use system_files::opened_to_read;
 
 /// What came of the system's part of a job, as it is told.
 pub(crate) fn told<T>(taken: io::Result<T>) -> Result<T, Refusal>
@@ -151,7 +154,24 @@ fn opened_for<R: Files>(rt: &R, what: Reading, path: &str) -> io::Result<R::File
     }
 }
 
-/// Does what is asked of the file at a path, or of standard input.
+/// The sectors of the image that was opened at a path, where a log beside it gives them. A script has none.
+fn opened_log<F, R>(
+    rt: &R,
+    what: Reading,
+    path: &str,
+    opened: &io::Result<F>,
+) -> Result<Option<Vec<[u8; 256]>>, Refusal>
+where
+    F: OpenFile + Drop,
+    R: Files<File = F> + AllocGlobal,
+{
+    match (what, opened) {
+        (Reading::Dry, _) | (_, Err(_)) => Ok(None),
+        (_, Ok(file)) => logged_image(rt, path, file),
+    }
+}
+
+/// Does what is asked of the file at a path, or of standard input. An image is read as its shop is now.
 fn do_reading<F, R, W>(
     rt: &R,
     what: Reading,
@@ -168,6 +188,10 @@ where
     }
     let mut opened = opened_for(rt, what, path);
     lock_opened(what, &mut opened)?;
+    if let Some(image) = opened_log(rt, what, path, &opened)? {
+        let bytes = image.as_slice().as_flattened();
+        return job_end(reading_run(rt.alloc(), what, bytes, out));
+    }
     let room = room_for(&opened);
     job_end(do_over(rt.alloc(), what, opened, room, out))
 }
@@ -204,11 +228,11 @@ fn do_playing<F, R, W>(
     out: &mut W,
 ) -> Result<Option<Fault>, Refusal>
 where
-    F: Read + Locks + Drop,
+    F: EndedFile + Locks + OpenFile + Drop,
     R: Files<File = F> + Input + AllocGlobal,
     W: Write,
 {
-    let mut file = told(opened_to_change(rt, path))?;
+    let mut file = opened_and_landed(rt, path)?;
     let image = own_image(rt.alloc(), &mut file, durability)?;
     let script = told(script_at(rt, script))?;
     let mut printer = Printer::new(out);
@@ -223,18 +247,31 @@ where
     job_end(ended)
 }
 
-/// The bytes of the image at a path, which nobody writes while it is read, or of standard input.
+/// The bytes of the image at a path as its shop is now: of its log, if one stands beside it. Nobody begins to write the
+/// image while it is read.
+pub(crate) fn image_of_file<F, R>(rt: &R, path: &str) -> Result<Vec<u8>, Refusal>
+where
+    F: Read + Locks + OpenFile + Drop,
+    R: Files<File = F> + AllocGlobal,
+{
+    let mut file = told(opened_to_read(rt, path))?;
+    lock_shared(&mut file)?;
+    match logged_image(rt, path, &file)? {
+        Some(image) => told(read_image(rt.alloc(), image.as_slice().as_flattened())),
+        None => told(read_shared(rt.alloc(), &mut file)),
+    }
+}
+
+/// The bytes of the image at a path, as its shop is now, or of standard input.
 pub(crate) fn image_at<F, R>(rt: &R, path: &str) -> Result<Vec<u8>, Refusal>
 where
-    F: Read + Locks + Drop,
+    F: Read + Locks + OpenFile + Drop,
     R: Files<File = F> + Input + AllocGlobal,
 {
     if path == STANDARD_INPUT {
         return told(read_image(rt.alloc(), rt.reader()));
     }
-    let mut file = told(opened_to_read(rt, path))?;
-    lock_shared(&mut file)?;
-    told(read_shared(rt.alloc(), &mut file))
+    image_of_file(rt, path)
 }
 
 /// Prints what is taken out of the image at a path.
@@ -246,7 +283,7 @@ fn do_taking<F, R, W>(
     out: &mut W,
 ) -> Result<Option<Fault>, Refusal>
 where
-    F: Read + Locks + Drop,
+    F: Read + Locks + OpenFile + Drop,
     R: Files<File = F> + Input + AllocGlobal,
     W: Write,
 {
@@ -262,7 +299,7 @@ fn do_drawing<F, R, W>(
     out: &mut W,
 ) -> Result<Option<Fault>, Refusal>
 where
-    F: Read + Locks + Drop,
+    F: Read + Locks + OpenFile + Drop,
     R: Files<File = F> + Input + AllocGlobal,
     W: Write,
 {
@@ -271,10 +308,12 @@ where
 }
 
 /// Opens or reads the job's files and does it; what is printed goes to `out`, which is flushed at the end. An image is
-/// locked before anything of it is read or changed: alone where it is written. `InUse` where another program has it;
-/// `File` where a file couldn't be opened or read, and the faults of `reading_run`, `format_run`, `play_durably`,
-/// `serve_guarded`, `repair_guarded`, `make_guarded`, `store_guarded`, `take_told` and `drawing_run`. What is wrong with one
-/// of several images is printed, and only an output that failed ends the job before the last of them.
+/// locked before anything of it is read or changed: alone where it is written. If a log stands beside it, it is landed
+/// before the image is written, and read in the place of the image otherwise. `InUse` where another program has it; `Log`
+/// if its log gives no image; `File` where a file couldn't be opened or read, and the faults of `reading_run`,
+/// `format_run`, `play_durably`, `serve_guarded`, `serve_logged_guarded`, `copy_run`, `repair_guarded`, `make_guarded`,
+/// `store_guarded`, `take_told` and `drawing_run`. What is wrong with one of several images is printed, and only an output
+/// that failed ends the job before the last of them.
 pub fn do_job<F, R, W>(rt: &R, job: &Job<'_>, out: &mut W) -> Result<Option<Fault>, Refusal>
 where
     F: EndedFile + Read + Locks + OpenFile + Drop,
@@ -295,9 +334,14 @@ where
         }
         Job::Serve {
             image,
+            way,
             durability,
             loss,
-        } => do_serving(rt, image, durability, loss, out),
+        } => match way {
+            Way::OverLog => do_logged_serving(rt, image, durability, loss, out),
+            Way::InPlace => do_serving(rt, image, durability, loss, out),
+        },
+        Job::Copy { image, copy } => do_copying(rt, image, copy, out),
         Job::Repair {
             image,
             loss,

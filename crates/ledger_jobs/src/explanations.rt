@@ -1,8 +1,8 @@
 //! What a person at a terminal is told: what is going to be replaced, and below a refusal which file it is about, what
 //! the system says of it, and what to do.
+use crate::dispatch::image_of_file;
 use crate::files::STANDARD_INPUT;
 use crate::jobs::Job;
-use crate::locks::{lock_shared, read_shared};
 use crate::losses::cut_in;
 use crate::refusals::Refusal;
 use d64_image::Place;
@@ -25,6 +25,8 @@ enum About {
     Image(&'static str),
     /// The script or the records, of which this is to be said.
     Text(&'static str),
+    /// A file that is to be made.
+    Made,
     /// Nothing that its own line doesn't say.
     Nothing,
 }
@@ -38,6 +40,9 @@ const UNWRITTEN: &str =
     "it couldn't be written; copy it to another medium, check the copy, and go on there";
 
 const KEPT: &str = "no file owns what is kept, but another program may; `repair --free` frees it";
+
+const FOREIGN_LOG: &str =
+    "the log beside it is of another image, or not whole; docs/LOG.md says what to do";
 
 const CUT_SHORT: &str = "a file ends at that sector, too early: docs/KEEPERS.md says what to do";
 
@@ -85,9 +90,8 @@ fn subject_of(refusal: Refusal) -> About {
         Refusal::Draw(_) => About::Image(JUDGED),
         Refusal::InUse => About::Image("another program has it; end that one first"),
         Refusal::Kept(_) => About::Image(KEPT),
-        Refusal::Exists => About::Image(
-            "it is there already; `format` without `--new` replaces it",
-        ),
+        Refusal::Exists => About::Made,
+        Refusal::Log => About::Image(FOREIGN_LOG),
         Refusal::Short(_) => About::Image(CUT_SHORT),
         Refusal::Several(_) => About::Nothing,
     }
@@ -100,7 +104,7 @@ fn image_of<'a>(job: &Job<'a>) -> &'a str {
         Job::List { image } | Job::Check { image } | Job::Show { image } => image,
         Job::Play { image, .. } | Job::PlaySynced { image, .. } | Job::Serve { image, .. } => image,
         Job::Repair { image, .. } | Job::Take { image, .. } | Job::Draw { image, .. } => image,
-        Job::Make { image, .. } | Job::Store { image, .. } => image,
+        Job::Make { image, .. } | Job::Store { image, .. } | Job::Copy { image, .. } => image,
         Job::Several { images, .. } | Job::Sheet { images } => images
             .first()
             .copied()
@@ -126,7 +130,8 @@ fn writes(job: &Job<'_>) -> bool {
         Job::Play { .. } | Job::PlaySynced { .. } | Job::Serve { .. } => true,
         Job::Repair { .. } | Job::Make { .. } | Job::Store { .. } => true,
         Job::List { .. } | Job::Check { .. } | Job::Show { .. } | Job::Dry { .. } => false,
-        Job::Take { .. } | Job::Draw { .. } | Job::Several { .. } | Job::Sheet { .. } => false,
+        Job::Take { .. } | Job::Draw { .. } | Job::Copy { .. } => false,
+        Job::Several { .. } | Job::Sheet { .. } => false,
     }
 }
 
@@ -235,19 +240,17 @@ fn tell_size<R: Files, E: Write>(rt: &R, image: &str, err: &mut E) {
     let _ = writeln!(err, "{said}");
 }
 
-/// Where the first file of the image at a path is cut short. Nobody writes the image while it is read. None also if
-/// another program has it alone, if it can't be read, and of standard input.
+/// Where the first file of the image at a path is cut short, as its shop is now. None also if another program has it
+/// alone, if it can't be read, and of standard input.
 fn cut_at<F, R>(rt: &R, path: &str) -> Option<Place>
 where
-    F: Read + Locks + Drop,
+    F: Read + Locks + OpenFile + Drop,
     R: Files<File = F> + AllocGlobal,
 {
     if path == STANDARD_INPUT {
         return None;
     }
-    let mut file = opened_to_read(rt, path).ok()?;
-    lock_shared(&mut file).ok()?;
-    let image = read_shared(rt.alloc(), &mut file).ok()?;
+    let image = image_of_file(rt, path).ok()?;
     cut_in(rt.alloc(), image.as_slice(), None).unwrap_or_default()
 }
 
@@ -256,7 +259,7 @@ where
 /// done, or the line not be printed, nothing is printed.
 pub fn tell_cut<F, R, E>(rt: &R, job: &Job<'_>, err: &mut E)
 where
-    F: Read + Locks + Drop,
+    F: Read + Locks + OpenFile + Drop,
     R: Files<File = F> + AllocGlobal,
     E: Write,
 {
@@ -271,7 +274,7 @@ where
 /// Tells a person where the first file of an image is cut short that is going to be played.
 fn warn_of_cut<F, R, E>(rt: &R, image: &str, err: &mut E)
 where
-    F: Read + Locks + Drop,
+    F: Read + Locks + OpenFile + Drop,
     R: Files<File = F> + AllocGlobal,
     E: Write,
 {
@@ -279,6 +282,24 @@ where
         let (track, sector) = (place.track(), place.sector());
         let image = ShownPath(image);
         let _ = writeln!(err, "ledger: {image}: SHORT {track}/{sector}; {CUT_SHORT}");
+    }
+}
+
+/// Tells that a file can't be made, since it is there, or its log.
+fn tell_made<E: Write>(job: &Job<'_>, err: &mut E) {
+    match job {
+        Job::Copy { copy, .. } => {
+            tell_of(
+                err,
+                copy,
+                "it or its log is there already; choose another name",
+            );
+        }
+        _ => tell_of(
+            err,
+            image_of(job),
+            "it or its log is there already; `format` without `--new` replaces it",
+        ),
     }
 }
 
@@ -318,6 +339,7 @@ where
         About::Size => tell_size(rt, image, err),
         About::Image(said) => tell_of(err, image, said),
         About::Text(said) => tell_of(err, text_of(job).unwrap_or(image), said),
+        About::Made => tell_made(job, err),
         About::Nothing => {}
     }
 }

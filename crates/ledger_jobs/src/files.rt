@@ -1,5 +1,7 @@
 //! The files that a job names, opened and read.
+use crate::image_logs::has_log;
 use crate::refusals::Refusal;
+use log_files::{LogNames, forget_log};
 use shop_commands::{EndedFile, Locks, OpensFile, read_script};
 use std::fs::{File, OpenFile, OpenOptions};
 use std::io;
@@ -78,7 +80,7 @@ impl<'a, R> AtPath<'a, R> {
         }
     }
 
-    /// Why it isn't written over: a file stood there that is kept, or it wasn't locked.
+    /// Why it isn't written over: a file or a log stood there that is kept, or it wasn't locked.
     pub(crate) fn refused(&self) -> Option<Refusal> {
         self.refused
     }
@@ -90,14 +92,18 @@ impl<'a, R> AtPath<'a, R> {
     }
 }
 
-impl<R: Files> AtPath<'_, R> {
-    /// The file, opened, or made.
+impl<R: Files + AllocGlobal> AtPath<'_, R> {
+    /// The file, opened, or made. None is made beside a log alone, which may be all that is left of a shop.
     fn made(&mut self) -> io::Result<R::File> {
         let mut how = OpenOptions::new();
         how.write(true);
         if self.older == Older::Replaced {
             see_replaceable(self.rt, self.path)?;
             return how.create(true).truncate(false).open(self.rt, self.path);
+        }
+        if has_log(self.rt, self.path)? {
+            let error = io::Error::from(io::ErrorKind::AlreadyExists);
+            return Err(self.refuse(Refusal::Exists, error));
         }
         match how.create_new(true).open(self.rt, self.path) {
             Err(error) if error.kind() == io::ErrorKind::AlreadyExists => {
@@ -108,17 +114,23 @@ impl<R: Files> AtPath<'_, R> {
     }
 }
 
-impl<F: EndedFile + Locks + OpenFile + Drop, R: Files<File = F>> OpensFile for AtPath<'_, R> {
+impl<F, R> OpensFile for AtPath<'_, R>
+where
+    F: EndedFile + Locks + OpenFile + Drop,
+    R: Files<File = F> + AllocGlobal,
+{
     type File = F;
 
     fn open(&mut self) -> io::Result<F> {
         let mut file = self.made()?;
         // another thing may stand there by now
         regular(OpenFile::metadata(&file))?;
-        match file.lock_alone() {
-            Ok(()) => Ok(file),
-            Err(error) => Err(self.refuse(Refusal::of_lock(&error), io::Error::from(error))),
+        if let Err(error) = file.lock_alone() {
+            return Err(self.refuse(Refusal::of_lock(&error), io::Error::from(error)));
         }
+        // a log that was there would win over the new image
+        forget_log(self.rt, &LogNames::of(self.rt, self.rt.alloc(), self.path)?)?;
+        Ok(file)
     }
 
     fn sync_folder(&mut self) -> io::Result<()> {

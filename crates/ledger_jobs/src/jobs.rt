@@ -46,6 +46,15 @@ pub enum Overview {
     Map,
 }
 
+/// Where the requests of a shop that is served come to the disk first.
+#[derive(Clone, Copy, Debug, PartialEq, Eq)]
+pub enum Way {
+    /// A log beside the image, which other jobs read while it is served. It is brought to the image at the end.
+    OverLog,
+    /// The image itself, sector by sector, and no other file.
+    InPlace,
+}
+
 /// What a job does on a disk that has lost a part of a file.
 #[derive(Clone, Copy, Debug, PartialEq, Eq)]
 pub enum Loss {
@@ -128,10 +137,19 @@ pub enum Job<'a> {
     Serve {
         /// The image's path.
         image: &'a str,
-        /// When its sectors are brought to the disk.
+        /// Where the requests come to the disk first.
+        way: Way,
+        /// When they are brought there: before a reply is told, or when the system likes.
         durability: Durability,
         /// What is done where the disk has lost a part of a file.
         loss: Loss,
+    },
+    /// An image of its own that holds what the shop of an image is now, in a file that isn't there yet.
+    Copy {
+        /// The image's path.
+        image: &'a str,
+        /// The copy's path.
+        copy: &'a str,
     },
     /// The map, the side sectors and the block counts of an image, made right.
     Repair {

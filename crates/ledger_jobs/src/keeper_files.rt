@@ -9,28 +9,29 @@ ghost use Rattle.rel_records.specs.File.{IsLength};
 
 use crate::dispatch::{image_at, told};
 use crate::files::script_at;
+use crate::image_logs::opened_and_landed;
 use crate::jobs::{Effect, Loss, Unowned};
 use crate::locks::own_image;
 use crate::losses::{dry_repair_guarded, make_guarded, repair_guarded, store_guarded};
 use crate::names::Name;
 use crate::refusals::Refusal;
 use disk_layout::Fault;
-use shop_commands::{Durability, ImageFile, Locks};
+use shop_commands::{Durability, EndedFile, ImageFile, Locks};
+use std::fs::OpenFile;
 use std::io::{Read, Write};
 use std::rt::Files;
-use system_files::opened_to_change;
 
 /// The file at a path that a keeper's job writes, and its bytes: it is this program's alone, and what it holds is on
 /// the disk. Each sector is brought to the disk before the next is written.
 fn image_to_keep<F, R>(rt: &R, path: &str) -> Result<(Vec<u8>, ImageFile<F>), Refusal>
 where
-    F: Read + Locks + Drop,
+    F: EndedFile + Locks + OpenFile + Drop,
     R: Files<File = F> + AllocGlobal,
     ensures synced { IfOk result (λ taken. length (vec_items taken.0) ≡ 174848 → is_synced taken.1) }
     ensures agrees { IfOk result (λ taken. Agrees (placed.kept taken.1) (sectors_in (vec_items taken.0))) }
 {
     let durability = Durability::EachSector;
-    let mut file = told(opened_to_change(rt, path))?;
+    let mut file = opened_and_landed(rt, path)?;
     let image = own_image(rt.alloc(), &mut file, durability)?;
     let placed = ImageFile::of_image(file, durability, image.as_slice());
     Ok((image, placed))
@@ -45,7 +46,7 @@ fn do_written_repair<F, R, W>(
     out: &mut W,
 ) -> Result<Option<Fault>, Refusal>
 where
-    F: Read + Locks + Drop,
+    F: EndedFile + Locks + OpenFile + Drop,
     R: Files<File = F> + AllocGlobal,
     W: Write,
 {
@@ -64,7 +65,7 @@ pub(crate) fn do_repair<F, R, W>(
     out: &mut W,
 ) -> Result<Option<Fault>, Refusal>
 where
-    F: Read + Locks + Drop,
+    F: EndedFile + Read + Locks + OpenFile + Drop,
     R: Files<File = F> + Input + AllocGlobal,
     W: Write,
 {
@@ -86,7 +87,7 @@ pub(crate) fn do_make<F, R, W>(
     out: &mut W,
 ) -> Result<Option<Fault>, Refusal>
 where
-    F: Read + Locks + Drop,
+    F: EndedFile + Locks + OpenFile + Drop,
     R: Files<File = F> + AllocGlobal,
     W: Write,
     requires name { IsNewName (name_bytes name.now) }
@@ -115,7 +116,7 @@ pub(crate) fn do_store<F, R, W>(
     out: &mut W,
 ) -> Result<Option<Fault>, Refusal>
 where
-    F: Read + Locks + Drop,
+    F: EndedFile + Read + Locks + OpenFile + Drop,
     R: Files<File = F> + Input + AllocGlobal,
     W: Write,
 {

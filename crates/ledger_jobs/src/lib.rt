@@ -1,37 +1,43 @@
 //! The program over a runtime: its jobs, the files that they open, and how they end.
 #![tactic(auto)]
 
+mod copying;
 mod dispatch;
 mod drawing;
 mod durable_runs;
 mod endings;
 mod explanations;
 mod files;
+mod image_logs;
 mod jobs;
 mod keeper_files;
 mod keeper_runs;
 mod locks;
+mod logged_runs;
 mod losses;
 mod names;
 mod overviews;
 mod refusals;
 mod serving_files;
 mod serving_images;
+mod serving_logs;
 mod serving_runs;
 mod sheets;
 mod shop_runs;
 mod watched_files;
 
+pub use copying::copy_run;
 pub use dispatch::{do_job, do_over, drawn_end, job_end};
 pub use drawing::drawing_run;
 pub use durable_runs::{play_durably, serve_durably};
 pub use endings::{Ending, end, tell};
 pub use explanations::{announce, explain, tell_cut};
-pub use jobs::{Drawing, Effect, Job, Loss, Overview, Reading, Taking, Unowned};
+pub use jobs::{Drawing, Effect, Job, Loss, Overview, Reading, Taking, Unowned, Way};
 pub use keeper_runs::{dry_repair_run, make_run, repair_run, store_run, taking_run};
+pub use logged_runs::serve_logged;
 pub use losses::{
-    dry_repair_guarded, loss_refusal, make_guarded, repair_guarded, serve_guarded, store_guarded,
-    take_told,
+    dry_repair_guarded, loss_refusal, make_guarded, repair_guarded, serve_guarded,
+    serve_logged_guarded, store_guarded, take_told,
 };
 pub use names::Name;
 pub use overviews::overview_run;

@@ -8,11 +8,13 @@ ghost use Rattle.shop_commands.specs.ImageFile.{placed};
 ghost use Rattle.shop_commands.specs.Plays.{IsUntouched};
 ghost use Rattle.shop_commands.specs.declared.faults.RunFault.TheVariants.{NoMemory};
 ghost use Rattle.ledger_jobs.specs.DurableRuns.{IsDurableRun};
+ghost use Rattle.ledger_jobs.specs.Ends.{as_job, end_of};
 ghost use Rattle.ledger_jobs.specs.FileServes.{IsUnserved};
 ghost use Rattle.ledger_jobs.specs.Keeping.{IsDryRepair, IsRepairOver};
 ghost use Rattle.ledger_jobs.specs.Kept.{IsMakeOver, IsStoreOver};
 ghost use Rattle.ledger_jobs.specs.Losses.{IsEndOf, IsGuarded, IsJudged, IsKeptEndOf, IsRepairedEndOf, IsSeen};
-ghost use Rattle.ledger_jobs.specs.Losses.{IsTakingEnd, taken_end};
+ghost use Rattle.ledger_jobs.specs.Losses.{IsEndOfRun, IsTakingEnd, taken_end};
+ghost use Rattle.ledger_jobs.specs.LoggedRuns.{IsLoggedRun, IsUnlogged};
 ghost use Rattle.ledger_jobs.specs.Serves.{IsServeRun};
 ghost use Rattle.ledger_jobs.specs.declared.refusals.Refusal.TheVariants as refusals;
 ghost use Rattle.rel_records.specs.File.{IsLength};
@@ -21,13 +23,16 @@ use crate::dispatch::{job_end, kept_end, repaired_end};
 use crate::durable_runs::serve_durably;
 use crate::jobs::{Loss, Taking};
 use crate::keeper_runs::{dry_repair_run, make_run, repair_run, store_run, taking_run};
+use crate::logged_runs::serve_logged;
 use crate::refusals::Refusal;
 use cut_files::find_image_cut;
 use d64_image::{ImageFault, KeptMirror, Place, SectorFile};
 use disk_layout::Fault;
 use keeper_commands::KeepFault;
-use line_server::{Answers, LineSource};
+use line_server::{Answers, BatchSource, LineSource};
+use log_server::Reports;
 use shop_commands::{Durability, ImageFile, RunFault, WritesAt};
+use shop_log::ImageLog;
 use std::alloc::Global;
 use std::io::Write;
 
@@ -63,6 +68,16 @@ pub fn loss_refusal(alloc: Global, image: &[u8], loss: Loss) -> Option<Refusal>
     }
 }
 
+/// The end of a job whose run ended so, and which prints no fault.
+fn run_end(ended: Result<(), RunFault>) -> Result<Option<Fault>, Refusal>
+    ensures { result ≡ as_job (end_of ended) }
+{
+    match ended {
+        Ok(()) => Ok(None),
+        Err(fault) => Err(Refusal::Run(fault)),
+    }
+}
+
 /// Serves the shop of the image that the file has, as `serve_durably` does, unless a file of it is cut short and no loss
 /// is accepted: `Short` then, and nothing was read or changed.
 pub fn serve_guarded<F, R, T>(
@@ -91,6 +106,26 @@ where
     }
     let (left, ended) = serve_durably(alloc, image, file, durability, input, out);
     (left, job_end(ended))
+}
+
+/// Serves the shop of an image over a log that stands for it, as `serve_logged` does, unless a file of the image is cut
+/// short and no loss is accepted: `Short` then, and nothing was read, written or told.
+pub fn serve_logged_guarded<L: ImageLog, R: BatchSource, T: Reports<L>>(
+    alloc: Global,
+    image: &[u8],
+    log: &mut L,
+    loss: Loss,
+    input: &mut R,
+    out: &mut T,
+) -> Result<Option<Fault>, Refusal>
+    ensures { IsGuarded image.now loss (IsUnlogged log.old log.new input.old input.new out.old out.new)
+        (IsEndOfRun (IsLoggedRun L.history R.input T.output image.now log.old log.new input.old input.new
+        out.old out.new)) result }
+{
+    if let Some(refusal) = loss_refusal(alloc, image, loss) {
+        return Err(refusal);
+    }
+    run_end(serve_logged(alloc, image, log, input, out))
 }
 
 /// Repairs the disk of the image that the file keeps, as `repair_run` does, unless a file of it is cut short and no loss

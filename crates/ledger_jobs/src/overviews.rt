@@ -17,6 +17,7 @@ use disk_layout::Fault;
 use named_lines::put_named;
 use shop_commands::{Locks, RunFault};
 use std::alloc::Global;
+use std::fs::OpenFile;
 use std::io::{Read, Write};
 use std::rt::Files;
 use system_files::ShownPath;
@@ -106,7 +107,7 @@ pub fn overview_run<W: Write>(
 /// Prints what is asked of the image at a path, or why it can't be read, and returns its exit status.
 fn do_one<F, R, W>(rt: &R, what: Overview, path: &str, out: &mut W) -> Result<u8, RunFault>
 where
-    F: Read + Locks + Drop,
+    F: Read + Locks + OpenFile + Drop,
     R: Files<File = F> + Input + AllocGlobal,
     W: Write,
 {
@@ -131,7 +132,7 @@ pub(crate) fn do_several<F, R, W>(
     out: &mut W,
 ) -> Result<Option<Fault>, Refusal>
 where
-    F: Read + Locks + Drop,
+    F: Read + Locks + OpenFile + Drop,
     R: Files<File = F> + Input + AllocGlobal,
     W: Write,
 {

@@ -23,8 +23,10 @@ pub enum Refusal {
     InUse,
     /// The disk is repaired but for so many sectors, which stay taken though no file owns them. The output says so.
     Kept(u16),
-    /// A file is to be made under a name that exists. Nothing was changed.
+    /// A file is to be made under a name that exists, or beside a log of that name. Nothing was changed.
     Exists,
+    /// The log beside the image gives none: it is of another image, or isn't whole. Nothing was changed.
+    Log,
     /// A file of the image is cut short: its chain ends at this sector, too early.
     Short(Place),
     /// Of several images at least one has a fault or is refused. The output says which and why. This is the greatest exit
@@ -44,6 +46,7 @@ impl Refusal {
             Refusal::InUse => 3,
             Refusal::Kept(_) => 1,
             Refusal::Exists => 1,
+            Refusal::Log => 1,
             Refusal::Short(_) => 1,
             Refusal::Several(greatest) => *greatest,
         }
@@ -55,7 +58,7 @@ impl Refusal {
     {
         match self {
             Refusal::Run(_) | Refusal::Keep(_) | Refusal::Draw(_) => true,
-            Refusal::InUse | Refusal::Exists | Refusal::Short(_) => true,
+            Refusal::InUse | Refusal::Exists | Refusal::Log | Refusal::Short(_) => true,
             Refusal::Kept(_) | Refusal::Several(_) => false,
         }
     }
@@ -83,6 +86,7 @@ impl Display for Refusal {
             Refusal::InUse => f.write_str("IN USE"),
             Refusal::Kept(count) => write!(f, "KEPT {count}"),
             Refusal::Exists => f.write_str("FILE EXISTS"),
+            Refusal::Log => f.write_str("LOG"),
             Refusal::Short(place) => write!(f, "SHORT {}/{}", place.track(), place.sector()),
             Refusal::Several(greatest) => write!(f, "STATUS {greatest}"),
         }

@@ -11,7 +11,7 @@ use shop_commands::{RunFault, file_of, load};
 use std::alloc::Global;
 
 /// What is told of a shop whose service this fault ended: `File` of its input and of its output.
-fn told(fault: LoopFault) -> RunFault
+pub(crate) fn told(fault: LoopFault) -> RunFault
     ensures { result ≡ loop_fault fault }
 {
     match fault {

@@ -3,6 +3,7 @@ ghost use Rattle.std.specs.Prelude.{◌≡◌, IfSome, take};
 ghost use Rattle.shop_commands.specs.Durable.{IsSynced};
 
 use crate::dispatch::told;
+use crate::image_logs::opened_and_landed;
 use crate::jobs::Loss;
 use crate::locks::own_image;
 use crate::losses::serve_guarded;
@@ -10,11 +11,11 @@ use crate::refusals::Refusal;
 use crate::watched_files::{WhileThere, served_end};
 use disk_layout::Fault;
 use host_session::Printer;
-use shop_commands::{Durability, Locks, RunFault, WritesAt};
+use shop_commands::{Durability, EndedFile, Locks, RunFault, WritesAt};
 use std::fs::OpenFile;
-use std::io::{BufReader, Read, Write};
+use std::io::{BufReader, Write};
 use std::rt::Files;
-use system_files::{FileName, Stays, opened_to_change};
+use system_files::{FileName, Stays};
 
 /// Serves the shop of this image, over its file, to what comes on standard input, while the file's name leads to it.
 fn serve_input<F, N, R, W>(
@@ -51,7 +52,7 @@ where
 }
 
 /// The name of the file that was opened at a path. `Device` if the path leads elsewhere by now.
-fn name_of<'a, F: OpenFile, R: Files<File = F>>(
+pub(crate) fn name_of<'a, F: OpenFile, R: Files<File = F>>(
     rt: &'a R,
     path: &'a str,
     file: &F,
@@ -73,11 +74,11 @@ pub(crate) fn do_serving<F, R, W>(
     out: &mut W,
 ) -> Result<Option<Fault>, Refusal>
 where
-    F: Read + Locks + OpenFile + Drop,
+    F: EndedFile + Locks + OpenFile + Drop,
     R: Files<File = F> + Input + AllocGlobal,
     W: Write,
 {
-    let mut file = told(opened_to_change(rt, path))?;
+    let mut file = opened_and_landed(rt, path)?;
     let image = own_image(rt.alloc(), &mut file, durability)?;
     let name = name_of(rt, path, &file)?;
     serve_input(rt, image.as_slice(), file, name, durability, loss, out)

@@ -5,6 +5,7 @@ use disk_layout::Fault;
 use disk_pictures::{PictureFault, sheet_begin, sheet_finish, sheet_refusal, sheet_tile};
 use shop_commands::Locks;
 use std::alloc::Global;
+use std::fs::OpenFile;
 use std::io::{Read, Write};
 use std::rt::Files;
 
@@ -25,7 +26,7 @@ fn put_unread<W: Write>(
 /// Prints the tile of the image at a path, and returns the exit status that its picture alone would have.
 fn put_tile_at<F, R, W>(rt: &R, path: &str, out: &mut W) -> Result<u8, PictureFault>
 where
-    F: Read + Locks + Drop,
+    F: Read + Locks + OpenFile + Drop,
     R: Files<File = F> + Input + AllocGlobal,
     W: Write,
 {
@@ -38,7 +39,7 @@ where
 /// Prints the sheet, and returns the greatest exit status of its images.
 fn put_sheet<F, R, W>(rt: &R, paths: &[&str], out: &mut W) -> Result<u8, PictureFault>
 where
-    F: Read + Locks + Drop,
+    F: Read + Locks + OpenFile + Drop,
     R: Files<File = F> + Input + AllocGlobal,
     W: Write,
 {
@@ -61,7 +62,7 @@ pub(crate) fn do_sheet<F, R, W>(
     out: &mut W,
 ) -> Result<Option<Fault>, Refusal>
 where
-    F: Read + Locks + Drop,
+    F: Read + Locks + OpenFile + Drop,
     R: Files<File = F> + Input + AllocGlobal,
     W: Write,
 {

@@ -2,15 +2,17 @@
 use Rattle.std.proofs.Common.{◌≡◌, ◌∙◌, ◌↔◌, [], Err, None, ap, arith, false, inl, refl, subst, sym}
 use Rattle.std.specs.Prelude.{slice_index_or}
 use Rattle.std.proofs.KnownBytes.{Consumes-nil}
-use Rattle.d64_image.specs.History.{NeverFailed}
+use Rattle.d64_image.specs.History.{Failed, NeverFailed}
 use Rattle.d64_image.specs.Images.{Image}
 use Rattle.d64_image.specs.Memory.{disk_image}
 use Rattle.d64_image.specs.declared.mem_disk.MemDisk.{MemDisk}
 use Rattle.host_session.proofs.lemmas.shop.Shops.{IsShop-one}
 use Rattle.host_session.specs.declared.faults.OpenFault.{OpenFault}
+use Rattle.host_session.specs.declared.faults.OpenFault.TheVariants as opening
+use Rattle.host_session.specs.declared.runs.event_loop.LoopFault.{LoopFault}
 use Rattle.host_session.specs.declared.runs.event_loop.LoopFault.TheVariants as faults
 use Rattle.host_session.specs.Held.{Changes}
-use Rattle.host_session.specs.session.Opening.{IsAShop, Untouched}
+use Rattle.host_session.specs.session.Opening.{IsAShop, Refuses, Untouched}
 use Rattle.host_session.specs.session.Standing.{View}
 use Rattle.host_session.specs.shop.Shop.{IsSettled, IsShop, Shop}
 use Rattle.line_server.specs.Batches.{BatchInput}
@@ -43,12 +45,27 @@ opened disk begins session kept is kept_is t shop rests alive moments quiet =
           (image_of session.disk) refl ∙ image);
     }
 
+-- memory never fails, so the fault is one of the image
+refuses_in_memory : (begins ends : Memory) (image : Image) (fault : OpenFault)
+    → Refuses (Failed in_memory begins ends) image fault → Refuses ⊥ image fault
+refuses_in_memory begins ends image (opening.Layout f) is = is
+refuses_in_memory begins ends image opening.NoStock is = is
+refuses_in_memory begins ends image opening.NoRequests is = is
+refuses_in_memory begins ends image (opening.BadCard n) is = is
+refuses_in_memory begins ends image (opening.BadRequestCard n) is = is
+refuses_in_memory begins ends image opening.TwoIntents is = is
+refuses_in_memory begins ends image opening.Device is = omega (arith, is.rose (omega arith))
+
+open_one : (f g : OpenFault) → ◌≡◌ {A = LoopFault} (faults.Open f) (faults.Open g) → f ≡ g
+open_one f g same = cc
+
 pub refused : {L R T : Type 0} (h : LogHistory L) (i : BatchInput R) (o : LogOutput L T) (disk left : MemDisk)
     (begins ends : Memory) (log : L) (input : R) (out : T) (fault : OpenFault) → touched_disk begins ≡ disk
     → touched_disk ends ≡ left
-    → (IsAShop (image_of begins) → ⊥) → Untouched in_memory begins ends
+    → (IsAShop (image_of begins) → ⊥) → Refuses (Failed in_memory begins ends) (image_of begins) fault
+    → Untouched in_memory begins ends
     → IsServedOver h i o disk log log input input out out (Err (faults.Open fault, left))
-refused h i o disk left begins ends log input out fault is gone none untouched =
+refused h i o disk left begins ends log input out fault is gone none refuses untouched =
     let no_shop : (s : Shop) → IsShop (disk_image disk) s → ⊥ =
     λ s shop. none (s, subst (λ (d : MemDisk). IsShop (disk_image d) s) (sym is) shop) in
     record {
@@ -70,6 +87,9 @@ refused h i o disk left begins ends log input out fault is gone none untouched =
       quiet = λ s settled. absurd (no_shop s settled.shop);
       «open» = λ f e. (
         λ shop. no_shop shop.0 shop.1,
+        subst (λ (f : OpenFault). Refuses ⊥ (disk_image disk) f) (open_one fault f e)
+            (subst (λ (d : MemDisk). Refuses ⊥ (disk_image d) fault) is
+            (refuses_in_memory begins ends (image_of begins) fault refuses)),
         ap disk_image (sym gone) ∙ untouched.held.each (image_of ends) refl ∙ ap disk_image is,
         refl,
         refl,

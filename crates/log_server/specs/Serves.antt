@@ -13,7 +13,7 @@ use Rattle.host_session.specs.declared.runs.event_loop.LoopFault.{LoopFault}
 use Rattle.host_session.specs.declared.runs.event_loop.LoopFault.TheVariants as faults
 use Rattle.host_session.specs.events.Events.{requests_of}
 use Rattle.host_session.specs.runs.Chains.{told_in}
-use Rattle.host_session.specs.session.Opening.{IsAShop}
+use Rattle.host_session.specs.session.Opening.{IsAShop, Refuses}
 use Rattle.host_session.specs.shop.Shop.{IsSettled, IsShop, Shop, start_of, with_state}
 use Rattle.line_server.specs.Batches.{BatchInput}
 use Rattle.line_server.specs.Read.{AreWhole, LacksLf}
@@ -86,9 +86,10 @@ pub record IsServedOver {L R T : Type 0} (h : LogHistory L) (i : BatchInput R) (
   pub end : IfOk result (λ _. OnSome (i.remaining old_in) (IsAtEnd (i.remaining new_in)))
   -- Of a shop at rest, lines that ask nothing new ask nothing of the log's files.
   pub quiet : (s : Shop) → IsSettled (disk_image disk) s → AskNone s (lines handled) → new ≡ old
-  -- What an opening refuses is handed on, and then nothing was read, written or told.
+  -- What an opening refuses is handed on: the fault holds, and none that is judged before it. Then nothing was read,
+  -- written or told.
   pub «open» : IfErr result (λ e. (f : OpenFault) → e.0 ≡ faults.Open f
-      → (IsAShop (disk_image disk) → ⊥) × (disk_image e.1 ≡ disk_image disk)
+      → (IsAShop (disk_image disk) → ⊥) × Refuses ⊥ (disk_image disk) f × (disk_image e.1 ≡ disk_image disk)
       × (new ≡ old) × (new_in ≡ old_in) × (new_out ≡ old_out))
   -- The input is told of only if it failed, or gave 2^64 - 1 lines.
   pub input : IfErr result (λ e. e.0 ≡ faults.Input

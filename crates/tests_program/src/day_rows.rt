@@ -48,7 +48,7 @@ hurt LOOP
 $ ledger_cli show a.d64
 tells LAYOUT LOOP 17/0|
 ends 1
-$ ledger_cli serve a.d64
+$ ledger_cli serve --in-place a.d64
 tells LAYOUT LOOP 17/0|
 ends 1
 $ ledger_cli play a.d64 s.txt
@@ -59,7 +59,7 @@ hurt OWNED TWICE
 $ ledger_cli show a.d64
 tells LAYOUT OWNEDTWICE 17/2|
 ends 1
-$ ledger_cli serve a.d64
+$ ledger_cli serve --in-place a.d64
 tells LAYOUT OWNEDTWICE 17/2|
 ends 1
 $ ledger_cli play a.d64 s.txt
@@ -70,7 +70,7 @@ hurt STICK FOR STOCK
 $ ledger_cli show a.d64
 tells NO STOCK|
 ends 1
-$ ledger_cli serve a.d64
+$ ledger_cli serve --in-place a.d64
 tells NO STOCK|
 ends 1
 $ ledger_cli play a.d64 s.txt
@@ -81,7 +81,7 @@ hurt RESTS FOR REQUESTS
 $ ledger_cli show a.d64
 tells NO REQUESTS|
 ends 1
-$ ledger_cli serve a.d64
+$ ledger_cli serve --in-place a.d64
 tells NO REQUESTS|
 ends 1
 $ ledger_cli play a.d64 s.txt
@@ -92,7 +92,7 @@ hurt CARD 1
 $ ledger_cli show a.d64
 tells BAD CARD 1|
 ends 1
-$ ledger_cli serve a.d64
+$ ledger_cli serve --in-place a.d64
 tells BAD CARD 1|
 ends 1
 $ ledger_cli play a.d64 s.txt
@@ -103,7 +103,7 @@ hurt CARD 3
 $ ledger_cli show a.d64
 tells BAD CARD 3|
 ends 1
-$ ledger_cli serve a.d64
+$ ledger_cli serve --in-place a.d64
 tells BAD CARD 3|
 ends 1
 $ ledger_cli play a.d64 s.txt
@@ -114,7 +114,7 @@ hurt REQUEST CARD 2
 $ ledger_cli show a.d64
 tells BAD REQUEST CARD 2|
 ends 1
-$ ledger_cli serve a.d64
+$ ledger_cli serve --in-place a.d64
 tells BAD REQUEST CARD 2|
 ends 1
 $ ledger_cli play a.d64 s.txt
@@ -126,7 +126,7 @@ hurt INTENT 2
 $ ledger_cli show a.d64
 tells TWO INTENTS|
 ends 1
-$ ledger_cli serve a.d64
+$ ledger_cli serve --in-place a.d64
 tells TWO INTENTS|
 ends 1
 $ ledger_cli play a.d64 s.txt
@@ -144,7 +144,7 @@ fn what_is_no_shop_is_told(rt: HostRuntime) {
 const SERVED: &[u8] = b"
 no script
 input 1,1,S,42,120|1,1,S,42,120\r|@1 x||1,2,I,42,1                              |1,2,I,42,1
-$ ledger_cli serve a.d64
+$ ledger_cli serve --in-place a.d64
 prints 1,1,DONE,120|1,1,DONE,120|30,SYNTAX ERROR,00,00|30,SYNTAX ERROR,00,00|30,SYNTAX ERROR,00,00|
 written
 pieces 5

@@ -4,12 +4,12 @@ use crate::scenes::each;
 /// Files that can't be opened, read or written.
 const CLOSED: &[u8] = b"
 no image
-$ ledger_cli serve a.d64
+$ ledger_cli serve --in-place a.d64
 tells FILE|
 ends 3
 
 folder image
-$ ledger_cli serve a.d64
+$ ledger_cli serve --in-place a.d64
 tells FILE|
 ends 3
 

@@ -7,7 +7,7 @@ const FAILING: &[u8] = b"
 no script
 input
 input-fails
-$ ledger_cli serve a.d64
+$ ledger_cli serve --in-place a.d64
 tells FILE|
 ends 3
 $ ledger_cli show a.d64
@@ -16,7 +16,7 @@ prints TOP 9256|
 no script
 input 1,1,S,42,120|1,2,I,4
 input-fails
-$ ledger_cli serve a.d64
+$ ledger_cli serve --in-place a.d64
 prints 1,1,DONE,120|
 tells FILE|
 ends 3

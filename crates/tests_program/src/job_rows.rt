@@ -29,6 +29,12 @@ job ledger serve a.d64
 prints serve, a.d64, , 0
 job ledger serve a.d64 --unsynced
 prints serve, a.d64, , 0, unsynced
+job ledger serve a.d64 --in-place
+prints serve, a.d64, , 0, in place
+job ledger serve --in-place --unsynced a.d64 --accept-loss
+prints serve, a.d64, , 0, loss accepted, unsynced, in place
+job ledger copy a.d64 b.d64
+prints copy, a.d64, b.d64, 0
 job ledger repair a.d64
 prints repair, a.d64, , 0
 job ledger make a.d64 ADD\\c1 --length 30
@@ -147,6 +153,16 @@ prints fault 1, status 2
 job ledger store a.d64 A r.txt s.txt
 prints fault 1, status 2
 job ledger records a.d64
+prints fault 1, status 2
+job ledger copy a.d64
+prints fault 1, status 2
+job ledger copy a.d64 b.d64 c.d64
+prints fault 1, status 2
+job ledger copy a.d64 b.d64 --in-place
+prints fault 1, status 2
+job ledger play a.d64 s.txt --in-place
+prints fault 1, status 2
+job ledger serve a.d64 --in-place --in-place
 prints fault 1, status 2
 job ledger bytes
 prints fault 1, status 2

@@ -3,7 +3,7 @@ use crate::memory::Errors;
 use crate::runs::texts_of;
 use command_line::command_line;
 use ledger_cli::{Job, job};
-use ledger_jobs::{Drawing, Effect, Loss, Name, Overview, Taking, Unowned};
+use ledger_jobs::{Drawing, Effect, Loss, Name, Overview, Taking, Unowned, Way};
 use shop_commands::Durability;
 use std::alloc::Global;
 use std::cell::RefCell;
@@ -30,6 +30,7 @@ fn row_of<'a>(job: &Job<'a>) -> Row<'a> {
         Job::Play { image, script } => ("play", image, script, 0),
         Job::PlaySynced { image, script } => ("play synced", image, script, 0),
         Job::Serve { image, .. } => ("serve", image, "", 0),
+        Job::Copy { image, copy } => ("copy", image, copy, 0),
         Job::Repair { image, .. } => ("repair", image, "", 0),
         Job::Take {
             what: Taking::Records,
@@ -94,13 +95,21 @@ fn said_of(loss: Loss) -> &'static str {
 fn chosen_by(job: &Job<'_>) -> [&'static str; 3] {
     match job {
         Job::Serve {
+            way,
             durability,
             loss,
             ..
-        } => match durability {
-            Durability::EachSector => [said_of(*loss), "", ""],
-            Durability::AtEnd => [said_of(*loss), ", unsynced", ""],
-        },
+        } => {
+            let unsynced = match durability {
+                Durability::EachSector => "",
+                Durability::AtEnd => ", unsynced",
+            };
+            let in_place = match way {
+                Way::OverLog => "",
+                Way::InPlace => ", in place",
+            };
+            [said_of(*loss), unsynced, in_place]
+        }
         Job::Repair {
             loss,
             unowned,

@@ -24,6 +24,8 @@ mod keeper_rows;
 #[cfg(test)]
 mod lock_rows;
 #[cfg(test)]
+mod log_rows;
+#[cfg(test)]
 mod memory;
 #[cfg(test)]
 mod moved_rows;

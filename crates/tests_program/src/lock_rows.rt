@@ -4,13 +4,13 @@ use crate::scenes::each;
 /// Images that another program has.
 const LOCKED: &[u8] = b"
 others alone
-$ ledger_cli serve a.d64
+$ ledger_cli serve --in-place a.d64
 tells IN USE|
 ends 3
 syncs 0
 
 others reading
-$ ledger_cli serve a.d64
+$ ledger_cli serve --in-place a.d64
 tells IN USE|
 ends 3
 syncs 0
@@ -136,7 +136,7 @@ syncs 0
 /// Images whose lock the system can't give: each stays as it was.
 const UNLOCKABLE: &[u8] = b"
 others unknown
-$ ledger_cli serve a.d64
+$ ledger_cli serve --in-place a.d64
 tells FILE|
 ends 3
 syncs 0
@@ -208,7 +208,7 @@ ends 3
 /// Images that can't be read: each stays as it was.
 const UNREADABLE: &[u8] = b"
 unreadable
-$ ledger_cli serve a.d64
+$ ledger_cli serve --in-place a.d64
 tells FILE|
 ends 3
 
@@ -284,7 +284,7 @@ fn images_that_cannot_be_locked_or_read_stay(rt: HostRuntime) {
 const SYNCED: &[u8] = b"
 script 1,1,S,42,120|
 input 1,1,S,42,120|
-$ ledger_cli serve a.d64
+$ ledger_cli serve --in-place a.d64
 prints 1,1,DONE,120|
 written
 synced
@@ -292,7 +292,7 @@ synced
 script 1,1,S,42,120|
 input 1,1,S,42,120|
 sync 1 fails
-$ ledger_cli serve a.d64
+$ ledger_cli serve --in-place a.d64
 tells DEVICE|
 ends 3
 syncs 1
@@ -303,7 +303,7 @@ written
 script 1,1,S,42,120|
 input 1,1,S,42,120|
 sync 3 fails
-$ ledger_cli serve a.d64
+$ ledger_cli serve --in-place a.d64
 prints 1,1,MEDIA|
 tells DEVICE|
 ends 3
@@ -315,7 +315,7 @@ written
 
 script 1,1,S,42,120|
 input 1,1,S,42,120|
-$ ledger_cli serve a.d64 --unsynced
+$ ledger_cli serve --in-place a.d64 --unsynced
 prints 1,1,DONE,120|
 written
 syncs 1
@@ -395,7 +395,7 @@ $ ledger_cli format a.d64 --tills 2
 prints FORMATTED|
 written
 syncs 3
-folder-syncs 3
+folder-syncs 4
 
 no image
 sync 1 fails
@@ -425,6 +425,15 @@ $ ledger_cli format a.d64 --tills 2
 tells FILE|
 ends 3
 written
+size 0
+
+no image
+folder-sync 2 fails
+$ ledger_cli format a.d64 --tills 2
+tells FILE|
+ends 3
+written
+size 91904
 ";
 
 #[test]

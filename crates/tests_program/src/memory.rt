@@ -20,6 +20,10 @@ pub(crate) struct Memory {
     pub(crate) script: Stored,
     /// The folder of both.
     pub(crate) folder: Stored,
+    /// Two places for the image's log and for one in the making, and whether the second is the log.
+    pub(crate) first: Stored,
+    pub(crate) second: Stored,
+    pub(crate) is_turned: Cell<bool>,
     /// Standard input, whether it fails behind its bytes, and whether it was taken: it can be once.
     pub(crate) input: Stored,
     pub(crate) fails: Cell<bool>,
@@ -47,6 +51,9 @@ impl Memory {
             image: Stored::new(alloc),
             script: Stored::new(alloc),
             folder,
+            first: Stored::new(alloc),
+            second: Stored::new(alloc),
+            is_turned: Cell::new(false),
             input: Stored::new(alloc),
             fails: Cell::new(false),
             taken: Cell::new(false),
@@ -60,8 +67,57 @@ impl Memory {
         }
     }
 
+    /// What stands at `a.d64-log`.
+    pub(crate) fn log(&self) -> &Stored {
+        if self.is_turned.get() {
+            &self.second
+        } else {
+            &self.first
+        }
+    }
+
+    /// What stands at `a.d64-log.new`.
+    pub(crate) fn making(&self) -> &Stored {
+        if self.is_turned.get() {
+            &self.first
+        } else {
+            &self.second
+        }
+    }
+
+    /// Puts a log with these bytes beside the image, or none. Whether there was memory for it.
+    pub(crate) fn put_log(&self, kind: Kind, bytes: &[u8]) -> bool {
+        self.image.is_logged.set(kind != Kind::Missing);
+        self.log().hold(kind, bytes) && self.making().hold(Kind::Missing, b"")
+    }
+
+    /// Gives the name of the log to the one in the making.
+    fn name_log(&self) -> io::Result<()> {
+        if self.making().kind.get() == Kind::Missing {
+            return failed(ErrorKind::NotFound);
+        }
+        self.log().hold(Kind::Missing, b"");
+        self.is_turned.set(!self.is_turned.get());
+        self.image.is_logged.set(true);
+        Ok(())
+    }
+
+    /// Takes away a name.
+    fn remove(&self, place: &Stored) -> io::Result<()> {
+        if place.kind.get() == Kind::Missing {
+            return failed(ErrorKind::NotFound);
+        }
+        place.hold(Kind::Missing, b"");
+        self.image
+            .is_logged
+            .set(self.log().kind.get() != Kind::Missing);
+        Ok(())
+    }
+
     /// Forgets what was done with it.
     pub(crate) fn forget(&self) {
+        self.first.forget();
+        self.second.forget();
         self.image.forget();
         self.script.forget();
         self.folder.forget();
@@ -73,6 +129,8 @@ impl Memory {
     /// Lets nothing fail any more.
     pub(crate) fn mend(&self) {
         self.image.mend();
+        self.first.mend();
+        self.second.mend();
         self.folder.mend();
         self.fails.set(false);
         self.room.set(usize::MAX);
@@ -174,6 +232,8 @@ impl<'a> Files for Runtime<'a> {
             "a.d64" => open_stored(&self.memory.image, how),
             "s.txt" => open_stored(&self.memory.script, how),
             "." => open_stored(&self.memory.folder, how),
+            "a.d64-log" => open_stored(self.memory.log(), how),
+            "a.d64-log.new" => open_stored(self.memory.making(), how),
             "/dev/stdin" => {
                 self.memory.reopened.set(true);
                 failed(ErrorKind::NotFound)
@@ -192,6 +252,8 @@ impl<'a> Files for Runtime<'a> {
             "a.d64" => self.memory.image.looked_at(),
             "s.txt" => self.memory.script.looked_at(),
             "." => self.memory.folder.found(),
+            "a.d64-log" => self.memory.log().found(),
+            "a.d64-log.new" => self.memory.making().found(),
             _ => failed(ErrorKind::NotFound),
         }
     }
@@ -204,12 +266,19 @@ impl<'a> Files for Runtime<'a> {
         self.meddles()
     }
 
-    fn rename(&self, _from: &str, _to: &str) -> io::Result<()> {
-        self.meddles()
+    fn rename(&self, from: &str, to: &str) -> io::Result<()> {
+        match (from, to) {
+            ("a.d64-log.new", "a.d64-log") => self.memory.name_log(),
+            _ => self.meddles(),
+        }
     }
 
-    fn remove_file(&self, _path: &str) -> io::Result<()> {
-        self.meddles()
+    fn remove_file(&self, path: &str) -> io::Result<()> {
+        match path {
+            "a.d64-log" => self.memory.remove(self.memory.log()),
+            "a.d64-log.new" => self.memory.remove(self.memory.making()),
+            _ => self.meddles(),
+        }
     }
 
     fn create_dir(&self, _path: &str) -> io::Result<()> {

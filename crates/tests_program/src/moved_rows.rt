@@ -5,23 +5,23 @@ use crate::scenes::each;
 /// A name is looked at before its file is opened, once more behind the lock, and then before each reply.
 const GONE: &[u8] = b"
 gone 2
-$ ledger_cli serve a.d64
+$ ledger_cli serve --in-place a.d64
 tells DEVICE|
 ends 3
 
 cut 2
-$ ledger_cli serve a.d64
+$ ledger_cli serve --in-place a.d64
 tells DEVICE|
 ends 3
 
 gone 2
-$ ledger_cli serve --unsynced a.d64
+$ ledger_cli serve --in-place --unsynced a.d64
 tells DEVICE|
 ends 3
 
 input 1,1,S,1,5|1,2,I,1,2|
 gone 3
-$ ledger_cli serve a.d64
+$ ledger_cli serve --in-place a.d64
 prints 1,1,MEDIA|
 tells DEVICE|
 ends 3
@@ -29,7 +29,7 @@ written
 
 input 1,1,S,1,5|1,2,I,1,2|
 cut 4
-$ ledger_cli serve a.d64
+$ ledger_cli serve --in-place a.d64
 prints 1,1,DONE,5|1,2,MEDIA|
 tells DEVICE|
 ends 3
@@ -38,7 +38,7 @@ written
 # What is known from memory isn't told, either.
 input 1,1,S,1,5|1,1,S,1,5|2,7,R,1,1|
 gone 4
-$ ledger_cli serve a.d64
+$ ledger_cli serve --in-place a.d64
 prints 1,1,DONE,5|1,1,MEDIA|
 tells DEVICE|
 ends 3
@@ -46,7 +46,7 @@ written
 
 input 1,1,S,1,5|x|
 gone 4
-$ ledger_cli serve --unsynced a.d64
+$ ledger_cli serve --in-place --unsynced a.d64
 prints 1,1,DONE,5|30,SYNTAX ERROR,00,00|
 tells DEVICE|
 ends 3
@@ -54,7 +54,7 @@ written
 
 input 1,1,S,1,5|
 gone 4
-$ ledger_cli serve a.d64
+$ ledger_cli serve --in-place a.d64
 prints 1,1,DONE,5|
 written
 ";
@@ -87,7 +87,7 @@ tells FILE|
 ends 3
 
 pipe image
-$ ledger_cli serve a.d64
+$ ledger_cli serve --in-place a.d64
 tells FILE|
 ends 3
 
@@ -152,7 +152,7 @@ tells FILE EXISTS|
 ends 1
 
 person ledger_cli format a.d64 --tills 2 --new
-tells FILE EXISTS|ledger: a.d64: it is there already; `format` without `--new` replaces it|
+tells FILE EXISTS|ledger: a.d64: it or its log is there already; `format` without `--new` replaces it|
 ends 1
 
 no image

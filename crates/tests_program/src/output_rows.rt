@@ -12,7 +12,7 @@ const FULL: &[u8] = b"
 script 1,1,S,1,5|1,2,S,1,6|
 input 1,1,S,1,5|1,2,S,1,6|
 output-takes 12 bytes
-$ ledger_cli serve a.d64
+$ ledger_cli serve --in-place a.d64
 prints 1,1,DONE,5|1
 tells FILE|
 ends 3

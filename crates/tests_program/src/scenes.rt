@@ -8,12 +8,13 @@
 //! - `image`, `script`, `input`: a file at `a.d64` or `s.txt`, or standard input, with this text; `feed`: the image
 //!   at `a.d64` is on standard input, too
 //! - `no`, `folder`, `read-only`, `pipe` with `image` or `script`: what stands at its path
+//! - `log`: a file with this text where the image's log stands
 //! - `shop`: the shop; `keep`: the image at `a.d64` is the shop from here on, also for the rows below; `aside`: it is put
 //!   aside
 //! - `hurt`: a change of the image (`HURTS`); `resize`: its bytes, by cutting it or by zeros
 //!
 //! What fails, in the next run alone:
-//! - `sync`, `folder-sync`: the call of this number that brings the image, or the folder, to the disk
+//! - `sync`, `folder-sync`, `log-sync`: the call of this number that brings the image, the folder or the log to the disk
 //! - `disk-takes`, `output-takes`: so many bytes are taken; `input-fails`: behind its bytes
 //! - `others`: another program has the image `alone`, or is `reading` it; or the system can't say (`unknown`)
 //! - `unreadable`: the image can be opened, and reading it fails
@@ -32,6 +33,7 @@
 //! - `size`, `at-most`: its bytes; `writes`, `syncs`, `folder-syncs`: how many there were; `reads-behind`: how many syncs
 //!   before it was read; `pieces`: in how many writes the output was taken
 //! - `synced`: one sync before the first write, and one behind each
+//! - `logged`: a log stands beside the image, which no line needs to say if there is none
 //! - `unlocked`: the image was read without a lock, as a script
 use crate::jobs::asked;
 use crate::memory::{Errors, Memory, Runtime};
@@ -52,6 +54,8 @@ pub(crate) struct Scene {
     script: Stored,
     /// An image that was put aside.
     aside: Stored,
+    /// Whether a line spoke of a log that stands there.
+    logged: Cell<bool>,
     /// Whether a line spoke of an image that was written, and whether all that the last run left is known to be told.
     written: Cell<bool>,
     told: Cell<bool>,
@@ -128,6 +132,7 @@ fn finds(scene: &Scene, word: &[u8], text: &[u8]) -> bool {
         b"input" => memory.input.hold(Kind::Plain, text),
         b"feed" => memory.input.copy(&memory.image),
         b"shop" => memory.image.copy(&scene.shop),
+        b"log" => memory.put_log(Kind::Plain, text),
         b"keep" => scene.shop.copy(&memory.image),
         b"aside" => scene.aside.copy(&memory.image),
         b"hurt" => hurt(&memory.image, text),
@@ -142,6 +147,10 @@ fn fails(memory: &Memory, word: &[u8], text: &[u8]) -> bool {
     match word {
         b"sync" => memory.image.bad_sync.set(number),
         b"folder-sync" => memory.folder.bad_sync.set(number),
+        b"log-sync" => {
+            memory.first.bad_sync.set(number);
+            memory.second.bad_sync.set(number);
+        }
         b"disk-takes" => memory.image.room.set(number),
         b"output-takes" => memory.room.set(number),
         b"input-fails" => memory.fails.set(true),
@@ -202,6 +211,10 @@ fn sees(scene: &Scene, word: &[u8], text: &[u8]) -> bool {
         b"tells" => took(&memory.err, text),
         b"ends" => memory.status.replace(0) as usize == number_of(text),
         b"synced" => is_synced(&memory.image),
+        b"logged" => {
+            scene.logged.set(true);
+            memory.log().kind.get() != Kind::Missing
+        }
         b"unlocked" => memory.image.unlocked.replace(false),
         _ => match counted(memory, word) {
             Some(number) => number == number_of(text),
@@ -223,6 +236,8 @@ fn is_told(scene: &Scene) -> bool {
         && !memory.reopened.get()
         && !memory.meddled.get()
         && memory.script.is_as(&scene.script)
+        && memory.making().kind.get() == Kind::Missing
+        && (scene.logged.get() || memory.log().kind.get() == Kind::Missing)
         && (scene.written.get()
             || memory.image.writes.get() == 0 && memory.image.is_as(&scene.image))
 }
@@ -230,6 +245,7 @@ fn is_told(scene: &Scene) -> bool {
 /// Notes what stands there before a run. Whether there was memory for it.
 fn noted(scene: &Scene) -> bool {
     scene.memory.forget();
+    scene.logged.set(false);
     scene.written.set(false);
     scene.image.copy(&scene.memory.image) && scene.script.copy(&scene.memory.script)
 }
@@ -277,6 +293,7 @@ fn runs_job(scene: &Scene, line: &[u8]) -> bool {
 fn begins(scene: &Scene) -> bool {
     let memory = &scene.memory;
     is_told(scene)
+        && memory.put_log(Kind::Missing, b"")
         && memory.image.copy(&scene.shop)
         && memory.script.hold(Kind::Plain, b"1,1,S,1,5\n")
         && memory.input.hold(Kind::Plain, b"")
@@ -339,6 +356,7 @@ pub(crate) fn first_scene(rt: &(impl AllocGlobal + Abort)) -> Scene {
         image: Stored::new(alloc),
         script: Stored::new(alloc),
         aside: Stored::new(alloc),
+        logged: Cell::new(false),
         written: Cell::new(false),
         told: Cell::new(true),
     };

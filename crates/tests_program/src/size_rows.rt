@@ -16,7 +16,7 @@ ends 1
 $ ledger_cli play a.d64 s.txt
 tells IMAGE SIZE|
 ends 1
-$ ledger_cli serve a.d64
+$ ledger_cli serve --in-place a.d64
 tells IMAGE SIZE|
 ends 1
 $ ledger_cli repair a.d64
@@ -54,7 +54,7 @@ ends 1
 $ ledger_cli play a.d64 s.txt
 tells IMAGE SIZE|
 ends 1
-$ ledger_cli serve a.d64
+$ ledger_cli serve --in-place a.d64
 tells IMAGE SIZE|
 ends 1
 $ ledger_cli repair a.d64
@@ -93,7 +93,7 @@ ends 1
 $ ledger_cli play a.d64 s.txt
 tells IMAGE SIZE|
 ends 1
-$ ledger_cli serve a.d64
+$ ledger_cli serve --in-place a.d64
 tells IMAGE SIZE|
 ends 1
 $ ledger_cli repair a.d64
@@ -132,7 +132,7 @@ ends 1
 $ ledger_cli play a.d64 s.txt
 tells IMAGE SIZE|
 ends 1
-$ ledger_cli serve a.d64
+$ ledger_cli serve --in-place a.d64
 tells IMAGE SIZE|
 ends 1
 $ ledger_cli repair a.d64

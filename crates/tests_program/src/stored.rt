@@ -42,6 +42,8 @@ pub(crate) struct Stored {
     pub(crate) looks: Cell<usize>,
     pub(crate) gone_at: Cell<usize>,
     pub(crate) cut_at: Cell<usize>,
+    /// Whether a log stands beside it, which is landed while others may read it.
+    pub(crate) is_logged: Cell<bool>,
     /// Whether it was read or changed without a lock that allows it.
     pub(crate) unlocked: Cell<bool>,
     /// How often it was brought to the disk, also before it was read first, and the number of the call that fails.
@@ -96,6 +98,7 @@ impl Stored {
             looks: Cell::new(0),
             gone_at: Cell::new(usize::MAX),
             cut_at: Cell::new(usize::MAX),
+            is_logged: Cell::new(false),
             unlocked: Cell::new(false),
             syncs: Cell::new(0),
             syncs_before: Cell::new(0),
@@ -141,7 +144,8 @@ impl Stored {
 
     /// Notes that it is changed.
     fn note_change(&self) {
-        if self.lock.get() != Lock::Alone {
+        let is_landed = self.lock.get() == Lock::Shared && self.is_logged.get();
+        if self.lock.get() != Lock::Alone && !is_landed {
             self.unlocked.set(true);
         }
     }

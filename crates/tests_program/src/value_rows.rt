@@ -7,7 +7,7 @@ $ ledger_cli format b.d64 --tills 2
 tells FILE|
 ends 3
 
-$ ledger_cli serve b.d64
+$ ledger_cli serve --in-place b.d64
 tells FILE|
 ends 3
 
@@ -40,7 +40,7 @@ tells IMAGE SIZE|
 ends 1
 unlocked
 
-$ ledger_cli serve s.txt
+$ ledger_cli serve --in-place s.txt
 tells IMAGE SIZE|
 ends 1
 

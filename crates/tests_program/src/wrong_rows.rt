@@ -71,15 +71,15 @@ $ ledger_cli serve
 tells error: the following required arguments were not provided:|  <IMAGE>|..
 ends 2
 
-$ ledger_cli serve a.d64 s.txt
+$ ledger_cli serve --in-place a.d64 s.txt
 tells error: unexpected argument 's.txt' found|..
 ends 2
 
-$ ledger_cli serve a.d64 --sync
+$ ledger_cli serve --in-place a.d64 --sync
 tells error: unexpected argument '--sync' found|..
 ends 2
 
-$ ledger_cli serve a.d64 --unsynced --unsynced
+$ ledger_cli serve --in-place a.d64 --unsynced --unsynced
 tells error: the argument '--unsynced' cannot be used multiple times|..
 ends 2
 

@@ -82,7 +82,14 @@ returns-in-dry c = record {
 pub returns-in-serve : goal.returns-in-serve
 returns-in-serve c = record {
   job = met-has c.parsed_subcommand.result _ c.in-Some.name c.in-Some.found _ _ c.parsed_subcommand.ensures c.in-Some.is c.in-serve.is
-      (c.value_of-image.ensures, c.serve_durability.ensures, c.loss.ensures);
+      (c.value_of-image.ensures, c.way.ensures, c.serve_durability.ensures, c.loss.ensures);
+  fit = tt;
+}
+
+pub returns-in-copy : goal.returns-in-copy
+returns-in-copy c = record {
+  job = met-has c.parsed_subcommand.result _ c.in-Some.name c.in-Some.found _ _ c.parsed_subcommand.ensures c.in-Some.is c.in-copy.is
+      (c.value_of-image.ensures, c.value_of-in-copy.ensures);
   fit = tt;
 }
 

@@ -14,6 +14,7 @@ returns-in-Err g c =
     refused g.L.ImageLog.history g.R.BatchSource.input g.T.Reports.output c.args.disk c.into_inner.result c.new.result
     c.in-Err.disk c.args.log.now c.args.input.now c.args.out.now c.in-Err.fault c.new.ensures.disk (sym c.into_inner.ensures)
     (no_shop_here c.new.result c.in-Err.disk _ (λ e. cc) c.in-Err.ensures.opens)
+    c.in-Err.ensures.err
     (c.in-Err.ensures.unfit (no_shop_here c.new.result c.in-Err.disk _ (λ e. cc) c.in-Err.ensures.opens))
 
 pub returns : goal.returns

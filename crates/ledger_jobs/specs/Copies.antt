@@ -1,0 +1,32 @@
+-- What comes of copying an image to a file. All of it is our own.
+use Rattle.std.specs.Prelude.{◌≡◌, ◌≢◌, ◌⊎◌, List, ℕ, Option, Result, Ok, Err, Some, codes, length}
+use Rattle.std.specs.Io.KnownBytes.{Appends}
+use Rattle.host_session.specs.runs.Outputs.{AppendsPart}
+use Rattle.shop_commands.specs.Plays.{IsUntouched}
+use Rattle.shop_commands.specs.declared.faults.RunFault.{RunFault}
+use Rattle.shop_commands.specs.declared.faults.RunFault.TheVariants as run
+use Rattle.system_files.specs.Remains.{Remains}
+use Rattle.system_files.specs.Replacing.{IsNoDisk, NowAll, Since}
+
+-- if power went while an image was written over a file, there remained what could remain before, or no disk, or the image
+abbrev pub RemainsOr : {F : Type 0} → Remains F → (image : List ℕ) → F → F → Type 0
+RemainsOr r image old new = Since r old new (λ s. IsNoDisk s ⊎ (s ≡ image))
+
+-- The image was written over the file, whole: the file holds it, and it remains if power goes.
+pub record IsCopiedOver {F : Type 0} (r : Remains F) (image : List ℕ) (old new : F) : Type 0 where
+  pub remain : RemainsOr r image old new
+  pub lasting : NowAll r new (λ s. s ≡ image)
+  pub held : (all : List ℕ) → r.held old ≡ Some all → r.held new ≡ Some image
+
+-- what copying an image and saying so came to: all of it was written, and that was said; or the image has another size,
+-- and nothing was done; or the file failed, and nothing was said, or the output did
+abbrev pub IsCopied : {F W : Type 0} → Remains F → (W → Option (List ℕ)) → (image : List ℕ) → F → F → W → W
+    → Result Unit RunFault → Type 0
+IsCopied r contents image file after old new (Ok _) = (length image ≡ 174848)
+    × IsCopiedOver r image file after × Appends (contents old) (contents new) (codes "COPIED\n")
+IsCopied r contents image file after old new (Err run.ImageSize) =
+    (length image ≢ 174848) × IsUntouched file after old new
+IsCopied r contents image file after old new (Err run.File) = (length image ≡ 174848)
+    × ((RemainsOr r image file after × (new ≡ old))
+    ⊎ (IsCopiedOver r image file after × AppendsPart (contents old) (contents new) (codes "COPIED\n")))
+IsCopied r contents image file after old new (Err _) = ⊥

@@ -1,0 +1,51 @@
+-- What comes of a run that serves a shop over a log. All of it is our own.
+use Rattle.std.specs.Prelude.{◌≡◌, ◌≢◌, ◌⊎◌, List, ℕ, Result, Ok, Err, length}
+use Rattle.d64_image.specs.Memory.{disk_image, sectors_in}
+use Rattle.d64_image.specs.declared.mem_disk.MemDisk.{MemDisk}
+use Rattle.host_session.specs.declared.runs.event_loop.LoopFault.{LoopFault}
+use Rattle.host_session.specs.declared.runs.event_loop.LoopFault.TheVariants as loop
+use Rattle.line_server.specs.Batches.{BatchInput}
+use Rattle.log_server.specs.Reporting.{LogOutput}
+use Rattle.log_server.specs.Serves.{IsServedOver}
+use Rattle.shop_commands.specs.Shops.{IsOpenRefusal}
+use Rattle.shop_commands.specs.declared.faults.RunFault.{RunFault}
+use Rattle.shop_commands.specs.declared.faults.RunFault.TheVariants as run
+use Rattle.shop_log.specs.ImageLogs.{LogHistory}
+
+-- The disk of the image was served over the log to this end: batch by batch, each durable before it was told.
+pub record IsLoggedTo {L R T : Type 0} (h : LogHistory L) (i : BatchInput R) (o : LogOutput L T) (image : List ℕ)
+    (log after : L) (old_in new_in : R) (old new : T) (end : MemDisk → Result MemDisk (LoopFault × MemDisk)) : Type 0 where
+  pub size : length image ≡ 174848
+  pub disk : MemDisk
+  pub holds : disk_image disk ≡ sectors_in image
+  pub left : MemDisk
+  pub served : IsServedOver h i o disk log after old_in new_in old new (end left)
+
+-- the log, the input and the output are as they were
+abbrev pub IsUnlogged : {L R T : Type 0} → L → L → R → R → T → T → Type 0
+IsUnlogged log after old_in new_in old new = (after ≡ log) × (new_in ≡ old_in) × (new ≡ old)
+
+-- Why a shop isn't served over a log to the end of the input: its size, memory or that it is no shop's, and then nothing
+-- was read, written or told; the input or the output; or the log, which takes no more.
+abbrev pub IsLoggedFault : {L R T : Type 0} → LogHistory L → BatchInput R → LogOutput L T → (image : List ℕ)
+    → L → L → R → R → T → T → RunFault → Type 0
+IsLoggedFault h i o image log after old_in new_in old new run.ImageSize =
+    (length image ≢ 174848) × IsUnlogged log after old_in new_in old new
+IsLoggedFault h i o image log after old_in new_in old new run.NoMemory =
+    (length image ≡ 174848) × IsUnlogged log after old_in new_in old new
+IsLoggedFault h i o image log after old_in new_in old new (run.BadLine line) = ⊥
+IsLoggedFault h i o image log after old_in new_in old new run.File =
+    IsLoggedTo h i o image log after old_in new_in old new (λ left. Err (loop.Input, left))
+    ⊎ IsLoggedTo h i o image log after old_in new_in old new (λ left. Err (loop.Output, left))
+IsLoggedFault h i o image log after old_in new_in old new run.Device =
+    IsLoggedTo h i o image log after old_in new_in old new (λ left. Err (loop.Device, left))
+IsLoggedFault h i o image log after old_in new_in old new fault =
+    IsOpenRefusal image fault × IsUnlogged log after old_in new_in old new
+
+-- a run that serves the shop of an image over a log: to the input's end, or not for this fault
+abbrev pub IsLoggedRun : {L R T : Type 0} → LogHistory L → BatchInput R → LogOutput L T → (image : List ℕ)
+    → L → L → R → R → T → T → Result Unit RunFault → Type 0
+IsLoggedRun h i o image log after old_in new_in old new (Ok _) =
+    IsLoggedTo h i o image log after old_in new_in old new (λ left. Ok left)
+IsLoggedRun h i o image log after old_in new_in old new (Err fault) =
+    IsLoggedFault h i o image log after old_in new_in old new fault

@@ -1,0 +1,64 @@
+//! Copies of images, as their shops are now.
+ghost use Rattle.ledger_jobs.specs.Copies.{IsCopied};
+
+use crate::dispatch::{image_at, job_end};
+use crate::files::{AtPath, Older};
+use crate::refusals::Refusal;
+use disk_layout::Fault;
+use shop_commands::{EndedFile, Locks, OverwrittenFile, RunFault, put_whole};
+use std::fs::OpenFile;
+use std::io::{Read, Write};
+use std::rt::Files;
+use system_files::replace_image;
+
+/// How many bytes an image has.
+const IMAGE_BYTES: usize = 174_848;
+
+/// Writes an image over all that a file holds, brings it to the disk, and prints `COPIED`. If power goes on the way, the
+/// file has what it could have before, or is no sound disk's, or has the image. `ImageSize`: nothing was done. `File` if
+/// the file failed, which then has a part of the image and nothing is printed, or `out`, which then has a beginning of
+/// what is printed.
+pub fn copy_run<F: EndedFile, W: Write>(
+    image: &[u8],
+    file: &mut F,
+    out: &mut W,
+) -> Result<(), RunFault>
+    ensures { IsCopied F.remains W.contents image.now file.old file.new out.old out.new result }
+{
+    if image.len() != IMAGE_BYTES {
+        return Err(RunFault::ImageSize);
+    }
+    match replace_image(file, image) {
+        Ok(()) => put_whole(out, b"COPIED\n"),
+        Err(_) => Err(RunFault::File),
+    }
+}
+
+/// The end of a copy.
+fn copied(ended: Result<(), RunFault>) -> Result<Option<Fault>, RunFault> {
+    match ended {
+        Ok(()) => Ok(None),
+        Err(fault) => Err(fault),
+    }
+}
+
+/// Copies the image at a path, as its shop is now, to a file at another, where none may stand.
+pub(crate) fn do_copying<F, R, W>(
+    rt: &R,
+    path: &str,
+    copy: &str,
+    out: &mut W,
+) -> Result<Option<Fault>, Refusal>
+where
+    F: EndedFile + Read + Locks + OpenFile + Drop,
+    R: Files<File = F> + Input + AllocGlobal,
+    W: Write,
+{
+    let image = image_at(rt, path)?;
+    let mut file = OverwrittenFile::new(AtPath::new(rt, copy, Older::Kept));
+    let ended = copy_run(image.as_slice(), &mut file, out);
+    match file.opener().refused() {
+        Some(refusal) => Err(refusal),
+        None => job_end(copied(ended)),
+    }
+}

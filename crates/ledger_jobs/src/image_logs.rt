@@ -1,0 +1,126 @@
+//! The log beside an image: it is landed before the image is written, and read in the place of the image.
+ghost use Rattle.std.specs.Prelude.{◌≡◌};
+ghost use Rattle.ledger_jobs.specs.Ends.{log_refusal as refusal_of};
+
+use crate::dispatch::told;
+use crate::locks::lock_exclusive;
+use crate::refusals::Refusal;
+use log_files::{ImageFolder, ImageView, LogFault, LogNames, land_in, view_in};
+use shop_commands::{Durability, EndedFile, Locks, RunFault};
+use std::fs::{File, OpenFile};
+use std::io::{self, ErrorKind};
+use std::rt::Files;
+use system_files::{opened_to_change, opened_to_read};
+
+/// How many bytes an image has.
+const IMAGE_BYTES: u64 = 174_848;
+
+/// What is told of this fault of a log.
+pub(crate) fn log_refusal(fault: &LogFault) -> Refusal
+    ensures { result ≡ refusal_of fault.now }
+{
+    match fault {
+        LogFault::Unfit(_) => Refusal::Log,
+        LogFault::File(error) => Refusal::Run(RunFault::of_io(error)),
+    }
+}
+
+/// Whether a file has as many bytes as an image.
+pub(crate) fn is_sized<F: OpenFile>(file: &F) -> Result<bool, Refusal> {
+    let found = told(OpenFile::metadata(file))?;
+    Ok(found.len() == IMAGE_BYTES)
+}
+
+/// Whether anything stands at a path.
+fn is_there<R: Files>(rt: &R, path: &str) -> io::Result<bool> {
+    match rt.metadata(path) {
+        Ok(_) => Ok(true),
+        Err(error) if error.kind() == ErrorKind::NotFound => Ok(false),
+        Err(error) => Err(error),
+    }
+}
+
+/// The regular file at a path, opened to be changed, which this program has alone. `InUse` where another has it.
+pub(crate) fn opened_alone<F, R>(rt: &R, path: &str) -> Result<F, Refusal>
+where
+    F: Locks + Drop,
+    R: Files<File = F>,
+{
+    let mut file = told(opened_to_change(rt, path))?;
+    lock_exclusive(&mut file, Durability::AtEnd)?;
+    Ok(file)
+}
+
+/// Lands the log that stands beside the image at a path, which this program has alone. `Log` if it gives no image: nothing
+/// was changed.
+fn land_beside<F, R>(rt: &R, names: &LogNames, path: &str) -> Result<(), Refusal>
+where
+    F: EndedFile + OpenFile + Drop,
+    R: Files<File = F> + AllocGlobal,
+{
+    let image = told(opened_to_change(rt, path))?;
+    let mut folder = told(ImageFolder::new(rt, rt.alloc(), names, image, true))?;
+    match land_in(rt.alloc(), &mut folder) {
+        Ok(_) => Ok(()),
+        Err(fault) => Err(log_refusal(&fault)),
+    }
+}
+
+/// Sees that no log stands beside the image at a path, which this program has alone: one that stands there is landed, and
+/// that there is none is brought to the disk. Whoever came before may have been killed after a log's removal.
+fn settle_log<F, R>(rt: &R, path: &str) -> Result<(), Refusal>
+where
+    F: EndedFile + OpenFile + Drop,
+    R: Files<File = F> + AllocGlobal,
+{
+    let names = told(LogNames::of(rt, rt.alloc(), path))?;
+    if told(is_there(rt, names.log()))? {
+        return land_beside(rt, &names, path);
+    }
+    let folder = told(File::open(rt, names.folder()))?;
+    told(folder.sync_all())
+}
+
+/// The image's file at a path, which this program has alone and which is going to be written: a log that stood beside it
+/// was landed, and none is there. `Log` if the log gives no image: nothing was changed. A file of another size is no
+/// image, and its log is left alone.
+pub(crate) fn opened_and_landed<F, R>(rt: &R, path: &str) -> Result<F, Refusal>
+where
+    F: EndedFile + Locks + OpenFile + Drop,
+    R: Files<File = F> + AllocGlobal,
+{
+    let image = opened_alone(rt, path)?;
+    if is_sized(&image)? {
+        settle_log(rt, path)?;
+    }
+    Ok(image)
+}
+
+/// The sectors that the log beside the image at a path gives. None if there is no log, or the image has another size.
+/// `Log` if the log gives none. The image's file is locked for reading: so none is begun while it is read.
+pub(crate) fn logged_image<F, R>(
+    rt: &R,
+    path: &str,
+    image: &F,
+) -> Result<Option<Vec<[u8; 256]>>, Refusal>
+where
+    F: OpenFile + Drop,
+    R: Files<File = F> + AllocGlobal,
+{
+    if !is_sized(image)? {
+        return Ok(None);
+    }
+    let names = told(LogNames::of(rt, rt.alloc(), path))?;
+    let again = told(opened_to_read(rt, path))?;
+    let mut view = ImageView::new(rt, rt.alloc(), &names, again);
+    match view_in(rt.alloc(), &mut view) {
+        Ok(seen) => Ok(seen),
+        Err(fault) => Err(log_refusal(&fault)),
+    }
+}
+
+/// Whether a file stands where the log of an image at this path would.
+pub(crate) fn has_log<R: Files + AllocGlobal>(rt: &R, path: &str) -> io::Result<bool> {
+    let names = LogNames::of(rt, rt.alloc(), path)?;
+    is_there(rt, names.log())
+}

@@ -1,0 +1,41 @@
+//! Serving the shop of an image over a log, as a run of the program.
+ghost use Rattle.ledger_jobs.specs.LoggedRuns.{IsLoggedRun};
+
+use crate::serving_files::told;
+use line_server::BatchSource;
+use log_server::{Reports, Room, serve_batches};
+use shop_commands::{RunFault, load};
+use shop_log::ImageLog;
+use std::alloc::Global;
+
+/// Serves the shop of an image over a log that stands for that image, batch by batch up to the end of the input. The
+/// lines at hand are handled in memory, made durable by one commit, and then their replies are told.
+///
+/// `ImageSize`; `NoMemory` if there was none for the disk or for a batch; and the faults of an opening, in its order:
+/// nothing was read, written or told then. `File`: the input couldn't be read, or the output failed; the lines before
+/// stand, and of one batch at most some weren't told. `Device`: the log takes no more commits; the last batch counts
+/// whole or not, and nothing of it was told.
+// Out of line: a session is large, and a frame that has its room touches each page of it.
+#[inline(never)]
+pub fn serve_logged<L: ImageLog, R: BatchSource, T: Reports<L>>(
+    alloc: Global,
+    image: &[u8],
+    log: &mut L,
+    input: &mut R,
+    out: &mut T,
+) -> Result<(), RunFault>
+    ensures run { IsLoggedRun L.history R.input T.output image.now log.old log.new input.old input.new
+        out.old out.new result }
+{
+    let disk = match load(alloc, image) {
+        Ok(disk) => disk,
+        Err(fault) => return Err(fault),
+    };
+    let Ok(mut room) = Room::new(alloc) else {
+        return Err(RunFault::NoMemory);
+    };
+    match serve_batches(disk, log, input, out, &mut room) {
+        Ok(_left) => Ok(()),
+        Err((fault, _left)) => Err(told(fault)),
+    }
+}

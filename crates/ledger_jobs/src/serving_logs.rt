@@ -1,0 +1,144 @@
+//! Serving the shop of the image at a path, over a log beside it.
+ghost use Rattle.std.specs.Prelude.{◌≡◌, IfOk, length};
+
+use crate::dispatch::told;
+use crate::image_logs::{is_sized, log_refusal, opened_alone};
+use crate::jobs::Loss;
+use crate::losses::{loss_refusal, serve_logged_guarded};
+use crate::refusals::Refusal;
+use crate::serving_images::name_of;
+use crate::watched_files::{WhileThere, served_end};
+use disk_layout::Fault;
+use host_session::Printer;
+use log_files::{ImageFolder, LiveLog, LogFolder, LogNames, land_in};
+use shop_commands::{Durability, EndedFile, Locks, RunFault};
+use shop_log::LogFile;
+use std::fs::OpenFile;
+use std::io::{BufReader, Write};
+use std::rt::Files;
+use system_files::{Stays, opened_to_change};
+
+/// The folder of the image at a path, which this program has alone.
+fn folder_of<'a, F, R>(
+    rt: &'a R,
+    names: &'a LogNames,
+    path: &str,
+    durability: Durability,
+) -> Result<ImageFolder<'a, R>, Refusal>
+where
+    F: EndedFile + OpenFile + Drop,
+    R: Files<File = F> + AllocGlobal,
+{
+    let image = told(opened_to_change(rt, path))?;
+    let synced = durability == Durability::EachSector;
+    told(ImageFolder::new(rt, rt.alloc(), names, image, synced))
+}
+
+/// The sectors of the shop that a folder gives, which the image has from then on. `Log` if its log gives none: nothing
+/// was changed. `Short` if a file of the image is cut short and no loss is accepted.
+fn shop_of<L: LogFile, D: LogFolder<L>, R: AllocGlobal>(
+    rt: &R,
+    folder: &mut D,
+    loss: Loss,
+) -> Result<Vec<[u8; 256]>, Refusal>
+    ensures { IfOk result (λ shop. length shop.items ≡ 683) }
+{
+    let shop = match land_in(rt.alloc(), folder) {
+        Ok(shop) => shop,
+        Err(fault) => return Err(log_refusal(&fault)),
+    };
+    match loss_refusal(rt.alloc(), shop.as_slice().as_flattened(), loss) {
+        None => Ok(shop),
+        Some(refusal) => Err(refusal),
+    }
+}
+
+/// How a service ends whose log can't be landed: a refusal stays what it is.
+fn unlanded(ended: Result<Option<Fault>, Refusal>) -> Result<Option<Fault>, Refusal> {
+    match ended {
+        Ok(_) | Err(Refusal::Run(RunFault::File)) => Err(Refusal::Run(RunFault::Device)),
+        Err(refusal) => Err(refusal),
+    }
+}
+
+/// Lands the log of a service that ended so, unless a commit of it failed or the image's file has gone: then the log
+/// stays where it is, and the next beginning lands it. `Device` if it couldn't be landed.
+fn landed_end<L: LogFile, D: LogFolder<L> + Drop>(
+    log: LiveLog<L, D>,
+    ended: Result<Option<Fault>, Refusal>,
+) -> Result<Option<Fault>, Refusal> {
+    if let Err(Refusal::Run(RunFault::Device)) = ended {
+        return ended;
+    }
+    let (_, landed) = log.end();
+    match landed {
+        Ok(()) => ended,
+        Err(_) => unlanded(ended),
+    }
+}
+
+/// Serves the shop of this image over a log that was begun with it, to what comes on standard input, while the name of
+/// the image's file leads to it. Then the log is landed.
+fn serve_begun<L, D, N, R, W>(
+    rt: &R,
+    image: &[u8],
+    log: LiveLog<L, D>,
+    name: N,
+    loss: Loss,
+    out: &mut W,
+) -> Result<Option<Fault>, Refusal>
+where
+    L: LogFile,
+    D: LogFolder<L> + Drop,
+    N: Stays + Drop,
+    R: Input + AllocGlobal,
+    W: Write,
+{
+    let mut log = log;
+    // A bare reader of standard input reads a byte a call.
+    let mut input = told(BufReader::new(rt.alloc(), rt.reader()))?;
+    let mut printer = Printer::new(out);
+    let mut answers = WhileThere::new(name, &mut printer);
+    let ended = serve_logged_guarded(rt.alloc(), image, &mut log, loss, &mut input, &mut answers);
+    let gone = answers.is_gone();
+    landed_end(log, served_end(ended, gone))
+}
+
+/// Serves the shop of the image at a path, over a log beside it, to what comes on standard input. Other programs may read
+/// the image meanwhile, by its log, and none may write it. When the input ends, the log is landed: the image is the shop
+/// then. Once the path doesn't lead to the image's file any more, or the file has another length, the line at hand hears
+/// MEDIA, it ends with `Device`, and the log stays.
+pub(crate) fn do_logged_serving<F, R, W>(
+    rt: &R,
+    path: &str,
+    durability: Durability,
+    loss: Loss,
+    out: &mut W,
+) -> Result<Option<Fault>, Refusal>
+where
+    F: EndedFile + Locks + OpenFile + Drop,
+    R: Files<File = F> + Input + AllocGlobal,
+    W: Write,
+{
+    let alloc = rt.alloc();
+    let mut image = opened_alone(rt, path)?;
+    if !is_sized(&image)? {
+        return Err(Refusal::Run(RunFault::ImageSize));
+    }
+    let name = name_of(rt, path, &image)?;
+    let names = told(LogNames::of(rt, alloc, path))?;
+    let mut folder = folder_of(rt, &names, path, durability)?;
+    let shop = shop_of(rt, &mut folder, loss)?;
+    let bytes = told(
+        shop.as_slice()
+            .as_flattened()
+            .to_vec(alloc)
+            .map_err(From::from),
+    )?;
+    let log = told(LiveLog::begin(alloc, folder, shop))?;
+    // others may read it from here on
+    if let Err(error) = image.lock_shared() {
+        return Err(Refusal::of_lock(&error));
+    }
+    serve_begun(rt, bytes.as_slice(), log, name, loss, out)
+}

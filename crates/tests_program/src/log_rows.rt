@@ -1,0 +1,211 @@
+//! Shops that are served over a log, and what the words do beside one.
+use crate::scenes::each;
+
+/// Lines are told once the log has them, and the log is landed at the end.
+const SERVED: &[u8] = b"
+input 1,1,S,1,5|1,2,R,1,4|1,2,R,1,4|hello|
+$ ledger_cli serve a.d64
+prints 1,1,DONE,5|1,2,DONE,9|1,2,DONE,9|30,SYNTAX ERROR,00,00|
+written
+$ ledger_cli show a.d64
+prints TOP 9256|CARD 1,9|TILL 1,2,R,1,4,DONE,9|PRIOR 1,1,S,1,5,DONE,5|
+
+# nothing is asked
+$ ledger_cli serve a.d64
+
+input 1,1,S,1,5|
+$ ledger_cli serve --unsynced a.d64
+prints 1,1,DONE,5|
+written
+
+# the input fails, or the output: what was read counts, and the log is landed
+input 1,1,S,1,5|
+input-fails
+$ ledger_cli serve a.d64
+prints 1,1,DONE,5|
+tells FILE|
+ends 3
+written
+input 1,1,S,1,5|
+output-takes 0
+$ ledger_cli serve a.d64
+tells FILE|
+ends 3
+
+input 1,1,S,1,5|
+output-takes 0
+$ ledger_cli serve a.d64
+tells FILE|
+ends 3
+written
+input 1,1,S,1,5|
+$ ledger_cli serve a.d64
+prints 1,1,DONE,5|
+";
+
+#[test]
+fn lines_are_served_over_a_log(rt: HostRuntime) {
+    each(&rt, SERVED);
+}
+
+/// A commit that fails isn't told, and its log stays: it has the shop from then on, and the next that writes lands it.
+const LEFT: &[u8] = b"
+input 1,1,S,1,5|
+log-sync 3 fails
+$ ledger_cli serve a.d64
+tells DEVICE|
+ends 3
+logged
+$ ledger_cli show a.d64
+prints TOP 9256|CARD 1,5|TILL 1,1,S,1,5,DONE,5|
+logged
+$ ledger_cli check a.d64
+prints OK|
+logged
+$ ledger_cli records a.d64 REQUESTS
+prints ..,S,00001,000000005,..
+logged
+script 1,2,R,1,4|
+$ ledger_cli play a.d64 s.txt
+prints 1,2,DONE,9|
+written
+$ ledger_cli show a.d64
+prints TOP 9256|CARD 1,9|TILL 1,2,R,1,4,DONE,9|PRIOR 1,1,S,1,5,DONE,5|
+
+input 1,1,S,1,5|
+log-sync 3 fails
+$ ledger_cli serve a.d64
+tells DEVICE|
+ends 3
+logged
+$ ledger_cli repair a.d64
+prints OK|
+written
+$ ledger_cli show a.d64
+prints TOP 9256|CARD 1,5|TILL 1,1,S,1,5,DONE,5|
+
+input 1,1,S,1,5|
+log-sync 3 fails
+$ ledger_cli serve a.d64
+tells DEVICE|
+ends 3
+logged
+input 1,1,S,1,5|
+$ ledger_cli serve a.d64 --in-place
+prints 1,1,DONE,5|
+written
+
+input 1,1,S,1,5|
+log-sync 3 fails
+$ ledger_cli serve a.d64
+tells DEVICE|
+ends 3
+logged
+$ ledger_cli format a.d64 --tills 2
+prints FORMATTED|
+rewritten
+
+# a log that can't be made: nothing was asked for
+input 1,1,S,1,5|
+log-sync 1 fails
+$ ledger_cli serve a.d64
+tells FILE|
+ends 3
+";
+
+#[test]
+fn a_log_that_stays_has_the_shop(rt: HostRuntime) {
+    each(&rt, LEFT);
+}
+
+/// A log that gives no image is refused by every word, and nothing is changed; but `format` removes it.
+const REFUSED: &[u8] = b"
+log junk
+$ ledger_cli show a.d64
+tells LOG|
+ends 1
+logged
+$ ledger_cli check a.d64
+tells LOG|
+ends 1
+logged
+$ ledger_cli list a.d64
+tells LOG|
+ends 1
+logged
+$ ledger_cli map a.d64
+tells LOG|
+ends 1
+logged
+$ ledger_cli bytes a.d64 STOCK
+tells LOG|
+ends 1
+logged
+$ ledger_cli repair --dry-run a.d64
+tells LOG|
+ends 1
+logged
+$ ledger_cli play a.d64 s.txt
+tells LOG|
+ends 1
+logged
+$ ledger_cli serve a.d64
+tells LOG|
+ends 1
+logged
+$ ledger_cli serve --in-place a.d64
+tells LOG|
+ends 1
+logged
+$ ledger_cli repair a.d64
+tells LOG|
+ends 1
+logged
+$ ledger_cli make a.d64 A --length 30
+tells LOG|
+ends 1
+logged
+$ ledger_cli store a.d64 STOCK s.txt
+tells LOG|
+ends 1
+logged
+$ ledger_cli copy a.d64 b.d64
+tells LOG|
+ends 1
+logged
+person ledger_cli show a.d64
+tells LOG|ledger: a.d64: the log beside it is of another image, or not whole; docs/LOG.md says what to do|
+ends 1
+logged
+$ ledger_cli format a.d64 --tills 2
+prints FORMATTED|
+rewritten
+
+# no image is made beside a log alone
+no image
+log junk
+$ ledger_cli format --new a.d64 --tills 2
+tells FILE EXISTS|
+ends 1
+logged
+$ ledger_cli format a.d64 --tills 2
+prints FORMATTED|
+written
+
+# an image of another size has no log
+log junk
+resize 174847
+$ ledger_cli show a.d64
+tells IMAGE SIZE|
+ends 1
+logged
+$ ledger_cli serve a.d64
+tells IMAGE SIZE|
+ends 1
+logged
+";
+
+#[test]
+fn a_log_of_no_image_is_refused(rt: HostRuntime) {
+    each(&rt, REFUSED);
+}

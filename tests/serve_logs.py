@@ -1,0 +1,321 @@
+#!/usr/bin/env python3
+"""Tries what stands beside a service over a log, and what is left of one that was killed (Debian's package strace):
+
+    tests/serve_logs.py PROGRAM [BURSTS] [SEED]
+
+PROGRAM is what `tools/program` prints. What the shop has to be is calculated by `shop_rule.py`. It prints a line for each thing
+tried:
+- Beside a service that is handed BURSTS bursts of lines, each word that reads sees all lines that were answered before it began,
+  and no others than those that were handed over; `copy` makes an image that needs no log. Each word that writes is refused with
+  `IN USE`, and neither the image nor its log is changed.
+- After a kill the image is as it was, and the log alone has the shop. Each word that reads sees it there, and leaves every file as
+  it is; each that writes lands it first.
+- A log of another image, and one that is cut short: `LOG`, status 1, and nothing is changed, by any word; `format` removes it.
+- `format --new` and `copy` make no image beside a log that stands alone.
+- A log that is full is made anew while the service goes on.
+- An image that is moved away ends the service with `DEVICE`, and its log stays.
+- The order of writes and syncs: zeros, base and names before the first reply; the log before each reply; mark, image, name at the
+  end.
+The status is 1 at the first difference."""
+
+import copy
+import os
+import random
+import re
+import shutil
+import subprocess
+import sys
+import tempfile
+from pathlib import Path
+
+from served import Served, differs, run, script, sure, want
+from shop_rule import Shop
+
+TILLS = 8
+# the words that only read an image, and what stands behind it
+READING = (["show"], ["check"], ["list"], ["records", "STOCK"], ["bytes", "STOCK"], ["map"], ["picture"], ["repair", "--dry-run"])
+LOG_BYTES = 4198400
+CALLS = "openat,write,pwrite64,fsync,fdatasync,rename,renameat,renameat2,unlink,unlinkat,flock"
+
+
+def shown(shop):
+    """What `show` prints of a shop, without its first line."""
+    lines = [f"CARD {item},{on}" for item, on in sorted(shop.stock.items())]
+    for till, kept in sorted(shop.kept.items()):
+        for word, (number, (kind, item, quantity, to), answer) in zip((f"TILL {till}", f"PRIOR {till}"), kept):
+            to = f",{to}" if kind == "M" else ""
+            lines.append(f"{word},{number},{kind},{item},{quantity}{to},{answer}")
+    return lines
+
+
+class Logs:
+    def __init__(self, program, folder, draw, bursts):
+        self.program, self.folder, self.draw, self.bursts = program, folder, draw, bursts
+        self.image, self.log = folder / "shop.d64", folder / "shop.d64-log"
+        self.shop = None
+
+    def fresh(self):
+        """A new shop; what stood there is gone."""
+        for path in self.folder.iterdir():
+            path.unlink()
+        sure(self.program, "format", self.image, "--tills", TILLS)
+        top = int(sure(self.program, "show", self.image)[0].removeprefix("TOP "))
+        self.shop = Shop(TILLS, top)
+
+    def files(self):
+        """Each file of the folder with its bytes."""
+        return {path.name: path.read_bytes() for path in self.folder.iterdir()}
+
+    def writing(self):
+        """The words that write an image, and what stands behind it; `format` last, which changes it."""
+        empty = script(self.folder, [])
+        return [["serve"], ["serve", "--in-place"], ["serve", "--unsynced"], ["play", empty], ["play", empty, "--sync"], ["repair"],
+                ["make", "CARDS", "--length", 30], ["store", "STOCK", empty], ["format", "--tills", 4]]
+
+    def line(self):
+        """A next request of a till, a repeat, or a line that is none."""
+        till, chance = self.draw.randint(1, TILLS), self.draw.random()
+        kept = self.shop.last_two(till)
+        number = kept[0][0] if kept else 0
+        if chance < 0.1 and kept:
+            number, (kind, item, quantity, to), _ = kept[0]
+            return f"{till},{number},{kind},{item},{quantity}" + (f",{to}" if kind == "M" else "")
+        if chance < 0.13:
+            return self.draw.choice(["", "hello", f"{till},{number + 3},S,1,1", f"0{till},1,S,1,1"])
+        kind, item = self.draw.choice("SSRRIIM"), self.draw.randint(1, 40)
+        to = f",{item % 40 + 1}" if kind == "M" else ""
+        return f"{till},{number + 1},{kind},{item},{self.draw.randint(0, 500)}{to}"
+
+    def lines(self, count):
+        """So many lines, of which each till's requests have their numbers in order."""
+        held, lines = copy.deepcopy(self.shop), []
+        for _ in range(count):
+            lines.append(self.line())
+            self.shop.reply(lines[-1])
+        self.shop = held
+        return lines
+
+    def ask(self, served, lines):
+        """Hands lines over and compares the replies with the rules."""
+        served.send(lines)
+        for line in lines:
+            wanted, heard = self.shop.reply(line), served.reply()
+            want(heard == wanted, f"{line!r} is told {heard!r}, not {wanted!r}")
+
+    def is_shown(self, image, where):
+        got = sure(self.program, "show", image)[1:]
+        want(got == shown(self.shop), f"{where}: show prints another shop")
+
+    def killed(self, count=40):
+        """A service that answered so many lines and was killed."""
+        self.fresh()
+        before = self.image.read_bytes()
+        served = Served(self.program, self.image)
+        for line in self.lines(count):
+            self.ask(served, [line])
+        served.kill()
+        want(self.image.read_bytes() == before, "the image was written though its log wasn't landed")
+        want(self.log.stat().st_size == LOG_BYTES, "the log hasn't its length")
+
+    # --- beside a service
+
+    def beside(self):
+        """Each word that reads, beside a service."""
+        self.fresh()
+        served, views = Served(self.program, self.image), 0
+        for number in range(self.bursts):
+            self.ask(served, self.lines(self.draw.choice([1, 1, 2, 8, 64])))
+            self.is_shown(self.image, "beside a service")
+            word = READING[number % len(READING)]
+            status, _, err = run(self.program, word[0], self.image, *word[1:])
+            want((status, err) == (0, ""), f"{word} beside a service: {status}, {err}")
+            views += 2
+        new = self.folder / "copy.d64"
+        want(sure(self.program, "copy", self.image, new) == ["COPIED"], "copy doesn't say so")
+        want(new.stat().st_size == 174848 and not Path(f"{new}-log").exists(), "the copy isn't an image alone")
+        self.is_shown(new, "a copy")
+        self.while_lines_come(served)
+        held = self.files()
+        for words in self.writing():
+            got = run(self.program, words[0], self.image, *words[1:], stdin=b"1,1,S,1,9\n")
+            want(got == (3, [], "IN USE"), f"{words[0]} beside a service: {got}")
+        want({**held, **{"script.txt": b""}} == self.files(), "a word beside a service has changed a file")
+        want(served.finish() == (0, [], ""), "the end isn't quiet")
+        want(not self.log.exists(), "the log is there behind a clean end")
+        self.is_shown(self.image, "behind a clean end")
+        return views
+
+    def while_lines_come(self, served):
+        """Looks while lines are handed over: a shop of some first lines, with each that was answered."""
+        for _ in range(20):
+            lines = self.lines(64)
+            states = [shown(self.shop)]
+            served.send(lines)
+            views = [subprocess.Popen([self.program, "show", str(self.image)], stdout=subprocess.PIPE) for _ in range(2)]
+            for line in lines:
+                wanted, heard = self.shop.reply(line), served.reply()
+                want(heard == wanted, f"{line!r} is told {heard!r}, not {wanted!r}")
+                states.append(shown(self.shop))
+            for view in views:
+                got = view.communicate()[0].decode().splitlines()[1:]
+                want(view.returncode == 0 and got in states, "a view beside a service is no shop of the day")
+
+    # --- after a kill
+
+    def after_a_kill(self):
+        """Each word behind a kill."""
+        for words in READING:
+            self.killed()
+            held = self.files()
+            status, _, err = run(self.program, words[0], self.image, *words[1:])
+            want((status, err) == (0, ""), f"{words[0]} behind a kill: {status}, {err}")
+            self.is_shown(self.image, "behind a kill")
+            new = self.folder / "copy.d64"
+            sure(self.program, "copy", self.image, new)
+            self.is_shown(new, "a copy behind a kill")
+            new.unlink()
+            want(self.files() == held, f"{words[0]} behind a kill has changed a file")
+        for words in self.writing()[:-1]:
+            self.killed()
+            script(self.folder, [])
+            sure(self.program, words[0], self.image, *words[1:])
+            want(not self.log.exists(), f"the log is there behind {words[0]}")
+            self.is_shown(self.image, f"behind a kill and {words[0]}")
+            want(sure(self.program, "check", self.image) == ["OK"], f"check isn't OK behind {words[0]}")
+        self.killed()
+        sure(self.program, "format", self.image, "--tills", 4)
+        want(sorted(self.files()) == ["shop.d64"], "format has left a log")
+        want(len(sure(self.program, "show", self.image)) == 1, "format has left a shop")
+
+    def refused(self):
+        """A log of another image, and one that is cut short."""
+        for harm in (self.other_image, self.cut_log):
+            self.killed()
+            harm()
+            script(self.folder, [])
+            held = self.files()
+            words = [*READING, *self.writing()[:-1], ["copy", self.folder / "copy.d64"]]
+            for word, *rest in words:
+                got = run(self.program, word, self.image, *rest, stdin=b"1,1,S,1,9\n")
+                want(got == (1, [], "LOG"), f"{word} beside a log that is refused: {got}")
+                want(self.files() == held, f"{word} has changed a file beside a log that is refused")
+            said = run(self.program, "show", self.image, "--explain")[2]
+            want("docs/LOG.md" in said, f"LOG is explained so: {said}")
+            sure(self.program, "format", self.image, "--tills", 4)
+            want(sorted(self.files()) == ["script.txt", "shop.d64"], "format has left a log")
+
+    def other_image(self):
+        image = bytearray(self.image.read_bytes())
+        image[100] ^= 1
+        self.image.write_bytes(bytes(image))
+
+    def cut_log(self):
+        os.truncate(self.log, LOG_BYTES - 1)
+
+    def alone(self):
+        """A log that stands alone."""
+        self.killed()
+        other, kept = self.folder / "other.d64", self.folder / "other.d64-log"
+        shutil.copy(self.log, kept)
+        held = self.files()
+        for word, *rest in (["format", "--new", other, "--tills", 4], ["copy", self.image, other]):
+            got = run(self.program, word, *rest)
+            want(got == (1, [], "FILE EXISTS"), f"{word} beside a log that stands alone: {got}")
+            want(self.files() == held, f"{word} beside a log that stands alone has changed a file")
+
+    def moved(self):
+        """An image that is moved away."""
+        self.fresh()
+        served = Served(self.program, self.image)
+        self.ask(served, ["1,1,S,1,5"])
+        self.image.rename(self.folder / "elsewhere.d64")
+        want(served.ask("1,2,R,1,1") == "1,2,MEDIA", "a line isn't told MEDIA though the image is gone")
+        want(served.finish() == (3, [], "DEVICE"), "a service whose image is gone doesn't end with DEVICE")
+        want(self.log.exists(), "the log of an image that was moved is gone")
+        self.log.rename(self.folder / "elsewhere.d64-log")
+        got = sure(self.program, "show", self.folder / "elsewhere.d64")
+        want("TILL 1,1,S,1,5,DONE,5" in got or "TILL 1,2,R,1,1,DONE,6" in got, f"an answered line is lost: {got}")
+
+    # --- calls
+
+    def full(self):
+        """A log that is full."""
+        self.fresh()
+        calls = self.folder / "calls"
+        before = ["strace", "-f", "-qq", "-o", str(calls), "-e", "trace=rename,renameat,renameat2"]
+        served = Served(self.program, self.image, before=before)
+        for number in range(1, 1101):
+            self.ask(served, [f"1,{number},S,1,{number}"])
+        want(served.finish() == (0, [], ""), "the end isn't quiet")
+        renames = len(re.findall(r"^\d+ +rename", calls.read_text(), re.MULTILINE))
+        want(renames == 2, f"{renames} logs for 1,100 commits")
+        calls.unlink()
+        self.is_shown(self.image, "behind a log that was full")
+
+    def order(self):
+        """The order of the calls."""
+        self.fresh()
+        calls = self.folder / "calls"
+        served = Served(self.program, self.image, before=["strace", "-f", "-qq", "-s", "4", "-o", str(calls), "-e", f"trace={CALLS}"])
+        for lines in (["1,1,S,1,5"], ["1,2,R,1,1", "2,1,S,2,7", "2,2,R,2,1"], ["1,2,R,1,1"]):
+            self.ask(served, lines)
+        want(served.finish() == (0, [], ""), "the end isn't quiet")
+        steps = list(steps_of(calls.read_text(), self.folder))
+        wanted = ["lock image", "sync image", "sync folder", "make new", "write new", "sync new", "write new", "sync new", "sync folder",
+                  "rename", "sync folder", "share image", "write log", "sync log", "reply", "write log", "sync log", "reply", "reply",
+                  "sync image", "sync folder", "write log", "sync log", "write image", "sync image", "remove log", "sync folder"]
+        want(steps == wanted, f"the calls are {steps}")
+
+
+def steps_of(text, folder):
+    """What the calls do, each once where it stands several times in a row."""
+    names, log, last = {}, "new", None
+    for line in text.splitlines():
+        found = re.match(r"\d+ +(\w+)\((.*)\) += (-?\d+)", line)
+        if not found or int(found[3]) < 0:
+            continue
+        call, words, result = found.groups()
+        paths = [Path(it).name for it in re.findall(r'"([^"]*)"', words)]
+        step = None
+        if call == "openat":
+            opened = re.search(r'"([^"]*)"', words)[1]
+            name = Path(opened).name
+            names[result] = {"shop.d64": "image", "shop.d64-log": "log", "shop.d64-log.new": "log"}.get(name)
+            if Path(opened) == folder or opened == ".":
+                names[result] = "folder"
+            step = "make new" if "O_CREAT" in words and name == "shop.d64-log.new" else None
+        elif call == "flock":
+            step = ("share " if "LOCK_SH" in words else "lock ") + names[words.split(",")[0]]
+        elif call.startswith("rename"):
+            step, log = "rename", "log"
+        elif call.startswith("unlink"):
+            step = "remove log" if paths == ["shop.d64-log"] else None
+        elif call == "write" and words.startswith("1,"):
+            step, last = "reply", None
+        else:
+            of = names.get(words.split(",")[0].strip())
+            verb = "sync" if "sync" in call else "write"
+            step = f"{verb} {log if of == 'log' else of}" if of else None
+        if step and step != last:
+            yield step
+        last = step or last
+
+
+def main():
+    if len(sys.argv) < 2:
+        sys.exit(__doc__)
+    bursts = int(sys.argv[2]) if len(sys.argv) > 2 else 200
+    draw = random.Random(int(sys.argv[3]) if len(sys.argv) > 3 else 1541)
+    with tempfile.TemporaryDirectory() as folder:
+        logs = Logs(str(Path(sys.argv[1]).resolve()), Path(folder).resolve(), draw, bursts)
+        print(f"beside a service: {logs.beside()} views, each the shop of the answered lines", flush=True)
+        tried = [logs.after_a_kill, logs.refused, logs.alone, logs.moved]
+        tried += [logs.full, logs.order] if shutil.which("strace") else []
+        for one in tried:
+            one()
+            print(f"{' '.join(one.__doc__.split())} as it has to be", flush=True)
+        if not shutil.which("strace"):
+            differs("the order of the calls wasn't tried: there is no strace")
+
+
+main()
