@@ -24,14 +24,12 @@ DESCRIPTION = """A stock ledger on a Commodore 1541 disk, kept as a D64 image of
 if it didn't get the answer: a repeat gets the kept answer and has no second effect. Power may fail between any two sector writes; the
 next opening puts everything right. The commands for keepers of disks take any image of 35 tracks without error bytes."""
 
-# the loop of docs/KEEPERS.md over a folder of disks
-SHELF = "for f in ./*.[dD]64; do printf '%s ' \"$f\"; {0} check \"$f\" 2>&1; done"
 EXAMPLES = (
     ("{0} format --new shop.d64 --tills 4", "makes a shop for four tills; a file of this name is left alone"),
     ("{0} play shop.d64 day.txt", "plays the messages of a script"),
     ("{0} records old.d64 ADDRESS > address.csv", "prints the records of a relative file, a line each"),
     ("{0} store new.d64 ADDRESS address.csv", "puts them back"),
-    (SHELF, "checks a shelf of disks"),
+    ("{0} check ./*.[dD]64", "checks a shelf of disks"),
 )
 
 

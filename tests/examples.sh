@@ -17,7 +17,7 @@ sed -n '/^TOP /,/^```/p' "$top/README.md" | sed '$d' | diff - "$work/shown"
 [ "$("$program" check "$work/shop.d64")" = OK ]
 
 # the line of the guide, as it stands, in a folder of disks, with the program under the name that it calls
-line=$(sed -n 's/^    \(for f in .*\)$/\1/p' "$top/docs/KEEPERS.md")
+line=$(sed -n 's/^    \(ledger check .*\[dD\]64\)$/\1/p' "$top/docs/KEEPERS.md")
 mkdir "$work/shelf" "$work/bin"
 printf '#!/bin/sh\nexec "%s" "$@"\n' "$(readlink -f "$program")" >"$work/bin/ledger"
 chmod +x "$work/bin/ledger"
@@ -29,13 +29,13 @@ cp "$work/shop.d64" "$work/shelf/CAPITALS.D64"
 (cd "$work/shelf" && PATH="$work/bin:$PATH" LC_ALL=C sh -c "$line") >"$work/judged" 2>"$work/beside" || true
 [ ! -s "$work/beside" ] || { cat "$work/beside"; exit 1; }
 LC_ALL=C sort <<'END' | diff - "$work/judged"
-./ begins with a blank.d64 OK
-./CAPITALS.D64 OK
-./a shop.d64 OK
-./all*.d64 OK
-./it's.d64 OK
-./part of one.d64 IMAGE SIZE
-./plain.d64 OK
-./two  blanks.d64 MAPWRONG 1/0
+./ begins with a blank.d64: OK
+./CAPITALS.D64: OK
+./a shop.d64: OK
+./all*.d64: OK
+./it's.d64: OK
+./part of one.d64: IMAGE SIZE
+./plain.d64: OK
+./two  blanks.d64: MAPWRONG 1/0
 END
 echo "examples: no difference"

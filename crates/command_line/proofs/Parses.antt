@@ -148,6 +148,7 @@ taking-met o found name at what image (Ok (jobs.Take asked path text)) told some
 taking-met o found name at what image (Ok (jobs.Format path tills)) told some is by-image taking = absurd taking
 taking-met o found name at what image (Ok (jobs.FormatNew path tills)) told some is by-image taking = absurd taking
 taking-met o found name at what image (Ok (jobs.List path)) told some is by-image taking = absurd taking
+taking-met o found name at what image (Ok (jobs.Several asked paths)) told some is by-image taking = absurd taking
 taking-met o found name at what image (Ok (jobs.Check path)) told some is by-image taking = absurd taking
 taking-met o found name at what image (Ok (jobs.Show path)) told some is by-image taking = absurd taking
 taking-met o found name at what image (Ok (jobs.Play path script)) told some is by-image taking = absurd taking
@@ -182,6 +183,7 @@ making-met o found name at image (Ok (jobs.Make path text length loss)) told som
 making-met o found name at image (Ok (jobs.Format path tills)) told some is by-image job = absurd job
 making-met o found name at image (Ok (jobs.FormatNew path tills)) told some is by-image job = absurd job
 making-met o found name at image (Ok (jobs.List path)) told some is by-image job = absurd job
+making-met o found name at image (Ok (jobs.Several asked paths)) told some is by-image job = absurd job
 making-met o found name at image (Ok (jobs.Check path)) told some is by-image job = absurd job
 making-met o found name at image (Ok (jobs.Show path)) told some is by-image job = absurd job
 making-met o found name at image (Ok (jobs.Play path script)) told some is by-image job = absurd job
@@ -211,6 +213,7 @@ storing-met o found name at image (Ok (jobs.Store path text records loss)) told 
 storing-met o found name at image (Ok (jobs.Format path tills)) told some is by-image job = absurd job
 storing-met o found name at image (Ok (jobs.FormatNew path tills)) told some is by-image job = absurd job
 storing-met o found name at image (Ok (jobs.List path)) told some is by-image job = absurd job
+storing-met o found name at image (Ok (jobs.Several asked paths)) told some is by-image job = absurd job
 storing-met o found name at image (Ok (jobs.Check path)) told some is by-image job = absurd job
 storing-met o found name at image (Ok (jobs.Show path)) told some is by-image job = absurd job
 storing-met o found name at image (Ok (jobs.Play path script)) told some is by-image job = absurd job

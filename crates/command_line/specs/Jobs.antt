@@ -1,8 +1,10 @@
 -- What the words of a command line ask for (our own).
-use Rattle.std.specs.Prelude.{◌≡◌, ◌⊎◌, ◌||◌, ℕ, Bool, true, false, List, Option, Some, None, Result, Ok, Err, []}
-use Rattle.std.specs.Prelude.{bytes_eq, codes, if◌then◌else◌}
+use Rattle.std.specs.Prelude.{◌≡◌, ◌≤◌, ◌<◌, ◌⊎◌, ◌||◌, ℕ, Bool, true, false, List, Option, Some, None, Result, Ok, Err, []}
+use Rattle.std.specs.Prelude.{bytes_eq, codes, if◌then◌else◌, length, map, vec_items, Vec}
 use Rattle.std.specs.Option.{option_map_or}
 use Rattle.std.specs.Borrow.{Bor}
+use Rattle.std.specs.declared.alloc.Global.{Global}
+use Rattle.clap.specs.declared.error.Error.{Error}
 use Rattle.clap.specs.Words.{HasKind, Kinds, Row, Text, found_of, rows_of, subcommand_rows_of}
 use Rattle.clap.specs.declared.parser.matches.ArgMatches.{ArgMatches}
 use Rattle.byte_text.specs.Texts.{AreBytes}
@@ -11,13 +13,15 @@ use Rattle.shop_commands.specs.declared.durability.Durability.{Durability}
 use Rattle.shop_commands.specs.declared.durability.Durability.TheVariants as durabilities
 use Rattle.keeper_commands.specs.Makes.{IsNewName}
 use Rattle.rel_records.specs.File.{IsLength}
-use Rattle.command_table.specs.Grammar.{value}
+use Rattle.command_table.specs.Grammar.{value, values}
 use Rattle.ledger_jobs.specs.declared.jobs.Drawing.{Drawing}
 use Rattle.ledger_jobs.specs.declared.jobs.Drawing.TheVariants as drawings
 use Rattle.ledger_jobs.specs.declared.jobs.Effect.{Effect}
 use Rattle.ledger_jobs.specs.declared.jobs.Effect.TheVariants as effects
 use Rattle.ledger_jobs.specs.declared.jobs.Job.{Job}
 use Rattle.ledger_jobs.specs.declared.jobs.Job.TheVariants as jobs
+use Rattle.ledger_jobs.specs.declared.jobs.Overview.{Overview}
+use Rattle.ledger_jobs.specs.declared.jobs.Overview.TheVariants as overviews
 use Rattle.ledger_jobs.specs.declared.jobs.Loss.{Loss}
 use Rattle.ledger_jobs.specs.declared.jobs.Loss.TheVariants as losses
 use Rattle.ledger_jobs.specs.declared.jobs.Taking.{Taking}
@@ -96,9 +100,9 @@ abbrev pub picture_job : List Row → Bor Text → Job
 picture_job rows image =
     if is_given (codes "svg") rows then jobs.Draw drawings.Poster image else jobs.Draw drawings.Picture image
 
--- the flags ask for this drawing; `map` has none
+-- the flags ask for this drawing; `map` has none, and draws one image so
 abbrev pub IsDrawnBy : Drawing → List Row → Type 0
-IsDrawnBy drawings.Map rows = Unit {0}
+IsDrawnBy drawings.Map rows = length (values (codes "IMAGE") rows) < 2
 IsDrawnBy drawings.Picture rows = is_given (codes "svg") rows ≡ false
 IsDrawnBy drawings.Poster rows = is_given (codes "svg") rows ≡ true
 
@@ -124,6 +128,26 @@ HasNoNewName rows = (bytes : List ℕ) → AreBytes bytes → IsNameOf (value (c
 abbrev pub HasNewName : List Row → Type 0
 HasNewName rows = (bytes : List ℕ) × IsNameOf (value (codes "NAME") rows) bytes × IsNewName bytes
 
+-- the job that prints this of one image
+abbrev pub job_of_one : Overview → Bor Text → Job
+job_of_one overviews.List image = jobs.List image
+job_of_one overviews.Check image = jobs.Check image
+job_of_one overviews.Map image = jobs.Draw drawings.Map image
+
+-- the subcommand that prints this
+abbrev pub word_of_overview : Overview → Text
+word_of_overview overviews.List = codes "list"
+word_of_overview overviews.Check = codes "check"
+word_of_overview overviews.Map = codes "map"
+
+-- this is the only image
+abbrev pub IsOnlyImage : List Row → Text → Type 0
+IsOnlyImage rows image = (image ≡ value (codes "IMAGE") rows) × (length (values (codes "IMAGE") rows) < 2)
+
+-- these are the images, in their order, and there are several
+abbrev pub AreImages : List Row → List (Bor Text) → Type 0
+AreImages rows images = (map (λ image. image.now) images ≡ values (codes "IMAGE") rows) × (2 ≤ length images)
+
 -- the job of a subcommand and its values
 abbrev pub IsJob : Option (Text × List Row) → Job → Type 0
 IsJob found (jobs.Format image tills) = Has found (codes "format")
@@ -132,8 +156,9 @@ IsJob found (jobs.Format image tills) = Has found (codes "format")
 IsJob found (jobs.FormatNew image tills) = Has found (codes "format")
     (λ rows. (image.now ≡ value (codes "IMAGE") rows) × (tills_in rows ≡ Some tills)
     × (is_given (codes "new") rows ≡ true))
-IsJob found (jobs.List image) = Has found (codes "list") (λ rows. image.now ≡ value (codes "IMAGE") rows)
-IsJob found (jobs.Check image) = Has found (codes "check") (λ rows. image.now ≡ value (codes "IMAGE") rows)
+IsJob found (jobs.List image) = Has found (codes "list") (λ rows. IsOnlyImage rows image.now)
+IsJob found (jobs.Check image) = Has found (codes "check") (λ rows. IsOnlyImage rows image.now)
+IsJob found (jobs.Several what images) = Has found (word_of_overview what) (λ rows. AreImages rows (vec_items images))
 IsJob found (jobs.Show image) = Has found (codes "show") (λ rows. image.now ≡ value (codes "IMAGE") rows)
 IsJob found (jobs.Play image script) = Has found (codes "play")
     (λ rows. (image.now ≡ value (codes "IMAGE") rows) × (script.now ≡ value (codes "SCRIPT") rows)
@@ -184,6 +209,19 @@ IsStoringJob rows image (Ok (jobs.Store path name records loss)) =
 IsStoringJob rows image (Ok _) = ⊥
 IsStoringJob rows image (Err faults.Name) = HasNoName rows
 IsStoringJob rows image (Err _) = ⊥
+
+-- the job that prints this of these images; or there was no memory for it
+abbrev pub IsSeveral : Overview → List (Bor Text) → Result Job JobFault → Type 0
+IsSeveral what images result =
+    ((all : Vec (Bor Text) Global) × (result ≡ Ok (jobs.Several what all)) × (vec_items all ≡ images))
+    ⊎ ((e : Error) × (result ≡ Err (faults.Words e)) × HasKind [] e)
+
+-- and of one that prints this of one image, or of several
+abbrev pub IsOverviewJob : List Row → Overview → Result Job JobFault → Type 0
+IsOverviewJob rows what result =
+    ((image : Bor Text) × (result ≡ Ok (job_of_one what image)) × IsOnlyImage rows image.now)
+    ⊎ (((images : Vec (Bor Text) Global) × (result ≡ Ok (jobs.Several what images)) × AreImages rows (vec_items images))
+    ⊎ ((e : Error) × (result ≡ Err (faults.Words e)) × HasKind [] e))
 
 -- the text of NAME is none that the subcommand takes
 abbrev pub IsRefusedName : Option (Text × List Row) → Type 0

@@ -1,21 +1,22 @@
 //! Reading the words of the command line.
 ghost use Rattle.std.specs.Prelude.{◌≡◌, ◌≤◌, ℕ, IfErr, IfOk, IfSome, IsNone, List, MatchResult, [], map, option_map};
-ghost use Rattle.clap.specs.Words.{HasKind, fault_of, found_of, matches_of, rows_of, subcommand_of, subcommand_rows_of};
+ghost use Rattle.clap.specs.Words.{HasKind, all_of, fault_of, found_of, matches_of, rows_of, subcommand_of, subcommand_rows_of};
 ghost use Rattle.command_table.specs.Grammar.{ledger, value};
 ghost use Rattle.request_cards.specs.Reading.{number_in};
 ghost use Rattle.byte_text.specs.Texts.{AreBytes};
 ghost use Rattle.keeper_commands.specs.Makes.{IsNewName};
 ghost use Rattle.ledger_jobs.specs.Jobs.{IsFit};
 ghost use Rattle.ledger_jobs.specs.Names.{IsNameOf, name_bytes};
-ghost use Rattle.command_line.specs.Jobs.{IsHeard, IsJob, IsMakingJob, IsNoJob, IsParse, IsStoringJob, IsTakingJob};
-ghost use Rattle.command_line.specs.Jobs.{effect_in, format_job, loss_in, picture_job, play_job, unowned_in};
+ghost use Rattle.command_line.specs.Jobs.{IsHeard, IsJob, IsMakingJob, IsNoJob, IsOverviewJob, IsParse, IsSeveral};
+ghost use Rattle.command_line.specs.Jobs.{IsStoringJob, IsTakingJob};
+ghost use Rattle.command_line.specs.Jobs.{effect_in, format_job, job_of_one, loss_in, picture_job, play_job, unowned_in};
 ghost use Rattle.rel_records.specs.File.{IsLength};
 ghost use Rattle.command_line.specs.Jobs.{is_explained as explained, is_given as given, serve_durability as of_serve};
 
 use crate::faults::JobFault;
 use clap::{ArgMatches, Error};
 use command_table::ledger_command;
-use ledger_jobs::{Drawing, Effect, Job, Loss, Name, Taking, Unowned};
+use ledger_jobs::{Drawing, Effect, Job, Loss, Name, Overview, Taking, Unowned};
 use request_cards::number;
 use shop_commands::Durability;
 use std::alloc::{AllocError, Global};
@@ -33,6 +34,14 @@ fn value_of<'a>(matches: &ArgMatches<'a>, name: &str) -> &'a str
     ensures { result.now ≡ value name.now (rows_of (found_of matches.now)) }
 {
     matches.get_str(name).unwrap_or("")
+}
+
+/// All values of an argument, in their order; None if it has none.
+fn values_of<'m, 'a>(matches: &'m ArgMatches<'a>, name: &str) -> Option<&'m [&'a str]>
+    ensures { option_map (λ values. map (λ value. value.now) values.now) result
+        ≡ all_of name.now (rows_of (found_of matches.now)) }
+{
+    matches.get_strs(name)
 }
 
 /// The number of tills that a text spells: 1 to 64, in decimal digits without leading zeros.
@@ -136,6 +145,45 @@ fn picturing<'a>(matches: &ArgMatches<'a>, image: &'a str) -> Job<'a>
     }
 }
 
+/// The job that prints this of one image.
+fn of_one<'a>(what: Overview, image: &'a str) -> Job<'a>
+    ensures { result ≡ job_of_one what image.entry }
+{
+    match what {
+        Overview::List => Job::List { image },
+        Overview::Check => Job::Check { image },
+        Overview::Map => Job::Draw {
+            what: Drawing::Map,
+            image,
+        },
+    }
+}
+
+/// The job that prints this of these images.
+fn of_several<'a>(alloc: Global, what: Overview, images: &[&'a str]) -> Result<Job<'a>, JobFault>
+    ensures { IsSeveral what images.now result }
+{
+    let mut all = Vec::new(alloc);
+    match all.extend_from_slice(images) {
+        Ok(()) => Ok(Job::Several { what, images: all }),
+        Err(error) => Err(JobFault::Words(Error::from(error))),
+    }
+}
+
+/// The job that prints this of one image, or of several.
+fn viewing<'a>(alloc: Global, matches: &ArgMatches<'a>, what: Overview) -> Result<Job<'a>, JobFault>
+    ensures { IsOverviewJob (rows_of (found_of matches.now)) what result }
+{
+    let image = value_of(matches, "IMAGE");
+    let Some(images) = values_of(matches, "IMAGE") else {
+        return Ok(of_one(what, image));
+    };
+    if images.len() < 2 {
+        return Ok(of_one(what, image));
+    }
+    of_several(alloc, what, images)
+}
+
 /// The job that plays a script on an image.
 fn playing<'a>(matches: &ArgMatches<'a>, image: &'a str, script: &'a str) -> Job<'a>
     ensures { result ≡ play_job (rows_of (found_of matches.now)) image.entry script.entry }
@@ -204,7 +252,7 @@ fn storing<'a>(matches: &ArgMatches<'a>, image: &'a str) -> Result<Job<'a>, JobF
 }
 
 /// The job of the subcommand that was met.
-fn job_of<'a>(matches: &ArgMatches<'a>) -> Result<Job<'a>, JobFault>
+fn job_of<'a>(alloc: Global, matches: &ArgMatches<'a>) -> Result<Job<'a>, JobFault>
     ensures job { MatchResult result (IsJob (subcommand_rows_of matches.now))
         (IsNoJob [] (subcommand_rows_of matches.now)) }
     ensures fit { IfOk result IsFit }
@@ -220,8 +268,8 @@ fn job_of<'a>(matches: &ArgMatches<'a>) -> Result<Job<'a>, JobFault>
             Some(tills) => Ok(formatting(found, image, tills)),
             None => Err(JobFault::Tills),
         },
-        "list" => Ok(Job::List { image }),
-        "check" => Ok(Job::Check { image }),
+        "list" => viewing(alloc, found, Overview::List),
+        "check" => viewing(alloc, found, Overview::Check),
         "show" => Ok(Job::Show { image }),
         "play" => Ok(playing(found, image, script)),
         "serve" => Ok(Job::Serve {
@@ -239,10 +287,7 @@ fn job_of<'a>(matches: &ArgMatches<'a>) -> Result<Job<'a>, JobFault>
         "bytes" => taking(found, Taking::Bytes, image),
         "make" => making(found, image),
         "store" => storing(found, image),
-        "map" => Ok(Job::Draw {
-            what: Drawing::Map,
-            image,
-        }),
+        "map" => viewing(alloc, found, Overview::Map),
         "picture" => Ok(picturing(found, image)),
         "dry" => Ok(Job::Dry { script }),
         // No other subcommand can be met.
@@ -295,7 +340,7 @@ pub fn command_line<'a>(alloc: Global, words: &'a [&'a str]) -> CommandLine<'a>
     match parsed(alloc, words) {
         Ok(matches) => CommandLine {
             is_explained: is_explained(&matches),
-            job: job_of(&matches),
+            job: job_of(alloc, &matches),
         },
         Err(e) => CommandLine {
             is_explained: false,

@@ -1,14 +1,18 @@
 -- The words that the program takes (our own), as `clap` reads a command line.
 use Rattle.std.specs.Prelude.{◌≡◌, List, Some, false, true, [], codes}
 use Rattle.std.specs.Prelude.{unwrap_or}
-use Rattle.clap.specs.declared.builder.action.ArgAction.TheVariants.{SetTrue}
+use Rattle.clap.specs.declared.builder.action.ArgAction.TheVariants.{Append, SetTrue}
 use Rattle.clap.specs.declared.builder.command.Command.{Command}
 use Rattle.clap.specs.declared.builder.command.Command.TheViews.{out-Command}
-use Rattle.clap.specs.Words.{App, Row, Rule, Text, app_of, first_of, new_app, new_rule, with_rule, with_subcommand}
+use Rattle.clap.specs.Words.{App, Row, Rule, Text, all_of, app_of, first_of, new_app, new_rule, with_rule, with_subcommand}
 
 -- a value that is required, shown by this name
 abbrev pub required : Text → Rule
 required id = record (new_rule id) { required = true }
+
+-- the same, of which there may be several
+abbrev pub required_several : Text → Rule
+required_several id = record (required id) { action = Some Append }
 
 -- a value that is required behind two hyphens and this word: --tills T
 abbrev pub required_behind : Text → Text → Rule
@@ -22,18 +26,22 @@ flag word = record (new_rule word) { long = Some word; action = Some SetTrue }
 abbrev pub over_image : Text → App
 over_image name = with_rule (new_app name) (required (codes "IMAGE"))
 
+-- a subcommand over an image, or over several: check IMAGE..
+abbrev pub over_images : Text → App
+over_images name = with_rule (new_app name) (required_several (codes "IMAGE"))
+
 -- format IMAGE --tills T [--new]
 abbrev pub format : App
 format = with_rule (with_rule (over_image (codes "format")) (required_behind (codes "tills") (codes "T")))
     (flag (codes "new"))
 
--- list IMAGE
+-- list IMAGE..
 abbrev pub list : App
-list = over_image (codes "list")
+list = over_images (codes "list")
 
--- check IMAGE
+-- check IMAGE..
 abbrev pub check : App
-check = over_image (codes "check")
+check = over_images (codes "check")
 
 -- show IMAGE
 abbrev pub show : App
@@ -74,9 +82,9 @@ abbrev pub store : App
 store = may_accept_loss (with_rule (with_rule (over_image (codes "store")) (required (codes "NAME")))
     (required (codes "RECORDS")))
 
--- map IMAGE
+-- map IMAGE..
 abbrev pub map : App
-map = over_image (codes "map")
+map = over_images (codes "map")
 
 -- picture IMAGE [--svg]
 abbrev pub picture : App
@@ -125,6 +133,10 @@ pub record IsSubcommand (app : App) (c : Command) : Type 0 where
   pub is : app_of c ≡ app
   pub own : (out-Command c).has_globals ≡ false
 
--- the value of an argument, or an empty text where it has none
+-- the values of an argument, in their order
+abbrev pub values : Text → List Row → List Text
+values id rows = unwrap_or (all_of id rows) []
+
+-- the value of an argument, or an empty text where it has none; of several the first
 abbrev pub value : Text → List Row → Text
 value id rows = unwrap_or (first_of id rows) []

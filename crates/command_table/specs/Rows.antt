@@ -1,17 +1,32 @@
 -- What the table of subcommands says of the words (our own).
-use Rattle.std.specs.Prelude.{None, Some, fold, if◌then◌else◌, not, option_map}
+use Rattle.std.specs.Prelude.{Bool, None, Option, Some, false, fold, option_map, true}
 use Rattle.clap.specs.Words.{App, Rule, new_app, new_rule, with_rule}
-use Rattle.clap.specs.declared.builder.action.ArgAction.TheVariants.{SetTrue}
+use Rattle.clap.specs.declared.builder.action.ArgAction.{ArgAction}
+use Rattle.clap.specs.declared.builder.action.ArgAction.TheVariants.{Append, SetTrue}
 use Rattle.command_table.specs.Grammar.{with_command}
+use Rattle.command_table.specs.declared.subcommands.Count.{Count}
+use Rattle.command_table.specs.declared.subcommands.Count.TheVariants as counts
 use Rattle.command_table.specs.declared.subcommands.Subcommand.{Subcommand}
 use Rattle.command_table.specs.declared.subcommands.Value.{Value}
+
+-- it has to stand there
+abbrev pub is_required : Count → Bool
+is_required counts.One = true
+is_required counts.Several = true
+is_required counts.Flag = false
+
+-- what each use of it does: the values of several are gathered, and a flag is set
+abbrev pub action : Count → Option ArgAction
+action counts.One = None
+action counts.Several = Some Append
+action counts.Flag = Some SetTrue
 
 -- how a value or a flag stands among the words
 abbrev pub rule : Value → Rule
 rule v = record (new_rule v.name.now) {
   long = option_map (λ w. w.now) v.word;
-  required = not v.is_flag;
-  action = if v.is_flag then Some SetTrue else None;
+  required = is_required v.count;
+  action = action v.count;
 }
 
 -- the command with a value or a flag more

@@ -6,7 +6,7 @@ ghost use Rattle.command_table.specs.Grammar as grammar;
 ghost use Rattle.command_table.specs.Rows as rows;
 
 use crate::help_texts::MORE;
-use crate::subcommands::{EXPLAIN, SUBCOMMANDS, Subcommand, Value};
+use crate::subcommands::{Count, EXPLAIN, SUBCOMMANDS, Subcommand, Value};
 use clap::{Arg, ArgAction, Command};
 use std::alloc::{AllocError, Global};
 
@@ -31,10 +31,10 @@ fn arg_of<'a>(alloc: Global, value: &Value) -> Arg<'a>
         Some(word) => arg.long(word),
         None => arg,
     };
-    if value.is_flag {
-        arg.action(ArgAction::SetTrue)
-    } else {
-        arg.required(true)
+    match value.count {
+        Count::One => arg.required(true),
+        Count::Several => arg.required(true).action(ArgAction::Append),
+        Count::Flag => arg.action(ArgAction::SetTrue),
     }
 }
 

@@ -22,6 +22,8 @@ Example: ledger format --new shop.d64 --tills 4";
 pub(crate) const LIST: &str =
     "Prints the disk's name, a line for each entry, and how many blocks are free. `*`\n\
 before the type: the file wasn't closed. `<` after it: the file is locked.\n\
+With several images each line begins with the image's name. So do the lines of\n\
+images that are refused, and the status is the greatest.\n\
 Status 0: printed. 1: the image is refused (IMAGE SIZE, LAYOUT). 3: FILE,\n\
 NO MEMORY, IN USE.\n\
 Example: ledger list old.d64";
@@ -33,9 +35,11 @@ BADLINK, LOOP, OWNEDTWICE, BADTYPE, UNCLOSED, BADSIDE, BADLENGTH, COUNTWRONG,\n\
 MAPWRONG.\n\
 docs/KEEPERS.md says what each means, and what to do.\n\
 On a terminal, or with --explain, SHORT and a sector follow if a file is cut\n\
-short there.\n\
+short there; not with several images.\n\
+With several images each line begins with the image's name. So do the lines of\n\
+images that are refused, and the status is the greatest.\n\
 Status 0: OK. 1: a fault, or IMAGE SIZE. 3: FILE, NO MEMORY, IN USE.\n\
-Example: for f in ./*.[dD]64; do printf '%s ' \"$f\"; ledger check \"$f\" 2>&1; done";
+Example: ledger check ./*.[dD]64";
 
 /// What `show` prints, its statuses, and an example.
 pub(crate) const SHOW: &str =
@@ -107,6 +111,8 @@ pub(crate) const MAP: &str =
     "Draws a damaged disk too, as far as its links can be followed. `*` the map, `=`\n\
 the directory, a letter a block of a file, its capital a side sector of that\n\
 file, `.` free, `?` taken but in no file, `!` the sector of the fault.\n\
+With several images each line begins with the image's name. So do the lines of\n\
+images that are refused, and the status is the greatest.\n\
 Status 0: the disk is clean. 1: a fault, or the image is refused. 3: FILE,\n\
 NO MEMORY, IN USE.\n\
 Example: ledger map old.d64";

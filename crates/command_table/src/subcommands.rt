@@ -3,13 +3,24 @@ use crate::help_texts::{
     BYTES, CHECK, DRY, FORMAT, LIST, MAKE, MAP, PICTURE, PLAY, RECORDS, REPAIR, SERVE, SHOW, STORE,
 };
 
+/// How often a value stands behind the name of a subcommand.
+#[derive(Clone, Copy, Debug, PartialEq, Eq)]
+pub(crate) enum Count {
+    /// Once.
+    One,
+    /// Once or more often. No other value without a word of its own may stand behind it.
+    Several,
+    /// It is a flag: never or once, and it has no value of its own.
+    Flag,
+}
+
 /// A value that has to stand behind the name of a subcommand, or a flag, which may stand there or not.
 pub(crate) struct Value {
     /// What help calls it; a flag has its word here too.
     pub(crate) name: &'static str,
     /// The word behind two hyphens, where it has one.
     pub(crate) word: Option<&'static str>,
-    pub(crate) is_flag: bool,
+    pub(crate) count: Count,
     pub(crate) help: &'static str,
 }
 
@@ -25,15 +36,23 @@ pub(crate) struct Subcommand {
 const IMAGE: Value = Value {
     name: "IMAGE",
     word: None,
-    is_flag: false,
+    count: Count::One,
     help: "The disk's image, a D64 file of 35 tracks",
+};
+
+/// The images of a subcommand that takes several.
+const IMAGES: Value = Value {
+    name: "IMAGE",
+    word: None,
+    count: Count::Several,
+    help: "The disk's image, a D64 file of 35 tracks; or several",
 };
 
 /// The script of a subcommand.
 const SCRIPT: Value = Value {
     name: "SCRIPT",
     word: None,
-    is_flag: false,
+    count: Count::One,
     help: "The script, a line each message; /dev/stdin is standard input",
 };
 
@@ -41,7 +60,7 @@ const SCRIPT: Value = Value {
 const NAME: Value = Value {
     name: "NAME",
     word: None,
-    is_flag: false,
+    count: Count::One,
     help: "The file's name; \\c1 is the byte with these two hex digits",
 };
 
@@ -49,7 +68,7 @@ const NAME: Value = Value {
 const RECORD_LINES: Value = Value {
     name: "RECORDS",
     word: None,
-    is_flag: false,
+    count: Count::One,
     help: "The records as `records` prints them, or /dev/stdin",
 };
 
@@ -57,7 +76,7 @@ const RECORD_LINES: Value = Value {
 pub(crate) const EXPLAIN: Value = Value {
     name: "explain",
     word: Some("explain"),
-    is_flag: true,
+    count: Count::Flag,
     help: "Says more on standard error if the command fails",
 };
 
@@ -65,7 +84,7 @@ pub(crate) const EXPLAIN: Value = Value {
 const ACCEPT_LOSS: Value = Value {
     name: "accept-loss",
     word: Some("accept-loss"),
-    is_flag: true,
+    count: Count::Flag,
     help: "Goes on if a file has lost its end (SHORT)",
 };
 
@@ -81,30 +100,30 @@ pub(crate) const SUBCOMMANDS: [Subcommand; 14] = [
             Value {
                 name: "T",
                 word: Some("tills"),
-                is_flag: false,
+                count: Count::One,
                 help: "How many tills the shop has, 1 to 64",
             },
             Value {
                 name: "new",
                 word: Some("new"),
-                is_flag: true,
+                count: Count::Flag,
                 help: "Refuses to replace an image that exists",
             },
         ],
     },
-    // list IMAGE
+    // list IMAGE..
     Subcommand {
         name: "list",
-        about: "Prints the directory of the image",
+        about: "Prints the directory of an image, or of several",
         more: LIST,
-        values: &[IMAGE],
+        values: &[IMAGES],
     },
-    // check IMAGE
+    // check IMAGE..
     Subcommand {
         name: "check",
-        about: "Checks the layout of the image: prints OK, or a fault and its sector",
+        about: "Checks the layout of images: prints OK, or a fault and its sector",
         more: CHECK,
-        values: &[IMAGE],
+        values: &[IMAGES],
     },
     // show IMAGE
     Subcommand {
@@ -124,7 +143,7 @@ pub(crate) const SUBCOMMANDS: [Subcommand; 14] = [
             Value {
                 name: "sync",
                 word: Some("sync"),
-                is_flag: true,
+                count: Count::Flag,
                 help: "Syncs each sector before the next is written",
             },
         ],
@@ -139,7 +158,7 @@ pub(crate) const SUBCOMMANDS: [Subcommand; 14] = [
             Value {
                 name: "unsynced",
                 word: Some("unsynced"),
-                is_flag: true,
+                count: Count::Flag,
                 help: "Leaves it to the system when sectors are synced",
             },
             ACCEPT_LOSS,
@@ -156,13 +175,13 @@ pub(crate) const SUBCOMMANDS: [Subcommand; 14] = [
             Value {
                 name: "free",
                 word: Some("free"),
-                is_flag: true,
+                count: Count::Flag,
                 help: "Frees the sectors that are taken and belong to no file",
             },
             Value {
                 name: "dry-run",
                 word: Some("dry-run"),
-                is_flag: true,
+                count: Count::Flag,
                 help: "Prints the same lines, and writes nothing",
             },
         ],
@@ -192,7 +211,7 @@ pub(crate) const SUBCOMMANDS: [Subcommand; 14] = [
             Value {
                 name: "L",
                 word: Some("length"),
-                is_flag: false,
+                count: Count::One,
                 help: "How many bytes a record has, 1 to 254",
             },
             ACCEPT_LOSS,
@@ -205,12 +224,12 @@ pub(crate) const SUBCOMMANDS: [Subcommand; 14] = [
         more: STORE,
         values: &[IMAGE, NAME, RECORD_LINES, ACCEPT_LOSS],
     },
-    // map IMAGE
+    // map IMAGE..
     Subcommand {
         name: "map",
         about: "Prints the owner of each sector, the files, and the result of a check",
         more: MAP,
-        values: &[IMAGE],
+        values: &[IMAGES],
     },
     // picture IMAGE [--svg]
     Subcommand {
@@ -222,7 +241,7 @@ pub(crate) const SUBCOMMANDS: [Subcommand; 14] = [
             Value {
                 name: "svg",
                 word: Some("svg"),
-                is_flag: true,
+                count: Count::Flag,
                 help: "Prints a poster, as an SVG file of its own",
             },
         ],

@@ -153,6 +153,8 @@ module _ {F : Type 0} (position : F → Option ℕ) (bytes contents : F → Opti
       (after ≡ file) × IsTakingEnd told what image (name_bytes name) old new end
   IsJobRun told (jobs.Draw what path) image script file after old new end =
       (after ≡ file) × EndsAs as_drawn end (IsDrawingRun told what image old new)
+  IsJobRun told (jobs.Several what paths) image script file after old new end =
+      (after ≡ file) × (new ≡ old) × (end ≡ Err (refusals.Run run.File))
 
 -- what is told of a job's end: nothing where it is done; and else its line, or a beginning of it
 abbrev pub IsEndTold : {E : Type 0} → (E → Option (List ℕ)) → E → E → JobEnd → Type 0

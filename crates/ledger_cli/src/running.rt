@@ -4,7 +4,10 @@ ghost use Rattle.ledger_cli.specs.Runs.{IsJobRun, IsRead, IsRun};
 ghost use Rattle.ledger_jobs.specs.Jobs.{IsFit};
 
 use crate::changing::{Ended, format, make, play, repair, serve, store};
-use ledger_jobs::{Job, Reading, drawing_run, drawn_end, end, job_end, reading_run, take_told};
+use ledger_jobs::{
+    Job, Reading, Refusal, drawing_run, drawn_end, end, job_end, reading_run, take_told,
+};
+use shop_commands::RunFault;
 use std::alloc::Global;
 use std::io::{Seek, Write};
 
@@ -54,6 +57,8 @@ fn obey<F: Write + Seek + Drop, W: Write>(
             (file, ended)
         }
         Job::Draw { what, .. } => (file, drawn_end(drawing_run(alloc, what, image, out))),
+        // it would want the bytes of each
+        Job::Several { .. } => (file, Err(Refusal::Run(RunFault::File))),
     }
 }
 
@@ -61,7 +66,8 @@ fn obey<F: Write + Seek + Drop, W: Write>(
 /// returns the exit status and the file. Bytes that the job doesn't read are empty: `image` are those of IMAGE, `script`
 /// those of SCRIPT or RECORDS, or of `serve`'s standard input. `file` is IMAGE for writing, at its start, for a job that
 /// writes it; without one such a job ends with 3 and `FILE`, and nothing is printed. A job that only reads leaves it as
-/// it was.
+/// it was. A job over several images ends with 3 and `FILE`, since only one has its bytes here: call `overview_run` for
+/// each.
 ///
 /// The file is handed each sector at 256 times its index, before memory takes it, and nothing else; `Format` hands it the
 /// whole image. It can't be ended: what a longer file held behind an image stays there. Whether it was there before, and

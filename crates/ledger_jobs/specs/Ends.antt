@@ -29,6 +29,7 @@ refusal_status refusals.InUse = 3
 refusal_status (refusals.Kept n) = 1
 refusal_status refusals.Exists = 1
 refusal_status (refusals.Short p) = 1
+refusal_status (refusals.Several greatest) = greatest
 
 -- what is told of it
 abbrev pub refusal_text : Refusal → List ℕ
@@ -39,6 +40,7 @@ refusal_text refusals.InUse = codes "IN USE"
 refusal_text (refusals.Kept n) = codes "KEPT " ++ decimal n
 refusal_text refusals.Exists = codes "FILE EXISTS"
 refusal_text (refusals.Short p) = codes "SHORT " ++ place_text p
+refusal_text (refusals.Several greatest) = codes "STATUS " ++ decimal greatest
 
 -- it is told on standard error: all but what the output has told
 abbrev pub is_told : Refusal → Bool
@@ -49,6 +51,7 @@ is_told refusals.InUse = true
 is_told (refusals.Kept n) = false
 is_told refusals.Exists = true
 is_told (refusals.Short p) = true
+is_told (refusals.Several greatest) = false
 
 -- the line in which it is told
 abbrev pub refusal_line : Refusal → List ℕ
@@ -68,6 +71,11 @@ abbrev pub end_status : JobEnd → ℕ
 end_status (Ok None) = 0
 end_status (Ok (Some _)) = 1
 end_status (Err refusal) = refusal_status refusal
+
+-- what is told of it on standard error
+abbrev pub end_line : JobEnd → List ℕ
+end_line (Ok _) = []
+end_line (Err refusal) = refusal_line refusal
 
 -- a run over the bytes of a job's files is done, with the fault of the layout that it printed, where it printed one;
 -- or it isn't, for a fault

@@ -7,6 +7,7 @@ pub mod Keeping
 pub mod Kept
 pub mod Losses
 pub mod Names
+pub mod Overviews
 pub mod Runs
 pub mod Serves
 pub mod WatchedFiles

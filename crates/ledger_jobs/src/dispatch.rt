@@ -14,6 +14,7 @@ use crate::keeper_files::{do_make, do_repair, do_store};
 use crate::locks::{lock_shared, own_image, read_shared};
 use crate::losses::take_told;
 use crate::names::Name;
+use crate::overviews::do_several;
 use crate::refusals::Refusal;
 use crate::serving_images::do_serving;
 use crate::shop_runs::{format_run, reading_run};
@@ -271,7 +272,8 @@ where
 /// Opens or reads the job's files and does it; what is printed goes to `out`, which is flushed at the end. An image is
 /// locked before anything of it is read or changed: alone where it is written. `InUse` where another program has it;
 /// `File` where a file couldn't be opened or read, and the faults of `reading_run`, `format_run`, `play_durably`,
-/// `serve_guarded`, `repair_guarded`, `make_guarded`, `store_guarded`, `take_told` and `drawing_run`.
+/// `serve_guarded`, `repair_guarded`, `make_guarded`, `store_guarded`, `take_told` and `drawing_run`. What is wrong with one
+/// of several images is printed, and only an output that failed ends the job before the last of them.
 pub fn do_job<F, R, W>(rt: &R, job: &Job<'_>, out: &mut W) -> Result<Option<Fault>, Refusal>
 where
     F: EndedFile + Read + Locks + OpenFile + Drop,
@@ -319,5 +321,6 @@ where
             ref name,
         } => do_taking(rt, what, image, name, out),
         Job::Draw { what, image } => do_drawing(rt, what, image, out),
+        Job::Several { what, ref images } => do_several(rt, what, images.as_slice(), out),
     }
 }

@@ -89,6 +89,7 @@ fn subject_of(refusal: Refusal) -> About {
             "it is there already; `format` without `--new` replaces it",
         ),
         Refusal::Short(_) => About::Image(CUT_SHORT),
+        Refusal::Several(_) => About::Nothing,
     }
 }
 
@@ -100,6 +101,7 @@ fn image_of<'a>(job: &Job<'a>) -> &'a str {
         Job::Play { image, .. } | Job::PlaySynced { image, .. } | Job::Serve { image, .. } => image,
         Job::Repair { image, .. } | Job::Take { image, .. } | Job::Draw { image, .. } => image,
         Job::Make { image, .. } | Job::Store { image, .. } => image,
+        Job::Several { images, .. } => images.first().copied().unwrap_or(""),
         Job::Dry { script } => script,
     }
 }
@@ -121,7 +123,7 @@ fn writes(job: &Job<'_>) -> bool {
         Job::Play { .. } | Job::PlaySynced { .. } | Job::Serve { .. } => true,
         Job::Repair { .. } | Job::Make { .. } | Job::Store { .. } => true,
         Job::List { .. } | Job::Check { .. } | Job::Show { .. } | Job::Dry { .. } => false,
-        Job::Take { .. } | Job::Draw { .. } => false,
+        Job::Take { .. } | Job::Draw { .. } | Job::Several { .. } => false,
     }
 }
 

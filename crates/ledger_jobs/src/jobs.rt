@@ -35,6 +35,17 @@ pub enum Drawing {
     Poster,
 }
 
+/// What is printed of each of several images.
+#[derive(Clone, Copy, Debug, PartialEq, Eq)]
+pub enum Overview {
+    /// Its directory.
+    List,
+    /// Whether its layout is clean, and otherwise what is wrong with it.
+    Check,
+    /// A line for each track.
+    Map,
+}
+
 /// What a job does on a disk that has lost a part of a file.
 #[derive(Clone, Copy, Debug, PartialEq, Eq)]
 pub enum Loss {
@@ -170,5 +181,12 @@ pub enum Job<'a> {
         what: Drawing,
         /// The image's path.
         image: &'a str,
+    },
+    /// Several images that are read, in their order: what is printed of each, and why it is refused, behind its name.
+    Several {
+        /// What is printed of each.
+        what: Overview,
+        /// The images' paths.
+        images: Vec<&'a str>,
     },
 }

@@ -13,6 +13,7 @@ mod keeper_runs;
 mod locks;
 mod losses;
 mod names;
+mod overviews;
 mod refusals;
 mod serving_files;
 mod serving_images;
@@ -25,13 +26,14 @@ pub use drawing::drawing_run;
 pub use durable_runs::{play_durably, serve_durably};
 pub use endings::{Ending, end, tell};
 pub use explanations::{announce, explain, tell_cut};
-pub use jobs::{Drawing, Effect, Job, Loss, Reading, Taking, Unowned};
+pub use jobs::{Drawing, Effect, Job, Loss, Overview, Reading, Taking, Unowned};
 pub use keeper_runs::{dry_repair_run, make_run, repair_run, store_run, taking_run};
 pub use losses::{
     dry_repair_guarded, loss_refusal, make_guarded, repair_guarded, serve_guarded, store_guarded,
     take_told,
 };
 pub use names::Name;
+pub use overviews::overview_run;
 pub use refusals::Refusal;
 pub use serving_files::serve_file;
 pub use serving_runs::serve_run;

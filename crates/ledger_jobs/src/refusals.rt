@@ -27,6 +27,9 @@ pub enum Refusal {
     Exists,
     /// A file of the image is cut short: its chain ends at this sector, too early.
     Short(Place),
+    /// Of several images at least one has a fault or is refused. The output says which and why. This is the greatest exit
+    /// status of theirs.
+    Several(u8),
 }
 
 impl Refusal {
@@ -42,6 +45,7 @@ impl Refusal {
             Refusal::Kept(_) => 1,
             Refusal::Exists => 1,
             Refusal::Short(_) => 1,
+            Refusal::Several(greatest) => *greatest,
         }
     }
 
@@ -52,7 +56,7 @@ impl Refusal {
         match self {
             Refusal::Run(_) | Refusal::Keep(_) | Refusal::Draw(_) => true,
             Refusal::InUse | Refusal::Exists | Refusal::Short(_) => true,
-            Refusal::Kept(_) => false,
+            Refusal::Kept(_) | Refusal::Several(_) => false,
         }
     }
 
@@ -80,6 +84,7 @@ impl Display for Refusal {
             Refusal::Kept(count) => write!(f, "KEPT {count}"),
             Refusal::Exists => f.write_str("FILE EXISTS"),
             Refusal::Short(place) => write!(f, "SHORT {}/{}", place.track(), place.sector()),
+            Refusal::Several(greatest) => write!(f, "STATUS {greatest}"),
         }
     }
 }

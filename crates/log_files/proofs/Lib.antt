@@ -1,6 +1,7 @@
 mod Marks
 mod Steps
 mod Times
+mod MemFolders
 mod Moves
 mod Renewed
 mod Unknown

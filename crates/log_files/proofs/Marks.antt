@@ -128,7 +128,8 @@ module _ {D F : Type 0} (h : FolderHistory D) (g : FileHistory F) (old : D) (sho
             (while_lent t o (omega (arith, le, opened_moments.later)) left);
       }
 
-      module _ (f : List ℕ) (log : s.log ≡ Some f)
+      module _ (back : (s : Folder) (f : List ℕ) → h.held a ≡ Some s → g.held marked ≡ Some f → h.held new ≡ Some (with_log f s))
+          (f : List ℕ) (log : s.log ≡ Some f)
           (kept : (x : Folder) → h.held old ≡ Some x → h.held a ≡ Some x)
           (put : g.held file ≡ Some f → 4194304 ≤ length f
           → (g.held marked ≡ Some (marked_log f)) × Only (marked_log f) (g.may_leave marked)) where
@@ -139,7 +140,7 @@ module _ {D F : Type 0} (h : FolderHistory D) (g : FileHistory F) (old : D) (sho
         is_put = put (opened.held s f found.held log) long
 
         pub mark_held : h.held new ≡ Some (with_log (marked_log f) s)
-        mark_held = returned.held s (marked_log f) (kept s found.held) is_put.0
+        mark_held = back s (marked_log f) (kept s found.held) is_put.0
 
         pub mark_stays : AllLeft h new (HasLog (marked_log f))
         mark_stays o may =

@@ -58,23 +58,8 @@ module _ {F D E : Type 0} {G : Ghosts F} (h : FolderHistory D) (d a : D) (log : 
   pub closed_gives : AllLeft h a (λ s. Gives s now)
   closed_gives s may = let from = closed_is s may in gives from.0 s bytes (stands.left from.0 from.1).0 refl from.2
 
-  pub found : IsFound h a (now ∷ []) (with_log bytes stands.some)
-  found = record {
-    held = returned.held stands.some bytes stands.held
-        (subst (λ (l : Log F G). G.history.held (log_file l) ≡ Some bytes) (sym is_log) stands.stands.held);
-    gives = (now, only_here now, stands_gives stands.log base now stands.stands stands.some.image stands.image);
-    left = λ s may. (now, only_here now, closed_gives s may);
-    settled = λ s may.
-        let from = closed_is s may in
-        let there = stands.left from.0 from.1 in (
-          ap (λ (x : Folder). x.image) from.2 ∙ there.0 ∙ sym stands.image,
-          record {
-            none = λ none. absurd (none-some bytes (sym none));
-            some = λ some. subst (λ (x : Folder). IsSome x.log) (sym from.2) some;
-            making = ap (λ (x : Folder). x.making) from.2 ∙ there.2;
-          },
-        );
-  }
+  pub closed_left : AllLeft h a (GivesOneOf (now ∷ []))
+  closed_left s may = (now, only_here now, closed_gives s may)
 
   lent : h.lent d ≤ G.history.moment (log_file log)
   lent = subst (λ (l : Log F G). h.lent d ≤ G.history.moment (log_file l)) (sym is_log) stands.lent
@@ -144,67 +129,88 @@ module _ {F D E : Type 0} {G : Ghosts F} (h : FolderHistory D) (d a : D) (log : 
             (rest.before t s (omega (arith, le, here)) left);
       }
 
-  -- a landing behind it
-  module _ (new : D) where
-    pub ended : ((shops : List Image) (s : Folder) → h.held a ≡ Some s → GivesOneOf shops s → AllLeft h a (GivesOneOf shops)
-        → LeavesFolders h a new (GivesOneOf shops)) → IsRenewing h d (Some log) used new now
-    ended landing = renewing new (landing (now ∷ []) (with_log bytes stands.some) found.held found.gives found.left)
+  -- closed without an error
+  module _ (back : (s : Folder) (f : List ℕ) → h.held d ≡ Some s → G.history.held (log_file log) ≡ Some f
+      → h.held a ≡ Some (with_log f s)) where
+    pub found : IsFound h a (now ∷ []) (with_log bytes stands.some)
+    found = record {
+      held = back stands.some bytes stands.held
+          (subst (λ (l : Log F G). G.history.held (log_file l) ≡ Some bytes) (sym is_log) stands.stands.held);
+      gives = (now, only_here now, stands_gives stands.log base now stands.stands stands.some.image stands.image);
+      left = λ s may. (now, only_here now, closed_gives s may);
+      settled = λ s may.
+          let from = closed_is s may in
+          let there = stands.left from.0 from.1 in (
+            ap (λ (x : Folder). x.image) from.2 ∙ there.0 ∙ sym stands.image,
+            record {
+              none = λ none. absurd (none-some bytes (sym none));
+              some = λ some. subst (λ (x : Folder). IsSome x.log) (sym from.2) some;
+              making = ap (λ (x : Folder). x.making) from.2 ∙ there.2;
+            },
+          );
+    }
 
-    pub rests : (shop : Image) → ((shops : List Image) (s : Folder) → h.held a ≡ Some s → GivesOneOf shops s
-        → AllLeft h a (GivesOneOf shops) → RestsAlone h new shop × Gives s shop) → RestsAlone h new now
-    unfolding found
-    rests shop landed =
-        let is = landed (now ∷ []) (with_log bytes stands.some) found.held found.gives found.left in
-        let one : LogGives bytes stands.some.image shop = is.1 in
-        subst (RestsAlone h new) (sym one.is ∙ found.gives.2.is) is.0
+    -- a landing behind it
+    module _ (new : D) where
+      pub ended : ((shops : List Image) (s : Folder) → h.held a ≡ Some s → GivesOneOf shops s → AllLeft h a (GivesOneOf shops)
+          → LeavesFolders h a new (GivesOneOf shops)) → IsRenewing h d (Some log) used new now
+      ended landing = renewing new (landing (now ∷ []) (with_log bytes stands.some) found.held found.gives found.left)
 
-  -- the calls behind it, one after another
-  module _ (b : D)
-      (marking : (shops : List Image) (s : Folder) (f : List ℕ) → IsFound h a shops s → s.log ≡ Some f
-      → LeavesFolders h a b (GivesOneOf shops)) where
-    pub mark_renewing : IsRenewing h d (Some log) used b now
-    mark_renewing = renewing b (marking (now ∷ []) (with_log bytes stands.some) bytes found refl)
+      pub rests : (shop : Image) → ((shops : List Image) (s : Folder) → h.held a ≡ Some s → GivesOneOf shops s
+          → AllLeft h a (GivesOneOf shops) → RestsAlone h new shop × Gives s shop) → RestsAlone h new now
+      unfolding found
+      rests shop landed =
+          let is = landed (now ∷ []) (with_log bytes stands.some) found.held found.gives found.left in
+          let one : LogGives bytes stands.some.image shop = is.1 in
+          subst (RestsAlone h new) (sym one.is ∙ found.gives.2.is) is.0
 
-    module _ (e : D)
-        (marked : (shops : List Image) (s : Folder) (f : List ℕ) → IsFound h a shops s → s.log ≡ Some f
-        → (h.held b ≡ Some (with_log (marked_log f) s)) × AllLeft h b (HasLog (marked_log f)))
-        (moments : (log : List ℕ) → AllLeft h b (HasLog log) → LeavesFolders h b e (HasLog log)) where
-      is_marked : (h.held b ≡ Some (with_log (marked_log bytes) (with_log bytes stands.some))) × AllLeft h b (HasLog (marked_log bytes))
-      is_marked = marked (now ∷ []) (with_log bytes stands.some) bytes found refl
+    -- the calls behind it, one after another
+    module _ (b : D)
+        (marking : (shops : List Image) (s : Folder) (f : List ℕ) → IsFound h a shops s → s.log ≡ Some f
+        → LeavesFolders h a b (GivesOneOf shops)) where
+      pub mark_renewing : IsRenewing h d (Some log) used b now
+      mark_renewing = renewing b (marking (now ∷ []) (with_log bytes stands.some) bytes found refl)
 
-      landing : LeavesFolders h a e (GivesOneOf (now ∷ []))
-      landing = bring_landed h a b (now ∷ []) (with_log bytes stands.some) bytes now found refl
-          (stands_gives stands.log base now stands.stands stands.some.image stands.image)
-          (marking (now ∷ []) (with_log bytes stands.some) bytes found refl) is_marked e moments
+      module _ (e : D)
+          (marked : (shops : List Image) (s : Folder) (f : List ℕ) → IsFound h a shops s → s.log ≡ Some f
+          → (h.held b ≡ Some (with_log (marked_log f) s)) × AllLeft h b (HasLog (marked_log f)))
+          (moments : (log : List ℕ) → AllLeft h b (HasLog log) → LeavesFolders h b e (HasLog log)) where
+        is_marked : (h.held b ≡ Some (with_log (marked_log bytes) (with_log bytes stands.some))) × AllLeft h b (HasLog (marked_log bytes))
+        is_marked = marked (now ∷ []) (with_log bytes stands.some) bytes found refl
 
-      pub bring_renewing : IsRenewing h d (Some log) used e now
-      bring_renewing = renewing e landing
-
-      module _ (new : D)
-          (stays : (log : List ℕ) → AllLeft h b (HasLog log) → AllLeft h e (HasLog log))
-          (ok : (x : Folder) → h.held b ≡ Some x → x.image ≡ base
-          → (h.held e ≡ Some (with_image now x)) × AllLeft h e (HasImage (with_image now x)))
-          (making : (s : Folder) → h.held e ≡ Some s → AllLeft h e (IsBrought now) → LeavesFolders h e new (IsBrought now)) where
-        is_whole : (h.held e ≡ Some (with_image now (with_log (marked_log bytes) (with_log bytes stands.some))))
-            × AllLeft h e (HasImage (with_image now (with_log (marked_log bytes) (with_log bytes stands.some))))
-        is_whole = whole h a b (now ∷ []) (with_log bytes stands.some) bytes now found refl
+        landing : LeavesFolders h a e (GivesOneOf (now ∷ []))
+        landing = bring_landed h a b (now ∷ []) (with_log bytes stands.some) bytes now found refl
             (stands_gives stands.log base now stands.stands stands.some.image stands.image)
-            (marking (now ∷ []) (with_log bytes stands.some) bytes found refl) is_marked e moments base (sym stands.image) stays ok
+            (marking (now ∷ []) (with_log bytes stands.some) bytes found refl) is_marked e moments
 
-        is_brought : AllLeft h e (IsBrought now)
-        is_brought = brought h a b (now ∷ []) (with_log bytes stands.some) bytes now found refl
-            (stands_gives stands.log base now stands.stands stands.some.image stands.image)
-            (marking (now ∷ []) (with_log bytes stands.some) bytes found refl) is_marked e moments base (sym stands.image) stays ok
+        pub bring_renewing : IsRenewing h d (Some log) used e now
+        bring_renewing = renewing e landing
 
-        pub new_renewing : IsRenewing h d (Some log) used new now
-        new_renewing = renewing new (joined h a e new (GivesOneOf (now ∷ [])) landing
-            (weaker h e new (IsBrought now) (GivesOneOf (now ∷ [])) (λ s is. (now, only_here now, is.1))
-            (making (with_image now (with_log (marked_log bytes) (with_log bytes stands.some))) is_whole.0 is_brought)))
+        module _ (new : D)
+            (stays : (log : List ℕ) → AllLeft h b (HasLog log) → AllLeft h e (HasLog log))
+            (ok : (x : Folder) → h.held b ≡ Some x → x.image ≡ base
+            → (h.held e ≡ Some (with_image now x)) × AllLeft h e (HasImage (with_image now x)))
+            (making : (s : Folder) → h.held e ≡ Some s → AllLeft h e (IsBrought now) → LeavesFolders h e new (IsBrought now)) where
+          is_whole : (h.held e ≡ Some (with_image now (with_log (marked_log bytes) (with_log bytes stands.some))))
+              × AllLeft h e (HasImage (with_image now (with_log (marked_log bytes) (with_log bytes stands.some))))
+          is_whole = whole h a b (now ∷ []) (with_log bytes stands.some) bytes now found refl
+              (stands_gives stands.log base now stands.stands stands.some.image stands.image)
+              (marking (now ∷ []) (with_log bytes stands.some) bytes found refl) is_marked e moments base (sym stands.image) stays ok
 
-        pub new_serves : (l : Log F G) → ((s : Folder) → h.held e ≡ Some s → s.image ≡ now → AllLeft h e (IsBrought now)
-            → Serves h new l now) → Serves h new l now
-        new_serves l serves = serves (with_image now (with_log (marked_log bytes) (with_log bytes stands.some)))
-            is_whole.0 refl is_brought
+          is_brought : AllLeft h e (IsBrought now)
+          is_brought = brought h a b (now ∷ []) (with_log bytes stands.some) bytes now found refl
+              (stands_gives stands.log base now stands.stands stands.some.image stands.image)
+              (marking (now ∷ []) (with_log bytes stands.some) bytes found refl) is_marked e moments base (sym stands.image) stays ok
+
+          pub new_renewing : IsRenewing h d (Some log) used new now
+          new_renewing = renewing new (joined h a e new (GivesOneOf (now ∷ [])) landing
+              (weaker h e new (IsBrought now) (GivesOneOf (now ∷ [])) (λ s is. (now, only_here now, is.1))
+              (making (with_image now (with_log (marked_log bytes) (with_log bytes stands.some))) is_whole.0 is_brought)))
+
+          pub new_serves : (l : Log F G) → ((s : Folder) → h.held e ≡ Some s → s.image ≡ now → AllLeft h e (IsBrought now)
+              → Serves h new l now) → Serves h new l now
+          new_serves l serves = serves (with_image now (with_log (marked_log bytes) (with_log bytes stands.some)))
+              is_whole.0 refl is_brought
 
 -- what is said of a log that was made holds for each way to it
 pub if_made : {T E : Type 0} {A : Type 0} (P : A → T → Type 0) (Q : T → Type 0) (r : Result T E) → IfOk r Q

@@ -19,6 +19,11 @@ none_at_ok : {T E A : Type 0} (P : A → Type 0) (r : Result T E) → OnOk r ((s
 none_at_ok P (Ok x) = λ s never. absurd (none-some s never)
 none_at_ok P (Err e) = tt
 
+none_back : {T E A B : Type 0} (P : A → B → Type 0) (Q : A → B → Type 0) (r : Result T E)
+    → OnOk r ((s : A) (f : B) → None ≡ Some s → P s f → Q s f)
+none_back P Q (Ok x) = λ s f never. absurd (none-some s never)
+none_back P Q (Err e) = tt
+
 module _ {D : Type 0} (old new : D) where
   passes : Passes unknown_folder old new
   passes = record { later = omega arith; nothing_else = λ t s le left. inl tt }
@@ -92,7 +97,7 @@ put_back s (Some c) is = inr (c, tt, ap (λ (l : Option (List ℕ)). record { im
 pub returned : {D F E : Type 0} (old new : D) (file : F) (r : Result Unit E)
     → IsReturned unknown_folder unknown_file old new file r
 returned old new file r = record {
-  held = λ s f never. absurd (none-some s never);
+  held = none_back _ _ r;
   outcomes = λ s may. (s, tt, put_back s s.log refl);
   later = omega arith;
   counted = λ s never. absurd (none-some s never);

@@ -152,7 +152,8 @@ module _ {D F : Type 0} (h : FolderHistory D) (g : FileHistory F) where
   -- The log's file was closed: the log holds what the file does. The moments of the file while it was open count as
   -- moments of the folder, one after the folder's own.
   pub record IsReturned {E : Type 0} (old new : D) (file : F) (result : Result Unit E) : Type 0 where
-    pub held : (s : Folder) (f : List ℕ) → h.held old ≡ Some s → g.held file ≡ Some f → h.held new ≡ Some (with_log f s)
+    pub held : OnOk result ((s : Folder) (f : List ℕ) → h.held old ≡ Some s → g.held file ≡ Some f
+        → h.held new ≡ Some (with_log f s))
     -- now
     pub outcomes : (s : Folder) → h.may_leave new s → (from : Folder) × h.may_leave old from
         × ((s ≡ from) × (from.log ≡ None) ⊎ ((c : List ℕ) × g.may_leave file c × (s ≡ with_log c from)))

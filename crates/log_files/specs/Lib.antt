@@ -1,7 +1,9 @@
 pub mod Bringing
 pub mod Faults
+pub mod FolderCalls
 pub mod Folders
 pub mod LiveLogs
+pub mod MemFolders
 pub mod Serving
 pub mod Shops
 pub mod Unknown

@@ -8,7 +8,7 @@ mod Images
 mod Laid
 pub mod Marked
 pub mod Moments
-mod Remembered
+pub mod Remembered
 mod Runs
 mod Sealed
 pub mod Torn

@@ -38,7 +38,7 @@ module _ (a b : MemLog) (firsts : b.first.items ≡ a.first.items) where
   }
 
 -- a power loss may leave all that was written
-all_came : (first : List ℕ) (calls : List MemCall) → leaves first calls (seen_after first calls)
+pub all_came : (first : List ℕ) (calls : List MemCall) → leaves first calls (seen_after first calls)
 all_came first [] = refl
 all_came first (Write at bytes ∷ earlier) =
     (seen_after first earlier, all_came first earlier, λ within. new_mixed (seen_after first earlier) at bytes.items within)

@@ -32,7 +32,8 @@ pub struct MemLog {
 }
 
 impl MemLog {
-    ghost use Rattle.std.specs.Prelude.{[]};
+    ghost use Rattle.std.specs.Prelude.{[], IfOk};
+    ghost use Rattle.shop_log.specs.Files.{Rests};
     ghost use Rattle.shop_log.specs.Memory.{mem_bytes, memory};
 
     /// An empty file.
@@ -47,6 +48,34 @@ impl MemLog {
             calls: Vec::new(alloc),
             failed: false,
         }
+    }
+
+    /// A file with these bytes, at rest. Err if memory is refused.
+    pub fn of(alloc: Global, bytes: &[u8]) -> io::Result<MemLog>
+        ensures rests { IfOk result (λ file. Rests memory file bytes.now) }
+        ensures moment { IfOk result (λ file. memory.moment file ≡ 0) }
+        ensures unfailed { IfOk result (λ file. memory.has_failed file ≡ false) }
+    {
+        let Ok(first) = Vec::from_slice(alloc, bytes) else {
+            return Err(io::ErrorKind::OutOfMemory.into());
+        };
+        let Ok(bytes) = Vec::from_slice(alloc, bytes) else {
+            return Err(io::ErrorKind::OutOfMemory.into());
+        };
+        Ok(MemLog {
+            alloc,
+            bytes,
+            first,
+            calls: Vec::new(alloc),
+            failed: false,
+        })
+    }
+
+    /// Whether a call failed: from then on each one does.
+    pub fn is_failed(&self) -> bool
+        ensures { result ≡ memory.has_failed self.now }
+    {
+        self.failed
     }
 
     /// The bytes that it holds.

@@ -3,7 +3,7 @@ use crate::memory::Errors;
 use crate::runs::texts_of;
 use command_line::command_line;
 use ledger_cli::{Job, job};
-use ledger_jobs::{Drawing, Effect, Loss, Name, Taking, Unowned};
+use ledger_jobs::{Drawing, Effect, Loss, Name, Overview, Taking, Unowned};
 use shop_commands::Durability;
 use std::alloc::Global;
 use std::cell::RefCell;
@@ -60,6 +60,15 @@ fn row_of<'a>(job: &Job<'a>) -> Row<'a> {
             what: Drawing::Poster,
             image,
         } => ("picture --svg", image, "", 0),
+        Job::Several { what, ref images } => {
+            let name = match what {
+                Overview::List => "list several",
+                Overview::Check => "check several",
+                Overview::Map => "map several",
+            };
+            let [first, second] = [0, 1].map(|at| images.get(at).copied().unwrap_or(""));
+            (name, first, second, images.len().min(255) as u8)
+        }
     }
 }
 

@@ -40,6 +40,8 @@ mod runs;
 #[cfg(test)]
 mod scenes;
 #[cfg(test)]
+mod several_rows;
+#[cfg(test)]
 mod size_rows;
 #[cfg(test)]
 mod stored;

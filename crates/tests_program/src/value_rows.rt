@@ -102,7 +102,7 @@ ends 2
 
 # By the name that people type.
 $ /usr/lib/ledger_cli check
-tells error: the following required arguments were not provided:|  <IMAGE>||Usage: ledger check <IMAGE>||For more information, try '--help'.|
+tells error: the following required arguments were not provided:|  <IMAGE>...||Usage: ledger check <IMAGE>...||For more information, try '--help'.|
 ends 2
 ";
 

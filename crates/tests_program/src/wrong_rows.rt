@@ -152,11 +152,7 @@ fn wrong_words_are_refused(rt: HostRuntime) {
 /// Of the commands for keepers of disks.
 const OF_KEEPERS: &[u8] = b"
 $ ledger_cli list
-tells error: the following required arguments were not provided:|  <IMAGE>|..
-ends 2
-
-$ ledger_cli list a.d64 b.d64
-tells error: unexpected argument 'b.d64' found|..
+tells error: the following required arguments were not provided:|  <IMAGE>...|..
 ends 2
 
 $ ledger_cli list a.d64 --tills 2
@@ -164,11 +160,7 @@ tells error: unexpected argument '--tills' found|..
 ends 2
 
 $ ledger_cli check
-tells error: the following required arguments were not provided:|  <IMAGE>|..
-ends 2
-
-$ ledger_cli check a.d64 b.d64
-tells error: unexpected argument 'b.d64' found|..
+tells error: the following required arguments were not provided:|  <IMAGE>...|..
 ends 2
 
 $ ledger_cli repair
@@ -240,11 +232,7 @@ tells error: unexpected argument '--sync' found|..
 ends 2
 
 $ ledger_cli map
-tells error: the following required arguments were not provided:|  <IMAGE>|..
-ends 2
-
-$ ledger_cli map a.d64 b.d64
-tells error: unexpected argument 'b.d64' found|..
+tells error: the following required arguments were not provided:|  <IMAGE>...|..
 ends 2
 
 $ ledger_cli picture

@@ -3,11 +3,13 @@ use Rattle.std.proofs.Common.{ap, inl, refl, subst, sym, ◌∙◌}
 use Rattle.std.specs.Prelude.{codes}
 use Rattle.clap.specs.Words.{found_of, rows_of}
 use Rattle.request_cards.specs.Reading.{number_in}
+use Rattle.ledger_jobs.specs.declared.jobs.Overview.TheVariants as overviews
 use Rattle.ledger_jobs.specs.declared.jobs.Taking.TheVariants as takings
 use Rattle.ledger_jobs.specs.Jobs.{IsFit}
 use Rattle.command_line.specs.Jobs.{IsJob, is_given}
 use Rattle.command_line.proofs.Parses.{format-fit, format-met, making-met, met-has, met-is, picture-fit}
 use Rattle.command_line.proofs.Parses.{picture-met, play-fit, play-met, storing-met, taking-met}
+use Rattle.command_line.proofs.Views.{viewing-met}
 use Rattle.command_line.proofs.words.job_of.Goals as goal
 
 pub returns-in_default : goal.returns-in_default
@@ -39,18 +41,16 @@ returns-in-None c = record {
 }
 
 pub returns-in-list : goal.returns-in-list
-returns-in-list c = record {
-  job = met-has c.parsed_subcommand.result _ c.in-Some.name c.in-Some.found _ _ c.parsed_subcommand.ensures c.in-Some.is c.in-list.is
-      c.value_of-image.ensures;
-  fit = tt;
-}
+returns-in-list c =
+    let met = viewing-met c.parsed_subcommand.result _ c.in-Some.name c.in-Some.found overviews.List c.viewing.result
+    c.parsed_subcommand.ensures c.in-Some.is c.in-list.is c.viewing.ensures in
+    record { job = met.0; fit = met.1 }
 
 pub returns-in-check : goal.returns-in-check
-returns-in-check c = record {
-  job = met-has c.parsed_subcommand.result _ c.in-Some.name c.in-Some.found _ _ c.parsed_subcommand.ensures c.in-Some.is c.in-check.is
-      c.value_of-image.ensures;
-  fit = tt;
-}
+returns-in-check c =
+    let met = viewing-met c.parsed_subcommand.result _ c.in-Some.name c.in-Some.found overviews.Check c.viewing-in-check.result
+    c.parsed_subcommand.ensures c.in-Some.is c.in-check.is c.viewing-in-check.ensures in
+    record { job = met.0; fit = met.1 }
 
 pub returns-in-show : goal.returns-in-show
 returns-in-show c = record {
@@ -121,11 +121,10 @@ returns-in-store c =
     record { job = met.0; fit = met.1 }
 
 pub returns-in-map : goal.returns-in-map
-returns-in-map c = record {
-  job = met-has c.parsed_subcommand.result _ c.in-Some.name c.in-Some.found _ _ c.parsed_subcommand.ensures c.in-Some.is c.in-map.is
-      (c.value_of-image.ensures, tt);
-  fit = tt;
-}
+returns-in-map c =
+    let met = viewing-met c.parsed_subcommand.result _ c.in-Some.name c.in-Some.found overviews.Map c.viewing-in-map.result
+    c.parsed_subcommand.ensures c.in-Some.is c.in-map.is c.viewing-in-map.ensures in
+    record { job = met.0; fit = met.1 }
 
 pub returns-in-picture : goal.returns-in-picture
 returns-in-picture c =

@@ -1,7 +1,8 @@
 -- Each value is added to those before it.
-use Rattle.std.proofs.Common.{None, [], false, fold, subst, take_all}
+use Rattle.std.proofs.Common.{None, [], fold, subst, take_all}
 use Rattle.clap.specs.Words.{new_app}
 use Rattle.command_table.specs.Grammar.{IsSubcommand}
+use Rattle.command_table.specs.declared.subcommands.Count.TheVariants as counts
 use Rattle.command_table.specs.declared.subcommands.Value.{Value}
 use Rattle.command_table.proofs.Grammars.{arg-made, one-more}
 use Rattle.command_table.specs.Rows.{with_value}
@@ -14,7 +15,7 @@ loop-value-preserved c =
     let none : Value = record {
       name = record { ref_ptr = (0, 0); now = [] };
       word = None;
-      is_flag = false;
+      count = counts.One;
       help = record { ref_ptr = (0, 0); now = [] };
     } in
     one-more with_value (new_app row.name.now) row.values.now at.value-index none (λ a. IsSubcommand a c.in_ok-command.command)

@@ -1,9 +1,9 @@
 -- The log is closed, and landed.
-use Rattle.std.proofs.Common.{refl, subst, sym}
-use Rattle.log_files.specs.Folders.{IsReturned}
+use Rattle.std.proofs.Common.{◌≡◌, ℕ, List, Some, refl, subst, sym}
+use Rattle.log_files.specs.Folders.{Folder, IsReturned, with_log}
 use Rattle.log_files.specs.LiveLogs.{IsRenewing}
 use Rattle.log_files.proofs.Moves.{under_name}
-use Rattle.log_files.proofs.Renewed.{ended, found, renewing, rests}
+use Rattle.log_files.proofs.Renewed.{closed_left, ended, renewing, rests}
 use Rattle.log_files.proofs.Steps.{started}
 use Rattle.log_files.proofs.Times.{on_ok}
 use Rattle.log_files.proofs.ending.end_log.Goals as goal
@@ -17,7 +17,7 @@ returns-in_err-close_log-clause-any_moment g c used start image stands =
     let back = subst (λ f. IsReturned h g.F.LogFile.history d a f c.close_log.result) c.into_file.ensures c.close_log.ensures in
     subst (λ o. IsRenewing h d o used a image) (sym c.in-Some.is)
     (renewing h d a c.in-Some.open_log used start image here c.close_log.result back a
-    (started h a _ (found h d a c.in-Some.open_log used start image here c.close_log.result back).left))
+    (started h a _ (closed_left h d a c.in-Some.open_log used start image here c.close_log.result back)))
 
 pub returns-in_err-shop-clause-any_moment : goal.returns-in_err-shop-clause-any_moment
 returns-in_err-shop-clause-any_moment g c used start image stands =
@@ -28,7 +28,7 @@ returns-in_err-shop-clause-any_moment g c used start image stands =
     let back = subst (λ f. IsReturned h g.F.LogFile.history d a f c.close_log.result) c.into_file.ensures c.close_log.ensures in
     subst (λ o. IsRenewing h d o used a image) (sym c.in-Some.is)
     (renewing h d a c.in-Some.open_log used start image here c.close_log.result back a
-    (started h a _ (found h d a c.in-Some.open_log used start image here c.close_log.result back).left))
+    (started h a _ (closed_left h d a c.in-Some.open_log used start image here c.close_log.result back)))
 
 pub returns-clause-any_moment : goal.returns-clause-any_moment
 returns-clause-any_moment g c used start image stands =
@@ -38,7 +38,9 @@ returns-clause-any_moment g c used start image stands =
     let here = under_name h d c.args.log c.in-Some.open_log used start start image c.in-Some.is refl stands in
     let back = subst (λ f. IsReturned h g.F.LogFile.history d a f c.close_log.result) c.into_file.ensures c.close_log.ensures in
     subst (λ o. IsRenewing h d o used c.land.new.folder image) (sym c.in-Some.is)
-    (ended h d a c.in-Some.open_log used start image here c.close_log.result back c.land.new.folder c.land.ensures.any_moment)
+    (ended h d a c.in-Some.open_log used start image here c.close_log.result back
+    (subst (λ f. (s : Folder) (b : List ℕ) → h.held d ≡ Some s → g.F.LogFile.history.held f ≡ Some b → h.held a ≡ Some (with_log b s))
+    c.into_file.ensures c.in_ok-close_log.ensures.held) c.land.new.folder c.land.ensures.any_moment)
 
 pub returns-clause-ok : goal.returns-clause-ok
 returns-clause-ok g c = on_ok _ _ c.land.result (λ landed used start image stands.
@@ -47,5 +49,7 @@ returns-clause-ok g c = on_ok _ _ c.land.result (λ landed used start image stan
     let a = c.close_log.new.self in
     let here = under_name h d c.args.log c.in-Some.open_log used start start image c.in-Some.is refl stands in
     let back = subst (λ f. IsReturned h g.F.LogFile.history d a f c.close_log.result) c.into_file.ensures c.close_log.ensures in
-    rests h d a c.in-Some.open_log used start image here c.close_log.result back c.land.new.folder c.land.new.shop landed)
+    rests h d a c.in-Some.open_log used start image here c.close_log.result back
+    (subst (λ f. (s : Folder) (b : List ℕ) → h.held d ≡ Some s → g.F.LogFile.history.held f ≡ Some b → h.held a ≡ Some (with_log b s))
+    c.into_file.ensures c.in_ok-close_log.ensures.held) c.land.new.folder c.land.new.shop landed)
     c.land.ensures.ok

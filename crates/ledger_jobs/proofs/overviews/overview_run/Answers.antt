@@ -1,0 +1,30 @@
+-- What was printed alone is the text that was told.
+use Rattle.std.proofs.Common.{◌≡◌, [], Global, List, Option, Some, Vec, ℕ}
+use Rattle.std.specs.Prelude.{Err, IfOk, Ok, Result, vec_items}
+use Rattle.ledger_jobs.specs.Ends.{JobEnd}
+use Rattle.ledger_jobs.specs.Overviews.{IsOneOfSeveral, IsOverview, IsToldAs}
+use Rattle.ledger_jobs.specs.declared.jobs.Overview.{Overview}
+use Rattle.shop_commands.specs.declared.faults.RunFault.{RunFault}
+use Rattle.ledger_jobs.proofs.overviews.overview_run.Goals as goal
+
+one-of : {W : Type 0} (contents : W → Option (List ℕ)) (what : Overview) (name image : List ℕ) (old new : W)
+    (before after : Vec ℕ Global) (end : JobEnd) (r : Result ℕ RunFault) → vec_items before ≡ []
+    → IsOverview (λ (text : Vec ℕ Global). Some (vec_items text)) what image before after end
+    → IfOk r (IsToldAs contents name (vec_items after) end old new)
+    → IfOk r (IsOneOfSeveral contents what name image old new)
+one-of contents what name image old new before after end (Ok status) empty alone told = record {
+  before = before;
+  after = after;
+  empty = empty;
+  end = end;
+  alone = alone;
+  told = told;
+}
+one-of contents what name image old new before after end (Err fault) empty alone told = tt
+
+pub returns : goal.returns
+returns g c = record {
+  ok = one-of g.W.Write.contents c.args.what c.args.name.now c.args.image.now c.args.out.now c.tell_named.new.out
+      c.in-Ok.text c.overview-ended.new.out c.overview-ended.result c.tell_named.result c.in-Ok.ensures.items
+      c.overview-ended.ensures c.tell_named.ensures.ok;
+}

@@ -1,0 +1,41 @@
+-- What comes of one image of several. All of it is our own.
+use Rattle.std.specs.Prelude.{◌≡◌, ◌++◌, ℕ, List, [], Option, Some, Vec, vec_items}
+use Rattle.std.specs.declared.alloc.Global.{Global}
+use Rattle.std.specs.Io.KnownBytes.{Appends}
+use Rattle.ledger_jobs.specs.Drawings.{IsDrawingRun}
+use Rattle.ledger_jobs.specs.Ends.{JobEnd, as_drawn, as_job, end_line, end_status}
+use Rattle.ledger_jobs.specs.Runs.{IsReadingEnd}
+use Rattle.ledger_jobs.specs.declared.jobs.Drawing.TheVariants as drawings
+use Rattle.ledger_jobs.specs.declared.jobs.Overview.{Overview}
+use Rattle.ledger_jobs.specs.declared.jobs.Overview.TheVariants as overviews
+use Rattle.ledger_jobs.specs.declared.jobs.Reading.TheVariants as readings
+use Rattle.named_lines.specs.Named.{named}
+
+-- a run ended so, and this is how its job ended
+abbrev pub EndsAs : {A : Type 0} → (A → JobEnd) → JobEnd → (A → Type 0) → Type 0
+EndsAs {A} told end P = (ended : A) × (end ≡ told ended) × P ended
+
+-- what is asked of an image that is alone ended so
+abbrev pub IsOverview : {W : Type 0} → (W → Option (List ℕ)) → Overview → (image : List ℕ) → W → W → JobEnd → Type 0
+IsOverview contents overviews.List image old new end =
+    EndsAs as_job end (IsReadingEnd contents readings.List image old new)
+IsOverview contents overviews.Check image old new end =
+    EndsAs as_job end (IsReadingEnd contents readings.Check image old new)
+IsOverview contents overviews.Map image old new end =
+    EndsAs as_drawn end (IsDrawingRun contents drawings.Map image old new)
+
+-- a text, and the line that tells of this end, were printed with a name before each line; the end's status is this
+pub record IsToldAs {W : Type 0} (contents : W → Option (List ℕ)) (name text : List ℕ) (end : JobEnd) (old new : W)
+    (status : ℕ) : Type 0 where
+  pub told : Appends (contents old) (contents new) (named name (text ++ end_line end))
+  pub status_is : status ≡ end_status end
+
+-- An image was one of several: over an output that held nothing, the command prints this text of it alone and ends so.
+pub record IsOneOfSeveral {W : Type 0} (contents : W → Option (List ℕ)) (what : Overview) (name image : List ℕ)
+    (old new : W) (status : ℕ) : Type 0 where
+  pub before : Vec ℕ Global
+  pub after : Vec ℕ Global
+  pub empty : vec_items before ≡ []
+  pub end : JobEnd
+  pub alone : IsOverview (λ text. Some (vec_items text)) what image before after end
+  pub told : IsToldAs contents name (vec_items after) end old new status

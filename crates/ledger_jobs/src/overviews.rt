@@ -1,0 +1,152 @@
+//! Several images, each read as if it were alone; what is printed of it stands behind its name.
+ghost use Rattle.std.specs.Prelude.{◌≡◌, IfErr, IfOk, OnOk, Some, vec_items};
+ghost use Rattle.std.specs.Io.KnownBytes.{Appends};
+ghost use Rattle.shop_commands.specs.declared.faults.RunFault.TheVariants as faults;
+ghost use Rattle.ledger_jobs.specs.Ends.{as_job};
+ghost use Rattle.ledger_jobs.specs.Overviews.{EndsAs, IsOneOfSeveral, IsOverview, IsToldAs};
+ghost use Rattle.ledger_jobs.specs.Runs.{IsReadingEnd};
+ghost use Rattle.named_lines.specs.Named.{named};
+
+use crate::dispatch::{drawn_end, image_at, job_end};
+use crate::drawing::drawing_run;
+use crate::endings::end;
+use crate::jobs::{Drawing, Overview, Reading};
+use crate::refusals::Refusal;
+use crate::shop_runs::reading_run;
+use disk_layout::Fault;
+use named_lines::put_named;
+use shop_commands::{Locks, RunFault};
+use std::alloc::Global;
+use std::io::{Read, Write};
+use std::rt::Files;
+use system_files::ShownPath;
+
+/// How many bytes memory is taken for at once for what one image prints: more than a directory or a map has.
+const ROOM: usize = 32768;
+
+/// Does what is asked of these bytes.
+fn read<W: Write>(
+    alloc: Global,
+    what: Reading,
+    image: &[u8],
+    out: &mut W,
+) -> Result<Option<Fault>, Refusal>
+    ensures { EndsAs as_job result (IsReadingEnd W.contents what image.now out.old out.new) }
+{
+    job_end(reading_run(alloc, what, image, out))
+}
+
+/// Prints what is asked of one image, as if it were alone.
+fn overview<W: Write>(
+    alloc: Global,
+    what: Overview,
+    image: &[u8],
+    out: &mut W,
+) -> Result<Option<Fault>, Refusal>
+    ensures { IsOverview W.contents what image.now out.old out.new result }
+{
+    match what {
+        Overview::List => read(alloc, Reading::List, image, out),
+        Overview::Check => read(alloc, Reading::Check, image, out),
+        Overview::Map => drawn_end(drawing_run(alloc, Drawing::Map, image, out)),
+    }
+}
+
+/// Prints a text behind the image's name, line by line. `File` if the output failed.
+fn put_text<W: Write>(name: &[u8], text: &[u8], out: &mut W) -> Result<(), RunFault>
+    ensures ok { OnOk result (Appends (W.contents out.old) (W.contents out.new) (named name.now text.now)) }
+    ensures err { IfErr result (λ fault. fault ≡ faults.File) }
+{
+    match put_named(out, name, text) {
+        Ok(()) => Ok(()),
+        Err(_) => Err(RunFault::File),
+    }
+}
+
+/// Prints behind the image's name what it printed alone, and the line that tells why it is refused. Returns its exit
+/// status.
+fn tell_named<W: Write>(
+    name: &[u8],
+    mut text: Vec<u8>,
+    ended: Result<Option<Fault>, Refusal>,
+    out: &mut W,
+) -> Result<u8, RunFault>
+    ensures ok { IfOk result (IsToldAs W.contents name.now (vec_items text) ended out.old out.new) }
+    ensures err { IfErr result (λ fault. fault ≡ faults.File) }
+{
+    let ending = end(ended, &mut text);
+    let Ok(()) = ending.told else {
+        return Err(RunFault::File);
+    };
+    put_text(name, text.as_slice(), out)?;
+    Ok(ending.status)
+}
+
+/// Prints what is asked of one of several images, each line behind the image's name, a colon and a space: what the command
+/// prints of it alone, and the line that it would tell on standard error. Returns the exit status that it would have.
+///
+/// `File` if the output failed, which may then have a part; `NoMemory`, and nothing is printed.
+pub fn overview_run<W: Write>(
+    alloc: Global,
+    what: Overview,
+    name: &[u8],
+    image: &[u8],
+    out: &mut W,
+) -> Result<u8, RunFault>
+    ensures ok { IfOk result (IsOneOfSeveral W.contents what name.now image.now out.old out.new) }
+{
+    let mut text = match Vec::with_capacity(alloc, ROOM) {
+        Ok(text) => text,
+        Err(_) => return Err(RunFault::NoMemory),
+    };
+    let ended = overview(alloc, what, image, &mut text);
+    tell_named(name, text, ended, out)
+}
+
+/// Prints what is asked of the image at a path, or why it can't be read, and returns its exit status.
+fn do_one<F, R, W>(rt: &R, what: Overview, path: &str, out: &mut W) -> Result<u8, RunFault>
+where
+    F: Read + Locks + Drop,
+    R: Files<File = F> + Input + AllocGlobal,
+    W: Write,
+{
+    let Ok(name) = format!(in rt.alloc(); "{}", ShownPath(path)) else {
+        return Err(RunFault::NoMemory);
+    };
+    match image_at(rt, path) {
+        Ok(image) => overview_run(rt.alloc(), what, name.as_bytes(), image.as_slice(), out),
+        Err(refusal) => tell_named(name.as_bytes(), Vec::new(rt.alloc()), Err(refusal), out),
+    }
+}
+
+/// Prints what is asked of each of several images, in their order. An image is locked with others that read it while it
+/// is read.
+///
+/// `Several`: an image has a fault or is refused, as the output says. `File` if the output failed, and `NoMemory`: the
+/// images behind that one aren't read.
+pub(crate) fn do_several<F, R, W>(
+    rt: &R,
+    what: Overview,
+    paths: &[&str],
+    out: &mut W,
+) -> Result<Option<Fault>, Refusal>
+where
+    F: Read + Locks + Drop,
+    R: Files<File = F> + Input + AllocGlobal,
+    W: Write,
+{
+    let mut greatest = 0;
+    for path in paths {
+        match do_one(rt, what, path, out) {
+            Ok(status) => greatest = greatest.max(status),
+            Err(fault) => return Err(Refusal::Run(fault)),
+        }
+    }
+    if out.flush().is_err() {
+        return Err(Refusal::Run(RunFault::File));
+    }
+    match greatest {
+        0 => Ok(None),
+        _ => Err(Refusal::Several(greatest)),
+    }
+}
