@@ -4,3 +4,4 @@ mod Played
 mod Received
 mod Repeats
 mod Safe
+mod Unfit

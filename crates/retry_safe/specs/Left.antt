@@ -15,6 +15,10 @@ use Rattle.retry_safe.specs.Turns.{Answered, CountsOnce, EachTurn, Turn, counted
 abbrev pub IsOfShop : Shop → Image → Type 0
 IsOfShop s image = (state : State) × IsShop image (with_state s state)
 
+-- the device held one image alone
+abbrev pub IsKept : {D : Type 0} → History D → D → D → Type 0
+IsKept h old new = HeldOnly h old new (λ c. c ≡ h.image old)
+
 -- some of these events were received, from the first on, and no other
 abbrev pub IsReceived : List Message → List Turn → Type 0
 IsReceived events turns = (missed : List Message) × (map (λ t. t.message) turns ++ missed ≡ events)

@@ -1,12 +1,13 @@
 //! A run that power ends, and what its shop's disk is afterwards.
-ghost use Rattle.std.specs.Prelude.{◌≡◌, ◌≢◌, ◌≤◌, IfErr, IfOk, map};
+ghost use Rattle.std.specs.Prelude.{◌≡◌, ◌≢◌, ◌≤◌, IfErr, IfOk, IsErr, map};
 ghost use Rattle.host_session.specs.Held.{HeldOnly};
 ghost use Rattle.host_session.specs.declared.runs.plays.PlayFault.TheVariants as faults;
 ghost use Rattle.host_session.specs.events.Events.{message_of};
+ghost use Rattle.host_session.specs.session.Opening.{IsAShop};
 ghost use Rattle.host_session.specs.shop.Shop.{IsShop, Shop};
 ghost use Rattle.retry_safe.specs.Asked.{IsAsked};
-ghost use Rattle.retry_safe.specs.Left.{IsLeft};
-ghost use Rattle.retry_safe.specs.RetrySafe.{RetrySafe};
+ghost use Rattle.retry_safe.specs.Left.{IsKept, IsLeft};
+ghost use Rattle.retry_safe.specs.RetrySafe.{RetrySafe, left_of};
 
 use d64_image::{Fuse, Sectors};
 use host_session::{Event, PlayFault, Session, play};
@@ -21,6 +22,7 @@ fn play_until<D: Sectors>(
 ) -> Result<D, D>
     ensures left { (s : Shop) → IsShop (D.history.image disk) s → IfOk result (λ left.
         IsLeft D.history s (map message_of events.now) power disk left replies.old.items replies.new.items) }
+    ensures unfit { (IsAShop (D.history.image disk) → ⊥) → IfOk result (λ left. IsKept D.history disk left) }
     ensures memory { IfErr result (λ d. (d ≡ disk) × (replies.new.items ≡ replies.old.items)) }
 {
     match play(Fuse::new(disk, power), events, replies) {
@@ -35,6 +37,7 @@ fn play_until<D: Sectors>(
 fn open_until<D: Sectors>(disk: D, power: u32) -> D
     ensures moments { (s : Shop) → IsShop (D.history.image disk) s → HeldOnly D.history disk result (λ c. IsShop c s) }
     ensures later { (s : Shop) → IsShop (D.history.image disk) s → D.history.failures disk ≤ D.history.failures result }
+    ensures unfit { (IsAShop (D.history.image disk) → ⊥) → IsKept D.history disk result }
 {
     match Session::open(Fuse::new(disk, power)) {
         Ok(session) => session.close().into_inner(),
@@ -46,6 +49,7 @@ fn open_until<D: Sectors>(disk: D, power: u32) -> D
 fn open_until_each<D: Sectors>(disk: D, recoveries: &[u32]) -> D
     ensures moments { (s : Shop) → IsShop (D.history.image disk) s → HeldOnly D.history disk result (λ c. IsShop c s) }
     ensures later { (s : Shop) → IsShop (D.history.image disk) s → D.history.failures disk ≤ D.history.failures result }
+    ensures unfit { (IsAShop (D.history.image disk) → ⊥) → IsKept D.history disk result }
 {
     let mut disk = disk;
     for &power in recoveries {
@@ -57,6 +61,8 @@ fn open_until_each<D: Sectors>(disk: D, recoveries: &[u32]) -> D
 /// Opens the disk, and answers a message.
 fn ask<D: Sectors>(disk: D, message: &[u8]) -> Result<(Session<D>, Reply), (PlayFault, D)>
     ensures asked { (s : Shop) → IsShop (D.history.image disk) s → IsAsked D.history s message.now disk result }
+    ensures unfit { (IsAShop (D.history.image disk) → ⊥)
+        → IsErr result × IsKept D.history disk (left_of result) }
     ensures room { IfErr result (λ e. e.0 ≢ faults.NoMemory) }
 {
     match Session::open(disk) {
@@ -88,6 +94,9 @@ pub fn retry_after_power_loss<D: Sectors>(
     ensures safe { (s : Shop) → IsShop (D.history.image disk) s
         → RetrySafe D.history s (map message_of events.now) power again.now disk
         replies.old.items replies.new.items result }
+    // what is no shop's disk is refused, and isn't written
+    ensures unfit { (IsAShop (D.history.image disk) → ⊥)
+        → IsErr result × IsKept D.history disk (left_of result) }
     // without memory nothing was done
     ensures memory { IfErr result (λ e. e.0 ≡ faults.NoMemory
         → (e.1 ≡ disk) × (replies.new.items ≡ replies.old.items)) }

@@ -66,7 +66,8 @@ fn row_of<'a>(job: &Job<'a>) -> Row<'a> {
                 Overview::Check => "check several",
                 Overview::Map => "map several",
             };
-            let [first, second] = [0, 1].map(|at| images.get(at).copied().unwrap_or(""));
+            let first = images.first().copied().unwrap_or("");
+            let second = images.get(1).copied().unwrap_or("");
             (name, first, second, images.len().min(255) as u8)
         }
     }

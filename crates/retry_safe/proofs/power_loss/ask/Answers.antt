@@ -1,5 +1,5 @@
 -- A disk opened, and a message answered.
-use Rattle.std.proofs.Common.{arith, ⊎_elim, ◌≤◌}
+use Rattle.std.proofs.Common.{arith, refl, ⊎_elim, ◌≤◌}
 use Rattle.retry_safe.proofs.Asking.{answered, not_opened}
 use Rattle.retry_safe.proofs.power_loss.ask.Goals as goal
 
@@ -11,6 +11,7 @@ returns-in-Ok g c =
       asked = λ s shop.
           answered h s c.args.message.now c.args.disk shop c.in-Ok.session c.handle-reply.new.self c.handle-reply.result ok.0 ok.2 ok.3
           (c.in-Ok.ensures.moments s shop) c.in-Ok.ensures.failures c.handle-reply.ensures;
+      unfit = λ none. absurd (none (ok.0, ok.1));
       room = tt;
     }
 
@@ -22,5 +23,6 @@ returns-in-Err g c =
     record {
       asked = λ s shop. not_opened h s c.args.message.now c.args.disk shop c.in-Err.disk c.in-Err.fault
           (c.in-Err.ensures.moments s shop) later (λ never. let e = (c.in-Err.ensures.opens never).1 (s, shop) in absurd cc);
+      unfit = λ none. (refl, (c.in-Err.ensures.unfit none).held);
       room = λ is. cc;
     }

@@ -2,6 +2,7 @@
 use Rattle.std.proofs.Common.{ap, ◌∙◌}
 use Rattle.d64_image.specs.Fuses.{fuse_disk}
 use Rattle.host_session.proofs.lemmas.events.Cuts.{cut_later, cut_moments}
+use Rattle.retry_safe.proofs.Unfit.{kept_beneath}
 use Rattle.retry_safe.proofs.power_loss.open_until.Goals as goal
 
 pub returns-in-Ok : goal.returns-in-Ok
@@ -14,6 +15,8 @@ returns-in-Ok g c =
       later = λ s shop.
           cut_later g.D.Sectors.history s 952 c.args.disk c.into_inner.result c.new.result c.in-Ok.session.disk
           c.new.ensures.disk closed shop (c.in-Ok.ensures.moments s);
+      unfit = kept_beneath g.D.Sectors.history c.new.result c.in-Ok.session.disk c.args.disk c.into_inner.result
+          c.new.ensures.disk closed c.in-Ok.ensures.unfit;
     }
 
 pub returns-in-Err : goal.returns-in-Err
@@ -24,4 +27,6 @@ returns-in-Err g c = record {
   later = λ s shop.
       cut_later g.D.Sectors.history s 952 c.args.disk c.into_inner-in-Err.result c.new.result c.in-Err.fuse
       c.new.ensures.disk c.into_inner-in-Err.ensures shop (c.in-Err.ensures.moments s);
+  unfit = kept_beneath g.D.Sectors.history c.new.result c.in-Err.fuse c.args.disk c.into_inner-in-Err.result
+      c.new.ensures.disk c.into_inner-in-Err.ensures c.in-Err.ensures.unfit;
 }

@@ -2,24 +2,37 @@
 use Rattle.std.proofs.Common.{arith, le_refl}
 use Rattle.host_session.proofs.lemmas.Held.{at_end, start, then}
 use Rattle.host_session.specs.shop.Shop.{IsShop}
+use Rattle.retry_safe.proofs.Unfit.{kept_none, kept_then, no_shop_yet}
 use Rattle.retry_safe.proofs.power_loss.open_until_each.Goals as goal
 
 pub loop-power-init : goal.loop-power-init
-loop-power-init g c = λ s shop.
+loop-power-init g c =
     let h = g.D.Sectors.history in
-    (start h c.args.disk (λ i. IsShop i s) shop, le_refl (h.failures c.args.disk))
+    record {
+      shop = λ s shop. (start h c.args.disk (λ i. IsShop i s) shop, le_refl (h.failures c.args.disk));
+      unfit = λ none. kept_none h c.args.disk;
+    }
 
 pub loop-power-preserved : goal.loop-power-preserved
-loop-power-preserved g c = λ s shop.
+loop-power-preserved g c =
     let h = g.D.Sectors.history in
-    let so_far = c.loop-power.invariant s shop in
-    let there = at_end h _ _ (λ i. IsShop i s) so_far.0 in (
-      then h _ _ _ (λ i. IsShop i s) so_far.0 (c.open_until-disk.ensures.moments s there),
-      omega (arith, so_far.1, c.open_until-disk.ensures.later s there),
-    )
+    record {
+      shop = λ s shop.
+          let so_far = c.loop-power.invariant.shop s shop in
+          let there = at_end h _ _ (λ i. IsShop i s) so_far.0 in (
+            then h _ _ _ (λ i. IsShop i s) so_far.0 (c.open_until-disk.ensures.moments s there),
+            omega (arith, so_far.1, c.open_until-disk.ensures.later s there),
+          );
+      unfit = λ none.
+          let so_far = c.loop-power.invariant.unfit none in
+          kept_then h _ _ _ so_far (c.open_until-disk.ensures.unfit (no_shop_yet h _ _ so_far none));
+    }
 
 pub returns-clause-moments : goal.returns-clause-moments
-returns-clause-moments g c = λ s shop. (c.loop-power.invariant s shop).0
+returns-clause-moments g c = λ s shop. (c.loop-power.invariant.shop s shop).0
 
 pub returns-clause-later : goal.returns-clause-later
-returns-clause-later g c = λ s shop. (c.loop-power.invariant s shop).1
+returns-clause-later g c = λ s shop. (c.loop-power.invariant.shop s shop).1
+
+pub returns-clause-unfit : goal.returns-clause-unfit
+returns-clause-unfit g c = λ none. c.loop-power.invariant.unfit none

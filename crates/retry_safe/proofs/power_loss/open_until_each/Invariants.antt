@@ -1,11 +1,16 @@
 -- The shop stays through the openings so far.
 use Rattle.std.proofs.Common.{◌≤◌}
 use Rattle.host_session.specs.Held.{HeldOnly}
+use Rattle.host_session.specs.session.Opening.{IsAShop}
 use Rattle.host_session.specs.shop.Shop.{IsShop, Shop}
+use Rattle.retry_safe.specs.Left.{IsKept}
 use Rattle.retry_safe.proofs.power_loss.open_until_each.Given as goal
 
 abbrev pub invariant-loop-power : goal.invariant-loop-power
 invariant-loop-power g l =
     let h = g.D.Sectors.history in
-    (s : Shop) → IsShop (h.image l.fn.disk) s
-    → HeldOnly h l.fn.disk l.disk (λ c. IsShop c s) × (h.failures l.fn.disk ≤ h.failures l.disk)
+    record {
+      shop : (s : Shop) → IsShop (h.image l.fn.disk) s
+          → HeldOnly h l.fn.disk l.disk (λ c. IsShop c s) × (h.failures l.fn.disk ≤ h.failures l.disk);
+      unfit : (IsAShop (h.image l.fn.disk) → ⊥) → IsKept h l.fn.disk l.disk;
+    }

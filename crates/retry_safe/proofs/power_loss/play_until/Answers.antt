@@ -1,8 +1,10 @@
 -- What the run left beneath the fuse.
 use Rattle.std.proofs.Common.{map, subst, sym}
 use Rattle.host_session.specs.events.Events.{message_of}
+use Rattle.host_session.specs.session.Opening.{IsAShop}
 use Rattle.host_session.specs.shop.Shop.{IsShop}
 use Rattle.retry_safe.proofs.Played.{after_device, after_ok, after_opening, beneath}
+use Rattle.retry_safe.proofs.Unfit.{kept_beneath}
 use Rattle.retry_safe.proofs.power_loss.play_until.Goals as goal
 
 pub returns-in-Ok-clause-left : goal.returns-in-Ok-clause-left
@@ -37,3 +39,21 @@ returns-in-Err-Device-default-clause-left g c = λ s shop.
     c.into_inner-in-Err-Device-default.ensures
     (after_device h s ms c.args.power c.new.result arm.fuse _ _ _ arm.field-0-0 arm.field-0-0-is
     arm.ensures made.left made.limit made.unfailed there)
+
+pub returns-in-Ok-clause-unfit : goal.returns-in-Ok-clause-unfit
+returns-in-Ok-clause-unfit g c = λ none.
+    let h = g.D.Sectors.history in
+    absurd (none (subst (λ d. IsAShop (h.image d)) c.new.ensures.disk c.in-Ok.ensures.shop))
+
+pub returns-in-Err-Open-default-clause-unfit : goal.returns-in-Err-Open-default-clause-unfit
+returns-in-Err-Open-default-clause-unfit g c =
+    let arm = c.in-Err-Open-default in
+    kept_beneath g.D.Sectors.history c.new.result arm.fuse c.args.disk c.into_inner-in-Err-Open-default.result
+    c.new.ensures.disk c.into_inner-in-Err-Open-default.ensures
+    (arm.ensures.«open» arm.field-0-0-0 arm.field-0-0-is).unfit
+
+pub returns-in-Err-Device-default-clause-unfit : goal.returns-in-Err-Device-default-clause-unfit
+returns-in-Err-Device-default-clause-unfit g c = λ none.
+    let h = g.D.Sectors.history in
+    let arm = c.in-Err-Device-default in
+    absurd (none (subst (λ d. IsAShop (h.image d)) c.new.ensures.disk (arm.ensures.cause arm.field-0-0-is).0))

@@ -1,11 +1,13 @@
 -- The promise, of the three steps.
-use Rattle.std.proofs.Common.{◌≡◌}
+use Rattle.std.proofs.Common.{refl, subst, sym, ◌≡◌}
 use Rattle.host_session.specs.declared.runs.plays.PlayFault.TheVariants as faults
 use Rattle.host_session.specs.events.Events.{message_of}
 use Rattle.host_session.proofs.lemmas.Held.{at_end}
 use Rattle.std.specs.Prelude.{map}
 use Rattle.retry_safe.proofs.Asking.{not_told}
 use Rattle.retry_safe.proofs.Safe.{no_memory, safe}
+use Rattle.retry_safe.proofs.Unfit.{kept_none, kept_then, no_shop_yet}
+use Rattle.retry_safe.specs.Left.{IsKept}
 use Rattle.retry_safe.proofs.power_loss.retry_after_power_loss.Goals as goal
 
 pub returns-in-Ok : goal.returns-in-Ok
@@ -18,6 +20,11 @@ returns-in-Ok g c =
           c.open_until_each.result _ _ c.ask.result left (c.open_until_each.ensures.moments _ left.shop)
           (c.open_until_each.ensures.later _ left.shop)
           (c.ask.ensures.asked _ (at_end h _ _ _ (c.open_until_each.ensures.moments _ left.shop)));
+      unfit = λ none.
+          let first = c.in-Ok.ensures.unfit none in
+          let opened = kept_then h _ _ _ first (c.open_until_each.ensures.unfit (no_shop_yet h _ _ first none)) in
+          let last = c.ask.ensures.unfit (no_shop_yet h _ _ opened none) in
+          (last.0, kept_then h _ _ _ opened last.1);
       memory = not_told c.ask.result (λ e. e.0 ≡ faults.NoMemory) _ c.ask.ensures.room;
     }
 
@@ -29,5 +36,6 @@ returns-in-Err g c =
       safe = λ s shop.
           no_memory h s (map message_of c.args.events.now) c.args.power c.args.again.now c.args.disk c.in-Err.disk _ _ shop
           kept.0 kept.1;
+      unfit = λ none. (refl, subst (IsKept h c.args.disk) (sym kept.0) (kept_none h c.args.disk));
       memory = λ is. kept;
     }
