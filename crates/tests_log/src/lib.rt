@@ -5,6 +5,8 @@
 #[cfg(test)]
 mod comparing;
 #[cfg(test)]
+mod life_rows;
+#[cfg(test)]
 mod log_rows;
 #[cfg(test)]
 mod logs;
