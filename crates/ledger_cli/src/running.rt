@@ -67,8 +67,8 @@ fn obey<F: Write + Seek + Drop, W: Write>(
 /// returns the exit status and the file. Bytes that the job doesn't read are empty: `image` are those of IMAGE, `script`
 /// those of SCRIPT or RECORDS, or of `serve`'s standard input. `file` is IMAGE for writing, at its start, for a job that
 /// writes it, and the copy for `Copy`; without one such a job ends with 3 and `FILE`, and nothing is printed. A job that
-/// only reads leaves it as it was. There are no logs: `Serve` writes the image itself, whatever way the job says. A job
-/// over several images ends with 3 and `FILE`, since only one has its bytes here: call `overview_run` for each.
+/// only reads leaves it as it was. There are no logs: `Serve` writes the image itself, whatever way the job says.
+/// A job over several images ends with 3 and `FILE`, since only one has its bytes here: call `overview_run` for each.
 ///
 /// The file is handed each sector at 256 times its index, before memory takes it, and nothing else; `Format` and `Copy`
 /// hand it the whole image. It can't be ended: what a longer file held behind an image stays there. Whether it was there before, and

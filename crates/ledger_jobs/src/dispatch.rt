@@ -312,8 +312,8 @@ where
 /// before the image is written, and read in the place of the image otherwise. `InUse` where another program has it; `Log`
 /// if its log gives no image; `File` where a file couldn't be opened or read, and the faults of `reading_run`,
 /// `format_run`, `play_durably`, `serve_guarded`, `serve_logged_guarded`, `copy_run`, `repair_guarded`, `make_guarded`,
-/// `store_guarded`, `take_told` and `drawing_run`. What is wrong with one of several images is printed, and only an output
-/// that failed ends the job before the last of them.
+/// `store_guarded`, `take_told` and `drawing_run`. What is wrong with one of several images is printed, and only an
+/// output that failed ends the job before the last of them.
 pub fn do_job<F, R, W>(rt: &R, job: &Job<'_>, out: &mut W) -> Result<Option<Fault>, Refusal>
 where
     F: EndedFile + Read + Locks + OpenFile + Drop,

@@ -35,6 +35,15 @@ pub enum Drawing {
     Poster,
 }
 
+/// Where the requests of a shop that is served come to the disk first.
+#[derive(Clone, Copy, Debug, PartialEq, Eq)]
+pub enum Way {
+    /// A log beside the image, which other jobs read while it is served. It is brought to the image at the end.
+    OverLog,
+    /// The image itself, sector by sector, and no other file.
+    InPlace,
+}
+
 /// What is printed of each of several images.
 #[derive(Clone, Copy, Debug, PartialEq, Eq)]
 pub enum Overview {
@@ -44,15 +53,6 @@ pub enum Overview {
     Check,
     /// A line for each track.
     Map,
-}
-
-/// Where the requests of a shop that is served come to the disk first.
-#[derive(Clone, Copy, Debug, PartialEq, Eq)]
-pub enum Way {
-    /// A log beside the image, which other jobs read while it is served. It is brought to the image at the end.
-    OverLog,
-    /// The image itself, sector by sector, and no other file.
-    InPlace,
 }
 
 /// What a job does on a disk that has lost a part of a file.
