@@ -104,12 +104,13 @@ class Shop:
         self.kills += 1
 
     def stopped(self):
-        """`serve` ends with it, the image is free and may be copied, and what is asked meanwhile waits."""
+        """`serve` ends with it, the image is copied with its log, and what is asked meanwhile waits."""
         self.ask(30)
         want(systemctl("stop", self.bridge)[1] == 0, f"{self.bridge} isn't stopped")
         want(shown(self.bridge, "ActiveState", "Result") == ["inactive", "success"], f"{self.bridge} isn't inactive")
         want(sure("/usr/bin/ledger", "check", self.image) == ["OK"], f"{self.image} isn't OK")
-        shutil.copy(self.image, "/var/lib/backup.d64")
+        Path("/var/lib/backup.d64").unlink(missing_ok=True)
+        sure("/usr/bin/ledger", "copy", self.image, "/var/lib/backup.d64")
         time.sleep(2)
         want(systemctl("start", self.bridge)[1] == 0, f"{self.bridge} isn't started again")
         self.heard()
