@@ -235,15 +235,20 @@ def unfit(shop):
 
 
 def older(shop, backup):
-    """A backup in the image's place is refused."""
-    moved = SHOPS / "moved"
+    """A backup in the image's place is refused, as one that is older than its journal."""
+    moved, log = SHOPS / "moved", shop.image.with_name(f"{shop.image.name}-log")
     shop.image.rename(moved)
+    if log.exists():
+        log.rename(SHOPS / "moved-log")
     shutil.copy(backup, shop.image)
     shutil.chown(shop.image, "ledger", "ledger")
     systemctl("start", shop.bridge)
     shop.left(78, "an image that is older than its journal")
     shop.image.unlink()
+    log.unlink(missing_ok=True)
     moved.rename(shop.image)
+    if (SHOPS / "moved-log").exists():
+        (SHOPS / "moved-log").rename(log)
 
 
 def fill(path, file):

@@ -1,4 +1,5 @@
-"""A shop behind a bridge, whatever carries its messages: one `serve`, and the journal of what it took."""
+"""A shop behind a bridge, whatever carries its messages: one `serve`, and the journal of what it took. `serve` keeps a log
+beside the image; `show` reads it."""
 
 import os
 import subprocess
