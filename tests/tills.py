@@ -371,7 +371,7 @@ class Trial:
         """The time from wish to answer, while nothing is killed."""
         for name in ("broker", "pipe"):
             for tills in (1, 8) if name == "broker" else (1,):
-                image = self.folder / "timed.d64"
+                image = self.folder / f"timed_{name}{tills}.d64"
                 shutil.copy(self.folder / "blank.d64", image)
                 self.timed(name, tills, image)
 

@@ -81,7 +81,8 @@ def hole_in(text):
     start = text.rfind(b" takes ")
     hole = text.find(b"\0", start) if start >= 0 else -1
     count = len(text[start:].split(b"\n", 1)[0].split()) - 1
-    return hole if hole >= 0 and 1 <= text.count(b"\n", start, hole) <= count else len(text)
+    is_last = text.count(b"\n", start) <= count + 1
+    return hole if hole >= 0 and is_last and 1 <= text.count(b"\n", start, hole) <= count else len(text)
 
 
 def whole_lines(text, path):
