@@ -5,9 +5,10 @@
         --broker amqps://one.example/ --broker amqps://two.example/
 
 Tills ask through the exchange `shop.1.asks`, each with its number as key. The asks lie in the quorum queue
-`shop.1.bridge`, which has a single active consumer: of several bridges one serves, and the others stand by. What the broker
-has delivered is handed to `serve` together, in its order. A message is acknowledged when the broker has confirmed or
-refused its reply; a bridge that dies before leaves it to the next, whose repeat has no second effect. Replies go out through the exchange `shop.1.replies`, with the till's number as key.
+`shop.1.bridge`, which has a single active consumer: of several bridges one serves, and the others stand by. What the
+broker has delivered is handed to `serve` together, in its order. A message is acknowledged when the broker has confirmed
+or refused its reply; a bridge that dies before leaves it to the next, whose repeat has no second effect. Replies go out
+through the exchange `shop.1.replies`, with the till's number as key.
 
 If the connection is lost, `serve` is ended before another is sought: another bridge may be the active one by then. How
 soon that is noticed is said by the broker's place (`?heartbeat=10`). If no message comes for some seconds `serve` is

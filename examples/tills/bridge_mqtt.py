@@ -6,10 +6,10 @@
 
 It subscribes to `shops/1/asks/+` with QoS 1 and a session that the broker keeps. What the broker has delivered is handed
 to `serve` together, in its order. Replies go out on `shops/1/replies/TILL`, and each before the acknowledgement (PUBACK)
-of its message, over the same connection: so a broker that has the acknowledgement has the reply. Of several bridges the one that has the image has the session: each seeks the
-image only while it reaches the broker, and takes the session only when it has the image. A bridge that loses its
-connection ends, and `serve` with it: so the image is free for one that can reach the broker. A supervisor starts it
-again. The retained topic `shops/1/bridge` says whether a bridge serves. With --screen it publishes the stock, the tills and
+of its message, over the same connection: so a broker that has the acknowledgement has the reply. Of several bridges the
+one that has the image has the session: each seeks the image only while it reaches the broker, and takes the session only
+when it has the image. A bridge that loses its connection ends, and `serve` with it: so the image is free for one that can
+reach the broker. A supervisor starts it again. The retained topic `shops/1/bridge` says whether a bridge serves. With --screen it publishes the stock, the tills and
 the last answers too (`board.py`), with --metrics figures for a monitor (`metrics.py`).
 
 Exit status: 74 if the image or the journal couldn't be written (a keeper has to look), 75 if it is to be started again,
