@@ -4,10 +4,10 @@
     restore.py /var/lib/ledger/shop1.d64 /var/backups/ledger --journal /var/lib/ledger/shop1.lines \\
         --unit ledger-bridge-mqtt@1
 
-It prints each step before it does it, and ends at the first that fails. The image that was there is set aside with its
-log, and never removed. Give `--copy N` for another copy than the newest sound one. If the journal is lost, `--without-journal` goes on
-with the copy alone: that loses what was asked since, and the tills that asked have to begin again. Status 1: a step failed;
-the last line says what stands."""
+It prints each step before it does it, and ends at the first that fails. The image that was there is set aside with its log,
+and never removed. Give `--copy N` for another copy than the newest sound one. If the journal is lost, `--without-journal`
+goes on with the copy alone: that loses what was asked since, and the tills that asked have to begin again. Status 1: a
+step failed; the last line says what stands."""
 
 import argparse
 import os
