@@ -187,7 +187,7 @@ def handed_together(place, draw):
         sizes.append(len(lines))
     serve.end()
     words = [place.kept, "--tills", 4, "--image", place.image, "--program", place.program]
-    sure(REBUILD, place.folder / "together.d64", *words)
+    sure(REBUILD, place.folder / "anew.d64", *words)
     return sum(sizes)
 
 
