@@ -171,7 +171,7 @@ def taken_together(place):
 def handed_together(place, draw):
     """A day of messages, handed over some at a time."""
     rule, numbers, sizes = Shop(4), {till: 0 for till in range(1, 7)}, []
-    serve = place.serve(600)
+    serve = place.serve(6000)
     serve.start()
     while sum(sizes) < MANY:
         lines = []
