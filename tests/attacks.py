@@ -12,7 +12,6 @@ python3-paho-mqtt, openssl and erlang-base, ends by itself, and prints one line 
 
 import argparse
 import os
-import shutil
 import signal
 import socket
 import ssl
@@ -75,10 +74,8 @@ class Scene:
         return answer
 
     def shown(self):
-        """What `show` prints of a copy of the image."""
-        copy = self.folder / "copy.d64"
-        shutil.copy(self.image, copy)
-        return sure(self.program, "show", copy)
+        """What `show` prints beside the bridge's `serve`."""
+        return sure(self.program, "show", self.image)
 
     def judge(self, what):
         """The bridge lives, the honest till has its answer, and each till's last request is one that it made."""

@@ -6,7 +6,10 @@
 - Two bridges over one image and one journal, where `serve` is killed beneath the first, and it goes on to hand a message
   over before it has seen that: the journal has the requests that were taken, in their order.
 - A journal that breaks off at each byte of its last two lines, with and without NUL bytes after it: no cut request is
-  handed over, and the shop goes on.
+  handed over, and the shop goes on. The same at each fifth byte for requests that were handed over together, with zeros in
+  their midst too.
+- Messages that are handed over together, as a broker may deliver them: each has the reply that it has alone, of each till
+  in its order, and the journal makes the same image.
 - An image that is older than its journal, or another shop's: refused, and neither file is changed. One that was served
   without its journal meanwhile: served, and the journal says so. A file that is no journal: refused and unchanged.
 - A journal in many files: each backup of the day and the files make the image that there is (`rebuild.py`); without one
@@ -14,7 +17,6 @@
 - What the bridge takes for a request is what `serve` takes for one, over many lines that nearly are."""
 
 import random
-import shutil
 import sys
 import tempfile
 import threading
@@ -31,6 +33,8 @@ from shop_rule import SYNTAX, Shop
 
 REBUILD = EXAMPLES / "rebuild.py"
 DAY, LINES = 120, 3000
+# how many messages are handed over together, in all
+MANY = 2000
 
 
 class Place:
@@ -51,6 +55,15 @@ class Place:
         replies = [serve.hand(request.encode()).decode() for request in requests]
         serve.end()
         return replies
+
+    def together(self, messages, wanted):
+        """A bridge that takes these at once; `wanted` are their replies, or None."""
+        serve = self.serve()
+        serve.start()
+        replies = serve.hand_all([(message, None) for message in messages])
+        want(wanted in (None, replies), f"{messages} get {replies}")
+        want(all(b",DONE," in reply for reply in replies) or wanted, f"{messages} get {replies}")
+        serve.end()
 
     def refused(self, status):
         """The exit status of a bridge that doesn't serve, and leaves image and journal as they are."""
@@ -116,6 +129,68 @@ def broken_off(place):
     return cuts
 
 
+def taken_together(place):
+    """Each beginning of the journal that a power cut can leave of three requests that were handed over together, and one
+    with a hole, before image and after."""
+    place.served("1,1,S,5,10", "2,1,I,5,3")
+    before = place.image.read_bytes()
+    asked = [b"1,2,S,6,11", b"2,2,I,5,1", b"2,1,I,5,3", b"3,1,R,5,4", b"hello"]
+    wanted = [b"1,2,DONE,11", b"2,2,DONE,6", b"2,1,DONE,7", b"3,1,DONE,10", shop.SYNTAX]
+    place.together(asked, wanted)
+    text, whole = place.kept.read_bytes(), place.image.read_bytes()
+    start = text.rindex(b"\n# ") + 1
+    replies = text.index(b"\n", start) + 1
+    want(text[start:replies].endswith(b"Z takes 1,2,S,6,11 2,2,I,5,1 3,1,R,5,4\n"), f"the journal has {text[start:replies]}")
+    lines = text.splitlines(keepends=True)
+    holes = [text[:at] + bytes(min(30, len(text) - at)) + text[at + 30 :] for at in range(replies, len(text) - 1, 13)]
+    cuts = [text[:end] + bytes(512 * (end % 2)) for end in range(start, len(text) + 1, 5)]
+    tried = 0
+    for kept in [*cuts, *holes]:
+        is_taken, is_told = kept.startswith(text[:replies]), b"\n" in kept[replies:].split(b"\0")[0]
+        for image in (whole,) if is_told else (before, whole) if is_taken else (before,):
+            tried += 1
+            place.image.write_bytes(image)
+            place.kept.write_bytes(kept)
+            place.together([b"2,2,I,5,1", b"1,2,S,6,11", b"3,1,R,5,4", b"2,3,I,6,1"], None)
+            requests = {request: reply for request, reply in entries(place.kept).requests}
+            want(len(requests) == 6 == len(entries(place.kept).requests), f"{kept[start:]}: {requests}")
+            stock = sorted(line for line in place.shown() if line.startswith("CARD "))
+            want(stock == ["CARD 5,10", "CARD 6,10"], f"{kept[start:]}: {stock}")
+    for wrong in (
+        text.replace(b"takes 1,2,S", b"takes 1,2,R"),
+        text.replace(lines[-1], b"").replace(lines[-2], lines[-1]),
+        text[: replies + 10] + b"\0" + text[replies + 11 :] + lines[0],
+        text + text[start:replies] + text[start:replies],
+    ):
+        place.image.write_bytes(whole)
+        place.kept.write_bytes(wrong)
+        place.refused(shop.NO_SHOP)
+    return tried
+
+
+def handed_together(place, draw):
+    """A day of messages, handed over some at a time."""
+    rule, numbers, sizes = Shop(4), {till: 0 for till in range(1, 7)}, []
+    serve = place.serve(6000)
+    serve.start()
+    while sum(sizes) < MANY:
+        lines = []
+        for _ in range(draw.randint(1, 64)):
+            till = draw.randint(1, 6)
+            number = max(1, numbers[till] + draw.choice([-2, -1, 0, 0, 1, 1, 1, 2]))
+            numbers[till] += number == numbers[till] + 1
+            lines.append(f"{till},{number},{draw.choice('RIS')},{draw.randint(1, 3)},{draw.randint(0, 50)}")
+            lines += draw.choice([[], [], [lines[-1]], ["hello"]])
+        replies = serve.hand_all([(line.encode(), None) for line in lines])
+        wanted = [rule.reply(line) for line in lines]
+        want([one.decode() for one in replies] == wanted, f"{lines} together get {replies}, not {wanted}")
+        sizes.append(len(lines))
+    serve.end()
+    words = [place.kept, "--tills", 4, "--image", place.image, "--program", place.program]
+    sure(REBUILD, place.folder / "anew.d64", *words)
+    return sum(sizes)
+
+
 def entries(path):
     return journal.Entries(path.read_bytes(), path)
 
@@ -169,7 +244,7 @@ def many_files(place, other, draw):
             serve.hand(junk.encode())
         if turn % 20 == 0:
             backups.append(place.folder / f"backup{turn}.d64")
-            shutil.copy(place.image, backups[-1])
+            sure(place.program, "copy", place.image, backups[-1])
     serve.end()
     files = [Path(one) for one in journal.files_of(place.kept)]
     want(len(files) > 5, f"the journal has {len(files)} files")
@@ -250,10 +325,12 @@ def main():
         folder = Path(folder)
         two_bridges(Place(program, folder, "two"))
         cuts = broken_off(Place(program, folder, "cut"))
+        together = taken_together(Place(program, folder, "together"))
+        messages = handed_together(Place(program, folder, "at_once"), draw)
         images = other_images(Place(program, folder, "own"), Place(program, folder, "other"))
         files, backups, refused = many_files(Place(program, folder, "many"), Place(program, folder, "third", 2), draw)
         good = grammar(program, folder, draw)
-    told = f"{cuts} cuts, {images} other images and files, {files} files and {backups} backups, {refused} refusals"
+    told = f"{cuts} cuts, {together} of requests together, {messages} messages together, {images} other images and files, {files} files and {backups} backups, {refused} refusals"
     print(
         f"a journal, with two bridges and a serve killed beneath one: {told}; {LINES} lines, {good} requests: no difference"
     )

@@ -31,7 +31,10 @@ head -n 1 /shop/upgrade | grep -q ' 101 '
 [ "$(stat -c %a "$own/accounts/till-1-1.account" "$own/ca/ca.key" "$own/pages.key" | sort -u)" = 600 ]
 
 # a second run, for one till more, and one with a file that somebody changed
-sums() { sha256sum "$own/accounts/till-1-1.account" "$own/ca.crt" "$own/goods.csv" /var/lib/ledger/shop1.d64; }
+sums() {
+    sha256sum "$own/accounts/till-1-1.account" "$own/ca.crt" "$own/goods.csv"
+    ledger show /var/lib/ledger/shop1.d64
+}
 before=$(sums)
 examples/operator/set_up.sh shop.example 3
 [ "$before" = "$(sums)" ]

@@ -3,8 +3,8 @@
 
     tests/shop_keeping.py PROGRAM
 
-Backups that rotate with the journal, of a shop that is served and of one that isn't; a restore step by step, with a damaged
-copy, and without the journal; metrics and health of a bridge that serves, stands by and hangs; word to systemd. Values are
+Backups that rotate with the journal, of a shop that is served, of one that isn't, and of one whose `serve` was killed; a
+restore step by step, with a damaged copy, with a log beside the image, and without the journal; metrics and health of a bridge that serves, stands by and hangs; word to systemd. Values are
 worked out by hand after docs/MESSAGES.md. It wants Debian's python3-prometheus-client and python3-sdnotify."""
 
 import os
@@ -20,7 +20,7 @@ from pathlib import Path
 
 import shop_papers
 import shop_scene as scene
-from served import run, sure, want
+from served import sure, want
 from shop_papers import check, tool
 from shop_rule import Shop
 from shop_scene import PYTHON, TILLS, until
@@ -43,6 +43,16 @@ class Bridge:
     def end(self):
         self.process.stdin.close()
         self.process.wait(30)
+        self.process.stdout.close()
+
+    def kill(self):
+        """Both die at once, and leave the image's log."""
+        import brokers
+
+        for process in (*brokers.children(self.process.pid), self.process.pid):
+            os.kill(process, signal.SIGKILL)
+        self.process.wait(30)
+        self.process.stdin.close()
         self.process.stdout.close()
 
 
@@ -84,12 +94,23 @@ def backups(program, folder):
     held = Bridge(program, image, kept)
     held.ask("3,1,S,3,1")
     rule.reply("3,1,S,3,1")
-    copies_live = run(program, "copy", "--help")[0] == 0
-    tool("backup.py", *words, status=0 if copies_live else 1)
-    held.end()
+    tool("backup.py", *words)
+    check(held.ask("3,2,S,3,2") == rule.reply("3,2,S,3,2"), "a bridge doesn't serve on behind a backup")
+    shows(program, image, rule)
+    tool("backup.py", *words)
+    names = sorted(path.name for path in copies.iterdir())
+    check(names == ["shop1-000005.d64", "shop1-000006.d64"], f"beside a bridge the copies are {names}")
+    shows(program, copies / names[1], rule)
+    held.kill()
+    check(log_of(image).exists(), "a serve that was killed leaves no log")
+    tool("backup.py", *words)
+    shows(program, copies / "shop1-000007.d64", rule)
+    day(program, image, kept, rule, 41, 1)
+    check(not log_of(image).exists(), "the log stays")
+    tool("backup.py", *words)
     old = folder / "old.d64"
     image.rename(old)
-    image.write_bytes((copies / "shop1-000004.d64").read_bytes())
+    image.write_bytes((copies / "shop1-000007.d64").read_bytes())
     (copies / "shop1-000009.d64").write_bytes(old.read_bytes())
     check("is older than" in tool("backup.py", *words, status=1), "an older image is kept")
     (copies / "shop1-000009.d64").unlink()
@@ -103,7 +124,7 @@ def backups(program, folder):
 
 def restores(program, folder, image, kept, copies, rule):
     """A restore, step by step: a lost image, a damaged copy, and a lost journal."""
-    day(program, image, kept, rule, 41, 5)
+    day(program, image, kept, rule, 42, 4)
     words = [image, copies, "--journal", kept, "--program", program]
     damaged = sorted(copies.glob("shop1-*.d64"))[-1]
     whole = damaged.read_bytes()
@@ -116,7 +137,8 @@ def restores(program, folder, image, kept, copies, rule):
     shows(program, image, rule)
     check((folder / "shop1.d64.aside1").read_bytes() == bytes(1000), "the old image isn't set aside")
     damaged.write_bytes(whole)
-    day(program, image, kept, rule, 46, 5)
+    day(program, image, kept, rule, 46, 4)
+    with_log(program, image, kept, rule, words)
     last = kept.read_bytes()
     kept.write_bytes(b"garbage\n" + last)
     before = image.read_bytes()
@@ -125,6 +147,28 @@ def restores(program, folder, image, kept, copies, rule):
     told = tool("restore.py", *words, "--without-journal")
     check("is lost" in told and (folder / "shop1.lines.aside1").exists(), f"without the journal: {told}")
     check(image.read_bytes() == damaged.read_bytes(), "the copy isn't in its place")
+
+
+def with_log(program, image, kept, rule, words):
+    """An older image in the place of one that a killed `serve` left with its log: both are set aside, as they were."""
+    before = image.read_bytes()
+    held = Bridge(program, image, kept)
+    check(held.ask("3,3,R,3,1") == rule.reply("3,3,R,3,1"), "till 3 isn't answered")
+    held.kill()
+    own, log = image.read_bytes(), log_of(image).read_bytes()
+    check(own == before, "serve writes the image itself")
+    shows(program, image, rule)
+    tool("restore.py", *words)
+    check(not log_of(image).exists(), "a log of the old image stays")
+    shows(program, image, rule)
+    aside = image.with_name("shop1.d64.aside2")
+    check((aside.read_bytes(), log_of(aside).read_bytes()) == (own, log), "image and log aren't set aside together")
+    shows(program, aside, rule)
+    day(program, image, kept, rule, 50, 1)
+
+
+def log_of(image):
+    return image.with_name(f"{image.name}-log")
 
 
 def asked(port, path):

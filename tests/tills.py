@@ -358,12 +358,18 @@ class Trial:
         sure(PYTHON, EXAMPLES / "rebuild.py", *words, "--program", self.program)
         return len(answers)
 
+    def together(self):
+        """How many requests a bridge handed over with others."""
+        lines = (line for path in journals(self.kept) for line in path.read_text().splitlines())
+        return sum(len(found[2].split()) for found in map(journal.TAKES.fullmatch, lines) if found)
+
     def report(self, seconds):
         counted = self.judge()
         files = len(journals(self.kept))
         struck = ", ".join(f"{self.struck[kind]} of {name}" for kind, name in KINDS[self.given.over])
         noise = f"{self.noise.old} old messages sent again, {self.noise.bad} that are no request"
-        answered = f"{counted} wishes answered in {seconds:.0f} s, in {files} files of the journal"
+        answered = f"{counted} wishes answered in {seconds:.0f} s, {self.together()} of them handed over with others"
+        answered = f"{answered}, in {files} files of the journal"
         print(f"{self.given.over}: {self.given.tills} tills, {answered}")
         print(f"  killed: {struck}; {noise}: no difference", flush=True)
 
@@ -371,7 +377,7 @@ class Trial:
         """The time from wish to answer, while nothing is killed."""
         for name in ("broker", "pipe"):
             for tills in (1, 8) if name == "broker" else (1,):
-                image = self.folder / "timed.d64"
+                image = self.folder / f"timed_{name}{tills}.d64"
                 shutil.copy(self.folder / "blank.d64", image)
                 self.timed(name, tills, image)
 

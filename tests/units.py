@@ -104,12 +104,13 @@ class Shop:
         self.kills += 1
 
     def stopped(self):
-        """`serve` ends with it, the image is free and may be copied, and what is asked meanwhile waits."""
+        """`serve` ends with it, the image is copied with its log, and what is asked meanwhile waits."""
         self.ask(30)
         want(systemctl("stop", self.bridge)[1] == 0, f"{self.bridge} isn't stopped")
         want(shown(self.bridge, "ActiveState", "Result") == ["inactive", "success"], f"{self.bridge} isn't inactive")
         want(sure("/usr/bin/ledger", "check", self.image) == ["OK"], f"{self.image} isn't OK")
-        shutil.copy(self.image, "/var/lib/backup.d64")
+        Path("/var/lib/backup.d64").unlink(missing_ok=True)
+        sure("/usr/bin/ledger", "copy", self.image, "/var/lib/backup.d64")
         time.sleep(2)
         want(systemctl("start", self.bridge)[1] == 0, f"{self.bridge} isn't started again")
         self.heard()
@@ -234,15 +235,20 @@ def unfit(shop):
 
 
 def older(shop, backup):
-    """A backup in the image's place is refused."""
-    moved = SHOPS / "moved"
+    """A backup in the image's place is refused, as one that is older than its journal."""
+    moved, log = SHOPS / "moved", shop.image.with_name(f"{shop.image.name}-log")
     shop.image.rename(moved)
+    if log.exists():
+        log.rename(SHOPS / "moved-log")
     shutil.copy(backup, shop.image)
     shutil.chown(shop.image, "ledger", "ledger")
     systemctl("start", shop.bridge)
     shop.left(78, "an image that is older than its journal")
     shop.image.unlink()
+    log.unlink(missing_ok=True)
     moved.rename(shop.image)
+    if (SHOPS / "moved-log").exists():
+        (SHOPS / "moved-log").rename(log)
 
 
 def fill(path, file):

@@ -1,49 +1,20 @@
 #!/usr/bin/python3
 """Copies a shop's image into a folder, checks the copy, and rotates copies and journal together.
 
-    backup.py /var/lib/ledger/shop1.d64 /var/backups/ledger --journal /var/lib/ledger/shop1.lines \\
-        --unit ledger-bridge-mqtt@1 --keep 14
+    backup.py /var/lib/ledger/shop1.d64 /var/backups/ledger --journal /var/lib/ledger/shop1.lines --keep 14
 
-If the program has the command `copy`, it copies while `serve` runs. Otherwise the unit is stopped for a second. A copy has
-to pass `check` and `show`, and no till may have asked less often than in the copy before. Then all but the newest `--keep`
-copies go, and with them the older files of the journal whose requests are all in the oldest copy that stays. Each name is
-printed before it goes. Status 1: there is no new copy, and nothing went."""
+The program's `copy` makes the copy, also while `serve` runs, with all that was answered before. A copy has to pass `check`
+and `show`, and no till may have asked less often than in the copy before. Then all but the newest `--keep` copies go, and
+with them the older files of the journal whose requests are all in the oldest copy that stays. Each name is printed before
+it goes. Status 1: there is no new copy, and nothing went."""
 
 import argparse
 import os
-import shutil
 import sys
 from pathlib import Path
 
 import copies
 from copies import Stopped
-
-
-def has_copy(program):
-    """Whether the program can copy an image that is served."""
-    try:
-        copies.run(program, "copy", "--help")
-        return True
-    except Stopped:
-        return False
-
-
-def copy(given, new):
-    """Makes the copy."""
-    if has_copy(given.program):
-        copies.run(given.program, "copy", given.image, new)
-        return
-    unit = copies.Unit(given.unit)
-    was_active = unit.is_active()
-    if was_active:
-        unit.control("stop")
-    try:
-        # refused with IN USE if somebody else has it
-        copies.run(given.program, "show", given.image)
-        shutil.copyfile(given.image, new)
-    finally:
-        if was_active:
-            unit.control("start")
 
 
 def kept(given, new, older):
@@ -75,7 +46,6 @@ def words():
     parser.add_argument("image", type=Path)
     parser.add_argument("folder", type=Path)
     parser.add_argument("--journal", metavar="FILE", help="the shop's journal; without it the journal stays as it is")
-    parser.add_argument("--unit", help="the bridge's unit, which is stopped if the program can't copy while it serves")
     parser.add_argument("--keep", type=int, default=14, metavar="COPIES", help="how many copies stay (default 14)")
     parser.add_argument("--program", default="ledger")
     given = parser.parse_args()
@@ -90,7 +60,7 @@ def main():
     try:
         older = copies.copies_in(given.folder, given.image.stem)
         new.unlink(missing_ok=True)
-        copy(given, new)
+        copies.run(given.program, "copy", given.image, new)
         path = kept(given, new, older)
         gone, lines = rotate(given, [*older, path])
         print(f"{path}: OK, copy {copies.number_of(path)}; {gone} copies and {lines} files of the journal removed")

@@ -6,6 +6,7 @@ import os
 import re
 import subprocess
 import sys
+import time
 from pathlib import Path
 
 sys.path.append(str(Path(__file__).resolve().parent.parent / "tills"))
@@ -17,9 +18,18 @@ class Stopped(Exception):
     """What keeps a backup or a restore from going on."""
 
 
+# seconds for which a command is repeated that finds the image in use: a `serve` that begins lets nobody else in
+PATIENCE = 10.0
+
+
 def run(*words):
     """What a command prints. Raises Stopped if it ends with another status than 0."""
-    done = subprocess.run(list(map(str, words)), capture_output=True, text=True)
+    end = time.monotonic() + PATIENCE
+    while True:
+        done = subprocess.run(list(map(str, words)), capture_output=True, text=True)
+        if (done.returncode, done.stderr.strip()) != (3, "IN USE") or time.monotonic() > end:
+            break
+        time.sleep(0.2)
     if done.returncode != 0:
         raise Stopped(f"{' '.join(map(str, words))}: status {done.returncode} {done.stderr.strip()}")
     return done.stdout
@@ -77,8 +87,3 @@ class Unit:
     def control(self, word):
         if self.name:
             run("systemctl", word, self.name)
-
-    def is_active(self):
-        if not self.name:
-            return False
-        return subprocess.run(["systemctl", "is-active", "--quiet", self.name]).returncode == 0

@@ -4,10 +4,10 @@
     restore.py /var/lib/ledger/shop1.d64 /var/backups/ledger --journal /var/lib/ledger/shop1.lines \\
         --unit ledger-bridge-mqtt@1
 
-It prints each step before it does it, and ends at the first that fails. The image that was there is set aside and never
-removed. Give `--copy N` for another copy than the newest sound one. If the journal is lost, `--without-journal` goes on
-with the copy alone: that loses what was asked since, and the tills that asked have to begin again. Status 1: a step failed;
-the last line says what stands."""
+It prints each step before it does it, and ends at the first that fails. The image that was there is set aside with its log,
+and never removed. Give `--copy N` for another copy than the newest sound one. If the journal is lost, `--without-journal`
+goes on with the copy alone: that loses what was asked since, and the tills that asked have to begin again. Status 1: a
+step failed; the last line says what stands."""
 
 import argparse
 import os
@@ -20,6 +20,11 @@ from copies import Stopped
 
 HERE = Path(__file__).resolve().parent
 REBUILD = next((path for path in (HERE / "rebuild.py", HERE.parent / "tills" / "rebuild.py") if path.exists()), None)
+
+
+def log_of(image):
+    """The log that `serve` keeps beside an image, and that alone has what it answered last."""
+    return image.with_name(f"{image.name}-log")
 
 
 class Restore:
@@ -63,18 +68,21 @@ class Restore:
                 os.chown(self.new, owner.st_uid, owner.st_gid)
 
     def aside(self, path):
-        """A name for what is set aside, which nothing has yet."""
-        number = 1
-        while (other := path.with_name(f"{path.name}.aside{number}")).exists():
+        """Renames a file, and an image's log with it, to what nothing has yet. An image goes first: alone it would be an
+        older shop."""
+        number, log = 1, log_of(path)
+        while (other := path.with_name(f"{path.name}.aside{number}")).exists() or log_of(other).exists():
             number += 1
-        path.rename(other)
-        print(f"{path} is {other} now")
+        for old, new in ((path, other), (log, log_of(other))):
+            if old.exists():
+                old.rename(new)
+                print(f"{old} is {new} now")
 
     def put(self):
         """Puts the new image in the old one's place."""
         self.say("Sets the old image aside, and puts the new one in its place")
-        if self.given.image.exists():
-            self.aside(self.given.image)
+        self.aside(self.given.image)
+        copies.sync(self.given.image.parent)
         if self.given.without_journal and Path(self.given.journal).exists():
             self.aside(Path(self.given.journal))
         copies.sync(self.new)

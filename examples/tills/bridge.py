@@ -5,9 +5,10 @@
         --broker amqps://one.example/ --broker amqps://two.example/
 
 Tills ask through the exchange `shop.1.asks`, each with its number as key. The asks lie in the quorum queue
-`shop.1.bridge`, which has a single active consumer: of several bridges one serves, and the others stand by. A message is
-acknowledged when the broker has confirmed or refused its reply; a bridge that dies before leaves it to the next, whose
-repeat has no second effect. Replies go out through the exchange `shop.1.replies`, with the till's number as key.
+`shop.1.bridge`, which has a single active consumer: of several bridges one serves, and the others stand by. What the
+broker has delivered is handed to `serve` together, in its order. A message is acknowledged when the broker has confirmed
+or refused its reply; a bridge that dies before leaves it to the next, whose repeat has no second effect. Replies go out
+through the exchange `shop.1.replies`, with the till's number as key.
 
 If the connection is lost, `serve` is ended before another is sought: another bridge may be the active one by then. How
 soon that is noticed is said by the broker's place (`?heartbeat=10`). If no message comes for some seconds `serve` is
@@ -51,7 +52,7 @@ class Bridge:
     """A consumer of one shop's asks."""
 
     # how many messages are on their way to a bridge at a time, and seconds without one until it lets the image go
-    AHEAD, IDLE = 16, 10
+    AHEAD, IDLE = 64, 10
 
     def __init__(self, parameters, name, serve):
         self.parameters, self.name, self.serve = parameters, name, serve
@@ -81,15 +82,22 @@ class Bridge:
         if gone.status != 0:
             raise gone
 
-    def reply_to(self, message, key, wait):
-        """The reply to a message. Only a request opens the image."""
-        line = self.serve.request(message, shop.till_of(key))
-        if not line:
-            return shop.SYNTAX
-        if not self.serve.is_open():
+    def replies_to(self, asks, wait):
+        """The replies to messages. Only a request opens the image."""
+        lines = [self.serve.request(message, shop.till_of(method.routing_key)) for method, message in asks]
+        if any(lines) and not self.serve.is_open():
             self.serve.start(wait)
             shop.say(f"{self.title}: serving")
-        return self.serve.take(line)
+        return self.serve.answers(lines)
+
+    def delivered(self, channel, messages, first):
+        """A message, and those that the broker has delivered behind it."""
+        asks = [first]
+        channel.connection.process_data_events(0)
+        while len(asks) < self.AHEAD and channel.get_waiting_message_count():
+            method, _, message = next(messages)
+            asks.append((method, message))
+        return asks
 
     def connected(self):
         """Serves over one connection, until it breaks."""
@@ -103,17 +111,19 @@ class Bridge:
             channel.confirm_delivery()
             channel.basic_qos(prefetch_count=self.AHEAD)
             shop.say(f"{self.title}: stands by")
-            for method, _, message in channel.consume(queue, inactivity_timeout=self.IDLE):
+            messages = channel.consume(queue, inactivity_timeout=self.IDLE)
+            for method, _, message in messages:
                 if method is None:
                     self.idle()
                     continue
-                reply = self.reply_to(message, method.routing_key, connection.sleep)
-                try:
-                    channel.basic_publish(replies, shop.key_of(reply), reply)
-                except NackError:
-                    # a queue behind the exchange is full: the reply is lost, and its till asks again
-                    self.serve.refusals.add(shop.till_of(method.routing_key))
-                channel.basic_ack(method.delivery_tag)
+                asks = self.delivered(channel, messages, (method, message))
+                for (ask, _), reply in zip(asks, self.replies_to(asks, connection.sleep)):
+                    try:
+                        channel.basic_publish(replies, shop.key_of(reply), reply)
+                    except NackError:
+                        # a queue behind the exchange is full: the reply is lost, and its till asks again
+                        self.serve.refusals.add(shop.till_of(ask.routing_key))
+                    channel.basic_ack(ask.delivery_tag)
         finally:
             if connection.is_open:
                 connection.close()

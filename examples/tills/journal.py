@@ -3,9 +3,14 @@ counts, in the order in which `serve` took them:
 
     2026-11-26T19:05:12.345Z 7,16,S,5,10 -> 7,16,DONE,10
 
-The part up to the arrow is on the disk before `serve` gets the request; the reply comes behind it. A last line without
-its reply is a request that `serve` may have taken or not: it is handed over again. Lines with `#` say with which number
-of each till the journal goes on (till 7 had asked 15 times):
+The part up to the arrow is on the disk before `serve` gets the request; the reply comes behind it. Of requests that are
+handed over together, one of a till at most, a line is on the disk before, and then each has its own line with its reply:
+
+    # 2026-11-26T19:05:13.000Z takes 7,17,R,5,1 9,4,I,5,3
+
+A last line without its reply, and requests that were taken so without a line, are those that `serve` may have done or not:
+they are handed over again. Other lines with `#` say with which number of each till the journal goes on (till 7 had asked
+15 times):
 
     # 2026-11-26T19:00:00.000Z begins 1:12 7:15
 
@@ -22,10 +27,12 @@ from wishes import COUNT, NUMBER, REFUSALS, opened, sync_folder
 
 TIME = r"\d{4}-\d\d-\d\dT\d\d:\d\d:\d\d\.\d{3}Z"
 ARROW = " -> "
-ENTRY = re.compile(rf"({TIME}) ({COUNT},{COUNT},[RISM],{COUNT},{NUMBER}(?:,{COUNT})?){ARROW}(.*)", re.ASCII)
+REQUEST = rf"{COUNT},{COUNT},[RISM],{COUNT},{NUMBER}(?:,{COUNT})?"
+ENTRY = re.compile(rf"({TIME}) ({REQUEST}){ARROW}(.*)", re.ASCII)
+TAKES = re.compile(rf"# ({TIME}) takes((?: {REQUEST})+)", re.ASCII)
 BEGINS = re.compile(rf"# ({TIME}) begins((?: {COUNT}:{COUNT})*)", re.ASCII)
 # what a line that broke off can have: no line is longer, or has other characters
-LONGEST, BROKEN = 2000, re.compile(r"[0-9A-Za-z:.,#> \-]*", re.ASCII)
+LONGEST, BROKEN = 5000, re.compile(r"[0-9A-Za-z:.,#> \-]*", re.ASCII)
 # what a file's name gets when a new one is begun, and the bytes after which that happens
 STAMP = re.compile(r"\.\d{8}T\d{6}\.\d{3}Z")
 SIZE = 2_000_000
@@ -68,9 +75,20 @@ def counts(request, reply):
     return reply.startswith(begin) and reply.removeprefix(begin) not in REFUSALS
 
 
+def hole_in(text):
+    """Where a power cut left zeros among the replies of the requests that were taken together last, or the end. All
+    before is on the disk, and those requests are handed over again."""
+    start = text.rfind(b" takes ")
+    hole = text.find(b"\0", start) if start >= 0 else -1
+    count = len(text[start:].split(b"\n", 1)[0].split()) - 1
+    is_last = text.count(b"\n", start) <= count + 1
+    return hole if hole >= 0 and is_last and 1 <= text.count(b"\n", start, hole) <= count else len(text)
+
+
 def whole_lines(text, path):
     """The lines of a journal's bytes, and how many bytes they have: a last line counts from its arrow on. Raises Unfit
     if this is no journal."""
+    text = text[: hole_in(text)]
     end = text.rfind(b"\n") + 1
     lines = text[:end].decode("ascii", "replace").splitlines()
     rest = text[end:].rstrip(b"\0").decode("ascii", "replace")
@@ -87,25 +105,40 @@ def whole_lines(text, path):
 
 class Entries:
     """What a journal's bytes say: each till's last number, and its last request with its answer as `show` prints them;
-    the requests with their replies; and the `open` request without one, or None."""
+    the requests with their replies; and the `open` requests without one. `is_begun`: the last line is the open one's."""
 
     def __init__(self, text, path):
-        self.numbers, self.shown, self.open, self.requests = {}, {}, None, []
+        self.numbers, self.shown, self.open, self.requests = {}, {}, [], []
+        self.is_begun = False
         lines, self.size = whole_lines(text, path)
         for number, line in enumerate(lines, 1):
-            begins, entry = BEGINS.fullmatch(line), ENTRY.fullmatch(line)
-            if begins:
+            begins, takes, entry = BEGINS.fullmatch(line), TAKES.fullmatch(line), ENTRY.fullmatch(line)
+            is_due = entry and self.open[:1] in ([], [entry[2]])
+            if begins and not self.open:
                 self.numbers, self.shown = numbers_of(begins[2]), {}
-            elif entry and entry[3]:
-                self.requests.append((entry[2], entry[3]))
-                if counts(entry[2], entry[3]):
-                    till, last = key_of(entry[2])
-                    self.numbers[till] = last
-                    self.shown[till] = f"{entry[2]},{answer_of(entry[3])}"
-            elif entry and number == len(lines):
-                self.open = entry[2]
+            elif takes and not self.open:
+                self.open = takes[2].split()
+            elif is_due and entry[3]:
+                self.answered(entry[2], entry[3])
+            elif is_due and number == len(lines):
+                self.broke_off(line, entry[2])
             else:
                 raise Unfit(f"{path}, line {number}, isn't a line of a journal: {line[:80]!r}")
+
+    def answered(self, request, reply):
+        self.open = self.open[1:]
+        self.requests.append((request, reply))
+        if counts(request, reply):
+            till, last = key_of(request)
+            self.numbers[till] = last
+            self.shown[till] = f"{request},{answer_of(reply)}"
+
+    def broke_off(self, line, request):
+        """The last line has no reply: the request is open, by this line or by the one that took it with others."""
+        if self.open:
+            self.size -= len(line)
+        else:
+            self.open, self.is_begun = [request], True
 
 
 class Journal:
@@ -115,6 +148,7 @@ class Journal:
 
     def __init__(self, path, size=SIZE):
         self.path, self.most, self.file = os.fspath(path), size, None
+        self.is_begun = False
 
     def has_lock(self):
         try:
@@ -147,7 +181,7 @@ class Journal:
         entries = Entries(text, self.path)
         if entries.size < len(text):
             self.file.truncate(entries.size)
-        self.size = entries.size
+        self.size, self.is_begun = entries.size, entries.is_begun
         return entries
 
     def add(self, text, sync=True):
@@ -161,12 +195,24 @@ class Journal:
         """Says with which number of each till it goes on."""
         self.add(f"# {now()} begins{text_of(numbers)}\n".encode())
 
-    def request(self, line):
-        self.add(f"{now()} {line}{ARROW}".encode())
+    def requests(self, lines):
+        """The requests that `serve` gets next."""
+        self.is_begun = len(lines) == 1
+        if self.is_begun:
+            self.add(f"{now()} {lines[0]}{ARROW}".encode())
+        elif lines:
+            self.add(f"# {now()} takes {' '.join(lines)}\n".encode())
 
-    def reply(self, reply):
-        """The next request's sync, or the end, brings it to the disk; if it is lost, the request is handed over again."""
-        self.add(reply + b"\n", sync=False)
+    def replies(self, lines, replies):
+        """Their replies. The next requests' sync, or the end, brings them to the disk; if they are lost, the requests are
+        handed over again."""
+        if self.is_begun:
+            self.add(replies[0] + b"\n", sync=False)
+        else:
+            begins = f"{now()} "
+            each = (f"{begins}{line}{ARROW}".encode() + reply + b"\n" for line, reply in zip(lines, replies))
+            self.add(b"".join(each), sync=False)
+        self.is_begun = False
 
     def is_full(self):
         return self.size >= self.most

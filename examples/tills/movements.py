@@ -37,7 +37,7 @@ def in_file(path):
         if entry and entry[3]:
             if journal.counts(entry[2], entry[3]):
                 yield movement_of(entry[1], entry[2], entry[3])
-        elif not journal.BEGINS.fullmatch(line) and not (entry and number == len(lines)):
+        elif not (journal.BEGINS.fullmatch(line) or journal.TAKES.fullmatch(line) or entry and number == len(lines)):
             raise Unfit(f"{path}, line {number}, isn't a line of a journal: {line[:80]!r}")
 
 

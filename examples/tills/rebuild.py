@@ -5,15 +5,14 @@
     rebuild.py NEW JOURNAL --tills TILLS [--image IMAGE] [--program PROGRAM]
 
 It reads JOURNAL and the older files of it, which have a time behind the name. With --from it begins with a copy of
-BACKUP, which may be older or newer than the first line: a request that BACKUP has already changes nothing. With --tills
-it begins with a fresh image. NEW is made only when all requests were played, each with the reply that the
-journal has; a file of that name is never overwritten. With --image, what `show` prints of both has to be equal: top,
-cards, and each till's last two requests with their answers. IMAGE's lock has to be free, so stop the bridge or name a
-copy. Prints one line. Status 1: a reply differs, lines are missing, or the images differ."""
+BACKUP, with its log if there is one. BACKUP may be older or newer than the first line: a request that it has already
+changes nothing. With --tills it begins with a fresh image. NEW is made only when all requests were played, each with the
+reply that the journal has; a file of that name is never overwritten. With --image, what `show` prints of both has to be
+equal: top, cards, and each till's last two requests with their answers. IMAGE may be served, but if tills ask meanwhile it
+is ahead of what was read of JOURNAL: stop the bridge, or name a copy. Prints one line. Status 1: a reply differs, lines are missing, or the images differ."""
 
 import argparse
 import os
-import shutil
 import subprocess
 import sys
 import tempfile
@@ -37,8 +36,8 @@ def run(program, *words):
 
 
 def entries_of(paths):
-    """The requests and replies of the journal's files, and the request at the end without a reply, or None."""
-    requests, last = [], None
+    """The requests and replies of the journal's files, and those at the end without a reply."""
+    requests, last = [], []
     for path in paths:
         if last:
             stop(f"{path} can't follow a file that ends with an open request: their names aren't in their order")
@@ -65,10 +64,10 @@ def judge(requests, replies):
 
 
 def rebuild(given, image):
-    """Makes the image; how many requests were played, and the open one."""
+    """Makes the image; how many requests were played, and the open ones."""
     requests, last = entries_of(journal.files_of(given.journal))
     if given.backup:
-        shutil.copyfile(given.backup, image)
+        run(given.program, "copy", given.backup, image)
     else:
         run(given.program, "format", "--new", image, "--tills", str(given.tills))
     judge(requests, play(given.program, image, [request for request, _ in requests]))
@@ -110,10 +109,11 @@ def main():
         image = os.path.join(folder, "new.d64")
         count, last = rebuild(given, image)
         is_same = given.image is None or same(given, image)
-        if not is_same and last:
-            # the request at the journal's end was taken: its reply would have been written next
-            play(given.program, image, [last])
-            is_same = same(given, image)
+        for request in last if given.image else []:
+            # what the journal's end was to have next may have been done
+            if not is_same:
+                play(given.program, image, [request])
+                is_same = same(given, image)
         verdict = run(given.program, "check", image).decode().strip()
         finish(image, given.new)
     if not is_same:

@@ -1,9 +1,9 @@
-"""A shop behind a bridge, whatever carries its messages: one `serve`, and the journal of what it took."""
+"""A shop behind a bridge, whatever carries its messages: one `serve`, and the journal of what it took. `serve` keeps a log
+beside the image; `show` reads it."""
 
 import os
 import subprocess
 import sys
-import tempfile
 import time
 from contextlib import contextmanager
 
@@ -35,7 +35,7 @@ class Gone(Exception):
         """Whether a supervisor is to start the bridge again (AGAIN), or a keeper has to look first."""
         if self.status == 1:
             return NO_SHOP
-        return DEVICE if self.text == "DEVICE" else AGAIN
+        return DEVICE if self.text in ("DEVICE", "FILE") else AGAIN
 
 
 class Unkept(Gone):
@@ -144,22 +144,19 @@ class Serve:
             raise
 
     def agree(self, entries):
-        """Compares the image with what the journal has. The request that the journal ends with is handed over once more:
+        """Compares the image with what the journal has. The requests that the journal ends with are handed over once more:
         the bridge before may have died before it did that."""
         shown = self.shown()
         self.numbers = {till: int(line.split(",")[1]) for till, line in shown.items()}
         for till, number in sorted(entries.numbers.items()):
             self.compare(till, number, shown.get(till), entries.shown.get(till))
         expected = dict(entries.numbers)
-        if entries.open:
-            till, number = journal.key_of(entries.open)
+        for till, number in map(journal.key_of, entries.open):
             self.compare(till, number - 1, shown.get(till), None)
             expected[till] = number
         is_ahead = any(number > expected.get(till, 0) for till, number in self.numbers.items())
         if entries.open:
-            reply = self.turn(entries.open.encode())
-            self.journal.reply(reply)
-            self.count(entries.open, reply.decode("latin-1"))
+            self.note(entries.open, self.turns(entries.open))
         if is_ahead and entries.size:
             say(f"{self.command[2]}: served without its journal meanwhile: make a backup now, older ones don't lead on")
         if is_ahead or not entries.size:
@@ -175,11 +172,8 @@ class Serve:
             raise Stale(f"the image isn't its journal's (till {till}: {image}, journal {kept}). {cure}")
 
     def show(self):
-        """The lines that `show` prints of a copy: `serve` has the image's lock, and has brought it to rest."""
-        with open(self.command[2], "rb") as image, tempfile.NamedTemporaryFile() as copy:
-            copy.write(image.read())
-            copy.flush()
-            told = subprocess.run([self.command[0], "show", copy.name], capture_output=True, text=True)
+        """The lines that `show` prints beside `serve`: the shop with all that it has answered."""
+        told = subprocess.run([self.command[0], "show", self.command[2]], capture_output=True, text=True)
         if told.returncode != 0:
             raise Gone(told.returncode, told.stderr.strip())
         return told.stdout.splitlines()
@@ -191,11 +185,18 @@ class Serve:
 
     def turn(self, line):
         """The reply to a line, which `serve` gives as soon as the shop is on the disk."""
+        return self.turns([line.decode()])[0]
+
+    def turns(self, lines):
+        """The replies to lines that `serve` has at hand together, one after the other."""
         try:
-            self.process.stdin.write(line + b"\n")
+            self.process.stdin.write("".join(f"{line}\n" for line in lines).encode())
             self.process.stdin.flush()
         except OSError:
             raise self.end() from None
+        return [self.reply() for _ in lines]
+
+    def reply(self):
         reply = self.process.stdout.readline()
         if not reply.endswith(b"\n") or reply.endswith(b",MEDIA\n"):
             raise self.end()
@@ -212,31 +213,60 @@ class Serve:
 
     def hand(self, message, till=None):
         """The reply to a message. One that is no request isn't handed over."""
-        line = self.request(message, till)
-        return self.take(line) if line else SYNTAX
+        return self.hand_all([(message, till)])[0]
 
-    def take(self, line):
-        """Hands over a request. If its number is its till's next one, the journal has it before. All others change
-        nothing, and aren't kept."""
-        till, number = request_of(line)
-        is_next = number == self.numbers.get(till, 0) + 1 and till not in self.strangers
-        if not self.journal or not is_next:
-            return self.turn(line.encode())
+    def hand_all(self, messages):
+        """The replies to messages, each with its till, in their order."""
+        return self.answers([self.request(message, till) for message, till in messages])
+
+    def answers(self, lines):
+        """The replies to requests, and to what is none, in their order."""
+        replies = iter(self.take([line for line in lines if line]))
+        return [next(replies) if line else SYNTAX for line in lines]
+
+    def take(self, lines):
+        """Hands over requests, as many together as may be, and returns their replies."""
+        replies = []
+        while len(replies) < len(lines):
+            together, kept = self.together(lines[len(replies) :])
+            replies += self.taken(together, kept) if kept else self.turns(together)
+        return replies
+
+    def together(self, lines):
+        """The first lines that go together, and those of them that have their till's next number: the journal has them
+        before. All others change nothing, and aren't kept. Of those that are kept at most one is a till's: the shop has
+        each till's last two answers, so whatever was done can be asked again."""
+        kept, tills = [], set()
+        for at, line in enumerate(lines if self.journal else []):
+            till, number = request_of(line)
+            ahead = number - self.numbers.get(till, 0)
+            if ahead == 2 and till in tills:
+                return lines[:at], kept
+            if ahead == 1 and till not in tills and till not in self.strangers:
+                kept.append(line)
+                tills.add(till)
+        return lines, kept
+
+    def taken(self, lines, kept):
+        """The replies to lines, of which some are kept."""
         with self.keeping():
-            self.journal.request(line)
-            reply = self.turn(line.encode())
-            self.journal.reply(reply)
-            self.count(line, reply.decode("latin-1"))
+            self.journal.requests(kept)
+            replies = self.turns(lines)
+            first = {line: reply for line, reply in reversed(list(zip(lines, replies)))}
+            self.note(kept, [first[line] for line in kept])
             if self.journal.is_full():
                 say(f"{self.journal.path}: goes on in a new file, the one before is {self.journal.turn(self.numbers)}")
-        return reply
+        return replies
 
-    def count(self, line, reply):
-        till, number = request_of(line)
-        if journal.counts(line, reply):
-            self.numbers[till] = number
-        elif reply.endswith(",NO TILL"):
-            self.strangers.add(till)
+    def note(self, lines, replies):
+        """Keeps the replies to requests that the journal has, and counts these."""
+        self.journal.replies(lines, replies)
+        for line, reply in zip(lines, replies):
+            till, number = request_of(line)
+            if journal.counts(line, reply.decode("latin-1")):
+                self.numbers[till] = number
+            elif reply.endswith(b",NO TILL"):
+                self.strangers.add(till)
 
     def end(self):
         """Ends its input and waits for it, and returns how it ended."""

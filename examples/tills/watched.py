@@ -102,19 +102,22 @@ class Watched(shop.Serve):
         else:
             self.figures.hear(topic, payload)
 
-    def hand(self, message, till=None):
-        reply = super().hand(message, till)
-        self.figures.answered(reply)
-        return reply
+    def answers(self, lines):
+        replies = super().answers(lines)
+        for reply in replies:
+            self.figures.answered(reply)
+        return replies
 
-    def take(self, line):
+    def take(self, lines):
         began = time.monotonic()
-        reply = super().take(line)
-        self.figures.turned(time.monotonic() - began)
-        text = reply.decode("latin-1")
-        if self.board and self.board.is_new(*request_of(line)) and journal.counts(line, text):
-            self.is_short |= self.board.took(journal.now(), line, text)
-        return reply
+        replies = super().take(lines)
+        seconds = time.monotonic() - began
+        for line, reply in zip(lines, replies):
+            self.figures.turned(seconds)
+            text = reply.decode("latin-1")
+            if self.board and self.board.is_new(*request_of(line)) and journal.counts(line, text):
+                self.is_short |= self.board.took(journal.now(), line, text)
+        return replies
 
     def tick(self, publish):
         """Between two messages: feeds the screen, the figures and the watchdog."""

@@ -1,5 +1,11 @@
 //! Functions that take the memory for their images.
-ghost use Rattle.std.specs.Prelude.{◌≡◌, IfOk, IfSome, length};
+ghost use Rattle.std.specs.Prelude.{◌≡◌, IfErr, IfOk, IfSome, List, None, Some, length};
+ghost use Rattle.d64_image.specs.Images.{Image};
+ghost use Rattle.log_files.specs.Bringing.{RestsAlone};
+ghost use Rattle.log_files.specs.Faults.{IsMisfit};
+ghost use Rattle.log_files.specs.Folders.{AllLeft, Folder, LeavesFolders};
+ghost use Rattle.log_files.specs.Shops.{Gives, GivesOneOf};
+ghost use Rattle.log_files.specs.Views.{IsLogViewed, Seen, SeenGives};
 
 use crate::landing::{LogFault, land};
 use crate::log_folder::LogFolder;
@@ -26,11 +32,21 @@ pub fn land_in<F: LogFile, D: LogFolder<F>>(
     folder: &mut D,
 ) -> Result<Vec<[u8; 256]>, LogFault>
     ensures sized { IfOk result (λ shop. length shop.items ≡ 683) }
+    ensures any_moment { (shops : List Image) (s : Folder) → D.history.held folder.old ≡ Some s → GivesOneOf shops s
+        → AllLeft D.history folder.old (GivesOneOf shops)
+        → LeavesFolders D.history folder.old folder.new (GivesOneOf shops) }
+    ensures ok { IfOk result (λ shop. (shops : List Image) (s : Folder) → D.history.held folder.old ≡ Some s
+        → GivesOneOf shops s → AllLeft D.history folder.old (GivesOneOf shops)
+        → RestsAlone D.history folder.new shop.items × Gives s shop.items) }
+    ensures refused { IfErr result (λ e. IsMisfit e → (s : Folder) → D.history.held folder.old ≡ Some s
+        → (D.history.held folder.new ≡ Some s) × ((given : Image) → Gives s given → ⊥)) }
 {
     let mut now = image_room(alloc)?;
     let mut shop = image_room(alloc)?;
-    land(folder, now.as_mut_slice(), shop.as_mut_slice())?;
-    Ok(shop)
+    match land(folder, now.as_mut_slice(), shop.as_mut_slice()) {
+        Ok(()) => Ok(shop),
+        Err(fault) => Err(fault),
+    }
 }
 
 /// Looks at an image through its log, as `view` does. Returns the image that the log gives, or None if there is no log.
@@ -39,11 +55,17 @@ pub fn view_in<V: ViewsImage>(
     folder: &mut V,
 ) -> Result<Option<Vec<[u8; 256]>>, LogFault>
     ensures sized { IfOk result (λ seen. IfSome seen (λ shop. length shop.items ≡ 683)) }
+    ensures some { IfOk result (λ seen. IfSome seen (λ shop. (s : Seen) → V.seen folder.old ≡ Some s
+        → IsLogViewed V.seen s folder.new shop.items)) }
+    ensures none { IfOk result (λ seen. seen ≡ None → (s : Seen) → V.seen folder.old ≡ Some s → s.log ≡ None) }
+    ensures refused { IfErr result (λ e. IsMisfit e → (s : Seen) → V.seen folder.old ≡ Some s
+        → (given : Image) → SeenGives s given → ⊥) }
 {
     let mut now = image_room(alloc)?;
     let mut shop = image_room(alloc)?;
-    if view(folder, now.as_mut_slice(), shop.as_mut_slice())? {
-        return Ok(Some(shop));
+    match view(folder, now.as_mut_slice(), shop.as_mut_slice()) {
+        Ok(true) => Ok(Some(shop)),
+        Ok(false) => Ok(None),
+        Err(fault) => Err(fault),
     }
-    Ok(None)
 }

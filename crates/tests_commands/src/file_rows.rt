@@ -2,7 +2,7 @@
 use crate::comparing::{holds, same_at};
 use crate::files::{Tape, filled, new_tape};
 use crate::images::formatted;
-use shop_commands::{OpensFile, Replaced, format_image, read_image, read_script};
+use shop_commands::{OpensFile, OverwrittenFile, format_image, read_image, read_script};
 use std::cell::Cell;
 use std::io;
 use std::process::Abort;
@@ -68,7 +68,7 @@ impl<'a> OpensFile for Older<'a> {
 fn is_replaced(rt: &(impl AllocGlobal + Abort), size: usize, image: &[u8]) {
     let mut older = new_tape(rt, filled(rt, 7, size).as_slice(), usize::MAX);
     let opened = Cell::new(false);
-    let mut replaced = Replaced::new(Older {
+    let mut replaced = OverwrittenFile::new(Older {
         file: Some(&mut older),
         opened: &opened,
     });

@@ -43,6 +43,7 @@ mod runs;
 mod scenes;
 #[cfg(test)]
 mod several_rows;
+#[cfg(test)]
 mod sheet_rows;
 #[cfg(test)]
 mod size_rows;
