@@ -112,6 +112,7 @@ def main():
         # what stays in its place goes on
         fresh(folder)
         served = Served(folder)
+        want("the first line", served.ask(b"2,1,S,16,1"), b"2,1,DONE,1")
         (folder / "s.d64").rename(folder / "t.d64")
         (folder / "t.d64").rename(folder / "s.d64")
         os.link(folder / "s.d64", folder / "other.d64")
