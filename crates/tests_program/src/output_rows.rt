@@ -213,7 +213,7 @@ fn outputs_that_hand_nothing_on_are_told(rt: HostRuntime) {
     hands_on(&rt, &PLAY_JOB, 11);
     hands_on(&rt, &REPAIR_JOB, 3);
     hands_on(&rt, &MAP_JOB, 953);
-    hands_on(&rt, &PICTURE_JOB, 72691);
+    hands_on(&rt, &PICTURE_JOB, 72876);
 }
 
 /// Scripts on an image whose file fails: at the third sector of growth, in the recovery after power went, in a part of a

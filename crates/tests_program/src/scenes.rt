@@ -33,7 +33,7 @@
 //! - `size`, `at-most`: its bytes; `writes`, `syncs`, `folder-syncs`: how many there were; `reads-behind`: how many syncs
 //!   before it was read; `pieces`: in how many writes the output was taken
 //! - `synced`: one sync before the first write, and one behind each
-//! - `logged`: a log stands beside the image, which no line needs to say if there is none
+//! - `logged`: a log stands beside the image, which no line needs to say if there is none; `unnamed`: one in the making
 //! - `unlocked`: the image was read without a lock, as a script
 use crate::jobs::asked;
 use crate::memory::{Errors, Memory, Runtime};
@@ -54,8 +54,9 @@ pub(crate) struct Scene {
     script: Stored,
     /// An image that was put aside.
     aside: Stored,
-    /// Whether a line spoke of a log that stands there.
+    /// Whether a line spoke of a log that stands there, and of one in the making.
     logged: Cell<bool>,
+    unnamed: Cell<bool>,
     /// Whether a line spoke of an image that was written, and whether all that the last run left is known to be told.
     written: Cell<bool>,
     told: Cell<bool>,
@@ -215,6 +216,10 @@ fn sees(scene: &Scene, word: &[u8], text: &[u8]) -> bool {
             scene.logged.set(true);
             memory.log().kind.get() != Kind::Missing
         }
+        b"unnamed" => {
+            scene.unnamed.set(true);
+            memory.making().kind.get() != Kind::Missing
+        }
         b"unlocked" => memory.image.unlocked.replace(false),
         _ => match counted(memory, word) {
             Some(number) => number == number_of(text),
@@ -236,7 +241,7 @@ fn is_told(scene: &Scene) -> bool {
         && !memory.reopened.get()
         && !memory.meddled.get()
         && memory.script.is_as(&scene.script)
-        && memory.making().kind.get() == Kind::Missing
+        && (scene.unnamed.get() || memory.making().kind.get() == Kind::Missing)
         && (scene.logged.get() || memory.log().kind.get() == Kind::Missing)
         && (scene.written.get()
             || memory.image.writes.get() == 0 && memory.image.is_as(&scene.image))
@@ -246,6 +251,7 @@ fn is_told(scene: &Scene) -> bool {
 fn noted(scene: &Scene) -> bool {
     scene.memory.forget();
     scene.logged.set(false);
+    scene.unnamed.set(false);
     scene.written.set(false);
     scene.image.copy(&scene.memory.image) && scene.script.copy(&scene.memory.script)
 }
@@ -357,6 +363,7 @@ pub(crate) fn first_scene(rt: &(impl AllocGlobal + Abort)) -> Scene {
         script: Stored::new(alloc),
         aside: Stored::new(alloc),
         logged: Cell::new(false),
+        unnamed: Cell::new(false),
         written: Cell::new(false),
         told: Cell::new(true),
     };

@@ -236,11 +236,11 @@ tells error: the following required arguments were not provided:|  <IMAGE>...|..
 ends 2
 
 $ ledger_cli picture
-tells error: the following required arguments were not provided:|  <IMAGE>|..
+tells error: the following required arguments were not provided:|  <IMAGE>...|..
 ends 2
 
 $ ledger_cli picture a.d64 b.d64
-tells error: unexpected argument 'b.d64' found|..
+tells IMAGES|
 ends 2
 
 $ ledger_cli picture a.d64 --sync
