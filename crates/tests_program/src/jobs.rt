@@ -62,7 +62,8 @@ fn row_of<'a>(job: &Job<'a>) -> Row<'a> {
             image,
         } => ("picture --svg", image, "", 0),
         Job::Sheet { ref images } => {
-            let [first, second] = [0, 1].map(|at| images.get(at).copied().unwrap_or(""));
+            let first = images.first().copied().unwrap_or("");
+            let second = images.get(1).copied().unwrap_or("");
             (
                 "picture --sheet",
                 first,
