@@ -5,11 +5,14 @@
 
 One RabbitMQ node, or one mosquitto, is started on the loopback address, with one bridge of examples/tills. Each message
 has the reply of docs/MESSAGES.md under the key of its till, or under `refused` if it is no request, and the bridge that
-took it lives on; one that is longer than the broker takes doesn't come. Then the broker is killed: a till that asks
+took it lives on; one that is longer than the broker takes doesn't come. What the broker delivers together is handed over
+together, and each till hears its answer. Then the broker is killed: a till that asks
 meanwhile hears its answer when it is back, and once. A till says that the broker knows no such shop, that there is no
 bridge, and that its account is refused."""
 
 import argparse
+import os
+import signal
 import tempfile
 import threading
 import time
@@ -37,6 +40,8 @@ REFUSED = {
     "a till past all": "65,1,S,1,1",
     "another till's request": "2,1,S,1,1",
 }
+# tills that ask while the bridge stands still
+TOGETHER = (3, 4, 5, 6)
 LARGE = "1,1,S,1,1" + " " * 10_000_000
 NAMED = {
     "a till past the shop's": (TILLS + 1, "1,S,1,1", "1,NO TILL"),
@@ -145,6 +150,24 @@ class Trial(tills.Trial):
         large.close()
         self.told(self.refused, "hello", SYNTAX, "a message after one of 10 MB")
 
+    def together(self):
+        """Tills ask while the bridge stands still. It hands all over together, and each hears."""
+        links = {till: self.listening(till) for till in TOGETHER}
+        os.kill(self.first, signal.SIGSTOP)
+        for till, link in links.items():
+            link.send(f"{till},1,S,{till},{till}")
+        links[3].send("3,1,S,3,3")
+        time.sleep(1)
+        os.kill(self.first, signal.SIGCONT)
+        for till, link in links.items():
+            replies = []
+            self.until(lambda: replies.append(self.heard_from(link)) or replies[-1], f"a reply to till {till}")
+            want(replies[-1] == f"{till},1,DONE,{till}", f"till {till} is told {replies[-1]}")
+            link.close()
+        lines = self.kept.read_text().splitlines()
+        taken = [set(found[2].split()) for found in map(tills.journal.TAKES.fullmatch, lines) if found]
+        want(taken == [{f"{till},1,S,{till},{till}" for till in TOGETHER}], f"together were taken {taken}")
+
     def away(self, seconds=5):
         """A till asks while the broker is away, and hears when it is back."""
         self.broker.stop()
@@ -162,7 +185,9 @@ class Trial(tills.Trial):
     def judge(self):
         self.end_bridges()
         shown = sure(self.program, "show", self.image)[1:]
-        cards = ["CARD 1,4", "CARD 2,9", "TILL 1,3,I,1,3,DONE,4", "PRIOR 1,2,R,1,2,DONE,7", "TILL 2,1,S,2,9,DONE,9"]
+        cards = ["CARD 1,4", "CARD 2,9", *(f"CARD {till},{till}" for till in TOGETHER)]
+        cards += ["TILL 1,3,I,1,3,DONE,4", "PRIOR 1,2,R,1,2,DONE,7", "TILL 2,1,S,2,9,DONE,9"]
+        cards += [f"TILL {till},1,S,{till},{till},DONE,{till}" for till in TOGETHER]
         want(shown == cards, f"show prints {shown}")
         words = [self.folder / "new.d64", self.kept, "--tills", TILLS, "--image", self.image]
         sure(tills.PYTHON, tills.EXAMPLES / "rebuild.py", *words, "--program", self.program)
@@ -181,13 +206,14 @@ def main():
         try:
             trial.start()
             trial.messages()
+            trial.together()
             trial.away()
             trial.judge()
         finally:
             for bridge in getattr(trial, "bridges", []):
                 bridge.kill()
             trial.broker.stop()
-    told = f"{len(REFUSED) + len(NAMED) + 1} messages, the bridge outlived each"
+    told = f"{len(REFUSED) + len(NAMED) + 1} messages, the bridge outlived each; {len(TOGETHER)} requests together"
     print(f"{given.over}: {told}; 3 complaints of a till; a till over a broker that was away: no difference")
 
 

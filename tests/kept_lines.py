@@ -220,7 +220,7 @@ def other_images(place, other):
         b"1,1,S,5,10\n",
         b"a letter\n" * 100,
         bytes(range(256)),
-        kept + b"x" * 3000,
+        kept + b"x" * 6000,
         kept[:60] + b"\xff" + kept[61:],
     ):
         place.kept.write_bytes(text)

@@ -20,7 +20,6 @@ import argparse
 import fcntl
 import os
 import signal
-import statistics
 import subprocess
 import sys
 import tempfile
@@ -299,7 +298,7 @@ DISKS = {"local": Local, "glusterfs": Glusterfs}
 
 def tell(times):
     """Median and most of some seconds."""
-    return f"{statistics.median(times):.1f}, at most {max(times):.1f} s" if times else "none"
+    return f"{sorted(times)[len(times) // 2]:.1f}, at most {max(times):.1f} s" if times else "none"
 
 
 def words():
