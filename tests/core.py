@@ -25,6 +25,7 @@ from spec_files import (  # noqa: E402
     named,
     side_table,
     without_comments,
+    write_or_check,
 )
 
 # what the page begins from: a trait, a public function, or a method `Type::name`, each with its crate
@@ -184,13 +185,7 @@ def page():
 
 def main():
     text, faults = page()
-    place = TOP / "docs" / "CORE.md"
-    if sys.argv[1:] == ["--check"]:
-        faults += [] if place.exists() and place.read_text() == text else ["docs/CORE.md isn't up to date: run tests/core.py"]
-    else:
-        place.write_text(text)
-    print("\n".join(faults) or "docs/CORE.md has all on which the contracts rest")
-    return 1 if faults else 0
+    return write_or_check("docs/CORE.md", text, faults, "docs/CORE.md has all on which the contracts rest")
 
 
 if __name__ == "__main__":

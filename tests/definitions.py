@@ -16,7 +16,7 @@ from pathlib import Path
 sys.dont_write_bytecode = True
 sys.path.insert(0, str(Path(__file__).resolve().parent))
 from core import in_core  # noqa: E402
-from spec_files import CRATES, TOP, WORD, ends_head, everything, heading, imports, named, side_table, without_comments  # noqa: E402
+from spec_files import CRATES, TOP, WORD, ends_head, everything, heading, imports, named, side_table, without_comments, write_or_check  # noqa: E402
 
 # the documents each of whose names has a sentence
 NAMING = ("README.md", "docs/PROMISES.md", "docs/PROOF.md")
@@ -161,13 +161,8 @@ def page():
 
 def main():
     text, faults = page()
-    place = TOP / "docs" / "DEFINITIONS.md"
-    if sys.argv[1:] == ["--check"]:
-        faults += [] if place.read_text() == text else ["docs/DEFINITIONS.md isn't up to date: run tests/definitions.py"]
-    else:
-        place.write_text(text)
-    print("\n".join(faults) or "docs/DEFINITIONS.md and docs/CORE.md have each definition that the documents name")
-    return 1 if faults else 0
+    fine = "docs/DEFINITIONS.md and docs/CORE.md have each definition that the documents name"
+    return write_or_check("docs/DEFINITIONS.md", text, faults, fine)
 
 
 if __name__ == "__main__":

@@ -13,7 +13,10 @@ import re
 import sys
 from pathlib import Path
 
-TOP = Path(__file__).resolve().parent.parent
+sys.dont_write_bytecode = True
+sys.path.insert(0, str(Path(__file__).resolve().parent))
+from spec_files import TOP, write_or_check  # noqa: E402
+
 # how the crates under a heading of crates.txt are called
 NAMES = {
     "Product": r"(?!tests?_|example_)",
@@ -98,13 +101,8 @@ def main():
             lines += [f"- [`{crate}`]({crate}/README.md): {first_sentence(crate)}. {said.lstrip()}".rstrip()]
         lines += [""]
     faults += figure_faults(found["Product"], every)
-    place, text = TOP / "crates" / "README.md", "\n".join(lines).rstrip() + "\n"
-    if sys.argv[1:] == ["--check"]:
-        faults += [] if place.exists() and place.read_text() == text else ["crates/README.md isn't up to date: run tests/outline.py"]
-    else:
-        place.write_text(text)
-    print("\n".join(faults) or "crates/README.md, crates.txt and the map's figure have each crate")
-    return 1 if faults else 0
+    text = "\n".join(lines).rstrip() + "\n"
+    return write_or_check("crates/README.md", text, faults, "crates/README.md, crates.txt and the map's figure have each crate")
 
 
 if __name__ == "__main__":

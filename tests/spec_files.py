@@ -1,8 +1,9 @@
-"""Reads what stands in the crates' specs/: for tests/core.py and tests/definitions.py.
+"""Reads what stands in the crates' specs/: for tests/core.py and tests/definitions.py; and how these and tests/outline.py end.
 
 A definition has a key: its crate, its module below specs/ (of a declared Rust type ""), and its name."""
 
 import re
+import sys
 from collections import namedtuple
 from pathlib import Path
 
@@ -154,3 +155,15 @@ def everything():
         for file in sorted((TOP / "crates" / crate / "specs").rglob("*.antt")):
             known.update(definitions(crate, file))
     return known
+
+
+def write_or_check(page, text, faults, fine):
+    """Writes a page that a script makes; with the word `--check` sees that it is up to date. Prints what is wrong, or that all
+    is fine, and gives the status."""
+    place = TOP / page
+    if sys.argv[1:] == ["--check"]:
+        faults += [] if place.exists() and place.read_text() == text else [f"{page} isn't up to date: run {sys.argv[0]}"]
+    else:
+        place.write_text(text)
+    print("\n".join(faults) or fine)
+    return 1 if faults else 0
