@@ -26,7 +26,7 @@ from served import Served, run, script, sure, want
 SYNTAX = "30,SYNTAX ERROR,00,00"
 # a request that grows STOCK, changes a card in two sectors, and is kept: nine writes
 GROWS = "1,1,S,15,7"
-# the words that only read an image, and what stands behind it
+# the words that only read an image, and what follows it
 READING = [["show"], ["check"], ["list"], ["records", "STOCK"], ["bytes", "STOCK"], ["map"], ["picture"]]
 
 
@@ -47,7 +47,7 @@ class Ends:
         return run(self.program, "serve", self.image, *self.way, *words, stdin=stdin, **more)
 
     def writing(self):
-        """The words that write an image, and what stands behind it; `format` last, which changes it."""
+        """The words that write an image, and what follows it; `format` last, which changes it."""
         empty = script(self.folder, [])
         return [["serve"], ["serve", "--in-place"], ["play", empty], ["play", empty, "--sync"], ["repair"],
                 ["make", "CARDS", "--length", 30], ["store", "STOCK", empty], ["format", "--tills", 8]]
@@ -230,7 +230,7 @@ class Ends:
                 ended = reply, out, status, err
                 want(ended == ("1,1,MEDIA", [], 3, "DEVICE"), f"{where}: {ended}")
             self.answered(GROWS, "1,1,DONE,7")
-            want(sure(self.program, "check", self.image) == ["OK"], f"{where}: check isn't OK behind it")
+            want(sure(self.program, "check", self.image) == ["OK"], f"{where}: check isn't OK after it")
 
 
     def log_fails(self):
@@ -240,7 +240,7 @@ class Ends:
         want(served.ask(GROWS) is None, "a reply is told though the log isn't on the disk")
         want(served.finish() == (3, [], "DEVICE"), "a log that isn't on the disk doesn't end with DEVICE")
         self.answered(GROWS, "1,1,DONE,7")
-        want(sure(self.program, "check", self.image) == ["OK"], "check isn't OK behind it")
+        want(sure(self.program, "check", self.image) == ["OK"], "check isn't OK after it")
 
 
 def injecting(call, times):

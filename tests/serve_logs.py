@@ -32,7 +32,7 @@ from served import Served, differs, run, script, sure, want
 from shop_rule import Shop
 
 TILLS = 8
-# the words that only read an image, and what stands behind it
+# the words that only read an image, and what follows it
 READING = (["show"], ["check"], ["list"], ["records", "STOCK"], ["bytes", "STOCK"], ["map"], ["picture"], ["repair", "--dry-run"])
 LOG_BYTES = 4198400
 CALLS = "openat,write,pwrite64,fsync,fdatasync,rename,renameat,renameat2,unlink,unlinkat,flock"
@@ -67,7 +67,7 @@ class Logs:
         return {path.name: path.read_bytes() for path in self.folder.iterdir()}
 
     def writing(self):
-        """The words that write an image, and what stands behind it; `format` last, which changes it."""
+        """The words that write an image, and what follows it; `format` last, which changes it."""
         empty = script(self.folder, [])
         return [["serve"], ["serve", "--in-place"], ["serve", "--unsynced"], ["play", empty], ["play", empty, "--sync"], ["repair"],
                 ["make", "CARDS", "--length", 30], ["store", "STOCK", empty], ["format", "--tills", 4]]

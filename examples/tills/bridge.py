@@ -91,7 +91,7 @@ class Bridge:
         return self.serve.answers(lines)
 
     def delivered(self, channel, messages, first):
-        """A message, and those that the broker has delivered behind it."""
+        """A message, and those that the broker has delivered after it."""
         asks = [first]
         channel.connection.process_data_events(0)
         while len(asks) < self.AHEAD and channel.get_waiting_message_count():

@@ -3,7 +3,7 @@ counts, in the order in which `serve` took them:
 
     2026-11-26T19:05:12.345Z 7,16,S,5,10 -> 7,16,DONE,10
 
-The part up to the arrow is on the disk before `serve` gets the request; the reply comes behind it. Of requests that are
+The part up to the arrow is on the disk before `serve` gets the request; the reply comes after it. Of requests that are
 handed over together, one of a till at most, a line is on the disk before, and then each has its own line with its reply:
 
     # 2026-11-26T19:05:13.000Z takes 7,17,R,5,1 9,4,I,5,3
