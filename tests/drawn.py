@@ -49,9 +49,8 @@ def sign(byte):
 
 
 def signs(name):
-    """A name as a C64 shows it, and nothing where that's what is typed."""
-    shown = "".join(map(sign, name))
-    return "" if shown == name_text(name) else shown
+    """A name as a C64 shows it, and nothing where each of its bytes has the character that it has in ASCII."""
+    return "" if all(byte < 92 or byte == 93 for byte in name) else "".join(map(sign, name))
 
 
 class Entry:
