@@ -8,7 +8,8 @@ them. Of each it checks
   - the words of WORDS below, outside code and quotation marks;
   - links: the file is there, and so is the heading that an anchor, or the name in italics after a link, refers to;
   - file names in backticks that begin with a folder of this repository;
-  - in README.md that each subcommand and each flag of the program is named;
+  - in README.md that each subcommand and each flag of the program is named, and that it has at most README_LIMIT words of its own:
+    code that it quotes from a source (as tests/quotes.py finds it) isn't counted for that;
   - in docs/EMBED.md and docs/PROOF.md the lines of code, each of which is a line of a source (but for comments and `...`).
 It also counts the words of all documents, against LIMIT. Comments (`///`, `//!`) and the program's help texts are reported too, by
 crate and as counts only: they don't change the status. With --counts it prints one line for each document and no findings.
@@ -20,6 +21,7 @@ from pathlib import Path
 
 TOP = Path(__file__).resolve().parent.parent
 LIMIT = 32_000
+README_LIMIT = 900
 LONGEST = 35
 FOLDERS = ("bench", "crates", "docs", "examples", "packaging", "tests", "tools", "wrong_bodies")
 GENERATED = ("docs/CORE.md", "docs/DEFINITIONS.md")
@@ -150,15 +152,25 @@ def unnamed_words(text):
     return [(1, "not named", it) for it in dict.fromkeys(commands + flags) if it not in named]
 
 
+def count_words(text):
+    return sum(1 for it in text.split() if re.search(r"\w", it))
+
+
+def readme_length(text):
+    """A finding if the README has more words of its own than README_LIMIT."""
+    words = count_words(re.sub(r"(?ms)^<!-- \S+: \w+ -->\n+```\w*\n.*?^```\n", "", text))
+    return [(1, f"more than {README_LIMIT} words of its own", str(words))] if words > README_LIMIT else []
+
+
 def check(file, shows):
     """Prints what is found of a document, or a line with its counts; gives the number of its findings and of its words."""
     text = file.read_text()
     name = str(file.relative_to(TOP))
     found = [] if name in GENERATED else [*findings(text), *broken_links(file, text)]
-    found += unnamed_words(text) if name == "README.md" else []
+    found += [*unnamed_words(text), *readme_length(text)] if name == "README.md" else []
     if name in QUOTING:
         found += unknown_code(text, source_lines())
-    words = sum(1 for it in text.split() if re.search(r"\w", it)) if name not in COPIED else 0
+    words = count_words(text) if name not in COPIED else 0
     if shows:
         for line, what, where in sorted(found):
             print(f"{name}:{line}: {what}: {where}")
