@@ -1,13 +1,15 @@
-//! What `ledger serve --in-place IMAGE [--unsynced]` does and prints, as plain Rust without proofs: the yardstick of serve.sh.
+//! What `ledger serve IMAGE [--in-place] [--unsynced]` does and prints, as plain Rust without proofs: the yardstick of serve.sh.
 //! The image has to be a clean shop; the calls of the system are those of the program.
-use std::fs::OpenOptions;
-use std::io::{self, BufRead, Write};
+use std::fs::{File, OpenOptions};
+use std::io::{self, BufRead, BufReader, Write};
 use std::process::exit;
 
 mod plain;
 
+use plain::log::{Log, Touched};
 use plain::messages::*;
 use plain::mirror::*;
+use plain::places::SECTORS;
 use plain::shop::Shop;
 
 /// How much of a line is kept.
@@ -42,11 +44,51 @@ fn read_line<R: BufRead>(input: &mut R, line: &mut Vec<u8>) -> bool {
     }
 }
 
-fn serve(image: &str, syncs: bool) {
+fn owned(image: &str) -> File {
     let file = OpenOptions::new().read(true).write(true).open(image).unwrap_or_else(|_| refuse("FILE"));
     if file.try_lock().is_err() {
         refuse("IN USE");
     }
+    file
+}
+
+/// The lines at hand, 512 at most, are handled in memory, committed together, and then told one by one.
+fn serve_over_log(image: &str, syncs: bool) {
+    let file = owned(image);
+    let loaded = Mirror::load(file.try_clone().unwrap_or_else(|_| refuse("FILE")), false);
+    let mut log = Log::begin(file, image, loaded.disk.sectors.clone(), syncs).unwrap_or_else(|_| refuse("FILE"));
+    let disk = Touched { disk: loaded.disk, touched: [false; SECTORS] };
+    let mut shop = Shop::open(disk).expect("a clean shop");
+    let mut out = Out { inner: io::stdout().lock(), buffer: [0; ROOM], used: 0 };
+    let mut input = BufReader::new(io::stdin().lock());
+    let mut line = Vec::with_capacity(KEPT + 2);
+    let mut replies = Out { inner: io::sink(), buffer: [0; ROOM], used: 0 };
+    let mut ends = Vec::with_capacity(512);
+    let mut goes_on = true;
+    while goes_on {
+        (replies.used, shop.disk.touched) = (0, [false; SECTORS]);
+        ends.clear();
+        while ends.is_empty() || ends.len() < 512 && input.buffer().contains(&b'\n') {
+            goes_on = read_line(&mut input, &mut line);
+            if !goes_on {
+                break;
+            }
+            play_line(&mut shop, &line, 0, &mut replies);
+            ends.push(replies.used);
+        }
+        log.commit(&mut shop.disk).unwrap_or_else(|_| refuse("DEVICE"));
+        let mut from = 0;
+        for &end in &ends {
+            out.buffer[..end - from].copy_from_slice(&replies.buffer[from..end]);
+            (out.used, from) = (end - from, end);
+            out.flush();
+        }
+    }
+    log.finish().unwrap_or_else(|_| refuse("DEVICE"));
+}
+
+fn serve(image: &str, syncs: bool) {
+    let file = owned(image);
     if syncs {
         file.sync_data().unwrap_or_else(|_| refuse("DEVICE"));
     }
@@ -67,8 +109,10 @@ fn main() {
     match words[..] {
         ["serve", "--in-place", image] => serve(image, true),
         ["serve", "--in-place", image, "--unsynced"] => serve(image, false),
+        ["serve", image] => serve_over_log(image, true),
+        ["serve", image, "--unsynced"] => serve_over_log(image, false),
         _ => {
-            eprintln!("serve_plain serve --in-place IMAGE [--unsynced]");
+            eprintln!("serve_plain serve [--in-place] IMAGE [--unsynced]");
             exit(2);
         }
     }

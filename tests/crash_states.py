@@ -296,21 +296,12 @@ class Day:
 
     def __init__(self, lines, top):
         shop = Shop(TILLS, top)
-        self.replies, self.shows, self.kept = [], [self.show(shop)], [{}]
+        self.replies, self.shows, self.kept = [], [shop.shown()], [{}]
         self.lines = lines
         for line in lines:
             self.replies.append(shop.reply(line))
-            self.shows.append(self.show(shop))
+            self.shows.append(shop.shown())
             self.kept.append({till: kept[0] for till, kept in shop.kept.items()})
-
-    @staticmethod
-    def show(shop):
-        cards = [f"CARD {item},{on}" for item, on in sorted(shop.stock.items())]
-        for till, kept in sorted(shop.kept.items()):
-            for word, (number, (kind, item, quantity, to), answer) in zip((f"TILL {till}", f"PRIOR {till}"), kept):
-                to = f",{to}" if kind == "M" else ""
-                cards.append(f"{word},{number},{kind},{item},{quantity}{to},{answer}")
-        return cards
 
 
 class Trial:

@@ -33,6 +33,9 @@ STEPS = {
     'zeros': 'a full log is written again in place',
     'judge': 'a log is landed on any image',
     'wins': 'IMAGE is taken though a log is there',
+    'mark again': 'a reader doesn\'t look for the mark again after it read IMAGE',
+    'log first': 'a reader reads IMAGE before the log',
+    'lock': 'a reader may look before the log stands',
 }
 
 
@@ -154,6 +157,7 @@ class World:
         self.disk.sync(self.image)
         self.disk.sync_folder()
         self.may_be, self.confirmed = [first], 0
+        self.shared, self.reader, self.views = True, None, 0
 
     def sectors(self):
         data = self.disk.seen[self.image]
@@ -164,6 +168,50 @@ class World:
         if image not in self.may_be[self.confirmed:]:
             raise Wrong('an image that never was, or one from before a confirmed change')
         self.may_be, self.confirmed = [list(image)], 0
+
+    # Readers stop (yield) before each call too.
+    def read_image(self):
+        image = []
+        for i in range(SECTORS):
+            image.append(self.sectors()[i])
+            yield
+        return image
+
+    def view(self):
+        """A reader's look: the image that it sees must be one since the last change that was confirmed when it began."""
+        disk, least, image = self.disk, self.confirmed, None
+        if self.without == 'log first':
+            image = yield from self.read_image()
+        log = disk.names.get('LOG')
+        if log is None:
+            if image is None:
+                image = yield from self.read_image()
+        else:
+            data = bytearray()
+            while len(data) < BLOCK * BLOCKS + 1:
+                data += disk.seen[log][len(data):len(data) + self.rng.choice((1, 3, BLOCK))]
+                yield
+            if image is None:
+                image = yield from self.read_image()
+            if self.without != 'mark again':
+                data[-1] |= disk.seen[log][-1]
+            found = read_log(data)
+            if found is None or not found[2] and found[0] != image:
+                raise Wrong('a reader is refused')
+            image = found[1]
+        if image not in self.may_be[least:]:
+            raise Wrong('a reader sees an image that never was, or one from before a confirmed change')
+
+    def look_on(self, steps):
+        """A reader goes on beside a program; if there is none, one may begin."""
+        if self.reader is None and (self.shared or self.without == 'lock') and self.rng.random() < .2:
+            self.reader = self.view()
+        for _ in range(steps if self.reader else 0):
+            try:
+                next(self.reader)
+            except StopIteration:
+                self.reader, self.views = None, self.views + 1
+                return
 
     # Each program stops (yields) before each call.
     def bring(self, log, image):
@@ -252,6 +300,7 @@ class World:
         image = yield from self.land()
         self.find(image)
         log, end = yield from self.make(image)
+        self.shared = True
         for _ in range(self.rng.randrange(7)):
             image, touched = self.change(image, 3)
             here = len(self.may_be) - 1
@@ -259,8 +308,11 @@ class World:
             if self.without == 'commit':
                 self.confirmed = here
                 yield
-            for at in range(0, len(data), BLOCK):
-                disk.write(log, BLOCK * end + at, data[at:at + BLOCK])
+            at = 0
+            while at < len(data):
+                piece = data[at:at + self.rng.randint(1, BLOCK)]
+                disk.write(log, BLOCK * end + at, piece)
+                at += len(piece)
                 yield
             disk.sync(log)
             self.confirmed = here
@@ -312,52 +364,59 @@ class World:
             raise Wrong('a log was landed on another image')
 
 
-def stop(program, calls):
+def run(world, program, calls=10 ** 9):
+    """Runs a program for so many calls, with readers beside it."""
+    world.shared = False
     for _ in program:
         calls -= 1
         if calls == 0:
-            return
+            break
+        world.look_on(world.rng.randrange(6))
+    world.shared = True
 
 
 def day(seed, without):
-    """Programs one after another, each stopped somewhere. Returns how many times one was stopped."""
+    """Programs one after another, each stopped somewhere. Returns how many times one was stopped, and the views."""
     rng = random.Random(seed)
     world, stops = World(rng, without), rng.randint(1, 6)
     for _ in range(stops):
         program = world.serve() if rng.random() < .75 else world.play()
-        stop(program, rng.choice((10 ** 9, rng.randint(1, 80), rng.randint(1, 40), rng.randint(1, 15))))
+        run(world, program, rng.choice((10 ** 9, rng.randint(1, 80), rng.randint(1, 40), rng.randint(1, 15))))
         if rng.random() < .7:
+            world.reader = None
             world.disk.lose_power(rng)
+        # what begins to write waits for readers
+        world.look_on(10 ** 9)
     if rng.random() < .1:
         world.swap()
     else:
-        for _ in world.serve():
-            pass
-    return stops
+        run(world, world.serve())
+    return stops, world.views
 
 
 def days(crashes, seed, without=None):
-    count, wrong = 0, collections.Counter()
+    count, views, wrong = 0, 0, collections.Counter()
     while count < crashes:
         try:
-            count += day(seed, without)
+            stops, looks = day(seed, without)
+            count, views = count + stops, views + looks
         except (Wrong, Refused) as fault:
             wrong[f'{type(fault).__name__}: {fault}'] += 1
             count += 1
         seed += 1
-    return count, wrong
+    return count, views, wrong
 
 
 def main():
     crashes = int(sys.argv[1]) if len(sys.argv) > 1 else 20000
     seed = int(sys.argv[2]) if len(sys.argv) > 2 else 1
-    count, wrong = days(crashes, seed)
-    print(f'as designed: {count} crash states, {sum(wrong.values())} wrong {dict(wrong) or ""}')
+    count, views, wrong = days(crashes, seed)
+    print(f'as designed: {count} crash states, {views} views, {sum(wrong.values())} wrong {dict(wrong) or ""}')
     blind = []
     for step, words in STEPS.items():
         tries, most, found = 0, 200000, collections.Counter()
         while not found and tries < most:
-            n, found = days(crashes, seed + tries, step)
+            n, _, found = days(crashes, seed + tries, step)
             tries += n
         print(f'{words}: {tries} crash states, {sum(found.values())} wrong')
         if not found:

@@ -38,16 +38,6 @@ LOG_BYTES = 4198400
 CALLS = "openat,write,pwrite64,fsync,fdatasync,rename,renameat,renameat2,unlink,unlinkat,flock"
 
 
-def shown(shop):
-    """What `show` prints of a shop, without its first line."""
-    lines = [f"CARD {item},{on}" for item, on in sorted(shop.stock.items())]
-    for till, kept in sorted(shop.kept.items()):
-        for word, (number, (kind, item, quantity, to), answer) in zip((f"TILL {till}", f"PRIOR {till}"), kept):
-            to = f",{to}" if kind == "M" else ""
-            lines.append(f"{word},{number},{kind},{item},{quantity}{to},{answer}")
-    return lines
-
-
 class Logs:
     def __init__(self, program, folder, draw, bursts):
         self.program, self.folder, self.draw, self.bursts = program, folder, draw, bursts
@@ -104,7 +94,7 @@ class Logs:
 
     def is_shown(self, image, where):
         got = sure(self.program, "show", image)[1:]
-        want(got == shown(self.shop), f"{where}: show prints another shop")
+        want(got == self.shop.shown(), f"{where}: show prints another shop")
 
     def killed(self, count=40):
         """A service that answered so many lines and was killed."""
@@ -149,13 +139,13 @@ class Logs:
         """Looks while lines are handed over: a shop of some first lines, with each that was answered."""
         for _ in range(20):
             lines = self.lines(64)
-            states = [shown(self.shop)]
+            states = [self.shop.shown()]
             served.send(lines)
             views = [subprocess.Popen([self.program, "show", str(self.image)], stdout=subprocess.PIPE) for _ in range(2)]
             for line in lines:
                 wanted, heard = self.shop.reply(line), served.reply()
                 want(heard == wanted, f"{line!r} is told {heard!r}, not {wanted!r}")
-                states.append(shown(self.shop))
+                states.append(self.shop.shown())
             for view in views:
                 got = view.communicate()[0].decode().splitlines()[1:]
                 want(view.returncode == 0 and got in states, "a view beside a service is no shop of the day")

@@ -79,3 +79,12 @@ class Shop:
     def reply(self, line):
         request = request_of(line)
         return f"{request[0]},{request[1]},{self.word(*request)}" if request else SYNTAX
+
+    def shown(self):
+        """What `show` prints, without its first line."""
+        lines = [f"CARD {item},{on}" for item, on in sorted(self.stock.items())]
+        for till, kept in sorted(self.kept.items()):
+            for word, (number, (kind, item, quantity, to), answer) in zip((f"TILL {till}", f"PRIOR {till}"), kept):
+                to = f",{to}" if kind == "M" else ""
+                lines.append(f"{word},{number},{kind},{item},{quantity}{to},{answer}")
+        return lines

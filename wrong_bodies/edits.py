@@ -3,8 +3,8 @@
 import re
 
 FUNCTION = re.compile(r"( *)(?:pub(?:\([a-z]+\))? )?(?:const )?fn (\w+)")
-# `impl<T> Trait for Type<T> {`: the type, of which the proofs of a method are
-IMPL = re.compile(r"impl(?:<.*?>)? (?:.* for )?(\w+)")
+# `impl<T> Trait for Type<T> {`: the proofs of a method are in TypeTrait
+IMPL = re.compile(r"impl(?:<.*?>)? (?:(?:\w+::)*(\w+)(?:<.*>)? for )?(?:\w+::)*(\w+)")
 
 
 class Edit:
@@ -27,7 +27,7 @@ class Edit:
                 self.values = line[len("false: "):].strip()
 
     def places(self, crate):
-        """The functions that it edits: file, name, first and last line, the type of a method or nothing. None where it edits
+        """The functions that it edits: file, name, first and last line, a method's type and trait or nothing. None where it edits
         something else."""
         places = {function_around(crate, file, old) for file, old, _ in self.pairs}
         return None if None in places else sorted(places)
@@ -55,10 +55,16 @@ def function_around(crate, file, old):
     if last > end:
         return None
     kinds = [IMPL.match(line) for line in lines[:first]] if indent else []
-    kind = next((it[1] for it in reversed(kinds) if it), "")
+    kind = next((it[2] + (it[1] or "") for it in reversed(kinds) if it), "")
     while first and lines[first - 1].strip().startswith(("#[", "//")):
         first -= 1
     return file, name, first + 1, end + 1, kind
+
+
+def name_of(place):
+    """The end of a function's name as a check prints it."""
+    module = [it for it in re.sub(r"^src/|\.rt$", "", place[0]).split("/") if it not in ("lib", "main", "mod")]
+    return "::".join([*([place[4]] if place[4] else module), place[1]])
 
 
 def edited(crate, edits):

@@ -19,24 +19,28 @@ its line has the word that this bears out, the clause, and what was said:
     PROVED!            the contracts let it through, with its answers or without
     no longer applies  the old text doesn't stand in its file once, or the new one can't be read
 
-The status is 1 where one isn't refused. Crates are taken as they were built (out/), and else proved first; each check takes
+The status is 1 where one isn't refused. The crates below are taken as `rt ci` built them here, or as sources; each check takes
 RT_JOBS processors, one where that isn't set.
 
 A function is proved by the contracts of those that it calls, not by their bodies. So one check judges many wrong bodies, one in
-each function; what isn't refused so, and an edit of more than one function or of a definition, is checked by itself."""
+each function, and proves no other; what isn't refused so, and an edit of more than one function, is checked by itself. For an edit of
+a definition the whole crate is checked."""
 
 import os
 import shutil
 import subprocess
 import sys
 import tempfile
+from importlib.machinery import SourceFileLoader
 from pathlib import Path
 
 sys.dont_write_bytecode = True
-from edits import Edit, edited, in_rounds
+from edits import Edit, edited, in_rounds, name_of
 from said import Told, is_unread, refusal, verdict, without
 
 TOP = Path(__file__).resolve().parent.parent
+sys.path.insert(0, str(TOP / "tools"))
+command = SourceFileLoader("only", str(TOP / "tools" / "only")).load_module().command
 # how often answers are set aside at most: those that don't fit, then those that cited them
 TIMES = 6
 
@@ -45,18 +49,25 @@ def stop(why):
     sys.exit(f"try: {why}")
 
 
-def checked(crate, texts):
-    """What a check of the crate says with these texts in place of its files, and its status."""
+def checked(crate, texts, names):
+    """What a check of these functions of the crate says, of all where there is none, with these texts in place of its files; and its
+    status."""
     kept = {file: (crate / file).read_text(encoding="utf-8") for file in texts}
+    words = ["--jobs", os.environ.get("RT_JOBS", "1"), *(it for name in names for it in ("--only", name))]
     try:
         for file, text in texts.items():
             (crate / file).write_text(text, encoding="utf-8")
-        ran = subprocess.run(["rt", "check", "--jobs", os.environ.get("RT_JOBS", "1")], cwd=crate, stdin=subprocess.DEVNULL,
-                             stdout=subprocess.PIPE, stderr=subprocess.STDOUT, text=True, errors="replace")
+        ran = subprocess.run(command(crate.name, words, crate.parent), cwd=crate, stdin=subprocess.DEVNULL, stdout=subprocess.PIPE,
+                             stderr=subprocess.STDOUT, text=True, errors="replace")
     finally:
         for file, text in kept.items():
             (crate / file).write_text(text, encoding="utf-8")
     return ran.stdout.split("\n"), ran.returncode
+
+
+def names_of(places):
+    """The functions at these places; none where one of the edits is of something else."""
+    return [] if None in places else sorted({name_of(place) for some in places for place in some})
 
 
 def set_aside(crate, edits, removed):
@@ -71,7 +82,7 @@ def set_aside(crate, edits, removed):
 def tried(crate, edits, places):
     """What is told of each of these edits: with the answers as they are, with those set aside that don't fit; what the first check
     said, and the last status. `places` has the functions of each. An edit that is refused already isn't checked again."""
-    first, status = checked(crate, edited(crate, edits))
+    first, status = checked(crate, edited(crate, edits), names_of(places))
     kept = [Told(first, place) for place in places]
     aside = list(kept)
     removed = {edit.name: set() for edit in edits}
@@ -81,7 +92,7 @@ def tried(crate, edits, places):
             break
         for n in left:
             removed[edits[n].name] |= {(file, name) for file, name, _ in aside[n].answers}
-        said, status = checked(crate, set_aside(crate, [edits[n] for n in left], removed))
+        said, status = checked(crate, set_aside(crate, [edits[n] for n in left], removed), names_of([places[n] for n in left]))
         for n in left:
             aside[n] = Told(said, places[n])
     return kept, aside, first, status
@@ -135,16 +146,11 @@ def edits_of(name, chosen):
     return [Edit(path) for path in paths if "" in chosen or path.stem in chosen]
 
 
-def copy_to(room, names):
-    """Copies the repository, with what was built of it, and of these crates also what their checks kept."""
+def copy_to(room):
+    """Copies the repository, with what `rt ci` built of it."""
     for part in ("crates.txt", "HANDLES"):
         shutil.copy2(TOP / part, room / part)
-
-    def left_out(folder, parts):
-        is_kept = Path(folder).name != "out" or Path(folder).parent.name in names
-        return [] if is_kept else [part for part in parts if part == "incremental"]
-
-    shutil.copytree(TOP / "crates", room / "crates", ignore=left_out, symlinks=True)
+    shutil.copytree(TOP / "crates", room / "crates", ignore=shutil.ignore_patterns("incremental", "only"), symlinks=True)
 
 
 def main(words):
@@ -159,13 +165,13 @@ def main(words):
             stop(f"there is no wrong body of {name}")
     well = True
     with tempfile.TemporaryDirectory() as room:
-        copy_to(Path(room), names)
+        copy_to(Path(room))
         for name in names:
             crate = Path(room) / "crates" / name
-            said, status = checked(crate, {})
+            edits = edits_of(name, names[name])
+            said, status = checked(crate, {}, names_of([it.places(crate) for it in edits if it.fits(crate)]))
             if status:
                 stop(f"{name} isn't proved as it stands: {said[-2:]}")
-            edits = edits_of(name, names[name])
             print(f"try: {name}, {len(edits)} wrong bodies", file=sys.stderr)
             well = try_crate(crate, edits) and well
     return 0 if well else 1

@@ -1,0 +1,176 @@
+#!/usr/bin/env python3
+"""Tries a shop on disks that are full, that fill up, and that can't be written (as root, or where user namespaces may be made):
+
+    tests/full_disks.py PROGRAM [SEED]
+
+PROGRAM is what `tools/program` prints. Each disk is a `tmpfs` of a size of its own in a name space of its own. What the shop has to be
+is calculated by `shop_rule.py`. It tries:
+- `serve` with room for less than its log, from no page to all but one: `FILE`, status 3, no reply, and image and folder as they were.
+  With room for the log it serves.
+- A disk that another program fills while `serve` runs: its log has all its room, so each line is answered. When the log is full and no
+  room is left for a new one, `serve` ends with `DEVICE`, and every answered line is in the shop.
+- `copy` and `format --new` without room for an image: no image stands there afterwards.
+- A folder that can't be written, with a log and without one: words that read work, words that write report `FILE` and change nothing.
+
+The status is 1 at the first difference; the last line says how much was tried."""
+
+import os
+import random
+import subprocess
+import sys
+from pathlib import Path
+
+from days import day
+from served import Served, run, script, sure, want
+from shop_rule import Shop, request_of
+
+PAGE, IMAGE_BYTES, LOG_BYTES = 4096, 174848, 4198400
+TILLS = 8
+INSIDE = "--inside"
+
+
+class Disk:
+    """A file system of so many bytes at a folder, which goes with the name space."""
+
+    def __init__(self, folder, size):
+        self.folder = folder
+        folder.mkdir(exist_ok=True)
+        subprocess.run(["mount", "-t", "tmpfs", "-o", f"size={size}", "tmpfs", str(folder)], check=True)
+
+    def fill(self):
+        """Another file takes what room is left."""
+        with open(self.folder / "filler", "ab", buffering=0) as filler:
+            try:
+                while filler.write(bytes(PAGE)):
+                    pass
+            except OSError:
+                pass
+
+    def is_read_only(self):
+        subprocess.run(["mount", "-o", "remount,ro", str(self.folder)], check=True)
+
+    def close(self):
+        subprocess.run(["umount", str(self.folder)], check=True)
+
+
+def lines_of(draw, count):
+    return [it for it in day(draw, count, (40,)) if request_of(it) and request_of(it)[0] <= TILLS]
+
+
+class Trial:
+    def __init__(self, program, draw, room):
+        self.program, self.draw, self.room, self.tried = program, draw, room, 0
+
+    def shop_on(self, size):
+        disk = Disk(self.room / "disk", size)
+        image = disk.folder / "shop.d64"
+        sure(self.program, "format", "--new", image, "--tills", TILLS)
+        top = int(sure(self.program, "show", image)[0].removeprefix("TOP "))
+        return disk, image, Shop(TILLS, top)
+
+    def room_for_part_of_a_log(self):
+        """Less room than a log needs, in steps."""
+        needed = -(-LOG_BYTES // PAGE) * PAGE
+        image_room = -(-IMAGE_BYTES // PAGE) * PAGE
+        for room in sorted({0, PAGE, 47 * PAGE, needed - PAGE, *(self.draw.randrange(0, needed, PAGE) for _ in range(12)), needed}):
+            disk, image, shop = self.shop_on(image_room + room)
+            held = image.read_bytes()
+            lines = lines_of(self.draw, 40)
+            got = run(self.program, "serve", image, stdin="".join(line + "\n" for line in lines).encode())
+            if room < needed:
+                want(got == (3, [], "FILE"), f"room for {room} bytes: {got}")
+                want(image.read_bytes() == held, f"room for {room} bytes: the image was changed")
+                want([it.name for it in disk.folder.iterdir()] == ["shop.d64"], f"room for {room} bytes: {list(disk.folder.iterdir())}")
+            else:
+                want(got == (0, [shop.reply(line) for line in lines], ""), f"room for a log: {got}")
+            disk.close()
+            self.tried += 1
+
+    def filled_while_serving(self):
+        """A disk that fills while lines come, until the log is full and no new one can be made."""
+        disk, image, shop = self.shop_on(IMAGE_BYTES + LOG_BYTES + 64 * PAGE)
+        served = Served(self.program, image)
+        answered = 0
+        for number in range(1, 1200):
+            line = f"1,{number},S,{number % 40 + 1},{number % 500}"
+            served.send([line])
+            if number == 5:
+                disk.fill()
+            heard = served.reply()
+            if heard is None or heard.endswith("MEDIA"):
+                break
+            want(heard == shop.reply(line), f"{line} is told {heard}")
+            answered = number
+        status, rest, err = served.finish()
+        want((status, rest, err) == (3, [], "DEVICE"), f"a full log without room ends with {status}, {rest}, {err}")
+        want(answered > 900, f"only {answered} lines were answered from the log's own room")
+        self.is_shop(image, shop, f"1,{answered + 1},S,{(answered + 1) % 40 + 1},{(answered + 1) % 500}")
+        (disk.folder / "filler").unlink()
+        sure(self.program, "serve", image)
+        want(sorted(it.name for it in disk.folder.iterdir()) == ["shop.d64"], "a log is left after the room came back")
+        self.is_shop(image, shop, f"1,{answered + 1},S,{(answered + 1) % 40 + 1},{(answered + 1) % 500}")
+        disk.close()
+        self.tried += answered
+
+    def is_shop(self, image, shop, unanswered):
+        """The shop of the answered lines, with the last unanswered one or without."""
+        got = sure(self.program, "show", image)[1:]
+        if got != shop.shown():
+            shop.reply(unanswered)
+            want(got == shop.shown(), "show prints another shop")
+
+    def no_room_for_an_image(self):
+        """`copy` and `format --new` without room."""
+        disk, image, _ = self.shop_on(IMAGE_BYTES + 8 * PAGE)
+        for words in (["copy", image, disk.folder / "new.d64"], ["format", "--new", disk.folder / "new.d64", "--tills", 4]):
+            status, out, err = run(self.program, *words)
+            want((status, out) == (3, []), f"{words[0]} without room: {status}, {out}, {err}")
+            left = disk.folder / "new.d64"
+            want(not left.exists(), f"{words[0]} without room leaves {left.stat().st_size if left.exists() else 0} bytes")
+            self.tried += 1
+        disk.close()
+
+    def read_only(self):
+        """A folder that can't be written."""
+        for has_log in (False, True):
+            disk, image, shop = self.shop_on(4 * LOG_BYTES)
+            served = Served(self.program, image)
+            for line in lines_of(self.draw, 30):
+                want(served.ask(line) == shop.reply(line), f"{line}")
+            served.kill() if has_log else served.finish()
+            empty = script(disk.folder, [])
+            want((disk.folder / "shop.d64-log").exists() == has_log, "the log isn't as the trial wants it")
+            held = {it.name: it.read_bytes() for it in disk.folder.iterdir()}
+            disk.is_read_only()
+            want(sure(self.program, "show", image)[1:] == shop.shown(), "show prints another shop")
+            for word, *more in (["check"], ["list"], ["map"], ["picture"], ["records", "STOCK"], ["bytes", "STOCK"]):
+                sure(self.program, word, image, *more)
+                self.tried += 1
+            writing = [["serve"], ["serve", "--in-place"], ["play", empty], ["repair"], ["make", "CARDS", "--length", 30],
+                       ["store", "STOCK", empty], ["format", "--tills", 4]]
+            for word, *more in writing:
+                status, out, err = run(self.program, word, image, *more)
+                want((status, out, err) == (3, [], "FILE"), f"{word} in a folder that can't be written: {status}, {out}, {err}")
+                self.tried += 1
+            want({it.name: it.read_bytes() for it in disk.folder.iterdir()} == held, "a word has changed a file")
+            disk.close()
+
+
+def main():
+    words = [it for it in sys.argv[1:] if it != INSIDE]
+    if not words:
+        sys.exit(__doc__)
+    if INSIDE not in sys.argv:
+        os.execvp("unshare", ["unshare", "--mount", *([] if os.getuid() == 0 else ["--map-root-user"]), sys.executable, *sys.argv, INSIDE])
+    import tempfile
+
+    draw = random.Random(int(words[1]) if len(words) > 1 else 1541)
+    with tempfile.TemporaryDirectory() as room:
+        trial = Trial(str(Path(words[0]).resolve()), draw, Path(room))
+        for one in (trial.room_for_part_of_a_log, trial.filled_while_serving, trial.no_room_for_an_image, trial.read_only):
+            one()
+            print(f"{one.__doc__} As it has to be", flush=True)
+        print(f"full_disks: {trial.tried} trials, no difference")
+
+
+main()
