@@ -1,6 +1,6 @@
 #!/usr/bin/env python3
 """Prints the table of docs/PROOF.md: lines of code, contracts, definitions and proofs, without blank lines and comments, and how many
-functions, tests and mutants there are.  tests/statistics.py
+functions, tests and mutants there are.  tests/proof_figures.py
 
 A line of a contract is one of a clause (`ensures`, `requires`) or of another ghost item; tests are code."""
 
