@@ -1,8 +1,8 @@
 #!/bin/bash
 # Times `serve` of the program, a mixed day of 64 tills with 1, 8 or 64 lines sent when those before are answered:
 #   bench/serve.sh [REQUESTS] [RUNS] [FOLDER]
-# In place and without sync beside a plain Rust program that does the same calls of the system: the processor time, the
-# kernel's too, as a ratio. With sync by the count of writes and syncs, by `strace` where it is installed; and by the
+# In place and over the log, without sync, beside a plain Rust program that does the same calls of the system: the processor
+# time, the kernel's too, as a ratio. With sync by the count of writes and syncs, by `strace` where it is installed; and by the
 # clock, over the log and in place, beside the same ledger in SQLite (serve_sqlite.py) with its write-ahead log: a
 # transaction a request, and a transaction for the requests at hand. How long it is from the start to a first reply of a
 # full shop. Images and databases lie in FOLDER, which has to be on the disk that is asked about (/var/tmp). With
@@ -24,11 +24,11 @@ seconds_of() {
     { time "$@" >/dev/null; } 2>&1 | awk '{ print $1 + $2 }'
 }
 
-# serve_days NAME PROGRAM: the day without sync so many times over, each on a fresh disk
+# serve_days NAME PROGRAM: the day without sync so many times over, each on a fresh disk; `way` has --in-place, or is empty
 serve_days() {
     for _ in $(seq "$times"); do
         cp "$work/blank.d64" "$folder/$1.d64"
-        "$2" serve --in-place "$folder/$1.d64" --unsynced <"$work/day.txt"
+        "$2" serve "${way[@]}" "$folder/$1.d64" --unsynced <"$work/day.txt"
     done
 }
 
@@ -78,14 +78,21 @@ sqlite_turns() {
 }
 
 "$proved" dry "$work/day.txt" >"$work/wanted"
-times=1
-run_plain | cmp -s - "$work/wanted" || stop "the plain program answers otherwise than dry"
-run_proved | cmp -s - "$work/wanted" || stop "serve answers otherwise than dry"
-cmp -s "$folder/plain.d64" "$folder/proved.d64" || stop "the two images differ"
+# ratio WHERE: of the day without sync, once both answer the same and leave the same image
+ratio() {
+    times=1
+    run_plain | cmp -s - "$work/wanted" || stop "$1: the plain program answers otherwise than dry"
+    run_proved | cmp -s - "$work/wanted" || stop "$1: serve answers otherwise than dry"
+    cmp -s "$folder/plain.d64" "$folder/proved.d64" || stop "$1: the two images differ"
+    times=10
+    echo -n "$requests requests without sync, $1: "
+    print_ratio $((times * requests)) 1000000 "us a request"
+}
 
-times=10
-echo -n "$requests requests without sync: "
-print_ratio $((times * requests)) 1000000 "us a request"
+way=(--in-place)
+ratio "in place"
+way=()
+ratio "over the log"
 
 if command -v strace >/dev/null; then
     by_proved="$(calls_of "$proved" --in-place)"

@@ -79,6 +79,9 @@ fn serve_over_log(image: &str, syncs: bool) {
         log.commit(&mut shop.disk).unwrap_or_else(|_| refuse("DEVICE"));
         let mut from = 0;
         for &end in &ends {
+            if std::fs::metadata(image).is_err() {
+                refuse("DEVICE");
+            }
             out.buffer[..end - from].copy_from_slice(&replies.buffer[from..end]);
             (out.used, from) = (end - from, end);
             out.flush();

@@ -9,7 +9,7 @@ is calculated by `shop_rule.py`. It tries:
   With room for the log it serves.
 - A disk that another program fills while `serve` runs: its log has all its room, so each line is answered. When the log is full and no
   room is left for a new one, `serve` ends with `DEVICE`, and every answered line is in the shop.
-- `copy` and `format --new` without room for an image: no image stands there afterwards.
+- `copy` and `format --new` without room for an image: `FILE`, status 3; what was made is no image, and every command refuses it.
 - A folder that can't be written, with a log and without one: words that read work, words that write report `FILE` and change nothing.
 
 The status is 1 at the first difference; the last line says how much was tried."""
@@ -18,6 +18,7 @@ import os
 import random
 import subprocess
 import sys
+import tempfile
 from pathlib import Path
 
 from days import day
@@ -124,9 +125,10 @@ class Trial:
         disk, image, _ = self.shop_on(IMAGE_BYTES + 8 * PAGE)
         for words in (["copy", image, disk.folder / "new.d64"], ["format", "--new", disk.folder / "new.d64", "--tills", 4]):
             status, out, err = run(self.program, *words)
-            want((status, out) == (3, []), f"{words[0]} without room: {status}, {out}, {err}")
-            left = disk.folder / "new.d64"
-            want(not left.exists(), f"{words[0]} without room leaves {left.stat().st_size if left.exists() else 0} bytes")
+            want((status, out, err) == (3, [], "FILE"), f"{words[0]} without room: {status}, {out}, {err}")
+            got = run(self.program, "check", disk.folder / "new.d64")
+            want(got == (1, [], "IMAGE SIZE"), f"{words[0]} without room leaves what check calls {got}")
+            (disk.folder / "new.d64").unlink()
             self.tried += 1
         disk.close()
 
@@ -162,14 +164,15 @@ def main():
         sys.exit(__doc__)
     if INSIDE not in sys.argv:
         os.execvp("unshare", ["unshare", "--mount", *([] if os.getuid() == 0 else ["--map-root-user"]), sys.executable, *sys.argv, INSIDE])
-    import tempfile
-
     draw = random.Random(int(words[1]) if len(words) > 1 else 1541)
     with tempfile.TemporaryDirectory() as room:
         trial = Trial(str(Path(words[0]).resolve()), draw, Path(room))
-        for one in (trial.room_for_part_of_a_log, trial.filled_while_serving, trial.no_room_for_an_image, trial.read_only):
-            one()
-            print(f"{one.__doc__} As it has to be", flush=True)
+        try:
+            for one in (trial.room_for_part_of_a_log, trial.filled_while_serving, trial.no_room_for_an_image, trial.read_only):
+                one()
+                print(f"{one.__doc__} As it has to be", flush=True)
+        finally:
+            subprocess.run(["umount", "--lazy", str(trial.room / "disk")], capture_output=True)
         print(f"full_disks: {trial.tried} trials, no difference")
 
 

@@ -1,7 +1,7 @@
 //! The write-ahead log of a shop's image in plain Rust (docs/LOG.md), with the calls of the system that `serve` makes.
 use std::fs::{self, File, OpenOptions};
-use std::io::Result;
-use std::os::unix::fs::FileExt;
+use std::io::{ErrorKind, Result};
+use std::os::unix::fs::{FileExt, MetadataExt};
 use std::path::PathBuf;
 
 use super::files::*;
@@ -112,6 +112,11 @@ impl Log {
         Ok(())
     }
 
+    /// Whether the log's name leads to its file, as far as the numbers of their files say that.
+    fn is_there(&self) -> Result<bool> {
+        Ok(self.file.metadata()?.ino() == fs::metadata(&self.name)?.ino())
+    }
+
     /// Makes what was written since the last commit durable.
     pub fn commit(&mut self, disk: &mut Touched) -> Result<()> {
         let mut changed = [false; SECTORS];
@@ -130,7 +135,8 @@ impl Log {
             self.land()?;
             return self.renew();
         }
-        self.append(&changed, self.syncs)
+        self.append(&changed, self.syncs)?;
+        if self.is_there()? { Ok(()) } else { Err(ErrorKind::NotFound.into()) }
     }
 
     /// Marks the log, and brings the image to its own file.
@@ -150,6 +156,7 @@ impl Log {
     pub fn finish(mut self) -> Result<()> {
         self.image.sync_data()?;
         self.folder.sync_all()?;
+        assert!(fs::read(&self.name)?.len() > BLOCK * BLOCKS, "the log was cut short");
         self.land()?;
         fs::remove_file(&self.name)?;
         self.folder.sync_all()

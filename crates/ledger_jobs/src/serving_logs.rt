@@ -10,7 +10,7 @@ use crate::serving_images::name_of;
 use crate::watched_files::{WhileThere, served_end};
 use disk_layout::Fault;
 use host_session::Printer;
-use log_files::{ImageFolder, LiveLog, LogFolder, LogNames, land_in};
+use log_files::{ImageFolder, LiveLog, LogFolder, LogNames, forget_making, land_in};
 use shop_commands::{Durability, EndedFile, Locks, RunFault};
 use shop_log::LogFile;
 use std::fs::OpenFile;
@@ -104,6 +104,23 @@ where
     landed_end(log, served_end(ended, gone))
 }
 
+/// The end of a service over a log that couldn't be made, or renewed. What was made of a further log is removed, since it
+/// would keep the disk full; but only while the path leads to the image's file, which this program has alone to write.
+fn cleared_end<F: OpenFile, R: Files<File = F>>(
+    rt: &R,
+    path: &str,
+    image: &F,
+    names: &LogNames,
+    ended: Result<Option<Fault>, Refusal>,
+) -> Result<Option<Fault>, Refusal>
+    ensures { result ≡ ended }
+{
+    if ended.is_err() && name_of(rt, path, image).is_ok() {
+        let _ = forget_making(rt, names);
+    }
+    ended
+}
+
 /// Serves the shop of the image at a path, over a log beside it, to what comes on standard input. Other programs may read
 /// the image meanwhile, by its log, and none may write it. When the input ends, the log is landed: the image is the shop
 /// then. Once the path doesn't lead to the image's file any more, or the file has another length, the line at hand hears
@@ -135,10 +152,14 @@ where
             .to_vec(alloc)
             .map_err(From::from),
     )?;
-    let log = told(LiveLog::begin(alloc, folder, shop))?;
+    let log = match told(LiveLog::begin(alloc, folder, shop)) {
+        Ok(log) => log,
+        Err(refusal) => return cleared_end(rt, path, &image, &names, Err(refusal)),
+    };
     // others may read it from here on
     if let Err(error) = image.lock_shared() {
         return Err(Refusal::of_lock(&error));
     }
-    serve_begun(rt, bytes.as_slice(), log, name, loss, out)
+    let ended = serve_begun(rt, bytes.as_slice(), log, name, loss, out);
+    cleared_end(rt, path, &image, &names, ended)
 }

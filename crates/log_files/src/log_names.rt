@@ -75,8 +75,9 @@ fn remove_if_there<R: Files>(rt: &R, path: &str) -> io::Result<bool> {
     }
 }
 
-/// Takes away the name of a log in the making, if there is one.
-pub(crate) fn forget_making<R: Files>(rt: &R, names: &LogNames) -> io::Result<bool> {
+/// Removes a log in the making, if there is one. Returns whether it was there. No log is lost: one in the making is never
+/// read. At an error it may be there, or not.
+pub fn forget_making<R: Files>(rt: &R, names: &LogNames) -> io::Result<bool> {
     remove_if_there(rt, names.making())
 }
 
