@@ -4,9 +4,8 @@ ghost use Rattle.std.specs.Prelude.{◌≡◌, ◌≤◌, ◌++◌, ◌∷◌, [
 ghost use Rattle.byte_text.specs.Lines.{IsLineOf, padded};
 ghost use Rattle.byte_text.specs.Texts.{AreBytes, record_line, text_of, trimmed};
 
-/// Bytes that have the same text are the same. `read_text` finds the bytes that have the text handed in, wherever
-/// there are some: so what it finds in a text that was written is what was written, and it finds these bytes in no
-/// other text.
+/// Bytes that have the same text are the same. `read_text` finds the bytes that have the text handed in, if there are
+/// some. So in a text that was written it finds what was written, and it finds these bytes in no other text.
 pub fn texts_differ()
     ensures { (xs ys : List ℕ) → AreBytes xs → AreBytes ys → text_of xs ≡ text_of ys → xs ≡ ys }
 {}

@@ -12,9 +12,9 @@ use std::io::{self, Write};
 /// The room of the longest line: a number of ten digits, and 254 bytes that take three each.
 pub const LINE_ROOM: usize = 776;
 
-/// Puts the line of a record, with its LF, behind the first `start` bytes of the room, and returns where it ends: its
-/// number, counted from 1, and its bytes up to the last one that isn't 0. It is a line of a file of comma-separated
-/// values, and no quotation mark of it is ever doubled.
+/// Puts the line of a record, with its LF, after the first `start` bytes of the room, and returns where it ends. The
+/// line has the record's number, counted from 1, and its bytes up to the last one that isn't 0. It is a line of a file
+/// of comma-separated values, and no quotation mark of it is ever doubled.
 #[inline(always)]
 pub fn put_line(
     number: u32,

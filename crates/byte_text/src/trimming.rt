@@ -15,7 +15,7 @@ fn end_of(bytes: &[u8]) -> usize
     end
 }
 
-/// The bytes up to the last one that isn't 0: none where all are 0.
+/// The bytes up to the last one that isn't 0: none if all are 0.
 pub fn trim(bytes: &[u8]) -> &[u8]
     ensures { result.now ≡ trimmed bytes.now }
 {

@@ -45,8 +45,8 @@ fn first_cut(disk: &mut MemDisk, slots: &[Slot], name: Option<&[u8]>, facts: Fac
 }
 
 /// Finds the first file of a sound disk that is cut short, in the order of the directory: of all files, or of those of
-/// a name, which has no shifted spaces at its end. The answer is the sector where its chain ends, and None where none
-/// of them is cut short. Else a fault that holds of the disk, as `survey` tells it.
+/// a name, which has no shifted spaces at its end. The answer is the sector where its chain ends, and None if none
+/// of them is cut short. Otherwise a fault that holds of the disk, as `survey` returns it.
 ///
 /// Nothing is written, and no memory is taken. It takes some 20 KB of the stack.
 pub fn find_cut(disk: &mut MemDisk, name: Option<&[u8]>) -> Result<Option<Place>, Fault>

@@ -1,4 +1,4 @@
-//! What the side sectors of a relative file list behind its chain.
+//! What the side sectors of a relative file list past its chain.
 ghost use Rattle.std.specs.Prelude.{◌≡◌, ◌↔◌, ◌≤◌, ◌<◌, ◌+◌, ◌*◌, ℕ, IsTrue, None, Some, length, slice_get};
 ghost use Rattle.d64_image.specs.Images.{sector};
 ghost use Rattle.d64_image.specs.Memory.{disk_image};
@@ -49,7 +49,7 @@ fn lists_one(bytes: &[u8; 256]) -> bool
     SideView::new(bytes).block(0).is_some() && ends_by(bytes, 1)
 }
 
-/// Whether the side sector behind one with these bytes points to one data block, and is the last.
+/// Whether the side sector after one with these bytes points to one data block, and is the last.
 fn lists_one_behind(disk: &mut MemDisk, bytes: &[u8; 256]) -> bool
     ensures told { IsTrue result ↔ ((q : Place) × (named_at bytes.now 0 ≡ Some q)
         × ListsOne (sector (disk_image disk.old) q)) }
@@ -61,7 +61,7 @@ fn lists_one_behind(disk: &mut MemDisk, bytes: &[u8; 256]) -> bool
     }
 }
 
-/// Whether no more than one data block is listed behind a chain, and none where its file never grows. These are the
+/// Whether no more than one data block is listed past a chain, and none if its file never grows. These are the
 /// bytes of the side sector that points to the last blocks of the chain, `used` of them.
 fn lists_well(disk: &mut MemDisk, bytes: &[u8; 256], used: usize, never_grows: bool) -> bool
     requires { used ≤ 120 }

@@ -28,7 +28,7 @@ struct Tail {
     blocks: usize,
 }
 
-/// The end of the chain of an entry of a sound disk; None where it owns no block.
+/// The end of the chain of an entry of a sound disk; None if it owns no block.
 fn tail_of(disk: &mut MemDisk, slot: &Slot) -> Option<Tail>
     ensures told { (f : File) → IsFile (disk_image disk.old) f → f.slot ≡ slot.now
         → MatchOption result (f.blocks ≡ []) (λ tail. (length f.blocks ≡ tail.blocks)
@@ -82,7 +82,7 @@ fn is_short(disk: &mut MemDisk, slot: &Slot, tail: Tail, facts: Facts) -> bool
     (facts.strays && counts_more(slot, tail.blocks)) || is_blank(disk, tail.place)
 }
 
-/// The place where the file of an entry of a sound disk is cut short; None where it isn't.
+/// The place where the file of an entry of a sound disk is cut short; None if it isn't.
 pub(crate) fn cut_of(disk: &mut MemDisk, slot: &Slot, facts: Facts) -> Option<Place>
     ensures told { (f : File) → IsFile (disk_image disk.old) f → f.slot ≡ slot.now
         → MatchOption result ((q : Place) → ¬ (IsCutIn (disk_image disk.old) (IsTrue facts.strays) (IsTrue facts.shop) f q))

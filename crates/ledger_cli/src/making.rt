@@ -45,7 +45,7 @@ fn write_over<F: Write + Seek>(file: &mut F, image: &[u8]) -> Result<(), RunFaul
 }
 
 /// Makes the image of an empty shop with 1 to 64 tills (an odd number gives one more), writes its 174,848 bytes over what
-/// the file holds, and prints so on `out`. A longer file keeps what it held behind them: a file can't be cut by writing.
+/// the file holds, and prints so on `out`. A longer file keeps what it held after them: a file can't be cut by writing.
 ///
 /// `NoMemory` before anything is written; `File` if the file failed, which then has a beginning of the writes and nothing
 /// is printed, or `out`, which then has a beginning of what is printed.
@@ -65,7 +65,7 @@ pub(crate) fn make_image<F: Write + Seek, W: Write>(
     put_whole(out, b"FORMATTED\n")
 }
 
-/// Writes an image over what the file holds, and prints so on `out`. A longer file keeps what it held behind the image.
+/// Writes an image over what the file holds, and prints so on `out`. A longer file keeps what it held after the image.
 ///
 /// `ImageSize`: nothing was done. `File` if the file failed, which then has a beginning of the writes and nothing is
 /// printed, or `out`, which then has a beginning of what is printed.

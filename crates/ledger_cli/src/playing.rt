@@ -23,7 +23,7 @@ fn hand_on<W: Write>(out: &mut W) -> io::Result<()>
     out.flush()
 }
 
-/// What is told of a run that this fault ended. Replies that were written before it are handed on.
+/// The outcome of a run that this fault ended. Replies that were written before it are handed on.
 fn told<W: Write>(fault: ScriptFault, out: &mut W) -> RunFault
     ensures value { result ≡ script_fault fault }
     ensures silent { (fault ≢ ScriptFault.Output) → (fault ≢ ScriptFault.Device) → out.new ≡ out.old }

@@ -71,7 +71,7 @@ fn obey<F: Write + Seek + Drop, W: Write>(
 /// A job over several images ends with 3 and `FILE`, since only one has its bytes here: call `overview_run` for each.
 ///
 /// The file is handed each sector at 256 times its index, before memory takes it, and nothing else; `Format` and `Copy`
-/// hand it the whole image. It can't be ended: what a longer file held behind an image stays there. Whether it was there before, and
+/// hand it the whole image. It can't be ended: what a longer file held after an image stays there. Whether it was there before, and
 /// when its sectors come to the disk, is up to the caller. If it fails the status is 3, and of what it was handed in that
 /// call nothing is known.
 pub fn run_over<F: Write + Seek + Drop, W: Write, E: Write>(

@@ -15,6 +15,7 @@ abbrev pub lf_after : Bool → List ℕ
 lf_after true = 10 ∷ []
 lf_after false = []
 
+-- the line came to its LF
 abbrev pub has_end : Part → Bool
 has_end (Ended _) = true
 has_end _ = false

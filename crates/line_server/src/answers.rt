@@ -1,4 +1,4 @@
-//! Outputs to which each reply is told by itself and handed on.
+//! Outputs to which each reply is passed by itself and handed on.
 ghost use Rattle.host_session.specs.events.Instants.{instant_of};
 ghost use Rattle.host_session.specs.events.Telling.{IsTold};
 ghost use Rattle.line_server.specs.Answering.{Answering, answered, of_output};
@@ -7,12 +7,12 @@ use d64_image::Sectors;
 use host_session::{NotTaken, ReplySink};
 use request_cards::Reply;
 
-/// An output of answers. All that can be told replies are such, and say no more than that.
+/// An output of answers. All that can be passed replies are such, and say no more than that.
 pub trait Answers<D: Sectors> {
-    /// What this output says of itself: what it was told, and whether it may have failed.
+    /// What this output says of itself: what it was passed, and whether it may have failed.
     ghost answering: { Answering Self };
 
-    /// Tells this reply, and hands it on. Where that wasn't done, a part of it may have been told, or all of it. The
+    /// Passes this reply, and hands it on. If that wasn't done, a part of it may have been passed, or all of it. The
     /// disk is lent as it is then.
     fn answer(&mut self, reply: &Reply, disk: &D) -> Result<(), NotTaken>
         ensures { IsTold (answered answering) self.old self.new reply.now (instant_of D.history disk.now) result };

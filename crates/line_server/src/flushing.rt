@@ -8,7 +8,7 @@ use d64_image::Sectors;
 use host_session::{NotTaken, ReplySink};
 use request_cards::Reply;
 
-/// An output to which what is held back is handed on behind each reply.
+/// An output to which what is held back is handed on after each reply.
 #[derive(Drop)]
 pub struct Flushing<'a, T> {
     out: &'a mut T,
@@ -31,7 +31,7 @@ impl<'a, D: Sectors, T: Answers<D>> ReplySink<D> for Flushing<'a, T> {
         self.out.answer(reply, disk)
     }
 
-    // Each reply was handed on behind it.
+    // Each reply was handed on after it.
     fn hand_on(&mut self) -> Result<(), NotTaken> {
         Ok(())
     }

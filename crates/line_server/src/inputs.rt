@@ -9,7 +9,7 @@ use d64_image::Sectors;
 use host_session::{Cut, EventSource, Next};
 
 /// The lines of an input, as a source of messages. A line counts only with its LF, and one CR before that is dropped;
-/// what stands behind the last LF is no line. No line is a reset. 40 bytes of a line are kept, more than a request can
+/// what stands after the last LF is no line. No line is a reset. 40 bytes of a line are kept, more than a request can
 /// have, so that no memory grows with the input; a longer line is no request, and neither is what is kept of it. A
 /// read that is interrupted is tried again. All of it is our own.
 #[derive(Drop)]
@@ -17,7 +17,7 @@ pub struct InputEvents<'a, R> {
     input: &'a mut R,
     /// What was kept of the line that was taken last.
     line: ArrayVec<u8, 40>,
-    /// What asking last came to. Behind an end or a failure the input isn't read again.
+    /// What asking last came to. After an end or a failure the input isn't read again.
     said: Next,
     /// How many lines more are taken.
     left: u64,

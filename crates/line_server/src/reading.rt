@@ -12,7 +12,7 @@ use std::io::{self, BufRead, Error, ErrorKind};
 pub(crate) enum Part {
     /// Before the line's LF.
     More,
-    /// Behind the line's LF, where so many bytes more are at hand.
+    /// After the line's LF, if so many bytes more are at hand.
     Ended(usize),
     /// At the end of the input.
     Over,

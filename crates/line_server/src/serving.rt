@@ -9,12 +9,12 @@ use d64_image::Sectors;
 use host_session::{LoopFault, run};
 
 /// Serves the shop of a disk: opens it, and takes line after line of an input until that ends. Each line is handled,
-/// and its reply told and handed on, before the next line is asked for. What comes of it are the clauses of
+/// and its reply passed and handed on, before the next line is asked for. What comes of it are the clauses of
 /// `IsServed`.
 ///
-/// `Open`: nothing was read or told. `Input`: the input couldn't be read; the lines before stand, and were told.
+/// `Open`: nothing was read or answered. `Input`: the input failed; the lines before stand, and were answered.
 /// `Output`: the output failed; the lines up to that one stand. `Device`: the device failed in the last line, which
-/// was told MEDIA where the output took it; its message counts or it doesn't. It takes no memory.
+/// was answered MEDIA if the output took it; its message counts or it doesn't. It takes no memory.
 pub fn serve<D: Sectors, R: LineSource<D>, T: Answers<D>>(
     disk: D,
     input: &mut R,

@@ -17,7 +17,7 @@ pub trait LineSource<D: Sectors> {
     ghost input: { Input Self };
 
     /// Takes the next line, without its LF and one CR before that; 40 bytes of it are kept, and what was there before
-    /// is gone. `End` where the input ended first: what came behind its last LF is no line. `Failed` where it couldn't
+    /// is gone. `End` if the input ended first: what came after its last LF is no line. `Failed` if it couldn't
     /// be read. The disk is lent as it is then.
     fn give(&mut self, line: &mut ArrayVec<u8, 40>, disk: &D) -> Next
         ensures { IsGiven input self.old self.new line.new.items (instant_of D.history disk.now) result };

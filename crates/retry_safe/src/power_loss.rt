@@ -13,7 +13,7 @@ use d64_image::{Fuse, Sectors};
 use host_session::{Event, PlayFault, Session, play};
 use request_cards::Reply;
 
-/// Plays the events until power goes for good, after so many sector writes. Err where there is no memory for the replies.
+/// Plays the events until power goes for good, after so many sector writes. Err if there is no memory for the replies.
 fn play_until<D: Sectors>(
     disk: D,
     events: &[Event<'_>],
@@ -79,10 +79,10 @@ fn ask<D: Sectors>(disk: D, message: &[u8]) -> Result<(Session<D>, Reply), (Play
 ///
 /// `power` counts sector writes: the power goes after so many of the run, in whatever it then does, or after its last
 /// one. In each opening of `recoveries` it goes again after so many. Then the disk is opened with power that stays, and
-/// the session answers `again`. The replies of the run stand behind those that the list had.
+/// the session answers `again`. The replies of the run stand after those that the list had.
 ///
 /// `NoMemory`: there was no room for the replies, and nothing was done. `Open`: the disk is no shop's, or the device
-/// failed. `Device` is never told.
+/// failed. `Device` never comes.
 pub fn retry_after_power_loss<D: Sectors>(
     disk: D,
     events: &[Event<'_>],

@@ -13,8 +13,8 @@ use std::alloc::Global;
 use std::fmt::Display;
 use std::io::Write;
 
-/// The disk in memory that holds the image. `ImageSize` where it hasn't the size of a disk, else
-/// `NoMemory` where there was none for it.
+/// The disk in memory that holds the image. `ImageSize` if it hasn't the size of a disk, otherwise
+/// `NoMemory` if there was none for it.
 pub fn load(alloc: Global, image: &[u8]) -> Result<MemDisk, RunFault>
     ensures ok { IfOk result (λ disk. (length image.now ≡ 174848)
         × (disk_image disk ≡ sectors_in image.now)) }
@@ -27,7 +27,7 @@ pub fn load(alloc: Global, image: &[u8]) -> Result<MemDisk, RunFault>
     }
 }
 
-/// Hands all of these bytes to the writer. `File` where it failed.
+/// Hands all of these bytes to the writer. `File` if it failed.
 pub fn put<W: Write>(out: &mut W, bytes: &[u8]) -> Result<(), RunFault>
     ensures ok { OnOk result (Appends (W.contents out.old) (W.contents out.new) bytes.now) }
     ensures err { IfErr result (λ fault. fault ≡ faults.File) }
@@ -38,7 +38,7 @@ pub fn put<W: Write>(out: &mut W, bytes: &[u8]) -> Result<(), RunFault>
     Ok(())
 }
 
-/// Hands on what the writer still holds back. `File` where it failed.
+/// Hands on what the writer still holds back. `File` if it failed.
 pub fn flush<W: Write>(out: &mut W) -> Result<(), RunFault>
     ensures kept { Keeps (W.contents out.old) (W.contents out.new) }
     ensures err { IfErr result (λ fault. fault ≡ faults.File) }
@@ -50,7 +50,7 @@ pub fn flush<W: Write>(out: &mut W) -> Result<(), RunFault>
 }
 
 /// Hands all of these bytes to the writer, and those that it still holds back to where it keeps
-/// them. `File` where it failed, which then has a beginning of them, or all.
+/// them. `File` if it failed, which then has a beginning of them, or all.
 pub fn put_whole<W: Write>(out: &mut W, bytes: &[u8]) -> Result<(), RunFault>
     ensures ok { OnOk result (Appends (W.contents out.old) (W.contents out.new) bytes.now) }
     ensures err { IfErr result (λ fault.
@@ -62,7 +62,7 @@ pub fn put_whole<W: Write>(out: &mut W, bytes: &[u8]) -> Result<(), RunFault>
     }
 }
 
-/// Prints this on a line of its own. `File` where the writer failed.
+/// Prints this on a line of its own. `File` if the writer failed.
 pub fn put_line<W: Write, T: Display + Drop>(out: &mut W, text: T) -> Result<(), RunFault>
     ensures ok { OnOk result (IfSome (T.output text)
         (λ text. Appends (W.contents out.old) (W.contents out.new) (text ++ codes "\n"))) }

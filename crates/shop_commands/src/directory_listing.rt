@@ -54,12 +54,13 @@ fn put_directory<W: Write>(out: &mut W, map: &BamView<'_>, slots: &[Slot]) -> Re
     flush(out)
 }
 
-/// Prints the directory of the image. It is read and judged whole before anything is printed:
-/// `ImageSize` where the image hasn't the size of a disk, `Layout` where the directory's sectors
-/// aren't a chain on track 18 outside 18/0, `NoMemory` where there was none for the disk, `File`
-/// where the output failed, which may then have a part.
+/// Prints the directory of the image. It is read and checked whole before anything is printed.
+///
+/// `ImageSize` if the image hasn't the size of a disk; `Layout` if the directory's sectors aren't a
+/// chain on track 18 outside 18/0; `NoMemory` if there was none for the disk. `File` if the output
+/// failed, which may then have a part.
 pub fn list_image<W: Write>(alloc: Global, image: &[u8], out: &mut W) -> Result<(), RunFault>
-    // What is listed has a directory, whose listing was printed; and what is told holds.
+    // What is listed has a directory, whose listing was printed; and what is reported holds.
     ensures ok { OnOk result (IsListed W.contents image.now out.old out.new) }
     ensures err { IfErr result (IsListFault image.now) }
     // Only where the output failed something may have been printed.

@@ -85,16 +85,17 @@ fn hand_on<W: Write>(out: &mut W) -> Result<(), DryFault>
 }
 
 /// Writes the reply to each line of a script on a line of its own, as a fresh disk with 64 tills
-/// would give it, without a disk, and hands on what the writer still holds back. A line that begins
-/// with `@` is bad: the first such line is told before anything is written (`BadLine`). Where the
-/// writer fails, what it took of the replies is open (`Output`). It takes no memory.
+/// would give it, and flushes the writer. It takes no memory and needs no disk.
+///
+/// A line that begins with `@` is bad: the first such line is returned before anything is written
+/// (`BadLine`). If the writer fails, what it took of the replies is open (`Output`).
 pub fn dry<W: Write>(script: &[u8], out: &mut W) -> Result<(), DryFault>
-    // A bad line is told exactly where there is one, and it is the first.
+    // A bad line is returned exactly if there is one, and it is the first.
     ensures bad_line { (n : ℕ) →
         (result ≡ Err (DryFault.BadLine n)) ↔ (first_reset (lines script.now) ≡ Some n) }
     // Then nothing was written.
     ensures untouched { IsSome (first_reset (lines script.now)) → out.new ≡ out.old }
-    // Where no line is bad, each has its reply over the lines before it.
+    // If no line is bad, each has its reply over the lines before it.
     ensures good { OnOk result (first_reset (lines script.now) ≡ None) }
     ensures ok { OnOk result
         (Appends (W.contents out.old) (W.contents out.new) (dry_report script.now)) }

@@ -19,7 +19,7 @@ pub trait WritesAt {
     // the bytes that stay where the machine loses power, where they are known
     ghost lasting: { Lasting Self } = { unknown_lasting };
 
-    // the bytes that it holds, where it is known that a write that fails stands there whole or not at all
+    // the bytes that it holds, if it is known that a write that fails stands there whole or not at all
     ghost whole: { Whole held };
 
     // nobody else writes it; and nobody else reads it either
@@ -31,7 +31,7 @@ pub trait WritesAt {
     ghost has_failed: { Self → Bool } = { λ _. true };
 
     /// Writes all these bytes over those from that place on, in bytes from the file's start. At an error a beginning of
-    /// them was written. Of a sector all comes to the disk or nothing, where all else is there already.
+    /// them was written. All of a sector comes to the disk or nothing, if all the rest is there already.
     fn write_all_at(&mut self, bytes: &[u8], at: u64) -> io::Result<()>
         ensures written { WritesOver (held self.old) (held self.new) at bytes.now result }
         ensures stays { AllStays held lasting self.old → IsSectorIn (lasting.bytes self.old) at bytes.now
@@ -42,7 +42,7 @@ pub trait WritesAt {
         ensures passed { OnOk result (has_failed self.new ≡ has_failed self.old) };
 
     /// Brings what it holds to the disk, whoever wrote it. At an error any of what wasn't there may be, or not, and
-    /// asking again tells nothing: who asks doesn't go on.
+    /// asking again says nothing: the caller doesn't go on.
     fn sync(&mut self) -> io::Result<()>
         ensures same { held self.new ≡ held self.old }
         ensures lasting { OnOk result (AllStays held lasting self.new) }
@@ -60,7 +60,7 @@ impl WritesAt for File {
 
     ghost whole = { unknown_whole };
 
-    // In line, as all on the way to the file is: a return right behind a call of the system is dear.
+    // In line, as all on the way to the file is: a return right after a call of the system is dear.
     #[inline(always)]
     fn write_all_at(&mut self, bytes: &[u8], at: u64) -> io::Result<()> {
         FileExt::write_all_at(self, bytes, at)

@@ -10,7 +10,7 @@ use std::error::Error;
 use std::fmt::{self, Display, Formatter};
 use std::io;
 
-/// Why a job over an image isn't done, as it is told on standard error.
+/// Why a job over an image isn't done, as it is printed on standard error.
 #[derive(Clone, Copy, Debug, PartialEq, Eq)]
 pub enum RunFault {
     /// The image hasn't the 174,848 bytes of a disk of 35 tracks.
@@ -57,7 +57,7 @@ impl RunFault {
         }
     }
 
-    /// What is told where a shop's disk isn't opened for this fault.
+    /// What is reported if a shop's disk isn't opened for this fault.
     pub fn of_opening(fault: OpenFault) -> RunFault
         ensures { result ≡ opening_fault fault }
     {
@@ -72,7 +72,7 @@ impl RunFault {
         }
     }
 
-    /// What is told where a script isn't played to its end for this fault.
+    /// What is reported if a script isn't played to its end for this fault.
     pub fn of_script(fault: ScriptFault) -> RunFault
         ensures { result ≡ script_fault fault }
     {
@@ -84,7 +84,7 @@ impl RunFault {
         }
     }
 
-    /// What is told where a file or the output failed so: `NoMemory` for want of memory, else `File`.
+    /// What is reported if a file or the output failed so: `NoMemory` for lack of memory, otherwise `File`.
     pub fn of_io(error: &io::Error) -> RunFault
         ensures { result ≡ io_fault (error_kind error.now) }
     {

@@ -14,7 +14,7 @@ use std::io;
 pub struct ImageFile<F: WritesAt> {
     file: F,
     durability: Durability,
-    /// Each sector is brought to the disk, and all else that the file holds is there, unless bringing one failed.
+    /// Each sector is brought to the disk, and all the rest that the file holds is there, unless bringing one failed.
     synced: bool,
     /// It is the file of an image.
     sized: bool,
@@ -61,8 +61,8 @@ impl<F: WritesAt> ImageFile<F> {
     }
 
     /// The file of an image with these bytes, which were read of it, whose sectors are brought to the disk so. It took
-    /// no sector, and hasn't failed. Where each sector is, and what it holds is there, it keeps what stays there; else
-    /// what it holds, where that is known whole.
+    /// no sector, and hasn't failed. If each sector is, and what it holds is there, it keeps what stays there, otherwise
+    /// what it holds, if that is known whole.
     pub fn of_image(file: F, durability: Durability, image: &[u8]) -> ImageFile<F>
         requires there { IsSynced F.held F.lasting durability file }
         requires image { IfSome (F.held file) (λ all. image.now ≡ take 174849 all) }
@@ -101,8 +101,8 @@ impl<F: WritesAt> ImageFile<F> {
         file
     }
 
-    /// Brings all that was written to the disk, where that wasn't done behind each sector. A file that failed to bring
-    /// a sector there isn't asked again. Where each is there, and none failed, there is nothing to bring, and no error.
+    /// Brings all that was written to the disk, if that wasn't done after each sector. A file that failed to bring
+    /// a sector there isn't asked again. If each is there, and none failed, there is nothing to bring, and no error.
     pub fn finish(&mut self) -> io::Result<()>
         ensures { BringsAll self.old self.new result }
     {
@@ -133,7 +133,7 @@ impl<F: WritesAt> SectorFile for ImageFile<F> {
             from.now result }
         // where each sector is brought to the disk, so is this one
         ensures lasting { OnOk result (IsSynced F.held F.lasting (placed_durability self.old) (placed_file self.new)) }
-        // an error is told where the file failed alone, now or before
+        // an error is returned only if the file failed, now or before
         ensures failed { OnErr result (F.has_failed (placed_file self.new) ≡ true) }
         ensures passed { OnOk result (F.has_failed (placed_file self.new) ≡ F.has_failed (placed_file self.old)) }
     {

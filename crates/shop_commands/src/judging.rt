@@ -15,7 +15,7 @@ use layout_check::check;
 use std::alloc::Global;
 use std::io::Write;
 
-/// What a check of the disk tells; None where it is clean. Its survey isn't kept.
+/// The fault that a check of the disk finds; None if it is clean. Its survey isn't kept.
 fn verdict(disk: &mut MemDisk) -> Option<Fault>
     ensures { IsVerdict (disk_image disk.old) result }
 {
@@ -25,7 +25,7 @@ fn verdict(disk: &mut MemDisk) -> Option<Fault>
     }
 }
 
-/// Prints what a check told on a line of its own.
+/// Prints what a check found on a line of its own.
 fn put_verdict<W: Write>(out: &mut W, found: Option<Fault>) -> Result<(), RunFault>
     ensures ok { OnOk result
         (Appends (W.contents out.old) (W.contents out.new) (verdict_text found)) }
@@ -38,16 +38,16 @@ fn put_verdict<W: Write>(out: &mut W, found: Option<Fault>) -> Result<(), RunFau
     flush(out)
 }
 
-/// Judges the layout of the image, and prints `OK` where it is clean, else a fault and its place,
-/// which it also answers: which of several is open. `ImageSize` where the image hasn't the size of a
-/// disk, `NoMemory` where there was none for the disk, `File` where the output failed.
+/// Checks the layout of the image, and prints `OK` if it is clean, otherwise a fault and its place,
+/// which it also answers: which of several is open. `ImageSize` if the image hasn't the size of a
+/// disk, `NoMemory` if there was none for the disk, `File` if the output failed.
 pub fn check_image<W: Write>(
     alloc: Global,
     image: &[u8],
     out: &mut W,
 ) -> Result<Option<Fault>, RunFault>
     ensures size { IfOk result (λ _. length image.now ≡ 174848) }
-    // A clean image is called so, and a fault that is told holds.
+    // A clean image is called so, and a fault that is returned holds.
     ensures verdict { IfOk result (IsVerdict (sectors_in image.now)) }
     // That is what was printed, and nothing else.
     ensures printed { IfOk result

@@ -4,19 +4,19 @@ ghost use Rattle.shop_commands.specs.FreshShops.{FreshIsAShop, FreshShowsItsTop,
 
 use d64_image::Sectors;
 
-/// The bytes of a fresh disk, those that `format` hands over, are a whole image, and a fresh disk for 1 to 64 tills is
-/// a shop's, at rest: no cards, nothing kept of any till, so many tills (one more where their number is odd), room for
-/// new cards up to the blank image's top (8819 for 64 tills), and no other file. What `show` prints of it is that top
-/// alone.
+/// The bytes of a fresh disk, those that `format` writes, are a whole image. A fresh disk for 1 to 64 tills is a
+/// shop's, at rest. The shop has no cards, nothing kept of any till, and so many tills (one more if their number is
+/// odd). It has room for new cards up to the blank image's top (8819 for 64 tills), and no other file. `show` prints
+/// that top alone.
 pub fn fresh_is_a_shop()
     ensures bytes { FreshBytesAreADisk }
     ensures shop { FreshIsAShop }
     ensures shown { FreshShowsItsTop }
 {}
 
-/// On a fresh disk with 64 tills a list of requests begins where the dry run's does, so the replies to a script's lines
-/// there, each over the lines before it, are those that `dry` prints. `dry` refuses just the scripts that aren't played
-/// so: those with a line that begins with `@`.
+/// On a fresh disk with 64 tills a list of requests begins where the dry run's does. So the replies to a script's lines
+/// there, each over the lines before it, are those that `dry` prints. `dry` refuses exactly the scripts that aren't
+/// played so: those with a line that begins with `@`.
 pub fn dry_is_play()
     ensures start { DryBeginsFresh }
     ensures replies { DryTellsReplies }
@@ -24,7 +24,7 @@ pub fn dry_is_play()
 {}
 
 /// Wherever a script that `dry` doesn't refuse is played to its end on a fresh disk with 64 tills, on whatever device,
-/// what was told is what `dry` prints of it.
+/// what was printed is what `dry` prints of it.
 pub fn run_tells_dry<D: Sectors>()
     ensures { RunTellsDry D.history }
 {}

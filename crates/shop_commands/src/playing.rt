@@ -14,7 +14,7 @@ use d64_image::{KeptMirror, SectorFile, Sectors};
 use host_session::{ReplySink, ScriptFault, play_script};
 use std::alloc::Global;
 
-/// What is told of a run that this fault ended. Replies that were told before it are handed on.
+/// The outcome of a run that this fault ended. Replies that were passed before it are handed on.
 fn told<D: Sectors, T: ReplySink<D>>(fault: ScriptFault, out: &mut T) -> RunFault
     ensures value { result ≡ script_fault fault }
     ensures silent { (fault ≢ ScriptFault.Output) → (fault ≢ ScriptFault.Device) → out.new ≡ out.old }
@@ -22,7 +22,7 @@ fn told<D: Sectors, T: ReplySink<D>>(fault: ScriptFault, out: &mut T) -> RunFaul
 {
     match fault {
         ScriptFault::Output | ScriptFault::Device => {
-            // the fault is told, whatever comes of this
+            // the fault is returned, whatever comes of this
             let _ = out.hand_on();
         }
         ScriptFault::Open(_) | ScriptFault::BadLine(_) => {}
@@ -30,12 +30,12 @@ fn told<D: Sectors, T: ReplySink<D>>(fault: ScriptFault, out: &mut T) -> RunFaul
     RunFault::of_script(fault)
 }
 
-/// Plays the lines of a script on the shop of a disk, and tells the reply to each before the next is played. What was
-/// told is handed on at the end, also after a fault. The disk is handed back.
+/// Plays the lines of a script on the shop of a disk, and passes the reply to each before the next is played. What was
+/// passed is handed on at the end, also after a fault. The disk is handed back.
 ///
 /// `BadLine`, the first bad line, and the faults of an opening, in its order: nothing was done then. After `File` the
-/// output failed; the lines that were played stand. `Device` where the device failed: the last reply is `MEDIA`, or
-/// `CUT` where it failed in the recovery.
+/// output failed; the lines that were played stand. `Device` if the device failed: the last reply is `MEDIA`, or
+/// `CUT` if it failed in the recovery.
 pub fn play_image<D: Sectors, T: ReplySink<D>>(
     disk: D,
     script: &[u8],
@@ -52,7 +52,7 @@ pub fn play_image<D: Sectors, T: ReplySink<D>>(
     }
 }
 
-/// The file of a mirror whose run ended so: `Device` where the file failed.
+/// The file of a mirror whose run ended so: `Device` if the file failed.
 pub fn file_of<F: SectorFile>(
     mirror: KeptMirror<F>,
     end: Result<(), RunFault>,
@@ -73,12 +73,12 @@ pub fn file_of<F: SectorFile>(
 }
 
 /// Plays the lines of a script on the shop of an image, as `play_image` does, over the file that keeps the image. Each
-/// sector is handed to the file before memory takes it, and so before the reply to its line is told. The file is handed
+/// sector is handed to the file before memory takes it, and so before its line's reply is passed. The file is handed
 /// back.
 ///
-/// `ImageSize`; `NoMemory` where there was none for the disk; `BadLine`, the first bad line; and the faults of an
+/// `ImageSize`; `NoMemory` if there was none for the disk; `BadLine`, the first bad line; and the faults of an
 /// opening, in its order. Nothing was done then. After `File` the output failed; the lines that were played stand.
-/// `Device` where the file failed.
+/// `Device` if the file failed.
 // Out of line: a session is large, and a frame that has its room touches each page of it.
 #[inline(never)]
 pub fn play_file<F: SectorFile, T: ReplySink<KeptMirror<F>>>(

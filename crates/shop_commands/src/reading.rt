@@ -4,7 +4,7 @@ ghost use Rattle.std.specs.Prelude.{◌≡◌, IfOk, IfSome, take, vec_items};
 use std::alloc::Global;
 use std::io::{self, Read};
 
-/// How many bytes of an image are read: one more than a disk has, which is enough to tell that there are
+/// How many bytes of an image are read: one more than a disk has, which is enough to see that there are
 /// too many.
 const IMAGE_BYTES: u64 = 174_849;
 

@@ -27,7 +27,7 @@ const LINES: usize = 1920;
 /// How many tills a disk has at most.
 const MOST_TILLS: u8 = 64;
 
-/// Writes the lines of the 80 items behind this one so that they end where the room does, and returns where they start.
+/// Writes the lines of the 80 items after this one so that they end where the room does, and returns where they start.
 fn write_cards<D: Sectors>(
     session: &Session<D>,
     before: u16,
@@ -84,7 +84,7 @@ fn put_tills<D: Sectors, W: Write>(session: &Session<D>, out: &mut W) -> Result<
     Ok(())
 }
 
-/// Prints all that is shown of an open shop, and hands it over. `File` where the output failed.
+/// Prints all that is shown of an open shop, and hands it over. `File` if the output failed.
 pub(crate) fn put_shop<D: Sectors, W: Write>(
     session: &Session<D>,
     out: &mut W,
@@ -101,16 +101,18 @@ pub(crate) fn put_shop<D: Sectors, W: Write>(
 }
 
 /// Prints what an image holds of a shop: how far new cards may go, the cards in the order of the items, and by till the
-/// last request and the one before it with their answers. The image is opened as a copy in memory, where an intent that
-/// is open is completed, and isn't written. `ImageSize` where it hasn't the size of a disk; `Layout`, `NoStock`,
-/// `NoRequests`, `BadRequestCard`, `TwoIntents` or `BadCard` where it is no shop's, the first that is so in this order;
-/// `NoMemory` where there was none for the copy; `File` where the output failed, which may then have a part.
+/// last request and the one before it with their answers. A copy of the image is opened in memory, where an open intent
+/// is completed; the image isn't written.
+///
+/// `ImageSize` if it hasn't the size of a disk. `Layout`, `NoStock`, `NoRequests`, `BadRequestCard`, `TwoIntents` or
+/// `BadCard` if it is no shop's: the first that holds in this order. `NoMemory` if there was none for the copy. `File`
+/// if the output failed, which may then have a part.
 // Out of line: a session is large, and a frame that has its room touches each page of it.
 #[inline(never)]
 pub fn show_image<W: Write>(alloc: Global, image: &[u8], out: &mut W) -> Result<(), RunFault>
     // What is shown is the shop that the image is, at rest.
     ensures ok { OnOk result (IsShown W.contents image.now out.old out.new) }
-    // What is told holds, and a shop is refused for memory or the output alone.
+    // What is reported holds, and a shop is refused for memory or the output alone.
     ensures err { IfErr result (IsShowFault image.now) }
     // Only where the output failed something may have been printed.
     ensures untouched { IfErr result (λ fault. (fault ≢ faults.File) → out.new ≡ out.old) }

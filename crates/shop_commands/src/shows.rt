@@ -43,7 +43,7 @@ pub(crate) fn put_top<W: Write>(out: &mut W, top: u16) -> Result<(), RunFault>
     Ok(())
 }
 
-/// Writes the number behind this text, so that it ends at `end`, and returns where the text starts.
+/// Writes the number after this text, so that it ends at `end`, and returns where the text starts.
 fn write_behind(text: &[u8], n: u32, room: &mut [u8], end: usize) -> usize
     requires fits { (length text.now + length (decimal n) ≤ end) × (end ≤ length room.old) }
     ensures start { result + length text.now + length (decimal n) ≡ end }
@@ -67,7 +67,7 @@ fn write_card(item: u16, quantity: u32, room: &mut [u8], end: usize) -> usize
     write_behind(b"CARD ", u32::from(item), room, start)
 }
 
-/// The same where the item has a card; else nothing is written.
+/// The same if the item has a card; otherwise nothing is written.
 pub(crate) fn write_item(item: u16, quantity: Option<u32>, room: &mut [u8], end: usize) -> usize
     requires { (24 ≤ end) × (end ≤ length room.old) }
     ensures low { end ≤ result + 24 }
@@ -80,7 +80,7 @@ pub(crate) fn write_item(item: u16, quantity: Option<u32>, room: &mut [u8], end:
     }
 }
 
-/// Prints a request and its answer behind a word.
+/// Prints a request and its answer after a word.
 fn put_line_of<W: Write>(
     out: &mut W,
     word: &[u8],
@@ -97,7 +97,7 @@ fn put_line_of<W: Write>(
     put_line(out, AnswerText(answer))
 }
 
-/// The same, where there is a request.
+/// The same, if there is a request.
 fn put_told<W: Write>(
     out: &mut W,
     word: &[u8],

@@ -80,7 +80,7 @@ impl Table {
         }
     }
 
-    /// Writes the card of the item that a move goes to, where there is a new quantity.
+    /// Writes the card of the item that a move goes to, if there is a new quantity.
     fn store_to(&mut self, request: &Request, quantity: Option<u32>)
         requires { IfSome quantity (λ _. (request.now.body.kind ≡ Move)
             × (request.now.body.to ≤ 8819)) }
@@ -128,7 +128,7 @@ impl Table {
         outcome.answer
     }
 
-    /// What the till is told of its request.
+    /// The reply to the till's request.
     fn tell(&mut self, request: &Request) -> Word
         ensures word { result ≡ word_in dry_start (state_of self.old) request.now }
         ensures after { state_of self.new ≡ after dry_start (state_of self.old) request.now }

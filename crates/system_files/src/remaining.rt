@@ -6,7 +6,7 @@ use std::fs::File;
 use std::io;
 use std::os::unix::fs::FileExt;
 
-/// A file that can be written over at any place and ended behind any byte.
+/// A file that can be written over at any place and ended after any byte.
 pub trait EndedFile {
     // what it says of the bytes that it holds, and of those that remain if power goes
     ghost remains: { Remains Self } = { unknown };
@@ -16,7 +16,7 @@ pub trait EndedFile {
     fn put_over(&mut self, bytes: &[u8], at: u64) -> io::Result<()>
         ensures { IsPutOver remains self.old self.new bytes.now at result };
 
-    /// Ends the file behind this many bytes: what it held after them is gone, and zeros fill what was missing.
+    /// Ends the file after this many bytes: what it held after them is gone, and zeros fill what was missing.
     fn end_at(&mut self, bytes: u64) -> io::Result<()>
         ensures { IsEndedBehind remains self.old self.new bytes result };
 

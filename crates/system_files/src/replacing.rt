@@ -8,7 +8,7 @@ use std::io;
 /// How many bytes an image has.
 const IMAGE_BYTES: u64 = 174_848;
 
-/// Where the first sector of the directory begins, 18/1, and where the one behind it does.
+/// Where the first sector of the directory begins, 18/1, and where the one after it does.
 const DIRECTORY: usize = 91_648;
 
 const BEHIND: usize = 91_904;
@@ -37,7 +37,7 @@ fn fill<F: EndedFile>(file: &mut F, image: &[u8]) -> io::Result<()>
     file.sync_whole()
 }
 
-/// Writes the first sector of an image's directory, of which all else is there, and brings it to the disk.
+/// Writes the first sector of an image's directory, of which the rest is there, and brings it to the disk.
 fn seal<F: EndedFile>(file: &mut F, image: &[u8]) -> io::Result<()>
     requires size { length image.now ≡ 174848 }
     requires filled { AllAreFilled F.remains file.old image.now }
