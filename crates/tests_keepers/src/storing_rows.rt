@@ -4,7 +4,7 @@ use crate::comparing::same_at;
 use crate::disks::{Change, changed};
 use crate::outputs::{Full, is_told};
 use d64_image::MemDisk;
-use keeper_commands::{KeepFault, records_image, store_image};
+use keeper_commands::{KeepFault, RecordForm, records_image, store_image};
 use std::io::Write;
 use std::process::Abort;
 
@@ -41,7 +41,13 @@ fn is_stored(
     let mut lines = Vec::new(rt.alloc());
     is_told(
         rt,
-        records_image(rt.alloc(), after.bytes(), b"STOCK", &mut lines),
+        records_image(
+            rt.alloc(),
+            after.bytes(),
+            b"STOCK",
+            RecordForm::Lines,
+            &mut lines,
+        ),
         "",
     );
     same_at(
