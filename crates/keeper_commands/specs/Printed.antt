@@ -1,5 +1,5 @@
 -- What was printed of a file of an image. All of it is our own.
-use Rattle.std.specs.Prelude.{◌≡◌, ℕ, List, IfErr, OnOk, Option, Result, ◌-◌, get_or}
+use Rattle.std.specs.Prelude.{◌≡◌, ◌-◌, ℕ, List, [], IfErr, OnOk, Option, Result, get_or}
 use Rattle.std.specs.Io.KnownBytes.{Appends}
 use Rattle.d64_image.specs.Images.{Image}
 use Rattle.d64_image.specs.Memory.{sectors_in}
