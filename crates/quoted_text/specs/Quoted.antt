@@ -8,9 +8,9 @@ abbrev pub quoted_byte : CharacterSet → ℕ → List ℕ
 quoted_byte set b =
     if nat_eq b 34 then codes "\"\"" else (if nat_eq b 13 then codes "\\0d" else readable_byte set b)
 
-abbrev pub between : CharacterSet → List ℕ → List ℕ
-between set bytes = flat_map (quoted_byte set) bytes
+abbrev pub one_line : CharacterSet → List ℕ → List ℕ
+one_line set bytes = flat_map (quoted_byte set) bytes
 
 -- bytes with their marks. In the mixed set 48 22 0D is "h""\0d"
 abbrev pub quoted : CharacterSet → List ℕ → List ℕ
-quoted set bytes = 34 ∷ (between set bytes ++ 34 ∷ [])
+quoted set bytes = 34 ∷ (one_line set bytes ++ 34 ∷ [])

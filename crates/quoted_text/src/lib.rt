@@ -3,4 +3,4 @@
 
 mod quoting;
 
-pub use quoting::Quoted;
+pub use quoting::{OneLine, Quoted};

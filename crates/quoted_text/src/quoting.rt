@@ -1,6 +1,6 @@
 //! Bytes of PETSCII between quotation marks.
 ghost use Rattle.std.specs.Prelude.{◌≡◌, Some};
-ghost use Rattle.quoted_text.specs.Quoted.{between, quoted, quoted_byte};
+ghost use Rattle.quoted_text.specs.Quoted.{one_line, quoted, quoted_byte};
 
 use petscii_text::{CharacterSet, Readable};
 use std::fmt::{self, Display, Formatter};
@@ -36,15 +36,17 @@ impl Display for QuotedByte {
     }
 }
 
-/// The text between the marks.
+/// The same text without the marks around it.
 #[derive(Clone, Copy)]
-struct Between<'a> {
-    set: CharacterSet,
-    bytes: &'a [u8],
+pub struct OneLine<'a> {
+    /// The set whose characters they are.
+    pub set: CharacterSet,
+    /// The bytes.
+    pub bytes: &'a [u8],
 }
 
-impl Display for Between<'_> {
-    ghost output = { λ text. Some (between text.set text.bytes.now) };
+impl Display for OneLine<'_> {
+    ghost output = { λ text. Some (one_line text.set text.bytes.now) };
 
     fn fmt<W: fmt::Write>(&self, f: &mut Formatter<W>) -> fmt::Result {
         let set = self.set;
@@ -59,10 +61,10 @@ impl Display for Quoted<'_> {
     ghost output = { λ text. Some (quoted text.set text.bytes.now) };
 
     fn fmt<W: fmt::Write>(&self, f: &mut Formatter<W>) -> fmt::Result {
-        let between = Between {
+        let one_line = OneLine {
             set: self.set,
             bytes: self.bytes,
         };
-        write!(f, "\"{between}\"")
+        write!(f, "\"{one_line}\"")
     }
 }
