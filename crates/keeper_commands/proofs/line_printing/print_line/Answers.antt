@@ -1,5 +1,5 @@
 -- The record is there, and its line was printed.
-use Rattle.std.proofs.Common.{◌≡◌, List, false, refl, subst, sym, ℕ}
+use Rattle.std.proofs.Common.{◌≡◌, ◌∙◌, List, false, refl, subst, sym, ℕ}
 use Rattle.std.specs.Io.KnownBytes.{Appends}
 use Rattle.std.specs.Prelude.{is_err}
 use Rattle.disk_layout.specs.Records as records_of
@@ -8,8 +8,8 @@ use Rattle.keeper_commands.specs.Forms.{form_line}
 use Rattle.keeper_commands.proofs.Printing.{got, not-err, read-had}
 use Rattle.keeper_commands.proofs.line_printing.print_line.Goals as goal
 
-pub returns-then-write_form_line-is_err : goal.returns-then-write_form_line-is_err
-returns-then-write_form_line-is_err g c = record {
+pub returns-then-is_err : goal.returns-then-is_err
+returns-then-is_err g c = record {
   ok = λ l n f of. tt;
   same = c.read_next.ensures.text.reads.image;
   kept = c.read_next.ensures.kept;
@@ -30,7 +30,7 @@ returns g c =
           let bytes = got (rs f) _ _ read.there in
           subst (λ (xs : List ℕ). Appends (g.W.Write.contents c.args.out.now)
           (g.W.Write.contents c.write_form_line.new.out) (form_line c.args.form c.args.number xs)) (sym bytes)
-          (not-err c.write_form_line.result c.if-write_form_line-is_err.false c.write_form_line.ensures);
+          (not-err c.write_form_line.result (sym c.is_err.ensures.value ∙ c.if-is_err.false) c.write_form_line.ensures);
       same = text.reads.image;
       kept = c.read_next.ensures.kept;
       err = tt;
