@@ -1,5 +1,6 @@
 //! Records read from lines: a number, a comma, and the text of the bytes, with or without its quotation marks.
-ghost use Rattle.std.specs.Prelude.{◌≡◌, ◌⊎◌, ◌≤◌, ℕ, List, IfSome, IsNone, length};
+ghost use Rattle.std.specs.Prelude.{◌≡◌, ◌⊎◌, ◌<◌, ◌≤◌, ℕ, List, IfSome, IsFalse, IsNone, IsTrue, false, length, true};
+ghost use Rattle.byte_text.specs.Lines as lines;
 ghost use Rattle.byte_text.specs.Lines.{IsLineOf, IsQuoted};
 ghost use Rattle.byte_text.specs.Texts.{AreBytes};
 
@@ -11,7 +12,7 @@ use request_cards::number_before_comma;
 /// records of one byte. A disk of 35 tracks has room for 167,132.
 const LAST_RECORD: u32 = 182_880;
 
-/// What stands between quotation marks, where there are two at the ends; else the same.
+/// What stands between quotation marks, where there are two at the ends; otherwise the same.
 fn unquoted(text: &[u8]) -> &[u8]
     ensures { IsQuoted text.now result.now
         ⊎ ((result.now ≡ text.now) × ((inner : List ℕ) → ¬ (IsQuoted text.now inner))) }
@@ -22,17 +23,37 @@ fn unquoted(text: &[u8]) -> &[u8]
     }
 }
 
+/// Whether the text has a comma.
+fn has_comma(text: &[u8]) -> bool
+    ensures { result ≡ lines.has_comma text.now }
+{
+    text.contains(&b',')
+}
+
+/// Whether the text is one column: it had quotation marks, so that `inner` is shorter, or it has no comma.
+fn is_one_column(text: &[u8], inner: &[u8]) -> bool
+    ensures yes { IsTrue result → (length inner.now < length text.now) ⊎ (lines.has_comma text.now ≡ false) }
+    ensures no { IsFalse result → (length text.now ≤ length inner.now) × (lines.has_comma text.now ≡ true) }
+{
+    inner.len() < text.len() || !has_comma(text)
+}
+
 /// The number of a record's line, which is handed in without its end, and in `bytes` its bytes. The two quotation marks
 /// may be left out, as spreadsheets leave them out, and the bytes may end in zeros. None where the line is of no
 /// record, and `bytes` may have anything then: where it doesn't begin with a number of 1 to 182,880, without leading
-/// zeros, and a comma, and where what is behind that is no text of bytes, or of more than 254.
+/// zeros, and a comma, and where what is behind that is no text of bytes, or of more than 254, or has no marks and a comma:
+/// that would be several columns.
 pub fn read_line(line: &[u8], bytes: &mut ArrayVec<u8, MOST_BYTES>) -> Option<u32>
     ensures found { IfSome result (λ n. (1 ≤ n) × (n ≤ 182880) × IsLineOf line.now n bytes.new.items) }
     ensures none { IsNone result → (n : ℕ) → (bs : List ℕ) → 1 ≤ n → n ≤ 182880 → AreBytes bs → length bs ≤ 254
         → ¬ (IsLineOf line.now n bs) }
 {
     let (number, text) = number_before_comma(line, 1, LAST_RECORD)?;
-    if !fill_from(unquoted(text), bytes) {
+    let inner = unquoted(text);
+    if !is_one_column(text, inner) {
+        return None;
+    }
+    if !fill_from(inner, bytes) {
         return None;
     }
     Some(number)
