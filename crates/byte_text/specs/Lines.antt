@@ -1,13 +1,18 @@
 -- Lines of records as they are read. Our own.
-use Rattle.std.specs.Prelude.{◌≡◌, ◌⊎◌, ℕ, List, [], ◌∷◌, ◌++◌, decimal, replicate, take}
+use Rattle.std.specs.Prelude.{◌≡◌, ◌⊎◌, ℕ, Bool, List, [], ◌∷◌, ◌++◌, decimal, false, nat_eq, replicate, take}
+use Rattle.std.specs.List.{list_any}
 use Rattle.byte_text.specs.Texts.{text_of}
 
+-- a byte of the text is a comma
+abbrev pub has_comma : List ℕ → Bool
+has_comma text = list_any (λ b. nat_eq b 44) text
+
 -- A line, without its end, is of record n with these bytes. The quotation marks may be left out, as a spreadsheet
--- leaves them out.
+-- leaves them out, but not where the text has a comma: a line of several columns is of no record.
 abbrev pub IsLineOf : List ℕ → ℕ → List ℕ → Type 0
 IsLineOf line n bytes =
     (line ≡ decimal n ++ (44 ∷ (34 ∷ (text_of bytes ++ 34 ∷ []))))
-    ⊎ (line ≡ decimal n ++ (44 ∷ text_of bytes))
+    ⊎ ((line ≡ decimal n ++ (44 ∷ text_of bytes)) × (has_comma (text_of bytes) ≡ false))
 
 -- the text is between quotation marks
 abbrev pub IsQuoted : List ℕ → List ℕ → Type 0

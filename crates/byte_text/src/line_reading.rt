@@ -1,5 +1,6 @@
 //! Records read from lines: a number, a comma, and the text of the bytes, with or without its quotation marks.
-ghost use Rattle.std.specs.Prelude.{◌≡◌, ◌⊎◌, ◌≤◌, ℕ, List, IfSome, IsNone, length};
+ghost use Rattle.std.specs.Prelude.{◌≡◌, ◌⊎◌, ◌<◌, ◌≤◌, ℕ, List, IfSome, IsFalse, IsNone, IsTrue, false, length, true};
+ghost use Rattle.byte_text.specs.Lines as lines;
 ghost use Rattle.byte_text.specs.Lines.{IsLineOf, IsQuoted};
 ghost use Rattle.byte_text.specs.Texts.{AreBytes};
 
@@ -22,18 +23,38 @@ fn unquoted(text: &[u8]) -> &[u8]
     }
 }
 
+/// Whether the text has a comma.
+fn has_comma(text: &[u8]) -> bool
+    ensures { result ≡ lines.has_comma text.now }
+{
+    text.contains(&b',')
+}
+
+/// Whether the text is one column: it had quotation marks, so that `inner` is shorter, or it has no comma.
+fn is_one_column(text: &[u8], inner: &[u8]) -> bool
+    ensures yes { IsTrue result → (length inner.now < length text.now) ⊎ (lines.has_comma text.now ≡ false) }
+    ensures no { IsFalse result → (length text.now ≤ length inner.now) × (lines.has_comma text.now ≡ true) }
+{
+    inner.len() < text.len() || !has_comma(text)
+}
+
 /// The number of a record's line, which is handed in without its end, and in `bytes` its bytes. The two quotation marks
 /// may be left out, as spreadsheets leave them out, and the bytes may end in zeros.
 ///
 /// None if the line is of no record; `bytes` may have anything then. A record's line begins with a number of 1 to
-/// 182,880, without leading zeros, and a comma. After these stands the text of at most 254 bytes.
+/// 182,880, without leading zeros, and a comma. After these stands the text of at most 254 bytes. Without quotation marks
+/// the text has no comma: it would be several columns.
 pub fn read_line(line: &[u8], bytes: &mut ArrayVec<u8, MOST_BYTES>) -> Option<u32>
     ensures found { IfSome result (λ n. (1 ≤ n) × (n ≤ 182880) × IsLineOf line.now n bytes.new.items) }
     ensures none { IsNone result → (n : ℕ) → (bs : List ℕ) → 1 ≤ n → n ≤ 182880 → AreBytes bs → length bs ≤ 254
         → ¬ (IsLineOf line.now n bs) }
 {
     let (number, text) = number_before_comma(line, 1, LAST_RECORD)?;
-    if !fill_from(unquoted(text), bytes) {
+    let inner = unquoted(text);
+    if !is_one_column(text, inner) {
+        return None;
+    }
+    if !fill_from(inner, bytes) {
         return None;
     }
     Some(number)

@@ -8,6 +8,7 @@ use Rattle.clap.specs.declared.error.Error.{Error}
 use Rattle.clap.specs.declared.parser.matches.ArgMatches.{ArgMatches}
 use Rattle.command_table.specs.Grammar.{ledger, value}
 use Rattle.command_line.specs.Jobs.{Has, HasNoName, HasNoNewName, IsHeard, IsJob, IsMakingJob, IsNoJob, IsParse}
+use Rattle.command_line.specs.Forms.{IsTakenBy}
 use Rattle.command_line.specs.Jobs.{IsStoringJob, IsTakingJob, is_given, tills_in, word_of_taking}
 use Rattle.ledger_jobs.specs.Jobs.{IsFit}
 use Rattle.ledger_jobs.specs.Names.{IsNameOf, name_bytes}
@@ -123,41 +124,41 @@ pub taking-met : (o : Option (Bor Text × Bor ArgMatches)) (found : Option (Text
     (what : Taking) (image : Text) (r : Result Job JobFault)
     → option_map (λ (p : Bor Text × Bor ArgMatches). (p.0.now, rows_of (found_of p.1.now))) o ≡ found
     → o ≡ Some (name, at) → name.now ≡ word_of_taking what → image ≡ value (codes "IMAGE") (rows_of (found_of at.now))
-    → IsTakingJob (rows_of (found_of at.now)) what image r → MatchResult r (IsJob found) (IsNoJob [] found)
+    → IsTakenBy what (rows_of (found_of at.now)) → IsTakingJob (rows_of (found_of at.now)) what image r → MatchResult r (IsJob found) (IsNoJob [] found)
     × IfOk r IsFit
-taking-met o found name at what image (Ok (jobs.Take asked path text)) told some is by-image taking = (
+taking-met o found name at what image (Ok (jobs.Take asked path text)) told some is by-image by taking = (
   subst (λ (w : Taking). Has found (word_of_taking w) (λ rows. (path.now ≡ value (codes "IMAGE") rows)
-      × IsNameOf (value (codes "NAME") rows) (name_bytes text)))
+      × IsNameOf (value (codes "NAME") rows) (name_bytes text) × IsTakenBy w rows))
       (sym taking.0)
-      (met-has o found name at (word_of_taking what) _ told some is (taking.1 ∙ by-image, taking.2)),
+      (met-has o found name at (word_of_taking what) _ told some is (taking.1 ∙ by-image, taking.2, by)),
   tt,
 )
-taking-met o found name at what image (Ok (jobs.Format path tills)) told some is by-image taking = absurd taking
-taking-met o found name at what image (Ok (jobs.FormatNew path tills)) told some is by-image taking = absurd taking
-taking-met o found name at what image (Ok (jobs.List path)) told some is by-image taking = absurd taking
-taking-met o found name at what image (Ok (jobs.Several asked paths)) told some is by-image taking = absurd taking
-taking-met o found name at what image (Ok (jobs.Sheet paths)) told some is by-image taking = absurd taking
-taking-met o found name at what image (Ok (jobs.Check path)) told some is by-image taking = absurd taking
-taking-met o found name at what image (Ok (jobs.Show path)) told some is by-image taking = absurd taking
-taking-met o found name at what image (Ok (jobs.Play path script)) told some is by-image taking = absurd taking
-taking-met o found name at what image (Ok (jobs.PlaySynced path script)) told some is by-image taking = absurd taking
-taking-met o found name at what image (Ok (jobs.Dry path)) told some is by-image taking = absurd taking
-taking-met o found name at what image (Ok (jobs.Serve path way durability loss)) told some is by-image taking =
+taking-met o found name at what image (Ok (jobs.Format path tills)) told some is by-image by taking = absurd taking
+taking-met o found name at what image (Ok (jobs.FormatNew path tills)) told some is by-image by taking = absurd taking
+taking-met o found name at what image (Ok (jobs.List form path)) told some is by-image by taking = absurd taking
+taking-met o found name at what image (Ok (jobs.Several asked paths)) told some is by-image by taking = absurd taking
+taking-met o found name at what image (Ok (jobs.Sheet paths)) told some is by-image by taking = absurd taking
+taking-met o found name at what image (Ok (jobs.Check path)) told some is by-image by taking = absurd taking
+taking-met o found name at what image (Ok (jobs.Show path)) told some is by-image by taking = absurd taking
+taking-met o found name at what image (Ok (jobs.Play path script)) told some is by-image by taking = absurd taking
+taking-met o found name at what image (Ok (jobs.PlaySynced path script)) told some is by-image by taking = absurd taking
+taking-met o found name at what image (Ok (jobs.Dry path)) told some is by-image by taking = absurd taking
+taking-met o found name at what image (Ok (jobs.Serve path way durability loss)) told some is by-image by taking =
     absurd taking
-taking-met o found name at what image (Ok (jobs.Copy path copy)) told some is by-image taking = absurd taking
-taking-met o found name at what image (Ok (jobs.Repair path loss unowned effect)) told some is by-image taking =
+taking-met o found name at what image (Ok (jobs.Copy path copy)) told some is by-image by taking = absurd taking
+taking-met o found name at what image (Ok (jobs.Repair path loss unowned effect)) told some is by-image by taking =
     absurd taking
-taking-met o found name at what image (Ok (jobs.Make path text length loss)) told some is by-image taking =
+taking-met o found name at what image (Ok (jobs.Make path text length loss)) told some is by-image by taking =
     absurd taking
-taking-met o found name at what image (Ok (jobs.Store path text records loss)) told some is by-image taking =
+taking-met o found name at what image (Ok (jobs.Store path text records loss)) told some is by-image by taking =
     absurd taking
-taking-met o found name at what image (Ok (jobs.Draw asked path)) told some is by-image taking = absurd taking
-taking-met o found name at what image (Err faults.Name) told some is by-image taking =
+taking-met o found name at what image (Ok (jobs.Draw asked path)) told some is by-image by taking = absurd taking
+taking-met o found name at what image (Err faults.Name) told some is by-image by taking =
     ((refl, inl (what, met-has o found name at (word_of_taking what) HasNoName told some is taking)), tt)
-taking-met o found name at what image (Err faults.Tills) told some is by-image taking = absurd taking
-taking-met o found name at what image (Err faults.Images) told some is by-image taking = absurd taking
-taking-met o found name at what image (Err (faults.Words e)) told some is by-image taking = absurd taking
-taking-met o found name at what image (Err faults.Length) told some is by-image taking = absurd taking
+taking-met o found name at what image (Err faults.Tills) told some is by-image by taking = absurd taking
+taking-met o found name at what image (Err faults.Images) told some is by-image by taking = absurd taking
+taking-met o found name at what image (Err (faults.Words e)) told some is by-image by taking = absurd taking
+taking-met o found name at what image (Err faults.Length) told some is by-image by taking = absurd taking
 
 -- what makes a relative file is the job of the subcommand that was met, or its words give none
 pub making-met : (o : Option (Bor Text × Bor ArgMatches)) (found : Option (Text × List Row)) (name : Bor Text)
@@ -172,7 +173,7 @@ making-met o found name at image (Ok (jobs.Make path text length loss)) told som
 )
 making-met o found name at image (Ok (jobs.Format path tills)) told some is by-image job = absurd job
 making-met o found name at image (Ok (jobs.FormatNew path tills)) told some is by-image job = absurd job
-making-met o found name at image (Ok (jobs.List path)) told some is by-image job = absurd job
+making-met o found name at image (Ok (jobs.List form path)) told some is by-image job = absurd job
 making-met o found name at image (Ok (jobs.Several asked paths)) told some is by-image job = absurd job
 making-met o found name at image (Ok (jobs.Sheet paths)) told some is by-image job = absurd job
 making-met o found name at image (Ok (jobs.Check path)) told some is by-image job = absurd job
@@ -205,7 +206,7 @@ storing-met o found name at image (Ok (jobs.Store path text records loss)) told 
     (met-has o found name at (codes "store") _ told some is (job.0 ∙ by-image, job.1, job.2, job.3), tt)
 storing-met o found name at image (Ok (jobs.Format path tills)) told some is by-image job = absurd job
 storing-met o found name at image (Ok (jobs.FormatNew path tills)) told some is by-image job = absurd job
-storing-met o found name at image (Ok (jobs.List path)) told some is by-image job = absurd job
+storing-met o found name at image (Ok (jobs.List form path)) told some is by-image job = absurd job
 storing-met o found name at image (Ok (jobs.Several asked paths)) told some is by-image job = absurd job
 storing-met o found name at image (Ok (jobs.Sheet paths)) told some is by-image job = absurd job
 storing-met o found name at image (Ok (jobs.Check path)) told some is by-image job = absurd job

@@ -7,6 +7,7 @@ use Rattle.ledger_jobs.specs.Jobs.{IsFit}
 use Rattle.ledger_jobs.specs.declared.jobs.Job.{Job}
 use Rattle.ledger_jobs.specs.declared.jobs.Overview.{Overview}
 use Rattle.ledger_jobs.specs.declared.jobs.Overview.TheVariants as overviews
+use Rattle.command_line.specs.Forms.{IsViewedBy}
 use Rattle.command_line.specs.Jobs.{IsJob, IsNoJob, IsOnlyImage, IsOverviewJob, job_of_one, word_of_overview}
 use Rattle.command_line.specs.declared.faults.JobFault.{JobFault}
 use Rattle.command_line.proofs.Parses.{met-has}
@@ -16,26 +17,26 @@ only-met : (o : Option (Bor Text × Bor ArgMatches)) (found : Option (Text × Li
     (at : Bor ArgMatches) (what : Overview) (image : Bor Text)
     → option_map (λ (p : Bor Text × Bor ArgMatches). (p.0.now, rows_of (found_of p.1.now))) o ≡ found
     → o ≡ Some (name, at) → name.now ≡ word_of_overview what → IsOnlyImage (rows_of (found_of at.now)) image.now
-    → IsJob found (job_of_one what image) × IsFit (job_of_one what image)
-only-met o found name at overviews.List image told some is only =
-    (met-has o found name at (codes "list") _ told some is only, tt)
-only-met o found name at overviews.Check image told some is only =
+    → IsViewedBy what (rows_of (found_of at.now)) → IsJob found (job_of_one what image) × IsFit (job_of_one what image)
+only-met o found name at (overviews.List form) image told some is only by =
+    (met-has o found name at (codes "list") _ told some is (only, by), tt)
+only-met o found name at overviews.Check image told some is only by =
     (met-has o found name at (codes "check") _ told some is only, tt)
-only-met o found name at overviews.Map image told some is only =
+only-met o found name at overviews.Map image told some is only by =
     (met-has o found name at (codes "map") _ told some is only, tt)
 
 -- what prints this of one image or of several is the job of the subcommand that was met, or there was no memory
 pub viewing-met : (o : Option (Bor Text × Bor ArgMatches)) (found : Option (Text × List Row)) (name : Bor Text)
     (at : Bor ArgMatches) (what : Overview) (r : Result Job JobFault)
     → option_map (λ (p : Bor Text × Bor ArgMatches). (p.0.now, rows_of (found_of p.1.now))) o ≡ found
-    → o ≡ Some (name, at) → name.now ≡ word_of_overview what
+    → o ≡ Some (name, at) → name.now ≡ word_of_overview what → IsViewedBy what (rows_of (found_of at.now))
     → IsOverviewJob (rows_of (found_of at.now)) what r → MatchResult r (IsJob found) (IsNoJob [] found) × IfOk r IsFit
-viewing-met o found name at what r told some is (inl only) =
+viewing-met o found name at what r told some is by (inl only) =
     let P : Result Job JobFault → Type 0 = λ j. MatchResult j (IsJob found) (IsNoJob [] found) × IfOk j IsFit in
-    subst P (sym only.1) (only-met o found name at what only.0 told some is only.2)
-viewing-met o found name at what r told some is (inr (inl several)) =
+    subst P (sym only.1) (only-met o found name at what only.0 told some is only.2 by)
+viewing-met o found name at what r told some is by (inr (inl several)) =
     let P : Result Job JobFault → Type 0 = λ j. MatchResult j (IsJob found) (IsNoJob [] found) × IfOk j IsFit in
-    subst P (sym several.1) (met-has o found name at (word_of_overview what) _ told some is several.2, tt)
-viewing-met o found name at what r told some is (inr (inr none)) =
+    subst P (sym several.1) (met-has o found name at (word_of_overview what) _ told some is (several.2, by), tt)
+viewing-met o found name at what r told some is by (inr (inr none)) =
     let P : Result Job JobFault → Type 0 = λ j. MatchResult j (IsJob found) (IsNoJob [] found) × IfOk j IsFit in
     subst P (sym none.1) (none.2, tt)

@@ -1,6 +1,6 @@
 -- What the words of a command line ask for (our own).
 use Rattle.std.specs.Prelude.{◌≡◌, ◌≤◌, ◌<◌, ◌⊎◌, ◌||◌, ℕ, Bool, true, false, List, Option, Some, None, Result, Ok, Err, []}
-use Rattle.std.specs.Prelude.{bytes_eq, codes, if◌then◌else◌, length, map, vec_items, Vec}
+use Rattle.std.specs.Prelude.{codes, if◌then◌else◌, length, map, vec_items, Vec}
 use Rattle.std.specs.Option.{option_map_or}
 use Rattle.std.specs.Borrow.{Bor}
 use Rattle.std.specs.declared.alloc.Global.{Global}
@@ -31,6 +31,8 @@ use Rattle.ledger_jobs.specs.declared.jobs.Unowned.TheVariants as unowneds
 use Rattle.ledger_jobs.specs.declared.jobs.Way.{Way}
 use Rattle.ledger_jobs.specs.declared.jobs.Way.TheVariants as ways
 use Rattle.ledger_jobs.specs.Names.{IsNameOf, name_bytes}
+use Rattle.command_line.specs.Forms.{IsTakenBy, IsViewedBy}
+pub use Rattle.command_line.specs.Flags.{is_given}
 use Rattle.command_line.specs.declared.faults.JobFault.{JobFault}
 use Rattle.command_line.specs.declared.faults.JobFault.TheVariants as faults
 
@@ -58,18 +60,14 @@ length_in rows = number_in 1 254 (value (codes "L") rows)
 
 -- the subcommand that takes this out of an image
 abbrev pub word_of_taking : Taking → Text
-word_of_taking takings.Records = codes "records"
-word_of_taking takings.Bytes = codes "bytes"
+word_of_taking (takings.Records form) = codes "records"
+word_of_taking (takings.Bytes form) = codes "bytes"
 
 -- the subcommand that draws an image so
 abbrev pub word_of_drawing : Drawing → Text
 word_of_drawing drawings.Map = codes "map"
 word_of_drawing drawings.Picture = codes "picture"
 word_of_drawing drawings.Poster = codes "picture"
-
--- a flag is among the words
-abbrev pub is_given : Text → List Row → Bool
-is_given flag rows = bytes_eq (value flag rows) (codes "true")
 
 -- where the requests of a shop that is served come to the disk first: in a log, but with --in-place in the image itself
 abbrev pub way_in : List Row → Way
@@ -150,13 +148,13 @@ HasNewName rows = (bytes : List ℕ) × IsNameOf (value (codes "NAME") rows) byt
 
 -- the job that prints this of one image
 abbrev pub job_of_one : Overview → Bor Text → Job
-job_of_one overviews.List image = jobs.List image
+job_of_one (overviews.List form) image = jobs.List form image
 job_of_one overviews.Check image = jobs.Check image
 job_of_one overviews.Map image = jobs.Draw drawings.Map image
 
 -- the subcommand that prints this
 abbrev pub word_of_overview : Overview → Text
-word_of_overview overviews.List = codes "list"
+word_of_overview (overviews.List form) = codes "list"
 word_of_overview overviews.Check = codes "check"
 word_of_overview overviews.Map = codes "map"
 
@@ -176,10 +174,12 @@ IsJob found (jobs.Format image tills) = Has found (codes "format")
 IsJob found (jobs.FormatNew image tills) = Has found (codes "format")
     (λ rows. (image.now ≡ value (codes "IMAGE") rows) × (tills_in rows ≡ Some tills)
     × (is_given (codes "new") rows ≡ true))
-IsJob found (jobs.List image) = Has found (codes "list") (λ rows. IsOnlyImage rows image.now)
+IsJob found (jobs.List form image) = Has found (codes "list")
+    (λ rows. IsOnlyImage rows image.now × IsViewedBy (overviews.List form) rows)
 IsJob found (jobs.Check image) = Has found (codes "check") (λ rows. IsOnlyImage rows image.now)
 IsJob found (jobs.Sheet images) = Has found (codes "picture") (λ rows. AreOnSheet rows (vec_items images))
-IsJob found (jobs.Several what images) = Has found (word_of_overview what) (λ rows. AreImages rows (vec_items images))
+IsJob found (jobs.Several what images) = Has found (word_of_overview what)
+    (λ rows. AreImages rows (vec_items images) × IsViewedBy what rows)
 IsJob found (jobs.Show image) = Has found (codes "show") (λ rows. image.now ≡ value (codes "IMAGE") rows)
 IsJob found (jobs.Play image script) = Has found (codes "play")
     (λ rows. (image.now ≡ value (codes "IMAGE") rows) × (script.now ≡ value (codes "SCRIPT") rows)
@@ -197,7 +197,8 @@ IsJob found (jobs.Repair image loss unowned effect) = Has found (codes "repair")
     (λ rows. (image.now ≡ value (codes "IMAGE") rows) × (loss ≡ loss_in rows) × (unowned ≡ unowned_in rows)
     × (effect ≡ effect_in rows))
 IsJob found (jobs.Take what image name) = Has found (word_of_taking what)
-    (λ rows. (image.now ≡ value (codes "IMAGE") rows) × IsNameOf (value (codes "NAME") rows) (name_bytes name))
+    (λ rows. (image.now ≡ value (codes "IMAGE") rows) × IsNameOf (value (codes "NAME") rows) (name_bytes name)
+    × IsTakenBy what rows)
 IsJob found (jobs.Make image name length loss) = Has found (codes "make")
     (λ rows. (image.now ≡ value (codes "IMAGE") rows) × IsNameOf (value (codes "NAME") rows) (name_bytes name)
     × (length_in rows ≡ Some length) × (loss ≡ loss_in rows))

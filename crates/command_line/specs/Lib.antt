@@ -1,2 +1,4 @@
 pub mod Faults
+pub mod Flags
+pub mod Forms
 pub mod Jobs

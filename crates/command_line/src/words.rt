@@ -13,14 +13,17 @@ ghost use Rattle.command_line.specs.Jobs.{effect_in, format_job, job_of_one, los
 ghost use Rattle.rel_records.specs.File.{IsLength};
 ghost use Rattle.command_line.specs.Jobs.{is_explained as explained, is_given as given, serve_durability as of_serve};
 ghost use Rattle.command_line.specs.Jobs.{way_in};
+ghost use Rattle.command_line.specs.Forms.{byte_form_in, name_form_in, record_form_in, set_in};
 
 use crate::faults::JobFault;
 use clap::{ArgMatches, Error};
 use command_table::ledger_command;
 use disk_pictures::MOST_TILES;
+use keeper_commands::{ByteForm, RecordForm};
 use ledger_jobs::{Drawing, Effect, Job, Loss, Name, Overview, Taking, Unowned, Way};
+use petscii_text::CharacterSet;
 use request_cards::number;
-use shop_commands::Durability;
+use shop_commands::{Durability, NameForm};
 use std::alloc::{AllocError, Global};
 
 /// The subcommand that was met, with its values.
@@ -130,6 +133,49 @@ fn effect<'a>(matches: &ArgMatches<'a>) -> Effect
     }
 }
 
+/// The set of the text that is asked for.
+fn text_set<'a>(matches: &ArgMatches<'a>) -> Option<CharacterSet>
+    ensures { result ≡ set_in (rows_of (found_of matches.now)) }
+{
+    if is_given(matches, "mixed") {
+        return Some(CharacterSet::Mixed);
+    }
+    if is_given(matches, "text") {
+        return Some(CharacterSet::Graphics);
+    }
+    None
+}
+
+/// How records are printed.
+fn record_form<'a>(matches: &ArgMatches<'a>) -> RecordForm
+    ensures { result ≡ record_form_in (rows_of (found_of matches.now)) }
+{
+    match text_set(matches) {
+        Some(set) => RecordForm::Text(set),
+        None => RecordForm::Lines,
+    }
+}
+
+/// How the bytes of a file are printed.
+fn byte_form<'a>(matches: &ArgMatches<'a>) -> ByteForm
+    ensures { result ≡ byte_form_in (rows_of (found_of matches.now)) }
+{
+    match text_set(matches) {
+        Some(set) => ByteForm::Text(set),
+        None => ByteForm::Plain,
+    }
+}
+
+/// How names of a disk are printed.
+fn name_form<'a>(matches: &ArgMatches<'a>) -> NameForm
+    ensures { result ≡ name_form_in (rows_of (found_of matches.now)) }
+{
+    match text_set(matches) {
+        Some(set) => NameForm::Text(set),
+        None => NameForm::Ascii,
+    }
+}
+
 /// The job that makes the image of a shop with so many tills.
 fn formatting<'a>(matches: &ArgMatches<'a>, image: &'a str, tills: u8) -> Job<'a>
     ensures { result ≡ format_job (rows_of (found_of matches.now)) image.entry tills }
@@ -194,7 +240,7 @@ fn of_one<'a>(what: Overview, image: &'a str) -> Job<'a>
     ensures { result ≡ job_of_one what image.entry }
 {
     match what {
-        Overview::List => Job::List { image },
+        Overview::List(form) => Job::List { form, image },
         Overview::Check => Job::Check { image },
         Overview::Map => Job::Draw {
             what: Drawing::Map,
@@ -312,7 +358,7 @@ fn job_of<'a>(alloc: Global, matches: &ArgMatches<'a>) -> Result<Job<'a>, JobFau
             Some(tills) => Ok(formatting(found, image, tills)),
             None => Err(JobFault::Tills),
         },
-        "list" => viewing(alloc, found, Overview::List),
+        "list" => viewing(alloc, found, Overview::List(name_form(found))),
         "check" => viewing(alloc, found, Overview::Check),
         "show" => Ok(Job::Show { image }),
         "play" => Ok(playing(found, image, script)),
@@ -332,8 +378,8 @@ fn job_of<'a>(alloc: Global, matches: &ArgMatches<'a>) -> Result<Job<'a>, JobFau
             unowned: unowned(found),
             effect: effect(found),
         }),
-        "records" => taking(found, Taking::Records, image),
-        "bytes" => taking(found, Taking::Bytes, image),
+        "records" => taking(found, Taking::Records(record_form(found)), image),
+        "bytes" => taking(found, Taking::Bytes(byte_form(found)), image),
         "make" => making(found, image),
         "store" => storing(found, image),
         "map" => viewing(alloc, found, Overview::Map),

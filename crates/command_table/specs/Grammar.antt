@@ -35,9 +35,13 @@ abbrev pub format : App
 format = with_rule (with_rule (over_image (codes "format")) (required_behind (codes "tills") (codes "T")))
     (flag (codes "new"))
 
--- list IMAGE..
+-- a subcommand that prints text of the disk, in one of two character sets, if --text or --mixed is given
+abbrev pub may_be_text : App → App
+may_be_text a = with_rule (with_rule a (flag (codes "text"))) (flag (codes "mixed"))
+
+-- list IMAGE.. [--text] [--mixed]
 abbrev pub list : App
-list = over_images (codes "list")
+list = may_be_text (over_images (codes "list"))
 
 -- check IMAGE..
 abbrev pub check : App
@@ -69,13 +73,13 @@ abbrev pub repair : App
 repair = with_rule (with_rule (may_accept_loss (over_image (codes "repair"))) (flag (codes "free")))
     (flag (codes "dry-run"))
 
--- records IMAGE NAME
+-- records IMAGE NAME [--text] [--mixed]
 abbrev pub records : App
-records = with_rule (over_image (codes "records")) (required (codes "NAME"))
+records = may_be_text (with_rule (over_image (codes "records")) (required (codes "NAME")))
 
--- bytes IMAGE NAME
+-- bytes IMAGE NAME [--text] [--mixed]
 abbrev pub bytes : App
-bytes = with_rule (over_image (codes "bytes")) (required (codes "NAME"))
+bytes = may_be_text (with_rule (over_image (codes "bytes")) (required (codes "NAME")))
 
 -- make IMAGE NAME --length L [--accept-loss]
 abbrev pub make : App

@@ -25,6 +25,7 @@ Example: ledger format --new shop.d64 --tills 4";
 pub(crate) const LIST: &str =
     "Prints the disk's name, a line for each entry, and how many blocks are free. `*`\n\
 before the type: the file wasn't closed. `<` after it: the file is locked.\n\
+`?` stands for a byte that ASCII lacks; with --text or --mixed its character does.\n\
 With several images each line begins with the image's name. So do the lines of\n\
 images that are refused, and the status is the greatest.\n\
 Status 0: printed. 1: the image is refused (IMAGE SIZE, LAYOUT). 3: FILE,\n\
@@ -89,6 +90,7 @@ Example: ledger repair --dry-run old.d64";
 
 /// What `records` prints, its statuses, and an example.
 pub(crate) const RECORDS: &str = "Prints a line for each record, for example 1,\"MILK\\0d\".\n\
+With --text or --mixed the lines are to be read: `store` doesn't take them back.\n\
 Status 0: printed. 1: the image is refused (LAYOUT, IMAGE SIZE), NO FILE, or the\n\
 file has lost its end (SHORT). 2: NAME. 3: FILE, NO MEMORY, IN USE.\n\
 Example: ledger records old.d64 ADDRESS > address.csv";
@@ -96,7 +98,7 @@ Example: ledger records old.d64 ADDRESS > address.csv";
 /// What `bytes` prints, its statuses, and an example.
 pub(crate) const BYTES: &str =
     "Prints the bytes of the first closed file with this name, even if the disk is\n\
-damaged elsewhere.\n\
+damaged elsewhere. With --text or --mixed each CR ends a line.\n\
 Status 0: printed. 1: the image is refused (LAYOUT, IMAGE SIZE), NO FILE, or the\n\
 file has lost its end (SHORT). 2: NAME. 3: FILE, NO MEMORY, IN USE.\n\
 Example: ledger bytes old.d64 'ADD\\c1' > add.prg";

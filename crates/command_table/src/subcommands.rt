@@ -81,6 +81,22 @@ pub(crate) const EXPLAIN: Value = Value {
     help: "Says more on standard error if the command fails",
 };
 
+/// The flag of those that print text of the disk.
+const TEXT: Value = Value {
+    name: "text",
+    word: Some("text"),
+    count: Count::Flag,
+    help: "Prints PETSCII as text in UTF-8: capitals and graphics",
+};
+
+/// The same of the other character set.
+const MIXED: Value = Value {
+    name: "mixed",
+    word: Some("mixed"),
+    count: Count::Flag,
+    help: "The same of the character set with small letters",
+};
+
 /// The flag of those that write a disk that may have lost a part of a file.
 const ACCEPT_LOSS: Value = Value {
     name: "accept-loss",
@@ -112,12 +128,12 @@ pub(crate) const SUBCOMMANDS: [Subcommand; 15] = [
             },
         ],
     },
-    // list IMAGE..
+    // list IMAGE.. [--text] [--mixed]
     Subcommand {
         name: "list",
         about: "Prints the directory of an image, or of several",
         more: LIST,
-        values: &[IMAGES],
+        values: &[IMAGES, TEXT, MIXED],
     },
     // check IMAGE..
     Subcommand {
@@ -208,19 +224,19 @@ pub(crate) const SUBCOMMANDS: [Subcommand; 15] = [
             },
         ],
     },
-    // records IMAGE NAME
+    // records IMAGE NAME [--text] [--mixed]
     Subcommand {
         name: "records",
         about: "Prints the records of a relative file, a line each",
         more: RECORDS,
-        values: &[IMAGE, NAME],
+        values: &[IMAGE, NAME, TEXT, MIXED],
     },
-    // bytes IMAGE NAME
+    // bytes IMAGE NAME [--text] [--mixed]
     Subcommand {
         name: "bytes",
         about: "Prints the bytes of a file of any type",
         more: BYTES,
-        values: &[IMAGE, NAME],
+        values: &[IMAGE, NAME, TEXT, MIXED],
     },
     // make IMAGE NAME --length L [--accept-loss]
     Subcommand {

@@ -1,16 +1,30 @@
 -- The bytes of a file, block by block.
 use Rattle.std.proofs.Common.{◌≡◌, ◌∙◌, ◌*◌, ◌+◌, ◌-◌, ◌<◌, ◌≤◌, ℕ, List, [], ◌∷◌, ◌++◌, Option, ap, arith, drop}
-use Rattle.std.proofs.Common.{get_or, length, length-append, length-drop, max, subst, sym, take}
+use Rattle.std.proofs.Common.{get_or, length, length-append, length-drop, max, refl, subst, sym, take}
 use Rattle.std.specs.Io.KnownBytes.{Appends}
 use Rattle.std.proofs.KnownBytes.{Appends-trans}
 use Rattle.std.proofs.Math.Seq.{take-append-add, take-nil}
+use Rattle.std.proofs.lemmas.Grind.{flat_map-append}
 use Rattle.std.proofs.lemmas.List.{append-nil, take_all, take_more}
 use Rattle.d64_image.specs.Images.{Image, IsImage, sector}
 use Rattle.d64_image.specs.declared.place.Place.{Place}
 use Rattle.disk_layout.proofs.lemmas.growth.GrowthRecords.{joined-append}
 use Rattle.disk_layout.proofs.lemmas.records.Joined.{joined-cons, joined-nil, length-joined, sector-long}
 use Rattle.disk_layout.specs.Records.{joined}
+use Rattle.petscii_text.specs.Characters.{readable_byte}
 use Rattle.keeper_commands.specs.Bytes.{file_bytes}
+use Rattle.keeper_commands.specs.Forms.{bytes_as}
+use Rattle.keeper_commands.specs.declared.forms.ByteForm.{ByteForm}
+use Rattle.keeper_commands.specs.declared.forms.ByteForm.TheVariants as forms
+
+-- a form of bytes one after another
+pub as-nil : (form : ByteForm) → bytes_as form [] ≡ []
+as-nil forms.Plain = refl
+as-nil (forms.Text set) = refl
+
+as-append : (form : ByteForm) (xs ys : List ℕ) → bytes_as form xs ++ bytes_as form ys ≡ bytes_as form (xs ++ ys)
+as-append forms.Plain xs ys = refl
+as-append (forms.Text set) xs ys = sym (flat_map-append (readable_byte set) xs ys)
 
 joined-one : (img : Image) (p : Place) → joined img (p ∷ []) ≡ drop 2 (sector img p)
 joined-one img p = joined-cons img p [] ∙ ap (λ (zs : List ℕ). drop 2 (sector img p) ++ zs) (joined-nil img)
@@ -50,11 +64,12 @@ file-none img [] u none = sym (ap (take (254 * (0 - 1) + max u 1 - 1)) (joined-n
 file-none img (p ∷ ps) u none = absurd (omega (arith, none))
 
 -- one block's bytes more, printed
-pub block-more : (a b c : Option (List ℕ)) (img here : Image) (ps : List Place) (i : ℕ) (p : Place) → IsImage img
-    → here ≡ img
-    → i < length ps → get_or ps i p ≡ p → Appends a b (joined img (take i ps))
-    → Appends b c (take (max 255 1 - 1) (drop 2 (sector here p))) → Appends a c (joined img (take (i + 1) ps))
-block-more a b c img here ps i p w same inside is before more =
+pub block-more : (a b c : Option (List ℕ)) (form : ByteForm) (img here : Image) (ps : List Place) (i : ℕ) (p : Place)
+    → IsImage img → here ≡ img
+    → i < length ps → get_or ps i p ≡ p → Appends a b (bytes_as form (joined img (take i ps)))
+    → Appends b c (bytes_as form (take (max 255 1 - 1) (drop 2 (sector here p))))
+    → Appends a c (bytes_as form (joined img (take (i + 1) ps)))
+block-more a b c form img here ps i p w same inside is before more =
     let taken : take (i + 1) ps ≡ take i ps ++ p ∷ [] = take_more ps i p inside
     ∙ ap (λ (q : Place). take i ps ++ q ∷ []) is in
     let whole : take (max 255 1 - 1) (drop 2 (sector here p)) ≡ drop 2 (sector img p) =
@@ -62,15 +77,16 @@ block-more a b c img here ps i p w same inside is before more =
     let both : joined img (take i ps) ++ take (max 255 1 - 1) (drop 2 (sector here p)) ≡ joined img (take (i + 1) ps) =
     ap (λ (zs : List ℕ). joined img (take i ps) ++ zs) whole
     ∙ sym (ap (joined img) taken ∙ joined-more img (take i ps) p) in
-    subst (Appends a c) both (Appends-trans a b c _ _ before more)
+    subst (Appends a c) (as-append form _ _ ∙ ap (bytes_as form) both) (Appends-trans a b c _ _ before more)
 
 -- the whole blocks and the last one, printed
-pub file-printed : (a b c : Option (List ℕ)) (img here : Image) (blocks : List Place) (p : Place) (u : ℕ) → IsImage img
-    → here ≡ img
+pub file-printed : (a b c : Option (List ℕ)) (form : ByteForm) (img here : Image) (blocks : List Place) (p : Place)
+    (u : ℕ) → IsImage img → here ≡ img
     → 1 ≤ length blocks → get_or blocks (length blocks - 1) p ≡ p
-    → Appends a b (joined img (take (length blocks - 1) blocks))
-    → Appends b c (take (max u 1 - 1) (drop 2 (sector here p))) → Appends a c (file_bytes img blocks u)
-file-printed a b c img here blocks p u w same some is before last =
+    → Appends a b (bytes_as form (joined img (take (length blocks - 1) blocks)))
+    → Appends b c (bytes_as form (take (max u 1 - 1) (drop 2 (sector here p))))
+    → Appends a c (bytes_as form (file_bytes img blocks u))
+file-printed a b c form img here blocks p u w same some is before last =
     let front : List Place = take (length blocks - 1) blocks in
     let whole : blocks ≡ front ++ p ∷ [] =
     sym (take_all ((length blocks - 1) + 1) blocks (omega (arith, some)))
@@ -80,4 +96,4 @@ file-printed a b c img here blocks p u w same some is before last =
     let both : joined img front ++ take (max u 1 - 1) (drop 2 (sector here p)) ≡ file_bytes img blocks u =
     ap (λ (zs : List ℕ). joined img front ++ zs) end ∙ sym (ap (λ (ps : List Place). file_bytes img ps u) whole
     ∙ file-split img front p u w) in
-    subst (Appends a c) both (Appends-trans a b c _ _ before last)
+    subst (Appends a c) (as-append form _ _ ∙ ap (bytes_as form) both) (Appends-trans a b c _ _ before last)

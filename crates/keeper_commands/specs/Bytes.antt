@@ -2,7 +2,6 @@
 -- Which entry counts is our own.
 use Rattle.std.specs.Prelude.{◌≡◌, ◌≢◌, ◌⊎◌, ◌<◌, ◌≤◌, ◌*◌, ◌+◌, ◌-◌, ℕ, List, [], Option, Some, IsFalse, length, max}
 use Rattle.std.specs.Prelude.{slice_get, slice_index, slice_range, take}
-use Rattle.std.specs.Io.KnownBytes.{Appends}
 use Rattle.d64_image.specs.Images.{Image}
 use Rattle.d64_image.specs.Memory.{sectors_in}
 use Rattle.d64_image.specs.declared.place.Place.{Place}
@@ -72,12 +71,6 @@ pub record HasFile (image name : List ℕ) : Type 0 where
   pub blocks : List Place
   pub last : ℕ
   pub has_blocks : HasFileBlocks (sectors_in image) entry.first.slot blocks last
-
--- the bytes of that file, and nothing else, were handed to an output that held `old` and holds `new`
-pub record AreBytesPrinted {W : Type 0} (contents : W → Option (List ℕ)) (image name : List ℕ) (old new : W) : Type 0
-  where
-    pub file : HasFile image name
-    pub printed : Appends (contents old) (contents new) (file_bytes (sectors_in image) file.blocks file.last)
 
 -- why bytes aren't printed: nothing but the directory and the file's own chain is judged. Where the output failed,
 -- there is such a file

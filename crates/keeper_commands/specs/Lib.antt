@@ -1,7 +1,9 @@
 pub mod Bytes
 pub mod Faults
+pub mod Forms
 pub mod Kinds
 pub mod Makes
+pub mod Printed
 pub mod Records
 pub mod Refusals
 pub mod Repairs

@@ -49,13 +49,6 @@ pub record IsRecordFile (image name : List ℕ) (file : File) : Type 0 where
   pub number : ℕ
   pub first : IsFirst layout name number file
 
--- the lines of that file's records, and nothing else, were handed to an output that held `old` and holds `new`
-pub record AreRecordsPrinted {W : Type 0} (contents : W → Option (List ℕ)) (image name : List ℕ) (old new : W) : Type 0
-  where
-    pub file : File
-    pub is_file : IsRecordFile image name file
-    pub printed : Appends (contents old) (contents new) (records_text (records (sectors_in image) file))
-
 -- the image is sound, and no closed relative file has this name
 pub record HasNoRecordFile (image name : List ℕ) : Type 0 where
   pub size : length image ≡ 174848

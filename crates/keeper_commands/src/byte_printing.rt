@@ -1,10 +1,12 @@
 //! The bytes of a file of any type, as they are printed.
 ghost use Rattle.std.specs.Prelude.{◌≡◌, ◌≢◌, IfErr, OnOk};
-ghost use Rattle.keeper_commands.specs.Bytes.{AreBytesPrinted, IsBytesFault};
+ghost use Rattle.keeper_commands.specs.Bytes.{IsBytesFault};
+ghost use Rattle.keeper_commands.specs.Printed.{AreBytesPrinted};
 ghost use Rattle.keeper_commands.specs.declared.faults.KeepFault.TheVariants as faults;
 
 use crate::chains::{put_file, walk_file};
 use crate::faults::KeepFault;
+use crate::forms::ByteForm;
 use crate::loading::load;
 use crate::naming::first_closed;
 use crate::output::flush;
@@ -13,9 +15,9 @@ use disk_layout::read_directory;
 use std::alloc::Global;
 use std::io::Write;
 
-/// Prints the bytes of the first closed entry of this name, whatever its type is: 254 of each of its blocks, and of
-/// the last one those up to its last index. `name` has no shifted spaces at its end; one of more than sixteen bytes
-/// is never found.
+/// Prints the bytes of the first closed entry of this name, whatever its type is, in this form: 254 of each of its
+/// blocks, and of the last one those up to its last index. `name` has no shifted spaces at its end; one of more than
+/// sixteen bytes is never found.
 ///
 /// Nothing but the directory and the file's own chain is judged, so that a file can be taken from a disk that is hurt
 /// elsewhere. `ImageSize`; `NoMemory`; `Layout` where the directory's sectors aren't a chain on track 18, or the
@@ -25,9 +27,10 @@ pub fn bytes_image<W: Write>(
     alloc: Global,
     image: &[u8],
     name: &[u8],
+    form: ByteForm,
     out: &mut W,
 ) -> Result<(), KeepFault>
-    ensures ok { OnOk result (AreBytesPrinted W.contents image.now name.now out.old out.new) }
+    ensures ok { OnOk result (AreBytesPrinted W.contents form image.now name.now out.old out.new) }
     ensures err { IfErr result (IsBytesFault image.now name.now) }
     ensures untouched { IfErr result (λ fault. (fault ≢ faults.File) → out.new ≡ out.old) }
 {
@@ -45,6 +48,6 @@ pub fn bytes_image<W: Write>(
         Ok(last) => last,
         Err(fault) => return Err(KeepFault::Layout(fault)),
     };
-    put_file(out, &mut disk, blocks.as_slice(), last)?;
+    put_file(out, &mut disk, blocks.as_slice(), last, form)?;
     flush(out)
 }

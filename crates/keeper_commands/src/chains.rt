@@ -5,13 +5,17 @@ ghost use Rattle.d64_image.specs.Images.{sector};
 ghost use Rattle.d64_image.specs.Memory.{disk_image};
 ghost use Rattle.disk_layout.specs.Records.{joined};
 ghost use Rattle.keeper_commands.specs.Bytes.{HasFileBlocks, HoldsOfFile, NamesNoBlock, file_bytes};
+ghost use Rattle.keeper_commands.specs.Forms.{bytes_as};
 ghost use Rattle.keeper_commands.specs.declared.faults.KeepFault.TheVariants as faults;
+ghost use Rattle.keeper_commands.specs.declared.forms.ByteForm.TheVariants as forms;
 
 use crate::faults::KeepFault;
+use crate::forms::ByteForm;
 use crate::output::put;
 use arrayvec::ArrayVec;
 use d64_image::{MemDisk, Place, Sectors};
 use disk_layout::{EntryView, Fault, MOST_BLOCKS, Slot, walk_chain};
+use petscii_text::{CharacterSet, Readable};
 use std::io::Write;
 
 /// Whether the entry names no block and may do so: its file has no bytes then.
@@ -43,53 +47,82 @@ pub(crate) fn walk_file(
     walk_chain(disk, first, blocks)
 }
 
+/// Prints bytes as text that people read. `File` where the output failed.
+fn put_text<W: Write>(out: &mut W, set: CharacterSet, bytes: &[u8]) -> Result<(), KeepFault>
+    ensures ok { OnOk result (Appends (W.contents out.old) (W.contents out.new) (bytes_as (forms.Text set) bytes.now)) }
+    ensures err { IfErr result (λ fault. fault ≡ faults.File) }
+{
+    if write!(out, "{}", Readable { set, bytes }).is_err() {
+        return Err(KeepFault::File);
+    }
+    Ok(())
+}
+
+/// Prints bytes in this form. `File` where the output failed.
+fn put_as<W: Write>(out: &mut W, form: ByteForm, bytes: &[u8]) -> Result<(), KeepFault>
+    ensures ok { OnOk result (Appends (W.contents out.old) (W.contents out.new) (bytes_as form bytes.now)) }
+    ensures err { IfErr result (λ fault. fault ≡ faults.File) }
+{
+    match form {
+        ByteForm::Plain => put(out, bytes),
+        ByteForm::Text(set) => put_text(out, set, bytes),
+    }
+}
+
 /// Prints the bytes of a block up to the one with this index. A disk in memory gives every block.
 fn put_block<W: Write>(
     out: &mut W,
     disk: &mut MemDisk,
     place: Place,
     last: u8,
+    form: ByteForm,
 ) -> Result<(), KeepFault>
     ensures ok { OnOk result (Appends (W.contents out.old) (W.contents out.new)
-        (take (max last 1 - 1) (drop 2 (sector (disk_image disk.old) place)))) }
+        (bytes_as form (take (max last 1 - 1) (drop 2 (sector (disk_image disk.old) place))))) }
     ensures same { disk_image disk.new ≡ disk_image disk.old }
     ensures err { IfErr result (λ fault. fault ≡ faults.File) }
 {
     let mut bytes = [0; 256];
     let _ = disk.read(place, &mut bytes);
     let end = (last as usize).max(1) + 1;
-    put(out, &bytes[2..end])
+    put_as(out, form, &bytes[2..end])
 }
 
 /// Prints the bytes of blocks that others follow.
-fn put_blocks<W: Write>(out: &mut W, disk: &mut MemDisk, places: &[Place]) -> Result<(), KeepFault>
+fn put_blocks<W: Write>(
+    out: &mut W,
+    disk: &mut MemDisk,
+    places: &[Place],
+    form: ByteForm,
+) -> Result<(), KeepFault>
     ensures ok { OnOk result (Appends (W.contents out.old) (W.contents out.new)
-        (joined (disk_image disk.old) places.now)) }
+        (bytes_as form (joined (disk_image disk.old) places.now))) }
     ensures same { disk_image disk.new ≡ disk_image disk.old }
     ensures err { IfErr result (λ fault. fault ≡ faults.File) }
 {
     for &place in places {
-        put_block(out, disk, place, 255)?;
+        put_block(out, disk, place, 255, form)?;
     }
     Ok(())
 }
 
-/// Prints the bytes of a file with these blocks, up to the index `last` of the last one.
+/// Prints the bytes of a file with these blocks, up to the index `last` of the last one, in this form.
 pub(crate) fn put_file<W: Write>(
     out: &mut W,
     disk: &mut MemDisk,
     blocks: &[Place],
     last: u8,
+    form: ByteForm,
 ) -> Result<(), KeepFault>
     ensures ok { OnOk result (Appends (W.contents out.old) (W.contents out.new)
-        (file_bytes (disk_image disk.old) blocks.now last)) }
+        (bytes_as form (file_bytes (disk_image disk.old) blocks.now last))) }
     ensures err { IfErr result (λ fault. fault ≡ faults.File) }
 {
     match blocks {
         [] => Ok(()),
         [front @ .., end] => {
-            put_blocks(out, disk, front)?;
-            put_block(out, disk, *end, last)
+            put_blocks(out, disk, front, form)?;
+            put_block(out, disk, *end, last, form)
         }
     }
 }

@@ -7,7 +7,9 @@ ghost use Rattle.d64_image.specs.Images.{Image};
 ghost use Rattle.d64_image.specs.Memory.{sectors_in};
 ghost use Rattle.disk_layout.specs.Layout.{File, record_length};
 ghost use Rattle.disk_layout.specs.Records.{records};
-ghost use Rattle.keeper_commands.specs.Records.{AreRecordsPrinted, IsRecordFile, records_text};
+ghost use Rattle.keeper_commands.specs.Printed.{AreRecordsPrinted};
+ghost use Rattle.keeper_commands.specs.Records.{IsRecordFile, records_text};
+ghost use Rattle.keeper_commands.specs.declared.forms.RecordForm.TheVariants.{Lines};
 ghost use Rattle.keeper_commands.specs.Repairs.{IsMendedAs, mended_text};
 ghost use Rattle.keeper_commands.specs.Stores.{
   AreApart,
@@ -78,7 +80,7 @@ pub fn records_come_back<D: Sectors, W: Write>()
         → (done : IsStoredDisk D.history image to (records_text (records (sectors_in source) file)) old new)
         → record_length done.run.file.slot ≡ record_length file.slot
         → (after : List ℕ) (before out : W) → sectors_in after ≡ D.history.image new
-        → AreRecordsPrinted W.contents after to before out
+        → AreRecordsPrinted W.contents Lines after to before out
         → Appends (W.contents before) (W.contents out)
         (records_text (put_over (records (sectors_in source) file) (D.history.image old) done.run.file)) }
     ensures front { (rs ts : List (List ℕ)) → (more : List ℕ) × (records_text (rs ++ ts) ≡ records_text rs ++ more) }

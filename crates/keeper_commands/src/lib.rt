@@ -5,10 +5,12 @@
 mod byte_printing;
 mod chains;
 mod faults;
+mod forms;
 mod judging;
 mod kinds;
 mod last_lines;
 mod laws;
+mod line_printing;
 mod loading;
 mod making;
 mod mending;
@@ -20,6 +22,7 @@ mod storing;
 
 pub use byte_printing::bytes_image;
 pub use faults::KeepFault;
+pub use forms::{ByteForm, RecordForm};
 pub use laws::{
     last_lines_count, printed_records_are_stored, records_come_back, repairs_print_the_same,
     stored_again_is_quiet, stored_records_are_so,

@@ -3,12 +3,16 @@ ghost use Rattle.std.specs.Prelude.{◌≡◌, ◌≢◌, ◌≤◌, ◌+◌, If
 ghost use Rattle.std.specs.Io.KnownBytes.{Appends};
 ghost use Rattle.d64_image.specs.Memory.{disk_image};
 ghost use Rattle.disk_layout.specs.Records as records_of;
-ghost use Rattle.keeper_commands.specs.Records.{AreRecordsPrinted, HandsOn, IsGathered, IsRecordsFault, records_text};
+ghost use Rattle.keeper_commands.specs.Forms.{records_as};
+ghost use Rattle.keeper_commands.specs.Printed.{AreRecordsPrinted};
+ghost use Rattle.keeper_commands.specs.Records.{HandsOn, IsGathered, IsRecordsFault, records_text};
 ghost use Rattle.keeper_commands.specs.declared.faults.KeepFault.TheVariants as faults;
 ghost use Rattle.rel_records.specs.File.{IsOf, OfItsFile};
 ghost use Rattle.rel_records.specs.reading.Kept.{IsKept};
 
 use crate::faults::KeepFault;
+use crate::forms::RecordForm;
+use crate::line_printing::print_lines;
 use crate::loading::load_sound;
 use crate::output::{flush, put};
 use arrayvec::ArrayVec;
@@ -89,16 +93,36 @@ fn put_records<W: Write>(out: &mut W, disk: &mut MemDisk, file: &RelFile) -> Res
     put(out, &room[..end])
 }
 
+/// Prints the lines of the records of a file in this form, record 1 first.
+fn put_records_as<W: Write>(
+    out: &mut W,
+    disk: &mut MemDisk,
+    file: &RelFile,
+    form: RecordForm,
+) -> Result<(), KeepFault>
+    requires of { IsOf (disk_image disk.old) file.now }
+    ensures ok { OfItsFile (disk_image disk.old) file.now (λ l n f.
+        OnOk result (Appends (W.contents out.old) (W.contents out.new)
+        (records_as form (records_of.records (disk_image disk.old) f)))) }
+    ensures err { IfErr result (λ fault. fault ≡ faults.File) }
+{
+    match form {
+        RecordForm::Lines => put_records(out, disk, file),
+        RecordForm::Text(_) => print_lines(out, disk, file, form),
+    }
+}
+
 /// Prints the records of the first closed relative file of this name, one a line, record 1 first: its number, a
-/// comma, and the text of its bytes up to the last one that isn't 0. `ImageSize`, `NoMemory`; `Layout` where the
+/// comma, and its bytes up to the last one that isn't 0, in this form. `ImageSize`, `NoMemory`; `Layout` where the
 /// image isn't sound; `NoFile`; `File` where the output failed, which may then have a part.
 pub fn records_image<W: Write>(
     alloc: Global,
     image: &[u8],
     name: &[u8],
+    form: RecordForm,
     out: &mut W,
 ) -> Result<(), KeepFault>
-    ensures ok { OnOk result (AreRecordsPrinted W.contents image.now name.now out.old out.new) }
+    ensures ok { OnOk result (AreRecordsPrinted W.contents form image.now name.now out.old out.new) }
     ensures err { IfErr result (IsRecordsFault image.now name.now) }
     ensures untouched { IfErr result (λ fault. (fault ≢ faults.File) → out.new ≡ out.old) }
 {
@@ -108,6 +132,6 @@ pub fn records_image<W: Write>(
         Err(RelFault::NotFound) => return Err(KeepFault::NoFile),
         Err(_) => return Err(KeepFault::Device),
     };
-    put_records(out, &mut disk, &file)?;
+    put_records_as(out, &mut disk, &file, form)?;
     flush(out)
 }

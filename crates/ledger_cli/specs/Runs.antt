@@ -135,8 +135,8 @@ module _ {F : Type 0} (position : F → Option ℕ) (bytes contents : F → Opti
       IsFormatted told tills file after old new end
   IsJobRun told (jobs.FormatNew path tills) image script file after old new end =
       IsFormatted told tills file after old new end
-  IsJobRun told (jobs.List path) image script file after old new end =
-      (after ≡ file) × IsRead told readings.List image old new end
+  IsJobRun told (jobs.List form path) image script file after old new end =
+      (after ≡ file) × IsRead told (readings.List form) image old new end
   IsJobRun told (jobs.Check path) image script file after old new end =
       (after ≡ file) × IsRead told readings.Check image old new end
   IsJobRun told (jobs.Show path) image script file after old new end =

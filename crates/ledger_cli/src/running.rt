@@ -33,7 +33,7 @@ fn obey<F: Write + Seek + Drop, W: Write>(
 {
     match *job {
         Job::Format { tills, .. } | Job::FormatNew { tills, .. } => format(alloc, tills, file, out),
-        Job::List { .. } => (file, read(alloc, Reading::List, image, out)),
+        Job::List { form, .. } => (file, read(alloc, Reading::List(form), image, out)),
         Job::Check { .. } => (file, read(alloc, Reading::Check, image, out)),
         Job::Show { .. } => (file, read(alloc, Reading::Show, image, out)),
         Job::Dry { .. } => (file, read(alloc, Reading::Dry, script, out)),

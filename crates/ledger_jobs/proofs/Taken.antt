@@ -1,10 +1,13 @@
 -- What comes of what is asked for of a file, from what its command says.
 use Rattle.std.proofs.Common.{◌≡◌, ◌≢◌, ℕ, List, Option, Result, Ok, Err, arith, inl, inr, length, refl}
 use Rattle.std.specs.Prelude.{IfErr, OnOk}
-use Rattle.keeper_commands.specs.Bytes.{AreBytesPrinted, IsBytesFault}
-use Rattle.keeper_commands.specs.Records.{AreRecordsPrinted, IsRecordsFault}
+use Rattle.keeper_commands.specs.Bytes.{IsBytesFault}
+use Rattle.keeper_commands.specs.Printed.{AreBytesPrinted, AreRecordsPrinted}
+use Rattle.keeper_commands.specs.Records.{IsRecordsFault}
 use Rattle.keeper_commands.specs.declared.faults.KeepFault.{KeepFault}
 use Rattle.keeper_commands.specs.declared.faults.KeepFault.TheVariants as keep
+use Rattle.keeper_commands.specs.declared.forms.ByteForm.{ByteForm}
+use Rattle.keeper_commands.specs.declared.forms.RecordForm.{RecordForm}
 use Rattle.ledger_jobs.specs.Keeping.{IsTaken, IsTakingFault, IsTakingRun, keep_end}
 use Rattle.ledger_jobs.specs.declared.jobs.Taking.{Taking}
 use Rattle.ledger_jobs.specs.declared.jobs.Taking.TheVariants as takings
@@ -45,44 +48,44 @@ module _ {W : Type 0} (contents : W → Option (List ℕ)) (what : Taking) (imag
   }
 
 module _ {W : Type 0} (contents : W → Option (List ℕ)) (image name : List ℕ) (old new : W) where
-  pub records-run : (r : Result Unit KeepFault) → OnOk r (AreRecordsPrinted contents image name old new)
+  pub records-run : (form : RecordForm) (r : Result Unit KeepFault) → OnOk r (AreRecordsPrinted contents form image name old new)
       → IfErr r (IsRecordsFault image name)
-      → IfErr r (λ fault. fault ≢ keep.File → new ≡ old) → IsTakingRun contents takings.Records image name old new r
-  records-run (Ok x) ok err untouched = taken contents takings.Records image name old new (Ok x) refl ok.is_file.size ok
+      → IfErr r (λ fault. fault ≢ keep.File → new ≡ old) → IsTakingRun contents (takings.Records form) image name old new r
+  records-run form (Ok x) ok err untouched = taken contents (takings.Records form) image name old new (Ok x) refl ok.is_file.size ok
       tt
-  records-run (Err keep.ImageSize) ok err untouched = refused contents takings.Records image name old new _ refl
+  records-run form (Err keep.ImageSize) ok err untouched = refused contents (takings.Records form) image name old new _ refl
       (untouched (λ e. cc)) err
-  records-run (Err (keep.Layout fault)) ok err untouched = refused contents takings.Records image name old new _ refl
+  records-run form (Err (keep.Layout fault)) ok err untouched = refused contents (takings.Records form) image name old new _ refl
       (untouched (λ e. cc)) err
-  records-run (Err keep.NoFile) ok err untouched = refused contents takings.Records image name old new _ refl
+  records-run form (Err keep.NoFile) ok err untouched = refused contents (takings.Records form) image name old new _ refl
       (untouched (λ e. cc)) err
-  records-run (Err keep.File) ok err untouched = stopped contents takings.Records image name old new _ refl err.1.size
+  records-run form (Err keep.File) ok err untouched = stopped contents (takings.Records form) image name old new _ refl err.1.size
       err
-  records-run (Err keep.NoMemory) ok err untouched = stopped contents takings.Records image name old new _ refl err err
-  records-run (Err keep.Device) ok err untouched = absurd err
-  records-run (Err keep.FileExists) ok err untouched = absurd err
-  records-run (Err (keep.BadLine line)) ok err untouched = absurd err
-  records-run (Err keep.DiskFull) ok err untouched = absurd err
-  records-run (Err keep.Geos) ok err untouched = absurd err
-  records-run (Err keep.Format) ok err untouched = absurd err
+  records-run form (Err keep.NoMemory) ok err untouched = stopped contents (takings.Records form) image name old new _ refl err err
+  records-run form (Err keep.Device) ok err untouched = absurd err
+  records-run form (Err keep.FileExists) ok err untouched = absurd err
+  records-run form (Err (keep.BadLine line)) ok err untouched = absurd err
+  records-run form (Err keep.DiskFull) ok err untouched = absurd err
+  records-run form (Err keep.Geos) ok err untouched = absurd err
+  records-run form (Err keep.Format) ok err untouched = absurd err
 
-  pub bytes-run : (r : Result Unit KeepFault) → OnOk r (AreBytesPrinted contents image name old new)
+  pub bytes-run : (form : ByteForm) (r : Result Unit KeepFault) → OnOk r (AreBytesPrinted contents form image name old new)
       → IfErr r (IsBytesFault image name)
-      → IfErr r (λ fault. fault ≢ keep.File → new ≡ old) → IsTakingRun contents takings.Bytes image name old new r
-  bytes-run (Ok x) ok err untouched = taken contents takings.Bytes image name old new (Ok x) refl
+      → IfErr r (λ fault. fault ≢ keep.File → new ≡ old) → IsTakingRun contents (takings.Bytes form) image name old new r
+  bytes-run form (Ok x) ok err untouched = taken contents (takings.Bytes form) image name old new (Ok x) refl
       ok.file.entry.has_entries.size ok tt
-  bytes-run (Err keep.ImageSize) ok err untouched = refused contents takings.Bytes image name old new _ refl
+  bytes-run form (Err keep.ImageSize) ok err untouched = refused contents (takings.Bytes form) image name old new _ refl
       (untouched (λ e. cc)) err
-  bytes-run (Err (keep.Layout fault)) ok err untouched = refused contents takings.Bytes image name old new _ refl
+  bytes-run form (Err (keep.Layout fault)) ok err untouched = refused contents (takings.Bytes form) image name old new _ refl
       (untouched (λ e. cc)) err
-  bytes-run (Err keep.NoFile) ok err untouched = refused contents takings.Bytes image name old new _ refl
+  bytes-run form (Err keep.NoFile) ok err untouched = refused contents (takings.Bytes form) image name old new _ refl
       (untouched (λ e. cc)) err
-  bytes-run (Err keep.File) ok err untouched = stopped contents takings.Bytes image name old new _ refl
+  bytes-run form (Err keep.File) ok err untouched = stopped contents (takings.Bytes form) image name old new _ refl
       err.entry.has_entries.size err
-  bytes-run (Err keep.NoMemory) ok err untouched = stopped contents takings.Bytes image name old new _ refl err err
-  bytes-run (Err keep.Device) ok err untouched = absurd err
-  bytes-run (Err keep.FileExists) ok err untouched = absurd err
-  bytes-run (Err (keep.BadLine line)) ok err untouched = absurd err
-  bytes-run (Err keep.DiskFull) ok err untouched = absurd err
-  bytes-run (Err keep.Geos) ok err untouched = absurd err
-  bytes-run (Err keep.Format) ok err untouched = absurd err
+  bytes-run form (Err keep.NoMemory) ok err untouched = stopped contents (takings.Bytes form) image name old new _ refl err err
+  bytes-run form (Err keep.Device) ok err untouched = absurd err
+  bytes-run form (Err keep.FileExists) ok err untouched = absurd err
+  bytes-run form (Err (keep.BadLine line)) ok err untouched = absurd err
+  bytes-run form (Err keep.DiskFull) ok err untouched = absurd err
+  bytes-run form (Err keep.Geos) ok err untouched = absurd err
+  bytes-run form (Err keep.Format) ok err untouched = absurd err

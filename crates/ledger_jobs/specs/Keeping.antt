@@ -9,9 +9,10 @@ use Rattle.d64_image.specs.declared.mem_disk.MemDisk.{MemDisk}
 use Rattle.disk_layout.specs.Directory.{map_place}
 use Rattle.disk_layout.specs.Fault.{Holds, nowhere}
 use Rattle.disk_layout.specs.Layout.{IsSound}
-use Rattle.keeper_commands.specs.Bytes.{AreBytesPrinted, IsBytesFault}
+use Rattle.keeper_commands.specs.Bytes.{IsBytesFault}
 use Rattle.keeper_commands.specs.Faults.{keep_status}
-use Rattle.keeper_commands.specs.Records.{AreRecordsPrinted, IsRecordsFault}
+use Rattle.keeper_commands.specs.Printed.{AreBytesPrinted, AreRecordsPrinted}
+use Rattle.keeper_commands.specs.Records.{IsRecordsFault}
 use Rattle.keeper_commands.specs.Kinds.{HasFormatByte, HasGeosSign, IsPlainDisk}
 use Rattle.keeper_commands.specs.Repairs.{IsMendedDisk, IsRepairDone, IsRepairFault, IsRepairRun}
 use Rattle.keeper_commands.specs.declared.faults.KeepFault.{KeepFault}
@@ -27,13 +28,13 @@ keep_end (Err fault) = keep_status fault
 
 -- what was asked for of the file of this name was printed
 abbrev pub IsTaken : {W : Type 0} → (W → Option (List ℕ)) → Taking → (image name : List ℕ) → W → W → Type 0
-IsTaken contents takings.Records image name old new = AreRecordsPrinted contents image name old new
-IsTaken contents takings.Bytes image name old new = AreBytesPrinted contents image name old new
+IsTaken contents (takings.Records form) image name old new = AreRecordsPrinted contents form image name old new
+IsTaken contents (takings.Bytes form) image name old new = AreBytesPrinted contents form image name old new
 
 -- why it wasn't
 abbrev pub IsTakingFault : Taking → (image name : List ℕ) → KeepFault → Type 0
-IsTakingFault takings.Records image name fault = IsRecordsFault image name fault
-IsTakingFault takings.Bytes image name fault = IsBytesFault image name fault
+IsTakingFault (takings.Records form) image name fault = IsRecordsFault image name fault
+IsTakingFault (takings.Bytes form) image name fault = IsBytesFault image name fault
 
 -- what was asked for of the file of a name ended so
 pub record IsTakingRun {W : Type 0} (contents : W → Option (List ℕ)) (what : Taking) (image name : List ℕ) (old new : W)

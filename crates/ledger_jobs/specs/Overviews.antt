@@ -17,8 +17,8 @@ EndsAs {A} told end P = (ended : A) × (end ≡ told ended) × P ended
 
 -- what is asked of an image that is alone ended so
 abbrev pub IsOverview : {W : Type 0} → (W → Option (List ℕ)) → Overview → (image : List ℕ) → W → W → JobEnd → Type 0
-IsOverview contents overviews.List image old new end =
-    EndsAs as_job end (IsReadingEnd contents readings.List image old new)
+IsOverview contents (overviews.List form) image old new end =
+    EndsAs as_job end (IsReadingEnd contents (readings.List form) image old new)
 IsOverview contents overviews.Check image old new end =
     EndsAs as_job end (IsReadingEnd contents readings.Check image old new)
 IsOverview contents overviews.Map image old new end =

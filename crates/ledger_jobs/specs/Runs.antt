@@ -20,6 +20,7 @@ use Rattle.shop_commands.specs.Texts.{verdict_text}
 use Rattle.shop_commands.specs.Tables.{dry_report}
 use Rattle.shop_commands.specs.declared.faults.RunFault.{RunFault}
 use Rattle.shop_commands.specs.declared.faults.RunFault.TheVariants as refusals
+use Rattle.shop_commands.specs.declared.texts.NameForm.{NameForm}
 use Rattle.ledger_jobs.specs.Ends.{Ended, exit_status}
 use Rattle.ledger_jobs.specs.declared.jobs.Reading.{Reading}
 use Rattle.ledger_jobs.specs.declared.jobs.Reading.TheVariants as readings
@@ -51,10 +52,11 @@ pub record IsFormatRun {F W : Type 0} (into : Remains F) (contents : W → Optio
   pub untouched : IfErr ended (λ fault. fault ≡ refusals.NoMemory → IsUntouched file new_file old new)
 
 -- a run that lists an image
-pub record IsListRun {W : Type 0} (contents : W → Option (List ℕ)) (image : List ℕ) (old new : W) (status : ℕ) : Type 0
+pub record IsListRun {W : Type 0} (contents : W → Option (List ℕ)) (form : NameForm) (image : List ℕ) (old new : W)
+    (status : ℕ) : Type 0
   where
     -- 0: it has the size of a disk and a directory, whose listing was handed over
-    pub done : status ≡ 0 → IsListed contents image old new
+    pub done : status ≡ 0 → IsListed contents form image old new
     -- 1: it has another size, or a fault of its directory holds; nothing was written
     pub size : length image ≢ 174848 → status ≡ 1
     pub refused : status ≡ 1 → (length image ≢ 174848)
@@ -124,7 +126,7 @@ pub record IsPlayRun {F T : Type 0} (K : Keeps F) (o : Output T) (image script :
 
 -- what comes of what is asked of the bytes of a file
 abbrev pub IsReadingRun : {W : Type 0} → (W → Option (List ℕ)) → Reading → (bytes : List ℕ) → W → W → ℕ → Type 0
-IsReadingRun contents readings.List bytes old new status = IsListRun contents bytes old new status
+IsReadingRun contents (readings.List form) bytes old new status = IsListRun contents form bytes old new status
 IsReadingRun contents readings.Check bytes old new status = IsCheckRun contents bytes old new status
 IsReadingRun contents readings.Show bytes old new status = IsShowRun contents bytes old new status
 IsReadingRun contents readings.Dry bytes old new status = IsDryRun contents bytes old new status
@@ -137,7 +139,7 @@ IsDryRefusal script _ = ⊥
 
 -- why what is asked of these bytes isn't done: what is told holds of them
 abbrev pub HoldsOfBytes : Reading → List ℕ → RunFault → Type 0
-HoldsOfBytes readings.List bytes fault = IsListFault bytes fault
+HoldsOfBytes (readings.List form) bytes fault = IsListFault bytes fault
 HoldsOfBytes readings.Check bytes fault = IsCheckFault bytes fault
 HoldsOfBytes readings.Show bytes fault = IsShowFault bytes fault
 HoldsOfBytes readings.Dry bytes fault = IsDryRefusal bytes fault

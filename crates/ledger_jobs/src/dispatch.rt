@@ -98,7 +98,7 @@ fn bytes_of<R: Read + Drop>(
 {
     match what {
         Reading::Dry => read_script(alloc, reader, room),
-        Reading::List | Reading::Check | Reading::Show => read_image(alloc, reader),
+        Reading::List(_) | Reading::Check | Reading::Show => read_image(alloc, reader),
     }
 }
 
@@ -150,7 +150,7 @@ fn lock_opened<F: Locks>(what: Reading, opened: &mut io::Result<F>) -> Result<()
 fn opened_for<R: Files>(rt: &R, what: Reading, path: &str) -> io::Result<R::File> {
     match what {
         Reading::Dry => File::open(rt, path),
-        Reading::List | Reading::Check | Reading::Show => opened_to_read(rt, path),
+        Reading::List(_) | Reading::Check | Reading::Show => opened_to_read(rt, path),
     }
 }
 
@@ -324,7 +324,7 @@ where
     match *job {
         Job::Format { image, tills } => do_format(rt, image, tills, Older::Replaced, out),
         Job::FormatNew { image, tills } => do_format(rt, image, tills, Older::Kept, out),
-        Job::List { image } => do_reading(rt, Reading::List, image, out),
+        Job::List { form, image } => do_reading(rt, Reading::List(form), image, out),
         Job::Check { image } => do_reading(rt, Reading::Check, image, out),
         Job::Show { image } => do_reading(rt, Reading::Show, image, out),
         Job::Dry { script } => do_reading(rt, Reading::Dry, script, out),

@@ -101,7 +101,7 @@ fn subject_of(refusal: Refusal) -> About {
 fn image_of<'a>(job: &Job<'a>) -> &'a str {
     match job {
         Job::Format { image, .. } | Job::FormatNew { image, .. } => image,
-        Job::List { image } | Job::Check { image } | Job::Show { image } => image,
+        Job::List { image, .. } | Job::Check { image } | Job::Show { image } => image,
         Job::Play { image, .. } | Job::PlaySynced { image, .. } | Job::Serve { image, .. } => image,
         Job::Repair { image, .. } | Job::Take { image, .. } | Job::Draw { image, .. } => image,
         Job::Make { image, .. } | Job::Store { image, .. } | Job::Copy { image, .. } => image,

@@ -1,12 +1,13 @@
 //! What the program can be asked to do.
 use crate::names::Name;
-use shop_commands::Durability;
+use keeper_commands::{ByteForm, RecordForm};
+use shop_commands::{Durability, NameForm};
 
 /// What is asked of the bytes of one file, which isn't written.
 #[derive(Clone, Copy, Debug, PartialEq, Eq)]
 pub enum Reading {
-    /// The directory of an image.
-    List,
+    /// The directory of an image, with its names in this form.
+    List(NameForm),
     /// Whether the layout of an image is clean, and else what is wrong with it.
     Check,
     /// What an image holds of a shop: how far new cards may go, the cards, and the last two requests of each till.
@@ -18,10 +19,10 @@ pub enum Reading {
 /// What is taken out of an image, of the first file of a name.
 #[derive(Clone, Copy, Debug, PartialEq, Eq)]
 pub enum Taking {
-    /// The records of a closed relative file, a line each.
-    Records,
-    /// The bytes of a closed file of any type.
-    Bytes,
+    /// The records of a closed relative file, a line each, in this form.
+    Records(RecordForm),
+    /// The bytes of a closed file of any type, in this form.
+    Bytes(ByteForm),
 }
 
 /// How an image is drawn: which sector is whose, and what a check of it tells.
@@ -47,8 +48,8 @@ pub enum Way {
 /// What is printed of each of several images.
 #[derive(Clone, Copy, Debug, PartialEq, Eq)]
 pub enum Overview {
-    /// Its directory.
-    List,
+    /// Its directory, with its names in this form.
+    List(NameForm),
     /// Whether its layout is clean, and otherwise what is wrong with it.
     Check,
     /// A line for each track.
@@ -101,6 +102,8 @@ pub enum Job<'a> {
     },
     /// The directory of an image.
     List {
+        /// How its names are printed.
+        form: NameForm,
         /// The image's path.
         image: &'a str,
     },

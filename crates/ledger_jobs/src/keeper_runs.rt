@@ -28,8 +28,8 @@ pub fn taking_run<W: Write>(
     ensures run { IsTakingRun W.contents what image.now name.now out.old out.new result }
 {
     match what {
-        Taking::Records => records_image(alloc, image, name, out),
-        Taking::Bytes => bytes_image(alloc, image, name, out),
+        Taking::Records(form) => records_image(alloc, image, name, form, out),
+        Taking::Bytes(form) => bytes_image(alloc, image, name, form, out),
     }
 }
 

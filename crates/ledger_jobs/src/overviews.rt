@@ -47,7 +47,7 @@ fn overview<W: Write>(
     ensures { IsOverview W.contents what image.now out.old out.new result }
 {
     match what {
-        Overview::List => read(alloc, Reading::List, image, out),
+        Overview::List(form) => read(alloc, Reading::List(form), image, out),
         Overview::Check => read(alloc, Reading::Check, image, out),
         Overview::Map => drawn_end(drawing_run(alloc, Drawing::Map, image, out)),
     }

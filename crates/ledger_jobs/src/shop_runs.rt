@@ -52,7 +52,7 @@ pub fn reading_run<W: Write>(
     ensures quiet { IsUntold what bytes.now result }
 {
     match what {
-        Reading::List => ended(list_image(alloc, bytes, out)),
+        Reading::List(form) => ended(list_image(alloc, bytes, form, out)),
         Reading::Check => check_image(alloc, bytes, out),
         Reading::Show => ended(show_image(alloc, bytes, out)),
         Reading::Dry => dry_ended(dry(bytes, out)),

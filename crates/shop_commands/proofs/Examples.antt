@@ -19,6 +19,7 @@ use Rattle.shop_commands.specs.Texts.{disk_text, dry_text, entry_text, listing, 
 use Rattle.shop_commands.specs.Texts.{verdict_text}
 use Rattle.shop_commands.specs.declared.dry_run.DryFault.TheVariants as dry
 use Rattle.shop_commands.specs.declared.faults.RunFault.TheVariants as run
+use Rattle.shop_commands.specs.declared.texts.NameForm.TheVariants as names
 
 pub verdict_of_a_clean_disk : verdict_text None ≡ codes "OK\n"
 verdict_of_a_clean_disk = refl
@@ -42,7 +43,7 @@ pub types_as_they_are_printed :
 types_as_they_are_printed = refl
 
 -- 1F, a space, 7E, 7F and C1 (hexadecimal), then padding and what isn't printed
-pub bytes_out_of_range_are_question_marks : quoted (31 ∷ 32 ∷ 126 ∷ 127 ∷ 193 ∷ 160 ∷ 65 ∷ []) ≡ codes "\"? ~??\""
+pub bytes_out_of_range_are_question_marks : quoted names.Ascii (31 ∷ 32 ∷ 126 ∷ 127 ∷ 193 ∷ 160 ∷ 65 ∷ []) ≡ codes "\"? ~??\""
 unfolding quoted
 bytes_out_of_range_are_question_marks = refl
 
@@ -54,7 +55,7 @@ stock = record {
   bytes = 0 ∷ 255 ∷ 132 ∷ 17 ∷ 0 ∷ (codes "STOCK" ++ replicate 11 160) ++ 17 ∷ 1 ∷ 18 ∷ replicate 6 0 ++ 2 ∷ 0 ∷ [];
 }
 
-pub entry_of_stock : entry_text stock ≡ codes "2 \"STOCK\" REL"
+pub entry_of_stock : entry_text names.Ascii stock ≡ codes "2 \"STOCK\" REL"
 unfolding entry_text quoted digits
 entry_of_stock = refl
 
@@ -67,7 +68,7 @@ map_sector =
     counts : ℕ → ℕ → List ℕ
     counts tracks free = flat_map (λ (n : ℕ). n ∷ 255 ∷ 255 ∷ 255 ∷ []) (replicate tracks free)
 
-pub listing_of_a_disk : listing map_sector (stock ∷ []) ≡ codes
+pub listing_of_a_disk : listing names.Ascii map_sector (stock ∷ []) ≡ codes
     "0 \"STOCK LEDGER\" 01 2A\n2 \"STOCK\" REL\n660 BLOCKS FREE\n"
 unfolding listing disk_text entry_text quoted blocks_free digits
 listing_of_a_disk = refl

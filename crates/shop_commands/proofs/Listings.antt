@@ -1,7 +1,7 @@
 -- A listing's lines, from what is read of the disk.
 use Rattle.std.proofs.Common.{◌≡◌, ◌≢◌, ◌<◌, ◌≤◌, ◌++◌, ◌+◌, ℕ, true, false, List, [], ◌∷◌, get_or, length, take, refl}
 use Rattle.std.proofs.Common.{subst, sym, ap, ◌∙◌, inl, inr, ne_eqb, arith}
-use Rattle.std.specs.Prelude.{Err, IfErr, Option, Result, codes, decimal, flat_map, map, nat_eq, not, slice_range}
+use Rattle.std.specs.Prelude.{Err, IfErr, Option, Result, codes, decimal, flat_map, nat_eq, not, slice_range}
 use Rattle.std.specs.Prelude.{take_while}
 use Rattle.std.specs.Io.KnownBytes.{Appends, Keeps}
 use Rattle.std.proofs.KnownBytes.{Appends-kept, Appends-trans}
@@ -16,7 +16,8 @@ use Rattle.disk_layout.specs.declared.slot.Slot.{Slot}
 use Rattle.shop_commands.specs.Images.{HasDirectory, IsListFault, IsListed, IsLoadFault}
 use Rattle.shop_commands.specs.declared.faults.RunFault.{RunFault}
 use Rattle.shop_commands.specs.declared.faults.RunFault.TheVariants as run
-use Rattle.shop_commands.specs.Texts.{disk_text, entry_line, entry_text, free_text, listing, quoted, shown, type_text}
+use Rattle.shop_commands.specs.declared.texts.NameForm.{NameForm}
+use Rattle.shop_commands.specs.Texts.{disk_text, entry_line, entry_text, free_text, listing, name_text, quoted, type_text}
 
 -- a byte that pads nothing
 plain-byte : (b : ℕ) → b ≢ 160 → not (nat_eq b 160) ≡ true
@@ -34,68 +35,70 @@ unpadded-is padded name is =
     ∙ sym is.front
 
 -- a name between quotation marks, and what follows
-quoted-written : (padded name rest : List ℕ) → IsUnpadded padded name
-    → codes "\"" ++ (map shown name ++ (codes "\"" ++ rest)) ≡ quoted padded ++ rest
+quoted-written : (form : NameForm) (padded name rest : List ℕ) → IsUnpadded padded name
+    → codes "\"" ++ (name_text form name ++ (codes "\"" ++ rest)) ≡ quoted form padded ++ rest
 unfolding quoted
-quoted-written padded name rest is =
-    ap (λ t. codes "\"" ++ t) (sym (append_assoc (map shown name) (codes "\"") rest))
-    ∙ ap (λ (bytes : List ℕ). codes "\"" ++ (map shown bytes ++ codes "\"") ++ rest) (sym (unpadded-is padded name is))
+quoted-written form padded name rest is =
+    ap (λ t. codes "\"" ++ t) (sym (append_assoc (name_text form name) (codes "\"") rest))
+    ∙ ap (λ (bytes : List ℕ). codes "\"" ++ (name_text form bytes ++ codes "\"") ++ rest)
+    (sym (unpadded-is padded name is))
 
 -- an entry's parts, as they are written one after another
-pub entry-written : (s : Slot) (name : List ℕ) → IsUnpadded (slice_range s.bytes 5 21) name
-    → decimal (count_field s) ++ (codes " \"" ++ (map shown name ++ (codes "\" " ++ type_text (type_byte s)))) ≡
-    entry_text s
+pub entry-written : (form : NameForm) (s : Slot) (name : List ℕ) → IsUnpadded (slice_range s.bytes 5 21) name
+    → decimal (count_field s) ++ (codes " \"" ++ (name_text form name ++ (codes "\" " ++ type_text (type_byte s)))) ≡
+    entry_text form s
 unfolding entry_text
-entry-written s name is =
-    ap (λ t. decimal (count_field s) ++ (codes " " ++ t)) (quoted-written (slice_range s.bytes 5 21) name
+entry-written form s name is =
+    ap (λ t. decimal (count_field s) ++ (codes " " ++ t)) (quoted-written form (slice_range s.bytes 5 21) name
     (codes " " ++ type_text (type_byte s)) is)
 
 -- the same of a disk's name, id and version
-pub disk-written : (bytes : Sector) (name : List ℕ) → IsUnpadded (slice_range bytes 144 160) name
+pub disk-written : (form : NameForm) (bytes : Sector) (name : List ℕ) → IsUnpadded (slice_range bytes 144 160) name
     → codes "0 \""
-    ++ (map shown name
-    ++ (codes "\" " ++ (map shown (slice_range bytes 162 164)
-    ++ (codes " " ++ map shown (slice_range bytes 165 167))))) ≡ disk_text bytes
+    ++ (name_text form name
+    ++ (codes "\" " ++ (name_text form (slice_range bytes 162 164)
+    ++ (codes " " ++ name_text form (slice_range bytes 165 167))))) ≡ disk_text form bytes
 unfolding disk_text
-disk-written bytes name is =
+disk-written form bytes name is =
     ap (λ t. codes "0 " ++ t)
-    (quoted-written (slice_range bytes 144 160) name
-    (codes " " ++ (map shown (slice_range bytes 162 164) ++ (codes " " ++ map shown (slice_range bytes 165 167))))
+    (quoted-written form (slice_range bytes 144 160) name
+    (codes " " ++ (name_text form (slice_range bytes 162 164)
+    ++ (codes " " ++ name_text form (slice_range bytes 165 167))))
     is)
 
 -- one entry's line more
-pub lines-more : (a b c : Option (List ℕ)) (slots : List Slot) (i : ℕ) (s : Slot) → i < length slots
+pub lines-more : (a b c : Option (List ℕ)) (form : NameForm) (slots : List Slot) (i : ℕ) (s : Slot) → i < length slots
     → get_or slots i s ≡ s
-    → Appends a b (flat_map entry_line (take i slots)) → Appends b c (entry_text s ++ codes "\n")
-    → Appends a c (flat_map entry_line (take (i + 1) slots))
-lines-more a b c slots i s inside here before line =
+    → Appends a b (flat_map (entry_line form) (take i slots)) → Appends b c (entry_text form s ++ codes "\n")
+    → Appends a c (flat_map (entry_line form) (take (i + 1) slots))
+lines-more a b c form slots i s inside here before line =
     let taken : take (i + 1) slots ≡ take i slots ++ s ∷ [] = take_more slots i s inside
     ∙ ap (λ (x : Slot). take i slots ++ x ∷ []) here in
-    subst (Appends a c) (flat_map_more entry_line [] (take i slots) s ∙ ap (flat_map entry_line) (sym taken))
+    subst (Appends a c) (flat_map_more (entry_line form) [] (take i slots) s ∙ ap (flat_map (entry_line form)) (sym taken))
     (Appends-trans a b c _ _ before line)
 
 -- the first line, the lines of the entries and the last line are the listing
-pub listing-written : (a b c d e : Option (List ℕ)) (bytes : Sector) (slots : List Slot)
-    → Appends a b (disk_text bytes ++ codes "\n") → Appends b c (flat_map entry_line slots)
+pub listing-written : (a b c d e : Option (List ℕ)) (form : NameForm) (bytes : Sector) (slots : List Slot)
+    → Appends a b (disk_text form bytes ++ codes "\n") → Appends b c (flat_map (entry_line form) slots)
     → Appends c d (free_text (blocks_free bytes) ++ codes "\n") → Keeps d e
-    → Appends a e (listing bytes slots)
+    → Appends a e (listing form bytes slots)
 unfolding listing
-listing-written a b c d e bytes slots first entries last kept =
+listing-written a b c d e form bytes slots first entries last kept =
     let free = free_text (blocks_free bytes) in
     Appends-kept a d e _
-    (subst (Appends a d) (sym (append_assoc (disk_text bytes ++ codes "\n" ++ flat_map entry_line slots) free
+    (subst (Appends a d) (sym (append_assoc (disk_text form bytes ++ codes "\n" ++ flat_map (entry_line form) slots) free
     (codes "\n")))
     (Appends-trans a c d _ _ (Appends-trans a b c _ _ first entries) last)) kept
 
 -- what was printed is the listing of the image
-pub is-listed : {W : Type 0} (contents : W → Option (List ℕ)) (image : List ℕ) (old new : W)
+pub is-listed : {W : Type 0} (contents : W → Option (List ℕ)) (form : NameForm) (image : List ℕ) (old new : W)
     (directory : HasDirectory image)
     → (bytes : Sector) (slots : List Slot) → bytes ≡ sector (sectors_in image) map_place → slots ≡ directory.entries
-    → Appends (contents old) (contents new) (listing bytes slots) → IsListed contents image old new
-is-listed contents image old new directory bytes slots here same printed = record {
+    → Appends (contents old) (contents new) (listing form bytes slots) → IsListed contents form image old new
+is-listed contents form image old new directory bytes slots here same printed = record {
   listed = directory;
-  printed = subst (λ (b : Sector). Appends (contents old) (contents new) (listing b directory.entries)) here
-      (subst (λ (ss : List Slot). Appends (contents old) (contents new) (listing bytes ss)) same printed);
+  printed = subst (λ (b : Sector). Appends (contents old) (contents new) (listing form b directory.entries)) here
+      (subst (λ (ss : List Slot). Appends (contents old) (contents new) (listing form bytes ss)) same printed);
 }
 
 -- what isn't loaded isn't listed

@@ -16,6 +16,7 @@ use Rattle.system_files.specs.Remains.{Remains}
 use Rattle.system_files.specs.Replacing.{IsNoDisk, NowAll, Since}
 use Rattle.shop_commands.specs.Texts.{listing}
 use Rattle.shop_commands.specs.declared.faults.RunFault.{RunFault}
+use Rattle.shop_commands.specs.declared.texts.NameForm.{NameForm}
 use Rattle.shop_commands.specs.declared.faults.RunFault.TheVariants as run
 
 -- every byte of the image is 0
@@ -93,9 +94,12 @@ pub record HasDirectory (image : List ℕ) : Type 0 where
 
 -- the image was listed on an output that held `old` and holds `new`: it has a directory, and its listing was handed
 -- over
-pub record IsListed {W : Type 0} (contents : W → Option (List ℕ)) (image : List ℕ) (old new : W) : Type 0 where
-  pub listed : HasDirectory image
-  pub printed : Appends (contents old) (contents new) (listing (sector (sectors_in image) map_place) listed.entries)
+pub record IsListed {W : Type 0} (contents : W → Option (List ℕ)) (form : NameForm) (image : List ℕ) (old new : W)
+    : Type 0
+  where
+    pub listed : HasDirectory image
+    pub printed : Appends (contents old) (contents new)
+        (listing form (sector (sectors_in image) map_place) listed.entries)
 
 -- why an image isn't taken into memory
 abbrev pub IsLoadFault : List ℕ → RunFault → Type 0

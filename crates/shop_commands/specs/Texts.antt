@@ -10,10 +10,13 @@ use Rattle.disk_layout.specs.Texts.{fault_text}
 use Rattle.disk_layout.specs.View.{blocks_free}
 use Rattle.disk_layout.specs.declared.faults.Fault.{Fault}
 use Rattle.disk_layout.specs.declared.slot.Slot.{Slot}
+use Rattle.quoted_text.specs.Quoted.{one_line}
 use Rattle.shop_commands.specs.declared.dry_run.DryFault.{DryFault}
 use Rattle.shop_commands.specs.declared.dry_run.DryFault.TheVariants as dry
 use Rattle.shop_commands.specs.declared.faults.RunFault.{RunFault}
 use Rattle.shop_commands.specs.declared.faults.RunFault.TheVariants as run
+use Rattle.shop_commands.specs.declared.texts.NameForm.{NameForm}
+use Rattle.shop_commands.specs.declared.texts.NameForm.TheVariants as names
 
 -- why a command over an image isn't done
 abbrev pub refusal_text : RunFault → List ℕ
@@ -43,9 +46,14 @@ verdict_text (Some fault) = fault_text fault ++ codes "\n"
 abbrev pub shown : ℕ → ℕ
 shown b = if nat_le 32 b && nat_le b 126 then b else 63
 
+-- bytes of a name in each form
+abbrev pub name_text : NameForm → List ℕ → List ℕ
+name_text names.Ascii bytes = map shown bytes
+name_text (names.Text set) bytes = one_line set bytes
+
 -- a name of a disk or a file between quotation marks, up to its first A0
-unfoldable pub quoted : List ℕ → List ℕ
-quoted padded = codes "\"" ++ (map shown (take_while (λ b. not (nat_eq b 160)) padded) ++ codes "\"")
+unfoldable pub quoted : NameForm → List ℕ → List ℕ
+quoted form padded = codes "\"" ++ (name_text form (take_while (λ b. not (nat_eq b 160)) padded) ++ codes "\"")
 
 -- the types by their numbers, the low six bits of a type byte
 abbrev pub type_name : ℕ → List ℕ
@@ -65,20 +73,20 @@ type_text byte =
     ++ (if nat_eq (bit_at byte 6) 1 then codes "<" else [])
 
 -- an entry: its block count as stored, its name, its type
-unfoldable pub entry_text : Slot → List ℕ
-entry_text s =
+unfoldable pub entry_text : NameForm → Slot → List ℕ
+entry_text form s =
     decimal (count_field s)
-    ++ (codes " " ++ (quoted (slice_range s.bytes 5 21) ++ (codes " " ++ type_text (type_byte s))))
+    ++ (codes " " ++ (quoted form (slice_range s.bytes 5 21) ++ (codes " " ++ type_text (type_byte s))))
 
 -- the line of an entry
-abbrev pub entry_line : Slot → List ℕ
-entry_line s = entry_text s ++ codes "\n"
+abbrev pub entry_line : NameForm → Slot → List ℕ
+entry_line form s = entry_text form s ++ codes "\n"
 
 -- the disk's name, its id and its version, as 18/0 has them
-unfoldable pub disk_text : Sector → List ℕ
-disk_text bytes =
-    codes "0 " ++ (quoted (slice_range bytes 144 160) ++ (codes " " ++ (map shown (slice_range bytes 162 164)
-    ++ (codes " " ++ map shown (slice_range bytes 165 167)))))
+unfoldable pub disk_text : NameForm → Sector → List ℕ
+disk_text form bytes =
+    codes "0 " ++ (quoted form (slice_range bytes 144 160) ++ (codes " " ++ (name_text form (slice_range bytes 162 164)
+    ++ (codes " " ++ name_text form (slice_range bytes 165 167)))))
 
 -- the number of free blocks
 abbrev pub free_text : ℕ → List ℕ
@@ -86,6 +94,6 @@ free_text blocks = decimal blocks ++ codes " BLOCKS FREE"
 
 -- the listing of a disk with these bytes of 18/0 and these entries: the disk, its entries, and the free blocks as 18/0
 -- counts them
-unfoldable pub listing : Sector → List Slot → List ℕ
-listing bytes entries =
-    disk_text bytes ++ codes "\n" ++ flat_map entry_line entries ++ free_text (blocks_free bytes) ++ codes "\n"
+unfoldable pub listing : NameForm → Sector → List Slot → List ℕ
+listing form bytes entries =
+    disk_text form bytes ++ codes "\n" ++ flat_map (entry_line form) entries ++ free_text (blocks_free bytes) ++ codes "\n"

@@ -10,7 +10,7 @@ ghost use Rattle.shop_commands.specs.declared.faults.RunFault.TheVariants as fau
 
 use crate::bytes::{flush, load, put_line};
 use crate::faults::RunFault;
-use crate::texts::{DiskText, EntryText, FreeText};
+use crate::texts::{DiskText, EntryText, FreeText, NameForm};
 use arrayvec::ArrayVec;
 use d64_image::{MemDisk, Sectors};
 use disk_layout::{BamView, Slot, map_place, read_directory};
@@ -30,38 +30,48 @@ fn map_of(disk: &mut MemDisk) -> Result<[u8; 256], RunFault>
 }
 
 /// Prints a line for each of these entries.
-fn put_entries<W: Write>(out: &mut W, slots: &[Slot]) -> Result<(), RunFault>
+fn put_entries<W: Write>(out: &mut W, form: NameForm, slots: &[Slot]) -> Result<(), RunFault>
     ensures ok { OnOk result
-        (Appends (W.contents out.old) (W.contents out.new) (flat_map entry_line slots.now)) }
+        (Appends (W.contents out.old) (W.contents out.new) (flat_map (entry_line form) slots.now)) }
     ensures err { IfErr result (λ fault. fault ≡ faults.File) }
 {
     for slot in slots {
-        put_line(out, EntryText(slot))?;
+        put_line(out, EntryText { form, slot })?;
     }
     Ok(())
 }
 
 /// Prints the disk's name, id and version, a line for each entry, and the free blocks as the map
 /// counts them.
-fn put_directory<W: Write>(out: &mut W, map: &BamView<'_>, slots: &[Slot]) -> Result<(), RunFault>
+fn put_directory<W: Write>(
+    out: &mut W,
+    form: NameForm,
+    map: &BamView<'_>,
+    slots: &[Slot],
+) -> Result<(), RunFault>
     ensures ok { OnOk result
-        (Appends (W.contents out.old) (W.contents out.new) (listing map.now.bytes.now slots.now)) }
+        (Appends (W.contents out.old) (W.contents out.new) (listing form map.now.bytes.now slots.now)) }
     ensures err { IfErr result (λ fault. fault ≡ faults.File) }
 {
-    put_line(out, DiskText(*map))?;
-    put_entries(out, slots)?;
+    put_line(out, DiskText { form, map: *map })?;
+    put_entries(out, form, slots)?;
     put_line(out, FreeText(map.blocks_free()))?;
     flush(out)
 }
 
-/// Prints the directory of the image. It is read and checked whole before anything is printed.
+/// Prints the directory of the image, with its names in this form. It is read and checked whole before anything is printed.
 ///
 /// `ImageSize` if the image hasn't the size of a disk; `Layout` if the directory's sectors aren't a
 /// chain on track 18 outside 18/0; `NoMemory` if there was none for the disk. `File` if the output
 /// failed, which may then have a part.
-pub fn list_image<W: Write>(alloc: Global, image: &[u8], out: &mut W) -> Result<(), RunFault>
+pub fn list_image<W: Write>(
+    alloc: Global,
+    image: &[u8],
+    form: NameForm,
+    out: &mut W,
+) -> Result<(), RunFault>
     // What is listed has a directory, whose listing was printed; and what is reported holds.
-    ensures ok { OnOk result (IsListed W.contents image.now out.old out.new) }
+    ensures ok { OnOk result (IsListed W.contents form image.now out.old out.new) }
     ensures err { IfErr result (IsListFault image.now) }
     // Only where the output failed something may have been printed.
     ensures untouched { IfErr result (λ fault. (fault ≢ faults.File) → out.new ≡ out.old) }
@@ -72,5 +82,5 @@ pub fn list_image<W: Write>(alloc: Global, image: &[u8], out: &mut W) -> Result<
         return Err(RunFault::Layout(fault));
     }
     let map = map_of(&mut disk)?;
-    put_directory(out, &BamView::new(&map), slots.as_slice())
+    put_directory(out, form, &BamView::new(&map), slots.as_slice())
 }

@@ -32,3 +32,4 @@ pub use playing::{file_of, play_file, play_image};
 pub use reading::{read_image, read_script};
 pub use showing::show_image;
 pub use system_files::{EndedFile, OpensFile, OverwrittenFile};
+pub use texts::NameForm;

@@ -1,9 +1,11 @@
 //! What is printed of a disk: its names and entries.
 ghost use Rattle.std.specs.Prelude.{◌≡◌, Some, map};
-ghost use Rattle.shop_commands.specs.Texts.{disk_text, entry_text, free_text, shown, type_text};
+ghost use Rattle.shop_commands.specs.Texts.{disk_text, entry_text, free_text, name_text, shown, type_text};
 ghost use Rattle.shop_commands.specs.Texts.{type_name as name_of_type};
 
 use disk_layout::{BamView, EntryView, Slot};
+use petscii_text::CharacterSet;
+use quoted_text::OneLine;
 use std::fmt::{self, Display, Formatter};
 
 /// Bytes of the disk as they are printed: a question mark stands for each outside $20 to $7E.
@@ -22,6 +24,34 @@ impl Display for Shown<'_> {
             f.write_char(shown)?;
         }
         Ok(())
+    }
+}
+
+/// How names of the disk are printed.
+#[derive(Clone, Copy, Debug, PartialEq, Eq)]
+pub enum NameForm {
+    /// In ASCII: a question mark stands for each byte outside $20 to $7E.
+    Ascii,
+    /// As people read them, in the characters of this set.
+    Text(CharacterSet),
+}
+
+/// Bytes of a name in a form.
+#[derive(Clone, Copy)]
+struct NameText<'a> {
+    form: NameForm,
+    bytes: &'a [u8],
+}
+
+impl Display for NameText<'_> {
+    ghost output = { λ name. Some (name_text name.form name.bytes.now) };
+
+    fn fmt<W: fmt::Write>(&self, f: &mut Formatter<W>) -> fmt::Result {
+        let bytes = self.bytes;
+        match self.form {
+            NameForm::Ascii => write!(f, "{}", Shown(bytes)),
+            NameForm::Text(set) => write!(f, "{}", OneLine { set, bytes }),
+        }
     }
 }
 
@@ -54,16 +84,21 @@ impl Display for TypeText {
     }
 }
 
-/// An entry as it is printed: its block count as stored, its name between quotation marks, its type.
+/// An entry as it is printed: its block count as stored, its name between quotation marks in this form, its type.
 #[derive(Clone, Copy)]
-pub(crate) struct EntryText<'a>(pub &'a Slot);
+pub(crate) struct EntryText<'a> {
+    pub form: NameForm,
+    pub slot: &'a Slot,
+}
 
 impl Display for EntryText<'_> {
-    ghost output = { λ text. Some (entry_text text.0.now) };
+    ghost output = { λ text. Some (entry_text text.form text.slot.now) };
 
     fn fmt<W: fmt::Write>(&self, f: &mut Formatter<W>) -> fmt::Result {
-        let entry = EntryView::new(&self.0.bytes);
-        let name = Shown(entry.name());
+        let entry = EntryView::new(&self.slot.bytes);
+        let form = self.form;
+        let bytes = entry.name();
+        let name = NameText { form, bytes };
         write!(
             f,
             "{} \"{name}\" {}",
@@ -73,16 +108,30 @@ impl Display for EntryText<'_> {
     }
 }
 
-/// The disk as it is printed: 0, its name between quotation marks, its id and its version.
+/// The disk as it is printed: 0, its name between quotation marks, its id and its version, in this form.
 #[derive(Clone, Copy)]
-pub(crate) struct DiskText<'a>(pub BamView<'a>);
+pub(crate) struct DiskText<'a> {
+    pub form: NameForm,
+    pub map: BamView<'a>,
+}
 
 impl Display for DiskText<'_> {
-    ghost output = { λ text. Some (disk_text text.0.bytes.now) };
+    ghost output = { λ text. Some (disk_text text.form text.map.bytes.now) };
 
     fn fmt<W: fmt::Write>(&self, f: &mut Formatter<W>) -> fmt::Result {
-        let map = &self.0;
-        let (name, id, version) = (Shown(map.name()), Shown(map.id()), Shown(map.version()));
+        let (form, map) = (self.form, &self.map);
+        let name = NameText {
+            form,
+            bytes: map.name(),
+        };
+        let id = NameText {
+            form,
+            bytes: map.id(),
+        };
+        let version = NameText {
+            form,
+            bytes: map.version(),
+        };
         write!(f, "0 \"{name}\" {id} {version}")
     }
 }

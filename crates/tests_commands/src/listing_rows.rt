@@ -2,8 +2,9 @@
 use crate::comparing::{holds, same, same_at};
 use crate::files::{Full, add, add_numbered, filled};
 use crate::images::{Bytes, S18_0, S18_1, changed, formatted};
-use crate::runs::{is_told, judged, listed};
-use shop_commands::RunFault;
+use crate::runs::{is_told, judged, listed, listed_as};
+use petscii_text::CharacterSet;
+use shop_commands::{NameForm, RunFault};
 use std::process::Abort;
 
 /// Where the third slot of the first directory sector begins.
@@ -151,6 +152,41 @@ fn are_listed(rt: &(impl AllocGlobal + Abort), rows: &[Listing]) {
 #[test]
 fn images_are_listed(rt: HostRuntime) {
     are_listed(&rt, &LISTINGS);
+}
+
+/// Bytes that ASCII lacks, control codes, a carriage return and a quotation mark in names; the name ends at its first A0.
+const NAMED: &[Bytes] = &[
+    (S18_1 + 5, b"\xD3\x12\r\x22\xFFZ"),
+    (S18_0 + 0x90, b"\xCDY DISK\xA0\xA0"),
+    (S18_0 + 0xA2, b"\xC1B"),
+];
+
+/// What is printed of that disk in each set, by hand from the characters of PETSCII (Commodore 64 Programmer's Reference
+/// Guide, appendix C).
+const TEXTS: [(CharacterSet, &str); 2] = [
+    (
+        CharacterSet::Graphics,
+        "0 \"╲Y DISK\" ♠B 2A\n2 \"♥\\12\\0d\"\"πZ\" REL\n2 \"REQUESTS\" REL\n660 BLOCKS FREE\n",
+    ),
+    (
+        CharacterSet::Mixed,
+        "0 \"My disk\" Ab 2a\n2 \"S\\12\\0d\"\"🮖z\" REL\n2 \"requests\" REL\n660 BLOCKS FREE\n",
+    ),
+];
+
+/// Sees that this is printed in each set.
+fn are_readable(rt: &(impl AllocGlobal + Abort), rows: &[(CharacterSet, &str)]) {
+    for &(set, text) in rows {
+        let image = changed(rt, 2, NAMED);
+        let mut out = Vec::new(rt.alloc());
+        let ended = listed_as(rt, image.as_slice(), NameForm::Text(set), &mut out);
+        same(rt, (ended, out.as_slice()), (Ok(()), text.as_bytes()));
+    }
+}
+
+#[test]
+fn names_are_readable(rt: HostRuntime) {
+    are_readable(&rt, &TEXTS);
 }
 
 /// What `list` prints of a disk for so many tills.

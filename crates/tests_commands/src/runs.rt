@@ -3,7 +3,7 @@ use crate::comparing::{holds, same};
 use crate::files::{Paper, Tape, new_tape};
 use host_session::Printer;
 use shop_commands::{
-    DryFault, ImageFile, RunFault, check_image, dry, list_image, play_file, show_image,
+    DryFault, ImageFile, NameForm, RunFault, check_image, dry, list_image, play_file, show_image,
 };
 use std::fmt::Display;
 use std::io::Write;
@@ -59,13 +59,23 @@ pub(crate) fn judged<W: Write>(
     }
 }
 
+/// Lists an image with its names in a form: how that ends.
+pub(crate) fn listed_as<W: Write>(
+    rt: &impl AllocGlobal,
+    image: &[u8],
+    form: NameForm,
+    out: &mut W,
+) -> Result<(), RunFault> {
+    list_image(rt.alloc(), image, form, out)
+}
+
 /// Lists an image: how that ends.
 pub(crate) fn listed<W: Write>(
     rt: &impl AllocGlobal,
     image: &[u8],
     out: &mut W,
 ) -> Result<(), RunFault> {
-    list_image(rt.alloc(), image, out)
+    listed_as(rt, image, NameForm::Ascii, out)
 }
 
 /// Shows the shop of an image: how that ends.

@@ -3,7 +3,7 @@
 use crate::comparing::same_at;
 use crate::disks::{Change, changed};
 use crate::outputs::{Full, is_told};
-use keeper_commands::{KeepFault, bytes_image};
+use keeper_commands::{ByteForm, KeepFault, bytes_image};
 use std::io::Write;
 use std::process::Abort;
 
@@ -93,7 +93,7 @@ fn are_printed(rt: &(impl Abort + AllocGlobal), rows: &[Row]) {
         let mut out = Vec::new(rt.alloc());
         is_told(
             rt,
-            bytes_image(rt.alloc(), disk.bytes(), name, &mut out),
+            bytes_image(rt.alloc(), disk.bytes(), name, ByteForm::Plain, &mut out),
             "",
         );
         let mut wanted = Vec::new(rt.alloc());
@@ -146,7 +146,13 @@ fn are_refused(rt: &(impl Abort + AllocGlobal), rows: &[(&[Change], &str)]) {
         let mut out = Vec::new(rt.alloc());
         is_told(
             rt,
-            bytes_image(rt.alloc(), disk.bytes(), b"GAME\xA0,8,1", &mut out),
+            bytes_image(
+                rt.alloc(),
+                disk.bytes(),
+                b"GAME\xA0,8,1",
+                ByteForm::Plain,
+                &mut out,
+            ),
             told,
         );
         same_at(rt, out.as_slice(), b"", told);
@@ -159,12 +165,24 @@ fn bytes_are_refused(rt: HostRuntime) {
     are_refused(&rt, &REFUSED);
     let disk = changed(&rt, &[]);
     let mut out = Vec::new(rt.alloc());
-    let ended = bytes_image(rt.alloc(), &disk.bytes()[1..], b"NONE", &mut out);
+    let ended = bytes_image(
+        rt.alloc(),
+        &disk.bytes()[1..],
+        b"NONE",
+        ByteForm::Plain,
+        &mut out,
+    );
     same_at(&rt, ended, Err(KeepFault::ImageSize), "size");
     let mut full = Full { room: 251 };
     is_told(
         &rt,
-        bytes_image(rt.alloc(), disk.bytes(), b"STOCK", &mut full),
+        bytes_image(
+            rt.alloc(),
+            disk.bytes(),
+            b"STOCK",
+            ByteForm::Plain,
+            &mut full,
+        ),
         "FILE",
     );
 }

@@ -20,6 +20,8 @@ mod outputs;
 #[cfg(test)]
 mod picture_rows;
 #[cfg(test)]
+mod readable_rows;
+#[cfg(test)]
 mod record_rows;
 #[cfg(test)]
 mod repair_rows;

@@ -36,14 +36,14 @@ const PRINTED: [Row; 9] = [
 const READ: [Row; 5] = [
     (40, b"\xFFx\"", b"40,\\ffx\\22"),
     (7, b"", b"7,"),
-    (8, b"A,B", b"8,A,B"),
+    (8, b"A,B", b"8,\"A,B\""),
     (9, b"A\0", b"9,\"A\\00\""),
     (182880, b"=A1", b"182880,=A1"),
 ];
 
 /// A byte order mark, numbers that no record has, also with a sign, a zero or a space before them, no comma, one
-/// quotation mark, two where the form has one, a text that is none, and what is left of an end.
-const NO_LINES: [&[u8]; 16] = [
+/// quotation mark, two where the form has one, a text that is none, what is left of an end, and several columns.
+const NO_LINES: [&[u8]; 19] = [
     b"\xEF\xBB\xBF1,\"A\"",
     b"",
     b"0,\"A\"",
@@ -60,6 +60,9 @@ const NO_LINES: [&[u8]; 16] = [
     b"1,\"A\"\"\"",
     b"1,\"\\41\"",
     b"1,\"A\"\r",
+    b"1,A,",
+    b"1,KING,61 MILL LANE,LEEDS",
+    b"1,\"KING\",\"LEEDS\"",
 ];
 
 /// Sees that each line is read as its record: up to so many zeros at its end.

@@ -3,7 +3,7 @@
 use crate::comparing::same_at;
 use crate::disks::{Change, changed, with_record};
 use crate::outputs::{Full, is_told};
-use keeper_commands::{KeepFault, records_image};
+use keeper_commands::{KeepFault, RecordForm, records_image};
 use std::io::Write;
 use std::process::Abort;
 
@@ -53,7 +53,7 @@ fn are_printed(rt: &(impl Abort + AllocGlobal), rows: &[Made]) {
         );
         let disk = with_record(rt, name, size, number, bytes);
         let mut out = Vec::new(rt.alloc());
-        let ended = records_image(rt.alloc(), disk.bytes(), name, &mut out);
+        let ended = records_image(rt.alloc(), disk.bytes(), name, RecordForm::Lines, &mut out);
         same_at(rt, ended, Ok(()), name);
         let wanted = lines(rt, count, number, text);
         same_at(rt, out.as_slice(), wanted.as_slice(), name);
@@ -85,7 +85,7 @@ fn are_refused(rt: &(impl Abort + AllocGlobal), rows: &[(&[Change], &[u8], &str)
     for &(changes, name, told) in rows {
         let disk = changed(rt, changes);
         let mut out = Vec::new(rt.alloc());
-        let ended = records_image(rt.alloc(), disk.bytes(), name, &mut out);
+        let ended = records_image(rt.alloc(), disk.bytes(), name, RecordForm::Lines, &mut out);
         is_told(rt, ended, told);
         same_at(rt, out.as_slice(), b"", name);
     }
@@ -97,9 +97,21 @@ fn records_are_refused(rt: HostRuntime) {
     are_refused(&rt, &REFUSED);
     let disk = changed(&rt, &[]);
     let mut out = Vec::new(rt.alloc());
-    let ended = records_image(rt.alloc(), &disk.bytes()[1..], b"NONE", &mut out);
+    let ended = records_image(
+        rt.alloc(),
+        &disk.bytes()[1..],
+        b"NONE",
+        RecordForm::Lines,
+        &mut out,
+    );
     same_at(&rt, ended, Err(KeepFault::ImageSize), "size");
     let mut full = Full { room: 20 };
-    let ended = records_image(rt.alloc(), disk.bytes(), b"STOCK", &mut full);
+    let ended = records_image(
+        rt.alloc(),
+        disk.bytes(),
+        b"STOCK",
+        RecordForm::Lines,
+        &mut full,
+    );
     is_told(&rt, ended, "FILE");
 }

@@ -4,14 +4,18 @@ use crate::disks::{changed, with_file, with_record};
 use crate::outputs::is_told;
 use crate::record_rows::{MADE, Made, lines};
 use crate::storing_rows::stored;
-use keeper_commands::records_image;
+use keeper_commands::{RecordForm, records_image};
 use std::io::Write;
 use std::process::Abort;
 
 /// What is printed of a file's records.
 fn printed(rt: &(impl Abort + AllocGlobal), image: &[u8], name: &[u8]) -> Vec<u8> {
     let mut text = Vec::new(rt.alloc());
-    is_told(rt, records_image(rt.alloc(), image, name, &mut text), "");
+    is_told(
+        rt,
+        records_image(rt.alloc(), image, name, RecordForm::Lines, &mut text),
+        "",
+    );
     text
 }
 

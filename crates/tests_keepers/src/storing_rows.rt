@@ -4,7 +4,7 @@ use crate::comparing::same_at;
 use crate::disks::{Change, changed};
 use crate::outputs::{Full, is_told};
 use d64_image::MemDisk;
-use keeper_commands::{KeepFault, records_image, store_image};
+use keeper_commands::{KeepFault, RecordForm, records_image, store_image};
 use std::io::Write;
 use std::process::Abort;
 
@@ -41,7 +41,13 @@ fn is_stored(
     let mut lines = Vec::new(rt.alloc());
     is_told(
         rt,
-        records_image(rt.alloc(), after.bytes(), b"STOCK", &mut lines),
+        records_image(
+            rt.alloc(),
+            after.bytes(),
+            b"STOCK",
+            RecordForm::Lines,
+            &mut lines,
+        ),
         "",
     );
     same_at(
@@ -104,11 +110,13 @@ fn last_lines_are_stored(rt: HostRuntime) {
     same_at(&rt, same.bytes() == blank.bytes(), true, "as they were");
 }
 
-/// Texts and what is told: a second line that is no record's, of nineteen bytes, of number 0, behind a byte order mark,
-/// past the last record that a file of 720 blocks has, and so many that the 660 free blocks don't suffice.
-const REFUSED: [(&str, &str); 6] = [
+/// Texts and what is told: a second line that is no record's, of nineteen bytes, of several columns, of number 0, behind
+/// a byte order mark, past the last record that a file of 720 blocks has, and so many that the 660 free blocks don't
+/// suffice.
+const REFUSED: [(&str, &str); 7] = [
     ("1,\"A\"\n1;\"B\"\n", "RECORDS LINE 2"),
     ("1,\"A\"\n2,0123456789012345678\n", "RECORDS LINE 2"),
+    ("1,\"A\"\n2,KING,61 MILL LANE,LEEDS\n", "RECORDS LINE 2"),
     ("0,\"A\"\n", "RECORDS LINE 1"),
     ("\u{FEFF}1,\"A\"\n", "RECORDS LINE 1"),
     ("1,A\n2,B\n10161,C", "RECORDS LINE 3"),

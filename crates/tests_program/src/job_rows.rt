@@ -43,6 +43,18 @@ job ledger make --length=254 a.d64 A
 prints make, a.d64, , 254
 job ledger store a.d64 ADD\\c1 r.txt
 prints store, a.d64, r.txt, 4
+job ledger list a.d64 --text
+prints list, a.d64, , 0, text
+job ledger list --mixed --text a.d64
+prints list, a.d64, , 0, mixed
+job ledger list --mixed a.d64 b.d64
+prints list several, a.d64, b.d64, 2, mixed
+job ledger records a.d64 ADD\\c1 --text
+prints records, a.d64, , 4, text
+job ledger bytes --mixed a.d64 A
+prints bytes, a.d64, , 1, mixed
+job ledger bytes --text a.d64 A
+prints bytes, a.d64, , 1, text
 job ledger records a.d64 ADD\\c1
 prints records, a.d64, , 4
 job ledger bytes a.d64 GAME\\a0,8,1

@@ -2,9 +2,11 @@
 use crate::memory::Errors;
 use crate::runs::texts_of;
 use command_line::command_line;
+use keeper_commands::{ByteForm, RecordForm};
 use ledger_cli::{Job, job};
 use ledger_jobs::{Drawing, Effect, Loss, Name, Overview, Taking, Unowned, Way};
-use shop_commands::Durability;
+use petscii_text::CharacterSet;
+use shop_commands::{Durability, NameForm};
 use std::alloc::Global;
 use std::cell::RefCell;
 use std::io::Write;
@@ -23,7 +25,7 @@ fn row_of<'a>(job: &Job<'a>) -> Row<'a> {
     match *job {
         Job::Format { image, tills } => ("format", image, "", tills),
         Job::FormatNew { image, tills } => ("format new", image, "", tills),
-        Job::List { image } => ("list", image, "", 0),
+        Job::List { image, .. } => ("list", image, "", 0),
         Job::Check { image } => ("check", image, "", 0),
         Job::Show { image } => ("show", image, "", 0),
         Job::Dry { script } => ("dry", "", script, 0),
@@ -33,12 +35,12 @@ fn row_of<'a>(job: &Job<'a>) -> Row<'a> {
         Job::Copy { image, copy } => ("copy", image, copy, 0),
         Job::Repair { image, .. } => ("repair", image, "", 0),
         Job::Take {
-            what: Taking::Records,
+            what: Taking::Records(_),
             image,
             ref name,
         } => ("records", image, "", bytes_of(name)),
         Job::Take {
-            what: Taking::Bytes,
+            what: Taking::Bytes(_),
             image,
             ref name,
         } => ("bytes", image, "", bytes_of(name)),
@@ -73,7 +75,7 @@ fn row_of<'a>(job: &Job<'a>) -> Row<'a> {
         }
         Job::Several { what, ref images } => {
             let name = match what {
-                Overview::List => "list several",
+                Overview::List(_) => "list several",
                 Overview::Check => "check several",
                 Overview::Map => "map several",
             };
@@ -89,6 +91,38 @@ fn said_of(loss: Loss) -> &'static str {
     match loss {
         Loss::Refused => "",
         Loss::Accepted => ", loss accepted",
+    }
+}
+
+/// What is said of the set of a text.
+fn set_of(set: CharacterSet) -> &'static str {
+    match set {
+        CharacterSet::Graphics => ", text",
+        CharacterSet::Mixed => ", mixed",
+    }
+}
+
+/// What is said of the form in which names are printed.
+fn names_of(form: NameForm) -> &'static str {
+    match form {
+        NameForm::Ascii => "",
+        NameForm::Text(set) => set_of(set),
+    }
+}
+
+/// What is said of the form in which something is taken out of an image.
+fn taken_as(what: Taking) -> &'static str {
+    match what {
+        Taking::Records(RecordForm::Text(set)) | Taking::Bytes(ByteForm::Text(set)) => set_of(set),
+        Taking::Records(RecordForm::Lines) | Taking::Bytes(ByteForm::Plain) => "",
+    }
+}
+
+/// What is said of the form in which several images are printed.
+fn viewed_as(what: Overview) -> &'static str {
+    match what {
+        Overview::List(form) => names_of(form),
+        Overview::Check | Overview::Map => "",
     }
 }
 
@@ -128,6 +162,9 @@ fn chosen_by(job: &Job<'_>) -> [&'static str; 3] {
             [said_of(*loss), freed, printed]
         }
         Job::Make { loss, .. } | Job::Store { loss, .. } => [said_of(*loss), "", ""],
+        Job::List { form, .. } => [names_of(*form), "", ""],
+        Job::Take { what, .. } => [taken_as(*what), "", ""],
+        Job::Several { what, .. } => [viewed_as(*what), "", ""],
         _ => ["", "", ""],
     }
 }

@@ -4,6 +4,7 @@ ghost use Rattle.ledger_jobs.specs.Jobs.{IsFit};
 use crate::memory::Runtime;
 use crate::scenes::{each, first_scene};
 use ledger_jobs::{Drawing, Effect, Job, Loss, Unowned, do_job, end};
+use shop_commands::NameForm;
 use std::io::{self, Write};
 use std::process::Abort;
 
@@ -177,7 +178,10 @@ fn hands_on(rt: &(impl AllocGlobal + Abort), job: &Job<'static>, printed: usize)
     assert_eq!(rt; left, (3, Ok(()), b"FILE\n".as_slice(), printed));
 }
 
-const LIST_JOB: Job<'static> = Job::List { image: "a.d64" };
+const LIST_JOB: Job<'static> = Job::List {
+    form: NameForm::Ascii,
+    image: "a.d64",
+};
 
 const CHECK_JOB: Job<'static> = Job::Check { image: "a.d64" };
 

@@ -3,6 +3,7 @@ ghost use Rattle.ledger_jobs.specs.Jobs.{IsFit};
 
 use crate::comparing::{byte_at, same, same_at};
 use ledger_cli::{DryFault, Job, JobFault, dry, job, run, run_over};
+use shop_commands::NameForm;
 use std::io::Cursor;
 use std::process::Abort;
 
@@ -25,7 +26,7 @@ fn words_are_refused(rt: HostRuntime) {
 fn parts<'a>(job: &Job<'a>) -> (&'static str, &'a str, &'a str, u8) {
     match *job {
         Job::Format { image, tills } => ("format", image, "", tills),
-        Job::List { image } => ("list", image, "", 0),
+        Job::List { image, .. } => ("list", image, "", 0),
         Job::Check { image } => ("check", image, "", 0),
         Job::Show { image } => ("show", image, "", 0),
         Job::Play { image, script } => ("play", image, script, 0),
@@ -129,7 +130,10 @@ fn images_are_made_and_read(rt: HostRuntime) {
     let bytes = (image.as_slice(), b"".as_slice());
     ends(
         &rt,
-        &Job::List { image: "a.d64" },
+        &Job::List {
+            form: NameForm::Ascii,
+            image: "a.d64",
+        },
         bytes,
         None,
         (0, LISTED, ""),

@@ -43,14 +43,14 @@ returns-in-None c = record {
 
 pub returns-in-list : goal.returns-in-list
 returns-in-list c =
-    let met = viewing-met c.parsed_subcommand.result _ c.in-Some.name c.in-Some.found overviews.List c.viewing.result
-    c.parsed_subcommand.ensures c.in-Some.is c.in-list.is c.viewing.ensures in
+    let met = viewing-met c.parsed_subcommand.result _ c.in-Some.name c.in-Some.found (overviews.List c.name_form.result)
+    c.viewing.result c.parsed_subcommand.ensures c.in-Some.is c.in-list.is c.name_form.ensures c.viewing.ensures in
     record { job = met.0; fit = met.1 }
 
 pub returns-in-check : goal.returns-in-check
 returns-in-check c =
     let met = viewing-met c.parsed_subcommand.result _ c.in-Some.name c.in-Some.found overviews.Check c.viewing-in-check.result
-    c.parsed_subcommand.ensures c.in-Some.is c.in-check.is c.viewing-in-check.ensures in
+    c.parsed_subcommand.ensures c.in-Some.is c.in-check.is tt c.viewing-in-check.ensures in
     record { job = met.0; fit = met.1 }
 
 pub returns-in-show : goal.returns-in-show
@@ -102,16 +102,16 @@ returns-in-repair c = record {
 
 pub returns-in-records : goal.returns-in-records
 returns-in-records c =
-    let met = taking-met c.parsed_subcommand.result _ c.in-Some.name c.in-Some.found takings.Records _ c.taking.result c.parsed_subcommand.ensures
+    let met = taking-met c.parsed_subcommand.result _ c.in-Some.name c.in-Some.found (takings.Records c.record_form.result) _ c.taking.result c.parsed_subcommand.ensures
     c.in-Some.is c.in-records.is
-    c.value_of-image.ensures c.taking.ensures in
+    c.value_of-image.ensures c.record_form.ensures c.taking.ensures in
     record { job = met.0; fit = met.1 }
 
 pub returns-in-bytes : goal.returns-in-bytes
 returns-in-bytes c =
-    let met = taking-met c.parsed_subcommand.result _ c.in-Some.name c.in-Some.found takings.Bytes _ c.taking-in-bytes.result
+    let met = taking-met c.parsed_subcommand.result _ c.in-Some.name c.in-Some.found (takings.Bytes c.byte_form.result) _ c.taking-in-bytes.result
     c.parsed_subcommand.ensures c.in-Some.is c.in-bytes.is
-    c.value_of-image.ensures c.taking-in-bytes.ensures in
+    c.value_of-image.ensures c.byte_form.ensures c.taking-in-bytes.ensures in
     record { job = met.0; fit = met.1 }
 
 pub returns-in-make : goal.returns-in-make
@@ -131,7 +131,7 @@ returns-in-store c =
 pub returns-in-map : goal.returns-in-map
 returns-in-map c =
     let met = viewing-met c.parsed_subcommand.result _ c.in-Some.name c.in-Some.found overviews.Map c.viewing-in-map.result
-    c.parsed_subcommand.ensures c.in-Some.is c.in-map.is c.viewing-in-map.ensures in
+    c.parsed_subcommand.ensures c.in-Some.is c.in-map.is tt c.viewing-in-map.ensures in
     record { job = met.0; fit = met.1 }
 
 pub returns-in-picture : goal.returns-in-picture

@@ -2,19 +2,20 @@
 use Rattle.std.proofs.Common.{ℕ, List, subst}
 use Rattle.std.proofs.lemmas.Result.{on_ok_weaker}
 use Rattle.std.specs.Io.KnownBytes.{Appends}
+use Rattle.keeper_commands.specs.Forms.{bytes_as}
 use Rattle.keeper_commands.proofs.Blocks.{bytes-up-to}
 use Rattle.keeper_commands.proofs.Printing.{at-answer}
 use Rattle.keeper_commands.proofs.chains.put_block.Goals as goal
 
 pub returns : goal.returns
 returns g c = record {
-  ok = on_ok_weaker c.put.result
-      (λ printed. subst (λ (bs : List ℕ). Appends (g.W.Write.contents c.args.out.now) (g.W.Write.contents c.put.new.out)
-      bs)
+  ok = on_ok_weaker c.put_as.result
+      (λ printed. subst (λ (bs : List ℕ). Appends (g.W.Write.contents c.args.out.now) (g.W.Write.contents c.put_as.new.out)
+      (bytes_as c.args.form bs))
       (bytes-up-to _ _ _ _ c.max-end.ensures
       (at-answer c.read.result c.read.ensures.never_fails c.read.ensures.device.sector))
       printed)
-      c.put.ensures.ok;
+      c.put_as.ensures.ok;
   same = c.read.ensures.device.reads.image;
-  err = c.put.ensures.err;
+  err = c.put_as.ensures.err;
 }

@@ -8,19 +8,21 @@ use Rattle.d64_image.specs.Memory.{disk_image}
 use Rattle.d64_image.specs.declared.place.Place.{Place}
 use Rattle.disk_layout.specs.Records.{joined}
 use Rattle.disk_layout.proofs.lemmas.records.Joined.{joined-nil}
-use Rattle.keeper_commands.proofs.Blocks.{block-more}
+use Rattle.keeper_commands.specs.Forms.{bytes_as}
+use Rattle.keeper_commands.proofs.Blocks.{as-nil, block-more}
 use Rattle.keeper_commands.proofs.chains.put_blocks.Goals as goal
 
 pub loop-place-init : goal.loop-place-init
 loop-place-init g c =
     let before = g.W.Write.contents c.args.out.now in
-    (refl, subst (Appends before before) (sym (joined-nil (disk_image c.args.disk.now))) (Appends-nil before))
+    let none = ap (bytes_as c.args.form) (joined-nil (disk_image c.args.disk.now)) ∙ as-nil c.args.form in
+    (refl, subst (Appends before before) (sym none) (Appends-nil before))
 
 pub loop-place-preserved : goal.loop-place-preserved
 loop-place-preserved g c =
     let same = c.loop-place.invariant.0 in (
       c.in_ok-put_block.ensures.same ∙ same,
-      block-more _ _ _ (disk_image c.args.disk.now) (disk_image c.loop-place.disk) c.args.places.now
+      block-more _ _ _ c.args.form (disk_image c.args.disk.now) (disk_image c.loop-place.disk) c.args.places.now
           c.loop-place.place-index c.place-item.result c.args.disk.now.whole same c.loop-place-test.true
           (sym c.place-item.is)
           c.loop-place.invariant.1 c.in_ok-put_block.ensures.ok,
@@ -38,7 +40,7 @@ returns-in_err-put_block g c =
 pub returns : goal.returns
 returns g c = record {
   ok = subst (λ (ps : List Place). Appends (g.W.Write.contents c.args.out.now) (g.W.Write.contents c.loop-place.out)
-      (joined (disk_image c.args.disk.now) ps))
+      (bytes_as c.args.form (joined (disk_image c.args.disk.now) ps)))
       (take_all c.loop-place.place-index c.args.places.now c.loop-place-test.false)
       c.loop-place.invariant.1;
   same = c.loop-place.invariant.0;

@@ -3,10 +3,11 @@ use Rattle.std.proofs.Common.{◌≡◌, take}
 use Rattle.std.specs.Io.KnownBytes.{Appends}
 use Rattle.d64_image.specs.Memory.{disk_image}
 use Rattle.disk_layout.specs.Records.{joined}
+use Rattle.keeper_commands.specs.Forms.{bytes_as}
 use Rattle.keeper_commands.proofs.chains.put_blocks.Given as goal
 
 abbrev pub invariant-loop-place : goal.invariant-loop-place
 invariant-loop-place g l =
     (disk_image l.disk ≡ disk_image l.fn.disk)
     × Appends (g.W.Write.contents l.fn.out) (g.W.Write.contents l.out)
-    (joined (disk_image l.fn.disk) (take l.place-index l.places))
+    (bytes_as l.form (joined (disk_image l.fn.disk) (take l.place-index l.places)))

@@ -9,7 +9,8 @@ use Rattle.disk_layout.specs.Layout.{File, IsLayout, Layout}
 use Rattle.disk_layout.specs.Rest.{IsFirst}
 use Rattle.disk_layout.specs.Records as records_of
 use Rattle.d64_image.proofs.Told.{at-ok}
-use Rattle.keeper_commands.specs.Records.{IsRecordFile, records_text}
+use Rattle.keeper_commands.specs.Forms.{records_as}
+use Rattle.keeper_commands.specs.Records.{IsRecordFile}
 use Rattle.rel_records.specs.File.{IsFileOf, entry_of}
 use Rattle.keeper_commands.proofs.record_printing.records_image.Goals as goal
 
@@ -23,8 +24,8 @@ returns-in_err-disk g c =
       untouched = rw told (λ other. refl);
     }
 
-pub put_records-requires : goal.put_records-requires
-put_records-requires g c =
+pub put_records_as-requires : goal.put_records_as-requires
+put_records_as-requires g c =
     let sound = c.in_ok-disk.ensures.ok.2 in
     let found = c.in-Ok.ensures.ok sound.0 sound.1 in
     record {
@@ -47,14 +48,14 @@ found-file image name img l n f size same is first = record {
   first = first;
 }
 
-pub returns-in_err-put_records : goal.returns-in_err-put_records
-returns-in_err-put_records g c =
+pub returns-in_err-put_records_as : goal.returns-in_err-put_records_as
+returns-in_err-put_records_as g c =
     let loaded = c.in_ok-disk.ensures.ok in
     let sound = loaded.2 in
     let found = c.in-Ok.ensures.ok sound.0 sound.1 in
-    let p = err_from_is_err_and c.from_residual-in_err-put_records.result c.from_residual-in_err-put_records.ensures.1
+    let p = err_from_is_err_and c.from_residual-in_err-put_records_as.result c.from_residual-in_err-put_records_as.ensures.1
     in
-    let told = p.1 ∙ ap Err (p.2 ∙ c.in_err-put_records.ensures.err) in
+    let told = p.1 ∙ ap Err (p.2 ∙ c.in_err-put_records_as.ensures.err) in
     record {
       ok = rw told tt;
       err = rw told (
@@ -88,9 +89,9 @@ returns-clause-ok g c =
       file = found.0;
       is_file = found-file c.args.image.now c.args.name.now _ sound.0 _ found.0 loaded.0 loaded.1 sound.1 found.1;
       printed = subst (λ (img : Image). Appends (g.W.Write.contents c.args.out.now) (g.W.Write.contents c.flush.new.out)
-          (records_text (records_of.records img found.0)))
+          (records_as c.args.form (records_of.records img found.0)))
           (c.find.ensures.reads.image ∙ loaded.1)
-          (Appends-kept _ _ _ _ (c.in_ok-put_records.ensures.ok sound.0 (entry_of c.in-Ok.file) found.0 of)
+          (Appends-kept _ _ _ _ (c.in_ok-put_records_as.ensures.ok sound.0 (entry_of c.in-Ok.file) found.0 of)
           c.flush.ensures.kept);
     })
 

@@ -6,7 +6,7 @@ pub returns-in-Records : goal.returns-in-Records
 returns-in-Records g c = record {
   run = rw c.in-Records.is
       (records-run g.W.Write.contents c.args.image.now c.args.name.now c.args.out.now c.records_image.new.out
-      c.records_image.result
+      _ c.records_image.result
       c.records_image.ensures.ok c.records_image.ensures.err c.records_image.ensures.untouched);
 }
 
@@ -14,6 +14,6 @@ pub returns-in-Bytes : goal.returns-in-Bytes
 returns-in-Bytes g c = record {
   run = rw c.in-Bytes.is
       (bytes-run g.W.Write.contents c.args.image.now c.args.name.now c.args.out.now c.bytes_image.new.out
-      c.bytes_image.result
+      _ c.bytes_image.result
       c.bytes_image.ensures.ok c.bytes_image.ensures.err c.bytes_image.ensures.untouched);
 }

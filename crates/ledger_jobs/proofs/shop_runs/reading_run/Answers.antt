@@ -12,7 +12,7 @@ pub returns-in-List : goal.returns-in-List
 returns-in-List g c =
     let told = reading-as g.W.Write.contents _ _ c.args.bytes.now c.args.out.now c.list_image.new.out _ _ c.in-List.is
     c.ended.ensures
-    (list-run _ _ _ _ c.list_image.result c.list_image.ensures.ok c.list_image.ensures.err
+    (list-run _ _ _ _ _ c.list_image.result c.list_image.ensures.ok c.list_image.ensures.err
     c.list_image.ensures.untouched)
     (end-fault _ c.list_image.result c.list_image.ensures.err)
     (end-quiet c.list_image.result) in

@@ -49,7 +49,7 @@ returns g c =
     let here = c.new.ensures ∙ c.in_ok-map.ensures.ok
     ∙ ap (λ (i : Image). sector i map_place) (c.read_directory.ensures.reads.image ∙ loaded.1) in record {
       ok = on_ok_weaker c.put_directory.result
-          (is-listed _ c.args.image.now c.args.out.now c.put_directory.new.out directory _ _ here
+          (is-listed _ c.args.form c.args.image.now c.args.out.now c.put_directory.new.out directory _ _ here
           c.as_slice.ensures.value) c.put_directory.ensures.ok;
       err = IfErr-weaker c.put_directory.result _ _ (λ fault is. subst (IsListFault c.args.image.now) (sym is)
           directory) c.put_directory.ensures.err;

@@ -7,4 +7,4 @@ use Rattle.shop_commands.proofs.directory_listing.put_entries.Given as goal
 
 abbrev pub invariant-loop-slot : goal.invariant-loop-slot
 invariant-loop-slot g l =
-    Appends (g.W.Write.contents l.fn.out) (g.W.Write.contents l.out) (flat_map entry_line (take l.slot-index l.slots))
+    Appends (g.W.Write.contents l.fn.out) (g.W.Write.contents l.out) (flat_map (entry_line l.form) (take l.slot-index l.slots))

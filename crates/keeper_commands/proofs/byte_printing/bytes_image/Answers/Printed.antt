@@ -9,6 +9,7 @@ use Rattle.d64_image.specs.declared.place.Place.{Place}
 use Rattle.keeper_commands.proofs.Files.{file-there, has-entries}
 use Rattle.d64_image.proofs.Told.{at-ok}
 use Rattle.keeper_commands.specs.Bytes.{file_bytes}
+use Rattle.keeper_commands.specs.Forms.{bytes_as}
 use Rattle.keeper_commands.proofs.byte_printing.bytes_image.Goals as goal
 
 pub returns-in_err-put_file : goal.returns-in_err-put_file
@@ -46,11 +47,12 @@ returns g c =
     record {
       ok = at-ok c.flush.result (record {
         file = file;
-        printed = subst (λ (img : Image). Appends before after (file_bytes img c.walk_file.new.blocks.items
-            c.in-Ok.last))
+        printed = subst (λ (img : Image). Appends before after
+            (bytes_as c.args.form (file_bytes img c.walk_file.new.blocks.items c.in-Ok.last)))
             (c.walk_file.ensures.same ∙ same)
-            (subst (λ (bs : List Place). Appends before after (file_bytes (disk_image c.walk_file.new.disk) bs
-            c.in-Ok.last)) c.as_slice.ensures.value printed);
+            (subst (λ (bs : List Place). Appends before after
+            (bytes_as c.args.form (file_bytes (disk_image c.walk_file.new.disk) bs c.in-Ok.last)))
+            c.as_slice.ensures.value printed);
       });
       err = IfErr-weaker c.flush.result _ _ (λ fault is. rw is file) c.flush.ensures.err;
       untouched = IfErr-weaker c.flush.result _ _ (λ fault is other. absurd (other is)) c.flush.ensures.err;

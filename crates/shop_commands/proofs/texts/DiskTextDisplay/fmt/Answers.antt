@@ -5,5 +5,6 @@ use Rattle.shop_commands.proofs.texts.DiskTextDisplay.fmt.Goals as goal
 
 pub returns-clause-writes : goal.returns-clause-writes
 returns-clause-writes g c = λ plain done. has_written_of_eq _ _ _ _ _
-    (rw (c.id.ensures, c.version.ensures) (disk-written c.args.self.now.0.bytes.now c.name.result.now c.name.ensures))
+    (rw (c.id.ensures, c.version.ensures) (disk-written c.args.self.now.form c.args.self.now.map.bytes.now c.name.result.now
+    c.name.ensures))
     (c.write.ensures.writes plain done)

@@ -6,8 +6,8 @@ use Rattle.shop_commands.proofs.texts.EntryTextDisplay.fmt.Goals as goal
 pub returns-clause-writes : goal.returns-clause-writes
 returns-clause-writes g c =
     let bytes = c.new-entry.ensures in
-    let name = rw bytes at c.name.ensures in
+    let name = rw bytes at c.name-bytes.ensures in
     λ plain done. has_written_of_eq _ _ _ _ _
-    (rw (c.block_count.ensures, c.type_byte.ensures, bytes) (entry-written c.args.self.now.0.now c.name.result.now
-    name))
+    (rw (c.block_count.ensures, c.type_byte.ensures, bytes) (entry-written c.args.self.now.form c.args.self.now.slot.now
+    c.name-bytes.result.now name))
     (c.write.ensures.writes plain done)

@@ -1,0 +1,54 @@
+-- The forms that the words ask for. Our own.
+use Rattle.std.specs.Prelude.{◌≡◌, ⊤, List, Option, Some, None, codes, if◌then◌else◌}
+use Rattle.clap.specs.Words.{Row}
+use Rattle.command_line.specs.Flags.{is_given}
+use Rattle.keeper_commands.specs.declared.forms.ByteForm.{ByteForm}
+use Rattle.keeper_commands.specs.declared.forms.ByteForm.TheVariants as bytes
+use Rattle.keeper_commands.specs.declared.forms.RecordForm.{RecordForm}
+use Rattle.keeper_commands.specs.declared.forms.RecordForm.TheVariants as records
+use Rattle.ledger_jobs.specs.declared.jobs.Overview.{Overview}
+use Rattle.ledger_jobs.specs.declared.jobs.Overview.TheVariants as overviews
+use Rattle.ledger_jobs.specs.declared.jobs.Taking.{Taking}
+use Rattle.ledger_jobs.specs.declared.jobs.Taking.TheVariants as takings
+use Rattle.petscii_text.specs.declared.characters.CharacterSet.{CharacterSet}
+use Rattle.petscii_text.specs.declared.characters.CharacterSet.TheVariants.{Graphics, Mixed}
+use Rattle.shop_commands.specs.declared.texts.NameForm.{NameForm}
+use Rattle.shop_commands.specs.declared.texts.NameForm.TheVariants as names
+
+-- the set of the text that is asked for: with --mixed the one with small letters, with --text alone the other
+abbrev pub set_in : List Row → Option CharacterSet
+set_in rows =
+    if is_given (codes "mixed") rows then Some Mixed
+    else (if is_given (codes "text") rows then Some Graphics else None)
+
+-- the form with this text, or the one that is printed without
+abbrev pub record_form : Option CharacterSet → RecordForm
+record_form None = records.Lines
+record_form (Some set) = records.Text set
+
+abbrev pub byte_form : Option CharacterSet → ByteForm
+byte_form None = bytes.Plain
+byte_form (Some set) = bytes.Text set
+
+abbrev pub name_form : Option CharacterSet → NameForm
+name_form None = names.Ascii
+name_form (Some set) = names.Text set
+
+abbrev pub record_form_in : List Row → RecordForm
+record_form_in rows = record_form (set_in rows)
+
+abbrev pub byte_form_in : List Row → ByteForm
+byte_form_in rows = byte_form (set_in rows)
+
+abbrev pub name_form_in : List Row → NameForm
+name_form_in rows = name_form (set_in rows)
+
+-- the flags ask for what is taken in this form
+abbrev pub IsTakenBy : Taking → List Row → Type 0
+IsTakenBy (takings.Records form) rows = form ≡ record_form_in rows
+IsTakenBy (takings.Bytes form) rows = form ≡ byte_form_in rows
+
+-- the flags ask for this overview
+abbrev pub IsViewedBy : Overview → List Row → Type 0
+IsViewedBy (overviews.List form) rows = form ≡ name_form_in rows
+IsViewedBy _ rows = ⊤

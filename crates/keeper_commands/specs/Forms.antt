@@ -1,0 +1,36 @@
+-- How what is taken out of an image is printed. All of it is our own.
+use Rattle.std.specs.Prelude.{ℕ, zero, suc, ◌+◌, ◌++◌, List, [], codes, decimal, get_or, length}
+use Rattle.byte_text.specs.Texts.{record_line, trimmed}
+use Rattle.petscii_text.specs.Characters.{readable}
+use Rattle.petscii_text.specs.declared.characters.CharacterSet.{CharacterSet}
+use Rattle.quoted_text.specs.Quoted.{quoted}
+use Rattle.keeper_commands.specs.Records.{records_text}
+use Rattle.keeper_commands.specs.declared.forms.ByteForm.{ByteForm}
+use Rattle.keeper_commands.specs.declared.forms.ByteForm.TheVariants as bytes
+use Rattle.keeper_commands.specs.declared.forms.RecordForm.{RecordForm}
+use Rattle.keeper_commands.specs.declared.forms.RecordForm.TheVariants as forms
+
+-- A record's line as people read it: its number, and the text of its bytes up to the last one that isn't 0. In the mixed
+-- set record 3 of 48 49 0D and zeros is 3,"hi\0d"
+abbrev pub text_line : CharacterSet → ℕ → List ℕ → List ℕ
+text_line set n r = decimal n ++ (codes "," ++ (quoted set (trimmed r) ++ codes "\n"))
+
+-- a record's line in each form
+abbrev pub form_line : RecordForm → ℕ → List ℕ → List ℕ
+form_line forms.Lines n r = record_line n r
+form_line (forms.Text set) n r = text_line set n r
+
+-- the lines of the first n of these records in a form, record 1 first
+abbrev pub form_lines_to : RecordForm → List (List ℕ) → ℕ → List ℕ
+form_lines_to form rs zero = []
+form_lines_to form rs (suc n) = form_lines_to form rs n ++ form_line form (n + 1) (get_or rs n [])
+
+-- the lines of all of them
+abbrev pub records_as : RecordForm → List (List ℕ) → List ℕ
+records_as forms.Lines rs = records_text rs
+records_as (forms.Text set) rs = form_lines_to (forms.Text set) rs (length rs)
+
+-- the bytes of a file in each form
+abbrev pub bytes_as : ByteForm → List ℕ → List ℕ
+bytes_as bytes.Plain file = file
+bytes_as (bytes.Text set) file = readable set file

@@ -1,0 +1,136 @@
+#!/usr/bin/env python3
+"""Reads what `list`, `records` and `bytes` print as text, and compares it with tables and readers of its own.
+
+    tests/text.py PROGRAM [ROUNDS]
+
+The characters are those that cc1541 (Debian, 4.0) prints, but for the bytes that crates/petscii_text/README.md lists, as
+`characters.py` beside it compares them; lines are read by Python's `csv`. The disks are made here, by the D64 layout: in each
+round a directory with names of any bytes, a relative file and a sequential one, both of any bytes. Not part of the gate."""
+
+import csv
+import io
+import random
+import sys
+import tempfile
+from pathlib import Path
+
+from record_disks import DATA, SIZE, start_of
+from served import want
+
+import subprocess
+
+LETTERS = {"text": "ABCDEFGHIJKLMNOPQRSTUVWXYZ", "mixed": "abcdefghijklmnopqrstuvwxyz"}
+SHIFTED = {
+    "text": "─♠\U0001fb72\U0001fb78\U0001fb77\U0001fb76\U0001fb7a\U0001fb71\U0001fb74╮╰╯\U0001fb7c╲╱\U0001fb7d\U0001fb7e●"
+    "\U0001fb7b♥\U0001fb70╭╳○♣\U0001fb75♦┼\U0001fb8c│π◥",
+    "mixed": "─ABCDEFGHIJKLMNOPQRSTUVWXYZ┼\U0001fb8c│\U0001fb96\U0001fb98",
+}
+BLOCKS = {
+    "text": "\xa0▌▄▔▁▏\U0001fb95▕\U0001fb8f◤\U0001fb87├▗└┐▂┌┴┬┤▎▍\U0001fb88\U0001fb82\U0001fb83▃\U0001fb7f▖▝┘▘▚",
+    "mixed": "\xa0▌▄▔▁▏\U0001fb95▕\U0001fb8f\U0001fb99\U0001fb87├▗└┐▂┌┴┬┤▎▍\U0001fb88\U0001fb82\U0001fb83▃✓▖▝┘▘▚",
+}
+
+
+def character(kind, byte):
+    """The character of a byte, or None for a control code."""
+    if byte == 0xFF:
+        byte = 0xDE
+    part, number = byte // 32, byte % 32
+    if part in (0, 4):
+        return None
+    if part == 1:
+        return chr(byte)
+    if part == 2:
+        return ("@" + LETTERS[kind] + "[£]↑←")[number]
+    return (SHIFTED if part in (3, 6) else BLOCKS)[kind][number]
+
+
+def text_of(kind, data, end="\\0d"):
+    return "".join(end if byte == 13 else character(kind, byte) or f"\\{byte:02x}" for byte in data)
+
+
+def chain(image, places, data):
+    """Writes a file's bytes into these sectors."""
+    for number, place in enumerate(places):
+        part = data[DATA * number : DATA * (number + 1)]
+        link = bytes(places[number + 1]) if number + 1 < len(places) else bytes([0, len(part) + 1])
+        image[start_of(place) : start_of(place) + 2 + len(part)] = link + part
+
+
+def a_disk(rng):
+    """An image, its names, the records of RECS and the bytes of TEXT. Block 17/0 begins RECS, with the side sector 17/20."""
+    image = bytearray(SIZE)
+    length = rng.randint(2, 254)
+    any_bytes = rng.randbytes
+    blocks = rng.randint(1, 6)
+    count = blocks * DATA // length
+    records = [any_bytes(rng.randint(1, length)).rstrip(b"\0").ljust(length, b"\0") for _ in range(count)]
+    places = [(17, n) for n in range(blocks)]
+    chain(image, places, b"".join(records).ljust(blocks * DATA, b"\0"))
+    side = start_of((17, 20))
+    used = bytes([0, 16 + 2 * blocks - 1, 0, length, 17, 20]) + bytes(10) + b"".join(map(bytes, places))
+    image[side : side + len(used)] = used
+    body = any_bytes(rng.randint(1, 1000))
+    text_places = [(16, n) for n in range((len(body) + DATA - 1) // DATA)]
+    chain(image, text_places, body)
+    names = [b"RECS", b"TEXT"] + [any_bytes(rng.randint(1, 16)) for _ in range(6)]
+    # a name ends at its first shifted space
+    shown = [name.ljust(16, b"\xa0").split(b"\xa0")[0] for name in names]
+    head = start_of((18, 0))
+    title = any_bytes(16)
+    image[head : head + 3] = bytes([18, 1, 65])
+    image[head + 144 : head + 160], image[head + 162 : head + 164] = title, b"ID"
+    image[head + 165 : head + 167] = b"2A"
+    at = start_of((18, 1))
+    image[at : at + 2] = bytes([0, 255])
+    for number, name in enumerate(names):
+        slot = at + 32 * number
+        kind, first, last = (0x84, (17, 0), (17, 20)) if number == 0 else (0x81, (16, 0), (0, 0))
+        if number > 1:
+            kind, first = 0x80, (0, 0)
+        image[slot + 2 : slot + 5] = bytes([kind, *first])
+        image[slot + 5 : slot + 21] = name.ljust(16, b"\xa0")
+        image[slot + 21 : slot + 24] = bytes([*last, length if number == 0 else 0])
+    image[at + 30] = blocks + 1
+    image[at + 62] = len(text_places)
+    return bytes(image), title.split(b"\xa0")[0], shown, [r.rstrip(b"\0") for r in records], body
+
+
+def printed(program, *words):
+    done = subprocess.run([program, *map(str, words)], capture_output=True, timeout=60)
+    return done.returncode, done.stdout, done.stderr.decode()
+
+
+def compare(program, path, kind, disk):
+    image, title, names, records, body = disk
+    path.write_bytes(image)
+    flag = f"--{kind}"
+    status, out, err = printed(program, "bytes", flag, path, "TEXT")
+    want(status in (0, 1) and (status == 0 or err.startswith("SHORT")), f"bytes: {status}, {err}")
+    want(out.decode() == text_of(kind, body, "\n"), "bytes")
+    status, out, err = printed(program, "records", flag, path, "RECS")
+    want(status in (0, 1) and (status == 0 or err.startswith("SHORT")), f"records: {status}, {err}")
+    want(out.count(b"\n") == len(records), "a record is one line")
+    rows = list(csv.reader(io.StringIO(out.decode(), newline="")))
+    want(rows == [[str(n), text_of(kind, r)] for n, r in enumerate(records, 1)], "records")
+    status, out, err = printed(program, "list", flag, path)
+    want(status == 0, f"list: {status}, {err}")
+    lines = out.decode().split("\n")
+    want(lines[0].startswith('0 "' + text_of(kind, title).replace('"', '""') + '" '), "the disk's name")
+    for line, name in zip(lines[1:], names):
+        want('"' + text_of(kind, name).replace('"', '""') + '"' in line, "a name")
+    want(len(lines) == len(names) + 3, "a line for each entry")
+
+
+def main():
+    program, rounds = sys.argv[1], int(sys.argv[2]) if len(sys.argv) > 2 else 200
+    rng = random.Random(1541)
+    with tempfile.TemporaryDirectory() as folder:
+        for _ in range(rounds):
+            disk = a_disk(rng)
+            for kind in ("text", "mixed"):
+                compare(program, Path(folder) / "a.d64", kind, disk)
+    print(f"text: {rounds} disks of any bytes were listed, and their records and bytes read, in both sets, as the tables say")
+
+
+main()
