@@ -4,6 +4,7 @@
     packaging/pages.py PROGRAM FOLDER NAME
 
 PROGRAM is asked for --help, and so is each of its subcommands. So the pages name the words that the program takes, and no others.
+The man page also has the faults that `check` prints and the words of refusals, each with its meaning, from docs/KEEPERS.md.
 NAME is the command under which the program is installed. FOLDER gets `NAME.1`, `NAME.bash`, `_NAME` (zsh) and `NAME.fish`."""
 
 import re
@@ -11,6 +12,8 @@ import subprocess
 import sys
 from dataclasses import dataclass, field
 from pathlib import Path
+
+GUIDE = Path(__file__).resolve().parent.parent / "docs/KEEPERS.md"
 
 STATUSES = (
     ("0", "Success; also when help was asked for."),
@@ -82,7 +85,7 @@ def words_of(program):
             continue
         text = helped(program, row[0])
         usage = re.search(r"^Usage: \S+ (.*)$", text, re.M)[1]
-        more = re.search(r"^Options:\n(?:  .*\n)+\n(.*)\Z", text, re.M | re.S)[1].splitlines()
+        more = re.search(r"(?m)^Options:\n(?:  .*\n)+\n((?s:.*))\Z", text)[1].splitlines()
         word = Word(row[0], row[1], usage, rows(text, "Arguments"), rows(text, "Options"), more)
         named = " ".join(it[0] for it in word.values + word.options)
         missing = [value for value in re.findall(r"<\w+>", usage) if value not in named]
@@ -97,6 +100,46 @@ def escaped(text):
     return text.replace("\\", "\\e").replace("-", "\\-").replace("'", "\\(aq").replace('"', "\\(dq").replace("\n", " ")
 
 
+def laid_out(lines):
+    """Lines of a help text for roff: those that begin with a blank stand as they are, and an empty one begins a paragraph."""
+    found, is_table = [], False
+    for line in lines:
+        if line.startswith(" ") != is_table:
+            is_table = not is_table
+            found.append(".nf" if is_table else ".fi")
+        found.append(escaped(line) if line else ".PP")
+    return found + [".fi"] * is_table
+
+
+def plain(text):
+    """Markdown without its marks; what stands between backticks stays as it is."""
+    parts = re.sub(r"\[([^\]]*)\]\([^)]*\)", r"\1", text).split("`")
+    return "".join(part if number % 2 else part.replace("*", "") for number, part in enumerate(parts))
+
+
+def section(heading, end):
+    """The text of the guide from a heading to the next one of that form."""
+    found = re.search(rf"(?ms)^{re.escape(heading)}\n(.*?)(?=^{end} )", GUIDE.read_text(encoding="utf-8"))
+    if not found:
+        sys.exit(f"pages: docs/KEEPERS.md has no section {heading}")
+    return found[1]
+
+
+def explained_words():
+    """The guide's faults and refusals for roff, each word with its meaning."""
+    lines = [".SH FAULTS", "What", ".B check", "prints, with the sector where it is:"]
+    for word, meaning, _ in re.findall(r"(?m)^\| `([A-Z]+)` \| ([^|]+) \| ([^|]+) \|$", section("## Faults", "##")):
+        lines += [".TP", f".B {word}", escaped(plain(meaning))]
+    lines += [".SH DIAGNOSTICS", "Words on standard error. Sections and pages named here are those of docs/KEEPERS.md."]
+    for line in section("## When something is refused", "###").splitlines():
+        refusal = re.match(r"- (`[^:]*): (.*)", line)
+        if refusal:
+            lines += [".TP", f".B {escaped(plain(refusal[1]))}", escaped(plain(refusal[2]))]
+        elif line.startswith("Status "):
+            lines += [".PP", escaped(line)]
+    return lines
+
+
 def man_page(words, version, name):
     """The man page of the program."""
     lines = [f'.TH {escaped(name.upper())} 1 "" "{name} {version}" "User Commands"', ".SH NAME",
@@ -109,12 +152,13 @@ def man_page(words, version, name):
         for called, *what in word.values + word.options:
             lines += [".TP", f".B {escaped(called)}", escaped(what[0] if what else "")]
         lines.append(".PP")
-        for line in word.more:
-            example = re.sub(r"\bledger ", f"{name} ", line)
-            lines += [".br", f".B {escaped(example)}"] if line.startswith("Example: ") else [escaped(line)]
+        examples = [re.sub(r"\bledger ", f"{name} ", it) for it in word.more if it.startswith("Example: ")]
+        lines += laid_out([it for it in word.more if not it.startswith("Example: ")])
+        lines += [line for it in examples for line in (".br", f".B {escaped(it)}")]
     lines.append(".SH EXIT STATUS")
     for status, when in STATUSES:
         lines += [".TP", f".B {status}", escaped(when)]
+    lines += explained_words()
     lines.append(".SH EXAMPLES")
     for line, does in EXAMPLES:
         lines += [".TP", f".B {escaped(line.format(name))}", escaped(does)]

@@ -11,9 +11,12 @@ them. Of each it checks
   - in README.md that each subcommand and each flag of the program is named, and that it has at most README_LIMIT words of its own:
     code that it quotes from a source (as tests/quotes.py finds it) isn't counted for that;
   - in docs/EMBED.md and docs/PROOF.md the lines of code, each of which is a line of a source (but for comments and `...`).
-It also counts the words of all documents, against LIMIT. Comments (`///`, `//!`) and the program's help texts are reported too, by
-crate and as counts only: they don't change the status. With --counts it prints one line for each document and no findings.
-The status is 1 if a document has a finding, or all of them together are too long."""
+It also counts the words of all documents, against LIMIT. Of the sources it checks
+  - that each public item of the product's crates has a `///` over it;
+  - the program's help texts: sentences, words, and lines of more than 80 columns.
+By crate, and as counts that don't change the status, it reports what comments (`///`, `//!`) have, and definitions of `specs/`
+without a comment over them. With --counts it prints one line for each document and no findings. The status is 1 if a document or
+a source has a finding, or all documents together are too long."""
 
 import re
 import sys
@@ -180,19 +183,56 @@ def check(file, shows):
     return len(found), words
 
 
+def uncommented(file, item, comment):
+    """Lines of a source that begin an item without a comment over it, but for attributes and notes between."""
+    lines = file.read_text().split("\n")
+    for number, line in enumerate(lines, 1):
+        if re.match(item, line):
+            above = next((it for it in reversed(lines[: number - 1]) if not re.match(r"\s*(#\[|// |infix|$)", it)), "")
+            if not above.lstrip().startswith(comment) or not lines[number - 2].strip():
+                yield number, "no comment", line.strip()[:90]
+
+
+ITEM = r"\s*pub (?:const fn|fn|struct|enum|trait|const|static|type)\b"
+DEFINITION = r"(?:abbrev |unfoldable )pub |pub (?:record|data)\b"
+
+
+def product_crates():
+    return sorted(it for it in TOP.glob("crates/*") if (it / "src").is_dir() and not re.match(r"tests?_|benchmarks", it.name))
+
+
+def help_findings(text):
+    """What a help text has: its rows, which begin with two blanks, are read as paragraphs of their own."""
+    rows = re.sub(r"(?m)^( .*\n)(?=\S)", r"\1\n", re.sub(r"(?m)^(?=  \S)", "\n", text))
+    yield from ((what, where) for _, what, where in findings(rows))
+    yield from (("more than 80 columns", line) for line in text.split("\n") if len(line) > 80)
+
+
+def source_findings():
+    """Prints the public items of the product without a comment, and what its help texts have; gives their number."""
+    count = 0
+    for file in (it for crate in product_crates() for it in sorted(crate.rglob("src/**/*.rt"))):
+        for number, what, where in uncommented(file, ITEM, "///"):
+            print(f"{file.relative_to(TOP)}:{number}: {what}: {where}")
+            count += 1
+    for file in sorted((TOP / "crates/command_table/src").glob("*.rt")):
+        for it in re.findall(r'"((?:[^"\\]|\\.|\\\n)*)"', file.read_text()):
+            for what, where in help_findings(re.sub(r"\\(\W)", r"\1", it.replace("\\\n", ""))):
+                print(f"{file.relative_to(TOP)}: {what}: {where}")
+                count += 1
+    return count
+
+
 def comment_counts():
-    """For each crate how many of its comments have a long sentence, or a word of the list; and the same of the help texts."""
+    """For each crate how many of its comments have a long sentence, or a word of the list, and how many definitions have none."""
     for crate in sorted(it for it in TOP.glob("crates/*") if (it / "src").is_dir()):
         kept = [re.findall(r"(?m)^\s*//[/!] ?(.*)$", it.read_text()) for it in sorted(crate.rglob("src/**/*.rt"))]
         found = [what for lines in kept for _, what, _ in findings("\n".join(lines))]
         long = sum(it.endswith(" words") for it in found)
-        if found:
-            print(f"comments of {crate.name}: {long} long sentences, {len(found) - long} words of the list")
-    for file in sorted((TOP / "crates/command_table/src").glob("*.rt")):
-        texts = [it.replace("\\\n", "").replace("\\n", "\n") for it in re.findall(r'"((?:[^"\\]|\\.|\\\n)*)"', file.read_text())]
-        found = [what for it in texts for _, what, _ in findings(it)]
-        if found:
-            print(f"help texts of {file.name}: {len(found)}: {', '.join(sorted(set(found)))}")
+        bare = [it for file in crate.rglob("specs/**/*.antt") for it in uncommented(file, DEFINITION, "--")]
+        if found or bare:
+            what = f"{long} long sentences, {len(found) - long} words of the list, {len(bare)} definitions without a comment"
+            print(f"comments of {crate.name}: {what}")
 
 
 def main():
@@ -204,6 +244,7 @@ def main():
     if words:
         return 1 if found else 0
     comment_counts()
+    found += source_findings()
     print(f"language: {len(counts)} documents, {length:,} words of {LIMIT:,} at most, {found} findings")
     return 1 if found or length > LIMIT else 0
 

@@ -155,13 +155,24 @@ where
     status
 }
 
-/// The words as texts, all at one lifetime. The first is the name by which people call the program, whatever its file
-/// is called.
+/// An argument as `clap` takes it. Directly after `help` the flag `--help` asks for the help of `help` itself.
+fn text_of<'a>(before: &[&str], word: &'a str) -> &'a str {
+    let is_help = before.len() == 2 && before.get(1) == Some(&"help");
+    if is_help && (word == "--help" || word == "-h") {
+        "help"
+    } else {
+        word
+    }
+}
+
+/// The arguments as texts, all at one lifetime. The first is the name by which people call the program, whatever its
+/// file is called.
 fn texts_of<'a>(alloc: Global, words: &'a [String]) -> Result<Vec<&'a str>, AllocError> {
     let mut texts = Vec::new(alloc);
     texts.push("ledger")?;
     for word in words.iter().skip(1) {
-        texts.push(word.as_str())?;
+        let text = text_of(texts.as_slice(), word.as_str());
+        texts.push(text)?;
     }
     Ok(texts)
 }

@@ -14,11 +14,11 @@ required id = record (new_rule id) { required = true }
 abbrev pub required_several : Text → Rule
 required_several id = record (required id) { action = Some Append }
 
--- a value that is required behind two hyphens and this word: --tills T
+-- a value that is required after two hyphens and this word: --tills T
 abbrev pub required_behind : Text → Text → Rule
 required_behind word id = record (required id) { long = Some word }
 
--- a word behind two hyphens that may stand there or not: --sync
+-- a word after two hyphens that may stand there or not: --sync
 abbrev pub flag : Text → Rule
 flag word = record (new_rule word) { long = Some word; action = Some SetTrue }
 
@@ -107,7 +107,7 @@ dry = with_rule (new_app (codes "dry")) (required (codes "SCRIPT"))
 abbrev pub with_required_subcommand : App → App
 with_required_subcommand a = record { top = record a.top { subcommand_required = true }; subs = a.subs }
 
--- the same with a version, which is printed where it is asked for
+-- the same with a version, which is printed if it is asked for
 abbrev pub with_version : App → App
 with_version a = record { top = record a.top { has_version = true }; subs = a.subs }
 
@@ -119,7 +119,7 @@ explainable a = with_rule a (flag (codes "explain"))
 abbrev pub bare : App
 bare = explainable (with_required_subcommand (with_version (new_app (codes "ledger"))))
 
--- a program with this subcommand more, behind which --explain may stand too
+-- a program with this subcommand more, after which --explain may stand too
 abbrev pub with_command : App → App → App
 with_command a command = with_subcommand a (explainable command).top
 
@@ -146,6 +146,6 @@ pub record IsSubcommand (app : App) (c : Command) : Type 0 where
 abbrev pub values : Text → List Row → List Text
 values id rows = unwrap_or (all_of id rows) []
 
--- the value of an argument, or an empty text where it has none; of several the first
+-- the value of an argument (the first of several), or an empty text if it has none
 abbrev pub value : Text → List Row → Text
 value id rows = unwrap_or (first_of id rows) []

@@ -4,32 +4,37 @@ use crate::help_texts::{
     STORE,
 };
 
-/// How often a value stands behind the name of a subcommand.
+/// How often a value stands after the name of a subcommand.
 #[derive(Clone, Copy, Debug, PartialEq, Eq)]
 pub(crate) enum Count {
     /// Once.
     One,
-    /// Once or more often. No other value without a word of its own may stand behind it.
+    /// Once or more often. No other value without a word of its own may stand after it.
     Several,
     /// It is a flag: never or once, and it has no value of its own.
     Flag,
 }
 
-/// A value that has to stand behind the name of a subcommand, or a flag, which may stand there or not.
+/// A value that has to stand after the name of a subcommand, or a flag, which may stand there or not.
 pub(crate) struct Value {
     /// What help calls it; a flag has its word here too.
     pub(crate) name: &'static str,
-    /// The word behind two hyphens, where it has one.
+    /// The word after two hyphens, if it has one.
     pub(crate) word: Option<&'static str>,
+    /// How often it stands there.
     pub(crate) count: Count,
+    /// What help says of it, in a line.
     pub(crate) help: &'static str,
 }
 
 /// A subcommand, and what help says of it: in a line, and below its words.
 pub(crate) struct Subcommand {
     pub(crate) name: &'static str,
+    /// The line that help has of it.
     pub(crate) about: &'static str,
+    /// The text below its values in its own help.
     pub(crate) more: &'static str,
+    /// Its values and flags, in the order of the line of use.
     pub(crate) values: &'static [Value],
 }
 

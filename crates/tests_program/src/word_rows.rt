@@ -110,6 +110,21 @@ prints ..SCRIPT..
 
 no image
 no script
+$ ledger_cli help --help
+prints ..Usage: ledger help..
+
+no image
+no script
+$ ledger_cli help -h
+prints ..Usage: ledger help..
+
+no image
+no script
+$ ledger_cli help play
+prints ..SCRIPT..
+
+no image
+no script
 $ ledger_cli
 tells ..subcommand..
 ends 2
