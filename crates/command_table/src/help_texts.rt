@@ -35,7 +35,7 @@ Example: ledger format --new shop.d64 --tills 4";
 pub(crate) const LIST: &str = "\
 Prints the disk's name, a line for each entry, and how many blocks are free. `*`
 before the type: the file wasn't closed. `<` after it: the file is locked.
-`?` stands for a byte that ASCII lacks; with --text or --mixed its character does.
+`?` stands for a byte that ASCII lacks; with --text or --mixed its character.
 With several images each line begins with the image's name, also for an image
 that is refused, and the status is the greatest.
 
