@@ -211,7 +211,7 @@ def help_findings(text):
 def source_findings():
     """Prints the public items of the product without a comment, and what its help texts have; gives their number."""
     count = 0
-    for file in (it for crate in product_crates() for it in sorted(crate.rglob("src/**/*.rt"))):
+    for file in (it for crate in product_crates() for it in sorted(crate.glob("src/**/*.rt"))):
         for number, what, where in uncommented(file, ITEM, "///"):
             print(f"{file.relative_to(TOP)}:{number}: {what}: {where}")
             count += 1
@@ -226,10 +226,10 @@ def source_findings():
 def comment_counts():
     """For each crate how many of its comments have a long sentence, or a word of the list, and how many definitions have none."""
     for crate in sorted(it for it in TOP.glob("crates/*") if (it / "src").is_dir()):
-        kept = [re.findall(r"(?m)^\s*//[/!] ?(.*)$", it.read_text()) for it in sorted(crate.rglob("src/**/*.rt"))]
+        kept = [re.findall(r"(?m)^\s*//[/!] ?(.*)$", it.read_text()) for it in sorted(crate.glob("src/**/*.rt"))]
         found = [what for lines in kept for _, what, _ in findings("\n".join(lines))]
         long = sum(it.endswith(" words") for it in found)
-        bare = [it for file in crate.rglob("specs/**/*.antt") for it in uncommented(file, DEFINITION, "--")]
+        bare = [it for file in crate.glob("specs/**/*.antt") for it in uncommented(file, DEFINITION, "--")]
         if found or bare:
             what = f"{long} long sentences, {len(found) - long} words of the list, {len(bare)} definitions without a comment"
             print(f"comments of {crate.name}: {what}")
