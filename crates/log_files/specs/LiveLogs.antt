@@ -5,7 +5,6 @@ use Rattle.std.proofs.lemmas.Option.{none-some, same_Some}
 use Rattle.d64_image.specs.Images.{Image}
 use Rattle.shop_log.specs.ImageLogs.{LogHistory}
 use Rattle.shop_log.specs.Logs.{StandsFor, log_file}
-use Rattle.shop_log.proofs.Ends.{has_base, is_log}
 use Rattle.shop_log.specs.declared.log.Log.{Log}
 use Rattle.shop_log.specs.declared.log_file.LogFile.{Ghosts}
 use Rattle.log_files.specs.Folders.{AllLeft, Folder, FolderHistory, LeftOpen, with_log}
@@ -16,8 +15,8 @@ use Rattle.log_files.specs.declared.live_log.LiveLog.{LiveLog}
 pub stands_gives : {F : Type 0} {G : Ghosts F} (log : Log F G) (base shop : Image) (stands : StandsFor log base shop)
     (image : Image) → image ≡ base → LogGives stands.bytes image shop
 stands_gives log base shop stands image is = record {
-  size = (is_log log base shop stands).size;
-  based = has_base log base shop stands;
+  size = stands.size;
+  based = stands.based;
   own = inr (is ∙ sym stands.base);
   is = stands.image;
 }

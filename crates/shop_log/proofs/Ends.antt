@@ -7,7 +7,7 @@ use Rattle.d64_image.specs.Images.{Image}
 use Rattle.shop_log.specs.Blocks.{block_at, brought, committed, first_commit}
 use Rattle.shop_log.specs.Files.{BringsBytes, FileHistory, LeavesOnly, Mixed, Only, Rests, overwritten}
 use Rattle.shop_log.specs.Logs.{StandsFor, is_closed}
-use Rattle.shop_log.specs.Recovered.{IsAppended, IsAtRest, IsLeft, IsLog, IsTorn, base_end, base_of, blank, is_marked, recovered, whole_blocks}
+use Rattle.shop_log.specs.Recovered.{IsAppended, IsAtRest, IsLeft, IsLog, IsTorn, base_of, blank, is_marked, recovered, whole_blocks}
 use Rattle.shop_log.specs.Marks.{Covers, NoneTouched}
 use Rattle.shop_log.specs.declared.log.Log.{Log}
 use Rattle.shop_log.specs.declared.log_file.LogFile.{Ghosts}
@@ -26,9 +26,6 @@ module _ {F : Type 0} {G : Ghosts F} (l : Log F G) (start now : Image) (s : Stan
   pub based : 0 < first_commit (block_at s.bytes) l.end
   based = (l.rest s.is_open).based s.bytes s.held
 
-  pub has_base : 0 < base_end s.bytes
-  has_base = omega (arith, base_end_is s.bytes l.end is_log, based)
-
 module _ {F T E : Type 0} {G : Ghosts F} (l : Log F G) (new : F) (result : Result T E)
     (brings : (f : List ℕ) → Rests G.history l.file f → 4194304 + 1 ≤ length f
     → BringsBytes G.history l.file new 4194304 (1 ∷ []) f result) where
@@ -41,7 +38,7 @@ module _ {F T E : Type 0} {G : Ghosts F} (l : Log F G) (new : F) (result : Resul
         (λ c mixed.
         subst (λ (x : Image). IsLeft start x x c) s.image
         (subst (λ (b : Image). IsLeft b (recovered s.bytes) (recovered s.bytes) c) s.base
-        (mark_left s.bytes (is_log l start now s).size c mixed (has_base l start now s))))
+        (mark_left s.bytes (is_log l start now s).size c mixed s.based)))
         mark_brought.any_moment
 
     marked_of : (r : Result T E) → OnOk r (Rests G.history new (overwritten s.bytes 4194304 (1 ∷ [])))
@@ -77,7 +74,7 @@ module _ {F : Type 0} {G : Ghosts F} (l : Log F G) (now : Image) (touched : List
       let log = is_log l start before s in
       started G.history l.file (λ c. IsLeft start before now c × (is_marked c ≡ false)) (λ c may.
       subst (λ (x : List ℕ). IsLeft start before now x × (is_marked x ≡ false)) (sym ((at_rest l start before s).durable c may)) (
-        record { size = log.size; based = has_base l start before s; base = s.base; image = inl s.image },
+        record { size = log.size; based = s.based; base = s.base; image = inl s.image },
         ap not (eq-eqb (slice_index s.bytes 4194304) 0 (log.zeros 4194304 (omega (arith, log.within)))),
       ))
 
@@ -128,6 +125,8 @@ module _ {F : Type 0} {G : Ghosts F} (l : Log F G) (now : Image) (touched : List
         bytes = a.bytes;
         held = a.rests.held;
         durable = a.rests.durable;
+        size = a.log.size;
+        based = omega (arith, base_end_is a.bytes (l.end + n) a.log, a.based);
         base = a.base (based l start before s) ∙ s.base;
         image = a.image ∙ made start before s covers;
       }
@@ -193,6 +192,8 @@ module _ {F : Type 0} {G : Ghosts F} (old mid new : F) (image : Image) (touched 
         bytes = a.bytes;
         held = ap G.history.held is ∙ a.rests.held;
         durable = subst (λ (x : F). Only a.bytes (G.history.may_leave x)) (sym is) a.rests.durable;
+        size = a.log.size;
+        based = omega (arith, base_end_is a.bytes (0 + n) a.log, a.based);
         base = a.first refl ∙ all_of_it;
         image = a.image ∙ all_of_it;
       }

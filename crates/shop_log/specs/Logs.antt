@@ -1,8 +1,8 @@
 -- An open log, and the image that it stands for. Our own.
-use Rattle.std.specs.Prelude.{ℕ, ◌≡◌, List, Some, true}
+use Rattle.std.specs.Prelude.{ℕ, ◌≡◌, ◌<◌, List, Some, length, true}
 use Rattle.d64_image.specs.Images.{Image}
 use Rattle.shop_log.specs.Files.{Only}
-use Rattle.shop_log.specs.Recovered.{base_of, recovered}
+use Rattle.shop_log.specs.Recovered.{base_end, base_of, recovered}
 use Rattle.shop_log.specs.declared.log.Log.{Log}
 use Rattle.shop_log.specs.declared.log_file.LogFile.{Ghosts}
 
@@ -25,5 +25,7 @@ module _ {F : Type 0} {G : Ghosts F} where
     pub bytes : List ℕ
     pub held : G.history.held l.file ≡ Some bytes
     pub durable : Only bytes (G.history.may_leave l.file)
+    pub size : length bytes ≡ 4198400
+    pub based : 0 < base_end bytes
     pub base : base_of bytes ≡ start
     pub image : recovered bytes ≡ now
