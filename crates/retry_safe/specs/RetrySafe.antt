@@ -19,7 +19,7 @@ use Rattle.request_cards.specs.declared.reply.Reply.{Reply}
 use Rattle.retry_safe.specs.Left.{IsOfShop, IsReceived}
 use Rattle.retry_safe.specs.Turns.{Answered, CountsOnce, EachTurn, IsLastOfTill, Turn, asks_in, counted_in}
 
--- an open session with what a till was told last, or why there is none, with the disk
+-- an open session with the last reply to a till, or why there is none, with the disk
 abbrev pub Reopened : Type 0 → Type 0
 Reopened D = Result (View D × Reply) (PlayFault × D)
 
@@ -27,7 +27,7 @@ Reopened D = Result (View D × Reply) (PlayFault × D)
 abbrev pub left_of : {D : Type 0} → Reopened D → D
 left_of result = disk_of (λ x. x.0.disk) result
 
--- where the disk was opened and the till was answered, this holds of the device and the answer
+-- if the disk was opened and the till was answered, this holds of the device and the answer
 abbrev pub IfAnswered : {D : Type 0} → Reopened D → (D → Reply → Type 0) → Type 0
 IfAnswered (Ok x) P = ¬ (IsMedia x.1) → P x.0.disk x.1
 IfAnswered (Err e) P = Unit {0}
@@ -42,27 +42,27 @@ abbrev pub IsAnswered : {D : Type 0} → Reopened D → Type 0
 IsAnswered (Ok x) = ¬ (IsMedia x.1)
 IsAnswered (Err e) = e.0 ≡ faults.NoMemory
 
--- Events were played on the disk of a shop s until power went for good, after so many writes; and power went in openings
--- behind. Then the disk was opened, and a till sent a message again. `h` is the history of the caller's own device.
+-- Events were played on the disk of a shop s until power went for good, after so many writes. After that power went in
+-- openings. Then the disk was opened, and a till sent a message again. `h` is the history of the caller's own device.
 pub record RetrySafe {D : Type 0} (h : History D) (s : Shop) (events : List Message) (power : ℕ) (again : List ℕ)
     (disk : D) (old new : List Reply) (result : Reopened D) : Type 0 where
-  -- Whatever the events: these were received, a beginning of them, and no other counts.
+  -- Whatever the events: these were received, a prefix of them, and no other counts.
   pub turns : List Turn
   pub received : IsReceived events turns
   pub told : new ≡ old ++ map (λ t. t.reply) turns
-  -- All were received, where power is enough for them.
+  -- All were received, if power is enough for them.
   pub all : AreUncut events → most_of_run (length events) < power → NeverFailed h disk (left_of result)
       → IfAnswered result (λ _ _. map (λ t. t.message) turns ≡ events)
-  -- Each that was answered counts, by the answer over those before it.
+  -- Each that was answered counts, with the answer over those before it.
   pub answered : EachTurn (Answered s) [] turns
   -- Any other counts once or not at all.
   pub counts : EachTurn (CountsOnce s) [] turns
-  -- The next opening succeeds, and the till is answered, where the device doesn't fail.
+  -- The next opening succeeds, and the till is answered, if the device doesn't fail.
   pub opens : NeverFailed h disk (left_of result) → IsAnswered result
   -- The cards are those of applying each new request once, in the order counted.
   pub cards : IfAnswered result (λ d _. IsSettled (h.image d)
       (with_state s (plain (start_of s) (counted_in turns ++ asks_in again))))
-  -- A message that counted, repeated before its till's next one, hears the answer that is kept of it.
+  -- A message that counted, repeated before its till's next one, gets the answer that is kept of it.
   pub repeat : (before : List Ask) → IsLastOfTill again before turns
       → IfAnswered result (λ _ r. r ≡ reply (start_of s) before (request_of again))
   -- Every block has one owner, and the map agrees.

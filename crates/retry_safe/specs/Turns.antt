@@ -1,4 +1,4 @@
--- The messages that a run received, each with what it counted and what was told. All of it is our own.
+-- The messages that a run received, each with what it counted and its reply. All of it is our own.
 use Rattle.std.specs.Prelude.{◌≡◌, ◌≢◌, ℕ, Bool, List, [], ◌∷◌, ◌++◌, Some, flat_map, option_to_list}
 use Rattle.std.specs.List.{AllByRecursion}
 use Rattle.request_cards.specs.declared.reply.Reply.{Reply}
@@ -18,7 +18,7 @@ pub record Turn : Type 0 where
   pub failed : Bool
   -- what it counts: its request once, or nothing
   pub counted : List Ask
-  -- what was told
+  -- its reply
   pub reply : Reply
 
 -- the request that a message is, if it is one
@@ -29,7 +29,7 @@ asks_in bytes = option_to_list (request_of bytes)
 abbrev pub counted_in : List Turn → List Ask
 counted_in turns = flat_map (λ t. t.counted) turns
 
--- P holds of each turn, beside the requests counted before it
+-- P holds of each turn and the requests counted before it
 abbrev pub EachTurn : (List Ask → Turn → Type 0) → List Ask → List Turn → Type 0
 EachTurn P before [] = Unit {0}
 EachTurn P before (t ∷ ts) = P before t × EachTurn P (before ++ t.counted) ts
@@ -43,9 +43,9 @@ abbrev pub Answered : Shop → List Ask → Turn → Type 0
 Answered s before t = IsAnswer t.reply
     → (t.counted ≡ asks_in t.message.bytes) × (t.reply ≡ reply (start_of s) before (request_of t.message.bytes))
 
--- What any message counts (`Counts` of host_session has the cases). Where power went in it, it counts nothing if it went
--- before the first write, and its request if later, but a first set may count or not up to write 3619; and where power
--- went for good, or the device failed, a message may count or not.
+-- What any message counts (`Counts` of host_session has the cases). If power went in it before its first write, it counts
+-- nothing; if later, its request, except that a first set may count or not up to write 3619. If power went for good, or
+-- the device failed, a message may count or not.
 abbrev pub CountsOnce : Shop → List Ask → Turn → Type 0
 CountsOnce s before t = MayCount s.top (plain (start_of s) before) (request_of t.message.bytes) t.message.cut_after
     t.failed t.counted
@@ -54,7 +54,7 @@ CountsOnce s before t = MayCount s.top (plain (start_of s) before) (request_of t
 abbrev pub NoneOfTill : Ask → List Ask → Type 0
 NoneOfTill a asks = AllByRecursion (λ b. b.till ≢ a.till) asks
 
--- This message counted its request behind these, and behind it no request of its till counted.
+-- This message counted its request after these, and after it no request of its till counted.
 pub record IsLastOfTill (bytes : List ℕ) (before : List Ask) (turns : List Turn) : Type 0 where
   pub first : List Turn
   pub turn : Turn
