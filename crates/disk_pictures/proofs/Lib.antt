@@ -25,3 +25,5 @@ pub mod Sides
 pub mod Sound
 pub mod SoundPrinted
 pub mod Told
+pub mod Trimmed
+pub mod Viewed

@@ -1,8 +1,9 @@
 -- What is told of a disk that isn't drawn, and its exit status. Our own.
-use Rattle.std.specs.Prelude.{◌≡◌, ◌≢◌, ℕ, ◌++◌, List, codes, length}
+use Rattle.std.specs.Prelude.{◌≡◌, ◌≢◌, ℕ, ◌++◌, List, None, Option, Some, codes, length}
 use Rattle.d64_image.specs.Images.{Image}
 use Rattle.disk_layout.specs.Fault.{HoldsOfDirectory, nowhere}
 use Rattle.disk_layout.specs.Texts.{fault_text}
+use Rattle.disk_layout.specs.declared.faults.Fault.{Fault}
 use Rattle.disk_pictures.specs.declared.faults.PictureFault.{PictureFault}
 use Rattle.disk_pictures.specs.declared.faults.PictureFault.TheVariants as faults
 
@@ -36,3 +37,8 @@ IsMemoryFault fault = fault ≡ faults.NoMemory
 abbrev pub IsDrawFault : Image → PictureFault → Type 0
 IsDrawFault img (faults.Layout fault) = HoldsOfDirectory nowhere img fault
 IsDrawFault img fault = IsMemoryFault fault
+
+-- what the directory has wrong, where that is why nothing is drawn
+abbrev pub layout_fault_of : PictureFault → Option Fault
+layout_fault_of (faults.Layout fault) = Some fault
+layout_fault_of _ = None

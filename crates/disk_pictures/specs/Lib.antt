@@ -16,3 +16,5 @@ pub mod Sharing
 pub mod Sheets
 pub mod Texts
 pub mod Tiles
+pub mod Trims
+pub mod Views

@@ -2,10 +2,12 @@
 #![tactic(auto)]
 
 mod arcs;
+mod byte_lines;
 mod drawing;
 mod drawn_file;
 mod faults;
 mod files;
+mod free_printing;
 mod html;
 mod laws;
 mod loading;
@@ -16,21 +18,26 @@ mod others;
 mod output;
 mod owners;
 mod page;
+mod past_tracks;
 mod petscii;
 mod picture_printing;
 mod poster;
 mod poster_printing;
 mod reading;
+mod reading_errors;
+mod sector_printing;
 mod sentences;
 mod sharing;
 mod sheet_printing;
 mod signs;
 mod texts;
 mod tiles;
+mod trimming;
 mod verdicts;
 mod white_lines;
 
 pub use faults::PictureFault;
+pub use free_printing::free_image;
 pub use laws::{
     marks_tell_entries_apart, names_bring_no_markup, pages_have_683_sectors,
     sectors_are_drawn_once, sound_disks_are_drawn_as_laid_out,
@@ -38,4 +45,6 @@ pub use laws::{
 pub use map_printing::map_image;
 pub use picture_printing::picture_image;
 pub use poster_printing::poster_image;
+pub use sector_printing::sector_image;
 pub use sheet_printing::{MOST_TILES, sheet_begin, sheet_finish, sheet_refusal, sheet_tile};
+pub use trimming::trim_image;

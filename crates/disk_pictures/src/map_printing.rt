@@ -29,7 +29,7 @@ use std::io::Write;
 const LETTERS: usize = 26;
 
 /// Whether there are more entries than letters.
-fn is_wide(drawing: &Drawing) -> bool
+pub(crate) fn is_wide(drawing: &Drawing) -> bool
     ensures { result ≡ wide_of (drawn_in drawing.now) }
 {
     drawing.files.as_slice().len() > LETTERS
@@ -52,10 +52,13 @@ impl Display for RecordsText<'_> {
 
 /// The line of an entry.
 #[derive(Clone, Copy)]
-struct EntryLine<'a> {
-    wide: bool,
-    number: usize,
-    file: &'a DrawnFile,
+pub(crate) struct EntryLine<'a> {
+    /// Whether there are more than 26 entries.
+    pub(crate) wide: bool,
+    /// The entry's number, from 0.
+    pub(crate) number: usize,
+    /// What is drawn of it.
+    pub(crate) file: &'a DrawnFile,
 }
 
 impl Display for EntryLine<'_> {

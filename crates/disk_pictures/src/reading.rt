@@ -1,11 +1,12 @@
 //! A disk read as far as it is drawn.
-ghost use Rattle.std.specs.Prelude.{◌≡◌, ◌≤◌, IfErr, IfOk, length, map};
+ghost use Rattle.std.specs.Prelude.{◌≡◌, ◌≤◌, IfErr, IfOk, MatchResult, length, map};
 ghost use Rattle.d64_image.specs.Images.{sector};
 ghost use Rattle.d64_image.specs.Memory.{disk_image};
 ghost use Rattle.disk_layout.specs.Directory.{map_place as map_at};
+ghost use Rattle.disk_layout.specs.Fault.{HoldsOfDirectory, nowhere};
 ghost use Rattle.disk_pictures.specs.Drawings.{AreDrawn, IsDrawn, file_in};
 ghost use Rattle.disk_pictures.specs.Held.{drawn_in};
-ghost use Rattle.disk_pictures.specs.Faults.{IsDrawFault, IsMemoryFault};
+ghost use Rattle.disk_pictures.specs.Faults.{IsDrawFault, IsMemoryFault, layout_fault_of};
 
 use crate::drawing::Drawing;
 use crate::drawn_file::DrawnFile;
@@ -13,11 +14,11 @@ use crate::faults::PictureFault;
 use crate::files::{Places, draw_file, list_of, walk};
 use arrayvec::ArrayVec;
 use d64_image::{MemDisk, Sectors};
-use disk_layout::{Slot, directory_start, map_place, read_directory};
+use disk_layout::{Fault, Slot, directory_start, map_place, read_directory};
 use std::alloc::Global;
 
 /// The bytes of 18/0. A disk in memory gives them always.
-fn read_map(disk: &mut MemDisk) -> [u8; 256]
+pub(crate) fn read_map(disk: &mut MemDisk) -> [u8; 256]
     ensures bytes { result ≡ sector (disk_image disk.old) map_at }
     ensures same { disk_image disk.new ≡ disk_image disk.old }
 {
@@ -67,4 +68,34 @@ pub(crate) fn draw(alloc: Global, disk: &mut MemDisk) -> Result<Drawing, Picture
     let directory = list_of(alloc, places.as_slice())?;
     let files = draw_files(alloc, disk, slots.as_slice(), &mut places)?;
     Ok(Drawing::new(map, directory, files))
+}
+
+/// What the directory has wrong, where that is why nothing is drawn.
+fn layout_fault(why: PictureFault) -> Option<Fault>
+    ensures { result ≡ layout_fault_of why }
+{
+    match why {
+        PictureFault::Layout(fault) => Some(fault),
+        _ => None,
+    }
+}
+
+/// What is drawn of the disk, or why its directory can't be read. `NoMemory`.
+pub(crate) fn draw_or_fault(
+    alloc: Global,
+    disk: &mut MemDisk,
+) -> Result<Result<Drawing, Fault>, PictureFault>
+    ensures ok { IfOk result (λ drawn. MatchResult drawn
+        (λ drawing. IsDrawn (disk_image disk.old) (drawn_in drawing)
+        × (drawing.map ≡ sector (disk_image disk.old) map_at))
+        (HoldsOfDirectory nowhere (disk_image disk.old))) }
+    ensures err { IfErr result IsMemoryFault }
+{
+    match draw(alloc, disk) {
+        Ok(drawing) => Ok(Ok(drawing)),
+        Err(why) => match layout_fault(why) {
+            Some(fault) => Ok(Err(fault)),
+            None => Err(why),
+        },
+    }
 }

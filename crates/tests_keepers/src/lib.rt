@@ -31,3 +31,5 @@ mod returning_rows;
 mod storing_rows;
 #[cfg(test)]
 mod text_rows;
+#[cfg(test)]
+mod view_rows;

@@ -1,0 +1,197 @@
+//! What is printed of a disk that isn't judged, and of tracks 1 to 35 of images of other sizes: the blank disk for two
+//! tills with bytes changed. Texts are compared by length and Adler-32 with those of a plain program (tests/views.py).
+use crate::comparing::same_at;
+use crate::disks::{Change, changed};
+use crate::outputs::Full;
+use crate::picture_rows::adler;
+use d64_image::Place;
+use disk_pictures::{PictureFault, free_image, sector_image, trim_image};
+use std::io::Write;
+use std::process::Abort;
+
+/// A disk, a sector of it, and the length and the Adler-32 of what is printed of that.
+type Row = (&'static [Change], (u8, u8), (usize, u32));
+
+/// A block of REQUESTS; a side sector; the map; the directory; a free sector; one that is taken and of no file; a block
+/// of a disk whose directory leaves track 18, and one whose link leaves the disk; and a byte of each kind.
+const SECTORS: [Row; 9] = [
+    (&[], (17, 2), (1188, 263966860)),
+    (&[], (17, 1), (1180, 1403898494)),
+    (&[], (18, 0), (1223, 1652966615)),
+    (&[], (18, 1), (1171, 4092060722)),
+    (&[], (1, 0), (1148, 1161741013)),
+    (&[(18, 0, 4, &[20, 0xFE])], (1, 0), (1149, 164086566)),
+    (&[(18, 1, 0, &[19, 0])], (17, 2), (1171, 1552600226)),
+    (&[(17, 2, 0, &[40, 7])], (17, 2), (1197, 1892602246)),
+    (&[(1, 0, 0, KINDS)], (1, 0), (1181, 4203011754)),
+];
+
+/// A byte of each kind, from both ends of the kind.
+const KINDS: &[u8] = b"\x1f ?@Z[\\]^_`\x7f\x80\x9f\xa0\xbf\xc0\xdf\xe0\xfe\xff";
+
+/// What is printed of a block of REQUESTS below the line of its first bytes, by hand.
+const BLOCK_END: &str = "f0  00 00 00 00 00 00 00 00 00 00 00 00 00 00 00 00  ................\n\
+OWNER BLOCK b 2 \"REQUESTS\" REL LENGTH 127 RECORDS 2\nLINK END 255\n";
+
+/// Error bytes that aren't 1: an image, with what it has behind its tracks; their indices and numbers; the link of 17/2;
+/// and what is reported.
+type Trim = (usize, &'static [(usize, u8)], [u8; 2], &'static str);
+
+/// All sectors read; two that weren't; a file that goes on on track 36; both on 40 tracks, where errors past track 35
+/// aren't told; and bytes that the layout doesn't have.
+const TRIMS: [Trim; 6] = [
+    (0, &[], [0, 255], ""),
+    (683, &[], [0, 255], ""),
+    (
+        683,
+        &[(340, 5), (0, 2)],
+        [0, 255],
+        "ERROR 20 1/0\nERROR 23 17/4\n",
+    ),
+    (21760, &[], [36, 0], "BEYOND 17/2 \"REQUESTS\"\n"),
+    (
+        22528,
+        &[(682, 11), (683, 5)],
+        [40, 16],
+        "ERROR 29 35/16\nBEYOND 17/2 \"REQUESTS\"\n",
+    ),
+    (
+        683,
+        &[(357, 0), (358, 15)],
+        [41, 0],
+        "ERROR BYTE 0 18/0\nERROR 74 18/1\n",
+    ),
+];
+
+/// Sees that these bytes were printed.
+fn is_printed(rt: &impl Abort, out: &[u8], want: (usize, u32)) {
+    same_at(rt, (out.len(), adler(out)), want, want);
+}
+
+#[test]
+fn sectors_are_printed(rt: HostRuntime) {
+    for &(changes, (track, sector), want) in &SECTORS {
+        let disk = changed(&rt, changes);
+        let place = Place::new(track, sector).unwrap_or_default();
+        let mut out = Vec::new(rt.alloc());
+        let ended = sector_image(rt.alloc(), disk.bytes(), place, &mut out);
+        same_at(&rt, ended, Ok(()), (track, sector));
+        is_printed(&rt, out.as_slice(), want);
+    }
+}
+
+#[test]
+fn a_block_is_printed_so(rt: HostRuntime) {
+    let disk = changed(&rt, &[]);
+    let place = Place::new(17, 2).unwrap_or_default();
+    let mut out = Vec::new(rt.alloc());
+    let ended = sector_image(rt.alloc(), disk.bytes(), place, &mut out);
+    same_at(&rt, ended, Ok(()), "the block");
+    let end = out.as_slice().len().saturating_sub(BLOCK_END.len());
+    same_at(&rt, &out.as_slice()[end..], BLOCK_END.as_bytes(), "its end");
+}
+
+#[test]
+fn free_sectors_are_counted(rt: HostRuntime) {
+    let mut out = Vec::new(rt.alloc());
+    let disk = changed(&rt, &[]);
+    same_at(
+        &rt,
+        free_image(rt.alloc(), disk.bytes(), &mut out),
+        Ok(()),
+        "blank",
+    );
+    is_printed(&rt, out.as_slice(), (602, 1621198618));
+    out.clear();
+    // a count of 255 is printed as it stands there
+    let disk = changed(&rt, &[(18, 0, 4, &[20, 0xFE]), (18, 0, 72, &[255])]);
+    same_at(
+        &rt,
+        free_image(rt.alloc(), disk.bytes(), &mut out),
+        Ok(()),
+        "wrong",
+    );
+    is_printed(&rt, out.as_slice(), (603, 3750922069));
+}
+
+/// Sees that nothing is printed of this, and why.
+fn is_refused(rt: &(impl Abort + AllocGlobal), image: &[u8], why: PictureFault) {
+    let mut out = Vec::new(rt.alloc());
+    let mut err = Vec::new(rt.alloc());
+    let place = Place::default();
+    same_at(
+        rt,
+        free_image(rt.alloc(), image, &mut out),
+        Err(why),
+        "free",
+    );
+    same_at(
+        rt,
+        sector_image(rt.alloc(), image, place, &mut out),
+        Err(why),
+        "sector",
+    );
+    same_at(
+        rt,
+        trim_image(rt.alloc(), image, &mut out, &mut err),
+        Err(why),
+        "trim",
+    );
+    same_at(rt, (out.len(), err.len()), (0, 0), "printed");
+}
+
+#[test]
+fn other_sizes_are_refused(rt: HostRuntime) {
+    is_refused(&rt, b"", PictureFault::ImageSize);
+    let disk = changed(&rt, &[]);
+    is_refused(&rt, &disk.bytes()[1..], PictureFault::ImageSize);
+}
+
+#[test]
+fn an_output_that_fails_is_told(rt: HostRuntime) {
+    let disk = changed(&rt, &[]);
+    let mut out = Full { room: 100 };
+    let ended = free_image(rt.alloc(), disk.bytes(), &mut out);
+    same_at(&rt, ended, Err(PictureFault::File), "free");
+    let mut out = Full { room: 1187 };
+    let place = Place::new(17, 2).unwrap_or_default();
+    let ended = sector_image(rt.alloc(), disk.bytes(), place, &mut out);
+    same_at(&rt, ended, Err(PictureFault::File), "sector");
+}
+
+/// An image with so many bytes behind its tracks, all 1 but for these.
+fn longer(rt: &(impl Abort + AllocGlobal), row: &Trim) -> Vec<u8> {
+    let &(more, errors, link, _) = row;
+    let disk = changed(rt, &[]);
+    let mut image = Vec::new(rt.alloc());
+    image.extend_from_slice(disk.bytes()).expect(rt, "memory");
+    for _ in 0..more {
+        image.push(1).expect(rt, "memory");
+    }
+    let bytes = image.as_mut_slice();
+    // 17/2 is sector 338; error bytes are the last 683, or of 40 tracks the last 768
+    for (to, byte) in bytes.iter_mut().skip(256 * 338).zip(&link) {
+        *to = *byte;
+    }
+    let first = if more == 22528 { 196608 } else { 174848 };
+    for &(at, error) in errors {
+        for byte in bytes.iter_mut().skip(first + at).take(1) {
+            *byte = error;
+        }
+    }
+    image
+}
+
+#[test]
+fn tracks_1_to_35_are_printed(rt: HostRuntime) {
+    for row in &TRIMS {
+        let image = longer(&rt, row);
+        let mut out = Vec::new(rt.alloc());
+        let mut err = Vec::new(rt.alloc());
+        let ended = trim_image(rt.alloc(), image.as_slice(), &mut out, &mut err);
+        same_at(&rt, ended, Ok(row.3.is_empty()), row.3);
+        same_at(&rt, err.as_slice(), row.3.as_bytes(), row.3);
+        let tracks = &image.as_slice()[..174848];
+        same_at(&rt, out.as_slice() == tracks, true, row.3);
+    }
+}
