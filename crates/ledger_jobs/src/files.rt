@@ -2,7 +2,7 @@
 use crate::image_logs::has_log;
 use crate::refusals::Refusal;
 use log_files::{LogNames, forget_log};
-use shop_commands::{EndedFile, Locks, OpensFile, read_script};
+use shop_commands::{EndedFile, Locks, OpensFile, RunFault, read_script};
 use std::fs::{File, OpenFile, OpenOptions};
 use std::io;
 use std::rt::Files;
@@ -80,7 +80,8 @@ impl<'a, R> AtPath<'a, R> {
         }
     }
 
-    /// Why it isn't written over: a file or a log stood there that is kept, or it wasn't locked.
+    /// Why it isn't written over: a file or a log stood there that is kept, it wasn't locked, or there was no memory to
+    /// open it.
     pub(crate) fn refused(&self) -> Option<Refusal> {
         self.refused
     }
@@ -114,14 +115,13 @@ impl<R: Files + AllocGlobal> AtPath<'_, R> {
     }
 }
 
-impl<F, R> OpensFile for AtPath<'_, R>
+impl<F, R> AtPath<'_, R>
 where
     F: EndedFile + Locks + OpenFile + Drop,
     R: Files<File = F> + AllocGlobal,
 {
-    type File = F;
-
-    fn open(&mut self) -> io::Result<F> {
+    /// The file, opened or made, which this program has alone; no log stands beside it.
+    fn locked(&mut self) -> io::Result<F> {
         let mut file = self.made()?;
         // another thing may stand there by now
         regular(OpenFile::metadata(&file))?;
@@ -131,6 +131,23 @@ where
         // a log that was there would win over the new image
         forget_log(self.rt, &LogNames::of(self.rt, self.rt.alloc(), self.path)?)?;
         Ok(file)
+    }
+}
+
+impl<F, R> OpensFile for AtPath<'_, R>
+where
+    F: EndedFile + Locks + OpenFile + Drop,
+    R: Files<File = F> + AllocGlobal,
+{
+    type File = F;
+
+    fn open(&mut self) -> io::Result<F> {
+        match self.locked() {
+            Err(error) if error.kind() == io::ErrorKind::OutOfMemory => {
+                Err(self.refuse(Refusal::Run(RunFault::NoMemory), error))
+            }
+            opened => opened,
+        }
     }
 
     fn sync_folder(&mut self) -> io::Result<()> {
