@@ -1,5 +1,4 @@
 //! The job that words ask for, told in a line.
-use crate::memory::Errors;
 use crate::runs::texts_of;
 use command_line::command_line;
 use keeper_commands::{ByteForm, RecordForm};
@@ -10,6 +9,7 @@ use shop_commands::{Durability, NameForm};
 use std::alloc::Global;
 use std::cell::RefCell;
 use std::io::Write;
+use test_runtime::Errors;
 
 /// A job: its subcommand, its image, its script or records, and its tills, the length of its records or how many bytes
 /// its name has, where it has them.

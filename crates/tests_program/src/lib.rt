@@ -6,13 +6,15 @@
 #[cfg(test)]
 mod advice_rows;
 #[cfg(test)]
+mod comparing;
+#[cfg(test)]
 mod day_rows;
 #[cfg(test)]
 mod failing_rows;
 #[cfg(test)]
 mod file_rows;
 #[cfg(test)]
-mod given;
+mod hurts;
 #[cfg(test)]
 mod input_rows;
 #[cfg(test)]
@@ -22,15 +24,13 @@ mod jobs;
 #[cfg(test)]
 mod keeper_rows;
 #[cfg(test)]
+mod leavings;
+#[cfg(test)]
 mod lock_rows;
 #[cfg(test)]
 mod log_rows;
 #[cfg(test)]
-mod memory;
-#[cfg(test)]
 mod moved_rows;
-#[cfg(test)]
-mod opened;
 #[cfg(test)]
 mod output_rows;
 #[cfg(test)]
@@ -48,9 +48,11 @@ mod sheet_rows;
 #[cfg(test)]
 mod size_rows;
 #[cfg(test)]
-mod stored;
-#[cfg(test)]
 mod stored_rows;
+#[cfg(test)]
+mod surface_jobs;
+#[cfg(test)]
+mod sync_rows;
 #[cfg(test)]
 mod texts;
 #[cfg(test)]

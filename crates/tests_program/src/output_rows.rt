@@ -1,12 +1,12 @@
 //! Outputs that are full, or don't hand on what they took, and image files that fail while they are written.
 ghost use Rattle.ledger_jobs.specs.Jobs.{IsFit};
 
-use crate::memory::Runtime;
 use crate::scenes::{each, first_scene};
 use ledger_jobs::{Drawing, Effect, Job, Loss, Unowned, do_job, end};
 use shop_commands::NameForm;
 use std::io::{self, Write};
 use std::process::Abort;
+use test_runtime::Runtime;
 
 /// Outputs that are full. The messages are records' lines too: of two of record 1 the last counts.
 const FULL: &[u8] = b"

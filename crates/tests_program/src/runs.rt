@@ -1,9 +1,8 @@
 //! Jobs asked for and run as another program does it: `job` over words, and `run` over the bytes of its files.
-use crate::memory::{Errors, Memory};
-use crate::stored::{Kind, Stored};
 use ledger_cli::{Job, job, run};
 use std::alloc::Global;
 use std::io::{Cursor, Write};
+use test_runtime::{Errors, Kind, Memory, Stored};
 
 /// The words of a command line, with a zero between each two, as texts.
 pub(crate) fn texts_of<'a>(alloc: Global, words: &'a [u8]) -> Vec<&'a str> {

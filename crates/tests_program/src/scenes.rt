@@ -11,7 +11,7 @@
 //! - `log`: a file with this text where the image's log stands
 //! - `shop`: the shop; `keep`: the image at `a.d64` is the shop from here on, also for the rows below; `aside`: it is put
 //!   aside
-//! - `hurt`: a change of the image (`HURTS`); `resize`: its bytes, by cutting it or by zeros
+//! - `hurt`: a change of the image (`hurts`); `resize`: its bytes, by cutting it or by zeros
 //!
 //! What fails, in the next run alone:
 //! - `sync`, `folder-sync`, `log-sync`: the call of this number that brings the image, the folder or the log to the disk
@@ -35,77 +35,32 @@
 //! - `synced`: one sync before the first write, and one behind each
 //! - `logged`: a log stands beside the image, which no line needs to say if there is none; `unnamed`: one in the making
 //! - `unlocked`: the image was read without a lock, as a script
+use crate::hurts::hurt;
 use crate::jobs::asked;
-use crate::memory::{Errors, Memory, Runtime};
+use crate::leavings::{is_told, sees};
 use crate::runs::ran;
-use crate::stored::{Kind, Others, Stored};
-use crate::texts::{cut, number_of, text_in, text_of, took, words_of};
+use crate::texts::{cut, number_of, text_in, text_of, words_of};
 use command_line::{Audience, program};
 use std::cell::Cell;
 use std::process::Abort;
+use test_runtime::{Errors, Kind, Memory, Others, Runtime, Stored};
 
 /// A row as it is gone through.
 #[derive(Drop)]
 pub(crate) struct Scene {
     pub(crate) memory: Memory,
     /// The image of the shop, and what stood at `a.d64` and at `s.txt` before the run.
-    shop: Stored,
-    image: Stored,
-    script: Stored,
+    pub(crate) shop: Stored,
+    pub(crate) image: Stored,
+    pub(crate) script: Stored,
     /// An image that was put aside.
-    aside: Stored,
+    pub(crate) aside: Stored,
     /// Whether a line spoke of a log that stands there, and of one in the making.
-    logged: Cell<bool>,
-    unnamed: Cell<bool>,
+    pub(crate) logged: Cell<bool>,
+    pub(crate) unnamed: Cell<bool>,
     /// Whether a line spoke of an image that was written, and whether all that the last run left is known to be told.
-    written: Cell<bool>,
-    told: Cell<bool>,
-}
-
-/// Changes of an image: a name, where bytes stand, and these bytes.
-const HURTS: [(&[u8], u64, &[u8]); 16] = [
-    // 17/0 links to itself.
-    (b"LOOP", 86016, b"\x11\x00"),
-    // Track 1 has a free sector too few in the map at 18/0.
-    (b"WRONG MAP", 91396, b"\x14"),
-    // 2/5, which nobody owns, is taken in the map.
-    (b"UNOWNED", 91400, b"\x14\xDF"),
-    // GEOS wrote its signature into 18/0; and the format byte is another drive's.
-    (b"GEOS", 91565, b"GEOS format V1.0"),
-    (b"FORMAT", 91394, b"B"),
-    // The entry of STOCK in 18/1 has a block too many.
-    (b"COUNT", 91678, b"\x03"),
-    // 18/1 links to a sector outside track 18, so that the directory's sectors are no chain on it.
-    (b"NO DIRECTORY", 91648, b"\x13\x00"),
-    // 18/1 links to itself.
-    (b"DIRECTORY LOOP", 91648, b"\x12\x01"),
-    // A third entry, over the block of REQUESTS.
-    (b"OWNED TWICE", 91714, b"\x82\x11\x02X"),
-    (b"STICK FOR STOCK", 91653, b"STICK"),
-    (b"RESTS FOR REQUESTS", 91685, b"RESTS"),
-    (b"CARD 1", 86018, b"K,00002,000000001\r"),
-    (b"CARD 3", 86054, b"K,00004,000000001\r"),
-    (b"REQUEST CARD 2", 86657, b"hello"),
-    (
-        b"INTENT 1",
-        86530,
-        b"I,000000001,S,00001,000000005,0,000000005\r",
-    ),
-    (
-        b"INTENT 2",
-        86657,
-        b"I,000000001,S,00002,000000005,0,000000005\r",
-    ),
-];
-
-/// Changes an image. Whether there is such a change.
-fn hurt(image: &Stored, name: &[u8]) -> bool {
-    for (known, at, bytes) in &HURTS {
-        if name == *known {
-            return image.put_over(*bytes, *at);
-        }
-    }
-    false
+    pub(crate) written: Cell<bool>,
+    pub(crate) told: Cell<bool>,
 }
 
 /// Puts such a thing in the place of the image or the script. Whether the words say so.
@@ -166,85 +121,6 @@ fn fails(memory: &Memory, word: &[u8], text: &[u8]) -> bool {
         _ => return false,
     }
     true
-}
-
-/// How often something was done with the image, its folder or the output, or how many bytes stand there.
-fn counted(memory: &Memory, word: &[u8]) -> Option<usize> {
-    match word {
-        b"size" => Some(memory.image.size()),
-        b"writes" => Some(memory.image.writes.get()),
-        b"syncs" => Some(memory.image.syncs.get()),
-        b"folder-syncs" => Some(memory.folder.syncs.get()),
-        b"reads-behind" => Some(memory.image.syncs_before.get()),
-        b"pieces" => Some(memory.prints.get()),
-        _ => None,
-    }
-}
-
-/// Whether each sector was brought to the disk before the next was written.
-fn is_synced(image: &Stored) -> bool {
-    let counted = image.writes.get().saturating_add(1);
-    image.syncs.get() == counted && image.most_waiting.get() <= 1
-}
-
-/// Whether the line says what the program left of the image, which no line needs to say if it wasn't written.
-fn leaves(scene: &Scene, word: &[u8], text: &[u8]) -> bool {
-    let image = &scene.memory.image;
-    let holds = match word {
-        b"written" => !image.is_as(&scene.image),
-        b"rewritten" => image.is_as(&scene.image),
-        b"leaves" if text == b"the one aside".as_slice() => image.is_as(&scene.aside),
-        b"leaves" => image.is_as(&scene.shop) == (text == b"the shop".as_slice()),
-        b"at-most" => image.size() <= number_of(text),
-        _ => false,
-    };
-    if holds {
-        scene.written.set(true);
-    }
-    holds
-}
-
-/// Whether the line says what the program left.
-fn sees(scene: &Scene, word: &[u8], text: &[u8]) -> bool {
-    let memory = &scene.memory;
-    match word {
-        b"prints" => took(&memory.out, text),
-        b"tells" => took(&memory.err, text),
-        b"ends" => memory.status.replace(0) as usize == number_of(text),
-        b"synced" => is_synced(&memory.image),
-        b"logged" => {
-            scene.logged.set(true);
-            memory.log().kind.get() != Kind::Missing
-        }
-        b"unnamed" => {
-            scene.unnamed.set(true);
-            memory.making().kind.get() != Kind::Missing
-        }
-        b"unlocked" => memory.image.unlocked.replace(false),
-        _ => match counted(memory, word) {
-            Some(number) => number == number_of(text),
-            None => leaves(scene, word, text),
-        },
-    }
-}
-
-/// Whether nothing is left of the last run that no line spoke of.
-fn is_told(scene: &Scene) -> bool {
-    if scene.told.replace(true) {
-        return true;
-    }
-    let memory = &scene.memory;
-    took(&memory.out, b"")
-        && took(&memory.err, b"")
-        && memory.status.get() == 0
-        && !memory.image.unlocked.get()
-        && !memory.reopened.get()
-        && !memory.meddled.get()
-        && memory.script.is_as(&scene.script)
-        && (scene.unnamed.get() || memory.making().kind.get() == Kind::Missing)
-        && (scene.logged.get() || memory.log().kind.get() == Kind::Missing)
-        && (scene.written.get()
-            || memory.image.writes.get() == 0 && memory.image.is_as(&scene.image))
 }
 
 /// Notes what stands there before a run. Whether there was memory for it.

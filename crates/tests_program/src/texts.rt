@@ -4,8 +4,12 @@ use std::cell::RefCell;
 
 /// What stands before such a byte, and what behind it.
 pub(crate) fn cut(text: &[u8], at: u8) -> Option<(&[u8], &[u8])> {
-    let place = text.iter().position(|byte| *byte == at)?;
-    Some((text.get(..place)?, text.get(place.checked_add(1)?..)?))
+    for (place, byte) in text.iter().enumerate() {
+        if *byte == at {
+            return Some((text.get(..place)?, text.get(place.checked_add(1)?..)?));
+        }
+    }
+    None
 }
 
 /// The number whose digits stand in a text.

@@ -17,11 +17,6 @@ pub(crate) fn same<T: PartialEq + Debug + Drop>(rt: &impl Abort, got: T, want: T
     same_at(rt, got, want, "");
 }
 
-/// Sees that it holds.
-pub(crate) fn holds<L: Debug + Drop>(rt: &impl Abort, it: bool, row: L) {
-    same_at(rt, it, true, row);
-}
-
 /// The byte at this place, or 0 if there is none.
 pub(crate) fn byte_at(bytes: &[u8], at: usize) -> u8 {
     match bytes.get(at) {

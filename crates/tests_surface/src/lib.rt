@@ -14,8 +14,6 @@ mod disks;
 #[cfg(test)]
 mod drives;
 #[cfg(test)]
-mod jobs;
-#[cfg(test)]
 mod layouts;
 #[cfg(test)]
 mod relative_files;

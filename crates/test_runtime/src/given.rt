@@ -4,7 +4,7 @@ use std::io::{self, BufRead, ErrorKind, Read};
 
 /// An input that gives these bytes, and then ends or fails.
 #[derive(Drop)]
-pub(crate) struct Given<'a> {
+pub struct Given<'a> {
     left: &'a [u8],
     fails: bool,
 }

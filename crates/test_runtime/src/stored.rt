@@ -9,7 +9,7 @@ use std::io::{self, Cursor, ErrorKind, Read, Write};
 
 /// What stands at a path.
 #[derive(Clone, Copy, PartialEq, Eq)]
-pub(crate) enum Kind {
+pub enum Kind {
     /// Nothing: who opens it may make a file.
     Missing,
     /// A file.
@@ -24,41 +24,41 @@ pub(crate) enum Kind {
 
 /// A place for a file.
 #[derive(Drop)]
-pub(crate) struct Stored {
-    pub(crate) kind: Cell<Kind>,
-    pub(crate) bytes: RefCell<Cursor<Vec<u8>>>,
+pub struct Stored {
+    pub kind: Cell<Kind>,
+    pub bytes: RefCell<Cursor<Vec<u8>>>,
     /// How many bytes a stream gave.
     pub(crate) taken: Cell<u64>,
     /// How many bytes are taken of what is written, until it fails.
-    pub(crate) room: Cell<usize>,
+    pub room: Cell<usize>,
     /// Whether another program has it alone, or reads it.
-    pub(crate) others: Cell<Others>,
+    pub others: Cell<Others>,
     /// How it is locked by whoever opened it.
     pub(crate) lock: Cell<Lock>,
     /// Whether reading it fails.
-    pub(crate) unreadable: Cell<bool>,
+    pub unreadable: Cell<bool>,
     /// How often its name was looked at, and the look at which it leads nowhere from then on, and at which the file is
     /// found cut.
     pub(crate) looks: Cell<usize>,
-    pub(crate) gone_at: Cell<usize>,
-    pub(crate) cut_at: Cell<usize>,
+    pub gone_at: Cell<usize>,
+    pub cut_at: Cell<usize>,
     /// Whether a log stands beside it, which is landed while others may read it.
     pub(crate) is_logged: Cell<bool>,
     /// Whether it was read or changed without a lock that allows it.
-    pub(crate) unlocked: Cell<bool>,
+    pub unlocked: Cell<bool>,
     /// How often it was brought to the disk, also before it was read first, and the number of the call that fails.
-    pub(crate) syncs: Cell<usize>,
-    pub(crate) syncs_before: Cell<usize>,
-    pub(crate) bad_sync: Cell<usize>,
+    pub syncs: Cell<usize>,
+    pub syncs_before: Cell<usize>,
+    pub bad_sync: Cell<usize>,
     /// How many writes there were; how many weren't brought to the disk yet, and how many of these there were at most.
-    pub(crate) writes: Cell<usize>,
+    pub writes: Cell<usize>,
     pub(crate) waiting: Cell<usize>,
-    pub(crate) most_waiting: Cell<usize>,
+    pub most_waiting: Cell<usize>,
 }
 
 /// What other programs do with it.
 #[derive(Clone, Copy, PartialEq, Eq)]
-pub(crate) enum Others {
+pub enum Others {
     /// Nothing.
     Away,
     /// They read it.
@@ -86,7 +86,7 @@ pub(crate) fn failed<T>(kind: ErrorKind) -> io::Result<T>
 
 impl Stored {
     /// A place where nothing stands.
-    pub(crate) fn new(alloc: Global) -> Stored {
+    pub fn new(alloc: Global) -> Stored {
         Stored {
             kind: Cell::new(Kind::Missing),
             bytes: RefCell::new(Cursor::new(Vec::new(alloc))),
@@ -110,7 +110,7 @@ impl Stored {
     }
 
     /// Forgets who opened it, and what was done with it.
-    pub(crate) fn forget(&self) {
+    pub fn forget(&self) {
         self.taken.set(0);
         self.lock.set(Lock::None);
         self.looks.set(0);
@@ -123,7 +123,7 @@ impl Stored {
     }
 
     /// Lets nothing fail any more.
-    pub(crate) fn mend(&self) {
+    pub fn mend(&self) {
         self.room.set(usize::MAX);
         self.others.set(Others::Away);
         self.unreadable.set(false);
@@ -161,7 +161,7 @@ impl Stored {
     }
 
     /// Puts such a thing with these bytes there. Whether there was memory for them.
-    pub(crate) fn hold(&self, kind: Kind, bytes: &[u8]) -> bool {
+    pub fn hold(&self, kind: Kind, bytes: &[u8]) -> bool {
         self.kind.set(kind);
         match self.bytes.try_borrow_mut() {
             Ok(mut held) => {
@@ -174,13 +174,13 @@ impl Stored {
     }
 
     /// Puts such a thing in the place of what stands there, with the same bytes. Whether it could be.
-    pub(crate) fn turn(&self, kind: Kind) -> bool {
+    pub fn turn(&self, kind: Kind) -> bool {
         self.kind.set(kind);
         true
     }
 
     /// Puts bytes over those that stand there from a place on. Whether there was memory for them.
-    pub(crate) fn put_over(&self, bytes: &[u8], at: u64) -> bool {
+    pub fn put_over(&self, bytes: &[u8], at: u64) -> bool {
         match self.bytes.try_borrow_mut() {
             Ok(mut held) => {
                 held.set_position(at);
@@ -191,7 +191,7 @@ impl Stored {
     }
 
     /// Whether these bytes stand there, and no others.
-    pub(crate) fn holds(&self, bytes: &[u8]) -> bool {
+    pub fn holds(&self, bytes: &[u8]) -> bool {
         match self.bytes.try_borrow() {
             Ok(held) => held.get_ref().as_slice() == bytes,
             Err(_) => false,
@@ -199,7 +199,7 @@ impl Stored {
     }
 
     /// Puts there what stands at another place. Whether there was memory for it.
-    pub(crate) fn copy(&self, other: &Stored) -> bool {
+    pub fn copy(&self, other: &Stored) -> bool {
         match other.bytes.try_borrow() {
             Ok(held) => self.hold(other.kind.get(), held.get_ref().as_slice()),
             Err(_) => false,
@@ -207,7 +207,7 @@ impl Stored {
     }
 
     /// Whether the same stands at another place.
-    pub(crate) fn is_as(&self, other: &Stored) -> bool {
+    pub fn is_as(&self, other: &Stored) -> bool {
         match other.bytes.try_borrow() {
             Ok(held) => self.kind.get() == other.kind.get()
                 && self.holds(held.get_ref().as_slice()),
@@ -216,7 +216,7 @@ impl Stored {
     }
 
     /// How many bytes stand there.
-    pub(crate) fn size(&self) -> usize {
+    pub fn size(&self) -> usize {
         match self.bytes.try_borrow() {
             Ok(held) => held.get_ref().len(),
             Err(_) => 0,
@@ -248,7 +248,7 @@ impl Stored {
     }
 
     /// Cuts what stands there, or adds zeros to it.
-    pub(crate) fn resize(&self, size: u64) -> io::Result<()> {
+    pub fn resize(&self, size: u64) -> io::Result<()> {
         self.note_change();
         match self.bytes.try_borrow_mut() {
             Ok(mut held) => {

@@ -1,175 +1,22 @@
-//! A runtime in memory: two files, standard input, an output and standard error.
+//! A runtime over what stands in memory.
 use crate::given::Given;
+use crate::memory::{Errors, Memory, add};
 use crate::opened::{Opened, open_stored};
-use crate::stored::{Kind, Stored, failed};
+use crate::stored::failed;
 use std::alloc::{Allocator, Global};
-use std::cell::{Cell, RefCell};
 use std::env::FillError;
 use std::fmt::{Display, Write as _};
 use std::fs::{Metadata, OpenOptions};
 use std::io::{self, BufRead, ErrorKind, Lines, Write};
 use std::rt::{Env, Files};
 
-/// What a program finds, and what it leaves.
-#[derive(Drop)]
-pub(crate) struct Memory {
-    pub(crate) alloc: Global,
-    /// What stands at `a.d64`.
-    pub(crate) image: Stored,
-    /// What stands at `s.txt`.
-    pub(crate) script: Stored,
-    /// The folder of both.
-    pub(crate) folder: Stored,
-    /// Two places for the image's log and for one in the making, and whether the second is the log.
-    pub(crate) first: Stored,
-    pub(crate) second: Stored,
-    pub(crate) is_turned: Cell<bool>,
-    /// Standard input, whether it fails behind its bytes, and whether it was taken: it can be once.
-    pub(crate) input: Stored,
-    pub(crate) fails: Cell<bool>,
-    pub(crate) taken: Cell<bool>,
-    /// Whether it was opened by its name, which waits where it is a pipe whose writer is gone.
-    pub(crate) reopened: Cell<bool>,
-    /// Whether a file that no word names was to be made, changed, renamed or removed.
-    pub(crate) meddled: Cell<bool>,
-    pub(crate) out: RefCell<Vec<u8>>,
-    /// How many bytes the output takes until it fails, and in how many writes it took some.
-    pub(crate) room: Cell<usize>,
-    pub(crate) prints: Cell<usize>,
-    pub(crate) err: RefCell<Vec<u8>>,
-    /// The status that the program ended with.
-    pub(crate) status: Cell<u8>,
-}
-
-impl Memory {
-    /// One where nothing stands, and nothing fails.
-    pub(crate) fn new(alloc: Global) -> Memory {
-        let folder = Stored::new(alloc);
-        folder.kind.set(Kind::Folder);
-        Memory {
-            alloc,
-            image: Stored::new(alloc),
-            script: Stored::new(alloc),
-            folder,
-            first: Stored::new(alloc),
-            second: Stored::new(alloc),
-            is_turned: Cell::new(false),
-            input: Stored::new(alloc),
-            fails: Cell::new(false),
-            taken: Cell::new(false),
-            reopened: Cell::new(false),
-            meddled: Cell::new(false),
-            out: RefCell::new(Vec::new(alloc)),
-            room: Cell::new(usize::MAX),
-            prints: Cell::new(0),
-            err: RefCell::new(Vec::new(alloc)),
-            status: Cell::new(0),
-        }
-    }
-
-    /// What stands at `a.d64-log`.
-    pub(crate) fn log(&self) -> &Stored {
-        if self.is_turned.get() {
-            &self.second
-        } else {
-            &self.first
-        }
-    }
-
-    /// What stands at `a.d64-log.new`.
-    pub(crate) fn making(&self) -> &Stored {
-        if self.is_turned.get() {
-            &self.first
-        } else {
-            &self.second
-        }
-    }
-
-    /// Puts a log with these bytes beside the image, or none. Whether there was memory for it.
-    pub(crate) fn put_log(&self, kind: Kind, bytes: &[u8]) -> bool {
-        self.image.is_logged.set(kind != Kind::Missing);
-        self.log().hold(kind, bytes) && self.making().hold(Kind::Missing, b"")
-    }
-
-    /// Gives the name of the log to the one in the making.
-    fn name_log(&self) -> io::Result<()> {
-        if self.making().kind.get() == Kind::Missing {
-            return failed(ErrorKind::NotFound);
-        }
-        self.log().hold(Kind::Missing, b"");
-        self.is_turned.set(!self.is_turned.get());
-        self.image.is_logged.set(true);
-        Ok(())
-    }
-
-    /// Takes away a name.
-    fn remove(&self, place: &Stored) -> io::Result<()> {
-        if place.kind.get() == Kind::Missing {
-            return failed(ErrorKind::NotFound);
-        }
-        place.hold(Kind::Missing, b"");
-        self.image
-            .is_logged
-            .set(self.log().kind.get() != Kind::Missing);
-        Ok(())
-    }
-
-    /// Forgets what was done with it.
-    pub(crate) fn forget(&self) {
-        self.first.forget();
-        self.second.forget();
-        self.image.forget();
-        self.script.forget();
-        self.folder.forget();
-        self.taken.set(false);
-        self.meddled.set(false);
-        self.prints.set(0);
-    }
-
-    /// Lets nothing fail any more.
-    pub(crate) fn mend(&self) {
-        self.image.mend();
-        self.first.mend();
-        self.second.mend();
-        self.folder.mend();
-        self.fails.set(false);
-        self.room.set(usize::MAX);
-    }
-}
-
-/// Adds bytes to what was written.
-fn add(to: &RefCell<Vec<u8>>, bytes: &[u8]) -> io::Result<()> {
-    match to.try_borrow_mut() {
-        Ok(mut held) => {
-            held.extend_from_slice(bytes)?;
-            Ok(())
-        }
-        Err(_) => failed(ErrorKind::Other),
-    }
-}
-
-/// Standard error.
-#[derive(Drop)]
-pub(crate) struct Errors<'a>(pub(crate) &'a RefCell<Vec<u8>>);
-
-impl Write for Errors<'_> {
-    fn write(&mut self, buf: &[u8]) -> io::Result<usize> {
-        add(self.0, buf)?;
-        Ok(buf.len())
-    }
-
-    fn flush(&mut self) -> io::Result<()> {
-        Ok(())
-    }
-}
-
 /// The runtime over it, with the words of a command line, each but the last ended by a zero, of which the first is the
 /// program's name, and with standard input.
 #[derive(Clone, Copy)]
-pub(crate) struct Runtime<'a> {
-    pub(crate) memory: &'a Memory,
-    pub(crate) words: &'a [u8],
-    pub(crate) input: &'a [u8],
+pub struct Runtime<'a> {
+    pub memory: &'a Memory,
+    pub words: &'a [u8],
+    pub input: &'a [u8],
 }
 
 impl Runtime<'_> {

@@ -8,7 +8,7 @@ use std::os::unix::fs::FileExt;
 
 /// An open file.
 #[derive(Drop)]
-pub(crate) struct Opened<'a> {
+pub struct Opened<'a> {
     stored: &'a Stored,
     at: u64,
     reads: bool,

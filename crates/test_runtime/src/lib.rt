@@ -1,0 +1,15 @@
+//! A runtime in memory for tests: an image with its log, a script, standard input, an output and standard error. It knows
+//! what was done with each, and lets what it is told fail.
+#![tactic(auto)]
+
+mod given;
+mod memory;
+mod opened;
+mod runtime;
+mod stored;
+
+pub use given::Given;
+pub use memory::{Errors, Memory};
+pub use opened::Opened;
+pub use runtime::Runtime;
+pub use stored::{Kind, Others, Stored};

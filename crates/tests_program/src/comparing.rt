@@ -1,0 +1,26 @@
+//! What tests compare. Each comparison is one call, so that a test is proved in little time however many it makes.
+use std::fmt::Debug;
+use std::process::Abort;
+
+/// Sees that both are the same in a row, which it names where they differ.
+pub(crate) fn same_at<T: PartialEq + Debug + Drop, L: Debug + Drop>(
+    rt: &impl Abort,
+    got: T,
+    want: T,
+    row: L,
+) {
+    assert_eq!(rt; got, want, "{row:?}");
+}
+
+/// Sees that both are the same.
+pub(crate) fn same<T: PartialEq + Debug + Drop>(rt: &impl Abort, got: T, want: T) {
+    same_at(rt, got, want, "");
+}
+
+/// The byte at this place, or 0 if there is none.
+pub(crate) fn byte_at(bytes: &[u8], at: usize) -> u8 {
+    match bytes.get(at) {
+        Some(&byte) => byte,
+        None => 0,
+    }
+}

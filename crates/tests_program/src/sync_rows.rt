@@ -1,0 +1,164 @@
+//! Images that are brought to the disk.
+use crate::scenes::each;
+
+/// How plays and shops that are served bring an image to the disk: at the end, or before the first write and behind each.
+/// Where that fails, a play of the same messages gives the answer then.
+const SYNCED: &[u8] = b"
+script 1,1,S,42,120|
+input 1,1,S,42,120|
+$ ledger_cli serve --in-place a.d64
+prints 1,1,DONE,120|
+written
+synced
+
+script 1,1,S,42,120|
+input 1,1,S,42,120|
+sync 1 fails
+$ ledger_cli serve --in-place a.d64
+tells DEVICE|
+ends 3
+syncs 1
+$ ledger_cli play a.d64 s.txt
+prints 1,1,DONE,120|
+written
+
+script 1,1,S,42,120|
+input 1,1,S,42,120|
+sync 3 fails
+$ ledger_cli serve --in-place a.d64
+prints 1,1,MEDIA|
+tells DEVICE|
+ends 3
+written
+syncs 3
+$ ledger_cli play a.d64 s.txt
+prints 1,1,DONE,120|
+written
+
+script 1,1,S,42,120|
+input 1,1,S,42,120|
+$ ledger_cli serve --in-place a.d64 --unsynced
+prints 1,1,DONE,120|
+written
+syncs 1
+
+script 1,1,S,42,120|
+input 1,1,S,42,120|
+$ ledger_cli play a.d64 s.txt
+prints 1,1,DONE,120|
+written
+syncs 1
+
+script 1,1,S,42,120|
+input 1,1,S,42,120|
+sync 1 fails
+$ ledger_cli play a.d64 s.txt
+prints 1,1,DONE,120|
+tells DEVICE|
+ends 3
+written
+syncs 1
+$ ledger_cli play a.d64 s.txt
+prints 1,1,DONE,120|
+
+script @01 x|
+input @01 x|
+$ ledger_cli play a.d64 s.txt
+tells SCRIPT LINE 1|
+ends 1
+syncs 0
+
+script 1,1,S,42,120|
+input 1,1,S,42,120|
+$ ledger_cli play --sync a.d64 s.txt
+prints 1,1,DONE,120|
+written
+synced
+
+script 1,1,S,42,120|
+input 1,1,S,42,120|
+sync 1 fails
+$ ledger_cli play --sync a.d64 s.txt
+tells DEVICE|
+ends 3
+syncs 1
+$ ledger_cli play a.d64 s.txt
+prints 1,1,DONE,120|
+written
+
+script 1,1,S,42,120|
+input 1,1,S,42,120|
+sync 3 fails
+$ ledger_cli play --sync a.d64 s.txt
+prints 1,1,MEDIA|
+tells DEVICE|
+ends 3
+written
+syncs 3
+$ ledger_cli play a.d64 s.txt
+prints 1,1,DONE,120|
+written
+
+script
+input
+$ ledger_cli play --sync a.d64 s.txt
+syncs 1
+";
+
+#[test]
+fn a_play_is_brought_to_the_disk(rt: HostRuntime) {
+    each(&rt, SYNCED);
+}
+
+/// An image is brought to the disk with its folder before that it is made is said, and one that can't be isn't called made.
+const MADE: &[u8] = b"
+no image
+$ ledger_cli format a.d64 --tills 2
+prints FORMATTED|
+written
+syncs 3
+folder-syncs 4
+
+no image
+sync 1 fails
+$ ledger_cli format a.d64 --tills 2
+tells FILE|
+ends 3
+written
+size 91904
+
+no image
+sync 2 fails
+$ ledger_cli format a.d64 --tills 2
+tells FILE|
+ends 3
+written
+
+no image
+sync 3 fails
+$ ledger_cli format a.d64 --tills 2
+tells FILE|
+ends 3
+written
+
+no image
+folder-sync 1 fails
+$ ledger_cli format a.d64 --tills 2
+tells FILE|
+ends 3
+written
+size 0
+
+no image
+folder-sync 2 fails
+$ ledger_cli format a.d64 --tills 2
+tells FILE|
+ends 3
+written
+size 91904
+";
+
+#[test]
+fn a_made_image_is_on_the_disk(rt: HostRuntime) {
+    each(&rt, MADE);
+}
