@@ -6,7 +6,6 @@ use Rattle.d64_image.specs.Images.{Image}
 use Rattle.shop_log.specs.Logs.{StandsFor, log_file}
 use Rattle.shop_log.specs.declared.log.Log.{Log}
 use Rattle.shop_log.specs.declared.log_file.LogFile.{Ghosts}
-use Rattle.shop_log.proofs.Ends.{has_base, is_log}
 use Rattle.log_files.specs.Bringing.{IsAlone, IsBrought, RestsAlone}
 use Rattle.log_files.specs.Folders.{Acts, AllLeft, Brings, Folder, FolderHistory, HasNames, IsMaking, IsNaming, LeavesFolders, Making, being_made, named}
 use Rattle.log_files.specs.Folders.Making.{Fresh, Missing, Older}
@@ -65,8 +64,8 @@ module _ {D : Type 0} (h : FolderHistory D) (old a : D) (shop : Image) (s : Fold
         (names : Acts h b c (named stands.bytes) (IsNaming stands.bytes) naming) where
       gives_shop : (image : Image) → image ≡ shop → LogGives stands.bytes image shop
       gives_shop image is = record {
-        size = (is_log log shop shop stands).size;
-        based = has_base log shop shop stands;
+        size = stands.size;
+        based = stands.based;
         own = inr (is ∙ sym stands.base);
         is = stands.image;
       }

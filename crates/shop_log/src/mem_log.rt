@@ -1,5 +1,5 @@
 //! A log's file in memory.
-ghost use Rattle.std.specs.Prelude.{◌≡◌, ◌∷◌, OnErr, OnOk, false};
+ghost use Rattle.std.specs.Prelude.{◌≡◌, ◌≤◌, ◌∷◌, OnErr, OnOk, false, length};
 ghost use Rattle.shop_log.specs.Files.{overwritten};
 ghost use Rattle.shop_log.specs.MemCalls.{seen_after};
 ghost use Rattle.std.proofs.Props.{props};
@@ -106,12 +106,14 @@ fn note(calls: &mut Vec<MemCall>, call: MemCall) -> io::Result<()>
 
 impl LogFile for MemLog {
     ghost use Rattle.shop_log.specs.Files.{SyncsBytes, WritesBytes};
-    ghost use Rattle.shop_log.specs.Memory.{memory};
+    ghost use Rattle.shop_log.specs.Memory.{mem_bytes, memory};
 
     ghost history = { memory };
 
     fn write_at(&mut self, at: usize, bytes: &[u8]) -> io::Result<()>
-        ensures { WritesBytes memory self.old self.new at bytes.now result }
+        ensures written { WritesBytes memory self.old self.new at bytes.now result }
+        // behind its end nothing is written: no hole is left
+        ensures within { OnOk result (at ≤ length (mem_bytes self.old)) }
     {
         let was_failed = self.failed;
         self.failed = true;
@@ -143,6 +145,7 @@ impl LogFile for MemLog {
 /// Writes bytes over those from that place on, or behind the last one.
 fn overwrite(file: &mut Vec<u8>, at: usize, bytes: &[u8]) -> io::Result<()>
     ensures ok { OnOk result (file.new.items ≡ overwritten file.old.items at bytes.now) }
+    ensures within { OnOk result (at ≤ length file.old.items) }
 {
     let len = file.len();
     if at <= len && bytes.len() <= len - at {
