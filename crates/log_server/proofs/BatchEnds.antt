@@ -53,6 +53,7 @@ module _ {L R T : Type 0} (h : LogHistory L) (i : BatchInput R) (o : LogOutput L
           ∙ way.told_are h i o disk old old_in old_out session kept log input out u new_in texts said b after new_kept now told result x s shop;
       stands = λ stood. way.stands_now h i o disk old old_in old_out session kept log input out u new_in texts said b after new_kept now told result x s shop stood committed;
       safe = λ stood. way.safe_told h i o disk old old_in old_out session kept log input out u new_in texts said b after new_kept now told result x s shop stood committed;
+      files = way.files_now h i o disk old old_in old_out session kept log input out u new_in texts said b after new_kept now told result x s shop;
     }
 
     pub goes_on : ReportsWhole o out told New
@@ -116,6 +117,7 @@ module _ {L R T : Type 0} (h : LogHistory L) (i : BatchInput R) (o : LogOutput L
               let all = (holds_now s shop).safe stood in
               record {
                 any_moment = all.any_moment;
+                files = all.files;
                 told_stays = stay_first h s (lines All) now 0 ((u.turns ++ k.whole) ++ option_to_list k.last) k.rest
                     (subst (λ (ts : List (Reply × L)). StayFrom h s (lines All) 0 ts now)
                     (sym (append_assoc (u.turns ++ k.whole) (option_to_list k.last) k.rest
@@ -125,6 +127,7 @@ module _ {L R T : Type 0} (h : LogHistory L) (i : BatchInput R) (o : LogOutput L
           all = λ e. cc;
           handed = λ e. cc;
           rests = λ s shop. tt;
+          files = λ whole. tt;
           shop = tt;
           end = tt;
           quiet = λ s settled none. (way.quiet_now h i o disk old old_in old_out session kept log input out u new_in texts said b after new_kept now told result x s settled none).0;
@@ -158,6 +161,7 @@ module _ {L R T : Type 0} (h : LogHistory L) (i : BatchInput R) (o : LogOutput L
     all = λ e. cc;
     handed = λ e. cc;
     rests = λ s shop. tt;
+    files = λ whole. tt;
     shop = tt;
     end = tt;
     quiet = λ s settled none. (way.quiet_now h i o disk old old_in old_out session kept log input out u new_in texts said b after new_kept now told result x s settled none).0;

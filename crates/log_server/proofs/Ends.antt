@@ -8,6 +8,7 @@ use Rattle.std.proofs.lemmas.List.{length-map}
 use Rattle.d64_image.specs.Images.{Image}
 use Rattle.d64_image.specs.Memory.{disk_image}
 use Rattle.d64_image.specs.declared.mem_disk.MemDisk.{MemDisk}
+use Rattle.disk_layout.specs.Whole.{IsWhole}
 use Rattle.request_cards.specs.Ledgers.{replies}
 use Rattle.request_cards.specs.declared.reply.Reply.{Reply}
 use Rattle.script_lines.specs.Lines.{lines}
@@ -52,6 +53,10 @@ module _ {L R T : Type 0} (h : LogHistory L) (i : BatchInput R) (o : LogOutput L
           (subst (λ (image : Image). IsSettled image (shop_behind s [])) (sym e)
           (subst (IsSettled (image_of session.disk)) (sym (behind_none s)) (opened.rests s shop).rests))))
           either);
+      files = λ whole. weaker h old now (IsEither first (image_of session.disk)) IsWhole
+          (any_moment (subst (h.stands_for old) (sym opened.kept_is) stood) opening_covers)
+          (λ c either. ⊎_elim (λ e. subst IsWhole (sym (e ∙ opened.kept_is)) whole)
+          (λ e. subst IsWhole (sym e) (opened.files whole)) either);
       told_stays = tt;
     }
 
@@ -72,6 +77,7 @@ module _ {L R T : Type 0} (h : LogHistory L) (i : BatchInput R) (o : LogOutput L
         replies_are = refl;
         stands = λ stood. (committed opening_covers).1 (subst (h.stands_for old) (sym opened.kept_is) stood);
         safe = opening_safe s shop;
+        files = opened.files;
       };
       quiet = λ s settled none.
           (quiet (opened.kept_is ∙ opened.quiet s settled), opened.quiet s settled);
@@ -93,6 +99,7 @@ module _ {L R T : Type 0} (h : LogHistory L) (i : BatchInput R) (o : LogOutput L
       all = λ e. cc;
       handed = λ e. inl refl;
       rests = λ s shop. tt;
+      files = λ whole. tt;
       shop = tt;
       end = tt;
       quiet = λ s settled none. quiet (opened.kept_is ∙ opened.quiet s settled);
@@ -145,6 +152,7 @@ module _ {L R T : Type 0} (h : LogHistory L) (i : BatchInput R) (o : LogOutput L
         subst (λ (image : Image). IsSettled image (shop_behind s (lines u.handled))) (sym is) (u.holds s shop).rests.rests,
         λ stood. subst (h.stands_for now) (sym is) ((u.holds s shop).stands stood),
       );
+      files = λ whole. subst IsWhole (sym is) ((u.holds u.shop.0 u.shop.1).files whole);
       shop = u.shop;
       end = end;
       quiet = λ s settled none. (u.quiet s settled none).0;
@@ -170,6 +178,7 @@ module _ {L R T : Type 0} (h : LogHistory L) (i : BatchInput R) (o : LogOutput L
       all = λ e. (refl, turns_are);
       handed = λ e. u.handed;
       rests = λ s shop. tt;
+      files = λ whole. tt;
       shop = tt;
       end = tt;
       quiet = λ s settled none. (u.quiet s settled none).0;

@@ -11,6 +11,7 @@ pub none_handled : (session : View Memory) → AreHandled session session [] []
 none_handled session = record {
   told = λ s x. (refl, x);
   marks = λ s x before covers. covers;
+  files = λ s x whole. whole;
   quiet = λ s x none. refl;
 }
 
@@ -25,6 +26,7 @@ one_more old mid new ls line rs r a b = record {
         subst (λ (t : Shop). IsAtRest new t) (sym (after_push s ls line)) now.1,
       );
   marks = λ s x before covers. b.marks (shop_after s ls) (a.told s x).1 before (a.marks s x before covers);
+  files = λ s x whole. b.files (shop_after s ls) (a.told s x).1 (a.files s x whole);
   quiet = λ s x none.
       let same : mid ≡ old = a.quiet s x (none_first s ls (line ∷ []) none) in
       b.quiet s (subst (λ (v : View Memory). IsAtRest v s) (sym same) x) (none_last s ls (line ∷ []) none).0 ∙ same;

@@ -6,6 +6,7 @@ use Rattle.d64_image.specs.History.{Failed, NeverFailed}
 use Rattle.d64_image.specs.Images.{Image}
 use Rattle.d64_image.specs.Memory.{disk_image}
 use Rattle.d64_image.specs.declared.mem_disk.MemDisk.{MemDisk}
+use Rattle.disk_layout.specs.Whole.{IsWhole}
 use Rattle.host_session.proofs.lemmas.shop.Shops.{IsShop-one}
 use Rattle.host_session.specs.declared.faults.OpenFault.{OpenFault}
 use Rattle.host_session.specs.declared.faults.OpenFault.TheVariants as opening
@@ -41,6 +42,7 @@ opened disk begins session kept is kept_is t shop rests alive moments quiet =
       };
       covers = (moments t shop).held.reached.1 (disk_image disk)
           (λ index low none. ap (λ (i : Image). slice_index_or i index []) (sym image));
+      files = λ whole. ((moments t shop).held.whole (subst IsWhole (sym image) whole)).each (image_of session.disk) refl;
       quiet = λ s settled. sym ((quiet s (subst (λ (i : Image). IsSettled i s) (sym image) settled)).held.each
           (image_of session.disk) refl ∙ image);
     }
@@ -82,6 +84,7 @@ refused h i o disk left begins ends log input out fault is gone none refuses unt
       all = λ e. cc;
       handed = λ e. inl refl;
       rests = λ s shop. tt;
+      files = λ whole. tt;
       shop = tt;
       end = tt;
       quiet = λ s settled. absurd (no_shop s settled.shop);

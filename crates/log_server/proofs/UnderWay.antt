@@ -8,6 +8,7 @@ use Rattle.std.proofs.lemmas.List.{length-append, length-map}
 use Rattle.d64_image.specs.Images.{Image}
 use Rattle.d64_image.specs.Memory.{disk_image}
 use Rattle.d64_image.specs.declared.mem_disk.MemDisk.{MemDisk}
+use Rattle.disk_layout.specs.Whole.{IsWhole}
 use Rattle.request_cards.specs.Ledgers.{replies}
 use Rattle.script_lines.specs.Lines.{lines}
 use Rattle.host_session.specs.declared.events.sources.Next.{Next}
@@ -101,6 +102,9 @@ module _ {L R T : Type 0} (h : LogHistory L) (i : BatchInput R) (o : LogOutput L
       pub not_many : length x.replies ≤ 512
       not_many = few (omega (arith, ap length (x.handled.told Behind Was.rests).0, as_many Behind texts))
 
+      pub files_now : IsWhole (disk_image disk) → IsWhole (image_of after.disk)
+      files_now whole = x.handled.files Behind Was.rests (Was.files whole)
+
       turns_fit : length u.turns ≡ length (lines u.handled)
       turns_fit = sym (length-map u.turns (λ t. t.0)) ∙ ap length Was.replies_are ∙ as_many_replies s (lines u.handled)
 
@@ -122,6 +126,12 @@ module _ {L R T : Type 0} (h : LogHistory L) (i : BatchInput R) (o : LogOutput L
             (λ c either. inr (either_first h s (lines u.handled) (lines b.handled) kept (image_of after.disk) around 0
             (omega arith) c either))
 
+        files_leave : IsWhole (disk_image disk) → LeavesImages h old now IsWhole
+        files_leave whole = goes_on h old log now IsWhole (IsEither kept (image_of after.disk)) IsWhole
+            ((Was.safe stood).files whole) leaves (λ c was. was)
+            (λ c either. ⊎_elim (λ e. subst IsWhole (sym (e ∙ u.kept_is)) (Was.files whole))
+            (λ e. subst IsWhole (sym e) (files_now whole)) either)
+
         stay_now : StayFrom h s Both 0 u.turns now
         stay_now = stay_on h s (lines u.handled) (lines b.handled) kept (image_of after.disk) around log now 0 u.turns
             (omega (arith, turns_fit)) (Was.safe stood).told_stays leaves
@@ -129,7 +139,7 @@ module _ {L R T : Type 0} (h : LogHistory L) (i : BatchInput R) (o : LogOutput L
         -- as no reply more is told
         pub safe_untold : IsSafe h s (disk_image disk) (lines All) u.turns old now
         safe_untold = subst (λ (ls : List (List ℕ)). IsSafe h s (disk_image disk) ls u.turns old now) (sym lines_are)
-            (record { any_moment = any_moment_now; told_stays = stay_now })
+            (record { any_moment = any_moment_now; files = files_leave; told_stays = stay_now })
 
         -- as all are
         module _ (committed : IsKeptNow h after.disk kept new_kept log now) where
@@ -140,6 +150,7 @@ module _ {L R T : Type 0} (h : LogHistory L) (i : BatchInput R) (o : LogOutput L
           safe_told = subst (λ (ls : List (List ℕ)).
               IsSafe h s (disk_image disk) ls (u.turns ++ over_log now x.replies) old now) (sym lines_are) (record {
                 any_moment = any_moment_now;
+                files = files_leave;
                 told_stays = stay_append h s Both now 0 (length u.turns) u.turns (over_log now x.replies)
                     (omega arith) stay_now
                     (stay_new h s (lines u.handled) (lines b.handled) kept (image_of after.disk) around now

@@ -4,6 +4,7 @@ use Rattle.std.specs.Io.KnownBytes.{Consumes}
 use Rattle.d64_image.specs.Images.{Image}
 use Rattle.d64_image.specs.Memory.{disk_image}
 use Rattle.d64_image.specs.declared.mem_disk.MemDisk.{MemDisk}
+use Rattle.disk_layout.specs.Whole.{IsWhole}
 use Rattle.request_cards.specs.Ledgers.{replies}
 use Rattle.request_cards.specs.declared.reply.Reply.{Reply}
 use Rattle.script_lines.specs.Lines.{lines}
@@ -57,6 +58,8 @@ pub record HasOpened (disk : MemDisk) (session : View Memory) (kept : Image) : T
   pub shop : IsAShop (disk_image disk)
   pub rests : (s : Shop) → IsShop (disk_image disk) s → IsAtRest session s
   pub covers : Covers (touched_of session.disk) (disk_image disk) (image_of session.disk)
+  -- if all files of the disk are whole, they stay so
+  pub files : IsWhole (disk_image disk) → IsWhole (image_of session.disk)
   pub quiet : (s : Shop) → IsSettled (disk_image disk) s → disk_image disk ≡ image_of session.disk
 
 -- What holds of a shop whose lines were all served over a log.
@@ -66,6 +69,7 @@ pub record Holds {L : Type 0} (h : LogHistory L) (s : Shop) (image : Image) (ls 
   pub replies_are : told_in turns ≡ replies (start_of s) [] ls
   pub stands : h.stands_for old image → h.stands_for now (image_of session.disk)
   pub safe : h.stands_for old image → IsSafe h s image ls turns old now
+  pub files : IsWhole image → IsWhole (image_of session.disk)
 
 -- Serving is under way: the lines up to here were served, and this was read behind them, which is no line.
 pub record IsUnderWay {L R T : Type 0} (h : LogHistory L) (i : BatchInput R) (o : LogOutput L T) (disk : MemDisk)

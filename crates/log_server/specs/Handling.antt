@@ -7,6 +7,7 @@ use Rattle.host_session.specs.session.Handling.{after_of, is_next_request}
 use Rattle.host_session.specs.session.Standing.{View}
 use Rattle.host_session.specs.shop.Shop.{IsSettled, Shop, start_of}
 use Rattle.d64_image.specs.Memory.{memory}
+use Rattle.disk_layout.specs.Whole.{IsWhole}
 use Rattle.shop_log.specs.Touched.{KeepsCover}
 use Rattle.std.specs.List.{AllByRecursion}
 use Rattle.std.specs.Prelude.{ℕ}
@@ -36,6 +37,8 @@ pub record IsHandledWell (old new : View Memory) (line : List ℕ) (reply : Repl
   pub told : (s : Shop) → IsAtRest old s
       → (reply ≡ reply_in (start_of s) s.state (request_of line)) × IsAtRest new (after_of s line)
   pub marks : (s : Shop) → IsAtRest old s → KeepsCover memory old.disk new.disk
+  -- if all files are whole, they stay so
+  pub files : (s : Shop) → IsAtRest old s → IsWhole (image_of old.disk) → IsWhole (image_of new.disk)
   pub quiet : (s : Shop) → IsAtRest old s → is_next_request s (request_of line) ≡ false
       → new ≡ old
 
@@ -43,4 +46,5 @@ pub record IsHandledWell (old new : View Memory) (line : List ℕ) (reply : Repl
 pub record AreHandled (old new : View Memory) (ls : List (List ℕ)) (answers : List Reply) : Type 0 where
   pub told : (s : Shop) → IsAtRest old s → (answers ≡ replies_after s ls) × IsAtRest new (shop_after s ls)
   pub marks : (s : Shop) → IsAtRest old s → KeepsCover memory old.disk new.disk
+  pub files : (s : Shop) → IsAtRest old s → IsWhole (image_of old.disk) → IsWhole (image_of new.disk)
   pub quiet : (s : Shop) → IsAtRest old s → AskNone s ls → new ≡ old

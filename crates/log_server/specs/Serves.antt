@@ -5,6 +5,7 @@ use Rattle.std.specs.Io.KnownBytes.{Consumes, IsAtEnd}
 use Rattle.d64_image.specs.Images.{Image}
 use Rattle.d64_image.specs.Memory.{disk_image}
 use Rattle.d64_image.specs.declared.mem_disk.MemDisk.{MemDisk}
+use Rattle.disk_layout.specs.Whole.{IsWhole}
 use Rattle.request_cards.specs.Ledgers.{plain, replies}
 use Rattle.request_cards.specs.declared.reply.Reply.{Reply}
 use Rattle.script_lines.specs.Lines.{lines}
@@ -53,7 +54,9 @@ pub record IsSafe {L : Type 0} (h : LogHistory L) (s : Shop) (image : Image) (ls
     (turns : List (Reply × L)) (old new : L) : Type 0 where
   -- a power loss at any moment leaves the image as it was, or the shop of some first lines, at rest
   pub any_moment : LeavesImages h old new (λ c. (c ≡ image) ⊎ HoldsFirst s ls 0 c)
-  -- and since a line's reply was told, that of first lines with this one among them
+  -- if all files are whole in the image as it was, they are in each that a power loss leaves
+  pub files : IsWhole image → LeavesImages h old new IsWhole
+  -- and since a line's reply was told, it leaves the shop of first lines with this one among them
   pub told_stays : StayFrom h s ls 0 turns new
 
 -- The shop of a disk was served over a log, an input and an output, that were `old`, `old_in` and `old_out`.
@@ -82,6 +85,8 @@ pub record IsServedOver {L R T : Type 0} (h : LogHistory L) (i : BatchInput R) (
   pub rests : (s : Shop) → IsShop (disk_image disk) s → IfOk result (λ d.
       IsSettled (disk_image d) (shop_behind s (lines handled))
       × (h.stands_for old (disk_image disk) → h.stands_for new (disk_image d)))
+  -- If all files were whole, they are in that disk.
+  pub files : IsWhole (disk_image disk) → IfOk result (λ d. IsWhole (disk_image d))
   pub shop : IfOk result (λ _. IsAShop (disk_image disk))
   pub end : IfOk result (λ _. OnSome (i.remaining old_in) (IsAtEnd (i.remaining new_in)))
   -- Of a shop at rest, lines that ask nothing new ask nothing of the log's files.

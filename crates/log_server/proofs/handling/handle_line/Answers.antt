@@ -1,5 +1,5 @@
 -- Memory never fails.
-use Rattle.std.proofs.Common.{◌∙◌, arith, inl, inr, sym}
+use Rattle.std.proofs.Common.{◌∙◌, arith, inl, inr, refl, sym}
 use Rattle.std.proofs.lemmas.Bool.{false≢true}
 use Rattle.log_server.proofs.handling.handle_line.Goals as goal
 
@@ -15,5 +15,6 @@ returns c = record {
         (r.0, record { alive = r.2; rests = r.1 })
   ];
   marks = λ s x. (c.handle.ensures.moments s x.rests.shop).held.reached.1;
+  files = λ s x whole. ((c.handle.ensures.moments s x.rests.shop).held.whole whole).each _ refl;
   quiet = λ s x none. (c.handle.ensures.quiet s x.rests.shop x.alive none).1;
 }
