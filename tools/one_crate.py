@@ -71,34 +71,6 @@ def texts_of(crates, crate, needed, program):
             yield f"{part}/{inside}" if crate == program else place_of(part, inside, crate), text
 
 
-def cited_proofs(texts, libraries, program):
-    """The files of libraries' proofs that specifications cite, and those that these cite: their places, by what cites them."""
-    found, left = {}, [text for place, text in texts.items() if place.startswith("specs/")]
-    while left:
-        for crate, module in re.findall(rf"\bRattle\.{program}\.proofs\.({any_of(libraries)})\.([\w.]+)\.\{{", left.pop()):
-            place = f"proofs/{crate}/{module.replace('.', '/')}.antt"
-            if place not in found:
-                found[place] = (crate, module)
-                left.append(texts[place])
-    return found
-
-
-def with_cited_proofs(texts, libraries, program):
-    """The same files, with the proofs that specifications cite among the specifications: a crate's specifications may cite those of
-    other crates, and not its own."""
-    for place, (crate, module) in cited_proofs(texts, libraries, program).items():
-        name, tree, lines = module.replace(".", "_"), f"specs/{crate}/cited.antt", f"proofs/{crate}.antt"
-        if tree not in texts:
-            texts[tree] = ""
-            texts[f"specs/{crate}.antt"] += "pub mod cited\n"
-        texts[tree] += f"pub mod {name}\n"
-        texts[f"specs/{crate}/cited/{name}.antt"] = texts.pop(place)
-        texts[lines] = re.sub(rf"(?m)^(pub )?mod {name}\n", "", texts[lines])
-        old, new = f"Rattle.{program}.proofs.{crate}.{module}", f"Rattle.{program}.specs.{crate}.cited.{name}"
-        texts = {it: re.sub(rf"\b{re.escape(old)}(?=\.\{{| as |\s)", new, text) for it, text in texts.items()}
-    return texts
-
-
 def write_one_crate(crates, needed, program, folder):
     """Writes crates of the folder `crates` as one into the other folder: those that are needed, each with those that it stands on.
     ValueError where two files would stand in one place, or a crate's root lacks the heading that each has."""
@@ -117,7 +89,7 @@ def write_one_crate(crates, needed, program, folder):
         texts[place] = texts[place].replace(HEADING, heading, 1)
     named = [f"pub mod {it}\n" for it in libraries if f"specs/{it}.antt" in texts]
     texts["specs/Lib.antt"] = texts.get("specs/Lib.antt", "") + "".join(named)
-    for place, text in with_cited_proofs(texts, libraries, program).items():
+    for place, text in texts.items():
         at = folder / place
         at.parent.mkdir(parents=True, exist_ok=True)
         at.write_text(text, encoding="utf-8")

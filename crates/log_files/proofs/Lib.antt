@@ -1,3 +1,4 @@
+mod Alone
 mod Marks
 mod Steps
 mod Times

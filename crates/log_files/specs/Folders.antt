@@ -164,3 +164,12 @@ module _ {D F : Type 0} (h : FolderHistory D) (g : FileHistory F) where
     pub failures : CountsFailure h old new result
     -- a failure of the file is one of the folder
     pub file_failures : g.has_failed file ≡ true → h.has_failed new ≡ true
+
+  -- The log's file was closed, and nothing else was asked of the files.
+  pub record IsClosedAlone (old : D) (file : F) (new : D) : Type 0 where
+    -- a power loss leaves what it might have left before, of the folder, and of the file in the place of its log
+    pub left : (s : Folder) → h.may_leave new s → (from : Folder) × h.may_leave old from
+        × ((s ≡ from) × (from.log ≡ None) ⊎ ((c : List ℕ) × g.may_leave file c × (s ≡ with_log c from)))
+    -- and reads return that, unless the folder failed
+    pub held : (s : Folder) (f : List ℕ) → h.held old ≡ Some s → g.held file ≡ Some f
+        → (h.has_failed new ≡ true) ⊎ (h.held new ≡ Some (with_log f s))

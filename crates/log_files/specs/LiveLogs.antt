@@ -1,13 +1,13 @@
 -- A log that is renewed in its folder, as its user sees it. Our own.
-use Rattle.std.specs.Prelude.{ℕ, ◌+◌, ◌-◌, ◌≡◌, ◌≤◌, ◌⊎◌, ◌||◌, Bool, List, None, Option, Some, false, min, nat_lt, true}
+use Rattle.std.specs.Prelude.{ℕ, ◌+◌, ◌-◌, ◌≡◌, ◌≤◌, ◌⊎◌, ◌||◌, Bool, List, None, Option, Some, false, min, true}
 use Rattle.std.proofs.Common.{◌∙◌, ap, arith, inl, inr, refl, subst, sym}
 use Rattle.std.proofs.lemmas.Option.{none-some, same_Some}
 use Rattle.d64_image.specs.Images.{Image}
 use Rattle.shop_log.specs.ImageLogs.{LogHistory}
-use Rattle.shop_log.specs.Logs.{StandsFor, log_file}
+use Rattle.shop_log.specs.Logs.{StandsFor, log_file, takes_none}
 use Rattle.shop_log.specs.declared.log.Log.{Log}
 use Rattle.shop_log.specs.declared.log_file.LogFile.{Ghosts}
-use Rattle.log_files.specs.Folders.{AllLeft, Folder, FolderHistory, LeftOpen, with_log}
+use Rattle.log_files.specs.Folders.{AllLeft, Folder, FolderHistory, IsClosedAlone, LeftOpen, with_log}
 use Rattle.log_files.specs.Shops.{Gives, LogGives, given_by}
 use Rattle.log_files.specs.declared.live_log.LiveLog.{LiveLog}
 
@@ -71,8 +71,18 @@ module _ {F D : Type 0} {G : Ghosts F} (h : FolderHistory D) where
 
   -- whether it takes no more commits
   abbrev pub over_now : Option (Log F G) → Bool
-  over_now (Some log) = log.closed || nat_lt 1024 (log.end + 46)
+  over_now (Some log) = takes_none log
   over_now None = true
+
+  -- whether it was closed, by a failure or the mark; or couldn't be renewed
+  abbrev pub is_shut : Option (Log F G) → Bool
+  is_shut (Some log) = log.closed
+  is_shut None = true
+
+  -- the files of a folder were left alone, but that its log was closed
+  abbrev pub IsLeftAlone : D → Option (Log F G) → D → Type 0
+  IsLeftAlone d (Some log) new = IsClosedAlone h G.history d (log_file log) new
+  IsLeftAlone d None new = new ≡ d
 
   -- whether its files may have failed; a log that couldn't be renewed has
   abbrev pub failed_now : Option (Log F G) → Bool

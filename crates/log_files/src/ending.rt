@@ -1,8 +1,8 @@
 //! The end of a service over a log.
-ghost use Rattle.std.specs.Prelude.{◌≡◌, Bool, OnOk, length};
+ghost use Rattle.std.specs.Prelude.{◌≡◌, Bool, IsErr, OnOk, length, true};
 ghost use Rattle.d64_image.specs.Images.{Image};
 ghost use Rattle.log_files.specs.Bringing.{RestsAlone};
-ghost use Rattle.log_files.specs.LiveLogs.{IsRenewing, Stands};
+ghost use Rattle.log_files.specs.LiveLogs.{IsLeftAlone, IsRenewing, Stands, is_shut};
 
 use crate::landing::{LogFault, land};
 use crate::log_folder::LogFolder;
@@ -24,6 +24,8 @@ pub(crate) fn end_log<F: LogFile, D: LogFolder<F>>(
         → IsRenewing D.history folder.old log used folder.new image }
     ensures ok { OnOk result ((used : Bool) (start image : Image) → Stands D.history folder.old log used start image
         → RestsAlone D.history folder.new image) }
+    // a closed one is left alone
+    ensures over { is_shut D.history log ≡ true → IsErr result × IsLeftAlone D.history folder.old log folder.new }
 {
     let Some(open_log) = log else {
         return Err(LogFault::File(io::ErrorKind::Other.into()));

@@ -26,11 +26,11 @@ pub struct LiveLog<F: LogFile, D> {
 }
 
 impl<F: LogFile, D: LogFolder<F> + Drop> LiveLog<F, D> {
-    ghost use Rattle.std.specs.Prelude.{◌⊎◌, IfOk, OnErr, OnOk, Some, true};
+    ghost use Rattle.std.specs.Prelude.{◌⊎◌, IfOk, IsErr, OnErr, OnOk, Some, false, true};
     ghost use Rattle.d64_image.specs.Images.{Image};
     ghost use Rattle.log_files.specs.Folders.{AllLeft, Folder};
     ghost use Rattle.log_files.specs.Bringing.{IsBrought, RestsAlone};
-    ghost use Rattle.log_files.specs.LiveLogs.{IsEnding, of_live};
+    ghost use Rattle.log_files.specs.LiveLogs.{IsEnding, IsLeftAlone, is_shut, of_live};
     ghost use Rattle.shop_log.specs.ImageLogs.{IsEither, LeavesImages};
     ghost use Rattle.shop_log.specs.Marks.{Covers};
 
@@ -39,6 +39,8 @@ impl<F: LogFile, D: LogFolder<F> + Drop> LiveLog<F, D> {
         requires sized { length shop.items ≡ 683 }
         ensures stands { IfOk result (λ live. (s : Folder) → D.history.held folder ≡ Some s → s.image ≡ shop.items
             → AllLeft D.history folder (IsBrought shop.items) → (of_live D.history).stands_for live shop.items) }
+        // it takes a commit
+        ensures room { IfOk result (λ live. (of_live D.history).is_over live ≡ false) }
     {
         let log = make_new(alloc, &mut folder, shop.as_slice())?;
         Ok(LiveLog {
@@ -58,6 +60,7 @@ impl<F: LogFile, D: LogFolder<F> + Drop> LiveLog<F, D> {
         ensures any_moment { (before : Image) → (of_live D.history).stands_for self.old before
             → Covers touched.now before now.now
             → LeavesImages (of_live D.history) self.old self.new (IsEither before now.now) }
+        ensures room { IfOk result (λ full. full ≡ false → (of_live D.history).is_over self.new ≡ false) }
         ensures cause { OnErr result (((of_live D.history).is_over self.old ≡ true)
             ⊎ ((of_live D.history).has_failed self.new ≡ true)) }
         ensures err { OnErr result ((of_live D.history).is_over self.new ≡ true) }
@@ -81,6 +84,7 @@ impl<F: LogFile, D: LogFolder<F> + Drop> LiveLog<F, D> {
             → (of_live D.history).stands_for self.new now.now) }
         ensures any_moment { (of_live D.history).stands_for self.old now.now
             → LeavesImages (of_live D.history) self.old self.new (λ c. c ≡ now.now) }
+        ensures room { OnOk result ((of_live D.history).is_over self.new ≡ false) }
         ensures cause { OnErr result ((of_live D.history).has_failed self.new ≡ true) }
         ensures err { OnErr result ((of_live D.history).is_over self.new ≡ true) }
     {
@@ -102,6 +106,8 @@ impl<F: LogFile, D: LogFolder<F> + Drop> LiveLog<F, D> {
         ensures any_moment { (image : Image) → (of_live D.history).stands_for self image → IsEnding D.history self result.0 image }
         ensures ok { OnOk result.1 ((image : Image) → (of_live D.history).stands_for self image
             → RestsAlone D.history result.0 image) }
+        // one that was closed, or couldn't be renewed, is left alone
+        ensures over { is_shut D.history self.log ≡ true → IsErr result.1 × IsLeftAlone D.history self.folder self.log result.0 }
     {
         let LiveLog {
             alloc,
@@ -116,11 +122,19 @@ impl<F: LogFile, D: LogFolder<F> + Drop> LiveLog<F, D> {
 }
 
 impl<F: LogFile, D: LogFolder<F> + Drop> ImageLog for LiveLog<F, D> {
+    ghost use Rattle.std.specs.Prelude.{OnOk, false};
     ghost use Rattle.log_files.specs.LiveLogs.{of_live};
+    ghost use Rattle.shop_log.specs.ImageLogs.{IsCommitted};
 
     ghost history = { of_live D.history };
 
-    fn commit(&mut self, now: &[[u8; 256]], touched: &[bool; 683]) -> io::Result<()> {
+    fn commit(&mut self, now: &[[u8; 256]], touched: &[bool; 683]) -> io::Result<()>
+        requires sized { length now.now ≡ 683 }
+        ensures committed { IsCommitted (of_live D.history) self.old self.new now.now touched.now result }
+        // a full log is renewed: it takes one more
+        ensures room { OnOk result ((of_live D.history).is_over self.old ≡ false
+            → (of_live D.history).is_over self.new ≡ false) }
+    {
         if none_touched(touched) {
             return Ok(());
         }

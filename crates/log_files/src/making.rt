@@ -1,9 +1,10 @@
 //! A new log beside its image.
-ghost use Rattle.std.specs.Prelude.{◌≡◌, IfOk, Some, length};
+ghost use Rattle.std.specs.Prelude.{◌≡◌, IfOk, Some, false, length};
 ghost use Rattle.log_files.specs.Bringing.{IsBrought};
 ghost use Rattle.log_files.specs.Folders.{AllLeft, Folder, LeavesFolders};
 ghost use Rattle.log_files.specs.Serving.{Serves};
 ghost use Rattle.log_files.specs.Shops.{Gives};
+ghost use Rattle.shop_log.specs.Logs.{takes_none};
 
 use crate::log_folder::LogFolder;
 use shop_log::{Log, LogFile};
@@ -23,6 +24,7 @@ pub(crate) fn make_new<F: LogFile, D: LogFolder<F>>(
         → LeavesFolders D.history folder.old folder.new (IsBrought shop.now) }
     ensures ok { IfOk result (λ log. (s : Folder) → D.history.held folder.old ≡ Some s → s.image ≡ shop.now
         → AllLeft D.history folder.old (IsBrought shop.now) → Serves D.history folder.new log shop.now) }
+    ensures room { IfOk result (λ log. takes_none log ≡ false) }
 {
     let file = folder.make_log()?;
     let log = Log::begin(alloc, file, shop)?;

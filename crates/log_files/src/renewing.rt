@@ -1,7 +1,8 @@
 //! A full log that is renewed.
-ghost use Rattle.std.specs.Prelude.{◌≡◌, Bool, IfOk, Some, length};
+ghost use Rattle.std.specs.Prelude.{◌≡◌, Bool, IfOk, Some, false, length};
 ghost use Rattle.log_files.specs.LiveLogs.{IsRenewing, Stands};
 ghost use Rattle.log_files.specs.Serving.{Serves};
+ghost use Rattle.shop_log.specs.Logs.{takes_none};
 
 use crate::bringing::bring;
 use crate::log_folder::LogFolder;
@@ -26,6 +27,7 @@ pub(crate) fn renew<F: LogFile, D: LogFolder<F>>(
         → IsRenewing D.history folder.old (Some log) used folder.new now.now }
     ensures ok { IfOk result (λ new. (used : Bool) → Stands D.history folder.old (Some log) used base.now now.now
         → Serves D.history folder.new new now.now) }
+    ensures room { IfOk result (λ new. takes_none new ≡ false) }
 {
     folder.close_log(log.into_file())?;
     mark_found(folder)?;

@@ -5,7 +5,7 @@ use Rattle.d64_image.specs.Images.{Image}
 use Rattle.shop_log.specs.Blocks.{IsCommit, replayed}
 use Rattle.shop_log.specs.Files.{BringsBytes, FileHistory, LeavesOnly, Mixed, Rests, overwritten}
 use Rattle.shop_log.specs.Recovered.{IsAppended, IsLog, IsTorn, base_of, recovered}
-use Rattle.shop_log.proofs.Commits.{base_after, base_first, based_after, flat_at, log_after, recovered_after, unmarked}
+use Rattle.shop_log.proofs.Commits.{base_after, base_first, based_after, blend_mixed, flat_at, log_after, recovered_after, unmarked}
 use Rattle.shop_log.proofs.Moments.{weaker}
 use Rattle.shop_log.proofs.Torn.{left}
 
@@ -40,15 +40,17 @@ module _ (room : List (List ℕ)) (n end : ℕ) (commit : IsCommit (λ q. get_or
 
   module _ {F : Type 0} (h : FileHistory F) (old new : F) (after : Image → Image)
       (makes : (image : Image) → replayed B image n ≡ after image) (f : List ℕ) (log : IsLog f end) where
+    torn_of : (c : List ℕ) → Mixed (4096 * end) bytes f c → IsTorn f end (after (recovered f)) c
+    torn_of c mixed = record {
+      left = λ some. left f end log B n commit within bytes size each blocks c mixed (base_of f) (recovered f) (after (recovered f))
+          some refl refl (makes (recovered f));
+      unmarked = unmarked f end log B n commit within bytes size each blocks c mixed;
+    }
+
     pub torn_moments : {T E : Type 0} (result : Result T E) → BringsBytes h old new (4096 * end) bytes f result
         → LeavesOnly h old new (IsTorn f end (after (recovered f)))
     torn_moments result brings = weaker h old new (Mixed (4096 * end) bytes f) (IsTorn f end (after (recovered f)))
-        (λ c mixed. record {
-          left = λ some. left f end log B n commit within bytes size each blocks c mixed (base_of f) (recovered f) (after (recovered f))
-              some refl refl (makes (recovered f));
-          unmarked = unmarked f end log B n commit within bytes size each blocks c mixed;
-        })
-        brings.any_moment
+        torn_of brings.any_moment
 
     pub appended : Rests h new (overwritten f (4096 * end) bytes) → IsAppended h new f end n (after (recovered f))
     appended rests = record {
@@ -60,4 +62,5 @@ module _ (room : List (List ℕ)) (n end : ℕ) (commit : IsCommit (λ q. get_or
       base = base_after f end log B n commit within bytes size each blocks;
       first = λ start. base_first f end log B n commit within bytes size each blocks start
           ∙ recovered_after f end log B n commit within bytes size each blocks ∙ makes (recovered f);
+      beside = λ c blend. torn_of c (blend_mixed f (4096 * end) bytes (has_room f log) c blend);
     }

@@ -1,11 +1,11 @@
 -- A commit that is all there: a log that stands for the image after it.
-use Rattle.std.proofs.Common.{◌≡◌, ◌≤◌, ◌<◌, ◌+◌, ◌-◌, ◌*◌, ◌++◌, ◌∙◌, ℕ, zero, suc, List, [], ◌∷◌, ap, arith, drop, false, get_or, inl, inr, length, refl, slice_index, sym, take, true, mul-suc, get_or-take, get_or-drop, length-append, length-drop, length-take-le, not}
+use Rattle.std.proofs.Common.{◌≡◌, ◌≤◌, ◌<◌, ◌+◌, ◌-◌, ◌*◌, ◌++◌, ◌∙◌, ℕ, zero, suc, List, [], ◌∷◌, ap, arith, drop, false, get_or, inl, inr, length, refl, slice_index, sym, take, true, ⊎_elim, mul-suc, get_or-take, get_or-drop, length-append, length-drop, length-take-le, not}
 use Rattle.std.proofs.lemmas.Bool.{cases_lt, eq-eqb}
 use Rattle.std.proofs.lemmas.List.{get_or_append_left, get_or-append_right}
 use Rattle.std.specs.List.{flat_map}
 use Rattle.d64_image.specs.Images.{Image}
 use Rattle.shop_log.specs.Blocks.{IsCommit, block_at, committed, first_commit, is_last, is_whole, replayed}
-use Rattle.shop_log.specs.Files.{Mixed, overwritten}
+use Rattle.shop_log.specs.Files.{IsBlend, Mixed, overwritten}
 use Rattle.shop_log.specs.Recovered.{IsLog, base_end, base_of, blank, is_marked, recovered}
 use Rattle.shop_log.proofs.Runs.{block_by, committed_last, first_alike, first_few, first_here, first_later, first_none, first_stays, none_committed, replayed_alike, replayed_behind}
 use Rattle.shop_log.proofs.Torn.{base_end_is, recovered_is, same_before}
@@ -49,6 +49,15 @@ module _ (f : List ℕ) (at : ℕ) (bytes : List ℕ) (within : at + length byte
       get_or-append_right (take at f) (bytes ++ drop (at + length bytes) f) at i 0 front (omega (arith, from))
       ∙ get_or-append_right bytes (drop (at + length bytes) f) (length bytes) (i - at) 0 refl (omega (arith, from))
       ∙ get_or-drop (at + length bytes) f (i - at - length bytes) 0 ∙ ap (slice_index f) e
+
+  -- a read beside the write returns what may be left of it when it is torn
+  pub blend_mixed : (c : List ℕ) → IsBlend f (overwritten f at bytes) c → Mixed at bytes f c
+  blend_mixed c blend = record {
+    size = blend.size;
+    before = λ i low. ⊎_elim (λ was. was) (λ now. now ∙ new_before i low) (blend.each i);
+    after = λ i from. ⊎_elim (λ was. was) (λ now. now ∙ new_after i from) (blend.each i);
+    each = λ i low. ⊎_elim (λ was. inl was) (λ now. inr (now ∙ new_each i low)) (blend.each (at + i));
+  }
 
   pub new_long : length (overwritten f at bytes) ≡ length f
   new_long = omega (

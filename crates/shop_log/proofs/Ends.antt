@@ -1,11 +1,11 @@
 -- What an open log's file is, and what follows of a commit and of the mark.
-use Rattle.std.proofs.Common.{◌≡◌, ◌⊎◌, ◌≤◌, ◌<◌, ◌+◌, ◌∙◌, ℕ, List, [], ◌∷◌, Bool, Err, Ok, OnOk, None, Option, Result, Some, ap, arith, false, get_or, inl, inr, length, replicate, slice_index, subst, sym, true, refl, not, ext_get_or}
-use Rattle.std.proofs.lemmas.Bool.{eq-eqb, false≢true}
+use Rattle.std.proofs.Common.{◌≡◌, ◌⊎◌, ◌≤◌, ◌<◌, ◌+◌, ◌∙◌, ℕ, List, [], ◌∷◌, Bool, Err, Ok, OnOk, None, Option, Result, Some, ap, arith, false, get_or, inl, inr, ⊎_elim, length, nat_lt, replicate, slice_index, subst, sym, true, refl, not, ext_get_or}
+use Rattle.std.proofs.lemmas.Bool.{eq-eqb, false≢true, le-ltb}
 use Rattle.std.proofs.lemmas.List.{get_or-replicate, length-replicate}
 use Rattle.std.proofs.lemmas.Option.{none-some}
 use Rattle.d64_image.specs.Images.{Image}
 use Rattle.shop_log.specs.Blocks.{block_at, brought, committed, first_commit}
-use Rattle.shop_log.specs.Files.{BringsBytes, FileHistory, LeavesOnly, Mixed, Only, Rests, overwritten}
+use Rattle.shop_log.specs.Files.{BringsBytes, FileHistory, IsBlend, LeavesOnly, Mixed, Only, Rests, SeesOnly, overwritten}
 use Rattle.shop_log.specs.Logs.{StandsFor, is_closed}
 use Rattle.shop_log.specs.Recovered.{IsAppended, IsAtRest, IsLeft, IsLog, IsTorn, base_of, blank, is_marked, recovered, whole_blocks}
 use Rattle.shop_log.specs.Marks.{Covers, NoneTouched}
@@ -55,6 +55,14 @@ module _ {F T E : Type 0} {G : Ghosts F} (l : Log F G) (new : F) (result : Resul
   pub marks : OnOk result ((start now : Image) → StandsFor l start now → (c : List ℕ) → G.history.may_leave new c → is_marked c ≡ true)
   marks = all_of result (λ start now s. marked_of start now s result (mark_brought start now s).ok)
 
+the_some : {A : Type 0} (d : A) (o : Option A) → A
+the_some d None = d
+the_some d (Some x) = x
+
+same_some : {A : Type 0} (x y : A) → Some x ≡ Some y → x ≡ y
+unfolding the_some
+same_some x y e = ap (the_some x) e
+
 -- where no sector was touched nothing changes
 module _ {F : Type 0} {G : Ghosts F} (l : Log F G) (now : Image) (touched : List Bool) (sized : length now ≡ 683)
     (none : NoneTouched touched) (start before : Image) (s : StandsFor l start before)
@@ -69,26 +77,31 @@ module _ {F : Type 0} {G : Ghosts F} (l : Log F G) (now : Image) (touched : List
   pub quiet_stands : StandsFor l start now
   quiet_stands = subst (StandsFor l start) quiet s
 
-  pub quiet_moments : LeavesOnly G.history l.file l.file (λ c. IsLeft start before now c × (is_marked c ≡ false))
-  quiet_moments =
-      let log = is_log l start before s in
-      started G.history l.file (λ c. IsLeft start before now c × (is_marked c ≡ false)) (λ c may.
-      subst (λ (x : List ℕ). IsLeft start before now x × (is_marked x ≡ false)) (sym ((at_rest l start before s).durable c may)) (
+  left_as_it_is : IsLeft start before now s.bytes × (is_marked s.bytes ≡ false)
+  left_as_it_is =
+      let log = is_log l start before s in (
         record { size = log.size; based = s.based; base = s.base; image = inl s.image },
         ap not (eq-eqb (slice_index s.bytes 4194304) 0 (log.zeros 4194304 (omega (arith, log.within)))),
-      ))
+      )
+
+  pub quiet_moments : LeavesOnly G.history l.file l.file (λ c. IsLeft start before now c × (is_marked c ≡ false))
+  quiet_moments =
+      started G.history l.file (λ c. IsLeft start before now c × (is_marked c ≡ false)) (λ c may.
+      subst (λ (x : List ℕ). IsLeft start before now x × (is_marked x ≡ false)) (sym ((at_rest l start before s).durable c may))
+      left_as_it_is)
+
+  -- so does a read
+  pub quiet_beside : SeesOnly G.history l.file l.file (λ c. IsLeft start before now c × (is_marked c ≡ false))
+  quiet_beside f g c was is blend =
+      let f_is : f ≡ s.bytes = same_some f s.bytes (sym was ∙ s.held) in
+      let g_is : g ≡ s.bytes = same_some g s.bytes (sym is ∙ s.held) in
+      let c_is : c ≡ s.bytes = ext_get_or 0 c s.bytes (blend.size ∙ ap length f_is)
+      (λ i low. ⊎_elim (λ e. e ∙ ap (λ (x : List ℕ). slice_index x i) f_is) (λ e. e ∙ ap (λ (x : List ℕ). slice_index x i) g_is) (blend.each i)) in
+      subst (λ (x : List ℕ). IsLeft start before now x × (is_marked x ≡ false)) (sym c_is) left_as_it_is
 
 held_or_not : {A : Type 0} (o : Option A) → (o ≡ None) ⊎ ((x : A) × (o ≡ Some x))
 held_or_not None = inl refl
 held_or_not (Some x) = inr (x, refl)
-
-the_some : {A : Type 0} (d : A) (o : Option A) → A
-the_some d None = d
-the_some d (Some x) = x
-
-same_some : {A : Type 0} (x y : A) → Some x ≡ Some y → x ≡ y
-unfolding the_some
-same_some x y e = ap (the_some x) e
 
 -- a commit over an open log
 module _ {F : Type 0} {G : Ghosts F} (l : Log F G) (now : Image) (touched : List Bool) (sized : length now ≡ 683) where
@@ -99,6 +112,17 @@ module _ {F : Type 0} {G : Ghosts F} (l : Log F G) (now : Image) (touched : List
       ∙ length-replicate 683 (replicate {A = ℕ} 256 0)) sized
       (subst (λ (i : Image). Covers touched i now) (sym s.image) covers)
 
+  -- what a torn commit leaves
+  torn_left : (start before : Image) (s : StandsFor l start before) → Covers touched before now → (c : List ℕ)
+      → IsTorn s.bytes l.end (brought touched now 683 (recovered s.bytes)) c → IsLeft start before now c × (is_marked c ≡ false)
+  torn_left start before s covers c torn =
+      let f = s.bytes in (
+        subst (λ (b : Image). IsLeft b before now c) s.base
+            (subst (λ (i : Image). IsLeft (base_of f) i now c) s.image
+            (subst (λ (i : Image). IsLeft (base_of f) (recovered f) i c) (made start before s covers) (torn.left (based l start before s)))),
+        torn.unmarked,
+      )
+
   pub commit_moments : (new : F) → ((f : List ℕ) → Rests G.history l.file f → IsLog f l.end
       → LeavesOnly G.history l.file new (IsTorn f l.end (brought touched now 683 (recovered f))))
       → (start before : Image) → StandsFor l start before → Covers touched before now
@@ -107,12 +131,7 @@ module _ {F : Type 0} {G : Ghosts F} (l : Log F G) (now : Image) (touched : List
       let f = s.bytes in
       weaker G.history l.file new (IsTorn f l.end (brought touched now 683 (recovered f)))
       (λ c. IsLeft start before now c × (is_marked c ≡ false))
-      (λ c torn. (
-        subst (λ (b : Image). IsLeft b before now c) s.base
-            (subst (λ (i : Image). IsLeft (base_of f) i now c) s.image
-            (subst (λ (i : Image). IsLeft (base_of f) (recovered f) i c) (made start before s covers) (torn.left (based l start before s)))),
-        torn.unmarked,
-      ))
+      (torn_left start before s covers)
       (moments f (at_rest l start before s) (is_log l start before s))
 
   pub commit_stands : (m : Log F G) (n : ℕ) → (is_closed m → ⊥) → ((f : List ℕ) → Rests G.history l.file f → IsLog f l.end
@@ -130,6 +149,17 @@ module _ {F : Type 0} {G : Ghosts F} (l : Log F G) (now : Image) (touched : List
         base = a.base (based l start before s) ∙ s.base;
         image = a.image ∙ made start before s covers;
       }
+
+  -- so does a read beside it
+  pub commit_beside : (new : F) (n : ℕ) → ((f : List ℕ) → Rests G.history l.file f → IsLog f l.end
+      → IsAppended G.history new f l.end n (brought touched now 683 (recovered f)))
+      → (start before : Image) → StandsFor l start before → Covers touched before now
+      → SeesOnly G.history l.file new (λ c. IsLeft start before now c × (is_marked c ≡ false))
+  commit_beside new n appended start before s covers f g c was is blend =
+      let a = appended s.bytes (at_rest l start before s) (is_log l start before s) in
+      torn_left start before s covers c (a.beside c
+      (subst (λ (x : List ℕ). IsBlend x a.bytes c) (same_some f s.bytes (sym was ∙ s.held))
+      (subst (λ (x : List ℕ). IsBlend f x c) (same_some g a.bytes (sym is ∙ a.rests.held)) blend)))
 
 -- what is known of the file after a commit was known before
 module _ {F : Type 0} (h : FileHistory F) (old new : F) (end n : ℕ) (after : List ℕ → Image)
@@ -151,6 +181,10 @@ module _ {F : Type 0} (h : FileHistory F) (old new : F) (end n : ℕ) (after : L
     based = λ g held. (rest_of g held).1;
     durable = λ g held. (rest_of g held).2;
   }
+
+-- a new log takes a commit
+pub few_left : (n : ℕ) → n ≤ 46 → nat_lt 1024 (n + 46) ≡ false
+few_left n few = le-ltb 1024 (n + 46) (omega (arith, few))
 
 -- every sector is touched
 pub all_touched : (n i : ℕ) → i < n → get_or (replicate n true) i false ≡ true

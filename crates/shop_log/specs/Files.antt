@@ -27,6 +27,11 @@ Follows step old new = (c : List ℕ) → new c → (d : List ℕ) × old d × s
 abbrev pub Only : List ℕ → (List ℕ → Type 0) → Type 0
 Only file outcomes = (c : List ℕ) → outcomes c → c ≡ file
 
+-- What a read may return while a file goes from `before` to `after`: each byte is as it was, or as it is then.
+pub record IsBlend (before after seen : List ℕ) : Type 0 where
+  pub size : length seen ≡ length before
+  pub each : (i : ℕ) → (slice_index seen i ≡ slice_index before i) ⊎ (slice_index seen i ≡ slice_index after i)
+
 -- What a file's type says of it: what it holds, and what a power loss may leave, now and at the moments before.
 pub record FileHistory (F : Type 0) : Type 1 where
   -- the bytes that a read returns; None if they aren't known
@@ -54,6 +59,10 @@ pub record LeavesOnly {F : Type 0} (h : FileHistory F) (old new : F) (P : List �
   pub each : (c : List ℕ) → h.left_since new (h.moment old) c → P c
   -- for a run that began earlier
   pub before : (t : ℕ) (c : List ℕ) → t ≤ h.moment old → h.left_since new t c → h.left_since old t c ⊎ P c
+
+-- Whatever a read may return beside the calls from old to new has P.
+abbrev pub SeesOnly : {F : Type 0} → FileHistory F → F → F → (List ℕ → Type 0) → Type 0
+SeesOnly h old new P = (f g c : List ℕ) → h.held old ≡ Some f → h.held new ≡ Some g → IsBlend f g c → P c
 
 -- An error is returned only after a failure of the file, and at Ok none is counted.
 pub record NotesFailure {F T E : Type 0} (h : FileHistory F) (old new : F) (result : Result T E) : Type 0 where

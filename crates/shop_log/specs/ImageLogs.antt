@@ -1,8 +1,8 @@
 -- A log of a disk's images, as its user sees it: what a power loss leaves of it is an image. Our own.
-use Rattle.std.specs.Prelude.{ℕ, ◌+◌, ◌≡◌, ◌≤◌, ◌⊎◌, ◌||◌, Bool, List, OnErr, OnOk, Result, nat_lt, true}
+use Rattle.std.specs.Prelude.{ℕ, ◌≡◌, ◌≤◌, ◌⊎◌, Bool, List, OnErr, OnOk, Result, true}
 use Rattle.std.proofs.Common.{◌∙◌, ap}
 use Rattle.d64_image.specs.Images.{Image}
-use Rattle.shop_log.specs.Logs.{StandsFor}
+use Rattle.shop_log.specs.Logs.{StandsFor, takes_none}
 use Rattle.shop_log.specs.Marks.{Covers, NoneTouched}
 use Rattle.shop_log.specs.Recovered.{recovered}
 use Rattle.shop_log.specs.declared.log.Log.{Log}
@@ -60,7 +60,7 @@ module _ {F : Type 0} {G : Ghosts F} where
     may_leave = λ l image. (c : List ℕ) × G.history.may_leave l.file c × (image ≡ recovered c);
     moment = λ l. G.history.moment l.file;
     left_since = λ l t image. (c : List ℕ) × G.history.left_since l.file t c × (image ≡ recovered c);
-    is_over = λ l. l.closed || nat_lt 1024 (l.end + 46);
+    is_over = takes_none;
     has_failed = λ l. G.history.has_failed l.file;
     durable = λ l image c stands left.
         left.2 ∙ ap recovered (stands.1.durable left.0 left.1) ∙ stands.1.image;

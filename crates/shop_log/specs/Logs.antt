@@ -1,5 +1,5 @@
 -- An open log, and the image that it stands for. Our own.
-use Rattle.std.specs.Prelude.{ℕ, ◌≡◌, ◌<◌, List, Some, length, true}
+use Rattle.std.specs.Prelude.{ℕ, ◌+◌, ◌≡◌, ◌<◌, ◌||◌, Bool, List, Some, length, nat_lt, true}
 use Rattle.d64_image.specs.Images.{Image}
 use Rattle.shop_log.specs.Files.{Only}
 use Rattle.shop_log.specs.Recovered.{base_end, base_of, recovered}
@@ -18,6 +18,10 @@ module _ {F : Type 0} {G : Ghosts F} where
   -- no more commits: it was marked, or a call of its file failed
   abbrev pub is_closed : Log F G → Type 0
   is_closed l = l.closed ≡ true
+
+  -- whether it takes no more commits: it is closed, or too full for one more
+  abbrev pub takes_none : Log F G → Bool
+  takes_none l = l.closed || nat_lt 1024 (l.end + 46)
 
   -- An open log whose file is known: its base, and the image that it stands for. A power loss leaves these bytes.
   pub record StandsFor (l : Log F G) (start now : Image) : Type 0 where

@@ -3,7 +3,7 @@ use Rattle.std.specs.Prelude.{ℕ, ◌+◌, ◌*◌, ◌==◌, ◌≡◌, ◌≤
 use Rattle.std.specs.Prelude.{IsTrue, Some, false, slice_index}
 use Rattle.d64_image.specs.Images.{Image}
 use Rattle.shop_log.specs.Blocks.{block_at, committed, first_commit, is_whole, replayed, whole_from}
-use Rattle.shop_log.specs.Files.{FileHistory, Only, Rests}
+use Rattle.shop_log.specs.Files.{FileHistory, IsBlend, Only, Rests}
 
 -- 683 sectors of zeros, which the base replaces
 abbrev pub blank : Image
@@ -65,3 +65,5 @@ pub record IsAppended {F : Type 0} (h : FileHistory F) (file : F) (f : List ℕ)
   -- the base stays, or this is the base
   pub base : 0 < first_commit (block_at f) end → base_of bytes ≡ base_of f
   pub first : end ≡ 0 → base_of bytes ≡ after
+  -- a read beside it returns what a power loss may leave of it
+  pub beside : (c : List ℕ) → IsBlend f bytes c → IsTorn f end after c

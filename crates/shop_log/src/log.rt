@@ -42,8 +42,8 @@ pub fn none_touched(touched: &[bool; 683]) -> bool
 impl<F: LogFile> Log<F> {
     ghost use Rattle.std.specs.Prelude.{◌⊎◌, [], IfOk, IsErr, OnErr, OnOk, Some, List, ℕ, false};
     ghost use Rattle.d64_image.specs.Images.{Image};
-    ghost use Rattle.shop_log.specs.Files.{LeavesOnly};
-    ghost use Rattle.shop_log.specs.Logs.{StandsFor, is_closed, log_end, log_file};
+    ghost use Rattle.shop_log.specs.Files.{LeavesOnly, SeesOnly};
+    ghost use Rattle.shop_log.specs.Logs.{StandsFor, is_closed, log_end, log_file, takes_none};
     ghost use Rattle.shop_log.specs.Recovered.{IsLeft, is_marked};
     ghost use Rattle.shop_log.specs.Marks.{Covers};
 
@@ -53,6 +53,8 @@ impl<F: LogFile> Log<F> {
         requires sized { length image.now ≡ 683 }
         requires empty { (f : List ℕ) → F.history.held file ≡ Some f → f ≡ [] }
         ensures ok { IfOk result (λ log. F.history.held file ≡ Some [] → StandsFor log image.now image.now) }
+        // it takes a commit, whatever that has
+        ensures room { IfOk result (λ log. takes_none log ≡ false) }
     {
         let mut room = Vec::new(alloc);
         let Ok(()) = room.resize(MOST, [0; BLOCK]) else {
@@ -95,6 +97,11 @@ impl<F: LogFile> Log<F> {
         ensures any_moment { (start before : Image) → StandsFor self.old start before → Covers touched.now before now.now
             → LeavesOnly F.history (log_file self.old) (log_file self.new)
             (λ c. IsLeft start before now.now c × (is_marked c ≡ false)) }
+        // a read beside it, each byte of which is as before or as after it, finds one of these too
+        ensures beside { OnOk result ((start before : Image) → StandsFor self.old start before
+            → Covers touched.now before now.now → SeesOnly F.history (log_file self.old) (log_file self.new)
+            (λ c. IsLeft start before now.now c × (is_marked c ≡ false))) }
+        ensures opened { OnOk result (is_closed self.new → ⊥) }
         ensures refused { is_closed self.old → IsErr result × (log_file self.new ≡ log_file self.old) }
         ensures quiet { NoneTouched touched.now → self.new ≡ self.old }
         ensures err { OnErr result (is_closed self.new) }

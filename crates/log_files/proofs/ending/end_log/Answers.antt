@@ -5,6 +5,7 @@ use Rattle.log_files.specs.LiveLogs.{IsRenewing}
 use Rattle.log_files.proofs.Moves.{under_name}
 use Rattle.log_files.proofs.Renewed.{closed_left, ended, renewing, rests}
 use Rattle.log_files.proofs.Steps.{started}
+use Rattle.log_files.proofs.Alone.{alone_under, was_open}
 use Rattle.log_files.proofs.Times.{on_ok}
 use Rattle.log_files.proofs.ending.end_log.Goals as goal
 
@@ -53,3 +54,27 @@ returns-clause-ok g c = on_ok _ _ c.land.result (λ landed used start image stan
     (subst (λ f. (s : Folder) (b : List ℕ) → h.held d ≡ Some s → g.F.LogFile.history.held f ≡ Some b → h.held a ≡ Some (with_log b s))
     c.into_file.ensures c.in_ok-close_log.ensures.held) c.land.new.folder c.land.new.shop landed)
     c.land.ensures.ok
+
+pub returns-in_err-close_log-clause-over : goal.returns-in_err-close_log-clause-over
+returns-in_err-close_log-clause-over g c shut = (
+  c.from_residual.ensures.0,
+  alone_under g.D.LogFolder.history c.args.folder.now c.close_log.new.self c.args.log c.in-Some.open_log
+      c.in-Some.is c.close_log.result (subst (λ f. IsReturned g.D.LogFolder.history g.F.LogFile.history c.args.folder.now
+      c.close_log.new.self f c.close_log.result) c.into_file.ensures c.close_log.ensures),
+)
+
+pub returns-then-is_over-clause-over : goal.returns-then-is_over-clause-over
+returns-then-is_over-clause-over g c shut = (
+  refl,
+  alone_under g.D.LogFolder.history c.args.folder.now c.close_log.new.self c.args.log c.in-Some.open_log
+      c.in-Some.is c.close_log.result (subst (λ f. IsReturned g.D.LogFolder.history g.F.LogFile.history c.args.folder.now
+      c.close_log.new.self f c.close_log.result) c.into_file.ensures c.close_log.ensures),
+)
+
+pub returns-in_err-shop-clause-over : goal.returns-in_err-shop-clause-over
+returns-in_err-shop-clause-over g c shut = absurd (was_open g.D.LogFolder.history c.args.log c.in-Some.open_log c.in-Some.is
+    c.is_closed-is_over.result c.is_closed-is_over.ensures.1 c.if-is_over.false shut)
+
+pub returns-clause-over : goal.returns-clause-over
+returns-clause-over g c shut = absurd (was_open g.D.LogFolder.history c.args.log c.in-Some.open_log c.in-Some.is
+    c.is_closed-is_over.result c.is_closed-is_over.ensures.1 c.if-is_over.false shut)

@@ -13,4 +13,5 @@ returns g c = record {
       (subst (λ i. Serves g.D.LogFolder.history c.make_new.new.folder c.in_ok-log.log i) c.as_slice.ensures.value
       (c.in_ok-log.ensures.ok s held (image ∙ sym c.as_slice.ensures.value)
       (subst (λ i. AllLeft g.D.LogFolder.history c.args.folder (IsBrought i)) (sym c.as_slice.ensures.value) all)));
+  room = c.in_ok-log.ensures.room;
 }

@@ -6,8 +6,8 @@ use Rattle.log_files.specs.LiveLogs.{Stands, of_live}
 use Rattle.log_files.proofs.Times.{joined, not_none, on_err, on_ok, started, weaker}
 use Rattle.log_files.proofs.live_log.LiveLogImageLog.commit.Goals as goal
 
-pub returns-then-none_touched : goal.returns-then-none_touched
-returns-then-none_touched g c =
+pub returns-then-none_touched-clause-committed : goal.returns-then-none_touched-clause-committed
+returns-then-none_touched-clause-committed g c =
     let old = c.args.self.now in
     record {
       ok = λ before stands covers.
@@ -21,8 +21,8 @@ returns-then-none_touched g c =
       err = tt;
     }
 
-pub returns-then-branch : goal.returns-then-branch
-returns-then-branch g c = record {
+pub returns-then-branch-clause-committed : goal.returns-then-branch-clause-committed
+returns-then-branch-clause-committed g c = record {
   ok = on_ok _ _ c.renew.result (λ stays before stands covers. stays (c.in_ok-append.ensures.ok before stands covers)) c.renew.ensures.ok;
   any_moment = λ before stands covers. joined (of_live g.D.LogFolder.history) c.args.self.now c.append.new.self c.renew.new.self
       (IsEither before c.args.now.now) (c.append.ensures.any_moment before stands covers)
@@ -33,8 +33,8 @@ returns-then-branch g c = record {
   err = c.renew.ensures.err;
 }
 
-pub returns : goal.returns
-returns g c = record {
+pub returns-clause-committed : goal.returns-clause-committed
+returns-clause-committed g c = record {
   ok = c.in_ok-append.ensures.ok;
   any_moment = c.append.ensures.any_moment;
   quiet = λ none. not_none c.none_touched.result c.if-none_touched.false (c.none_touched.ensures.all none);

@@ -2,7 +2,7 @@
 use Rattle.std.proofs.Common.{◌≡◌, ◌∙◌, ap, length, refl, replicate, true}
 use Rattle.std.proofs.lemmas.Bool.{false≢true}
 use Rattle.std.proofs.lemmas.List.{with_items_is}
-use Rattle.shop_log.proofs.Ends.{all_touched, begun_rest, begun_stands}
+use Rattle.shop_log.proofs.Ends.{all_touched, begun_rest, begun_stands, few_left}
 use Rattle.shop_log.proofs.log.Log.begin.Goals as goal
 
 pub returns : goal.returns
@@ -10,6 +10,7 @@ returns g c = record {
   ok = begun_stands c.args.file c.lay_out.new.file c.append_commit.new.file c.args.image.now (replicate 683 true) c.in_ok-end.end
       c.requires.sized (all_touched 683) c.requires.empty c.in_ok-lay_out.ensures.laid c.lay_out.ensures.unknown
       c.append_commit.ensures.unknown c.in_ok-end.ensures.ok _ refl false≢true;
+  room = few_left c.in_ok-end.end c.in_ok-end.ensures.few;
 }
 
 pub invariant_of-result-clause-rest : goal.invariant_of-result-clause-rest

@@ -4,11 +4,15 @@ use Rattle.std.proofs.lemmas.Bool.{false≢true}
 use Rattle.std.proofs.lemmas.List.{with_items_is}
 use Rattle.shop_log.specs.Blocks.{brought}
 use Rattle.shop_log.specs.Recovered.{recovered}
-use Rattle.shop_log.proofs.Ends.{commit_moments, commit_stands, quiet_moments, quiet_stands, rest_after}
+use Rattle.shop_log.proofs.Ends.{commit_beside, commit_moments, commit_stands, quiet_beside, quiet_moments, quiet_stands, rest_after}
 use Rattle.shop_log.proofs.log.Log.commit.Goals as goal
 
 pub returns-then-none_touched-clause-ok : goal.returns-then-none_touched-clause-ok
 returns-then-none_touched-clause-ok g c start before s covers = quiet_stands c.args.self.now c.args.now.now c.args.touched.now
+    c.requires.sized (c.none_touched.ensures.none c.if-none_touched.true) start before s covers
+
+pub returns-then-none_touched-clause-beside : goal.returns-then-none_touched-clause-beside
+returns-then-none_touched-clause-beside g c start before s covers = quiet_beside c.args.self.now c.args.now.now c.args.touched.now
     c.requires.sized (c.none_touched.ensures.none c.if-none_touched.true) start before s covers
 
 pub returns-then-none_touched-clause-any_moment : goal.returns-then-none_touched-clause-any_moment
@@ -33,6 +37,10 @@ invariant_of-self-2-clause-rest g c whole =
 pub returns-clause-ok : goal.returns-clause-ok
 returns-clause-ok g c = commit_stands c.args.self.now c.args.now.now c.args.touched.now c.requires.sized
     _ c.in_ok-n.n false≢true c.in_ok-n.ensures.ok
+
+pub returns-clause-beside : goal.returns-clause-beside
+returns-clause-beside g c = commit_beside c.args.self.now c.args.now.now c.args.touched.now c.requires.sized
+    _ c.in_ok-n.n c.in_ok-n.ensures.ok
 
 pub invariant_of-self-2-clause-rooms : goal.invariant_of-self-2-clause-rooms
 invariant_of-self-2-clause-rooms g c =
