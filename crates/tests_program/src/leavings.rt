@@ -51,10 +51,6 @@ pub(crate) fn sees(scene: &Scene, word: &[u8], text: &[u8]) -> bool {
             scene.logged.set(true);
             memory.log().kind.get() != Kind::Missing
         }
-        b"unnamed" => {
-            scene.unnamed.set(true);
-            memory.making().kind.get() != Kind::Missing
-        }
         b"unlocked" => memory.image.unlocked.replace(false),
         _ => match counted(memory, word) {
             Some(number) => number == number_of(text),
@@ -76,7 +72,7 @@ pub(crate) fn is_told(scene: &Scene) -> bool {
         && !memory.reopened.get()
         && !memory.meddled.get()
         && memory.script.is_as(&scene.script)
-        && (scene.unnamed.get() || memory.making().kind.get() == Kind::Missing)
+        && memory.making().kind.get() == Kind::Missing
         && (scene.logged.get() || memory.log().kind.get() == Kind::Missing)
         && (scene.written.get()
             || memory.image.writes.get() == 0 && memory.image.is_as(&scene.image))

@@ -105,13 +105,12 @@ $ ledger_cli format a.d64 --tills 2
 prints FORMATTED|
 rewritten
 
-# a log that can't be made: nothing was asked for, and the next that writes takes away what there is of it
+# a log that can't be made: nothing was asked for, and what there was of it is removed
 input 1,1,S,1,5|
 log-sync 1 fails
 $ ledger_cli serve a.d64
 tells FILE|
 ends 3
-unnamed
 ";
 
 #[test]

@@ -8,7 +8,7 @@ use std::io::{self, Write};
 use std::process::Abort;
 use test_runtime::Runtime;
 
-/// Outputs that are full. The messages are records' lines too: of two of record 1 the last counts.
+/// Outputs that are full. Of two lines of record 1 the last counts.
 const FULL: &[u8] = b"
 script 1,1,S,1,5|1,2,S,1,6|
 input 1,1,S,1,5|1,2,S,1,6|
@@ -36,7 +36,7 @@ tells FILE|
 ends 3
 written
 
-script 1,1,S,1,5|1,2,S,1,6|
+script 1,\"1,S,1,5\"|1,\"2,S,1,6\"|
 input 1,1,S,1,5|1,2,S,1,6|
 output-takes 8 bytes
 $ ledger_cli store a.d64 REQUESTS s.txt

@@ -33,7 +33,7 @@
 //! - `size`, `at-most`: its bytes; `writes`, `syncs`, `folder-syncs`: how many there were; `reads-behind`: how many syncs
 //!   before it was read; `pieces`: in how many writes the output was taken
 //! - `synced`: one sync before the first write, and one behind each
-//! - `logged`: a log stands beside the image, which no line needs to say if there is none; `unnamed`: one in the making
+//! - `logged`: a log stands beside the image, which no line needs to say if there is none
 //! - `unlocked`: the image was read without a lock, as a script
 use crate::hurts::hurt;
 use crate::jobs::asked;
@@ -55,9 +55,8 @@ pub(crate) struct Scene {
     pub(crate) script: Stored,
     /// An image that was put aside.
     pub(crate) aside: Stored,
-    /// Whether a line spoke of a log that stands there, and of one in the making.
+    /// Whether a line spoke of a log that stands there.
     pub(crate) logged: Cell<bool>,
-    pub(crate) unnamed: Cell<bool>,
     /// Whether a line spoke of an image that was written, and whether all that the last run left is known to be told.
     pub(crate) written: Cell<bool>,
     pub(crate) told: Cell<bool>,
@@ -127,7 +126,6 @@ fn fails(memory: &Memory, word: &[u8], text: &[u8]) -> bool {
 fn noted(scene: &Scene) -> bool {
     scene.memory.forget();
     scene.logged.set(false);
-    scene.unnamed.set(false);
     scene.written.set(false);
     scene.image.copy(&scene.memory.image) && scene.script.copy(&scene.memory.script)
 }
@@ -239,7 +237,6 @@ pub(crate) fn first_scene(rt: &(impl AllocGlobal + Abort)) -> Scene {
         script: Stored::new(alloc),
         aside: Stored::new(alloc),
         logged: Cell::new(false),
-        unnamed: Cell::new(false),
         written: Cell::new(false),
         told: Cell::new(true),
     };
