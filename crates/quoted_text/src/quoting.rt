@@ -31,7 +31,14 @@ impl Display for QuotedByte {
         match byte {
             b'"' => f.write_str("\"\""),
             b'\r' => f.write_str("\\0d"),
-            _ => write!(f, "{}", Readable { set, bytes: &[byte] }),
+            _ => write!(
+                f,
+                "{}",
+                Readable {
+                    set,
+                    bytes: &[byte]
+                }
+            ),
         }
     }
 }

@@ -120,9 +120,18 @@ impl Display for DiskText<'_> {
 
     fn fmt<W: fmt::Write>(&self, f: &mut Formatter<W>) -> fmt::Result {
         let (form, map) = (self.form, &self.map);
-        let name = NameText { form, bytes: map.name() };
-        let id = NameText { form, bytes: map.id() };
-        let version = NameText { form, bytes: map.version() };
+        let name = NameText {
+            form,
+            bytes: map.name(),
+        };
+        let id = NameText {
+            form,
+            bytes: map.id(),
+        };
+        let version = NameText {
+            form,
+            bytes: map.version(),
+        };
         write!(f, "0 \"{name}\" {id} {version}")
     }
 }

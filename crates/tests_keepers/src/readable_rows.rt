@@ -62,13 +62,7 @@ fn records_are_readable(rt: HostRuntime) {
     let form = RecordForm::Text(CharacterSet::Mixed);
     let disk = changed(&rt, RECORDS);
     let mut out = Vec::new(rt.alloc());
-    let ended = records_image(
-        rt.alloc(),
-        &disk.bytes()[1..],
-        b"STOCK",
-        form,
-        &mut out,
-    );
+    let ended = records_image(rt.alloc(), &disk.bytes()[1..], b"STOCK", form, &mut out);
     same_at(&rt, ended, Err(KeepFault::ImageSize), "size");
     let mut full = Full { room: 20 };
     let ended = records_image(rt.alloc(), disk.bytes(), b"STOCK", form, &mut full);

@@ -15,7 +15,11 @@ const TEXTS: [(CharacterSet, &[u8], &str); 6] = [
         "Mr Smith\\0d12 Mill Lane\\0d",
     ),
     (CharacterSet::Graphics, b"I \xD3 BASIC\n", "I ♥ BASIC\\0a"),
-    (CharacterSet::Graphics, b"\x93\x1D5\x5C\0\x8D", "\\93\\1d5£\\00\\8d"),
+    (
+        CharacterSet::Graphics,
+        b"\x93\x1D5\x5C\0\x8D",
+        "\\93\\1d5£\\00\\8d",
+    ),
     (CharacterSet::Mixed, b"A,\xFF'\xA0", "a,🮖'\u{a0}"),
 ];
 
