@@ -61,6 +61,7 @@ def commands(program, folder):
     yield "dry", ["dry", script], b""
     for word in ("list", "check", "show", "map", "picture"):
         yield word, [word, shop], b""
+    yield "check --json", ["check", "--json", shop], b""
     yield "play", ["play", shop, script], b""
     yield "play, a day with resets", ["play", shop, DAY], b""
     yield "serve", ["serve", shop], Path(script).read_bytes()

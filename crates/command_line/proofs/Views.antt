@@ -8,7 +8,7 @@ use Rattle.ledger_jobs.specs.declared.jobs.Job.{Job}
 use Rattle.ledger_jobs.specs.declared.jobs.Overview.{Overview}
 use Rattle.ledger_jobs.specs.declared.jobs.Overview.TheVariants as overviews
 use Rattle.command_line.specs.Forms.{IsViewedBy}
-use Rattle.command_line.specs.Jobs.{IsJob, IsNoJob, IsOnlyImage, IsOverviewJob, job_of_one, word_of_overview}
+use Rattle.command_line.specs.Jobs.{IsCheckJob, IsJob, IsNoJob, IsOnlyImage, IsOverviewJob, job_of_one, word_of_overview}
 use Rattle.command_line.specs.declared.faults.JobFault.{JobFault}
 use Rattle.command_line.proofs.Parses.{met-has}
 
@@ -21,7 +21,7 @@ only-met : (o : Option (Bor Text × Bor ArgMatches)) (found : Option (Text × Li
 only-met o found name at (overviews.List form) image told some is only by =
     (met-has o found name at (codes "list") _ told some is (only, by), tt)
 only-met o found name at overviews.Check image told some is only by =
-    (met-has o found name at (codes "check") _ told some is only, tt)
+    (met-has o found name at (codes "check") _ told some is (only, by), tt)
 only-met o found name at overviews.Map image told some is only by =
     (met-has o found name at (codes "map") _ told some is only, tt)
 
@@ -40,3 +40,18 @@ viewing-met o found name at what r told some is by (inr (inl several)) =
 viewing-met o found name at what r told some is by (inr (inr none)) =
     let P : Result Job JobFault → Type 0 = λ j. MatchResult j (IsJob found) (IsNoJob [] found) × IfOk j IsFit in
     subst P (sym none.1) (none.2, tt)
+
+-- what checks images, or describes each, is the job of `check`
+pub checking-met : (o : Option (Bor Text × Bor ArgMatches)) (found : Option (Text × List Row)) (name : Bor Text)
+    (at : Bor ArgMatches) (r : Result Job JobFault)
+    → option_map (λ (p : Bor Text × Bor ArgMatches). (p.0.now, rows_of (found_of p.1.now))) o ≡ found
+    → o ≡ Some (name, at) → name.now ≡ codes "check"
+    → IsCheckJob (rows_of (found_of at.now)) r → MatchResult r (IsJob found) (IsNoJob [] found) × IfOk r IsFit
+checking-met o found name at r told some is (inl (viewed, job)) =
+    viewing-met o found name at overviews.Check r told some is viewed job
+checking-met o found name at r told some is (inr (inl (images, same, are))) =
+    let P : Result Job JobFault → Type 0 = λ j. MatchResult j (IsJob found) (IsNoJob [] found) × IfOk j IsFit in
+    subst P (sym same) (met-has o found name at (codes "check") _ told some is are, tt)
+checking-met o found name at r told some is (inr (inr (e, same, kind))) =
+    let P : Result Job JobFault → Type 0 = λ j. MatchResult j (IsJob found) (IsNoJob [] found) × IfOk j IsFit in
+    subst P (sym same) (kind, tt)

@@ -1,5 +1,5 @@
 -- The forms that the words ask for. Our own.
-use Rattle.std.specs.Prelude.{◌≡◌, ⊤, List, Option, Some, None, codes, if◌then◌else◌}
+use Rattle.std.specs.Prelude.{◌≡◌, ⊤, List, Option, Some, None, codes, false, if◌then◌else◌}
 use Rattle.clap.specs.Words.{Row}
 use Rattle.command_line.specs.Flags.{is_given}
 use Rattle.keeper_commands.specs.declared.forms.ByteForm.{ByteForm}
@@ -48,7 +48,8 @@ abbrev pub IsTakenBy : Taking → List Row → Type 0
 IsTakenBy (takings.Records form) rows = form ≡ record_form_in rows
 IsTakenBy (takings.Bytes form) rows = form ≡ byte_form_in rows
 
--- the flags ask for this overview
+-- the flags ask for this overview; with --json `check` describes images in place of it
 abbrev pub IsViewedBy : Overview → List Row → Type 0
 IsViewedBy (overviews.List form) rows = form ≡ name_form_in rows
+IsViewedBy overviews.Check rows = is_given (codes "json") rows ≡ false
 IsViewedBy _ rows = ⊤

@@ -166,6 +166,11 @@ IsOnlyImage rows image = (image ≡ value (codes "IMAGE") rows) × (length (valu
 abbrev pub AreImages : List Row → List (Bor Text) → Type 0
 AreImages rows images = (map (λ image. image.now) images ≡ values (codes "IMAGE") rows) × (2 ≤ length images)
 
+-- objects are asked for, and these are the images, in their order
+abbrev pub AreDescribed : List Row → List (Bor Text) → Type 0
+AreDescribed rows images = (is_given (codes "json") rows ≡ true)
+    × (map (λ image. image.now) images ≡ values (codes "IMAGE") rows)
+
 -- the job of a subcommand and its values
 abbrev pub IsJob : Option (Text × List Row) → Job → Type 0
 IsJob found (jobs.Format image tills) = Has found (codes "format")
@@ -176,7 +181,9 @@ IsJob found (jobs.FormatNew image tills) = Has found (codes "format")
     × (is_given (codes "new") rows ≡ true))
 IsJob found (jobs.List form image) = Has found (codes "list")
     (λ rows. IsOnlyImage rows image.now × IsViewedBy (overviews.List form) rows)
-IsJob found (jobs.Check image) = Has found (codes "check") (λ rows. IsOnlyImage rows image.now)
+IsJob found (jobs.Check image) = Has found (codes "check")
+    (λ rows. IsOnlyImage rows image.now × IsViewedBy overviews.Check rows)
+IsJob found (jobs.Describe images) = Has found (codes "check") (λ rows. AreDescribed rows (vec_items images))
 IsJob found (jobs.Sheet images) = Has found (codes "picture") (λ rows. AreOnSheet rows (vec_items images))
 IsJob found (jobs.Several what images) = Has found (word_of_overview what)
     (λ rows. AreImages rows (vec_items images) × IsViewedBy what rows)
@@ -246,6 +253,19 @@ abbrev pub IsOverviewJob : List Row → Overview → Result Job JobFault → Typ
 IsOverviewJob rows what result =
     ((image : Bor Text) × (result ≡ Ok (job_of_one what image)) × IsOnlyImage rows image.now)
     ⊎ (((images : Vec (Bor Text) Global) × (result ≡ Ok (jobs.Several what images)) × AreImages rows (vec_items images))
+    ⊎ ((e : Error) × (result ≡ Err (faults.Words e)) × HasKind [] e))
+
+-- the job that describes these images; or there was no memory for it
+abbrev pub IsDescribing : List (Bor Text) → Result Job JobFault → Type 0
+IsDescribing images result =
+    ((all : Vec (Bor Text) Global) × (result ≡ Ok (jobs.Describe all)) × (vec_items all ≡ images))
+    ⊎ ((e : Error) × (result ≡ Err (faults.Words e)) × HasKind [] e)
+
+-- and of one that checks images, or describes each
+abbrev pub IsCheckJob : List Row → Result Job JobFault → Type 0
+IsCheckJob rows result =
+    ((is_given (codes "json") rows ≡ false) × IsOverviewJob rows overviews.Check result)
+    ⊎ (((images : Vec (Bor Text) Global) × (result ≡ Ok (jobs.Describe images)) × AreDescribed rows (vec_items images))
     ⊎ ((e : Error) × (result ≡ Err (faults.Words e)) × HasKind [] e))
 
 -- the sheet of these images; or there are too many for it, or there was no memory

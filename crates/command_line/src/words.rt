@@ -7,7 +7,8 @@ ghost use Rattle.byte_text.specs.Texts.{AreBytes};
 ghost use Rattle.keeper_commands.specs.Makes.{IsNewName};
 ghost use Rattle.ledger_jobs.specs.Jobs.{IsFit};
 ghost use Rattle.ledger_jobs.specs.Names.{IsNameOf, name_bytes};
-ghost use Rattle.command_line.specs.Jobs.{IsHeard, IsJob, IsMakingJob, IsNoJob, IsOverviewJob, IsParse, IsPictureJob};
+ghost use Rattle.command_line.specs.Jobs.{IsCheckJob, IsDescribing, IsHeard, IsJob, IsMakingJob, IsNoJob, IsOverviewJob};
+ghost use Rattle.command_line.specs.Jobs.{IsParse, IsPictureJob};
 ghost use Rattle.command_line.specs.Jobs.{IsSeveral, IsSheet, IsStoringJob, IsTakingJob};
 ghost use Rattle.command_line.specs.Jobs.{effect_in, format_job, job_of_one, loss_in, picture_job, play_job, unowned_in};
 ghost use Rattle.rel_records.specs.File.{IsLength};
@@ -274,6 +275,31 @@ fn viewing<'a>(alloc: Global, matches: &ArgMatches<'a>, what: Overview) -> Resul
     of_several(alloc, what, images)
 }
 
+/// The job that describes these images.
+fn described<'a>(alloc: Global, images: &[&'a str]) -> Result<Job<'a>, JobFault>
+    ensures { IsDescribing images.now result }
+{
+    let mut all = Vec::new(alloc);
+    match all.extend_from_slice(images) {
+        Ok(()) => Ok(Job::Describe { images: all }),
+        Err(error) => Err(JobFault::Words(Error::from(error))),
+    }
+}
+
+/// The job that checks images, or describes each by an object.
+fn checking<'a>(alloc: Global, matches: &ArgMatches<'a>) -> Result<Job<'a>, JobFault>
+    ensures { IsCheckJob (rows_of (found_of matches.now)) result }
+{
+    if !is_given(matches, "json") {
+        return viewing(alloc, matches, Overview::Check);
+    }
+    let Some(images) = values_of(matches, "IMAGE") else {
+        // A parse without an image is refused.
+        return Err(JobFault::Words(Error::from(AllocError)));
+    };
+    described(alloc, images)
+}
+
 /// The job that plays a script on an image.
 fn playing<'a>(matches: &ArgMatches<'a>, image: &'a str, script: &'a str) -> Job<'a>
     ensures { result ≡ play_job (rows_of (found_of matches.now)) image.entry script.entry }
@@ -359,7 +385,7 @@ fn job_of<'a>(alloc: Global, matches: &ArgMatches<'a>) -> Result<Job<'a>, JobFau
             None => Err(JobFault::Tills),
         },
         "list" => viewing(alloc, found, Overview::List(name_form(found))),
-        "check" => viewing(alloc, found, Overview::Check),
+        "check" => checking(alloc, found),
         "show" => Ok(Job::Show { image }),
         "play" => Ok(playing(found, image, script)),
         "serve" => Ok(Job::Serve {

@@ -64,6 +64,8 @@ On a terminal, or with --explain, SHORT and a sector follow if a file is cut
 short there; not with several images.
 With several images each line begins with the image's name, also for an image
 that is refused, and the status is the greatest.
+With --json each image gives an object of JSON in a line. Its `files` are those
+that the fault concerns, and `free` counts blocks.
 
 Exit status:
   0  OK

@@ -140,12 +140,20 @@ pub(crate) const SUBCOMMANDS: [Subcommand; 15] = [
         more: LIST,
         values: &[IMAGES, TEXT, MIXED],
     },
-    // check IMAGE..
+    // check IMAGE.. [--json]
     Subcommand {
         name: "check",
         about: "Checks the layout of images: prints OK, or a fault and its sector",
         more: CHECK,
-        values: &[IMAGES],
+        values: &[
+            IMAGES,
+            Value {
+                name: "json",
+                word: Some("json"),
+                count: Count::Flag,
+                help: "Prints an object of JSON for each image, in a line",
+            },
+        ],
     },
     // show IMAGE
     Subcommand {

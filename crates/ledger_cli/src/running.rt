@@ -59,7 +59,9 @@ fn obey<F: Write + Seek + Drop, W: Write>(
         }
         Job::Draw { what, .. } => (file, drawn_end(drawing_run(alloc, what, image, out))),
         // it would want the bytes of each
-        Job::Several { .. } | Job::Sheet { .. } => (file, Err(Refusal::Run(RunFault::File))),
+        Job::Several { .. } | Job::Sheet { .. } | Job::Describe { .. } => {
+            (file, Err(Refusal::Run(RunFault::File)))
+        }
     }
 }
 

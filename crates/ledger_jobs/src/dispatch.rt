@@ -7,6 +7,7 @@ ghost use Rattle.ledger_jobs.specs.Jobs.{IsFit, needed};
 ghost use Rattle.ledger_jobs.specs.Runs.{IsReadingEnd, IsReadingOf};
 
 use crate::copying::do_copying;
+use crate::descriptions::do_describing;
 use crate::drawing::drawing_run;
 use crate::durable_runs::play_durably;
 use crate::files::{AtPath, Older, STANDARD_INPUT, room_for, script_at};
@@ -367,6 +368,7 @@ where
         } => do_taking(rt, what, image, name, out),
         Job::Draw { what, image } => do_drawing(rt, what, image, out),
         Job::Sheet { ref images } => do_sheet(rt, images.as_slice(), out),
+        Job::Describe { ref images } => do_describing(rt, images.as_slice(), out),
         Job::Several { what, ref images } => do_several(rt, what, images.as_slice(), out),
     }
 }

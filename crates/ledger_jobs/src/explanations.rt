@@ -105,10 +105,9 @@ fn image_of<'a>(job: &Job<'a>) -> &'a str {
         Job::Play { image, .. } | Job::PlaySynced { image, .. } | Job::Serve { image, .. } => image,
         Job::Repair { image, .. } | Job::Take { image, .. } | Job::Draw { image, .. } => image,
         Job::Make { image, .. } | Job::Store { image, .. } | Job::Copy { image, .. } => image,
-        Job::Several { images, .. } | Job::Sheet { images } => images
-            .first()
-            .copied()
-            .unwrap_or(""),
+        Job::Several { images, .. } | Job::Sheet { images } | Job::Describe { images } => {
+            images.first().copied().unwrap_or("")
+        }
         Job::Dry { script } => script,
     }
 }
@@ -131,7 +130,7 @@ fn writes(job: &Job<'_>) -> bool {
         Job::Repair { .. } | Job::Make { .. } | Job::Store { .. } => true,
         Job::List { .. } | Job::Check { .. } | Job::Show { .. } | Job::Dry { .. } => false,
         Job::Take { .. } | Job::Draw { .. } | Job::Copy { .. } => false,
-        Job::Several { .. } | Job::Sheet { .. } => false,
+        Job::Several { .. } | Job::Sheet { .. } | Job::Describe { .. } => false,
     }
 }
 
@@ -204,7 +203,7 @@ where
 }
 
 /// How many bytes a regular file has. None of standard input and if the system doesn't say; nothing is opened.
-fn size_of<R: Files>(rt: &R, path: &str) -> Option<u64> {
+pub(crate) fn size_of<R: Files>(rt: &R, path: &str) -> Option<u64> {
     if path == STANDARD_INPUT {
         return None;
     }

@@ -208,6 +208,11 @@ pub enum Job<'a> {
         /// The images' paths.
         images: Vec<&'a str>,
     },
+    /// Images that are read, in their order, each described by an object of JSON in a line of its own.
+    Describe {
+        /// The images' paths.
+        images: Vec<&'a str>,
+    },
     /// Several images that are read, in their order: what is printed of each, and why it is refused, behind its name.
     Several {
         /// What is printed of each.

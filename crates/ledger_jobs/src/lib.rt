@@ -2,6 +2,7 @@
 #![tactic(auto)]
 
 mod copying;
+mod descriptions;
 mod dispatch;
 mod drawing;
 mod durable_runs;

@@ -73,6 +73,11 @@ fn row_of<'a>(job: &Job<'a>) -> Row<'a> {
                 images.len().min(255) as u8,
             )
         }
+        Job::Describe { ref images } => {
+            let first = images.first().copied().unwrap_or("");
+            let second = images.get(1).copied().unwrap_or("");
+            ("check --json", first, second, images.len().min(255) as u8)
+        }
         Job::Several { what, ref images } => {
             let name = match what {
                 Overview::List(_) => "list several",

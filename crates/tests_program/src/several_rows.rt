@@ -65,6 +65,31 @@ fn several_images_are_shown(rt: HostRuntime) {
     each(&rt, SHOWN);
 }
 
+/// Images that are described by objects, with those that can't be; a fault with its file; and an output that fails.
+const DESCRIBED: &[u8] = b"
+$ ledger_cli check --json a.d64
+prints {\"name\":\"a.d64\",\"size\":174848,\"verdict\":\"OK\",\"track\":null,\"sector\":null,\"files\":[],\"free\":660,\"disk\":\"STOCK LEDGER\",\"id\":\"01\"}|
+
+$ ledger_cli check --json b.d64 a.d64
+prints {\"name\":\"b.d64\",\"size\":null,\"verdict\":\"FILE\",\"track\":null,\"sector\":null,\"files\":[],\"free\":null,\"disk\":null,\"id\":null}|{\"name\":\"a.d64\",\"size\":174848,\"verdict\":\"OK\",\"track\":null,\"sector\":null,\"files\":[],\"free\":660,\"disk\":\"STOCK LEDGER\",\"id\":\"01\"}|
+ends 3
+
+hurt LOOP
+$ ledger_cli check --json a.d64
+prints {\"name\":\"a.d64\",\"size\":174848,\"verdict\":\"LOOP 17/0\",\"track\":17,\"sector\":0,\"files\":[\"STOCK\"],\"free\":660,\"disk\":\"STOCK LEDGER\",\"id\":\"01\"}|
+ends 1
+
+output-takes 0
+$ ledger_cli check --json a.d64 a.d64
+tells FILE|
+ends 3
+";
+
+#[test]
+fn images_are_described(rt: HostRuntime) {
+    each(&rt, DESCRIBED);
+}
+
 /// The jobs that words with several images ask for; `run` has the bytes of one alone.
 const ASKED: &[u8] = b"
 job ledger check a.d64 b.d64
@@ -77,6 +102,10 @@ job ledger check a.d64 --explain b.d64
 prints check several, a.d64, b.d64, 2, explained
 job ledger check -- a.d64
 prints check, a.d64, , 0
+job ledger check --json a.d64
+prints check --json, a.d64, , 1
+job ledger check a.d64 b.d64 --json
+prints check --json, a.d64, b.d64, 2
 
 no script
 run ledger check a.d64 a.d64

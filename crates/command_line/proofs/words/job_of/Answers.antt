@@ -10,7 +10,7 @@ use Rattle.command_line.specs.Jobs.{IsJob, is_given}
 use Rattle.command_line.proofs.Pictures.{picturing-met}
 use Rattle.command_line.proofs.Parses.{format-fit, format-met, making-met, met-has, met-is}
 use Rattle.command_line.proofs.Parses.{play-fit, play-met, storing-met, taking-met}
-use Rattle.command_line.proofs.Views.{viewing-met}
+use Rattle.command_line.proofs.Views.{checking-met, viewing-met}
 use Rattle.command_line.proofs.words.job_of.Goals as goal
 
 pub returns-in_default : goal.returns-in_default
@@ -49,8 +49,8 @@ returns-in-list c =
 
 pub returns-in-check : goal.returns-in-check
 returns-in-check c =
-    let met = viewing-met c.parsed_subcommand.result _ c.in-Some.name c.in-Some.found overviews.Check c.viewing-in-check.result
-    c.parsed_subcommand.ensures c.in-Some.is c.in-check.is tt c.viewing-in-check.ensures in
+    let met = checking-met c.parsed_subcommand.result _ c.in-Some.name c.in-Some.found c.checking.result
+    c.parsed_subcommand.ensures c.in-Some.is c.in-check.is c.checking.ensures in
     record { job = met.0; fit = met.1 }
 
 pub returns-in-show : goal.returns-in-show

@@ -1,0 +1,5 @@
+pub mod Json
+pub mod Names
+pub mod Objects
+pub mod Outcomes
+pub mod Trails

@@ -1,0 +1,78 @@
+//! Images that are read, each described by an object of JSON.
+use crate::dispatch::image_at;
+use crate::explanations::size_of;
+use crate::refusals::Refusal;
+use disk_faults::{DescribeFault, describe_image, describe_refusal};
+use disk_layout::Fault;
+use shop_commands::{Locks, RunFault};
+use std::fs::OpenFile;
+use std::io::{Read, Write};
+use std::rt::Files;
+
+/// Prints the object of the image at a path that is refused, with what the command would print of it alone. Returns its
+/// exit status.
+fn put_refusal<R, W>(rt: &R, path: &str, refusal: Refusal, out: &mut W) -> Result<u8, RunFault>
+where
+    R: Files + AllocGlobal,
+    W: Write,
+{
+    let Ok(why) = format!(in rt.alloc(); "{refusal}") else {
+        return Err(RunFault::NoMemory);
+    };
+    match describe_refusal(path.as_bytes(), size_of(rt, path), why.as_bytes(), out) {
+        Ok(()) => Ok(refusal.status()),
+        Err(_) => Err(RunFault::File),
+    }
+}
+
+/// Prints the object of the image at a path, and returns the exit status that a check of it alone would have.
+fn put_object_at<F, R, W>(rt: &R, path: &str, out: &mut W) -> Result<u8, RunFault>
+where
+    F: Read + Locks + OpenFile + Drop,
+    R: Files<File = F> + Input + AllocGlobal,
+    W: Write,
+{
+    let image = match image_at(rt, path) {
+        Ok(image) => image,
+        Err(refusal) => return put_refusal(rt, path, refusal, out),
+    };
+    let fault = match describe_image(rt.alloc(), path.as_bytes(), image.as_slice(), out) {
+        Ok(None) => return Ok(0),
+        Ok(Some(_)) => return Ok(1),
+        Err(DescribeFault::File) => return Err(RunFault::File),
+        Err(DescribeFault::ImageSize) => RunFault::ImageSize,
+        Err(DescribeFault::NoMemory) => RunFault::NoMemory,
+    };
+    put_refusal(rt, path, Refusal::Run(fault), out)
+}
+
+/// Prints the object of each of these images, in their order, also of one that is refused. An image is locked with others
+/// that read it while it is read.
+///
+/// `Several`: an image has a fault or is refused, as the output says. `File` if the output failed, and `NoMemory`: the
+/// images behind that one aren't read.
+pub(crate) fn do_describing<F, R, W>(
+    rt: &R,
+    paths: &[&str],
+    out: &mut W,
+) -> Result<Option<Fault>, Refusal>
+where
+    F: Read + Locks + OpenFile + Drop,
+    R: Files<File = F> + Input + AllocGlobal,
+    W: Write,
+{
+    let mut greatest = 0;
+    for path in paths {
+        match put_object_at(rt, path, out) {
+            Ok(status) => greatest = greatest.max(status),
+            Err(fault) => return Err(Refusal::Run(fault)),
+        }
+    }
+    if out.flush().is_err() {
+        return Err(Refusal::Run(RunFault::File));
+    }
+    match greatest {
+        0 => Ok(None),
+        _ => Err(Refusal::Several(greatest)),
+    }
+}
