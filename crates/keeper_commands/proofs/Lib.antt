@@ -1,5 +1,6 @@
 pub mod Again
 pub mod Blocks
+pub mod ColumnLines
 pub mod Composed
 pub mod Entries
 pub mod FileRecords

@@ -4,6 +4,7 @@
 
 mod byte_printing;
 mod chains;
+mod column_lines;
 mod faults;
 mod forms;
 mod judging;
@@ -21,6 +22,7 @@ mod record_storing;
 mod storing;
 
 pub use byte_printing::bytes_image;
+pub use column_lines::plain_lines;
 pub use faults::KeepFault;
 pub use forms::{ByteForm, RecordForm};
 pub use laws::{

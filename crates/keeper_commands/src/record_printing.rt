@@ -108,7 +108,7 @@ fn put_records_as<W: Write>(
 {
     match form {
         RecordForm::Lines => put_records(out, disk, file),
-        RecordForm::Text(_) => print_lines(out, disk, file, form),
+        RecordForm::Text(_) | RecordForm::Fields => print_lines(out, disk, file, form),
     }
 }
 

@@ -194,7 +194,7 @@ pub(crate) fn make<F: Write + Seek + Drop, W: Write>(
 }
 
 /// Stores records in a relative file of the image, over its file.
-pub(crate) fn store<F: Write + Seek + Drop, W: Write>(
+fn store<F: Write + Seek + Drop, W: Write>(
     alloc: Global,
     image: &[u8],
     name: &Name,
@@ -213,5 +213,28 @@ pub(crate) fn store<F: Write + Seek + Drop, W: Write>(
             (file_of(stream), ended)
         }
         Err((fault, file)) => (file, Err(Refusal::Run(fault))),
+    }
+}
+
+/// Stores records in a relative file of the image, over its file, from lines that have them so.
+pub(crate) fn store_columns<F: Write + Seek + Drop, W: Write>(
+    alloc: Global,
+    image: &[u8],
+    name: &Name,
+    columns: Columns,
+    records: &[u8],
+    loss: Loss,
+    file: Option<F>,
+    out: &mut W,
+) -> (Option<F>, Ended)
+    ensures { IsStoreJob F.stream_position F.stream_bytes F.contents W.contents image.now (name_bytes name.now) columns
+        records.now loss file result.0 out.old out.new result.1 }
+{
+    if columns == Columns::One {
+        return store(alloc, image, name, records, loss, file, out);
+    }
+    match plain_lines(alloc, records) {
+        Ok(plain) => store(alloc, image, name, plain.as_slice(), loss, file, out),
+        Err(_) => (file, Err(Refusal::Run(RunFault::NoMemory))),
     }
 }

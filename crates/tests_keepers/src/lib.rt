@@ -12,6 +12,8 @@ mod cut_rows;
 #[cfg(test)]
 mod disks;
 #[cfg(test)]
+mod field_rows;
+#[cfg(test)]
 mod line_rows;
 #[cfg(test)]
 mod making_rows;
