@@ -12,7 +12,7 @@ fn push_column(columns: &[u8], text: &mut Vec<u8>) -> Result<(), AllocError>
 {
     text.extend_from_slice(b",\"")?;
     push_columns(columns, text)?;
-    text.push(b'"')
+    text.extend_from_slice(b"\"")
 }
 
 /// Appends a line with one column for those behind its number.

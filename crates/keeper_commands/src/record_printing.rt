@@ -108,7 +108,8 @@ fn put_records_as<W: Write>(
 {
     match form {
         RecordForm::Lines => put_records(out, disk, file),
-        RecordForm::Text(_) | RecordForm::Fields => print_lines(out, disk, file, form),
+        RecordForm::Text(_) => print_lines(out, disk, file, form),
+        RecordForm::Fields => print_lines(out, disk, file, form),
     }
 }
 

@@ -15,29 +15,29 @@ use Rattle.record_columns.proofs.Fields.{comes-back, digit-no_mark, ended-rest, 
 use Rattle.record_columns.proofs.Joined.{chosen}
 
 -- one byte of the line more
-by-more : (open : Bool) (column : Column) (xs : List ℕ) (i : ℕ) → i < length xs
-    → text_by open column (drop i xs)
-    ≡ given column (get_or xs i 0) ++ text_by open (next_column column (get_or xs i 0)) (drop (i + 1) xs)
+by-more : (unended : Bool) (column : Column) (xs : List ℕ) (i : ℕ) → i < length xs
+    → text_by unended column (drop i xs)
+    ≡ given column (get_or xs i 0) ++ text_by unended (next_column column (get_or xs i 0)) (drop (i + 1) xs)
 unfolding text_by
-by-more open column xs i low = ap (text_by open column) (drop_more xs i 0 low)
+by-more unended column xs i low = ap (text_by unended column) (drop_more xs i 0 low)
 
-pub by-next : (open : Bool) (before after all xs : List ℕ) (column next : Column) (i : ℕ) → i < length xs
+pub by-next : (unended : Bool) (before after all xs : List ℕ) (column next : Column) (i : ℕ) → i < length xs
     → after ≡ before ++ given column (get_or xs i 0) → next ≡ next_column column (get_or xs i 0)
-    → before ++ text_by open column (drop i xs) ≡ all → after ++ text_by open next (drop (i + 1) xs) ≡ all
-by-next open before after all xs column next i low put turned so_far =
+    → before ++ text_by unended column (drop i xs) ≡ all → after ++ text_by unended next (drop (i + 1) xs) ≡ all
+by-next unended before after all xs column next i low put turned so_far =
     let b : ℕ = get_or xs i 0 in
     let rest : List ℕ = drop (i + 1) xs in
-    ap (λ (t : List ℕ). t ++ text_by open next rest) put ∙ append_assoc before (given column b) (text_by open next rest)
-    ∙ ap (λ (c : Column). before ++ (given column b ++ text_by open c rest)) turned
-    ∙ ap (λ (t : List ℕ). before ++ t) (sym (by-more open column xs i low)) ∙ so_far
+    ap (λ (t : List ℕ). t ++ text_by unended next rest) put ∙ append_assoc before (given column b) (text_by unended next rest)
+    ∙ ap (λ (c : Column). before ++ (given column b ++ text_by unended c rest)) turned
+    ∙ ap (λ (t : List ℕ). before ++ t) (sym (by-more unended column xs i low)) ∙ so_far
 
 -- the end of the line
-pub by-end : (open : Bool) (before all xs : List ℕ) (column : Column) (i : ℕ) → length xs ≤ i
-    → before ++ text_by open column (drop i xs) ≡ all
-    → before ++ (if open then open_at_end column else given_at_end column) ≡ all
+pub by-end : (unended : Bool) (before all xs : List ℕ) (column : Column) (i : ℕ) → length xs ≤ i
+    → before ++ text_by unended column (drop i xs) ≡ all
+    → before ++ (if unended then open_at_end column else given_at_end column) ≡ all
 unfolding text_by
-by-end open before all xs column i past so_far =
-    ap (λ (rest : List ℕ). before ++ text_by open column rest) (sym (drop_all i xs past)) ∙ so_far
+by-end unended before all xs column i past so_far =
+    ap (λ (rest : List ℕ). before ++ text_by unended column rest) (sym (drop_all i xs past)) ∙ so_far
 
 -- a line whose last field is ended gives the text of before
 by-ended : (column : Column) (text : List ℕ) → text_by false column text ≡ one_text column text
@@ -170,7 +170,7 @@ back-by false bytes is = open-comes bytes
 pub all-back : (bytes : List ℕ) → columns_text (all_columns bytes) ≡ text_of bytes
 all-back bytes = back-by (nat_eq (slice_index bytes (length bytes - 1)) 13) bytes refl
 
--- the columns of an open record, piece by piece
+-- the columns of an unended record, piece by piece
 abbrev pub open_piece : ℕ → List ℕ
 open_piece b = piece b false
 

@@ -84,10 +84,10 @@ abbrev pub open_at_end : Column → List ℕ
 open_at_end Quoted = 34 ∷ []
 open_at_end _ = []
 
--- the same text where it is said whether the last field is open so
+-- the same text where it is said whether the last field is unended so
 unfoldable pub text_by : Bool → Column → List ℕ → List ℕ
-text_by open column [] = if open then open_at_end column else given_at_end column
-text_by open column (b ∷ text) = given column b ++ text_by open (next_column column b) text
+text_by unended column [] = if unended then open_at_end column else given_at_end column
+text_by unended column (b ∷ text) = given column b ++ text_by unended (next_column column b) text
 
 -- the line has a last column `\-`, which is no text of bytes
 abbrev pub is_marked : List ℕ → Bool

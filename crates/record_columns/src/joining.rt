@@ -12,35 +12,35 @@ fn push_given(text: &mut Vec<u8>, column: Column, byte: u8) -> Result<(), AllocE
 {
     match (column, byte) {
         (Column::Start | Column::Quoted, b'"') => Ok(()),
-        (Column::Quoted, _) => text.push(byte),
+        (Column::Quoted, _) => text.extend_from_slice(&[byte]),
         (_, b',') => text.extend_from_slice(RETURN),
         (Column::Closed, _) => text.extend_from_slice(&[b'"', byte]),
-        _ => text.push(byte),
+        _ => text.extend_from_slice(&[byte]),
     }
 }
 
-/// Appends what the end of the line gives of the text. `open`: no carriage return ends the last field.
-fn push_end(text: &mut Vec<u8>, column: Column, open: bool) -> Result<(), AllocError>
+/// Appends what the end of the line gives of the text. `unended`: no carriage return ends the last field.
+fn push_end(text: &mut Vec<u8>, column: Column, unended: bool) -> Result<(), AllocError>
     ensures { OnOk result (vec_items text.new
-        ≡ vec_items text.old ++ (if open then open_at_end column else given_at_end column)) }
+        ≡ vec_items text.old ++ (if unended then open_at_end column else given_at_end column)) }
 {
-    match (column, open) {
-        (Column::Quoted, _) => text.push(b'"'),
+    match (column, unended) {
+        (Column::Quoted, _) => text.extend_from_slice(b"\""),
         (_, true) => Ok(()),
         (_, false) => text.extend_from_slice(RETURN),
     }
 }
 
 /// Appends the text of these columns.
-fn push_text(line: &[u8], open: bool, text: &mut Vec<u8>) -> Result<(), AllocError>
-    ensures { OnOk result (vec_items text.new ≡ vec_items text.old ++ text_by open Column.Start line.now) }
+fn push_text(line: &[u8], unended: bool, text: &mut Vec<u8>) -> Result<(), AllocError>
+    ensures { OnOk result (vec_items text.new ≡ vec_items text.old ++ text_by unended Column.Start line.now) }
 {
     let mut column = Column::Start;
     for &byte in line {
         push_given(text, column, byte)?;
         column = column.after(byte);
     }
-    push_end(text, column, open)
+    push_end(text, column, unended)
 }
 
 /// Whether the line has a last column `\-`.

@@ -7,5 +7,5 @@ use Rattle.record_columns.proofs.joining.push_text.Given as goal
 
 abbrev pub invariant-loop-byte : goal.invariant-loop-byte
 invariant-loop-byte l =
-    vec_items l.text ++ text_by l.open l.column (drop l.byte-index l.line)
-    ≡ vec_items l.fn.text ++ text_by l.open Start l.line
+    vec_items l.text ++ text_by l.unended l.column (drop l.byte-index l.line)
+    ≡ vec_items l.fn.text ++ text_by l.unended Start l.line
