@@ -1,7 +1,8 @@
 //! Jobs that write their image, run over its file.
 ghost use Rattle.std.specs.Prelude.{◌≡◌, ◌≤◌};
 ghost use Rattle.keeper_commands.specs.Makes.{IsNewName};
-ghost use Rattle.ledger_cli.specs.Runs.{IsCopyJob, IsFormatted, IsMade, IsPlayed, IsRepairJob, IsRepaired, IsServed, IsStored};
+ghost use Rattle.ledger_cli.specs.Runs.{IsCopyJob, IsFormatted, IsMade, IsPlayed, IsRepairJob, IsRepaired, IsServed};
+ghost use Rattle.ledger_cli.specs.Runs.{IsStoreJob, IsStored};
 ghost use Rattle.ledger_cli.specs.Runs.{frees as frees_of};
 ghost use Rattle.ledger_jobs.specs.Ends.{as_job, end_of};
 ghost use Rattle.ledger_jobs.specs.Names.{name_bytes};
@@ -12,9 +13,10 @@ use crate::playing::play_written;
 use crate::stream::{begin, file_of};
 use disk_layout::Fault;
 use host_session::Printer;
+use keeper_commands::plain_lines;
 use ledger_jobs::{
-    Effect, Loss, Name, Refusal, Unowned, dry_repair_guarded, job_end, loss_refusal, make_guarded,
-    repair_guarded, serve_run, store_guarded,
+    Columns, Effect, Loss, Name, Refusal, Unowned, dry_repair_guarded, job_end, loss_refusal,
+    make_guarded, repair_guarded, serve_run, store_guarded,
 };
 use shop_commands::RunFault;
 use std::alloc::Global;

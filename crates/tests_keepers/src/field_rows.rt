@@ -51,7 +51,10 @@ fn fields_come_back(rt: HostRuntime) {
 /// record before and after.
 const PLAIN: [(&str, &str); 5] = [
     ("1,KING,LEEDS\n", "1,\"KING\\0dLEEDS\\0d\"\n"),
-    ("1,KING,LEEDS\r\n2,A", "1,\"KING\\0dLEEDS\\0d\"\n2,\"A\\0d\"\n"),
+    (
+        "1,KING,LEEDS\r\n2,A",
+        "1,\"KING\\0dLEEDS\\0d\"\n2,\"A\\0d\"\n",
+    ),
     ("7,\"A, B\",\\-\n", "7,\"A, B\"\n"),
     ("seven\n", "seven\n"),
     ("1,\"A\"B\n", "1,\"A\"B\\0d\"\n"),

@@ -87,7 +87,11 @@ fn escapes(rt: HostRuntime) {
 
 /// A record, its columns, and its text: ended by a carriage return, and not, of no bytes, and never written.
 const ALL: [(&[u8], &[u8], &[u8]); 6] = [
-    (b"KING\rLEEDS\r", b"\"KING\",\"LEEDS\"", b"KING\\0dLEEDS\\0d"),
+    (
+        b"KING\rLEEDS\r",
+        b"\"KING\",\"LEEDS\"",
+        b"KING\\0dLEEDS\\0d",
+    ),
     (b"KING\rLEEDS", b"\"KING\",\"LEEDS\",\\-", b"KING\\0dLEEDS"),
     (b"KING", b"\"KING\",\\-", b"KING"),
     (b"", b"\"\",\\-", b""),
