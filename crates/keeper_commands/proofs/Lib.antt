@@ -4,6 +4,7 @@ pub mod ColumnLines
 pub mod Composed
 pub mod Entries
 pub mod FileRecords
+pub mod FieldLines
 pub mod Files
 pub mod Folds
 pub mod Judged

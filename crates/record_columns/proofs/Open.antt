@@ -89,7 +89,7 @@ open-back [] = refl
 open-back (b ∷ bytes) = open-next (nat_eq b 13) b bytes refl (open-back bytes)
 
 -- the columns of an ended record end with a mark
-last-mark : (b : ℕ) (bytes : List ℕ) → IsEnded (b ∷ bytes)
+pub last-mark : (b : ℕ) (bytes : List ℕ) → IsEnded (b ∷ bytes)
     → (front : List ℕ) × (rest_of_columns (b ∷ bytes) ≡ front ++ 34 ∷ [])
 unfolding rest_of_columns
 last-mark b [] is = ([], subst (λ (n : ℕ). rest_of_columns (n ∷ []) ≡ 34 ∷ []) (sym is) refl)
