@@ -25,7 +25,7 @@ Example: ledger format --new shop.d64 --tills 4";
 pub(crate) const LIST: &str =
     "Prints the disk's name, a line for each entry, and how many blocks are free. `*`\n\
 before the type: the file wasn't closed. `<` after it: the file is locked.\n\
-`?` stands for a byte that ASCII lacks; with --text or --mixed its character does.\n\
+`?` stands for a byte that ASCII lacks; --text and --mixed show its character.\n\
 With several images each line begins with the image's name. So do the lines of\n\
 images that are refused, and the status is the greatest.\n\
 Status 0: printed. 1: the image is refused (IMAGE SIZE, LAYOUT). 3: FILE,\n\
@@ -91,6 +91,8 @@ Example: ledger repair --dry-run old.d64";
 /// What `records` prints, its statuses, and an example.
 pub(crate) const RECORDS: &str = "Prints a line for each record, for example 1,\"MILK\\0d\".\n\
 With --text or --mixed the lines are to be read: `store` doesn't take them back.\n\
+With --fields, and no other form, CR ends a column: 1,\"MILK\",\"12\". A last\n\
+column \\- says that the last field has no CR. `store --fields` takes them back.\n\
 Status 0: printed. 1: the image is refused (LAYOUT, IMAGE SIZE), NO FILE, or the\n\
 file has lost its end (SHORT). 2: NAME. 3: FILE, NO MEMORY, IN USE.\n\
 Example: ledger records old.d64 ADDRESS > address.csv";
@@ -113,7 +115,8 @@ Example: ledger make new.d64 ADDRESS --length 40";
 /// What `store` prints, its statuses, and an example.
 pub(crate) const STORE: &str =
     "Prints the line of each record that changed. The file grows as far as the\n\
-greatest record number.\n\
+greatest record number. With --fields a CR ends each column after the number;\n\
+otherwise a line has one column.\n\
 Status 0: stored. 1: the disk isn't clean (LAYOUT: repair it first), SHORT,\n\
 IMAGE SIZE, NO FILE, RECORDS LINE n, DISK FULL: nothing was done. 2: NAME.\n\
 3: FILE, NO MEMORY, IN USE, DEVICE.\n\
