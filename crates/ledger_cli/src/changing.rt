@@ -232,11 +232,11 @@ pub(crate) fn store_columns<F: Write + Seek + Drop, W: Write>(
     ensures { IsStoreJob F.stream_position F.stream_bytes F.contents W.contents image.now (name_bytes name.now) columns
         records.now loss file result.0 out.old out.new result.1 }
 {
-    if columns == Columns::One {
-        return store(alloc, image, name, records, loss, file, out);
-    }
-    match plain_lines(alloc, records) {
-        Ok(plain) => store(alloc, image, name, plain.as_slice(), loss, file, out),
-        Err(_) => (file, Err(Refusal::Run(RunFault::NoMemory))),
+    match columns {
+        Columns::One => store(alloc, image, name, records, loss, file, out),
+        Columns::Fields => match plain_lines(alloc, records) {
+            Ok(plain) => store(alloc, image, name, plain.as_slice(), loss, file, out),
+            Err(_) => (file, Err(Refusal::Run(RunFault::NoMemory))),
+        },
     }
 }

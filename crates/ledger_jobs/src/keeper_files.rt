@@ -116,12 +116,12 @@ fn one_column(alloc: Global, columns: Columns, text: Vec<u8>) -> Result<Vec<u8>,
     ensures ok { IfOk result (λ plain. vec_items plain ≡ text_in columns (vec_items text)) }
     ensures err { IfErr result (λ refusal. refusal ≡ refusals.Run NoMemory) }
 {
-    if columns == Columns::One {
-        return Ok(text);
-    }
-    match plain_lines(alloc, text.as_slice()) {
-        Ok(plain) => Ok(plain),
-        Err(_) => Err(Refusal::Run(RunFault::NoMemory)),
+    match columns {
+        Columns::One => Ok(text),
+        Columns::Fields => match plain_lines(alloc, text.as_slice()) {
+            Ok(plain) => Ok(plain),
+            Err(_) => Err(Refusal::Run(RunFault::NoMemory)),
+        },
     }
 }
 
