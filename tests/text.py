@@ -1,11 +1,13 @@
 #!/usr/bin/env python3
-"""Reads what `list`, `records` and `bytes` print as text, and compares it with tables and readers of its own.
+"""Reads what `list`, `records` and `bytes` print as text and in columns, and compares it with tables and readers of its own.
 
     tests/text.py PROGRAM [ROUNDS]
 
 The characters are those that cc1541 (Debian, 4.0) prints, but for the bytes that crates/petscii_text/README.md lists, as
 `characters.py` beside it compares them; lines are read by Python's `csv`. The disks are made here, by the D64 layout: in each
-round a directory with names of any bytes, a relative file and a sequential one, both of any bytes. Not part of the gate."""
+round a directory with names of any bytes, a relative file and a sequential one, both of any bytes. The columns that
+`records --fields` prints are also saved anew by `csv`, as a spreadsheet saves them, and stored on a blank disk that `cc1541`
+made: they give the same records. Not part of the gate."""
 
 import csv
 import io
@@ -47,6 +49,11 @@ def character(kind, byte):
 
 def text_of(kind, data, end="\\0d"):
     return "".join(end if byte == 13 else character(kind, byte) or f"\\{byte:02x}" for byte in data)
+
+
+def byte_text(data):
+    """Bytes as `records` prints them."""
+    return "".join(chr(b) if 0x20 <= b <= 0x7E and b not in b'"\\' else f"\\{b:02x}" for b in data)
 
 
 def chain(image, places, data):
@@ -122,6 +129,57 @@ def compare(program, path, kind, disk):
     want(len(lines) == len(names) + 3, "a line for each entry")
 
 
+def fields_of(record):
+    """The fields as `csv` reads them: what CR ends, and a mark if nothing ends the last one."""
+    parts = [byte_text(part) for part in record.split(b"\r")]
+    return parts[:-1] if record.endswith(b"\r") else parts + ["\\-"]
+
+
+def with_returns(rng, records, length):
+    """The same records with some carriage returns in them, as BASIC writes them."""
+    made = []
+    for record in records:
+        data = bytearray(record or b"A")
+        for _ in range(rng.randint(0, 3)):
+            data[rng.randrange(len(data))] = 13
+        made.append(bytes(data).rstrip(b"\0")[:length])
+    return made
+
+
+def saved_again(rows):
+    """The lines that `csv` writes, with marks only where they are needed."""
+    text = io.StringIO()
+    csv.writer(text, lineterminator="\r\n").writerows(rows)
+    return text.getvalue()
+
+
+def come_back(program, folder, rng):
+    """Records in columns, saved by `csv` and stored on a blank disk."""
+    length, image = rng.randint(5, 254), folder / "b.d64"
+    subprocess.run(["cc1541", "-q", "-n", "t", image], check=True, stdout=subprocess.DEVNULL)
+    want(printed(program, "make", image, "RECS", "--length", length)[0] == 0, "make")
+    records = with_returns(rng, [rng.randbytes(rng.randint(0, length)) for _ in range(rng.randint(1, 20))], length)
+    plain = folder / "plain.csv"
+    plain.write_text("".join(f'{n},"{byte_text(r)}"\n' for n, r in enumerate(records, 1)))
+    want(printed(program, "store", image, "RECS", plain)[0] == 0, "store")
+    status, out, err = printed(program, "records", "--fields", image, "RECS")
+    want(status == 0, f"records --fields: {status}, {err}")
+    rows = list(csv.reader(io.StringIO(out.decode(), newline="")))
+    want(rows[: len(records)] == [[str(n), *fields_of(r)] for n, r in enumerate(records, 1)], "the fields")
+    for text in (out.decode(), saved_again(rows)):
+        lines = folder / "fields.csv"
+        lines.write_text(text, newline="")
+        want(printed(program, "store", "--fields", image, "RECS", lines) == (0, b"", ""), "nothing changes")
+        other = folder / "c.d64"
+        other.unlink(missing_ok=True)
+        subprocess.run(["cc1541", "-q", "-n", "t", other], check=True, stdout=subprocess.DEVNULL)
+        printed(program, "make", other, "RECS", "--length", length)
+        want(printed(program, "store", "--fields", other, "RECS", lines)[0] == 0, "store --fields")
+        again = printed(program, "records", "--fields", other, "RECS")
+        want(again[1][: len(out)] == out, "the same records")
+    image.unlink()
+
+
 def main():
     program, rounds = sys.argv[1], int(sys.argv[2]) if len(sys.argv) > 2 else 200
     rng = random.Random(1541)
@@ -130,7 +188,8 @@ def main():
             disk = a_disk(rng)
             for kind in ("text", "mixed"):
                 compare(program, Path(folder) / "a.d64", kind, disk)
-    print(f"text: {rounds} disks of any bytes were listed, and their records and bytes read, in both sets, as the tables say")
+            come_back(program, Path(folder), rng)
+    print(f"text: {rounds} disks of any bytes were listed and read in both sets as the tables say, and {rounds} files came back in columns")
 
 
 main()

@@ -151,7 +151,7 @@ taking-met o found name at what image (Ok (jobs.Repair path loss unowned effect)
     absurd taking
 taking-met o found name at what image (Ok (jobs.Make path text length loss)) told some is by-image by taking =
     absurd taking
-taking-met o found name at what image (Ok (jobs.Store path text records loss)) told some is by-image by taking =
+taking-met o found name at what image (Ok (jobs.Store path text records columns loss)) told some is by-image by taking =
     absurd taking
 taking-met o found name at what image (Ok (jobs.Draw asked path)) told some is by-image by taking = absurd taking
 taking-met o found name at what image (Err faults.Name) told some is by-image by taking =
@@ -187,7 +187,7 @@ making-met o found name at image (Ok (jobs.Serve path way durability loss)) told
 making-met o found name at image (Ok (jobs.Copy path copy)) told some is by-image job = absurd job
 making-met o found name at image (Ok (jobs.Repair path loss unowned effect)) told some is by-image job = absurd job
 making-met o found name at image (Ok (jobs.Take asked path text)) told some is by-image job = absurd job
-making-met o found name at image (Ok (jobs.Store path text records loss)) told some is by-image job = absurd job
+making-met o found name at image (Ok (jobs.Store path text records columns loss)) told some is by-image job = absurd job
 making-met o found name at image (Ok (jobs.Draw asked path)) told some is by-image job = absurd job
 making-met o found name at image (Err faults.Name) told some is by-image job =
     ((refl, inr (inr (met-has o found name at (codes "make") HasNoNewName told some is job))), tt)
@@ -204,8 +204,8 @@ pub storing-met : (o : Option (Bor Text × Bor ArgMatches)) (found : Option (Tex
     → option_map (λ (p : Bor Text × Bor ArgMatches). (p.0.now, rows_of (found_of p.1.now))) o ≡ found
     → o ≡ Some (name, at) → name.now ≡ codes "store" → image ≡ value (codes "IMAGE") (rows_of (found_of at.now))
     → IsStoringJob (rows_of (found_of at.now)) image r → MatchResult r (IsJob found) (IsNoJob [] found) × IfOk r IsFit
-storing-met o found name at image (Ok (jobs.Store path text records loss)) told some is by-image job =
-    (met-has o found name at (codes "store") _ told some is (job.0 ∙ by-image, job.1, job.2, job.3), tt)
+storing-met o found name at image (Ok (jobs.Store path text records columns loss)) told some is by-image job =
+    (met-has o found name at (codes "store") _ told some is (job.0 ∙ by-image, job.1, job.2, job.3, job.4), tt)
 storing-met o found name at image (Ok (jobs.Format path tills)) told some is by-image job = absurd job
 storing-met o found name at image (Ok (jobs.FormatNew path tills)) told some is by-image job = absurd job
 storing-met o found name at image (Ok (jobs.List form path)) told some is by-image job = absurd job

@@ -6,6 +6,8 @@ use Rattle.keeper_commands.specs.declared.forms.ByteForm.{ByteForm}
 use Rattle.keeper_commands.specs.declared.forms.ByteForm.TheVariants as bytes
 use Rattle.keeper_commands.specs.declared.forms.RecordForm.{RecordForm}
 use Rattle.keeper_commands.specs.declared.forms.RecordForm.TheVariants as records
+use Rattle.ledger_jobs.specs.declared.jobs.Columns.{Columns}
+use Rattle.ledger_jobs.specs.declared.jobs.Columns.TheVariants as columns
 use Rattle.ledger_jobs.specs.declared.jobs.Overview.{Overview}
 use Rattle.ledger_jobs.specs.declared.jobs.Overview.TheVariants as overviews
 use Rattle.ledger_jobs.specs.declared.jobs.Taking.{Taking}
@@ -34,8 +36,12 @@ abbrev pub name_form : Option CharacterSet → NameForm
 name_form None = names.Ascii
 name_form (Some set) = names.Text set
 
+-- with --fields records have a column for each field, and are no text
 abbrev pub record_form_in : List Row → RecordForm
-record_form_in rows = record_form (set_in rows)
+record_form_in rows = if is_given (codes "fields") rows then records.Fields else record_form (set_in rows)
+
+abbrev pub columns_in : List Row → Columns
+columns_in rows = if is_given (codes "fields") rows then columns.Fields else columns.One
 
 abbrev pub byte_form_in : List Row → ByteForm
 byte_form_in rows = byte_form (set_in rows)

@@ -31,7 +31,7 @@ use Rattle.ledger_jobs.specs.declared.jobs.Unowned.TheVariants as unowneds
 use Rattle.ledger_jobs.specs.declared.jobs.Way.{Way}
 use Rattle.ledger_jobs.specs.declared.jobs.Way.TheVariants as ways
 use Rattle.ledger_jobs.specs.Names.{IsNameOf, name_bytes}
-use Rattle.command_line.specs.Forms.{IsTakenBy, IsViewedBy}
+use Rattle.command_line.specs.Forms.{IsTakenBy, IsViewedBy, columns_in}
 pub use Rattle.command_line.specs.Flags.{is_given}
 use Rattle.command_line.specs.declared.faults.JobFault.{JobFault}
 use Rattle.command_line.specs.declared.faults.JobFault.TheVariants as faults
@@ -209,9 +209,9 @@ IsJob found (jobs.Take what image name) = Has found (word_of_taking what)
 IsJob found (jobs.Make image name length loss) = Has found (codes "make")
     (λ rows. (image.now ≡ value (codes "IMAGE") rows) × IsNameOf (value (codes "NAME") rows) (name_bytes name)
     × (length_in rows ≡ Some length) × (loss ≡ loss_in rows))
-IsJob found (jobs.Store image name records loss) = Has found (codes "store")
+IsJob found (jobs.Store image name records columns loss) = Has found (codes "store")
     (λ rows. (image.now ≡ value (codes "IMAGE") rows) × IsNameOf (value (codes "NAME") rows) (name_bytes name)
-    × (records.now ≡ value (codes "RECORDS") rows) × (loss ≡ loss_in rows))
+    × (records.now ≡ value (codes "RECORDS") rows) × (columns ≡ columns_in rows) × (loss ≡ loss_in rows))
 IsJob found (jobs.Draw what image) = Has found (word_of_drawing what)
     (λ rows. (image.now ≡ value (codes "IMAGE") rows) × IsDrawnBy what rows)
 
@@ -235,9 +235,9 @@ IsMakingJob rows image (Err _) = ⊥
 
 -- and of the one that stores records in one
 abbrev pub IsStoringJob : List Row → Text → Result Job JobFault → Type 0
-IsStoringJob rows image (Ok (jobs.Store path name records loss)) =
+IsStoringJob rows image (Ok (jobs.Store path name records columns loss)) =
     (path.now ≡ image) × IsNameOf (value (codes "NAME") rows) (name_bytes name)
-    × (records.now ≡ value (codes "RECORDS") rows) × (loss ≡ loss_in rows)
+    × (records.now ≡ value (codes "RECORDS") rows) × (columns ≡ columns_in rows) × (loss ≡ loss_in rows)
 IsStoringJob rows image (Ok _) = ⊥
 IsStoringJob rows image (Err faults.Name) = HasNoName rows
 IsStoringJob rows image (Err _) = ⊥

@@ -14,14 +14,14 @@ ghost use Rattle.command_line.specs.Jobs.{effect_in, format_job, job_of_one, los
 ghost use Rattle.rel_records.specs.File.{IsLength};
 ghost use Rattle.command_line.specs.Jobs.{is_explained as explained, is_given as given, serve_durability as of_serve};
 ghost use Rattle.command_line.specs.Jobs.{way_in};
-ghost use Rattle.command_line.specs.Forms.{byte_form_in, name_form_in, record_form_in, set_in};
+ghost use Rattle.command_line.specs.Forms.{byte_form_in, columns_in, name_form_in, record_form_in, set_in};
 
 use crate::faults::JobFault;
 use clap::{ArgMatches, Error};
 use command_table::ledger_command;
 use disk_pictures::MOST_TILES;
 use keeper_commands::{ByteForm, RecordForm};
-use ledger_jobs::{Drawing, Effect, Job, Loss, Name, Overview, Taking, Unowned, Way};
+use ledger_jobs::{Columns, Drawing, Effect, Job, Loss, Name, Overview, Taking, Unowned, Way};
 use petscii_text::CharacterSet;
 use request_cards::number;
 use shop_commands::{Durability, NameForm};
@@ -147,10 +147,24 @@ fn text_set<'a>(matches: &ArgMatches<'a>) -> Option<CharacterSet>
     None
 }
 
+/// How the lines of a text have the records.
+fn columns<'a>(matches: &ArgMatches<'a>) -> Columns
+    ensures { result ≡ columns_in (rows_of (found_of matches.now)) }
+{
+    if is_given(matches, "fields") {
+        Columns::Fields
+    } else {
+        Columns::One
+    }
+}
+
 /// How records are printed.
 fn record_form<'a>(matches: &ArgMatches<'a>) -> RecordForm
     ensures { result ≡ record_form_in (rows_of (found_of matches.now)) }
 {
+    if is_given(matches, "fields") {
+        return RecordForm::Fields;
+    }
     match text_set(matches) {
         Some(set) => RecordForm::Text(set),
         None => RecordForm::Lines,
@@ -361,6 +375,7 @@ fn storing<'a>(matches: &ArgMatches<'a>, image: &'a str) -> Result<Job<'a>, JobF
             image,
             name,
             records,
+            columns: columns(matches),
             loss: loss(matches),
         }),
         None => Err(JobFault::Name),

@@ -73,9 +73,10 @@ abbrev pub repair : App
 repair = with_rule (with_rule (may_accept_loss (over_image (codes "repair"))) (flag (codes "free")))
     (flag (codes "dry-run"))
 
--- records IMAGE NAME [--text] [--mixed]
+-- records IMAGE NAME [--text] [--mixed] [--fields]
 abbrev pub records : App
-records = may_be_text (with_rule (over_image (codes "records")) (required (codes "NAME")))
+records = with_rule (may_be_text (with_rule (over_image (codes "records")) (required (codes "NAME"))))
+    (flag (codes "fields"))
 
 -- bytes IMAGE NAME [--text] [--mixed]
 abbrev pub bytes : App
@@ -86,10 +87,10 @@ abbrev pub make : App
 make = may_accept_loss (with_rule (with_rule (over_image (codes "make")) (required (codes "NAME")))
     (required_behind (codes "length") (codes "L")))
 
--- store IMAGE NAME RECORDS [--accept-loss]
+-- store IMAGE NAME RECORDS [--accept-loss] [--fields]
 abbrev pub store : App
-store = may_accept_loss (with_rule (with_rule (over_image (codes "store")) (required (codes "NAME")))
-    (required (codes "RECORDS")))
+store = with_rule (may_accept_loss (with_rule (with_rule (over_image (codes "store")) (required (codes "NAME")))
+    (required (codes "RECORDS")))) (flag (codes "fields"))
 
 -- map IMAGE..
 abbrev pub map : App

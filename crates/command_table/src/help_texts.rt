@@ -145,6 +145,8 @@ Example: ledger repair --dry-run old.d64";
 pub(crate) const RECORDS: &str = "\
 Prints a line for each record, for example 1,\"MILK\\0d\".
 With --text or --mixed the lines are to be read: `store` doesn't take them back.
+With --fields, and no other form, CR ends a column: 1,\"MILK\",\"12\". A last
+column \\- says that the last field has no CR. `store --fields` takes them back.
 
 Exit status:
   0  the records were printed
@@ -185,7 +187,8 @@ Example: ledger make new.d64 ADDRESS --length 40";
 /// What `store` prints, its statuses, and an example.
 pub(crate) const STORE: &str = "\
 Prints the line of each record that changed. The file grows as far as the
-greatest record number.
+greatest record number. With --fields a CR ends each column after the number;
+otherwise a line has one column.
 
 Exit status:
   0  the records were stored

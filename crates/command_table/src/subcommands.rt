@@ -86,6 +86,14 @@ pub(crate) const EXPLAIN: Value = Value {
     help: "Says more on standard error if the command fails",
 };
 
+/// The flag of those that print records or store them.
+const FIELDS: Value = Value {
+    name: "fields",
+    word: Some("fields"),
+    count: Count::Flag,
+    help: "A column for each field, which CR ends, instead of one column",
+};
+
 /// The flag of those that print text of the disk.
 const TEXT: Value = Value {
     name: "text",
@@ -237,12 +245,12 @@ pub(crate) const SUBCOMMANDS: [Subcommand; 15] = [
             },
         ],
     },
-    // records IMAGE NAME [--text] [--mixed]
+    // records IMAGE NAME [--text] [--mixed] [--fields]
     Subcommand {
         name: "records",
         about: "Prints the records of a relative file, a line each",
         more: RECORDS,
-        values: &[IMAGE, NAME, TEXT, MIXED],
+        values: &[IMAGE, NAME, TEXT, MIXED, FIELDS],
     },
     // bytes IMAGE NAME [--text] [--mixed]
     Subcommand {
@@ -268,12 +276,12 @@ pub(crate) const SUBCOMMANDS: [Subcommand; 15] = [
             ACCEPT_LOSS,
         ],
     },
-    // store IMAGE NAME RECORDS [--accept-loss]
+    // store IMAGE NAME RECORDS [--accept-loss] [--fields]
     Subcommand {
         name: "store",
         about: "Stores records in a relative file, and prints those that changed",
         more: STORE,
-        values: &[IMAGE, NAME, RECORD_LINES, ACCEPT_LOSS],
+        values: &[IMAGE, NAME, RECORD_LINES, ACCEPT_LOSS, FIELDS],
     },
     // map IMAGE..
     Subcommand {

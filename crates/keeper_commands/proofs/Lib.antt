@@ -1,8 +1,10 @@
 pub mod Again
 pub mod Blocks
+pub mod ColumnLines
 pub mod Composed
 pub mod Entries
 pub mod FileRecords
+pub mod FieldLines
 pub mod Files
 pub mod Folds
 pub mod Judged

@@ -66,7 +66,7 @@ line-ended n r =
     append_assoc (decimal n) (44 ∷ (34 ∷ (t ++ 34 ∷ []))) (10 ∷ [])
     ∙ ap (λ (zs : List ℕ). decimal n ++ (44 ∷ (34 ∷ zs))) (append_assoc t (34 ∷ []) (10 ∷ []))
 
-lacks-both : (xs ys : List ℕ) → Lacks 10 xs → Lacks 10 ys → Lacks 10 (xs ++ ys)
+pub lacks-both : (xs ys : List ℕ) → Lacks 10 xs → Lacks 10 ys → Lacks 10 (xs ++ ys)
 lacks-both [] ys l m = m
 lacks-both (x ∷ xs) ys l m = (l.0, lacks-both xs ys l.1 m)
 
@@ -79,7 +79,7 @@ chosen plain b = if plain then b ∷ [] else 92 ∷ digit (b / 16) ∷ digit (b 
 feed-is-none : is_plain 10 ≡ true → ⊥
 feed-is-none e = cc
 
-chosen-lacks : (p : Bool) (b : ℕ) → is_plain b ≡ p → Lacks 10 (chosen p b)
+pub chosen-lacks : (p : Bool) (b : ℕ) → is_plain b ≡ p → Lacks 10 (chosen p b)
 chosen-lacks true b plain = ((λ is. feed-is-none (subst (λ (m : ℕ). is_plain m ≡ true) is plain)), tt)
 chosen-lacks false b plain =
     let digits : Lacks 10 (digit (b / 16) ∷ digit (b % 16) ∷ []) = (digit-not (b / 16), (digit-not (b % 16), tt)) in
@@ -89,7 +89,7 @@ text-lacks : (bs : List ℕ) → Lacks 10 (text_of bs)
 text-lacks [] = tt
 text-lacks (b ∷ bs) = lacks-both (byte_text b) (text_of bs) (chosen-lacks (is_plain b) b refl) (text-lacks bs)
 
-digits-lack : (xs : List ℕ) → AllDigits 10 xs → Lacks 10 xs
+pub digits-lack : (xs : List ℕ) → AllDigits 10 xs → Lacks 10 xs
 digits-lack [] d = tt
 digits-lack (x ∷ xs) d = ((λ is. let h = digit_from_value x d.0 in omega (arith, h.0, is)), digits-lack xs d.1)
 
@@ -103,7 +103,7 @@ line-lacks n r le =
     (digits-lack (decimal n) (decimal_is_IsNumeral n (omega (arith, le))).0.1)
     ((λ is. omega (arith, is)), quoted)
 
-last-is : (xs : List ℕ) (c : ℕ) → slice_index (xs ++ c ∷ []) (length (xs ++ c ∷ []) - 1) ≡ c
+pub last-is : (xs : List ℕ) (c : ℕ) → slice_index (xs ++ c ∷ []) (length (xs ++ c ∷ []) - 1) ≡ c
 last-is xs c =
     let long : length (xs ++ c ∷ []) - 1 ≡ length xs = omega (arith, length-append xs (c ∷ [])) in
     ap (λ (i : ℕ). slice_index (xs ++ c ∷ []) i) long ∙ get_or-append_seam xs c [] 0
@@ -127,11 +127,11 @@ piece-more b true ps some = omega arith
 piece-more b false [] some = absurd (omega (arith, some))
 piece-more b false (p ∷ ps) some = omega arith
 
-some-piece : (bs : List ℕ) → 1 ≤ length (split 10 bs)
+pub some-piece : (bs : List ℕ) → 1 ≤ length (split 10 bs)
 some-piece [] = omega arith
 some-piece (b ∷ bs) = piece-more b (b == 10) (split 10 bs) (some-piece bs)
 
-ended-more : (x : List ℕ) (ps : List (List ℕ)) → 1 ≤ length ps → ended (x ∷ ps) ≡ without_cr x ∷ ended ps
+pub ended-more : (x : List ℕ) (ps : List (List ℕ)) → 1 ≤ length ps → ended (x ∷ ps) ≡ without_cr x ∷ ended ps
 ended-more x [] some = absurd (omega (arith, some))
 ended-more x (p ∷ ps) some = refl
 

@@ -4,6 +4,7 @@ use Rattle.byte_text.specs.Texts.{record_line, trimmed}
 use Rattle.petscii_text.specs.Characters.{readable}
 use Rattle.petscii_text.specs.declared.characters.CharacterSet.{CharacterSet}
 use Rattle.quoted_text.specs.Quoted.{quoted}
+use Rattle.record_columns.specs.Columns.{all_columns}
 use Rattle.keeper_commands.specs.Records.{records_text}
 use Rattle.keeper_commands.specs.declared.forms.ByteForm.{ByteForm}
 use Rattle.keeper_commands.specs.declared.forms.ByteForm.TheVariants as bytes
@@ -15,10 +16,15 @@ use Rattle.keeper_commands.specs.declared.forms.RecordForm.TheVariants as forms
 abbrev pub text_line : CharacterSet → ℕ → List ℕ → List ℕ
 text_line set n r = decimal n ++ (codes "," ++ (quoted set (trimmed r) ++ codes "\n"))
 
+-- a record's line with a column for each field. Record 3 of KING, CR, LEEDS, CR and zeros is 3,"KING","LEEDS"
+abbrev pub fields_line : ℕ → List ℕ → List ℕ
+fields_line n r = decimal n ++ (codes "," ++ (all_columns (trimmed r) ++ codes "\n"))
+
 -- a record's line in each form
 abbrev pub form_line : RecordForm → ℕ → List ℕ → List ℕ
 form_line forms.Lines n r = record_line n r
 form_line (forms.Text set) n r = text_line set n r
+form_line forms.Fields n r = fields_line n r
 
 -- the lines of the first n of these records in a form, record 1 first
 abbrev pub form_lines_to : RecordForm → List (List ℕ) → ℕ → List ℕ
@@ -29,6 +35,7 @@ form_lines_to form rs (suc n) = form_lines_to form rs n ++ form_line form (n + 1
 abbrev pub records_as : RecordForm → List (List ℕ) → List ℕ
 records_as forms.Lines rs = records_text rs
 records_as (forms.Text set) rs = form_lines_to (forms.Text set) rs (length rs)
+records_as forms.Fields rs = form_lines_to forms.Fields rs (length rs)
 
 -- the bytes of a file in each form
 abbrev pub bytes_as : ByteForm → List ℕ → List ℕ

@@ -1,4 +1,5 @@
 pub mod Bytes
+pub mod ColumnLines
 pub mod Faults
 pub mod Forms
 pub mod Kinds

@@ -8,6 +8,8 @@ pub enum RecordForm {
     Lines,
     /// As lines that people read, in the characters of this set. They aren't read back.
     Text(CharacterSet),
+    /// As lines with a column for each field, which `plain_lines` makes lines that `store_image` reads.
+    Fields,
 }
 
 /// How the bytes of a file are printed.

@@ -7,9 +7,11 @@ ghost use Rattle.d64_image.specs.Images.{Image};
 ghost use Rattle.d64_image.specs.Memory.{sectors_in};
 ghost use Rattle.disk_layout.specs.Layout.{File, record_length};
 ghost use Rattle.disk_layout.specs.Records.{records};
+ghost use Rattle.keeper_commands.specs.ColumnLines.{plain_text};
+ghost use Rattle.keeper_commands.specs.Forms.{records_as};
 ghost use Rattle.keeper_commands.specs.Printed.{AreRecordsPrinted};
 ghost use Rattle.keeper_commands.specs.Records.{IsRecordFile, records_text};
-ghost use Rattle.keeper_commands.specs.declared.forms.RecordForm.TheVariants.{Lines};
+ghost use Rattle.keeper_commands.specs.declared.forms.RecordForm.TheVariants.{Fields, Lines};
 ghost use Rattle.keeper_commands.specs.Repairs.{IsMendedAs, mended_text};
 ghost use Rattle.keeper_commands.specs.Stores.{
   AreApart,
@@ -88,6 +90,12 @@ pub fn records_come_back<D: Sectors, W: Write>()
         → (records_had f ≡ length rs)
         ⊎ (length rs ≡ full (record_length f.slot) (blocks_for (record_length f.slot) (length rs)))
         → put_over rs (D.history.image d) f ≡ rs }
+{}
+
+/// What `records_image` prints of a file with a column for each field, `plain_lines` makes what it prints of that file with
+/// one column for each record: so `store_image` stores the one as the other (`records_come_back`).
+pub fn fields_come_back()
+    ensures { (rs : List (List ℕ)) → length rs ≤ 182880 → plain_text (records_as Fields rs) ≡ records_text rs }
 {}
 
 /// Two repairs of one image print the same, and leave as many sectors: what a repair of a copy prints, one of the disk

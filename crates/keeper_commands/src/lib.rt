@@ -4,6 +4,7 @@
 
 mod byte_printing;
 mod chains;
+mod column_lines;
 mod faults;
 mod forms;
 mod judging;
@@ -21,10 +22,11 @@ mod record_storing;
 mod storing;
 
 pub use byte_printing::bytes_image;
+pub use column_lines::plain_lines;
 pub use faults::KeepFault;
 pub use forms::{ByteForm, RecordForm};
 pub use laws::{
-    last_lines_count, printed_records_are_stored, records_come_back, repairs_print_the_same,
+    fields_come_back, last_lines_count, printed_records_are_stored, records_come_back, repairs_print_the_same,
     stored_again_is_quiet, stored_records_are_so,
 };
 pub use loading::load;

@@ -18,6 +18,7 @@ use d64_image::MemDisk;
 use disk_layout::DATA;
 use petscii_text::CharacterSet;
 use quoted_text::Quoted;
+use record_columns::write_all_columns;
 use rel_records::{LastBlock, RelFile, read_next, records};
 use std::io::{self, Write};
 
@@ -34,6 +35,15 @@ fn write_text_line<W: Write>(
     writeln!(out, "{number},{}", Quoted { set, bytes })
 }
 
+/// Writes the line of a record with a column for each field.
+fn write_fields_line<W: Write>(out: &mut W, number: u32, bytes: &[u8]) -> io::Result<()>
+    ensures { OnOk result (Appends (W.contents out.old) (W.contents out.new) (forms.fields_line number bytes.now)) }
+{
+    write!(out, "{number},")?;
+    write_all_columns(out, trim(bytes))?;
+    out.write_all(b"\n")
+}
+
 /// Writes the line of a record in this form.
 fn write_form_line<W: Write>(
     out: &mut W,
@@ -47,6 +57,7 @@ fn write_form_line<W: Write>(
     match form {
         RecordForm::Lines => write_line(out, number, bytes),
         RecordForm::Text(set) => write_text_line(out, set, number, bytes.as_slice()),
+        RecordForm::Fields => write_fields_line(out, number, bytes.as_slice()),
     }
 }
 

@@ -109,6 +109,7 @@ fn put_records_as<W: Write>(
     match form {
         RecordForm::Lines => put_records(out, disk, file),
         RecordForm::Text(_) => print_lines(out, disk, file, form),
+        RecordForm::Fields => print_lines(out, disk, file, form),
     }
 }
 

@@ -3,7 +3,7 @@ ghost use Rattle.std.specs.Prelude.{◌≡◌, Option};
 ghost use Rattle.ledger_cli.specs.Runs.{IsJobRun, IsRead, IsRun};
 ghost use Rattle.ledger_jobs.specs.Jobs.{IsFit};
 
-use crate::changing::{Ended, copy, format, make, play, repair, serve, store};
+use crate::changing::{Ended, copy, format, make, play, repair, serve, store_columns};
 use ledger_jobs::{
     Job, Reading, Refusal, drawing_run, drawn_end, end, job_end, reading_run, take_told,
 };
@@ -52,7 +52,12 @@ fn obey<F: Write + Seek + Drop, W: Write>(
             loss,
             ..
         } => make(alloc, image, name, length, loss, file, out),
-        Job::Store { ref name, loss, .. } => store(alloc, image, name, script, loss, file, out),
+        Job::Store {
+            ref name,
+            columns,
+            loss,
+            ..
+        } => store_columns(alloc, image, name, columns, script, loss, file, out),
         Job::Take { what, ref name, .. } => {
             let ended = take_told(alloc, what, image, name.as_bytes(), out);
             (file, ended)

@@ -1,3 +1,4 @@
+pub mod Columns
 pub mod Copies
 pub mod Drawings
 pub mod DurableRuns

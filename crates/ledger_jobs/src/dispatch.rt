@@ -359,8 +359,9 @@ where
             image,
             ref name,
             records,
+            columns,
             loss,
-        } => do_store(rt, image, name, records, loss, out),
+        } => do_store(rt, image, name, records, columns, loss, out),
         Job::Take {
             what,
             image,

@@ -25,6 +25,15 @@ pub enum Taking {
     Bytes(ByteForm),
 }
 
+/// How the records of a text stand in its lines.
+#[derive(Clone, Copy, Debug, PartialEq, Eq)]
+pub enum Columns {
+    /// One column for each record.
+    One,
+    /// One for each field of a record.
+    Fields,
+}
+
 /// How an image is drawn: which sector is whose, and what a check of it tells.
 #[derive(Clone, Copy, Debug, PartialEq, Eq)]
 pub enum Drawing {
@@ -193,6 +202,8 @@ pub enum Job<'a> {
         name: Name,
         /// The text's path.
         records: &'a str,
+        /// How its lines have the records.
+        columns: Columns,
         /// What is done where the disk has lost a part of a file.
         loss: Loss,
     },

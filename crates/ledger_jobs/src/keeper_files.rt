@@ -1,22 +1,27 @@
 //! What a keeper's job writes: the image at a path, over its file.
-ghost use Rattle.std.specs.Prelude.{◌≡◌, IfOk, length, vec_items};
+ghost use Rattle.std.specs.Prelude.{◌≡◌, IfErr, IfOk, length, vec_items};
 ghost use Rattle.d64_image.specs.Keeps.{Agrees};
 ghost use Rattle.d64_image.specs.Memory.{sectors_in};
 ghost use Rattle.keeper_commands.specs.Makes.{IsNewName};
 ghost use Rattle.shop_commands.specs.ImageFile.{is_synced, placed};
+ghost use Rattle.shop_commands.specs.declared.faults.RunFault.TheVariants.{NoMemory};
+ghost use Rattle.ledger_jobs.specs.Columns.{text_in};
 ghost use Rattle.ledger_jobs.specs.Names.{name_bytes};
+ghost use Rattle.ledger_jobs.specs.declared.refusals.Refusal.TheVariants as refusals;
 ghost use Rattle.rel_records.specs.File.{IsLength};
 
 use crate::dispatch::{image_at, told};
 use crate::files::script_at;
 use crate::image_logs::opened_and_landed;
-use crate::jobs::{Effect, Loss, Unowned};
+use crate::jobs::{Columns, Effect, Loss, Unowned};
 use crate::locks::own_image;
 use crate::losses::{dry_repair_guarded, make_guarded, repair_guarded, store_guarded};
 use crate::names::Name;
 use crate::refusals::Refusal;
 use disk_layout::Fault;
-use shop_commands::{Durability, EndedFile, ImageFile, Locks};
+use keeper_commands::plain_lines;
+use shop_commands::{Durability, EndedFile, ImageFile, Locks, RunFault};
+use std::alloc::Global;
 use std::fs::OpenFile;
 use std::io::{Read, Write};
 use std::rt::Files;
@@ -106,12 +111,27 @@ where
     made
 }
 
+/// The text with one column for each record. `NoMemory` if there was none for it.
+fn one_column(alloc: Global, columns: Columns, text: Vec<u8>) -> Result<Vec<u8>, Refusal>
+    ensures ok { IfOk result (λ plain. vec_items plain ≡ text_in columns (vec_items text)) }
+    ensures err { IfErr result (λ refusal. refusal ≡ refusals.Run NoMemory) }
+{
+    match columns {
+        Columns::One => Ok(text),
+        Columns::Fields => match plain_lines(alloc, text.as_slice()) {
+            Ok(plain) => Ok(plain),
+            Err(_) => Err(Refusal::Run(RunFault::NoMemory)),
+        },
+    }
+}
+
 /// Stores the records of the text at a path in a relative file of the image at another, over its file.
 pub(crate) fn do_store<F, R, W>(
     rt: &R,
     path: &str,
     name: &Name,
     records: &str,
+    columns: Columns,
     loss: Loss,
     out: &mut W,
 ) -> Result<Option<Fault>, Refusal>
@@ -121,7 +141,7 @@ where
     W: Write,
 {
     let (image, file) = image_to_keep(rt, path)?;
-    let text = told(script_at(rt, records))?;
+    let text = one_column(rt.alloc(), columns, told(script_at(rt, records))?)?;
     let (_, ended) = store_guarded(
         rt.alloc(),
         image.as_slice(),

@@ -33,7 +33,7 @@ pub use drawing::drawing_run;
 pub use durable_runs::{play_durably, serve_durably};
 pub use endings::{Ending, end, tell};
 pub use explanations::{announce, explain, tell_cut};
-pub use jobs::{Drawing, Effect, Job, Loss, Overview, Reading, Taking, Unowned, Way};
+pub use jobs::{Columns, Drawing, Effect, Job, Loss, Overview, Reading, Taking, Unowned, Way};
 pub use keeper_runs::{dry_repair_run, make_run, repair_run, store_run, taking_run};
 pub use logged_runs::serve_logged;
 pub use losses::{

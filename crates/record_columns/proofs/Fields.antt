@@ -17,10 +17,10 @@ quoted-step b rest no_mark =
     ap (λ (p : Bool). (if p then [] else b ∷ []) ++ one_text (if p then Closed else Quoted) rest) no_mark
 
 -- a digit is no quotation mark
-digit-no_mark : (n : ℕ) → nat_eq (digit n) 34 ≡ false
+pub digit-no_mark : (n : ℕ) → nat_eq (digit n) 34 ≡ false
 digit-no_mark n = grind arith
 
-plain-no_mark : (b : ℕ) → is_plain b ≡ true → nat_eq b 34 ≡ false
+pub plain-no_mark : (b : ℕ) → is_plain b ≡ true → nat_eq b 34 ≡ false
 plain-no_mark b plain = grind arith
 
 quoted-chosen : (p : Bool) (b : ℕ) (rest : List ℕ) → is_plain b ≡ p
@@ -38,7 +38,7 @@ quoted-byte : (b : ℕ) (rest : List ℕ) → one_text Quoted (byte_text b ++ re
 quoted-byte b rest = quoted-chosen (is_plain b) b rest refl
 
 -- what ends with a carriage return does so without its first byte too
-ended-rest : (b c : ℕ) (rest : List ℕ) → IsEnded (b ∷ c ∷ rest) → IsEnded (c ∷ rest)
+pub ended-rest : (b c : ℕ) (rest : List ℕ) → IsEnded (b ∷ c ∷ rest) → IsEnded (c ∷ rest)
 ended-rest b c rest is =
     let place : length (b ∷ c ∷ rest) - 1 ≡ suc (length (c ∷ rest) - 1) = omega arith in
     sym (ap (λ (k : ℕ). get_or (b ∷ c ∷ rest) k 0) place) ∙ is

@@ -1,6 +1,7 @@
 -- Fields of records as columns, by RFC 4180. A BASIC program ends each field with a carriage return, $0D. The text of a
 -- byte is that of byte_text. All else is our own.
-use Rattle.std.specs.Prelude.{◌≡◌, ◌≢◌, ◌-◌, ℕ, Bool, List, [], ◌∷◌, ◌++◌, false, true, if◌then◌else◌, length, nat_eq, slice_index}
+use Rattle.std.specs.Prelude.{◌≡◌, ◌≢◌, ◌-◌, ◌&&◌, ℕ, Bool, List, [], ◌∷◌, ◌++◌, codes, false, true, if◌then◌else◌}
+use Rattle.std.specs.Prelude.{length, nat_eq, slice_index, take}
 use Rattle.std.specs.List.{AllByRecursion}
 use Rattle.byte_text.specs.Texts.{byte_text, text_of}
 use Rattle.record_columns.specs.declared.reading.Column.{Column}
@@ -27,6 +28,15 @@ rest_of_columns (b ∷ bytes) = piece b (is_empty bytes) ++ rest_of_columns byte
 -- a record that ends with a carriage return as columns. KING, CR, LEEDS, CR is "KING","LEEDS"
 abbrev pub columns_of : List ℕ → List ℕ
 columns_of bytes = 34 ∷ rest_of_columns bytes
+
+-- a record that doesn't end with one: as if it did, and a last column that says that it doesn't. KING is "KING",\-
+abbrev pub open_columns : List ℕ → List ℕ
+open_columns bytes = columns_of (bytes ++ 13 ∷ []) ++ codes ",\\-"
+
+-- any record as columns
+abbrev pub all_columns : List ℕ → List ℕ
+all_columns bytes =
+    if nat_eq (slice_index bytes (length bytes - 1)) 13 then columns_of bytes else open_columns bytes
 
 -- fields as the record has them, and as columns
 abbrev pub ended : List ℕ → List ℕ
@@ -68,3 +78,23 @@ given_at_end _ = 92 ∷ 48 ∷ 100 ∷ []
 unfoldable pub one_text : Column → List ℕ → List ℕ
 one_text column [] = given_at_end column
 one_text column (b ∷ text) = given column b ++ one_text (next_column column b) text
+
+-- what the end of the line gives where no carriage return ends the last field
+abbrev pub open_at_end : Column → List ℕ
+open_at_end Quoted = 34 ∷ []
+open_at_end _ = []
+
+-- the same text where it is said whether the last field is unended so
+unfoldable pub text_by : Bool → Column → List ℕ → List ℕ
+text_by unended column [] = if unended then open_at_end column else given_at_end column
+text_by unended column (b ∷ text) = given column b ++ text_by unended (next_column column b) text
+
+-- the line has a last column `\-`, which is no text of bytes
+abbrev pub is_marked : List ℕ → Bool
+is_marked line = nat_eq (slice_index line (length line - 3)) 44
+    && (nat_eq (slice_index line (length line - 2)) 92 && nat_eq (slice_index line (length line - 1)) 45)
+
+-- any columns as the text of one record. A,B,\- is A\0dB
+abbrev pub columns_text : List ℕ → List ℕ
+columns_text line =
+    if is_marked line then text_by true Start (take (length line - 3) line) else text_by false Start line

@@ -2,13 +2,27 @@
 ghost use Rattle.std.specs.Prelude.{◌≡◌, ◌≢◌, ℕ, List, [], flat_map};
 ghost use Rattle.std.specs.List.{AllByRecursion};
 ghost use Rattle.byte_text.specs.Texts.{text_of};
-ghost use Rattle.record_columns.specs.Columns.{IsEnded, IsField, columns_of, columns_of_fields, ended, one_text};
+ghost use Rattle.record_columns.specs.Columns.{
+  IsEnded,
+  IsField,
+  all_columns,
+  columns_of,
+  columns_of_fields,
+  columns_text,
+  ended,
+  one_text,
+};
 ghost use Rattle.record_columns.specs.declared.reading.Column.TheVariants.{Start};
 
 /// The columns that are written of a record that ends with a carriage return are read as that record: they stand for its
 /// text, which is that of no other record (`texts_differ` of `byte_text`).
 pub fn columns_come_back()
     ensures { (bytes : List ℕ) → IsEnded bytes → one_text Start (columns_of bytes) ≡ text_of bytes }
+{}
+
+/// The columns that are written of any record are read as that record, whether it ends with a carriage return or not.
+pub fn all_columns_come_back()
+    ensures { (bytes : List ℕ) → columns_text (all_columns bytes) ≡ text_of bytes }
 {}
 
 /// The columns of a record are its fields: what stands before each carriage return, a column for each.

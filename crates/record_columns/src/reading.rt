@@ -26,7 +26,7 @@ impl Column {
     ghost use Rattle.record_columns.specs.Columns.{next_column};
 
     /// Where it stands after this byte.
-    fn after(self, byte: u8) -> Column
+    pub(crate) fn after(self, byte: u8) -> Column
         ensures { result ≡ next_column self byte }
     {
         match (self, byte) {
@@ -43,7 +43,7 @@ impl Column {
 type Text = ArrayVec<u8, TEXT_ROOM>;
 
 /// The text of a carriage return.
-const RETURN: &[u8] = b"\\0d";
+pub(crate) const RETURN: &[u8] = b"\\0d";
 
 /// Appends these bytes, or returns that there is no room for them.
 fn add(text: &mut Text, bytes: &[u8]) -> bool

@@ -1,7 +1,7 @@
 //! Records written as columns.
 ghost use Rattle.std.specs.Prelude.{◌≡◌, ◌↔◌, IsTrue, OnOk};
 ghost use Rattle.std.specs.Io.KnownBytes.{Appends};
-ghost use Rattle.record_columns.specs.Columns.{IsEnded, columns_of};
+ghost use Rattle.record_columns.specs.Columns.{IsEnded, all_columns, columns_of, open_columns};
 ghost use Rattle.record_columns.specs.Columns as columns;
 
 use byte_text::write_text;
@@ -46,4 +46,27 @@ pub fn write_columns<W: Write>(out: &mut W, bytes: &[u8]) -> io::Result<()>
         rest = behind;
     }
     Ok(())
+}
+
+/// Writes a record that doesn't end with a carriage return as columns: as if it did, and a last column `\-`.
+fn write_open_columns<W: Write>(out: &mut W, bytes: &[u8]) -> io::Result<()>
+    ensures { OnOk result (Appends (W.contents out.old) (W.contents out.new) (open_columns bytes.now)) }
+{
+    out.write_all(b"\"")?;
+    for &byte in bytes {
+        write_piece(out, byte, false)?;
+    }
+    out.write_all(b"\",\\-")
+}
+
+/// Writes any record without the zeros at its end as columns: as `write_columns` does if it ends with a carriage return;
+/// otherwise a last column `\-`, which is no text of bytes, says that the one before it isn't ended. `push_columns`
+/// gives the record's text back (`all_columns_come_back`). An error is the writer's, which may then have a part.
+pub fn write_all_columns<W: Write>(out: &mut W, bytes: &[u8]) -> io::Result<()>
+    ensures { OnOk result (Appends (W.contents out.old) (W.contents out.new) (all_columns bytes.now)) }
+{
+    if ends_with_return(bytes) {
+        return write_columns(out, bytes);
+    }
+    write_open_columns(out, bytes)
 }

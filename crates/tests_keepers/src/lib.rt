@@ -14,6 +14,8 @@ mod disks;
 #[cfg(test)]
 mod fault_rows;
 #[cfg(test)]
+mod field_rows;
+#[cfg(test)]
 mod line_rows;
 #[cfg(test)]
 mod making_rows;

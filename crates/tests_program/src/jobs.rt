@@ -3,7 +3,7 @@ use crate::runs::texts_of;
 use command_line::command_line;
 use keeper_commands::{ByteForm, RecordForm};
 use ledger_cli::{Job, job};
-use ledger_jobs::{Drawing, Effect, Loss, Name, Overview, Taking, Unowned, Way};
+use ledger_jobs::{Columns, Drawing, Effect, Loss, Name, Overview, Taking, Unowned, Way};
 use petscii_text::CharacterSet;
 use shop_commands::{Durability, NameForm};
 use std::alloc::Global;
@@ -119,7 +119,16 @@ fn names_of(form: NameForm) -> &'static str {
 fn taken_as(what: Taking) -> &'static str {
     match what {
         Taking::Records(RecordForm::Text(set)) | Taking::Bytes(ByteForm::Text(set)) => set_of(set),
+        Taking::Records(RecordForm::Fields) => ", fields",
         Taking::Records(RecordForm::Lines) | Taking::Bytes(ByteForm::Plain) => "",
+    }
+}
+
+/// What is said of the lines that are stored.
+fn stored_from(columns: Columns) -> &'static str {
+    match columns {
+        Columns::One => "",
+        Columns::Fields => ", fields",
     }
 }
 
@@ -166,7 +175,8 @@ fn chosen_by(job: &Job<'_>) -> [&'static str; 3] {
             };
             [said_of(*loss), freed, printed]
         }
-        Job::Make { loss, .. } | Job::Store { loss, .. } => [said_of(*loss), "", ""],
+        Job::Make { loss, .. } => [said_of(*loss), "", ""],
+        Job::Store { columns, loss, .. } => [said_of(*loss), stored_from(*columns), ""],
         Job::List { form, .. } => [names_of(*form), "", ""],
         Job::Take { what, .. } => [taken_as(*what), "", ""],
         Job::Several { what, .. } => [viewed_as(*what), "", ""],

@@ -1,7 +1,9 @@
 //! Records as columns: those that Python's `csv` writes of the fields, with marks everywhere and only where they are
 //! needed, and lines that aren't read.
 use crate::comparing::same_at;
-use record_columns::{ends_with_return, read_columns, write_columns};
+use record_columns::{
+    ends_with_return, push_columns, read_columns, write_all_columns, write_columns,
+};
 use std::process::Abort;
 
 /// A record, its columns by `csv.QUOTE_ALL`, and by `csv.QUOTE_MINIMAL`.
@@ -81,4 +83,58 @@ fn columns(rt: HostRuntime) {
 fn escapes(rt: HostRuntime) {
     are_read(&rt, b"\"\\c1\\22\",B", b"\xC1\"\rB\r");
     are_read(&rt, b"A\\0dB", b"A\rB\r");
+}
+
+/// A record, its columns, and its text: ended by a carriage return, and not, of no bytes, and never written.
+const ALL: [(&[u8], &[u8], &[u8]); 6] = [
+    (
+        b"KING\rLEEDS\r",
+        b"\"KING\",\"LEEDS\"",
+        b"KING\\0dLEEDS\\0d",
+    ),
+    (b"KING\rLEEDS", b"\"KING\",\"LEEDS\",\\-", b"KING\\0dLEEDS"),
+    (b"KING", b"\"KING\",\\-", b"KING"),
+    (b"", b"\"\",\\-", b""),
+    (b"\xFF", b"\"\\ff\",\\-", b"\\ff"),
+    (b"A,\"\\-\r", b"\"A,\\22\\5c-\"", b"A,\\22\\5c-\\0d"),
+];
+
+/// Columns as a spreadsheet saves them, and the text: without marks, one empty at the end, and what no bytes have.
+const JOINED: [(&[u8], &[u8]); 6] = [
+    (b"KING,LEEDS", b"KING\\0dLEEDS\\0d"),
+    (b"KING,LEEDS,\\-", b"KING\\0dLEEDS"),
+    (b"KING,", b"KING\\0d\\0d"),
+    (b"\\-", b"\\-\\0d"),
+    (b"\"KING", b"KING\""),
+    (b"\"KING,\\-", b"KING\""),
+];
+
+/// Sees that these columns have this text.
+fn has_text(rt: &(impl Abort + AllocGlobal), line: &[u8], text: &[u8]) {
+    let mut joined = Vec::new(rt.alloc());
+    let _ = push_columns(line, &mut joined);
+    same_at(rt, joined.as_slice(), text, line);
+}
+
+/// Sees that each record is written so, and that its columns have its text.
+fn are_all_columns(rt: &(impl Abort + AllocGlobal), rows: &[(&[u8], &[u8], &[u8])]) {
+    for &(bytes, columns, text) in rows {
+        let mut out = Vec::new(rt.alloc());
+        let _ = write_all_columns(&mut out, bytes);
+        same_at(rt, out.as_slice(), columns, bytes);
+        has_text(rt, columns, text);
+    }
+}
+
+/// Sees that each line has this text.
+fn are_joined(rt: &(impl Abort + AllocGlobal), rows: &[(&[u8], &[u8])]) {
+    for &(line, text) in rows {
+        has_text(rt, line, text);
+    }
+}
+
+#[test]
+fn records_of_any_end(rt: HostRuntime) {
+    are_all_columns(&rt, &ALL);
+    are_joined(&rt, &JOINED);
 }

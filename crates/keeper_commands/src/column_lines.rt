@@ -1,0 +1,47 @@
+//! Lines with a column for each field, made lines of records.
+ghost use Rattle.std.specs.Prelude.{◌≡◌, ◌++◌, IfOk, OnOk, vec_items};
+ghost use Rattle.keeper_commands.specs.ColumnLines.{one_column, plain_line, plain_text};
+
+use record_columns::push_columns;
+use script_lines::next_line;
+use std::alloc::{AllocError, Global};
+
+/// Appends what stands behind the number of a line: one column for these.
+fn push_column(columns: &[u8], text: &mut Vec<u8>) -> Result<(), AllocError>
+    ensures { OnOk result (vec_items text.new ≡ vec_items text.old ++ one_column columns.now) }
+{
+    text.extend_from_slice(b",\"")?;
+    push_columns(columns, text)?;
+    text.extend_from_slice(b"\"")
+}
+
+/// Appends a line with one column for those behind its number.
+fn push_line(line: &[u8], text: &mut Vec<u8>) -> Result<(), AllocError>
+    ensures { OnOk result (vec_items text.new ≡ vec_items text.old ++ plain_line line.now) }
+{
+    let mut rest = line;
+    while let [byte, behind @ ..] = rest {
+        if *byte == b',' {
+            return push_column(behind, text);
+        }
+        text.push(*byte)?;
+        rest = behind;
+    }
+    Ok(())
+}
+
+/// The lines of a text with a column for each field (`RecordForm::Fields`), or as a spreadsheet saves them, as lines that
+/// `store_image` reads: each of the same record, with all its fields in one column. A line that has no such columns gives
+/// one that `store_image` refuses, so it is refused with the same number.
+pub fn plain_lines(alloc: Global, text: &[u8]) -> Result<Vec<u8>, AllocError>
+    ensures { IfOk result (λ plain. vec_items plain ≡ plain_text text.now) }
+{
+    let mut plain = Vec::new(alloc);
+    let mut rest = text;
+    while let Some((line, more)) = next_line(rest) {
+        push_line(line, &mut plain)?;
+        plain.push(b'\n')?;
+        rest = more;
+    }
+    Ok(plain)
+}

@@ -1,0 +1,10 @@
+-- A text of records as a job stores it. Our own.
+use Rattle.std.specs.Prelude.{ℕ, List}
+use Rattle.keeper_commands.specs.ColumnLines.{plain_text}
+use Rattle.ledger_jobs.specs.declared.jobs.Columns.{Columns}
+use Rattle.ledger_jobs.specs.declared.jobs.Columns.TheVariants as columns
+
+-- the text with one column for each record
+abbrev pub text_in : Columns → List ℕ → List ℕ
+text_in columns.One text = text
+text_in columns.Fields text = plain_text text

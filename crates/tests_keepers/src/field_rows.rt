@@ -1,0 +1,74 @@
+//! Records printed with a column for each field, and stored from such lines: those that Python's `csv` writes of the fields.
+use crate::comparing::same_at;
+use crate::disks::{Change, changed};
+use crate::outputs::is_told;
+use crate::storing_rows::stored;
+use keeper_commands::{RecordForm, plain_lines, records_image};
+use std::process::Abort;
+
+/// Records of `STOCK`, which has 18 bytes a record: two fields, one without its carriage return, and no bytes. The other
+/// eleven were never written.
+const RECORDS: &[Change] = &[
+    (17, 0, 2, b"KING\rLEEDS, A\r\0\0\0\0\0"),
+    (17, 0, 20, b"KING"),
+    (17, 0, 38, b"\0"),
+];
+
+/// The first lines.
+const LINES: &str = "1,\"KING\",\"LEEDS, A\"\n2,\"KING\",\\-\n3,\"\",\\-\n4,\"\\ff\",\\-\n";
+
+/// What is printed of these records with a column for each field.
+fn printed(rt: &(impl Abort + AllocGlobal), image: &[u8], form: RecordForm) -> Vec<u8> {
+    let mut out = Vec::new(rt.alloc());
+    let ended = records_image(rt.alloc(), image, b"STOCK", form, &mut out);
+    is_told(rt, ended, "");
+    out
+}
+
+// Stored on the same disk the lines change nothing, and on a blank one they give the same records.
+#[test]
+fn fields_come_back(rt: HostRuntime) {
+    let disk = changed(&rt, RECORDS);
+    let lines = printed(&rt, disk.bytes(), RecordForm::Fields);
+    same_at(
+        &rt,
+        lines.as_slice().starts_with(LINES.as_bytes()),
+        true,
+        "first",
+    );
+    let plain = plain_lines(rt.alloc(), lines.as_slice()).expect(&rt, "memory");
+    let wanted = printed(&rt, disk.bytes(), RecordForm::Lines);
+    same_at(&rt, plain.as_slice(), wanted.as_slice(), "plain");
+    let mut out = Vec::new(rt.alloc());
+    let blank = changed(&rt, &[]);
+    let (ended, after) = stored(&rt, blank.bytes(), b"STOCK", plain.as_slice(), &mut out);
+    is_told(&rt, ended, "");
+    let again = printed(&rt, after.bytes(), RecordForm::Fields);
+    same_at(&rt, again.as_slice(), lines.as_slice(), "again");
+}
+
+/// Lines as a spreadsheet saves them, and as one column: without marks, with CR LF, without an end, and such as are of no
+/// record before and after.
+const PLAIN: [(&str, &str); 5] = [
+    ("1,KING,LEEDS\n", "1,\"KING\\0dLEEDS\\0d\"\n"),
+    (
+        "1,KING,LEEDS\r\n2,A",
+        "1,\"KING\\0dLEEDS\\0d\"\n2,\"A\\0d\"\n",
+    ),
+    ("7,\"A, B\",\\-\n", "7,\"A, B\"\n"),
+    ("seven\n", "seven\n"),
+    ("1,\"A\"B\n", "1,\"A\"B\\0d\"\n"),
+];
+
+/// Sees that each is made so.
+fn are_plain(rt: &(impl Abort + AllocGlobal), rows: &[(&str, &str)]) {
+    for &(lines, wanted) in rows {
+        let plain = plain_lines(rt.alloc(), lines.as_bytes()).expect(rt, "memory");
+        same_at(rt, plain.as_slice(), wanted.as_bytes(), lines);
+    }
+}
+
+#[test]
+fn lines_are_made_plain(rt: HostRuntime) {
+    are_plain(&rt, &PLAIN);
+}
