@@ -147,6 +147,7 @@ taking-met o found name at what image (Ok (jobs.Dry path)) told some is by-image
 taking-met o found name at what image (Ok (jobs.Serve path way durability loss)) told some is by-image by taking =
     absurd taking
 taking-met o found name at what image (Ok (jobs.Copy path copy)) told some is by-image by taking = absurd taking
+taking-met o found name at what image (Ok (jobs.Extract path folder)) told some is by-image by taking = absurd taking
 taking-met o found name at what image (Ok (jobs.Repair path loss unowned effect)) told some is by-image by taking =
     absurd taking
 taking-met o found name at what image (Ok (jobs.Make path text length loss)) told some is by-image by taking =
@@ -185,6 +186,7 @@ making-met o found name at image (Ok (jobs.PlaySynced path script)) told some is
 making-met o found name at image (Ok (jobs.Dry path)) told some is by-image job = absurd job
 making-met o found name at image (Ok (jobs.Serve path way durability loss)) told some is by-image job = absurd job
 making-met o found name at image (Ok (jobs.Copy path copy)) told some is by-image job = absurd job
+making-met o found name at image (Ok (jobs.Extract path folder)) told some is by-image job = absurd job
 making-met o found name at image (Ok (jobs.Repair path loss unowned effect)) told some is by-image job = absurd job
 making-met o found name at image (Ok (jobs.Take asked path text)) told some is by-image job = absurd job
 making-met o found name at image (Ok (jobs.Store path text records columns loss)) told some is by-image job = absurd job
@@ -219,6 +221,7 @@ storing-met o found name at image (Ok (jobs.PlaySynced path script)) told some i
 storing-met o found name at image (Ok (jobs.Dry path)) told some is by-image job = absurd job
 storing-met o found name at image (Ok (jobs.Serve path way durability loss)) told some is by-image job = absurd job
 storing-met o found name at image (Ok (jobs.Copy path copy)) told some is by-image job = absurd job
+storing-met o found name at image (Ok (jobs.Extract path folder)) told some is by-image job = absurd job
 storing-met o found name at image (Ok (jobs.Repair path loss unowned effect)) told some is by-image job = absurd job
 storing-met o found name at image (Ok (jobs.Take asked path text)) told some is by-image job = absurd job
 storing-met o found name at image (Ok (jobs.Make path text length loss)) told some is by-image job = absurd job

@@ -413,6 +413,10 @@ fn job_of<'a>(alloc: Global, matches: &ArgMatches<'a>) -> Result<Job<'a>, JobFau
             image,
             copy: value_of(found, "NEW"),
         }),
+        "extract" => Ok(Job::Extract {
+            image,
+            folder: value_of(found, "FOLDER"),
+        }),
         "repair" => Ok(Job::Repair {
             image,
             loss: loss(found),

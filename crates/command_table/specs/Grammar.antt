@@ -68,6 +68,10 @@ serve = with_rule (may_accept_loss (with_rule (over_image (codes "serve")) (flag
 abbrev pub copy : App
 copy = with_rule (over_image (codes "copy")) (required (codes "NEW"))
 
+-- extract IMAGE FOLDER
+abbrev pub extract : App
+extract = with_rule (over_image (codes "extract")) (required (codes "FOLDER"))
+
 -- repair IMAGE [--accept-loss] [--free] [--dry-run]
 abbrev pub repair : App
 repair = with_rule (with_rule (may_accept_loss (over_image (codes "repair"))) (flag (codes "free")))
@@ -131,8 +135,8 @@ with_shop a = with_command (with_command (with_command (with_command (with_comma
 
 -- a program that has the subcommands for the files of a disk too
 abbrev pub with_files : App → App
-with_files a = with_command (with_command (with_command (with_command (with_command
-    a repair) records) bytes) make) store
+with_files a = with_command (with_command (with_command (with_command (with_command (with_command
+    a repair) records) bytes) extract) make) store
 
 -- the program with its subcommands
 abbrev pub ledger : App

@@ -171,6 +171,21 @@ Exit status:
 
 Example: ledger bytes old.d64 'ADD\\c1' > add.prg";
 
+/// What `extract` makes and prints, its statuses, and an example.
+pub(crate) const EXTRACT: &str = "\
+Makes FOLDER, and in it a file for each entry of the directory, for example
+01-LETTER 02.prg. A relative file also has its records as lines (.csv). What can
+be read of a damaged file is taken, and index.csv says what was found. Prints
+EXTRACTED if all files are whole.
+
+Exit status:
+  0  all files are whole
+  1  a file or the directory isn't (LAYOUT and the first fault, SHORT); or
+     IMAGE SIZE, LOG, FILE EXISTS: nothing was done
+  3  FILE, NO MEMORY, IN USE
+
+Example: ledger extract old.d64 old";
+
 /// What `make` prints, its statuses, and an example.
 pub(crate) const MAKE: &str = "\
 Prints MADE.

@@ -1,7 +1,7 @@
 //! The subcommands, a row each.
 use crate::help_texts::{
-    BYTES, CHECK, COPY, DRY, FORMAT, LIST, MAKE, MAP, PICTURE, PLAY, RECORDS, REPAIR, SERVE, SHOW,
-    STORE,
+    BYTES, CHECK, COPY, DRY, EXTRACT, FORMAT, LIST, MAKE, MAP, PICTURE, PLAY, RECORDS, REPAIR, SERVE,
+    SHOW, STORE,
 };
 
 /// How often a value stands after the name of a subcommand.
@@ -119,7 +119,7 @@ const ACCEPT_LOSS: Value = Value {
 };
 
 /// All subcommands, in the order in which help lists them.
-pub(crate) const SUBCOMMANDS: [Subcommand; 15] = [
+pub(crate) const SUBCOMMANDS: [Subcommand; 16] = [
     // format IMAGE --tills T [--new]
     Subcommand {
         name: "format",
@@ -258,6 +258,21 @@ pub(crate) const SUBCOMMANDS: [Subcommand; 15] = [
         about: "Prints the bytes of a file of any type",
         more: BYTES,
         values: &[IMAGE, NAME, TEXT, MIXED],
+    },
+    // extract IMAGE FOLDER
+    Subcommand {
+        name: "extract",
+        about: "Takes all files out of an image, as far as they can be read",
+        more: EXTRACT,
+        values: &[
+            IMAGE,
+            Value {
+                name: "FOLDER",
+                word: None,
+                count: Count::One,
+                help: "The folder's path, where nothing may stand yet",
+            },
+        ],
     },
     // make IMAGE NAME --length L [--accept-loss]
     Subcommand {

@@ -175,6 +175,8 @@ module _ {F : Type 0} (position : F → Option ℕ) (bytes contents : F → Opti
       (after ≡ file) × (new ≡ old) × (end ≡ Err (refusals.Run run.File))
   IsJobRun told (jobs.Describe paths) image script file after old new end =
       (after ≡ file) × (new ≡ old) × (end ≡ Err (refusals.Run run.File))
+  IsJobRun told (jobs.Extract path folder) image script file after old new end =
+      (after ≡ file) × (new ≡ old) × (end ≡ Err (refusals.Run run.File))
 
 -- what is told of a job's end: nothing where it is done; and else its line, or a beginning of it
 abbrev pub IsEndTold : {E : Type 0} → (E → Option (List ℕ)) → E → E → JobEnd → Type 0

@@ -67,6 +67,8 @@ fn obey<F: Write + Seek + Drop, W: Write>(
         Job::Several { .. } | Job::Sheet { .. } | Job::Describe { .. } => {
             (file, Err(Refusal::Run(RunFault::File)))
         }
+        // it would want a folder
+        Job::Extract { .. } => (file, Err(Refusal::Run(RunFault::File))),
     }
 }
 
@@ -76,6 +78,7 @@ fn obey<F: Write + Seek + Drop, W: Write>(
 /// writes it, and the copy for `Copy`; without one such a job ends with 3 and `FILE`, and nothing is printed. A job that
 /// only reads leaves it as it was. There are no logs: `Serve` writes the image itself, whatever way the job says.
 /// A job over several images ends with 3 and `FILE`, since only one has its bytes here: call `overview_run` for each.
+/// So does `Extract`, since there is no folder: call `extract_run` over one.
 ///
 /// The file is handed each sector at 256 times its index, before memory takes it, and nothing else; `Format` and `Copy`
 /// hand it the whole image. It can't be ended: what a longer file held after an image stays there. Whether it was there before, and

@@ -3,6 +3,7 @@ pub mod Copies
 pub mod Drawings
 pub mod DurableRuns
 pub mod Ends
+pub mod Extracts
 pub mod FileServes
 pub mod Jobs
 pub mod Keeping

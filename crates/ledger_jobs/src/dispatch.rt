@@ -10,6 +10,7 @@ use crate::copying::do_copying;
 use crate::descriptions::do_describing;
 use crate::drawing::drawing_run;
 use crate::durable_runs::play_durably;
+use crate::extracting::do_extracting;
 use crate::files::{AtPath, Older, STANDARD_INPUT, room_for, script_at};
 use crate::image_logs::{logged_image, opened_and_landed};
 use crate::jobs::{Drawing, Job, Reading, Taking, Way};
@@ -313,7 +314,7 @@ where
 /// before the image is written, and read in the place of the image otherwise. `InUse` where another program has it; `Log`
 /// if its log gives no image; `File` where a file couldn't be opened or read, and the faults of `reading_run`,
 /// `format_run`, `play_durably`, `serve_guarded`, `serve_logged_guarded`, `copy_run`, `repair_guarded`, `make_guarded`,
-/// `store_guarded`, `take_told` and `drawing_run`. What is wrong with one of several images is printed, and only an
+/// `store_guarded`, `take_told`, `extract_run` and `drawing_run`. What is wrong with one of several images is printed, and only an
 /// output that failed ends the job before the last of them.
 pub fn do_job<F, R, W>(rt: &R, job: &Job<'_>, out: &mut W) -> Result<Option<Fault>, Refusal>
 where
@@ -343,6 +344,7 @@ where
             Way::InPlace => do_serving(rt, image, durability, loss, out),
         },
         Job::Copy { image, copy } => do_copying(rt, image, copy, out),
+        Job::Extract { image, folder } => do_extracting(rt, image, folder, out),
         Job::Repair {
             image,
             loss,

@@ -104,6 +104,7 @@ fn image_of<'a>(job: &Job<'a>) -> &'a str {
         Job::List { image, .. } | Job::Check { image } | Job::Show { image } => image,
         Job::Play { image, .. } | Job::PlaySynced { image, .. } | Job::Serve { image, .. } => image,
         Job::Repair { image, .. } | Job::Take { image, .. } | Job::Draw { image, .. } => image,
+        Job::Extract { image, .. } => image,
         Job::Make { image, .. } | Job::Store { image, .. } | Job::Copy { image, .. } => image,
         Job::Several { images, .. } | Job::Sheet { images } | Job::Describe { images } => {
             images.first().copied().unwrap_or("")
@@ -130,6 +131,7 @@ fn writes(job: &Job<'_>) -> bool {
         Job::Repair { .. } | Job::Make { .. } | Job::Store { .. } => true,
         Job::List { .. } | Job::Check { .. } | Job::Show { .. } | Job::Dry { .. } => false,
         Job::Take { .. } | Job::Draw { .. } | Job::Copy { .. } => false,
+        Job::Extract { .. } => false,
         Job::Several { .. } | Job::Sheet { .. } | Job::Describe { .. } => false,
     }
 }
@@ -293,6 +295,9 @@ fn tell_made<E: Write>(job: &Job<'_>, err: &mut E) {
                 copy,
                 "it or its log is there already; choose another name",
             );
+        }
+        Job::Extract { folder, .. } => {
+            tell_of(err, folder, "it is there already; choose another name");
         }
         _ => tell_of(
             err,

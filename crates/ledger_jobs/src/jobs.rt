@@ -174,6 +174,13 @@ pub enum Job<'a> {
         /// Whether the image is written.
         effect: Effect,
     },
+    /// All files of an image that is read, made in a folder that isn't there yet.
+    Extract {
+        /// The image's path.
+        image: &'a str,
+        /// The folder's path.
+        folder: &'a str,
+    },
     /// What is taken out of an image that is read.
     Take {
         /// What is taken.

@@ -69,7 +69,7 @@ pub fn loss_refusal(alloc: Global, image: &[u8], loss: Loss) -> Option<Refusal>
 }
 
 /// The end of a job whose run ended so, and which prints no fault.
-fn run_end(ended: Result<(), RunFault>) -> Result<Option<Fault>, Refusal>
+pub(crate) fn run_end(ended: Result<(), RunFault>) -> Result<Option<Fault>, Refusal>
     ensures { result ≡ as_job (end_of ended) }
 {
     match ended {

@@ -18,6 +18,10 @@ pub struct Memory {
     pub first: Stored,
     pub second: Stored,
     pub(crate) is_turned: Cell<bool>,
+    /// The folder that is made, the last file in it, and how many there are.
+    pub(crate) extracted: Stored,
+    pub(crate) last: Stored,
+    pub made: Cell<usize>,
     /// Standard input, whether it fails behind its bytes, and whether it was taken: it can be once.
     pub input: Stored,
     pub fails: Cell<bool>,
@@ -48,6 +52,9 @@ impl Memory {
             first: Stored::new(alloc),
             second: Stored::new(alloc),
             is_turned: Cell::new(false),
+            extracted: Stored::new(alloc),
+            last: Stored::new(alloc),
+            made: Cell::new(0),
             input: Stored::new(alloc),
             fails: Cell::new(false),
             taken: Cell::new(false),
@@ -115,6 +122,8 @@ impl Memory {
         self.image.forget();
         self.script.forget();
         self.folder.forget();
+        self.extracted.hold(Kind::Missing, b"");
+        self.made.set(0);
         self.taken.set(false);
         self.meddled.set(false);
         self.prints.set(0);

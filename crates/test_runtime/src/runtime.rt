@@ -30,6 +30,25 @@ impl Runtime<'_> {
         false
     }
 
+    /// Makes the folder `out`, if a word names it and nothing stands there.
+    fn makes_folder(&self, path: &str) -> io::Result<()> {
+        if !self.names(path) {
+            return self.meddles();
+        }
+        if path != "out" || self.memory.extracted.kind.get() != Kind::Missing {
+            return failed(ErrorKind::AlreadyExists);
+        }
+        self.memory.extracted.turn(Kind::Folder);
+        Ok(())
+    }
+
+    /// Whether a file that isn't there is to be made in the folder that was made.
+    fn makes_there(&self, how: &OpenOptions, path: &str) -> bool {
+        path.starts_with("out/")
+            && how.asks_create_new()
+            && self.memory.extracted.kind.get() == Kind::Folder
+    }
+
     /// Notes that the program meddles with a file that no word names, and refuses it.
     fn meddles<T>(&self) -> io::Result<T> {
         self.memory.meddled.set(true);
@@ -85,6 +104,12 @@ impl<'a> Files for Runtime<'a> {
                 self.memory.reopened.set(true);
                 failed(ErrorKind::NotFound)
             }
+            _ if self.makes_there(how, path) => {
+                let memory = self.memory;
+                memory.made.set(memory.made.get().saturating_add(1));
+                memory.last.hold(Kind::Missing, b"");
+                open_stored(&memory.last, how)
+            }
             _ if how.asks_write() && !self.names(path) => self.meddles(),
             _ => failed(ErrorKind::NotFound),
         }
@@ -128,8 +153,8 @@ impl<'a> Files for Runtime<'a> {
         }
     }
 
-    fn create_dir(&self, _path: &str) -> io::Result<()> {
-        self.meddles()
+    fn create_dir(&self, path: &str) -> io::Result<()> {
+        self.makes_folder(path)
     }
 
     fn remove_dir(&self, _path: &str) -> io::Result<()> {

@@ -35,6 +35,8 @@ job ledger serve --in-place --unsynced a.d64 --accept-loss
 prints serve, a.d64, , 0, loss accepted, unsynced, in place
 job ledger copy a.d64 b.d64
 prints copy, a.d64, b.d64, 0
+job ledger extract a.d64 out
+prints extract, a.d64, out, 0
 job ledger repair a.d64
 prints repair, a.d64, , 0
 job ledger make a.d64 ADD\\c1 --length 30

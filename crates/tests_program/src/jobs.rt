@@ -33,6 +33,7 @@ fn row_of<'a>(job: &Job<'a>) -> Row<'a> {
         Job::PlaySynced { image, script } => ("play synced", image, script, 0),
         Job::Serve { image, .. } => ("serve", image, "", 0),
         Job::Copy { image, copy } => ("copy", image, copy, 0),
+        Job::Extract { image, folder } => ("extract", image, folder, 0),
         Job::Repair { image, .. } => ("repair", image, "", 0),
         Job::Take {
             what: Taking::Records(_),

@@ -52,6 +52,7 @@ pub(crate) fn sees(scene: &Scene, word: &[u8], text: &[u8]) -> bool {
             memory.log().kind.get() != Kind::Missing
         }
         b"unlocked" => memory.image.unlocked.replace(false),
+        b"makes" => memory.made.replace(0) == number_of(text),
         _ => match counted(memory, word) {
             Some(number) => number == number_of(text),
             None => leaves(scene, word, text),
@@ -68,6 +69,7 @@ pub(crate) fn is_told(scene: &Scene) -> bool {
     took(&memory.out, b"")
         && took(&memory.err, b"")
         && memory.status.get() == 0
+        && memory.made.get() == 0
         && !memory.image.unlocked.get()
         && !memory.reopened.get()
         && !memory.meddled.get()

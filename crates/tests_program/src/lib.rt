@@ -10,6 +10,8 @@ mod comparing;
 #[cfg(test)]
 mod day_rows;
 #[cfg(test)]
+mod extract_rows;
+#[cfg(test)]
 mod failing_rows;
 #[cfg(test)]
 mod file_rows;

@@ -35,6 +35,7 @@
 //! - `synced`: one sync before the first write, and one behind each
 //! - `logged`: a log stands beside the image, which no line needs to say if there is none
 //! - `unlocked`: the image was read without a lock, as a script
+//! - `makes`: so many files were made in the folder `out`, which was made before
 use crate::hurts::hurt;
 use crate::jobs::asked;
 use crate::leavings::{is_told, sees};

@@ -7,6 +7,8 @@ mod column_rows;
 #[cfg(test)]
 mod comparing;
 #[cfg(test)]
+mod extract_rows;
+#[cfg(test)]
 mod quoted_rows;
 #[cfg(test)]
 mod reaching_rows;

@@ -1,0 +1,10 @@
+pub mod Counts
+pub mod Extracted
+pub mod Inside
+pub mod Lengths
+pub mod Made
+pub mod Paddings
+pub mod Parts
+pub mod Pieced
+pub mod ReadSoFar
+pub mod Reached

@@ -1,0 +1,47 @@
+-- One block's bytes more.
+use Rattle.std.proofs.Common.{◌∙◌, Err, List, ap, refl, subst, sym}
+use Rattle.std.proofs.lemmas.List.{take_all}
+use Rattle.std.proofs.lemmas.Result.{err_from_is_err_and}
+use Rattle.std.proofs.KnownBytes.{Appends-nil}
+use Rattle.std.specs.Io.KnownBytes.{Appends}
+use Rattle.d64_image.specs.Memory.{disk_image}
+use Rattle.d64_image.specs.declared.place.Place.{Place}
+use Rattle.disk_layout.specs.Records.{joined}
+use Rattle.disk_layout.proofs.lemmas.records.Joined.{joined-nil}
+use Rattle.keeper_commands.proofs.Blocks.{block-more}
+use Rattle.keeper_commands.specs.declared.forms.ByteForm.TheVariants as forms
+use Rattle.file_rescue.proofs.blocks.put_blocks.Goals as goal
+
+pub loop-place-init : goal.loop-place-init
+loop-place-init g c =
+    let before = g.W.Write.contents c.args.out.now in
+    (refl, subst (Appends before before) (sym (joined-nil (disk_image c.args.disk.now))) (Appends-nil before))
+
+pub loop-place-preserved : goal.loop-place-preserved
+loop-place-preserved g c =
+    let same = c.loop-place.invariant.0 in (
+      c.in_ok-put_block.ensures.same ∙ same,
+      block-more _ _ _ forms.Plain (disk_image c.args.disk.now) (disk_image c.loop-place.disk) c.args.places.now
+          c.loop-place.place-index c.place-item.result c.args.disk.now.whole same c.loop-place-test.true
+          (sym c.place-item.is)
+          c.loop-place.invariant.1 c.in_ok-put_block.ensures.ok,
+    )
+
+pub returns-in_err-put_block : goal.returns-in_err-put_block
+returns-in_err-put_block g c =
+    let p = err_from_is_err_and c.from_residual.result c.from_residual.ensures.1 in
+    record {
+      ok = rw (p.1 ∙ ap Err p.2) tt;
+      same = c.put_block.ensures.same ∙ c.loop-place.invariant.0;
+      err = rw (p.1 ∙ ap Err p.2) c.in_err-put_block.ensures.err;
+    }
+
+pub returns : goal.returns
+returns g c = record {
+  ok = subst (λ (ps : List Place). Appends (g.W.Write.contents c.args.out.now) (g.W.Write.contents c.loop-place.out)
+      (joined (disk_image c.args.disk.now) ps))
+      (take_all c.loop-place.place-index c.args.places.now c.loop-place-test.false)
+      c.loop-place.invariant.1;
+  same = c.loop-place.invariant.0;
+  err = tt;
+}

@@ -1,0 +1,8 @@
+pub mod Directories
+pub mod Folders
+pub mod Index
+pub mod Memory
+pub mod Names
+pub mod Owned
+pub mod Rescues
+pub mod Sharing

@@ -1,0 +1,155 @@
+-- What is rescued of the files of a disk, and the files that are made of it. Our own.
+use Rattle.std.specs.Prelude.{◌≡◌, ◌≢◌, ◌⊎◌, ◌≤◌, ℕ, ◌+◌, ◌/◌, ◌%◌, ◌&&◌, Bool, List, [], ◌∷◌, ◌++◌, None, Option, Some, codes}
+use Rattle.std.specs.Prelude.{if◌then◌else◌, length, map, nat_eq, nat_le, nat_lt}
+use Rattle.std.specs.List.{AllByRecursion}
+use Rattle.std.specs.Option.{option_or}
+use Rattle.d64_image.specs.Images.{Image}
+use Rattle.d64_image.specs.Memory.{sectors_in}
+use Rattle.d64_image.specs.declared.place.Place.{Place}
+use Rattle.disk_layout.specs.Directory.{type_byte}
+use Rattle.disk_layout.specs.Layout.{record_length}
+use Rattle.disk_layout.specs.Records.{pieces}
+use Rattle.disk_layout.specs.declared.faults.Fault.{Fault}
+use Rattle.disk_layout.specs.declared.faults.Fault.TheVariants.{OwnedTwice, Unclosed}
+use Rattle.disk_layout.specs.declared.slot.Slot.{Slot}
+use Rattle.disk_rescue.specs.Reached.{IsReached}
+use Rattle.keeper_commands.specs.Bytes.{file_bytes}
+use Rattle.keeper_commands.specs.Records.{records_text}
+use Rattle.keeper_commands.specs.declared.faults.KeepFault.{KeepFault}
+use Rattle.keeper_commands.specs.declared.faults.KeepFault.TheVariants as keep
+use Rattle.petscii_text.specs.FileNames.{ending_of, file_name_of}
+use Rattle.petscii_text.specs.declared.file_names.Ending.{Ending}
+use Rattle.petscii_text.specs.declared.file_names.Ending.TheVariants.{Records}
+use Rattle.file_rescue.specs.Directories.{IsReadSoFar}
+use Rattle.file_rescue.specs.Folders.{AddsFiles, AddsPart, NewFile, new_file}
+use Rattle.file_rescue.specs.Index.{heading, row_text}
+use Rattle.file_rescue.specs.Names.{name_of}
+use Rattle.file_rescue.specs.Sharing.{first_shared, owned}
+use Rattle.file_rescue.specs.declared.rescuing.Rescued.{Rescued}
+use Rattle.file_rescue.specs.declared.rows.Row.{Row}
+
+-- these blocks can be reached of the entry's file, up to this fault
+pub record IsRescued (img : Image) (f : Rescued) : Type 0 where
+  pub reached : IsReached img f.slot f.blocks.items f.fault f.last
+  pub few : length f.blocks.items ≤ 720
+
+-- this can be reached of these entries, in their order
+pub record AreRescued (img : Image) (slots : List Slot) (files : List Rescued) : Type 0 where
+  pub entries : map (λ f. f.slot) files ≡ slots
+  pub reached : AllByRecursion (IsRescued img) files
+
+-- the bytes of the file that can be reached
+abbrev pub bytes_in : Image → Rescued → List ℕ
+bytes_in img f = file_bytes img f.blocks.items f.last
+
+-- the file has records: it is relative, closed or not, and their length is one that there is
+abbrev pub has_records : Slot → Bool
+has_records s = nat_eq (type_byte s % 16) 4 && (nat_le 1 (record_length s) && nat_le (record_length s) 254)
+
+-- the whole records of L bytes among these bytes, record 1 first
+abbrev pub records_of : ℕ → List ℕ → List (List ℕ)
+records_of L bytes = pieces L (length bytes / L) bytes
+
+-- the length of the records of a file that has some
+abbrev pub records_length : Slot → Option ℕ
+records_length s = if has_records s then Some (record_length s) else None
+
+-- The files that are made of entry n: one with its bytes, as 03-MEMBERS.rel; and if it has records, one with their lines,
+-- as 03-MEMBERS.csv. The side sectors aren't needed for these.
+abbrev pub entry_file : ℕ → Rescued → Ending → List ℕ → NewFile
+entry_file n f ending bytes = new_file (file_name_of n (name_of f.slot) ending) bytes
+
+abbrev pub line_files : ℕ → Rescued → List ℕ → Option ℕ → List NewFile
+line_files n f bytes None = []
+line_files n f bytes (Some L) = entry_file n f Records (records_text (records_of L bytes)) ∷ []
+
+unfoldable pub files_of : Image → ℕ → Rescued → List NewFile
+files_of img n f =
+    entry_file n f (ending_of (type_byte f.slot)) (bytes_in img f)
+    ∷ line_files n f (bytes_in img f) (records_length f.slot)
+
+-- the same of several entries, the first of them numbered n
+unfoldable pub files_from : Image → ℕ → List Rescued → List NewFile
+files_from img n [] = []
+files_from img n (f ∷ fs) = files_of img n f ++ files_from img (n + 1) fs
+
+-- what the index says of entry n, where these sectors are somebody's
+abbrev pub row_of : Image → List Place → ℕ → Rescued → Row
+row_of img all n f = record {
+  number = n;
+  slot = f.slot;
+  blocks = length f.blocks.items;
+  bytes = length (bytes_in img f);
+  fault = f.fault;
+  shared = first_shared all f.blocks.items;
+}
+
+-- the lines of several entries, the first of them numbered n
+unfoldable pub rows_from : Image → List Place → ℕ → List Rescued → List ℕ
+rows_from img all n [] = []
+rows_from img all n (f ∷ fs) = row_text (row_of img all n f) ++ rows_from img all (n + 1) fs
+
+-- the index of these files of a disk whose directory has these sectors
+abbrev pub index_of_files : Image → List Place → List Rescued → NewFile
+index_of_files img directory files =
+    new_file (codes "index.csv") (heading ++ rows_from img (owned directory files) 1 files)
+
+-- all files that are made, in their order: those of each entry, and the index
+abbrev pub all_files : Image → List Place → List Rescued → List NewFile
+all_files img directory files = files_from img 1 files ++ index_of_files img directory files ∷ []
+
+-- why a file isn't whole: its chain has a fault; or it has a block that others have too; or it isn't closed
+abbrev pub unclosed : Slot → Option Fault
+unclosed s = if nat_lt (type_byte s) 128 then Some (Unclosed s.sector) else None
+
+abbrev pub shared_fault : Option Place → Option Fault
+shared_fault None = None
+shared_fault (Some p) = Some (OwnedTwice p)
+
+abbrev pub fault_of : Row → Option Fault
+fault_of r = option_or r.fault (option_or (shared_fault r.shared) (unclosed r.slot))
+
+-- the first fault: this one, or that of the first of these files that isn't whole
+unfoldable pub first_fault : Image → List Place → ℕ → Option Fault → List Rescued → Option Fault
+first_fault img all n found [] = found
+first_fault img all n found (f ∷ fs) = first_fault img all (n + 1) (option_or found (fault_of (row_of img all n f))) fs
+
+-- the directory of an image as far as it can be read, and what can be reached of each of its entries
+pub record IsRescue (image : List ℕ) (directory : List Place) (files : List Rescued) (fault : Option Fault) : Type 0
+  where
+    pub size : length image ≡ 174848
+    pub entries : List Slot
+    pub read : IsReadSoFar (sectors_in image) directory entries fault
+    pub rescued : AreRescued (sectors_in image) entries files
+
+-- All files of an image were made in a folder, and nothing else; and the first fault was returned.
+pub record IsExtracted {F : Type 0} (files : F → Option (List NewFile)) (image : List ℕ) (old new : F)
+    (result : Option Fault) : Type 0
+  where
+    pub directory : List Place
+    pub rescued : List Rescued
+    pub found : Option Fault
+    pub rescue : IsRescue image directory rescued found
+    pub made : AddsFiles (files old) (files new) (all_files (sectors_in image) directory rescued)
+    pub told : result ≡ first_fault (sectors_in image) (owned directory rescued) 1 found rescued
+
+-- a beginning of them was made, and perhaps a part of the next one
+pub record IsExtractedPart {F : Type 0} (files : F → Option (List NewFile)) (image : List ℕ) (old new : F) : Type 0
+  where
+    pub directory : List Place
+    pub rescued : List Rescued
+    pub found : Option Fault
+    pub rescue : IsRescue image directory rescued found
+    pub made : AddsPart (files old) (files new) (all_files (sectors_in image) directory rescued)
+
+-- the folder failed, or there was no memory
+abbrev pub IsMakeFault : KeepFault → Type 0
+IsMakeFault fault = (fault ≡ keep.File) ⊎ (fault ≡ keep.NoMemory)
+
+-- why not all were made, and what was. Nothing is made of an image of another size
+abbrev pub IsExtractFault : {F : Type 0} → (F → Option (List NewFile)) → List ℕ → F → F → KeepFault → Type 0
+IsExtractFault files image old new keep.ImageSize = (length image ≢ 174848) × (new ≡ old)
+IsExtractFault files image old new keep.NoMemory =
+    (length image ≡ 174848) × ((new ≡ old) ⊎ IsExtractedPart files image old new)
+IsExtractFault files image old new keep.File = (length image ≡ 174848) × IsExtractedPart files image old new
+IsExtractFault files image old new _ = ⊥

@@ -1,0 +1,23 @@
+//! What can be rescued of the files of a 1541 disk, written to a folder that is new.
+#![tactic(auto)]
+
+mod blocks;
+mod directory;
+mod extracting;
+mod folders;
+mod laws;
+mod making;
+mod mem_folder;
+mod names;
+mod output;
+mod record_lines;
+mod rescuing;
+mod rows;
+mod sharing;
+
+pub use extracting::extract_image;
+pub use folders::NewFolder;
+pub use laws::names_stay_inside;
+pub use mem_folder::{MemFile, MemFolder};
+pub use rescuing::Rescued;
+pub use rows::Row;

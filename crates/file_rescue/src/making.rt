@@ -1,0 +1,130 @@
+//! The files that are made of an entry.
+ghost use Rattle.std.specs.Prelude.{◌≡◌, ◌≤◌, IfErr, IfOk, OnOk, [], ◌∷◌, length};
+ghost use Rattle.d64_image.specs.Memory.{disk_image};
+ghost use Rattle.file_rescue.specs.Folders.{AddsFiles, AddsPart, StaysInside, new_file};
+ghost use Rattle.file_rescue.specs.Rescues.{IsMakeFault, IsRescued, bytes_in, entry_file, files_of, line_files};
+ghost use Rattle.file_rescue.specs.Rescues.{records_length};
+ghost use Rattle.keeper_commands.specs.declared.faults.KeepFault.TheVariants as faults;
+
+use crate::blocks::put_file;
+use crate::folders::NewFolder;
+use crate::names::entry_name;
+use crate::record_lines::put_records;
+use crate::rescuing::Rescued;
+use d64_image::MemDisk;
+use disk_layout::EntryView;
+use keeper_commands::KeepFault;
+use petscii_text::{Ending, file_name};
+use std::alloc::Global;
+
+/// Makes a file. `File` if the folder failed.
+pub(crate) fn make<F: NewFolder>(
+    folder: &mut F,
+    name: &[u8],
+    bytes: &[u8],
+) -> Result<(), KeepFault>
+    requires inside { StaysInside name.now }
+    ensures ok { OnOk result
+        (AddsFiles (F.files folder.old) (F.files folder.new) (new_file name.now bytes.now ∷ [])) }
+    ensures err { IfErr result (λ fault. (fault ≡ faults.File)
+        × AddsPart (F.files folder.old) (F.files folder.new) (new_file name.now bytes.now ∷ [])) }
+{
+    if folder.make(name, bytes).is_err() {
+        return Err(KeepFault::File);
+    }
+    Ok(())
+}
+
+/// Makes the file that stands for entry `number`, with this ending. `File` if the folder failed.
+fn make_entry<F: NewFolder>(
+    folder: &mut F,
+    number: u8,
+    file: &Rescued,
+    ending: Ending,
+    bytes: &[u8],
+) -> Result<(), KeepFault>
+    ensures ok { OnOk result (AddsFiles (F.files folder.old) (F.files folder.new)
+        (entry_file number file.now ending bytes.now ∷ [])) }
+    ensures err { IfErr result (λ fault. (fault ≡ faults.File)
+        × AddsPart (F.files folder.old) (F.files folder.new)
+        (entry_file number file.now ending bytes.now ∷ [])) }
+{
+    let name = file_name(number, entry_name(&file.slot), ending);
+    make(folder, name.as_slice(), bytes)
+}
+
+/// The bytes of a file that can be reached. `NoMemory` if there was none for them.
+fn bytes_of(alloc: Global, disk: &mut MemDisk, file: &Rescued) -> Result<Vec<u8>, KeepFault>
+    requires { length file.now.blocks.items ≤ 720 }
+    ensures ok { IfOk result (λ bytes. bytes.items ≡ bytes_in (disk_image disk.old) file.now) }
+    ensures err { IfErr result (λ fault. fault ≡ faults.NoMemory) }
+    ensures same { disk_image disk.new ≡ disk_image disk.old }
+{
+    let Ok(mut bytes) = Vec::with_capacity(alloc, 254 * file.blocks.len()) else {
+        return Err(KeepFault::NoMemory);
+    };
+    match put_file(&mut bytes, disk, file.blocks.as_slice(), file.last) {
+        Ok(()) => Ok(bytes),
+        Err(_) => Err(KeepFault::NoMemory),
+    }
+}
+
+/// The length of the file's records, if it is relative, closed or not, and the length is one that there is.
+fn length_of_records(file: &Rescued) -> Option<u8>
+    ensures { result ≡ records_length file.now.slot }
+{
+    let entry = EntryView::new(&file.slot.bytes);
+    let length = entry.record_length();
+    if entry.type_byte() % 16 == 4 && 1 <= length && length <= 254 {
+        Some(length)
+    } else {
+        None
+    }
+}
+
+/// Makes the file with the lines of the records among these bytes, if entry `number` has records. `File` if the folder
+/// failed, or `NoMemory`.
+fn make_records<F: NewFolder>(
+    alloc: Global,
+    folder: &mut F,
+    number: u8,
+    file: &Rescued,
+    bytes: &[u8],
+) -> Result<(), KeepFault>
+    requires short { length bytes.now ≤ 182880 }
+    ensures ok { OnOk result (AddsFiles (F.files folder.old) (F.files folder.new)
+        (line_files number file.now bytes.now (records_length file.now.slot))) }
+    ensures err { IfErr result (λ fault. IsMakeFault fault
+        × AddsPart (F.files folder.old) (F.files folder.new)
+        (line_files number file.now bytes.now (records_length file.now.slot))) }
+{
+    let Some(length) = length_of_records(file) else {
+        return Ok(());
+    };
+    let mut lines = Vec::new(alloc);
+    put_records(&mut lines, bytes, length as usize)?;
+    make_entry(folder, number, file, Ending::Records, lines.as_slice())
+}
+
+/// Makes the files that stand for entry `number`, and returns how many bytes of it can be reached. `File` if the folder
+/// failed, or `NoMemory`: the folder then has a part of them.
+pub(crate) fn make_files<F: NewFolder>(
+    alloc: Global,
+    disk: &mut MemDisk,
+    folder: &mut F,
+    number: u8,
+    file: &Rescued,
+) -> Result<usize, KeepFault>
+    requires rescued { IsRescued (disk_image disk.old) file.now }
+    ensures ok { IfOk result (λ count. (count ≡ length (bytes_in (disk_image disk.old) file.now))
+        × AddsFiles (F.files folder.old) (F.files folder.new) (files_of (disk_image disk.old) number file.now)) }
+    ensures err { IfErr result (λ fault. IsMakeFault fault
+        × AddsPart (F.files folder.old) (F.files folder.new) (files_of (disk_image disk.old) number file.now)) }
+    ensures same { disk_image disk.new ≡ disk_image disk.old }
+{
+    let bytes = bytes_of(alloc, disk, file)?;
+    let ending = Ending::of_type(file.slot.bytes[2]);
+    make_entry(folder, number, file, ending, bytes.as_slice())?;
+    make_records(alloc, folder, number, file, bytes.as_slice())?;
+    Ok(bytes.len())
+}

@@ -1,0 +1,39 @@
+-- What comes of taking all files out of an image. All of it is our own.
+use Rattle.std.specs.Prelude.{◌≡◌, ◌⊎◌, List, ℕ, MatchResult, None, Ok, Err, Option, Result, Some, codes}
+use Rattle.std.specs.Io.KnownBytes.{Appends}
+use Rattle.d64_image.specs.declared.place.Place.{Place}
+use Rattle.disk_layout.specs.declared.faults.Fault.{Fault}
+use Rattle.file_rescue.specs.Folders.{NewFile}
+use Rattle.file_rescue.specs.Rescues.{IsExtractFault, IsExtracted}
+use Rattle.host_session.specs.runs.Outputs.{AppendsPart}
+use Rattle.keeper_commands.specs.declared.faults.KeepFault.{KeepFault}
+use Rattle.keeper_commands.specs.declared.faults.KeepFault.TheVariants as keep
+use Rattle.shop_commands.specs.declared.faults.RunFault.TheVariants as run
+use Rattle.ledger_jobs.specs.Ends.{JobEnd}
+use Rattle.ledger_jobs.specs.Losses.{IsSeen}
+use Rattle.ledger_jobs.specs.declared.refusals.Refusal.TheVariants as refusals
+
+-- that all is done was said, or the output failed
+abbrev pub IsDoneTold : {W : Type 0} → (W → Option (List ℕ)) → W → W → JobEnd → Type 0
+IsDoneTold contents old new end =
+    ((end ≡ Ok None) × Appends (contents old) (contents new) (codes "EXTRACTED\n"))
+    ⊎ ((end ≡ Err (refusals.Run run.File)) × AppendsPart (contents old) (contents new) (codes "EXTRACTED\n"))
+
+-- How it is told that the files were made, with this first fault, or weren't; and that a file is cut short there, or none
+abbrev pub IsExtractTold : {W : Type 0} → (W → Option (List ℕ)) → Result (Option Fault) KeepFault → Option Place → W → W
+    → JobEnd → Type 0
+IsExtractTold contents (Ok None) None old new end = IsDoneTold contents old new end
+IsExtractTold contents (Ok None) (Some p) old new end = (end ≡ Err (refusals.Short p)) × (new ≡ old)
+IsExtractTold contents (Ok (Some fault)) cut old new end =
+    (end ≡ Err (refusals.Keep (keep.Layout fault))) × (new ≡ old)
+IsExtractTold contents (Err fault) cut old new end = (end ≡ Err (refusals.Keep fault)) × (new ≡ old)
+
+-- All files of the image were made in the folder, or not all for a fault; and that was told, with what is seen of files
+-- that are cut short. Or there was no memory to see that, and nothing was done.
+abbrev pub IsExtractEnd : {F W : Type 0} → (F → Option (List NewFile)) → (W → Option (List ℕ)) → (image : List ℕ) → F → F
+    → W → W → JobEnd → Type 0
+IsExtractEnd files contents image folder left old new end =
+    ((end ≡ Err (refusals.Run run.NoMemory)) × (left ≡ folder) × (new ≡ old))
+    ⊎ ((ended : Result (Option Fault) KeepFault) × (cut : Option Place)
+    × MatchResult ended (IsExtracted files image folder left) (IsExtractFault files image folder left)
+    × IsSeen image None cut × IsExtractTold contents ended cut old new end)

@@ -1,0 +1,140 @@
+//! All files of an image, taken out to a folder that is new.
+ghost use Rattle.ledger_jobs.specs.Extracts.{IsExtractEnd, IsExtractTold};
+
+use crate::dispatch::image_at;
+use crate::losses::{cut_in, run_end};
+use crate::refusals::Refusal;
+use d64_image::Place;
+use disk_layout::Fault;
+use file_rescue::{NewFolder, extract_image};
+use keeper_commands::KeepFault;
+use shop_commands::{EndedFile, Locks, put_whole};
+use std::alloc::Global;
+use std::fs::{OpenFile, OpenOptions};
+use std::io::{self, Read, Write};
+use std::rt::Files;
+
+/// A folder of the system, which is made when the first file in it is.
+#[derive(Drop)]
+struct SystemFolder<'a, R> {
+    rt: &'a R,
+    path: &'a str,
+    is_made: bool,
+    refused: Option<Refusal>,
+}
+
+impl<'a, R> SystemFolder<'a, R> {
+    /// The folder at this path, which isn't made yet.
+    fn new(rt: &'a R, path: &'a str) -> SystemFolder<'a, R> {
+        SystemFolder {
+            rt,
+            path,
+            is_made: false,
+            refused: None,
+        }
+    }
+}
+
+impl<R: Files> SystemFolder<'_, R> {
+    /// Sees that the folder is made. An error, and a refusal, if something stood at its path before.
+    fn see_made(&mut self) -> io::Result<()> {
+        if self.is_made {
+            return Ok(());
+        }
+        match self.rt.create_dir(self.path) {
+            Ok(()) => {
+                self.is_made = true;
+                Ok(())
+            }
+            Err(error) => {
+                if error.kind() == io::ErrorKind::AlreadyExists {
+                    self.refused = Some(Refusal::Exists);
+                }
+                Err(error)
+            }
+        }
+    }
+}
+
+/// The path of the file of this name in a folder.
+fn path_in(alloc: Global, folder: &str, name: &[u8]) -> io::Result<String> {
+    let Ok(name) = std::str::from_utf8(name) else {
+        return Err(io::ErrorKind::InvalidInput.into());
+    };
+    let mut path = String::new(alloc);
+    path.push_str(folder)?;
+    path.push_str("/")?;
+    path.push_str(name)?;
+    Ok(path)
+}
+
+impl<F, R> NewFolder for SystemFolder<'_, R>
+where
+    F: EndedFile + Drop,
+    R: Files<File = F> + AllocGlobal,
+{
+    fn make(&mut self, name: &[u8], bytes: &[u8]) -> io::Result<()> {
+        self.see_made()?;
+        let path = path_in(self.rt.alloc(), self.path, name)?;
+        let mut how = OpenOptions::new();
+        how.write(true).create_new(true);
+        let mut file = how.open(self.rt, path.as_str())?;
+        file.put_over(bytes, 0)
+    }
+}
+
+/// Prints `EXTRACTED` if all files of an image were made, each is whole and none is cut short; otherwise nothing. Returns
+/// how the job ended.
+fn tell_extracted<W: Write>(
+    ended: Result<Option<Fault>, KeepFault>,
+    cut: Option<Place>,
+    out: &mut W,
+) -> Result<Option<Fault>, Refusal>
+    ensures { IsExtractTold W.contents ended cut out.old out.new result }
+{
+    match ended {
+        Ok(None) => match cut {
+            None => run_end(put_whole(out, b"EXTRACTED\n")),
+            Some(place) => Err(Refusal::Short(place)),
+        },
+        Ok(Some(fault)) => Err(Refusal::Keep(KeepFault::Layout(fault))),
+        Err(fault) => Err(Refusal::Keep(fault)),
+    }
+}
+
+/// Makes all files of an image in a folder, as `extract_image` does, and prints `EXTRACTED` if all are whole. Otherwise
+/// nothing is printed: `Keep` with the first fault of a file or of the directory, `Short` if a file of a sound disk is cut
+/// short, or why the files aren't made. `File` if the output failed; `NoMemory`.
+pub fn extract_run<N: NewFolder, W: Write>(
+    alloc: Global,
+    image: &[u8],
+    folder: &mut N,
+    out: &mut W,
+) -> Result<Option<Fault>, Refusal>
+    ensures { IsExtractEnd N.files W.contents image.now folder.old folder.new out.old out.new result }
+{
+    let cut = cut_in(alloc, image, None)?;
+    let ended = extract_image(alloc, image, folder);
+    tell_extracted(ended, cut, out)
+}
+
+/// Makes all files of the image at a path, as its shop is now, in a folder at another, where nothing may stand.
+pub(crate) fn do_extracting<F, R, W>(
+    rt: &R,
+    path: &str,
+    folder: &str,
+    out: &mut W,
+) -> Result<Option<Fault>, Refusal>
+where
+    F: EndedFile + Read + Locks + OpenFile + Drop,
+    R: Files<File = F> + Input + AllocGlobal,
+    W: Write,
+{
+    let image = image_at(rt, path)?;
+    let mut files = SystemFolder::new(rt, folder);
+    let ended = extract_run(rt.alloc(), image.as_slice(), &mut files, out);
+    match files.refused {
+        Some(refusal) => Err(refusal),
+        None => ended,
+    }
+}

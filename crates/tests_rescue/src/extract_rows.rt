@@ -1,0 +1,189 @@
+//! Files taken out of a disk, by hand from the bytes that are written on it.
+use crate::comparing::same_at;
+use d64_image::{MemDisk, Place, Sectors};
+use disk_layout::Fault;
+use file_rescue::{MemFolder, extract_image};
+use std::process::Abort;
+
+/// Bytes that are written: a sector, where they begin, and the bytes.
+type Written = (u8, u8, usize, &'static [u8]);
+
+/// A program of one block, and a locked relative file with records of two bytes, whose side sector is missing.
+const DISK: [Written; 5] = [
+    (
+        18,
+        1,
+        0,
+        b"\x00\xff\x82\x11\x00A/\"\xa0\xa0\xa0\xa0\xa0\xa0\xa0\xa0\xa0\xa0\xa0\xa0\xa0",
+    ),
+    (18, 1, 30, b"\x01\x00"),
+    (
+        18,
+        1,
+        34,
+        b"\xc4\x11\x02\xc1\xa0B\xa0\xa0\xa0\xa0\xa0\xa0\xa0\xa0\xa0\xa0\xa0\xa0\xa0\x11\x01\x02\x00\x00\x00\x00\x00\x00\x03\x00",
+    ),
+    (17, 0, 0, b"\x00\x03HI"),
+    (17, 2, 0, b"\x00\x06ABC\x00D"),
+];
+
+/// The files of this disk before the index.
+const FILES: [(&[u8], &[u8]); 3] = [
+    (b"01-A__.prg", b"HI"),
+    (b"02-__B.rel", b"ABC\x00D"),
+    (b"02-__B.csv", b"1,\"AB\"\n2,\"C\"\n"),
+];
+
+/// What changes the disk; the row of each entry from its fourth column on, of which the fourth is the name in UTF-8; and
+/// the fault: 0 none, 1 `BadLink`, 2 `Loop`, 3 `OwnedTwice`, 4 `Unclosed`, and its sector.
+type Row = (Written, &'static [u8], &'static [u8], (u8, u8, u8));
+
+/// A change that changes nothing.
+const SAME: Written = (17, 0, 0, b"\x00\x03");
+
+const ROWS: [Row; 6] = [
+    (
+        SAME,
+        b"PRG,yes,no,1,1,,2,,\n",
+        b"REL,yes,yes,3,1,2,5,,\n",
+        (0, 0, 0),
+    ),
+    // the program's first block is the relative file's
+    (
+        (18, 1, 3, b"\x11\x02"),
+        b"PRG,yes,no,1,1,,5,,17/2\n",
+        b"REL,yes,yes,3,1,2,5,,17/2\n",
+        (3, 17, 2),
+    ),
+    // and the map's
+    (
+        (18, 1, 3, b"\x12\x00"),
+        b"PRG,yes,no,1,1,,0,,18/0\n",
+        b"REL,yes,yes,3,1,2,5,,\n",
+        (3, 18, 0),
+    ),
+    // it was never closed, and has no block
+    (
+        (18, 1, 2, b"\x02\x00\x00"),
+        b"PRG,no,no,1,0,,0,,\n",
+        b"REL,yes,yes,3,1,2,5,,\n",
+        (4, 18, 1),
+    ),
+    // its block links past the last track
+    (
+        (17, 0, 0, b"\x24\x00"),
+        b"PRG,yes,no,1,1,,254,BADLINK 17/0,\n",
+        b"REL,yes,yes,3,1,2,5,,\n",
+        (1, 17, 0),
+    ),
+    // the directory's sector links to itself
+    (
+        (18, 1, 0, b"\x12\x01"),
+        b"PRG,yes,no,1,1,,2,,\n",
+        b"REL,yes,yes,3,1,2,5,,\n",
+        (2, 18, 1),
+    ),
+];
+
+/// A disk of zeros with these bytes, and with this change.
+fn written(rt: &(impl Abort + AllocGlobal), parts: &[Written], change: Written) -> MemDisk {
+    let mut disk = MemDisk::zeroed(rt.alloc()).expect(rt, "a disk of zeros");
+    for part in parts {
+        put(&mut disk, *part);
+    }
+    put(&mut disk, change);
+    disk
+}
+
+/// Writes these bytes.
+fn put(disk: &mut MemDisk, (track, sector, at, part): Written) {
+    let place = Place::new(track, sector).unwrap_or_default();
+    let mut bytes = [0; 256];
+    let _ = disk.read(place, &mut bytes);
+    for (room, byte) in bytes.iter_mut().skip(at).zip(part) {
+        *room = *byte;
+    }
+    let _ = disk.write(place, &bytes);
+}
+
+/// The fault of a row.
+fn fault_of((kind, track, sector): (u8, u8, u8)) -> Option<Fault> {
+    let place = Place::new(track, sector).unwrap_or_default();
+    match kind {
+        1 => Some(Fault::BadLink(place)),
+        2 => Some(Fault::Loop(place)),
+        3 => Some(Fault::OwnedTwice(place)),
+        4 => Some(Fault::Unclosed(place)),
+        _ => None,
+    }
+}
+
+/// The index with these ends of its rows.
+fn index_of(rt: &(impl Abort + AllocGlobal), first: &[u8], second: &[u8]) -> Vec<u8> {
+    let mut text = Vec::new(rt.alloc());
+    let parts: [&[u8]; 5] = [
+        b"number,file,name,text,type,closed,locked,blocks,found,length,bytes,fault,shared\n",
+        b"1,\"01-A__.prg\",\"A/\\22\",\"A/\"\"\",",
+        first,
+        b"2,\"02-__B.rel\",\"\\c1\\a0B\",\"\xe2\x99\xa0\xc2\xa0B\",",
+        second,
+    ];
+    for part in parts {
+        text.extend_from_slice(part).expect(rt, "memory");
+    }
+    text
+}
+
+/// Sees that the folder's index has these ends of its rows.
+fn has_index(rt: &(impl Abort + AllocGlobal), folder: &MemFolder, row: &Row) {
+    let (change, first, second, _) = row;
+    let wanted = index_of(rt, *first, *second);
+    for file in folder.files() {
+        if file.name.as_slice() == b"index.csv".as_slice() {
+            same_at(rt, file.bytes.as_slice(), wanted.as_slice(), change);
+        }
+    }
+    same_at(rt, folder.files().len(), 4, change);
+}
+
+/// Sees that each row gives its index and its fault.
+fn are_extracted(rt: &(impl Abort + AllocGlobal), rows: &[Row]) {
+    for row in rows {
+        let disk = written(rt, &DISK, row.0);
+        let mut folder = MemFolder::new(rt.alloc());
+        let found = extract_image(rt.alloc(), disk.bytes(), &mut folder).expect(rt, "extracted");
+        same_at(rt, found, fault_of(row.3), row.0);
+        has_index(rt, &folder, row);
+    }
+}
+
+#[test]
+fn indexes_have_what_is_found(rt: HostRuntime) {
+    are_extracted(&rt, &ROWS);
+}
+
+/// Sees that the folder has these files first.
+fn has_files(rt: &(impl Abort + AllocGlobal), folder: &MemFolder, files: &[(&[u8], &[u8])]) {
+    for (file, (name, bytes)) in folder.files().iter().zip(files) {
+        same_at(rt, file.name.as_slice(), *name, name);
+        same_at(rt, file.bytes.as_slice(), *bytes, name);
+    }
+}
+
+#[test]
+fn files_are_extracted(rt: HostRuntime) {
+    let disk = written(&rt, &DISK, SAME);
+    let mut folder = MemFolder::new(rt.alloc());
+    let found = extract_image(rt.alloc(), disk.bytes(), &mut folder).expect(&rt, "extracted");
+    same_at(&rt, found, None, "the disk");
+    has_files(&rt, &folder, &FILES);
+    // the folder refuses files that it has, and keeps them
+    let again = extract_image(rt.alloc(), disk.bytes(), &mut folder);
+    same_at(&rt, again.is_err(), true, "the folder once more");
+    same_at(&rt, folder.files().len(), 4, "the folder once more");
+    // and an image of another size makes nothing
+    let mut other = MemFolder::new(rt.alloc());
+    let refused = extract_image(rt.alloc(), b"short", &mut other);
+    same_at(&rt, refused.is_err(), true, "another size");
+    same_at(&rt, other.files().len(), 0, "another size");
+}

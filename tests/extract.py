@@ -1,0 +1,254 @@
+#!/usr/bin/env python3
+"""Takes all files out of images by the built program's `extract`, and compares each file and index.csv with a reader of this
+script:
+
+    tests/extract.py PROGRAM [RANDOM] [SEED]
+
+PROGRAM is what `tools/program` prints. The images are those of disks.py, made by cc1541 and cbmconvert (Debian's packages of
+these names), sound and with each fault; disks with a broken and with a looping directory, with names of every byte, with two
+files of one name, and with a separator at 18/0; RANDOM (10,000) images of random bytes, and RANDOM / 10 each of random bytes
+whose directory is 18/1 alone, and of random links. Each is taken out in a folder of its own, beside a file that has to stay.
+The script compares
+- the names of the folder's files, which begin with a digit or are index.csv, and that nothing else was made or changed;
+- each file's bytes, the lines of its records, and the index, which Python's csv reads;
+- the status, standard output and standard error.
+It ends at the first difference with status 1, and keeps the image."""
+
+import csv
+import io
+import random
+import subprocess
+import sys
+import tempfile
+from itertools import chain as chain_of
+from pathlib import Path
+
+import disks
+from disks import FAULTS, Image, need
+from drawn import DIRECTORY, INDEX, MAP, PLACES, SIZE, name_text, sign, start
+
+KINDS = ("DEL", "SEQ", "PRG", "USR", "REL")
+HEADING = "number,file,name,text,type,closed,locked,blocks,found,length,bytes,fault,shared".split(",")
+
+
+class Differs(Exception):
+    """A folder isn't as it has to be."""
+
+
+def want(what, got, wanted):
+    if got != wanted:
+        raise Differs(f"{what}: {got!r:.300} in place of {wanted!r:.300}")
+
+
+def sector(image, place):
+    return image[start(place):start(place) + 256]
+
+
+def chain(image, place):
+    """The sectors that the links come to from a place, each once; the last index; and what ends them before their end."""
+    places = []
+    while True:
+        places.append(place)
+        link = tuple(sector(image, place)[:2])
+        if link[0] == 0:
+            return places, link[1], ""
+        if link not in INDEX:
+            return places, 255, f"BADLINK {place[0]}/{place[1]}"
+        if link in places:
+            return places, 255, f"LOOP {link[0]}/{link[1]}"
+        place = link
+
+
+def directory(image):
+    """The directory's sectors as far as they go, and what ends them."""
+    places, place = [], DIRECTORY
+    while True:
+        places.append(place)
+        link = tuple(sector(image, place)[:2])
+        if link[0] == 0:
+            return places, ""
+        if link not in INDEX or link[0] != 18 or link == MAP:
+            return places, f"BADLINK {place[0]}/{place[1]}"
+        if link in places:
+            return places, f"LOOP {link[0]}/{link[1]}"
+        place = link
+
+
+def file_name(number, name, ending):
+    kept = "".join(chr(byte) if 32 <= byte <= 122 and byte not in b'"*/:<>?\\' else "_" for byte in name)
+    return f"{number:02}-{kept}{ending}"
+
+
+def shown(byte):
+    """A byte of a name as a C64 shows it; a carriage return as it is typed."""
+    return '"' if byte == 34 else sign(byte)
+
+
+class Wanted:
+    """The files that an image has to give, the faults in the order in which they are reported, and the chains."""
+
+    def __init__(self, image):
+        sectors, fault = directory(image)
+        slots = [(place, sector(image, place)[at:at + 32]) for place in sectors for at in range(0, 256, 32)]
+        slots = [(place, slot) for place, slot in slots if slot[2]]
+        chains = [self.reach(image, place, slot) for place, slot in slots]
+        owned = {}
+        for place in [MAP, *sectors, *(block for blocks, _, _ in chains for block in blocks)]:
+            owned[place] = owned.get(place, 0) + 1
+        self.files, self.faults, rows = {}, [fault] if fault else [], []
+        for number, ((place, slot), (blocks, last, ended)) in enumerate(zip(slots, chains), 1):
+            shared = next((block for block in blocks if owned[block] > 1), None)
+            data = self.data(image, blocks, last)
+            rows.append(self.row(number, slot, len(blocks), len(data), ended, shared))
+            self.files[rows[-1][1]] = data
+            if slot[2] % 16 == 4 and 1 <= slot[23] <= 254:
+                self.files[file_name(number, slot[5:21].rstrip(b"\xa0"), ".csv")] = self.lines(data, slot[23])
+            told = ended or (f"OWNEDTWICE {shared[0]}/{shared[1]}" if shared else "")
+            told = told or ("" if slot[2] >= 128 else f"UNCLOSED {place[0]}/{place[1]}")
+            self.faults += [told] if told else []
+        self.rows = rows
+
+    @staticmethod
+    def reach(image, place, slot):
+        if slot[3] == 0 and slot[2] not in (0x84, 0xC4):
+            return [], 0, ""
+        first = tuple(slot[3:5])
+        return chain(image, first) if first in INDEX else ([], 0, f"BADLINK {place[0]}/{place[1]}")
+
+    @staticmethod
+    def data(image, blocks, last):
+        if not blocks:
+            return b""
+        whole = b"".join(sector(image, block)[2:] for block in blocks[:-1])
+        return whole + sector(image, blocks[-1])[2:max(last, 1) + 1]
+
+    @staticmethod
+    def lines(data, length):
+        records = (data[at:at + length] for at in range(0, len(data) - length + 1, length))
+        return "".join(f'{number},"{name_text(record.rstrip(bytes(1)))}"\n' for number, record in enumerate(records, 1)).encode()
+
+    @staticmethod
+    def row(number, slot, blocks, count, ended, shared):
+        name, kind = slot[5:21].rstrip(b"\xa0"), slot[2]
+        low = kind % 16
+        ending = "." + KINDS[low].lower() if low < 5 else ".bin"
+        return [str(number), file_name(number, name, ending), name_text(name), "".join(map(shown, name)),
+                KINDS[low] if low < 5 else "???", "yes" if kind >= 128 else "no", "yes" if kind >> 6 & 1 else "no",
+                str(slot[30] + 256 * slot[31]), str(blocks), str(slot[23]) if low == 4 else "", str(count), ended,
+                f"{shared[0]}/{shared[1]}" if shared else ""]
+
+
+def extracted(program, folder, image):
+    """Takes an image out, and compares all that came of it. Returns how many files there are, and the status."""
+    path, out, beside = folder / "disk.d64", folder / "out", folder / "beside"
+    path.write_bytes(image)
+    beside.write_text("stays")
+    ran = subprocess.run([program, "extract", path, out], capture_output=True)
+    wanted = Wanted(image)
+    want("what stands beside the folder", sorted(entry.name for entry in folder.iterdir()), ["beside", "disk.d64", "out"])
+    want("the file beside", (beside.read_text(), path.read_bytes() == image), ("stays", True))
+    got = {entry.name: entry.read_bytes() for entry in out.iterdir()}
+    index = got.pop("index.csv")
+    want("the files", sorted(got), sorted(wanted.files))
+    for name, data in wanted.files.items():
+        if not name[0].isdigit() or "/" in name:
+            raise Differs(f"the name {name}")
+        want(name, got[name], data)
+    want("the index", list(csv.reader(io.StringIO(index.decode(), newline=""))), [HEADING, *wanted.rows])
+    return len(got), finish(ran, wanted, out)
+
+
+def finish(ran, wanted, out):
+    """Compares how the run ended, and takes the folder away."""
+    said, told = ran.stdout.decode(), ran.stderr.decode()
+    if wanted.faults:
+        want("the end", (ran.returncode, said, told), (1, "", f"LAYOUT {wanted.faults[0]}\n"))
+    elif told.startswith("SHORT "):
+        want("the end", (ran.returncode, said), (1, ""))
+    else:
+        want("the end", (ran.returncode, said, told), (0, "EXTRACTED\n", ""))
+    for entry in out.iterdir():
+        entry.unlink()
+    out.rmdir()
+    return ran.returncode
+
+
+def tools_disks(folder):
+    """The disks of the tools, sound and with each fault."""
+    sound = disks.customers(folder, folder / "customers.d64")
+    yield sound.read_bytes()
+    yield disks.of_cc1541(folder, folder / "tools.d64").read_bytes()
+    yield disks.of_cbmconvert(folder, folder / "relative.d64").read_bytes()
+    for fault in FAULTS.values():
+        yield bytes(fault(sound).bytes)
+    yield from named_disks(folder, sound)
+    crowd = disks.crowded(folder, folder / "crowd.d64", b"../../A/B")
+    yield crowd.read_bytes()
+    sectors = Image(crowd).disk.directory
+    for link in (sectors[2], (19, 0), (18, 0), (77, 1)):
+        yield bytes(Image(crowd).put(sectors[9], 0, link).bytes)
+
+
+def named_disks(folder, sound):
+    """Names of every byte and of markup, one name twice, a separator at 18/0, and side sectors of zeros."""
+    yield disks.named(sound, folder / "named.d64").read_bytes()
+    crowd = disks.crowded(folder, folder / "every.d64", b"EVERY")
+    yield disks.with_every_byte(crowd, folder / "every.d64").read_bytes()
+    yield bytes(Image(sound).put_entry(2, 5, b"LETTER".ljust(16, b"\xa0")).bytes)
+    yield bytes(Image(sound).put_entry(2, 2, [0x80, 18, 0]).bytes)
+    image = Image(sound)
+    for side in image.disk.entries[0].sides:
+        image.put(side, 0, bytes(256))
+    yield bytes(image.bytes)
+
+
+def random_disks(seed, count):
+    """Random bytes; with a directory of one sector; and with links to places of the disk."""
+    draw = random.Random(seed)
+    for number in range(count + 2 * (count // 10)):
+        image = bytearray(draw.randbytes(SIZE))
+        if number >= count:
+            image[start(DIRECTORY):start(DIRECTORY) + 2] = b"\0\xff"
+        if number >= count + count // 10:
+            for place in PLACES:
+                image[start(place):start(place) + 2] = bytes(draw.choice(PLACES)) if draw.random() < .99 else b"\0\x80"
+        yield bytes(image)
+
+
+def refused(program, folder):
+    """An image of another size and a folder that is there make nothing and change nothing."""
+    path, out = folder / "disk.d64", folder / "out"
+    path.write_bytes(bytes(100))
+    ran = subprocess.run([program, "extract", path, out], capture_output=True)
+    want("another size", (ran.returncode, ran.stderr, out.exists()), (1, b"IMAGE SIZE\n", False))
+    path.write_bytes(bytes(SIZE))
+    out.mkdir()
+    (out / "kept").write_text("kept")
+    ran = subprocess.run([program, "extract", path, out], capture_output=True)
+    want("a folder that is there", (ran.returncode, ran.stderr, [entry.name for entry in out.iterdir()]),
+         (1, b"FILE EXISTS\n", ["kept"]))
+
+
+def main():
+    program = str(Path(sys.argv[1]).resolve())
+    count = int(sys.argv[2]) if len(sys.argv) > 2 else 10_000
+    seed = int(sys.argv[3]) if len(sys.argv) > 3 else 1
+    need(*disks.TOOLS)
+    images = files = whole = 0
+    with tempfile.TemporaryDirectory() as made, tempfile.TemporaryDirectory() as work:
+        for image in chain_of(tools_disks(Path(made)), random_disks(seed, count)):
+            try:
+                had, status = extracted(program, Path(work), image)
+            except Differs as error:
+                Path("extract-differs.d64").write_bytes(image)
+                print(f"extract: image {images + 1} (kept as extract-differs.d64): {error}")
+                sys.exit(1)
+            images, files, whole = images + 1, files + had, whole + (status == 0)
+        for entry in Path(work).iterdir():
+            entry.unlink()
+        refused(program, Path(work))
+    print(f"extract: {images} images taken out, {whole} of them whole; {files} files and {images} indexes are those of the reader")
+
+
+if __name__ == "__main__":
+    main()
