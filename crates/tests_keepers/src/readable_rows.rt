@@ -77,7 +77,7 @@ const LETTER: &[Change] = &[
         66,
         b"\x81\x11\x06LETTER\xA0\xA0\xA0\xA0\xA0\xA0\xA0\xA0\xA0\xA0",
     ),
-    (17, 6, 0, b"\0\x0D\xC4EAR \x22X\x22,\r\x12"),
+    (17, 6, 0, b"\0\x0C\xC4EAR \x22X\x22,\r\x12"),
 ];
 
 /// What is printed of it.
