@@ -12,15 +12,16 @@ ghost use Rattle.command_line.specs.Jobs.{IsSeveral, IsSheet, IsStoringJob, IsTa
 ghost use Rattle.command_line.specs.Jobs.{effect_in, format_job, job_of_one, loss_in, picture_job, play_job, unowned_in};
 ghost use Rattle.rel_records.specs.File.{IsLength};
 ghost use Rattle.command_line.specs.Jobs.{is_explained as explained, is_given as given, serve_durability as of_serve};
-ghost use Rattle.command_line.specs.Jobs.{way_in};
+ghost use Rattle.command_line.specs.Jobs.{spelled_place, way_in};
 ghost use Rattle.command_line.specs.Forms.{byte_form_in, name_form_in, record_form_in, set_in};
 
 use crate::faults::JobFault;
 use clap::{ArgMatches, Error};
 use command_table::ledger_command;
+use d64_image::Place;
 use disk_pictures::MOST_TILES;
 use keeper_commands::{ByteForm, RecordForm};
-use ledger_jobs::{Drawing, Effect, Job, Loss, Name, Overview, Taking, Unowned, Way};
+use ledger_jobs::{Drawing, Effect, Job, Loss, Name, Overview, Taking, Unowned, View, Way};
 use petscii_text::CharacterSet;
 use request_cards::number;
 use shop_commands::{Durability, NameForm};
@@ -69,6 +70,17 @@ fn length_of(text: &str) -> Option<u8>
         Some(length) => Some(length as u8),
         None => None,
     }
+}
+
+/// The sector that a text names: its track, a slash and its number on that track, in decimal digits without leading
+/// zeros, such as 17/4.
+fn place_of(text: &str) -> Option<Place>
+    ensures { result ≡ spelled_place text.now }
+{
+    let (track, sector) = text.split_once('/')?;
+    let track = number(track.as_bytes(), 1, 35)?;
+    let sector = number(sector.as_bytes(), 0, 20)?;
+    Place::new(track as u8, sector as u8)
 }
 
 /// Whether a flag is among the words.
@@ -385,6 +397,18 @@ fn job_of<'a>(alloc: Global, matches: &ArgMatches<'a>) -> Result<Job<'a>, JobFau
         "map" => viewing(alloc, found, Overview::Map),
         "picture" => picturing(alloc, found),
         "dry" => Ok(Job::Dry { script }),
+        "free" => Ok(Job::View {
+            what: View::Free,
+            image,
+        }),
+        "sector" => match place_of(value_of(found, "T/S")) {
+            Some(place) => Ok(Job::View {
+                what: View::Sector(place),
+                image,
+            }),
+            None => Err(JobFault::Sector),
+        },
+        "trim" => Ok(Job::Trim { image }),
         // No other subcommand can be met.
         _ => Err(JobFault::Words(Error::from(AllocError))),
     }

@@ -12,4 +12,6 @@ pub mod Names
 pub mod Overviews
 pub mod Runs
 pub mod Serves
+pub mod Trims
+pub mod Views
 pub mod WatchedFiles
