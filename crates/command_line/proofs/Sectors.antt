@@ -1,9 +1,9 @@
 -- The sector that a text names, part by part.
-use Rattle.std.proofs.Common.{◌≡◌, ◌==◌, ℕ, List, [], Option, None, Some, Bor, length, drop, ap, arith, refl, sym, ◌∙◌}
+use Rattle.std.proofs.Common.{◌≡◌, ◌==◌, ℕ, List, [], Option, None, Some, Bor, ap, arith, refl, ◌∙◌}
 use Rattle.std.specs.List.{after_first, before_first}
 use Rattle.std.proofs.Math.ListN.{drop_of_length-le}
 use Rattle.std.proofs.lemmas.Str.Pattern.{IsSplitOnceResult, split_once_first}
-use Rattle.d64_image.specs.declared.place.Place.{Place}
+use Rattle.d64_image.specs.Places.{place_at}
 use Rattle.request_cards.specs.Reading.{number_in}
 use Rattle.command_line.specs.Jobs.{place_if_both, spelled_place}
 
@@ -34,6 +34,9 @@ spelled-parts text r x split is =
 -- there is none without a track, and none without a sector
 pub no-track : (t s : Option ℕ) → t ≡ None → place_if_both t s ≡ None
 no-track t s none = rw none refl
+
+pub both-given : (t s : Option ℕ) (m n : ℕ) → t ≡ Some m → s ≡ Some n → place_if_both t s ≡ place_at m n
+both-given t s m n a b = rw (a, b) refl
 
 pub no-sector : (t s : Option ℕ) → s ≡ None → place_if_both t s ≡ None
 no-sector t s none = both-none t s none

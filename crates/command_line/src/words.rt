@@ -12,7 +12,7 @@ ghost use Rattle.command_line.specs.Jobs.{IsSeveral, IsSheet, IsStoringJob, IsTa
 ghost use Rattle.command_line.specs.Jobs.{effect_in, format_job, job_of_one, loss_in, picture_job, play_job, unowned_in};
 ghost use Rattle.rel_records.specs.File.{IsLength};
 ghost use Rattle.command_line.specs.Jobs.{is_explained as explained, is_given as given, serve_durability as of_serve};
-ghost use Rattle.command_line.specs.Jobs.{spelled_place, way_in};
+ghost use Rattle.command_line.specs.Jobs.{place_if_both, spelled_place, way_in};
 ghost use Rattle.command_line.specs.Forms.{byte_form_in, name_form_in, record_form_in, set_in};
 
 use crate::faults::JobFault;
@@ -72,15 +72,47 @@ fn length_of(text: &str) -> Option<u8>
     }
 }
 
-/// The sector that a text names: its track, a slash and its number on that track, in decimal digits without leading
-/// zeros, such as 17/4.
+/// The track that a text spells: 1 to 35, in decimal digits without leading zeros.
+fn track_of(text: &str) -> Option<u8>
+    ensures { result ≡ number_in 1 35 text.now }
+{
+    match number(text.as_bytes(), 1, 35) {
+        Some(track) => Some(track as u8),
+        None => None,
+    }
+}
+
+/// The number of a sector on its track that a text spells: 0 to 20, likewise.
+fn sector_of(text: &str) -> Option<u8>
+    ensures { result ≡ number_in 0 20 text.now }
+{
+    match number(text.as_bytes(), 0, 20) {
+        Some(sector) => Some(sector as u8),
+        None => None,
+    }
+}
+
+/// The sector whose track the first text spells, and its number on that track the second.
+fn place_with(first: &str, second: &str) -> Option<Place>
+    ensures { result ≡ place_if_both (number_in 1 35 first.now) (number_in 0 20 second.now) }
+{
+    let Some(track) = track_of(first) else {
+        return None;
+    };
+    let Some(sector) = sector_of(second) else {
+        return None;
+    };
+    Place::new(track, sector)
+}
+
+/// The sector that a text names: its track, a slash and its number on that track, such as 17/4.
 fn place_of(text: &str) -> Option<Place>
     ensures { result ≡ spelled_place text.now }
 {
-    let (track, sector) = text.split_once('/')?;
-    let track = number(track.as_bytes(), 1, 35)?;
-    let sector = number(sector.as_bytes(), 0, 20)?;
-    Place::new(track as u8, sector as u8)
+    let Some((track, sector)) = text.split_once('/') else {
+        return None;
+    };
+    place_with(track, sector)
 }
 
 /// Whether a flag is among the words.
