@@ -5,11 +5,14 @@ use Rattle.std.proofs.Math.ListN.{drop_of_length-le}
 use Rattle.std.proofs.lemmas.Str.Pattern.{IsSplitOnceResult, split_once_first}
 use Rattle.d64_image.specs.Places.{place_at}
 use Rattle.request_cards.specs.Reading.{number_in}
+use Rattle.request_cards.proofs.Fields.{number_refused}
+use Rattle.request_cards.proofs.Numbers.{leads_first}
 use Rattle.command_line.specs.Jobs.{place_if_both, spelled_place}
 
+-- no bytes spell no number
 none-spelled : number_in 0 20 [] ≡ None
-unfolding number_in
-none-spelled = refl
+none-spelled = number_refused 0 20 [] (omega arith) (λ n low high leads.
+    let digit = leads_first [] n [] leads in omega (arith, digit.0))
 
 both-none : (t s : Option ℕ) → s ≡ None → place_if_both t s ≡ None
 both-none None s none = refl
