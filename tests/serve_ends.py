@@ -27,7 +27,7 @@ SYNTAX = "30,SYNTAX ERROR,00,00"
 # a request that grows STOCK, changes a card in two sectors, and is kept: nine writes
 GROWS = "1,1,S,15,7"
 # the words that only read an image, and what follows it
-READING = [["show"], ["check"], ["list"], ["records", "STOCK"], ["bytes", "STOCK"], ["map"], ["picture"]]
+READING = [["show"], ["check"], ["list"], ["records", "STOCK"], ["bytes", "STOCK"], ["map"], ["picture"], ["free"], ["sector", "17/0"], ["trim"]]
 
 
 class Ends:

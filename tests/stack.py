@@ -59,7 +59,7 @@ def commands(program, folder):
         subprocess.run([program, "records", shop, "STOCK"], check=True, stdout=lines)
     yield "format", ["format", str(folder / "new.d64"), "--tills", "64"], b""
     yield "dry", ["dry", script], b""
-    for word in ("list", "check", "show", "map", "picture"):
+    for word in ("list", "check", "show", "map", "picture", "free", "trim"):
         yield word, [word, shop], b""
     yield "check --json", ["check", "--json", shop], b""
     yield "play", ["play", shop, script], b""

@@ -117,6 +117,7 @@ heard-as-asked (Err faults.Tills) asked heard same = same
 heard-as-asked (Err faults.Name) asked heard same = same
 heard-as-asked (Err faults.Length) asked heard same = same
 heard-as-asked (Err faults.Images) asked heard same = same
+heard-as-asked (Err faults.Sector) asked heard same = same
 
 -- what it takes out of an image is the job of a subcommand that was met, or its name is none
 pub taking-met : (o : Option (Bor Text × Bor ArgMatches)) (found : Option (Text × List Row)) (name : Bor Text)
@@ -139,6 +140,8 @@ taking-met o found name at what image (Ok (jobs.List form path)) told some is by
 taking-met o found name at what image (Ok (jobs.Several asked paths)) told some is by-image by taking = absurd taking
 taking-met o found name at what image (Ok (jobs.Sheet paths)) told some is by-image by taking = absurd taking
 taking-met o found name at what image (Ok (jobs.Describe paths)) told some is by-image by taking = absurd taking
+taking-met o found name at what image (Ok (jobs.View asked path)) told some is by-image by taking = absurd taking
+taking-met o found name at what image (Ok (jobs.Trim path)) told some is by-image by taking = absurd taking
 taking-met o found name at what image (Ok (jobs.Check path)) told some is by-image by taking = absurd taking
 taking-met o found name at what image (Ok (jobs.Show path)) told some is by-image by taking = absurd taking
 taking-met o found name at what image (Ok (jobs.Play path script)) told some is by-image by taking = absurd taking
@@ -159,6 +162,7 @@ taking-met o found name at what image (Err faults.Name) told some is by-image by
     ((refl, inl (what, met-has o found name at (word_of_taking what) HasNoName told some is taking)), tt)
 taking-met o found name at what image (Err faults.Tills) told some is by-image by taking = absurd taking
 taking-met o found name at what image (Err faults.Images) told some is by-image by taking = absurd taking
+taking-met o found name at what image (Err faults.Sector) told some is by-image by taking = absurd taking
 taking-met o found name at what image (Err (faults.Words e)) told some is by-image by taking = absurd taking
 taking-met o found name at what image (Err faults.Length) told some is by-image by taking = absurd taking
 
@@ -179,6 +183,8 @@ making-met o found name at image (Ok (jobs.List form path)) told some is by-imag
 making-met o found name at image (Ok (jobs.Several asked paths)) told some is by-image job = absurd job
 making-met o found name at image (Ok (jobs.Sheet paths)) told some is by-image job = absurd job
 making-met o found name at image (Ok (jobs.Describe paths)) told some is by-image job = absurd job
+making-met o found name at image (Ok (jobs.View asked path)) told some is by-image job = absurd job
+making-met o found name at image (Ok (jobs.Trim path)) told some is by-image job = absurd job
 making-met o found name at image (Ok (jobs.Check path)) told some is by-image job = absurd job
 making-met o found name at image (Ok (jobs.Show path)) told some is by-image job = absurd job
 making-met o found name at image (Ok (jobs.Play path script)) told some is by-image job = absurd job
@@ -197,6 +203,7 @@ making-met o found name at image (Err faults.Length) told some is by-image job =
     ((refl, met-has o found name at (codes "make") _ told some is job), tt)
 making-met o found name at image (Err faults.Tills) told some is by-image job = absurd job
 making-met o found name at image (Err faults.Images) told some is by-image job = absurd job
+making-met o found name at image (Err faults.Sector) told some is by-image job = absurd job
 making-met o found name at image (Err (faults.Words e)) told some is by-image job = absurd job
 
 -- what stores records in one is the job of the subcommand that was met, or its words give none
@@ -214,6 +221,8 @@ storing-met o found name at image (Ok (jobs.List form path)) told some is by-ima
 storing-met o found name at image (Ok (jobs.Several asked paths)) told some is by-image job = absurd job
 storing-met o found name at image (Ok (jobs.Sheet paths)) told some is by-image job = absurd job
 storing-met o found name at image (Ok (jobs.Describe paths)) told some is by-image job = absurd job
+storing-met o found name at image (Ok (jobs.View asked path)) told some is by-image job = absurd job
+storing-met o found name at image (Ok (jobs.Trim path)) told some is by-image job = absurd job
 storing-met o found name at image (Ok (jobs.Check path)) told some is by-image job = absurd job
 storing-met o found name at image (Ok (jobs.Show path)) told some is by-image job = absurd job
 storing-met o found name at image (Ok (jobs.Play path script)) told some is by-image job = absurd job
@@ -231,4 +240,5 @@ storing-met o found name at image (Err faults.Name) told some is by-image job =
 storing-met o found name at image (Err faults.Length) told some is by-image job = absurd job
 storing-met o found name at image (Err faults.Tills) told some is by-image job = absurd job
 storing-met o found name at image (Err faults.Images) told some is by-image job = absurd job
+storing-met o found name at image (Err faults.Sector) told some is by-image job = absurd job
 storing-met o found name at image (Err (faults.Words e)) told some is by-image job = absurd job

@@ -13,6 +13,7 @@ job_number jobs.Tills = 2
 job_number jobs.Name = 3
 job_number jobs.Length = 4
 job_number jobs.Images = 5
+job_number jobs.Sector = 6
 
 -- the exit status for words that give no job: 3 for want of memory, 0 where help or the version is asked for
 abbrev pub words_status : ErrorKind → ℕ
@@ -27,3 +28,4 @@ job_status jobs.Tills = 2
 job_status jobs.Name = 2
 job_status jobs.Length = 2
 job_status jobs.Images = 2
+job_status jobs.Sector = 2

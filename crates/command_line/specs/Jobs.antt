@@ -1,6 +1,9 @@
 -- What the words of a command line ask for (our own).
 use Rattle.std.specs.Prelude.{◌≡◌, ◌≤◌, ◌<◌, ◌⊎◌, ◌||◌, ℕ, Bool, true, false, List, Option, Some, None, Result, Ok, Err, []}
-use Rattle.std.specs.Prelude.{codes, if◌then◌else◌, length, map, vec_items, Vec}
+use Rattle.std.specs.Prelude.{◌==◌, codes, if◌then◌else◌, length, map, vec_items, Vec}
+use Rattle.d64_image.specs.Places.{place_at}
+use Rattle.d64_image.specs.declared.place.Place.{Place}
+use Rattle.std.specs.List.{after_first, before_first}
 use Rattle.std.specs.Option.{option_map_or}
 use Rattle.std.specs.Borrow.{Bor}
 use Rattle.std.specs.declared.alloc.Global.{Global}
@@ -28,6 +31,8 @@ use Rattle.ledger_jobs.specs.declared.jobs.Taking.{Taking}
 use Rattle.ledger_jobs.specs.declared.jobs.Taking.TheVariants as takings
 use Rattle.ledger_jobs.specs.declared.jobs.Unowned.{Unowned}
 use Rattle.ledger_jobs.specs.declared.jobs.Unowned.TheVariants as unowneds
+use Rattle.ledger_jobs.specs.declared.jobs.View.{View}
+use Rattle.ledger_jobs.specs.declared.jobs.View.TheVariants as views
 use Rattle.ledger_jobs.specs.declared.jobs.Way.{Way}
 use Rattle.ledger_jobs.specs.declared.jobs.Way.TheVariants as ways
 use Rattle.ledger_jobs.specs.Names.{IsNameOf, name_bytes}
@@ -57,6 +62,30 @@ tills_in rows = number_in 1 64 (value (codes "T") rows)
 -- the length of a record that they give: 1 to 254, without leading zeros
 abbrev pub length_in : List Row → Option ℕ
 length_in rows = number_in 1 254 (value (codes "L") rows)
+
+-- the sector of a track with these numbers, where both are given and the disk has it
+abbrev pub place_if_both : Option ℕ → Option ℕ → Option Place
+place_if_both (Some t) (Some s) = place_at t s
+place_if_both _ _ = None
+
+-- the sector that a text names: a track before the first slash and a sector after it, without leading zeros, as 17/4
+abbrev pub spelled_place : Text → Option Place
+spelled_place text =
+    place_if_both (number_in 1 35 (before_first (λ b. b == 47) text)) (number_in 0 20 (after_first (λ b. b == 47) text))
+
+-- the sector that the words give
+abbrev pub place_in : List Row → Option Place
+place_in rows = spelled_place (value (codes "T/S") rows)
+
+-- the subcommand that prints this of an image that isn't judged
+abbrev pub word_of_view : View → Text
+word_of_view views.Free = codes "free"
+word_of_view (views.Sector place) = codes "sector"
+
+-- and the sector, where it is one, is that which the words give
+abbrev pub IsViewIn : List Row → View → Type 0
+IsViewIn rows views.Free = Unit {0}
+IsViewIn rows (views.Sector place) = place_in rows ≡ Some place
 
 -- the subcommand that takes this out of an image
 abbrev pub word_of_taking : Taking → Text
@@ -185,6 +214,9 @@ IsJob found (jobs.Check image) = Has found (codes "check")
     (λ rows. IsOnlyImage rows image.now × IsViewedBy overviews.Check rows)
 IsJob found (jobs.Describe images) = Has found (codes "check") (λ rows. AreDescribed rows (vec_items images))
 IsJob found (jobs.Sheet images) = Has found (codes "picture") (λ rows. AreOnSheet rows (vec_items images))
+IsJob found (jobs.View what image) = Has found (word_of_view what)
+    (λ rows. (image.now ≡ value (codes "IMAGE") rows) × IsViewIn rows what)
+IsJob found (jobs.Trim image) = Has found (codes "trim") (λ rows. image.now ≡ value (codes "IMAGE") rows)
 IsJob found (jobs.Several what images) = Has found (word_of_overview what)
     (λ rows. AreImages rows (vec_items images) × IsViewedBy what rows)
 IsJob found (jobs.Show image) = Has found (codes "show") (λ rows. image.now ≡ value (codes "IMAGE") rows)
@@ -293,11 +325,12 @@ IsRefusedName found =
     ⊎ (Has found (codes "store") HasNoName ⊎ Has found (codes "make") HasNoNewName)
 
 -- why there is none: the words are refused for one of these kinds, or memory ran out; or the number of tills is none,
--- or the name of a file, or the length of a record
+-- or the name of a file, or the length of a record, or the sector
 abbrev pub IsNoJob : Kinds → Option (Text × List Row) → JobFault → Type 0
 IsNoJob kinds found (faults.Words e) = HasKind kinds e
 IsNoJob kinds found faults.Tills = (kinds ≡ []) × Has found (codes "format") (λ rows. tills_in rows ≡ None)
 IsNoJob kinds found faults.Name = (kinds ≡ []) × IsRefusedName found
 IsNoJob kinds found faults.Length =
     (kinds ≡ []) × Has found (codes "make") (λ rows. HasNewName rows × (length_in rows ≡ None))
+IsNoJob kinds found faults.Sector = (kinds ≡ []) × Has found (codes "sector") (λ rows. place_in rows ≡ None)
 IsNoJob kinds found faults.Images = (kinds ≡ []) × Has found (codes "picture") AreTooMany

@@ -24,10 +24,14 @@ pub enum JobFault {
     /// There are several images to be drawn, but not on a sheet; or more than a sheet has room for.
     #[error("IMAGES")]
     Images,
+    /// The text of a sector isn't that of one of the disk: its track, a slash and its number, such as 17/4.
+    #[error("SECTOR")]
+    Sector,
 }
 
 impl JobFault {
-    /// The fault's number: 1 for `Words`, 2 for `Tills`, 3 for `Name`, 4 for `Length`, 5 for `Images`.
+    /// The fault's number: 1 for `Words`, 2 for `Tills`, 3 for `Name`, 4 for `Length`, 5 for `Images`, 6
+    /// for `Sector`.
     pub fn number(&self) -> u8
         ensures { result ≡ job_number self.now }
     {
@@ -37,6 +41,7 @@ impl JobFault {
             JobFault::Name => 3,
             JobFault::Length => 4,
             JobFault::Images => 5,
+            JobFault::Sector => 6,
         }
     }
 
@@ -50,7 +55,8 @@ impl JobFault {
                 ErrorKind::DisplayHelp | ErrorKind::DisplayVersion => 0,
                 _ => 2,
             },
-            JobFault::Tills | JobFault::Name | JobFault::Length | JobFault::Images => 2,
+            JobFault::Tills | JobFault::Name | JobFault::Length => 2,
+            JobFault::Images | JobFault::Sector => 2,
         }
     }
 }

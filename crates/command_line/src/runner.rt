@@ -7,7 +7,7 @@ use crate::faults::JobFault;
 use crate::progress::{Watched, is_long};
 use crate::words::command_line;
 use disk_layout::Fault;
-use ledger_jobs::{Job, Refusal, announce, do_job, end, explain, tell_cut};
+use ledger_jobs::{Job, Refusal, announce, do_job, do_trim, end, explain, tell_cut};
 use shop_commands::{EndedFile, Locks, RunFault};
 use std::alloc::{AllocError, Global};
 use std::env;
@@ -66,6 +66,10 @@ fn explain_words<E: Write>(fault: &JobFault, err: &mut E) {
         JobFault::Words(_) => Ok(()),
         JobFault::Tills => writeln!(err, "ledger: T is 1 to 64"),
         JobFault::Length => writeln!(err, "ledger: L is 1 to 254"),
+        JobFault::Sector => writeln!(
+            err,
+            "ledger: T/S is a track and a sector that it has, as 17/4"
+        ),
         JobFault::Images => writeln!(
             err,
             "ledger: several images are drawn on a sheet (--sheet), which has room for 400"
@@ -91,9 +95,7 @@ fn refuse_words<R: Print + Eprint, E: Write>(
             return end(Err(Refusal::Run(RunFault::NoMemory)), err).status;
         }
         JobFault::Words(error) => error.print(rt),
-        JobFault::Tills | JobFault::Name | JobFault::Length | JobFault::Images => {
-            writeln!(err, "{fault}")
-        }
+        _ => writeln!(err, "{fault}"),
     };
     if told != Audience::Program {
         explain_words(fault, err);
@@ -105,7 +107,7 @@ fn refuse_words<R: Print + Eprint, E: Write>(
     }
 }
 
-/// Does a job over an output. A person who waits for long work is told how far it is.
+/// Does a job over an output, and over standard error where it reports there. A person who waits for long work is told how far it is.
 fn do_watched<F, R, W, E>(
     rt: &R,
     job: &Job<'_>,
@@ -120,6 +122,9 @@ where
     E: Write,
     requires { IsFit job.now }
 {
+    if let Job::Trim { image } = *job {
+        return do_trim(rt, image, out, err);
+    }
     if told != Audience::Waiting || !is_long(job) {
         return do_job(rt, job, out);
     }

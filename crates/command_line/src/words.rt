@@ -13,15 +13,16 @@ ghost use Rattle.command_line.specs.Jobs.{IsSeveral, IsSheet, IsStoringJob, IsTa
 ghost use Rattle.command_line.specs.Jobs.{effect_in, format_job, job_of_one, loss_in, picture_job, play_job, unowned_in};
 ghost use Rattle.rel_records.specs.File.{IsLength};
 ghost use Rattle.command_line.specs.Jobs.{is_explained as explained, is_given as given, serve_durability as of_serve};
-ghost use Rattle.command_line.specs.Jobs.{way_in};
+ghost use Rattle.command_line.specs.Jobs.{place_if_both, spelled_place, way_in};
 ghost use Rattle.command_line.specs.Forms.{byte_form_in, columns_in, name_form_in, record_form_in, set_in};
 
 use crate::faults::JobFault;
 use clap::{ArgMatches, Error};
 use command_table::ledger_command;
+use d64_image::Place;
 use disk_pictures::MOST_TILES;
 use keeper_commands::{ByteForm, RecordForm};
-use ledger_jobs::{Columns, Drawing, Effect, Job, Loss, Name, Overview, Taking, Unowned, Way};
+use ledger_jobs::{Columns, Drawing, Effect, Job, Loss, Name, Overview, Taking, Unowned, View, Way};
 use petscii_text::CharacterSet;
 use request_cards::number;
 use shop_commands::{Durability, NameForm};
@@ -70,6 +71,49 @@ fn length_of(text: &str) -> Option<u8>
         Some(length) => Some(length as u8),
         None => None,
     }
+}
+
+/// The track that a text spells: 1 to 35, in decimal digits without leading zeros.
+fn track_of(text: &str) -> Option<u8>
+    ensures { result ≡ number_in 1 35 text.now }
+{
+    match number(text.as_bytes(), 1, 35) {
+        Some(track) => Some(track as u8),
+        None => None,
+    }
+}
+
+/// The number of a sector on its track that a text spells: 0 to 20, likewise.
+fn sector_of(text: &str) -> Option<u8>
+    ensures { result ≡ number_in 0 20 text.now }
+{
+    match number(text.as_bytes(), 0, 20) {
+        Some(sector) => Some(sector as u8),
+        None => None,
+    }
+}
+
+/// The sector whose track the first text spells, and its number on that track the second.
+fn place_with(first: &str, second: &str) -> Option<Place>
+    ensures { result ≡ place_if_both (number_in 1 35 first.now) (number_in 0 20 second.now) }
+{
+    let Some(track) = track_of(first) else {
+        return None;
+    };
+    let Some(sector) = sector_of(second) else {
+        return None;
+    };
+    Place::new(track, sector)
+}
+
+/// The sector that a text names: its track, a slash and its number on that track, such as 17/4.
+fn place_of(text: &str) -> Option<Place>
+    ensures { result ≡ spelled_place text.now }
+{
+    let Some((track, sector)) = text.split_once('/') else {
+        return None;
+    };
+    place_with(track, sector)
 }
 
 /// Whether a flag is among the words.
@@ -430,6 +474,18 @@ fn job_of<'a>(alloc: Global, matches: &ArgMatches<'a>) -> Result<Job<'a>, JobFau
         "map" => viewing(alloc, found, Overview::Map),
         "picture" => picturing(alloc, found),
         "dry" => Ok(Job::Dry { script }),
+        "free" => Ok(Job::View {
+            what: View::Free,
+            image,
+        }),
+        "sector" => match place_of(value_of(found, "T/S")) {
+            Some(place) => Ok(Job::View {
+                what: View::Sector(place),
+                image,
+            }),
+            None => Err(JobFault::Sector),
+        },
+        "trim" => Ok(Job::Trim { image }),
         // No other subcommand can be met.
         _ => Err(JobFault::Words(Error::from(AllocError))),
     }

@@ -104,6 +104,18 @@ map = over_images (codes "map")
 abbrev pub picture : App
 picture = with_rule (with_rule (over_images (codes "picture")) (flag (codes "svg"))) (flag (codes "sheet"))
 
+-- free IMAGE
+abbrev pub free : App
+free = over_image (codes "free")
+
+-- sector IMAGE T/S
+abbrev pub sector : App
+sector = with_rule (over_image (codes "sector")) (required (codes "T/S"))
+
+-- trim IMAGE
+abbrev pub trim : App
+trim = over_image (codes "trim")
+
 -- dry SCRIPT
 abbrev pub dry : App
 dry = with_rule (new_app (codes "dry")) (required (codes "SCRIPT"))
@@ -138,9 +150,13 @@ abbrev pub with_files : App → App
 with_files a = with_command (with_command (with_command (with_command (with_command (with_command
     a repair) records) bytes) extract) make) store
 
+-- a program that has those for a look at a disk too
+abbrev pub with_views : App → App
+with_views a = with_command (with_command (with_command (with_command (with_command a map) picture) free) sector) trim
+
 -- the program with its subcommands
 abbrev pub ledger : App
-ledger = with_command (with_command (with_command (with_files (with_shop bare)) map) picture) dry
+ledger = with_command (with_views (with_files (with_shop bare))) dry
 
 -- this is that subcommand, and none of its values is one of the program's
 pub record IsSubcommand (app : App) (c : Command) : Type 0 where

@@ -246,6 +246,32 @@ Exit status:
 
 Example: ledger picture --sheet ./*.d64 > all.html";
 
+/// What `free` prints, its statuses, and an example.
+pub(crate) const FREE: &str =
+    "Prints a line for each track, for example TRACK 17 FREE 21, and how many blocks\n\
+are free for files. The numbers are those of the disk's map, right or wrong.\n\
+Status 0: printed. 1: IMAGE SIZE. 3: FILE, NO MEMORY, IN USE.\n\
+Example: ledger free old.d64";
+
+/// What `sector` prints, its statuses, and an example.
+pub(crate) const SECTOR: &str =
+    "Prints sixteen bytes in a line, with the characters that a C64 shows for them;\n\
+then OWNER and the line of the file in `map`, and where the LINK leads. LINK END\n\
+and a number: the chain ends here, and this is the index of its last byte. Of a\n\
+damaged disk it prints what it can.\n\
+Status 0: printed. 1: IMAGE SIZE. 2: SECTOR: the disk has no such sector.\n\
+3: FILE, NO MEMORY, IN USE.\n\
+Example: ledger sector old.d64 18/0";
+
+/// What `trim` prints, its statuses, and an example.
+pub(crate) const TRIM: &str =
+    "Prints an image of 174848 bytes, as every other command takes it, from one of 35\n\
+or 40 tracks with or without error bytes. On standard error it prints a line\n\
+for each sector that the drive couldn't read (ERROR 23 17/4) and for each file\n\
+that goes on past track 35 (BEYOND and the sector whose link leads there).\n\
+Status 0: all is there. 1: such lines, or IMAGE SIZE. 3: FILE, NO MEMORY, IN USE.\n\
+Example: ledger trim old40.d64 > old.d64";
+
 /// What `dry` prints, its statuses, and an example.
 pub(crate) const DRY: &str = "\
 Prints the replies that a fresh disk with 64 tills would give.

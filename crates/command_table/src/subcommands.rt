@@ -1,7 +1,7 @@
 //! The subcommands, a row each.
 use crate::help_texts::{
-    BYTES, CHECK, COPY, DRY, EXTRACT, FORMAT, LIST, MAKE, MAP, PICTURE, PLAY, RECORDS, REPAIR, SERVE,
-    SHOW, STORE,
+    BYTES, CHECK, COPY, DRY, EXTRACT, FORMAT, FREE, LIST, MAKE, MAP, PICTURE, PLAY, RECORDS, REPAIR,
+    SECTOR, SERVE, SHOW, STORE, TRIM,
 };
 
 /// How often a value stands after the name of a subcommand.
@@ -119,7 +119,7 @@ const ACCEPT_LOSS: Value = Value {
 };
 
 /// All subcommands, in the order in which help lists them.
-pub(crate) const SUBCOMMANDS: [Subcommand; 16] = [
+pub(crate) const SUBCOMMANDS: [Subcommand; 19] = [
     // format IMAGE --tills T [--new]
     Subcommand {
         name: "format",
@@ -325,6 +325,35 @@ pub(crate) const SUBCOMMANDS: [Subcommand; 16] = [
                 help: "Prints a page with a small drawing of each image, at most 400",
             },
         ],
+    },
+    // free IMAGE
+    Subcommand {
+        name: "free",
+        about: "Prints how many sectors of each track are free",
+        more: FREE,
+        values: &[IMAGE],
+    },
+    // sector IMAGE T/S
+    Subcommand {
+        name: "sector",
+        about: "Prints a sector in hexadecimal digits, its owner and its link",
+        more: SECTOR,
+        values: &[
+            IMAGE,
+            Value {
+                name: "T/S",
+                word: None,
+                count: Count::One,
+                help: "The sector, for example 17/4: sector 4 of track 17",
+            },
+        ],
+    },
+    // trim IMAGE
+    Subcommand {
+        name: "trim",
+        about: "Prints tracks 1 to 35 of an image with 40, or with error bytes",
+        more: TRIM,
+        values: &[IMAGE],
     },
     // dry SCRIPT
     Subcommand {

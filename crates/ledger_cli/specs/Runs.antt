@@ -19,6 +19,7 @@ use Rattle.ledger_jobs.specs.Kept.{IsMakeOver, IsStoreOver}
 use Rattle.ledger_jobs.specs.Losses.{IsEndOf, IsGuarded, IsKeptEndOf, IsRepairedEndOf, IsTakingEnd}
 use Rattle.ledger_jobs.specs.Names.{name_bytes}
 use Rattle.ledger_jobs.specs.Runs.{IsNoShop, IsPlayRun, IsReadingEnd}
+use Rattle.ledger_jobs.specs.Views.{IsViewRun, as_viewed}
 use Rattle.ledger_jobs.specs.declared.jobs.Job.{Job}
 use Rattle.ledger_jobs.specs.declared.jobs.Job.TheVariants as jobs
 use Rattle.ledger_jobs.specs.declared.jobs.Columns.{Columns}
@@ -169,6 +170,10 @@ module _ {F : Type 0} (position : F → Option ℕ) (bytes contents : F → Opti
       (after ≡ file) × IsTakingEnd told what image (name_bytes name) old new end
   IsJobRun told (jobs.Draw what path) image script file after old new end =
       (after ≡ file) × EndsAs as_drawn end (IsDrawingRun told what image old new)
+  IsJobRun told (jobs.View what path) image script file after old new end =
+      (after ≡ file) × EndsAs as_viewed end (IsViewRun told what image old new)
+  IsJobRun told (jobs.Trim path) image script file after old new end =
+      (after ≡ file) × (new ≡ old) × (end ≡ Err (refusals.Run run.File))
   IsJobRun told (jobs.Several what paths) image script file after old new end =
       (after ≡ file) × (new ≡ old) × (end ≡ Err (refusals.Run run.File))
   IsJobRun told (jobs.Sheet paths) image script file after old new end =

@@ -5,7 +5,8 @@ ghost use Rattle.ledger_jobs.specs.Jobs.{IsFit};
 
 use crate::changing::{Ended, copy, format, make, play, repair, serve, store_columns};
 use ledger_jobs::{
-    Job, Reading, Refusal, drawing_run, drawn_end, end, job_end, reading_run, take_told,
+    Job, Reading, Refusal, drawing_run, drawn_end, end, job_end, reading_run, take_told, view_run,
+    viewed_end,
 };
 use shop_commands::RunFault;
 use std::alloc::Global;
@@ -63,8 +64,9 @@ fn obey<F: Write + Seek + Drop, W: Write>(
             (file, ended)
         }
         Job::Draw { what, .. } => (file, drawn_end(drawing_run(alloc, what, image, out))),
-        // it would want the bytes of each
-        Job::Several { .. } | Job::Sheet { .. } | Job::Describe { .. } => {
+        Job::View { what, .. } => (file, viewed_end(view_run(alloc, what, image, out))),
+        // it would want the bytes of each, or standard error too
+        Job::Several { .. } | Job::Sheet { .. } | Job::Describe { .. } | Job::Trim { .. } => {
             (file, Err(Refusal::Run(RunFault::File)))
         }
         // it would want a folder
@@ -79,6 +81,7 @@ fn obey<F: Write + Seek + Drop, W: Write>(
 /// only reads leaves it as it was. There are no logs: `Serve` writes the image itself, whatever way the job says.
 /// A job over several images ends with 3 and `FILE`, since only one has its bytes here: call `overview_run` for each.
 /// So does `Extract`, since there is no folder: call `extract_run` over one.
+/// So does `Trim`, which reports on standard error: call `trim_run`.
 ///
 /// The file is handed each sector at 256 times its index, before memory takes it, and nothing else; `Format` and `Copy`
 /// hand it the whole image. It can't be ended: what a longer file held after an image stays there. Whether it was there before, and

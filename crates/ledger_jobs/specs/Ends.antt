@@ -32,6 +32,7 @@ refusal_status (refusals.Kept n) = 1
 refusal_status refusals.Exists = 1
 refusal_status refusals.Log = 1
 refusal_status (refusals.Short p) = 1
+refusal_status refusals.Trimmed = 1
 refusal_status (refusals.Several greatest) = greatest
 
 -- what is told of it
@@ -44,9 +45,10 @@ refusal_text (refusals.Kept n) = codes "KEPT " ++ decimal n
 refusal_text refusals.Exists = codes "FILE EXISTS"
 refusal_text refusals.Log = codes "LOG"
 refusal_text (refusals.Short p) = codes "SHORT " ++ place_text p
+refusal_text refusals.Trimmed = codes "TRIMMED"
 refusal_text (refusals.Several greatest) = codes "STATUS " ++ decimal greatest
 
--- it is told on standard error: all but what the output has told
+-- it is told on standard error: all but what was told before
 abbrev pub is_told : Refusal → Bool
 is_told (refusals.Run fault) = true
 is_told (refusals.Keep fault) = true
@@ -56,6 +58,7 @@ is_told (refusals.Kept n) = false
 is_told refusals.Exists = true
 is_told refusals.Log = true
 is_told (refusals.Short p) = true
+is_told refusals.Trimmed = false
 is_told (refusals.Several greatest) = false
 
 -- the line in which it is told

@@ -14,4 +14,6 @@ pub mod Names
 pub mod Overviews
 pub mod Runs
 pub mod Serves
+pub mod Trims
+pub mod Views
 pub mod WatchedFiles

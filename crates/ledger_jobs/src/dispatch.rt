@@ -24,6 +24,7 @@ use crate::serving_images::do_serving;
 use crate::serving_logs::do_logged_serving;
 use crate::sheets::do_sheet;
 use crate::shop_runs::{format_run, reading_run};
+use crate::viewing::do_viewing;
 use disk_layout::Fault;
 use disk_pictures::PictureFault;
 use host_session::Printer;
@@ -314,7 +315,8 @@ where
 /// before the image is written, and read in the place of the image otherwise. `InUse` where another program has it; `Log`
 /// if its log gives no image; `File` where a file couldn't be opened or read, and the faults of `reading_run`,
 /// `format_run`, `play_durably`, `serve_guarded`, `serve_logged_guarded`, `copy_run`, `repair_guarded`, `make_guarded`,
-/// `store_guarded`, `take_told`, `extract_run` and `drawing_run`. What is wrong with one of several images is printed, and only an
+/// `store_guarded`, `take_told`, `extract_run`, `drawing_run` and `view_run`. `Trim` ends with `File`, since it reports on
+/// standard error: call `do_trim`. What is wrong with one of several images is printed, and only an
 /// output that failed ends the job before the last of them.
 pub fn do_job<F, R, W>(rt: &R, job: &Job<'_>, out: &mut W) -> Result<Option<Fault>, Refusal>
 where
@@ -370,6 +372,8 @@ where
             ref name,
         } => do_taking(rt, what, image, name, out),
         Job::Draw { what, image } => do_drawing(rt, what, image, out),
+        Job::View { what, image } => do_viewing(rt, what, image, out),
+        Job::Trim { .. } => Err(Refusal::Run(RunFault::File)),
         Job::Sheet { ref images } => do_sheet(rt, images.as_slice(), out),
         Job::Describe { ref images } => do_describing(rt, images.as_slice(), out),
         Job::Several { what, ref images } => do_several(rt, what, images.as_slice(), out),

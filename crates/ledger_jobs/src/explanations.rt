@@ -93,6 +93,7 @@ fn subject_of(refusal: Refusal) -> About {
         Refusal::Exists => About::Made,
         Refusal::Log => About::Image(FOREIGN_LOG),
         Refusal::Short(_) => About::Image(CUT_SHORT),
+        Refusal::Trimmed => About::Image(JUDGED),
         Refusal::Several(_) => About::Nothing,
     }
 }
@@ -105,6 +106,7 @@ fn image_of<'a>(job: &Job<'a>) -> &'a str {
         Job::Play { image, .. } | Job::PlaySynced { image, .. } | Job::Serve { image, .. } => image,
         Job::Repair { image, .. } | Job::Take { image, .. } | Job::Draw { image, .. } => image,
         Job::Extract { image, .. } => image,
+        Job::View { image, .. } | Job::Trim { image } => image,
         Job::Make { image, .. } | Job::Store { image, .. } | Job::Copy { image, .. } => image,
         Job::Several { images, .. } | Job::Sheet { images } | Job::Describe { images } => {
             images.first().copied().unwrap_or("")
@@ -132,6 +134,7 @@ fn writes(job: &Job<'_>) -> bool {
         Job::List { .. } | Job::Check { .. } | Job::Show { .. } | Job::Dry { .. } => false,
         Job::Take { .. } | Job::Draw { .. } | Job::Copy { .. } => false,
         Job::Extract { .. } => false,
+        Job::View { .. } | Job::Trim { .. } => false,
         Job::Several { .. } | Job::Sheet { .. } | Job::Describe { .. } => false,
     }
 }
@@ -219,10 +222,10 @@ pub(crate) fn size_of<R: Files>(rt: &R, path: &str) -> Option<u64> {
 fn tell_size<R: Files, E: Write>(rt: &R, image: &str, err: &mut E) {
     const WANTED: &str = "an image of 35 tracks without error bytes has 174848";
     const ERROR_BYTES: &str =
-        "35 tracks and error bytes; `head -c 174848 OLD > NEW` leaves the error bytes out";
-    const LONG: &str = "40 tracks; `head -c 174848 OLD > NEW` takes the first 35, then check NEW";
+        "35 tracks and error bytes; `ledger trim OLD > NEW` leaves the error bytes out";
+    const LONG: &str = "40 tracks; `ledger trim OLD > NEW` takes the first 35, then check NEW";
     const LONG_WITH_ERROR_BYTES: &str =
-        "40 tracks and error bytes; `head -c 174848 OLD > NEW` takes the first 35, then check NEW";
+        "40 tracks and error bytes; `ledger trim OLD > NEW` takes the first 35, then check NEW";
     const CUT: &str = "it is cut short, since 35 tracks have 174848; read the disk again";
     let said = match size_of(rt, image) {
         None => return tell_of(err, image, WANTED),

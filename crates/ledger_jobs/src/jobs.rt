@@ -1,5 +1,6 @@
 //! What the program can be asked to do.
 use crate::names::Name;
+use d64_image::Place;
 use keeper_commands::{ByteForm, RecordForm};
 use shop_commands::{Durability, NameForm};
 
@@ -63,6 +64,15 @@ pub enum Overview {
     Check,
     /// A line for each track.
     Map,
+}
+
+/// What is printed of an image that isn't judged.
+#[derive(Clone, Copy, Debug, PartialEq, Eq)]
+pub enum View {
+    /// How many sectors of each track its map calls free.
+    Free,
+    /// A sector, whose it is, and where its link leads.
+    Sector(Place),
 }
 
 /// What a job does on a disk that has lost a part of a file.
@@ -218,6 +228,18 @@ pub enum Job<'a> {
     Draw {
         /// How it is drawn.
         what: Drawing,
+        /// The image's path.
+        image: &'a str,
+    },
+    /// What is printed of an image that is read and not judged.
+    View {
+        /// What is printed.
+        what: View,
+        /// The image's path.
+        image: &'a str,
+    },
+    /// Tracks 1 to 35 of an image that may have more, or error bytes.
+    Trim {
         /// The image's path.
         image: &'a str,
     },

@@ -26,6 +26,8 @@ mod serving_logs;
 mod serving_runs;
 mod sheets;
 mod shop_runs;
+mod trimming;
+mod viewing;
 mod watched_files;
 
 pub use copying::copy_run;
@@ -35,7 +37,9 @@ pub use durable_runs::{play_durably, serve_durably};
 pub use endings::{Ending, end, tell};
 pub use explanations::{announce, explain, tell_cut};
 pub use extracting::extract_run;
-pub use jobs::{Columns, Drawing, Effect, Job, Loss, Overview, Reading, Taking, Unowned, Way};
+pub use jobs::{
+    Columns, Drawing, Effect, Job, Loss, Overview, Reading, Taking, Unowned, View, Way,
+};
 pub use keeper_runs::{dry_repair_run, make_run, repair_run, store_run, taking_run};
 pub use logged_runs::serve_logged;
 pub use losses::{
@@ -49,4 +53,6 @@ pub use serving_files::serve_file;
 pub use serving_runs::serve_run;
 pub use shop_runs::{format_run, play_run, reading_run};
 pub use system_files::ClosedStreams;
+pub use trimming::{do_trim, trim_run};
+pub use viewing::{view_run, viewed_end};
 pub use watched_files::WhileThere;

@@ -29,6 +29,8 @@ pub enum Refusal {
     Log,
     /// A file of the image is cut short: its chain ends at this sector, too early.
     Short(Place),
+    /// An image was trimmed, of which sectors weren't read or are past track 35, as standard error has said.
+    Trimmed,
     /// Of several images at least one has a fault or is refused. The output says which and why. This is the greatest exit
     /// status of theirs.
     Several(u8),
@@ -48,18 +50,19 @@ impl Refusal {
             Refusal::Exists => 1,
             Refusal::Log => 1,
             Refusal::Short(_) => 1,
+            Refusal::Trimmed => 1,
             Refusal::Several(greatest) => *greatest,
         }
     }
 
-    /// Whether it is told on standard error: all but what the output has told.
+    /// Whether it is told on standard error: all but what was told before.
     pub(crate) fn is_told(&self) -> bool
         ensures { result ≡ told_there self.now }
     {
         match self {
             Refusal::Run(_) | Refusal::Keep(_) | Refusal::Draw(_) => true,
             Refusal::InUse | Refusal::Exists | Refusal::Log | Refusal::Short(_) => true,
-            Refusal::Kept(_) | Refusal::Several(_) => false,
+            Refusal::Kept(_) | Refusal::Trimmed | Refusal::Several(_) => false,
         }
     }
 
@@ -88,6 +91,7 @@ impl Display for Refusal {
             Refusal::Exists => f.write_str("FILE EXISTS"),
             Refusal::Log => f.write_str("LOG"),
             Refusal::Short(place) => write!(f, "SHORT {}/{}", place.track(), place.sector()),
+            Refusal::Trimmed => f.write_str("TRIMMED"),
             Refusal::Several(greatest) => write!(f, "STATUS {greatest}"),
         }
     }

@@ -17,6 +17,16 @@ job ledger picture --svg a.d64
 prints picture --svg, a.d64, , 0
 job ledger picture a.d64 --svg
 prints picture --svg, a.d64, , 0
+job ledger free a.d64
+prints free, a.d64, , 0
+job ledger sector a.d64 1/0
+prints sector, a.d64, , 1
+job ledger sector a.d64 18/18
+prints sector, a.d64, , 36
+job ledger sector a.d64 35/16
+prints sector, a.d64, , 51
+job ledger trim a.d64
+prints trim, a.d64, , 0
 job ledger check a.d64
 prints check, a.d64, , 0
 job ledger show a.d64
@@ -184,6 +194,26 @@ job ledger serve a.d64 --in-place --in-place
 prints fault 1, status 2
 job ledger bytes
 prints fault 1, status 2
+job ledger free a.d64 b.d64
+prints fault 1, status 2
+job ledger trim a.d64 b.d64
+prints fault 1, status 2
+job ledger sector a.d64
+prints fault 1, status 2
+job ledger sector a.d64 0/0
+prints fault 6, status 2
+job ledger sector a.d64 36/0
+prints fault 6, status 2
+job ledger sector a.d64 18/19
+prints fault 6, status 2
+job ledger sector a.d64 18/01
+prints fault 6, status 2
+job ledger sector a.d64 18
+prints fault 6, status 2
+job ledger sector a.d64 18/1/1
+prints fault 6, status 2
+job ledger sector a.d64 ''
+prints fault 6, status 2
 job ledger --help
 prints fault 1, status 0
 job ledger --version

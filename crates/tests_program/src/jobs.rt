@@ -3,7 +3,7 @@ use crate::runs::texts_of;
 use command_line::command_line;
 use keeper_commands::{ByteForm, RecordForm};
 use ledger_cli::{Job, job};
-use ledger_jobs::{Columns, Drawing, Effect, Loss, Name, Overview, Taking, Unowned, Way};
+use ledger_jobs::{Columns, Drawing, Effect, Loss, Name, Overview, Taking, Unowned, View, Way};
 use petscii_text::CharacterSet;
 use shop_commands::{Durability, NameForm};
 use std::alloc::Global;
@@ -11,8 +11,8 @@ use std::cell::RefCell;
 use std::io::Write;
 use test_runtime::Errors;
 
-/// A job: its subcommand, its image, its script or records, and its tills, the length of its records or how many bytes
-/// its name has, where it has them.
+/// A job: its subcommand, its image, its script or records, and its tills, the length of its records, how many bytes its
+/// name has, or the sum of its track and its sector, where it has them.
 type Row<'a> = (&'a str, &'a str, &'a str, u8);
 
 /// How many bytes a name has.
@@ -64,6 +64,15 @@ fn row_of<'a>(job: &Job<'a>) -> Row<'a> {
             what: Drawing::Poster,
             image,
         } => ("picture --svg", image, "", 0),
+        Job::View {
+            what: View::Free,
+            image,
+        } => ("free", image, "", 0),
+        Job::View {
+            what: View::Sector(place),
+            image,
+        } => ("sector", image, "", place.track() + place.sector()),
+        Job::Trim { image } => ("trim", image, "", 0),
         Job::Sheet { ref images } => {
             let first = images.first().copied().unwrap_or("");
             let second = images.get(1).copied().unwrap_or("");

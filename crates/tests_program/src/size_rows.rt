@@ -37,7 +37,16 @@ ends 1
 $ ledger_cli map a.d64
 tells IMAGE SIZE|
 ends 1
+$ ledger_cli trim a.d64
+tells IMAGE SIZE|
+ends 1
 $ ledger_cli picture a.d64
+tells IMAGE SIZE|
+ends 1
+$ ledger_cli free a.d64
+tells IMAGE SIZE|
+ends 1
+$ ledger_cli sector a.d64 1/0
 tells IMAGE SIZE|
 ends 1
 
@@ -75,7 +84,16 @@ ends 1
 $ ledger_cli map a.d64
 tells IMAGE SIZE|
 ends 1
+$ ledger_cli trim a.d64
+tells IMAGE SIZE|
+ends 1
 $ ledger_cli picture a.d64
+tells IMAGE SIZE|
+ends 1
+$ ledger_cli free a.d64
+tells IMAGE SIZE|
+ends 1
+$ ledger_cli sector a.d64 1/0
 tells IMAGE SIZE|
 ends 1
 
@@ -117,6 +135,12 @@ ends 1
 $ ledger_cli picture a.d64
 tells IMAGE SIZE|
 ends 1
+$ ledger_cli free a.d64
+tells IMAGE SIZE|
+ends 1
+$ ledger_cli sector a.d64 1/0
+tells IMAGE SIZE|
+ends 1
 
 resize 174847
 resize 175531
@@ -154,6 +178,12 @@ $ ledger_cli map a.d64
 tells IMAGE SIZE|
 ends 1
 $ ledger_cli picture a.d64
+tells IMAGE SIZE|
+ends 1
+$ ledger_cli free a.d64
+tells IMAGE SIZE|
+ends 1
+$ ledger_cli sector a.d64 1/0
 tells IMAGE SIZE|
 ends 1
 ";

@@ -56,6 +56,12 @@ ends 2
 
 no script
 image
+person ledger_cli sector a.d64 18/19
+tells SECTOR|ledger: T/S is a track and a sector that it has, as 17/4|
+ends 2
+
+no script
+image
 person ledger_cli records a.d64 \\C1
 tells NAME|ledger: NAME has 1 to 16 bytes; one that isn't plain text is a backslash and two digits, as \\c1|
 ends 2

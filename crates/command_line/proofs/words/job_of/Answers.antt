@@ -6,7 +6,7 @@ use Rattle.request_cards.specs.Reading.{number_in}
 use Rattle.ledger_jobs.specs.declared.jobs.Overview.TheVariants as overviews
 use Rattle.ledger_jobs.specs.declared.jobs.Taking.TheVariants as takings
 use Rattle.ledger_jobs.specs.Jobs.{IsFit}
-use Rattle.command_line.specs.Jobs.{IsJob, is_given}
+use Rattle.command_line.specs.Jobs.{IsJob, is_given, spelled_place}
 use Rattle.command_line.proofs.Pictures.{picturing-met}
 use Rattle.command_line.proofs.Parses.{format-fit, format-met, making-met, met-has, met-is}
 use Rattle.command_line.proofs.Parses.{play-fit, play-met, storing-met, taking-met}
@@ -146,3 +146,34 @@ returns-in-picture c =
     let met = picturing-met c.parsed_subcommand.result _ c.in-Some.name c.in-Some.found c.picturing.result
     c.parsed_subcommand.ensures c.in-Some.is c.in-picture.is c.picturing.ensures in
     record { job = met.0; fit = met.1 }
+
+pub returns-in-free : goal.returns-in-free
+returns-in-free c = record {
+  job = met-has c.parsed_subcommand.result _ c.in-Some.name c.in-Some.found _ _ c.parsed_subcommand.ensures c.in-Some.is c.in-free.is
+      (c.value_of-image.ensures, tt);
+  fit = tt;
+}
+
+pub returns-in-Some-place_of : goal.returns-in-Some-place_of
+returns-in-Some-place_of c = record {
+  job = met-has c.parsed_subcommand.result _ c.in-Some.name c.in-Some.found _ _ c.parsed_subcommand.ensures c.in-Some.is c.in-sector.is
+      (c.value_of-image.ensures, ap spelled_place (sym c.value_of-in-sector.ensures) ∙ sym c.in-Some-place_of.ensures);
+  fit = tt;
+}
+
+pub returns-in-None-place_of : goal.returns-in-None-place_of
+returns-in-None-place_of c = record {
+  job = (
+    refl,
+    met-has c.parsed_subcommand.result _ c.in-Some.name c.in-Some.found _ _ c.parsed_subcommand.ensures c.in-Some.is c.in-sector.is
+        (ap spelled_place (sym c.value_of-in-sector.ensures) ∙ sym c.in-None-place_of.ensures),
+  );
+  fit = tt;
+}
+
+pub returns-in-trim : goal.returns-in-trim
+returns-in-trim c = record {
+  job = met-has c.parsed_subcommand.result _ c.in-Some.name c.in-Some.found _ _ c.parsed_subcommand.ensures c.in-Some.is c.in-trim.is
+      c.value_of-image.ensures;
+  fit = tt;
+}

@@ -1,0 +1,85 @@
+//! Tracks 1 to 35 of an image of another size, done over its bytes and its file.
+ghost use Rattle.std.specs.Prelude.{◌≡◌};
+ghost use Rattle.ledger_jobs.specs.Overviews.{EndsAs};
+ghost use Rattle.ledger_jobs.specs.Trims.{IsTrimRun, as_trimmed};
+
+use crate::dispatch::told;
+use crate::files::STANDARD_INPUT;
+use crate::image_logs::logged_image;
+use crate::locks::lock_shared;
+use crate::refusals::Refusal;
+use disk_layout::Fault;
+use disk_pictures::{PictureFault, trim_image};
+use shop_commands::{Locks, read_script};
+use std::alloc::Global;
+use std::fs::OpenFile;
+use std::io::{self, Read, Write};
+use std::rt::Files;
+use system_files::opened_to_read;
+
+/// How many bytes of an image are read: one more than one of 40 tracks with error bytes has.
+const IMAGE_BYTES: u64 = 197_377;
+
+/// What came of a trimmed image, as a job's end.
+fn trimmed_end(ended: Result<bool, PictureFault>) -> Result<Option<Fault>, Refusal>
+    ensures { result ≡ as_trimmed ended }
+{
+    match ended {
+        Ok(true) => Ok(None),
+        Ok(false) => Err(Refusal::Trimmed),
+        Err(fault) => Err(Refusal::Draw(fault)),
+    }
+}
+
+/// Prints tracks 1 to 35 of an image, and on `err` what isn't there, as `trim_image` does. `Trimmed` if something was
+/// reported there.
+pub fn trim_run<W: Write, E: Write>(
+    alloc: Global,
+    image: &[u8],
+    out: &mut W,
+    err: &mut E,
+) -> Result<Option<Fault>, Refusal>
+    ensures { EndsAs as_trimmed result
+        (IsTrimRun W.contents E.contents image.now out.old out.new err.old err.new) }
+{
+    trimmed_end(trim_image(alloc, image, out, err))
+}
+
+/// The bytes that a reader has, but no more than one beyond the largest image.
+fn read_long<R: Read + Drop>(alloc: Global, reader: R) -> io::Result<Vec<u8>> {
+    read_script(alloc, reader.take(IMAGE_BYTES), IMAGE_BYTES as usize)
+}
+
+/// The bytes of the image at a path, as its shop is now, or of standard input.
+fn long_image_at<F, R>(rt: &R, path: &str) -> Result<Vec<u8>, Refusal>
+where
+    F: Read + Locks + OpenFile + Drop,
+    R: Files<File = F> + Input + AllocGlobal,
+{
+    if path == STANDARD_INPUT {
+        return told(read_long(rt.alloc(), rt.reader()));
+    }
+    let mut file = told(opened_to_read(rt, path))?;
+    lock_shared(&mut file)?;
+    match logged_image(rt, path, &file)? {
+        Some(image) => told(read_long(rt.alloc(), image.as_slice().as_flattened())),
+        None => told(read_long(rt.alloc(), file)),
+    }
+}
+
+/// Prints tracks 1 to 35 of the image at a path, and on `err` what isn't there.
+pub fn do_trim<F, R, W, E>(
+    rt: &R,
+    path: &str,
+    out: &mut W,
+    err: &mut E,
+) -> Result<Option<Fault>, Refusal>
+where
+    F: Read + Locks + OpenFile + Drop,
+    R: Files<File = F> + Input + AllocGlobal,
+    W: Write,
+    E: Write,
+{
+    let image = long_image_at(rt, path)?;
+    trim_run(rt.alloc(), image.as_slice(), out, err)
+}
