@@ -22,7 +22,9 @@ use command_table::ledger_command;
 use d64_image::Place;
 use disk_pictures::MOST_TILES;
 use keeper_commands::{ByteForm, RecordForm};
-use ledger_jobs::{Columns, Drawing, Effect, Job, Loss, Name, Overview, Taking, Unowned, View, Way};
+use ledger_jobs::{
+    Columns, Drawing, Effect, Job, Loss, Name, Overview, Taking, Unowned, View, Way,
+};
 use petscii_text::CharacterSet;
 use request_cards::number;
 use shop_commands::{Durability, NameForm};

@@ -20,54 +20,54 @@ module _ {F : Type 0} (files : F → Option (List NewFile)) (image : List ℕ) (
     (read : IsReadSoFar first sectors entries found) (listed-is : listed ≡ entries)
     (rescued : AreRescued second listed all) (shown-is : shown ≡ sectors) (lent-is : lent ≡ all)
   where
-  rescue : IsRescue image sectors all found
-  rescue = record {
-    size = size;
-    entries = entries;
-    read = subst (λ (img : Image). IsReadSoFar img sectors entries found) is read;
-    rescued = subst (λ (es : List Slot). AreRescued (sectors_in image) es all) listed-is
-        (subst (λ (img : Image). AreRescued img listed all) (same ∙ is) rescued);
-  }
+    rescue : IsRescue image sectors all found
+    rescue = record {
+      size = size;
+      entries = entries;
+      read = subst (λ (img : Image). IsReadSoFar img sectors entries found) is read;
+      rescued = subst (λ (es : List Slot). AreRescued (sectors_in image) es all) listed-is
+          (subst (λ (img : Image). AreRescued img listed all) (same ∙ is) rescued);
+    }
 
-  -- the files are those of the image
-  files-are : all_files third shown lent ≡ all_files (sectors_in image) sectors all
-  files-are =
-      ap (λ (fs : List Rescued). all_files third shown fs) lent-is
-      ∙ ap (λ (ps : List Place). all_files third ps all) shown-is
-      ∙ ap (λ (img : Image). all_files img sectors all) (again ∙ same ∙ is)
+    -- the files are those of the image
+    files-are : all_files third shown lent ≡ all_files (sectors_in image) sectors all
+    files-are =
+        ap (λ (fs : List Rescued). all_files third shown fs) lent-is
+        ∙ ap (λ (ps : List Place). all_files third ps all) shown-is
+        ∙ ap (λ (img : Image). all_files img sectors all) (again ∙ same ∙ is)
 
-  fault-is : first_fault third (owned shown lent) 1 found lent
-      ≡ first_fault (sectors_in image) (owned sectors all) 1 found all
-  fault-is =
-      ap (λ (fs : List Rescued). first_fault third (owned shown fs) 1 found fs) lent-is
-      ∙ ap (λ (ps : List Place). first_fault third (owned ps all) 1 found all) shown-is
-      ∙ ap (λ (img : Image). first_fault img (owned sectors all) 1 found all) (again ∙ same ∙ is)
+    fault-is : first_fault third (owned shown lent) 1 found lent
+        ≡ first_fault (sectors_in image) (owned sectors all) 1 found all
+    fault-is =
+        ap (λ (fs : List Rescued). first_fault third (owned shown fs) 1 found fs) lent-is
+        ∙ ap (λ (ps : List Place). first_fault third (owned ps all) 1 found all) shown-is
+        ∙ ap (λ (img : Image). first_fault img (owned sectors all) 1 found all) (again ∙ same ∙ is)
 
-  pub extracted : (r : Result (Option Fault) KeepFault)
-      → IfOk r (λ fault. AddsFiles (files old) (files new) (all_files third shown lent)
-      × (fault ≡ first_fault third (owned shown lent) 1 found lent)) → IfOk r (IsExtracted files image old new)
-  extracted r = IfOk-weaker r _ _ (λ fault holds. record {
-    directory = sectors;
-    rescued = all;
-    found = found;
-    rescue = rescue;
-    made = subst (AddsFiles (files old) (files new)) files-are holds.0;
-    told = holds.1 ∙ fault-is;
-  })
+    pub extracted : (r : Result (Option Fault) KeepFault)
+        → IfOk r (λ fault. AddsFiles (files old) (files new) (all_files third shown lent)
+        × (fault ≡ first_fault third (owned shown lent) 1 found lent)) → IfOk r (IsExtracted files image old new)
+    extracted r = IfOk-weaker r _ _ (λ fault holds. record {
+      directory = sectors;
+      rescued = all;
+      found = found;
+      rescue = rescue;
+      made = subst (AddsFiles (files old) (files new)) files-are holds.0;
+      told = holds.1 ∙ fault-is;
+    })
 
-  part : AddsPart (files old) (files new) (all_files third shown lent) → IsExtractedPart files image old new
-  part added = record {
-    directory = sectors;
-    rescued = all;
-    found = found;
-    rescue = rescue;
-    made = subst (AddsPart (files old) (files new)) files-are added;
-  }
+    part : AddsPart (files old) (files new) (all_files third shown lent) → IsExtractedPart files image old new
+    part added = record {
+      directory = sectors;
+      rescued = all;
+      found = found;
+      rescue = rescue;
+      made = subst (AddsPart (files old) (files new)) files-are added;
+    }
 
-  pub not-extracted : (r : Result (Option Fault) KeepFault)
-      → IfErr r (λ fault. IsMakeFault fault × AddsPart (files old) (files new) (all_files third shown lent))
-      → IfErr r (IsExtractFault files image old new)
-  not-extracted r = IfErr-weaker r _ _ (λ fault holds. elim holds.0 [
-    | inl file ↦ subst (IsExtractFault files image old new) (sym file) (size, part holds.1)
-    | inr memory ↦ subst (IsExtractFault files image old new) (sym memory) (size, inr (part holds.1))
-  ])
+    pub not-extracted : (r : Result (Option Fault) KeepFault)
+        → IfErr r (λ fault. IsMakeFault fault × AddsPart (files old) (files new) (all_files third shown lent))
+        → IfErr r (IsExtractFault files image old new)
+    not-extracted r = IfErr-weaker r _ _ (λ fault holds. elim holds.0 [
+      | inl file ↦ subst (IsExtractFault files image old new) (sym file) (size, part holds.1)
+      | inr memory ↦ subst (IsExtractFault files image old new) (sym memory) (size, inr (part holds.1))
+    ])

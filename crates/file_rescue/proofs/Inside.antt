@@ -83,6 +83,7 @@ index-inside = record {
   not_here = longer (codes "index.csv") (codes ".") (omega arith);
   not_above = longer (codes "index.csv") (codes "..") (omega arith);
 }
+
 inside-append : (xs ys : List NewFile) → AllByRecursion IsInside xs → AllByRecursion IsInside ys
     → AllByRecursion IsInside (xs ++ ys)
 inside-append [] ys left right = right
@@ -97,9 +98,10 @@ from-inside : (img : Image) (n : ℕ) (files : List Rescued) → n + length file
     → AllByRecursion IsInside (files_from img n files)
 unfolding files_from files_of
 from-inside img n [] few = tt
-from-inside img n (f ∷ fs) few = inside-append (files_of img n f) (files_from img (n + 1) fs)
-    (name-inside n f.slot (ending_of (type_byte f.slot)) (omega (arith, few)),
-    lines-inside n f (bytes_in img f) (records_length f.slot) (omega (arith, few)))
+from-inside img n (f ∷ fs) few = inside-append (files_of img n f) (files_from img (n + 1) fs) (
+  name-inside n f.slot (ending_of (type_byte f.slot)) (omega (arith, few)),
+  lines-inside n f (bytes_in img f) (records_length f.slot) (omega (arith, few)),
+)
     (from-inside img (n + 1) fs (omega (arith, few)))
 
 pub all-inside : (img : Image) (directory : List Place) (files : List Rescued) → length files ≤ 144
@@ -203,6 +205,7 @@ from-once img n (f ∷ fs) few =
   where
     low : n < 256
     low = omega (arith, few)
+
     apart : (x : List ℕ) → (a : List ℕ) × (e : Ending) × (x ≡ file_name_of n a e) → IsFrom (n + 1) x → ⊥
     apart x (a, e, is) (k, b, t, after, high, other) =
         let same = numbers n k a b e t low high (sym is ∙ other) in omega (arith, after, same)

@@ -25,7 +25,7 @@ next-behind xs front [] these begins = absurd begins
 next-behind xs front (next ∷ back) these begins = (
   begins.0,
   ap (λ (l : List NewFile). xs ++ l) begins.1
-  ∙ sym (append_assoc xs front (new_file next.name (take begins.0 next.bytes) ∷ [])),
+      ∙ sym (append_assoc xs front (new_file next.name (take begins.0 next.bytes) ∷ [])),
 )
 
 behind : (xs ys these : List NewFile) → IsPartOf ys these → IsPartOf (xs ++ ys) (xs ++ these)

@@ -18,11 +18,7 @@ use petscii_text::{Ending, file_name};
 use std::alloc::Global;
 
 /// Makes a file. `File` if the folder failed.
-pub(crate) fn make<F: NewFolder>(
-    folder: &mut F,
-    name: &[u8],
-    bytes: &[u8],
-) -> Result<(), KeepFault>
+pub(crate) fn make<F: NewFolder>(folder: &mut F, name: &[u8], bytes: &[u8]) -> Result<(), KeepFault>
     requires inside { StaysInside name.now }
     ensures ok { OnOk result
         (AddsFiles (F.files folder.old) (F.files folder.new) (new_file name.now bytes.now ∷ [])) }

@@ -74,7 +74,11 @@ fn closed(type_byte: u8) -> &'static str
 fn locked(type_byte: u8) -> &'static str
     ensures { result.now ≡ locked_text type_byte }
 {
-    if (type_byte >> 6) & 1 == 1 { "yes" } else { "no" }
+    if (type_byte >> 6) & 1 == 1 {
+        "yes"
+    } else {
+        "no"
+    }
 }
 
 /// The length of a file's records, if it is relative.

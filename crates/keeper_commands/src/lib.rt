@@ -26,8 +26,8 @@ pub use column_lines::plain_lines;
 pub use faults::KeepFault;
 pub use forms::{ByteForm, RecordForm};
 pub use laws::{
-    fields_come_back, last_lines_count, printed_records_are_stored, records_come_back, repairs_print_the_same,
-    stored_again_is_quiet, stored_records_are_so,
+    fields_come_back, last_lines_count, printed_records_are_stored, records_come_back,
+    repairs_print_the_same, stored_again_is_quiet, stored_records_are_so,
 };
 pub use loading::load;
 pub use making::{is_new_name, make_image};

@@ -7,5 +7,11 @@ use Rattle.file_rescue.proofs.rows.EntryDisplay.fmt.Goals as goal
 pub returns-clause-writes : goal.returns-clause-writes
 unfolding entry_text
 returns-clause-writes g c = λ plain done. has_written_of_eq _ _ _ _ _
-    (rw (c.type_name.ensures, c.closed.ensures, c.locked.ensures, c.block_count.ensures, c.type_byte-type_byte.ensures,
-    c.new-entry.ensures) refl) (c.write.ensures.writes plain done)
+    (rw (
+      c.type_name.ensures,
+      c.closed.ensures,
+      c.locked.ensures,
+      c.block_count.ensures,
+      c.type_byte-type_byte.ensures,
+      c.new-entry.ensures,
+    ) refl) (c.write.ensures.writes plain done)
