@@ -26,20 +26,25 @@ abbrev pub record_form : Option CharacterSet → RecordForm
 record_form None = records.Lines
 record_form (Some set) = records.Text set
 
+-- the same of bytes
 abbrev pub byte_form : Option CharacterSet → ByteForm
 byte_form None = bytes.Plain
 byte_form (Some set) = bytes.Text set
 
+-- the same of names
 abbrev pub name_form : Option CharacterSet → NameForm
 name_form None = names.Ascii
 name_form (Some set) = names.Text set
 
+-- the form of records that the flags ask for
 abbrev pub record_form_in : List Row → RecordForm
 record_form_in rows = record_form (set_in rows)
 
+-- the form of bytes that the flags ask for
 abbrev pub byte_form_in : List Row → ByteForm
 byte_form_in rows = byte_form (set_in rows)
 
+-- the form of names that the flags ask for
 abbrev pub name_form_in : List Row → NameForm
 name_form_in rows = name_form (set_in rows)
 
