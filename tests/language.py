@@ -8,10 +8,10 @@ them. Of each it checks
   - the words of WORDS below, outside code and quotation marks;
   - links: the file is there, and so is the heading that an anchor, or the name in italics after a link, refers to;
   - file names in backticks that begin with a folder of this repository;
-  - in README.md that each subcommand and each flag of the program is named, and that it has at most README_LIMIT words of its own:
-    code that it quotes from a source (as tests/quotes.py finds it) isn't counted for that;
+  - in README.md that each subcommand and each flag of the program is named, and that it has at most README_LIMIT words;
   - in docs/EMBED.md and docs/PROOF.md the lines of code, each of which is a line of a source (but for comments and `...`).
-It also counts the words of all documents, against LIMIT. Of the sources it checks
+It also counts the words of all documents, against LIMIT, without the definitions that they quote whole (tests/quotes.py checks
+those). Of the sources it checks
   - that each public item of the product's crates has a `///` over it;
   - the program's help texts: sentences, words, and lines of more than 80 columns.
 By crate, and as counts that don't change the status, it reports what comments (`///`, `//!`) have, and definitions of `specs/`
@@ -156,13 +156,15 @@ def unnamed_words(text):
 
 
 def count_words(text):
-    return sum(1 for it in text.split() if re.search(r"\w", it))
+    """The words of a document, but for the definitions that it quotes whole."""
+    own = re.sub(r"(?ms)^<!-- \S+: \w+ -->\n+```\w*\n.*?^```\n", "", text)
+    return sum(1 for it in own.split() if re.search(r"\w", it))
 
 
 def readme_length(text):
-    """A finding if the README has more words of its own than README_LIMIT."""
-    words = count_words(re.sub(r"(?ms)^<!-- \S+: \w+ -->\n+```\w*\n.*?^```\n", "", text))
-    return [(1, f"more than {README_LIMIT} words of its own", str(words))] if words > README_LIMIT else []
+    """A finding if the README has more words than README_LIMIT."""
+    words = count_words(text)
+    return [(1, f"more than {README_LIMIT} words", str(words))] if words > README_LIMIT else []
 
 
 def check(file, shows):

@@ -22,6 +22,7 @@ words_status kinds.DisplayHelp = 0
 words_status kinds.DisplayVersion = 0
 words_status _ = 2
 
+-- the exit status for a fault of the arguments
 abbrev pub job_status : JobFault → ℕ
 job_status (jobs.Words e) = words_status (kind_of e)
 job_status jobs.Tills = 2

@@ -28,24 +28,29 @@ abbrev pub record_form : Option CharacterSet → RecordForm
 record_form None = records.Lines
 record_form (Some set) = records.Text set
 
+-- the same of bytes
 abbrev pub byte_form : Option CharacterSet → ByteForm
 byte_form None = bytes.Plain
 byte_form (Some set) = bytes.Text set
 
+-- the same of names
 abbrev pub name_form : Option CharacterSet → NameForm
 name_form None = names.Ascii
 name_form (Some set) = names.Text set
 
--- with --fields records have a column for each field, and are no text
+-- the form of records that the flags ask for: with --fields they have a column for each field, and are no text
 abbrev pub record_form_in : List Row → RecordForm
 record_form_in rows = if is_given (codes "fields") rows then records.Fields else record_form (set_in rows)
 
+-- the columns that records are read in
 abbrev pub columns_in : List Row → Columns
 columns_in rows = if is_given (codes "fields") rows then columns.Fields else columns.One
 
+-- the form of bytes that the flags ask for
 abbrev pub byte_form_in : List Row → ByteForm
 byte_form_in rows = byte_form (set_in rows)
 
+-- the form of names that the flags ask for
 abbrev pub name_form_in : List Row → NameForm
 name_form_in rows = name_form (set_in rows)
 

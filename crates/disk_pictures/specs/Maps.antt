@@ -46,6 +46,7 @@ owner_second map p (owner.Blocks k) = digit k
 owner_second map p (owner.Sides k) = digit k
 owner_second map p o = owner_mark map p o
 
+-- what stands after the mark of a sector; at the place of the fault a `!` again
 abbrev pub second_of : Option Fault → Sector → Layout → Place → ℕ
 second_of v map l p = if is_fault_at v p then 33 else owner_second map p (owner_of l p)
 
@@ -102,6 +103,7 @@ entry_line wide k f =
 abbrev pub map_head : List ℕ
 map_head = codes "   0         1         2\n   012345678901234567890\n"
 
+-- the same with two characters for each sector
 abbrev pub wide_head : List ℕ
 wide_head = codes "   00 01 02 03 04 05 06 07 08 09 10 11 12 13 14 15 16 17 18 19 20\n"
 
@@ -109,9 +111,11 @@ wide_head = codes "   00 01 02 03 04 05 06 07 08 09 10 11 12 13 14 15 16 17 18 1
 unfoldable pub narrow_tracks : Option Fault → Sector → Layout → List ℕ
 narrow_tracks v map l = map_head ++ each_below 35 (λ b. track_line v map l (b + 1))
 
+-- the same with two characters for each sector
 unfoldable pub wide_tracks : Option Fault → Sector → Layout → List ℕ
 wide_tracks v map l = wide_head ++ each_below 35 (λ b. wide_line v map l (b + 1))
 
+-- the tracks, in one of these two forms
 abbrev pub tracks_text : Bool → Option Fault → Sector → Layout → List ℕ
 tracks_text wide v map l = if wide then wide_tracks v map l else narrow_tracks v map l
 

@@ -71,6 +71,7 @@ side_arc show name j p =
 unfoldable pub free_arc : Place → List ℕ
 free_arc p = ring_of p ++ (codes " class=\"free\"><title>" ++ (place_text p ++ codes " free</title></circle>\n"))
 
+-- a sector that the map calls taken and nobody owns
 unfoldable pub lost_arc : Place → List ℕ
 lost_arc p =
     ring_of p ++ (codes " class=\"lost\"><title>" ++ (place_text p ++ codes " taken, of no file</title></circle>\n"))
@@ -80,10 +81,12 @@ abbrev pub is_blocks : ℕ → Owner → Bool
 is_blocks k (owner.Blocks j) = nat_eq j k
 is_blocks k o = false
 
+-- it is a side sector of entry k
 abbrev pub is_sides : ℕ → Owner → Bool
 is_sides k (owner.Sides j) = nat_eq j k
 is_sides k o = false
 
+-- it is nobody's
 abbrev pub is_nobody : Owner → Bool
 is_nobody owner.Nobody = true
 is_nobody o = false
@@ -93,6 +96,7 @@ abbrev pub own_block : Show → Layout → ℕ → File → ℕ → Place → Li
 own_block show l k f n p = if is_blocks k (owner_of l p) then block_arc show (name_of f.slot) (n + 1) (length f.blocks)
     p else []
 
+-- the same of a side sector
 abbrev pub own_side : Show → Layout → ℕ → File → ℕ → Place → List ℕ
 own_side show l k f n p = if is_sides k (owner_of l p) then side_arc show (name_of f.slot) n p else []
 

@@ -45,6 +45,7 @@ poster_legend = codes
 abbrev pub line_left : ℕ → ℕ
 line_left k = 20 + 65 * (k / 36 % 4)
 
+-- how far down it stands
 abbrev pub line_top : ℕ → ℕ
 line_top k = 306 + 3 * (k % 36)
 

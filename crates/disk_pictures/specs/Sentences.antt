@@ -42,6 +42,7 @@ abbrev pub named : Show → Option File → List ℕ
 named show None = []
 named show (Some f) = show (name_of f.slot)
 
+-- the name of entry k, if there is one
 abbrev pub entry_named : Show → Layout → ℕ → List ℕ
 entry_named show l k = named show (slice_get l.files k)
 

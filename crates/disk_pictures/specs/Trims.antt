@@ -50,6 +50,7 @@ end_of ps = slice_get ps (length ps - 1)
 abbrev pub blocks_past : List ℕ → File → Option Place
 blocks_past image f = past_from image f.slot 3 (end_of f.blocks)
 
+-- the same of its side sectors
 abbrev pub sides_past : List ℕ → File → Option Place
 sides_past image f = if is_rel f.slot then past_from image f.slot 21 (end_of f.sides) else None
 
@@ -59,6 +60,7 @@ past_line s None = []
 past_line s (Some p) =
     codes "BEYOND " ++ (place_text p ++ (codes " \"" ++ (text_of (name_of s) ++ codes "\"\n")))
 
+-- the lines of a file that goes on there
 abbrev pub file_text : List ℕ → File → List ℕ
 file_text image f = past_line f.slot (blocks_past image f) ++ past_line f.slot (sides_past image f)
 

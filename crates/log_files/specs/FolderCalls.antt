@@ -49,6 +49,7 @@ abbrev pub waits : FolderCall → ℕ
 waits (Return lent file) = 1 + (memory.moment file - lent)
 waits call = 0
 
+-- how many moments these calls take
 abbrev pub moments : List FolderCall → ℕ
 moments [] = 0
 moments (call ∷ earlier) = moments earlier + waits call + 1

@@ -4,6 +4,7 @@ use Rattle.log_files.specs.Folders.{FolderHistory}
 use Rattle.shop_log.specs.Files.{FileHistory}
 use Rattle.shop_log.specs.ImageLogs.{LogHistory}
 
+-- a file of which nothing is known
 abbrev pub unknown_file : {F : Type 0} → FileHistory F
 unknown_file = record {
   held = λ _. None;
@@ -14,6 +15,7 @@ unknown_file = record {
   only_now = λ f c left. tt;
 }
 
+-- a folder of which nothing is known
 abbrev pub unknown_folder : {D : Type 0} → FolderHistory D
 unknown_folder = record {
   held = λ _. None;
@@ -25,6 +27,7 @@ unknown_folder = record {
   only_now = λ d s left. tt;
 }
 
+-- a log of which nothing is known
 abbrev pub unknown_log : {L : Type 0} → LogHistory L
 unknown_log = record {
   stands_for = λ _ _. ⊥;

@@ -10,6 +10,7 @@ use Rattle.shop_log.specs.declared.touched_disk.TouchedDisk.{TouchedDisk}
 abbrev pub Memory : Type 0
 Memory = TouchedDisk MemDisk
 
+-- its history
 abbrev pub in_memory : History Memory
 in_memory = touching memory
 

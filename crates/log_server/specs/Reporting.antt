@@ -23,6 +23,7 @@ pub record LogOutput (L T : Type 0) : Type 1 where
 abbrev pub ToldAlone : {L T : Type 0} → Output T → T → T → List (Reply × L) → Type 0
 ToldAlone o old new turns = (xs : List (Reply × Instant)) × (told_in xs ≡ told_in turns) × o.told old new xs
 
+-- these were passed on, in this order, and the last one in part at most
 abbrev pub BrokenAlone : {L T : Type 0} → Output T → T → T → List (Reply × L) → Reply × L → Type 0
 BrokenAlone o old new turns last =
     (xs : List (Reply × Instant)) × (at : Instant) × (told_in xs ≡ told_in turns) × o.broken_off old new xs (last.0, at)

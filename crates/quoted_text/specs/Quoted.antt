@@ -8,6 +8,7 @@ abbrev pub quoted_byte : CharacterSet → ℕ → List ℕ
 quoted_byte set b =
     if nat_eq b 34 then codes "\"\"" else (if nat_eq b 13 then codes "\\0d" else readable_byte set b)
 
+-- bytes without marks around them
 abbrev pub one_line : CharacterSet → List ℕ → List ℕ
 one_line set bytes = flat_map (quoted_byte set) bytes
 

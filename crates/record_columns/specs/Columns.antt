@@ -11,6 +11,7 @@ use Rattle.record_columns.specs.declared.reading.Column.TheVariants.{Start, Plai
 abbrev pub IsEnded : List ℕ → Type 0
 IsEnded bytes = slice_index bytes (length bytes - 1) ≡ 13
 
+-- there are no bytes
 abbrev pub is_empty : List ℕ → Bool
 is_empty [] = true
 is_empty (b ∷ bytes) = false
@@ -42,9 +43,11 @@ all_columns bytes =
 abbrev pub ended : List ℕ → List ℕ
 ended field = field ++ 13 ∷ []
 
+-- a field as a column
 abbrev pub quoted : List ℕ → List ℕ
 quoted field = 34 ∷ (text_of field ++ 34 ∷ [])
 
+-- fields as columns, with commas between them
 unfoldable pub columns_of_fields : List (List ℕ) → List ℕ
 columns_of_fields [] = []
 columns_of_fields (field ∷ []) = quoted field
