@@ -247,29 +247,44 @@ Exit status:
 Example: ledger picture --sheet ./*.d64 > all.html";
 
 /// What `free` prints, its statuses, and an example.
-pub(crate) const FREE: &str =
-    "Prints a line for each track, for example TRACK 17 FREE 21, and how many blocks\n\
-are free for files. The numbers are those of the disk's map, right or wrong.\n\
-Status 0: printed. 1: IMAGE SIZE. 3: FILE, NO MEMORY, IN USE.\n\
+pub(crate) const FREE: &str = "\
+Prints a line for each track, for example TRACK 17 FREE 21, and how many blocks
+are free for files. The numbers are those of the disk's map (BAM), right or wrong.
+
+Exit status:
+  0  the numbers were printed
+  1  the image is refused (IMAGE SIZE, LOG)
+  3  FILE, NO MEMORY, IN USE
+
 Example: ledger free old.d64";
 
 /// What `sector` prints, its statuses, and an example.
-pub(crate) const SECTOR: &str =
-    "Prints sixteen bytes in a line, with the characters that a C64 shows for them;\n\
-then OWNER and the line of the file in `map`, and where the LINK leads. LINK END\n\
-and a number: the chain ends here, and this is the index of its last byte. Of a\n\
-damaged disk it prints what it can.\n\
-Status 0: printed. 1: IMAGE SIZE. 2: SECTOR: the disk has no such sector.\n\
-3: FILE, NO MEMORY, IN USE.\n\
+pub(crate) const SECTOR: &str = "\
+Prints the sector's bytes, sixteen in a line, beside their characters on a C64,
+also if the disk is damaged. Two lines follow:
+  OWNER  the line of the file in `map`, or what else has the sector
+  LINK   the next sector of the chain; or END, and the index of the last byte
+
+Exit status:
+  0  the sector was printed
+  1  the image is refused (IMAGE SIZE, LOG)
+  2  SECTOR: the disk has no such sector
+  3  FILE, NO MEMORY, IN USE
+
 Example: ledger sector old.d64 18/0";
 
 /// What `trim` prints, its statuses, and an example.
-pub(crate) const TRIM: &str =
-    "Prints an image of 174848 bytes, as every other command takes it, from one of 35\n\
-or 40 tracks with or without error bytes. On standard error it prints a line\n\
-for each sector that the drive couldn't read (ERROR 23 17/4) and for each file\n\
-that goes on past track 35 (BEYOND and the sector whose link leads there).\n\
-Status 0: all is there. 1: such lines, or IMAGE SIZE. 3: FILE, NO MEMORY, IN USE.\n\
+pub(crate) const TRIM: &str = "\
+Prints an image of 174848 bytes, as every other command takes it, from one of 35
+or 40 tracks, with or without error bytes. Prints on standard error:
+  ERROR 23 17/4  the drive couldn't read this sector; 23 is the drive's error
+  BEYOND 35/3    a file goes on past track 35: this sector links there
+
+Exit status:
+  0  all is there
+  1  one of these lines was printed; or IMAGE SIZE: nothing was
+  3  FILE, NO MEMORY, IN USE
+
 Example: ledger trim old40.d64 > old.d64";
 
 /// What `dry` prints, its statuses, and an example.
