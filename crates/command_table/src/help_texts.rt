@@ -249,7 +249,7 @@ Example: ledger picture --sheet ./*.d64 > all.html";
 /// What `free` prints, its statuses, and an example.
 pub(crate) const FREE: &str = "\
 Prints a line for each track, for example TRACK 17 FREE 21, and how many blocks
-are free for files. The numbers are those of the disk's map (BAM), right or wrong.
+are free for files, by the disk's map (BAM), whether that is right or wrong.
 
 Exit status:
   0  the numbers were printed
@@ -277,8 +277,8 @@ Example: ledger sector old.d64 18/0";
 pub(crate) const TRIM: &str = "\
 Prints an image of 174848 bytes, as every other command takes it, from one of 35
 or 40 tracks, with or without error bytes. Prints on standard error:
-  ERROR 23 17/4  the drive couldn't read this sector; 23 is the drive's error
-  BEYOND 35/3    a file goes on past track 35: this sector links there
+  ERROR 23 17/4       the drive couldn't read this sector; 23 is its error number
+  BEYOND 17/4 \"MENU\"  this sector of the file links past track 35
 
 Exit status:
   0  all is there
