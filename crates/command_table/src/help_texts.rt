@@ -247,29 +247,44 @@ Exit status:
 Example: ledger picture --sheet ./*.d64 > all.html";
 
 /// What `free` prints, its statuses, and an example.
-pub(crate) const FREE: &str =
-    "Prints a line for each track, for example TRACK 17 FREE 21, and how many blocks\n\
-are free for files. The numbers are those of the disk's map, right or wrong.\n\
-Status 0: printed. 1: IMAGE SIZE. 3: FILE, NO MEMORY, IN USE.\n\
+pub(crate) const FREE: &str = "\
+Prints a line for each track, for example TRACK 17 FREE 21, and how many blocks
+are free for files. The numbers are those of the disk's map, right or wrong.
+
+Exit status:
+  0  they were printed
+  1  the image is refused (IMAGE SIZE, LOG)
+  3  FILE, NO MEMORY, IN USE
+
 Example: ledger free old.d64";
 
 /// What `sector` prints, its statuses, and an example.
-pub(crate) const SECTOR: &str =
-    "Prints sixteen bytes in a line, with the characters that a C64 shows for them;\n\
-then OWNER and the line of the file in `map`, and where the LINK leads. LINK END\n\
-and a number: the chain ends here, and this is the index of its last byte. Of a\n\
-damaged disk it prints what it can.\n\
-Status 0: printed. 1: IMAGE SIZE. 2: SECTOR: the disk has no such sector.\n\
-3: FILE, NO MEMORY, IN USE.\n\
+pub(crate) const SECTOR: &str = "\
+Prints the sector's bytes, sixteen in a line, with the characters that a C64
+shows for them; then OWNER and the file's line as `map` prints it, and LINK and
+the sector that comes next. After LINK END stands the number of the last byte of
+the chain. A damaged disk is printed too.
+
+Exit status:
+  0  the sector was printed
+  1  the image is refused (IMAGE SIZE, LOG)
+  2  SECTOR: the disk has no such sector
+  3  FILE, NO MEMORY, IN USE
+
 Example: ledger sector old.d64 18/0";
 
 /// What `trim` prints, its statuses, and an example.
-pub(crate) const TRIM: &str =
-    "Prints an image of 174848 bytes, as every other command takes it, from one of 35\n\
-or 40 tracks with or without error bytes. On standard error it prints a line\n\
-for each sector that the drive couldn't read (ERROR 23 17/4) and for each file\n\
-that goes on past track 35 (BEYOND and the sector whose link leads there).\n\
-Status 0: all is there. 1: such lines, or IMAGE SIZE. 3: FILE, NO MEMORY, IN USE.\n\
+pub(crate) const TRIM: &str = "\
+Prints an image of 174848 bytes, as every other command takes it, from one of 35
+or 40 tracks with or without error bytes. On standard error it prints a line for
+each sector that the drive couldn't read, for example ERROR 23 17/4. A file that
+goes on past track 35 has one too: BEYOND and the sector whose link leads there.
+
+Exit status:
+  0  all of the image is there
+  1  such a line was printed, or the image is refused (IMAGE SIZE, LOG)
+  3  FILE, NO MEMORY, IN USE
+
 Example: ledger trim old40.d64 > old.d64";
 
 /// What `dry` prints, its statuses, and an example.

@@ -1,7 +1,7 @@
 //! The subcommands, a row each.
 use crate::help_texts::{
-    BYTES, CHECK, COPY, DRY, EXTRACT, FORMAT, FREE, LIST, MAKE, MAP, PICTURE, PLAY, RECORDS, REPAIR,
-    SECTOR, SERVE, SHOW, STORE, TRIM,
+    BYTES, CHECK, COPY, DRY, EXTRACT, FORMAT, FREE, LIST, MAKE, MAP, PICTURE, PLAY, RECORDS,
+    REPAIR, SECTOR, SERVE, SHOW, STORE, TRIM,
 };
 
 /// How often a value stands after the name of a subcommand.
