@@ -249,10 +249,10 @@ Example: ledger picture --sheet ./*.d64 > all.html";
 /// What `free` prints, its statuses, and an example.
 pub(crate) const FREE: &str = "\
 Prints a line for each track, for example TRACK 17 FREE 21, and how many blocks
-are free for files, by the disk's map (BAM), whether that is right or wrong.
+are free for files. The numbers are those of the disk's map, right or wrong.
 
 Exit status:
-  0  the numbers were printed
+  0  they were printed
   1  the image is refused (IMAGE SIZE, LOG)
   3  FILE, NO MEMORY, IN USE
 
@@ -260,10 +260,10 @@ Example: ledger free old.d64";
 
 /// What `sector` prints, its statuses, and an example.
 pub(crate) const SECTOR: &str = "\
-Prints the sector's bytes, sixteen in a line, beside their characters on a C64,
-also if the disk is damaged. Two lines follow:
-  OWNER  the line of the file in `map`, or what else has the sector
-  LINK   the next sector of the chain; or END, and the index of the last byte
+Prints the sector's bytes, sixteen in a line, with the characters that a C64
+shows for them; then OWNER and the file's line as `map` prints it, and LINK and
+the sector that comes next. After LINK END stands the number of the last byte of
+the chain. A damaged disk is printed too.
 
 Exit status:
   0  the sector was printed
@@ -276,13 +276,13 @@ Example: ledger sector old.d64 18/0";
 /// What `trim` prints, its statuses, and an example.
 pub(crate) const TRIM: &str = "\
 Prints an image of 174848 bytes, as every other command takes it, from one of 35
-or 40 tracks, with or without error bytes. Prints on standard error:
-  ERROR 23 17/4       the drive couldn't read this sector; 23 is its error number
-  BEYOND 17/4 \"MENU\"  this sector of the file links past track 35
+or 40 tracks with or without error bytes. On standard error it prints a line for
+each sector that the drive couldn't read, for example ERROR 23 17/4. A file that
+goes on past track 35 has one too: BEYOND and the sector whose link leads there.
 
 Exit status:
-  0  all is there
-  1  one of these lines was printed; or IMAGE SIZE: nothing was
+  0  all of the image is there
+  1  such a line was printed, or the image is refused (IMAGE SIZE, LOG)
   3  FILE, NO MEMORY, IN USE
 
 Example: ledger trim old40.d64 > old.d64";
