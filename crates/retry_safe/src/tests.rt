@@ -62,7 +62,7 @@ fn written(rt: &(impl Abort + AllocGlobal), recoveries: &[u32]) -> u64 {
         let Ok((session, _)) = ran else {
             panic!(rt; "not opened");
         };
-        all += session.close().writes();
+        all = all.wrapping_add(session.close().writes());
     }
     all
 }
