@@ -1,3 +1,6 @@
+pub mod ComparedOutcomes
+pub mod ComparedPages
+pub mod Comparisons
 pub mod Drawings
 pub mod Faults
 pub mod Held
@@ -15,4 +18,5 @@ pub mod Sentences
 pub mod Sharing
 pub mod Sheets
 pub mod Texts
+pub mod TileSectors
 pub mod Tiles

@@ -119,7 +119,7 @@ const DRAWN: [Row; 6] = [
 ];
 
 /// The Adler-32 of these bytes (RFC 1950).
-fn adler(bytes: &[u8]) -> u32 {
+pub(crate) fn adler(bytes: &[u8]) -> u32 {
     let (mut low, mut high) = (1_u32, 0_u32);
     for &byte in bytes {
         low = low.wrapping_add(byte as u32) % 65_521;
@@ -129,7 +129,7 @@ fn adler(bytes: &[u8]) -> u32 {
 }
 
 /// Sees that a job ended so: with this fault of the disk told, or with none.
-fn is_found(
+pub(crate) fn is_found(
     rt: &(impl AllocGlobal + Abort),
     ended: Result<Option<Fault>, PictureFault>,
     told: &str,
