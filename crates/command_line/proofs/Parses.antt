@@ -137,6 +137,7 @@ taking-met o found name at what image (Ok (jobs.FormatNew path tills)) told some
 taking-met o found name at what image (Ok (jobs.List path)) told some is by-image taking = absurd taking
 taking-met o found name at what image (Ok (jobs.Several asked paths)) told some is by-image taking = absurd taking
 taking-met o found name at what image (Ok (jobs.Sheet paths)) told some is by-image taking = absurd taking
+taking-met o found name at what image (Ok (jobs.Compare before after)) told some is by-image taking = absurd taking
 taking-met o found name at what image (Ok (jobs.Check path)) told some is by-image taking = absurd taking
 taking-met o found name at what image (Ok (jobs.Show path)) told some is by-image taking = absurd taking
 taking-met o found name at what image (Ok (jobs.Play path script)) told some is by-image taking = absurd taking
@@ -175,6 +176,7 @@ making-met o found name at image (Ok (jobs.FormatNew path tills)) told some is b
 making-met o found name at image (Ok (jobs.List path)) told some is by-image job = absurd job
 making-met o found name at image (Ok (jobs.Several asked paths)) told some is by-image job = absurd job
 making-met o found name at image (Ok (jobs.Sheet paths)) told some is by-image job = absurd job
+making-met o found name at image (Ok (jobs.Compare before after)) told some is by-image job = absurd job
 making-met o found name at image (Ok (jobs.Check path)) told some is by-image job = absurd job
 making-met o found name at image (Ok (jobs.Show path)) told some is by-image job = absurd job
 making-met o found name at image (Ok (jobs.Play path script)) told some is by-image job = absurd job
@@ -208,6 +210,7 @@ storing-met o found name at image (Ok (jobs.FormatNew path tills)) told some is 
 storing-met o found name at image (Ok (jobs.List path)) told some is by-image job = absurd job
 storing-met o found name at image (Ok (jobs.Several asked paths)) told some is by-image job = absurd job
 storing-met o found name at image (Ok (jobs.Sheet paths)) told some is by-image job = absurd job
+storing-met o found name at image (Ok (jobs.Compare before after)) told some is by-image job = absurd job
 storing-met o found name at image (Ok (jobs.Check path)) told some is by-image job = absurd job
 storing-met o found name at image (Ok (jobs.Show path)) told some is by-image job = absurd job
 storing-met o found name at image (Ok (jobs.Play path script)) told some is by-image job = absurd job

@@ -68,7 +68,7 @@ fn explain_words<E: Write>(fault: &JobFault, err: &mut E) {
         JobFault::Length => writeln!(err, "ledger: L is 1 to 254"),
         JobFault::Images => writeln!(
             err,
-            "ledger: several images are drawn on a sheet (--sheet), which has room for 400"
+            "ledger: several images are drawn on a sheet (--sheet), which has room for 400; two are compared (--compare)"
         ),
         JobFault::Name => writeln!(
             err,

@@ -91,9 +91,10 @@ store = may_accept_loss (with_rule (with_rule (over_image (codes "store")) (requ
 abbrev pub map : App
 map = over_images (codes "map")
 
--- picture IMAGE.. [--svg] [--sheet]
+-- picture IMAGE.. [--svg] [--sheet] [--compare]
 abbrev pub picture : App
-picture = with_rule (with_rule (over_images (codes "picture")) (flag (codes "svg"))) (flag (codes "sheet"))
+picture = with_rule (with_rule (with_rule (over_images (codes "picture")) (flag (codes "svg"))) (flag (codes "sheet")))
+    (flag (codes "compare"))
 
 -- dry SCRIPT
 abbrev pub dry : App

@@ -133,9 +133,12 @@ pub(crate) const PICTURE: &str =
     "Draws a damaged disk too, as far as its links can be followed. The page loads\n\
 nothing and has no script, and neither does the poster (297 by 420 mm).\n\
 A sheet has a tile for each image, also for one that is refused.\n\
+--compare takes two. It marks the sectors of the second that differ from the\n\
+first, and lists the files and records that changed.\n\
 Status 0: the disk is clean. 1: a fault, or the image is refused. 2: IMAGES:\n\
-several without --sheet, or more than 400. 3: FILE, NO MEMORY, IN USE. A sheet\n\
-ends with the greatest status of its images.\n\
+several without --sheet, more than 400, or not two with --compare. 3: FILE,\n\
+NO MEMORY, IN USE. A sheet ends with the greatest status of its images, a\n\
+comparison with that of the second.\n\
 Example: ledger picture --sheet ./*.d64 > all.html";
 
 /// What `dry` prints, its statuses, and an example.

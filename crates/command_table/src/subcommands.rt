@@ -253,7 +253,7 @@ pub(crate) const SUBCOMMANDS: [Subcommand; 15] = [
         more: MAP,
         values: &[IMAGES],
     },
-    // picture IMAGE.. [--svg] [--sheet]
+    // picture IMAGE.. [--svg] [--sheet] [--compare]
     Subcommand {
         name: "picture",
         about: "Prints a drawing of the disk as an HTML page, or as a poster",
@@ -271,6 +271,12 @@ pub(crate) const SUBCOMMANDS: [Subcommand; 15] = [
                 word: Some("sheet"),
                 count: Count::Flag,
                 help: "Prints a page with a small drawing of each image, at most 400",
+            },
+            Value {
+                name: "compare",
+                word: Some("compare"),
+                count: Count::Flag,
+                help: "Prints a page of the second of two images, with what differs from the first",
             },
         ],
     },

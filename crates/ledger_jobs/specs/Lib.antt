@@ -1,3 +1,4 @@
+pub mod Comparisons
 pub mod Copies
 pub mod Drawings
 pub mod DurableRuns
@@ -12,4 +13,5 @@ pub mod Names
 pub mod Overviews
 pub mod Runs
 pub mod Serves
+pub mod SheetPages
 pub mod WatchedFiles

@@ -6,6 +6,7 @@ ghost use Rattle.ledger_jobs.specs.Ends.{as_drawn, as_job, as_kept, as_repaired,
 ghost use Rattle.ledger_jobs.specs.Jobs.{IsFit, needed};
 ghost use Rattle.ledger_jobs.specs.Runs.{IsReadingEnd, IsReadingOf};
 
+use crate::comparisons::do_comparing;
 use crate::copying::do_copying;
 use crate::drawing::drawing_run;
 use crate::durable_runs::play_durably;
@@ -312,7 +313,7 @@ where
 /// before the image is written, and read in the place of the image otherwise. `InUse` where another program has it; `Log`
 /// if its log gives no image; `File` where a file couldn't be opened or read, and the faults of `reading_run`,
 /// `format_run`, `play_durably`, `serve_guarded`, `serve_logged_guarded`, `copy_run`, `repair_guarded`, `make_guarded`,
-/// `store_guarded`, `take_told` and `drawing_run`. What is wrong with one of several images is printed, and only an
+/// `store_guarded`, `take_told`, `drawing_run` and `comparing_run`. What is wrong with one of several images is printed, and only an
 /// output that failed ends the job before the last of them.
 pub fn do_job<F, R, W>(rt: &R, job: &Job<'_>, out: &mut W) -> Result<Option<Fault>, Refusal>
 where
@@ -366,6 +367,7 @@ where
             ref name,
         } => do_taking(rt, what, image, name, out),
         Job::Draw { what, image } => do_drawing(rt, what, image, out),
+        Job::Compare { before, after } => do_comparing(rt, before, after, out),
         Job::Sheet { ref images } => do_sheet(rt, images.as_slice(), out),
         Job::Several { what, ref images } => do_several(rt, what, images.as_slice(), out),
     }

@@ -1,6 +1,7 @@
 //! The program over a runtime: its jobs, the files that they open, and how they end.
 #![tactic(auto)]
 
+mod comparisons;
 mod copying;
 mod dispatch;
 mod drawing;
@@ -26,6 +27,7 @@ mod sheets;
 mod shop_runs;
 mod watched_files;
 
+pub use comparisons::comparing_run;
 pub use copying::copy_run;
 pub use dispatch::{do_job, do_over, drawn_end, job_end};
 pub use drawing::drawing_run;
