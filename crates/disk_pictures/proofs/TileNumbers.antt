@@ -54,11 +54,17 @@ module _ (v : Option Fault) (map : Sector) (l : Layout) where
   small-once p =
       let n = shade v map l p in
       let here : times (index_of p) (shade_by by_number v map l n) ≡ 1 =
-      omega (arith, in-shade (index_of p) n,
-      one-place p (λ q. nat_eq (shade v map l q) n) (eq-eqb n n refl)) in
+      omega (
+        arith,
+        in-shade (index_of p) n,
+        one-place p (λ q. nat_eq (shade v map l q) n) (eq-eqb n n refl),
+      ) in
       below-one (index_of p) 29 n (shade_by by_number v map l) (low-shade p) here
-      (λ j ne. omega (arith, in-shade (index_of p) j,
-      no-place p (λ q. nat_eq (shade v map l q) j) (ne_eqb n j (λ e. ne (sym e)))))
+      (λ j ne. omega (
+        arith,
+        in-shade (index_of p) j,
+        no-place p (λ q. nat_eq (shade v map l q) j) (ne_eqb n j (λ e. ne (sym e))),
+      ))
 
   low : (b : Bool) (q : Place) → AllBelow 683 (if b then number q else [])
   low true q = (index_below q, tt)

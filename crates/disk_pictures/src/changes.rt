@@ -183,11 +183,7 @@ fn put_end<W: Write>(out: &mut W, file: &Versions<'_>, index: usize) -> Result<(
 }
 
 /// Prints record `index`, from 0, if it differs and is the first or the last one of its run.
-fn put_record<W: Write>(
-    out: &mut W,
-    file: &Versions<'_>,
-    index: usize,
-) -> Result<(), PictureFault>
+fn put_record<W: Write>(out: &mut W, file: &Versions<'_>, index: usize) -> Result<(), PictureFault>
     requires { index ≤ 190000 }
     ensures ok { OnOk result (Appends (W.contents out.old) (W.contents out.new)
         (record_text file.now.before.now.sectors.now file.now.after.now.sectors.now (file_in file.now.former.now)
@@ -238,11 +234,7 @@ fn put_new<W: Write>(out: &mut W, number: usize, file: &DrawnFile) -> Result<(),
 }
 
 /// Prints the row of an entry that differs from its counterpart.
-fn put_row<W: Write>(
-    out: &mut W,
-    number: usize,
-    file: &Versions<'_>,
-) -> Result<(), PictureFault>
+fn put_row<W: Write>(out: &mut W, number: usize, file: &Versions<'_>) -> Result<(), PictureFault>
     ensures ok { OnOk result (Appends (W.contents out.old) (W.contents out.new)
         (difference_row html_of petscii_of file.now.before.now.sectors.now file.now.after.now.sectors.now number
         (file_in file.now.former.now) (file_in file.now.file.now))) }

@@ -59,10 +59,7 @@ fn obey<F: Write + Seek + Drop, W: Write>(
             (file, ended)
         }
         Job::Draw { what, .. } => (file, drawn_end(drawing_run(alloc, what, image, out))),
-        Job::Compare { .. } => (
-            file,
-            drawn_end(comparing_run(alloc, image, script, out)),
-        ),
+        Job::Compare { .. } => (file, drawn_end(comparing_run(alloc, image, script, out))),
         // it would want the bytes of each
         Job::Several { .. } | Job::Sheet { .. } => (file, Err(Refusal::Run(RunFault::File))),
     }

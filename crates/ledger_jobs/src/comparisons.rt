@@ -39,10 +39,5 @@ where
 {
     let first = image_at(rt, before)?;
     let second = image_at(rt, after)?;
-    drawn_end(comparing_run(
-        rt.alloc(),
-        first.as_slice(),
-        second.as_slice(),
-        out,
-    ))
+    drawn_end(comparing_run(rt.alloc(), first.as_slice(), second.as_slice(), out))
 }

@@ -44,8 +44,12 @@ compared : (rows : List Row) (images : List (Bor Text)) (r : Result Job JobFault
     → is_given (codes "compare") rows ≡ true
     → map (λ (v : Bor Text). v.now) images ≡ values (codes "IMAGE") rows → IsComparing images r → IsPictureJob rows r
 compared rows images r alone given told (inl (before, after, same, are)) =
-    inr (inr (inl (before, after, same,
-    (alone, given, sym told ∙ ap (map (λ (v : Bor Text). v.now)) are))))
+    inr (inr (inl (
+      before,
+      after,
+      same,
+      (alone, given, sym told ∙ ap (map (λ (v : Bor Text). v.now)) are),
+    )))
 compared rows images r alone given told (inr (same, other)) =
     inr (inr (inr (inl (same, inr (inr (alone, given, not-two rows images told other))))))
 
