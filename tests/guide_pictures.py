@@ -56,15 +56,18 @@ class Page:
         want(width == "w0", f"more than twelve files: {classes}")
         return re.search(r"\.%s%s\{stroke:([^;}]*)" % (colour, " \\.s" if is_side else ""), self.style).group(1)
 
-    def groups(self):
-        """The drawing's groups, each a list of circles, with the dash of its ring and the look of its group."""
+    def groups(self, marks=False):
+        """The drawing's groups, each a list of circles, with the dash of its ring and the look of its group: the marks of a
+        comparison, or all others."""
         return [[self.circle(group, circle.attrib) for circle in group.iter("circle")]
-                for group in self.drawing.find("g").findall("g")]
+                for group in self.drawing.find("g").findall("g") if (group.get("class") == "differs") == marks]
 
     def circle(self, group, attributes):
         if "style" in attributes:
             dashes = attributes["style"].removeprefix("stroke-dasharray:").strip()
             return {"r": attributes["r"], "stroke-dasharray": dashes, "stroke-dashoffset": "0", "class": group.get("class")}
+        if group.get("class") == "differs":
+            attributes = {**attributes, "class": "differs"}
         is_side = attributes.get("class") == "s"
         if is_side or "class" not in attributes:
             plain = {name: value for name, value in attributes.items() if name != "class"}
@@ -120,6 +123,9 @@ def circle_text(circle):
 def drawing_text(page):
     """The page's drawing."""
     circles = "".join(circle_text(circle) for group in page.groups() for circle in joined(group))
+    marks = "".join(circle_text(circle) for group in page.groups(marks=True) for circle in joined(group))
+    if marks:
+        circles = f'<g opacity=".4">\n{circles}</g>\n{marks}'
     return (f'<svg x="10" y="10" width="{SIDE}" height="{SIDE}" viewBox="{page.drawing.get("viewBox")}">\n'
             f'<g transform="{page.drawing.find("g").get("transform")}">\n{circles}</g>\n'
             f'<text class="disk" y="400">{escape(page.drawing.findtext("svg/text"))}</text>\n</svg>\n')
@@ -130,6 +136,8 @@ def style_text(page):
     kinds = "".join(f".{kind}{{{rule}}}" for kind, rule in re.findall(
         r"\.(free|lost|map|dir|edge|fault|open)(?: circle)?\{(stroke:[^}]*?)(?:;pointer-events:none)?\}", page.style))
     circle = re.search(r"circle\{[^}]*\}", page.style).group(0)
+    if page.groups(marks=True):
+        kinds += ".differs{stroke:#000;stroke-width:320}"
     return (f"<style>{circle}{kinds}text{{font:14px {FONT};fill:#222}}.disk{{font-size:1100px;fill:#444;text-anchor:middle}}"
             f".head{{font-size:18px;font-weight:bold}}.good{{fill:#17692b;font-weight:bold}}"
             ".bad{fill:#d00;font-weight:bold}</style>\n")
@@ -206,7 +214,8 @@ def played(program, path, target, line):
 
 
 def made_disks(program, folder):
-    """The disks of the documents: the picture's name, the image, the verdict, and whether words stand beside it."""
+    """The disks of the documents: the picture's name, the image or two that are compared, the verdict, and whether words stand
+    beside it."""
     sound = disks.customers(folder, folder / "customers.d64")
     yield "customers", sound, "OK", True
     for word in ("MAPWRONG", "COUNTWRONG", "BADSIDE", "BADLINK", "LOOP", "OWNEDTWICE", "UNCLOSED", "BADTYPE", "BADLENGTH"):
@@ -219,6 +228,7 @@ def made_disks(program, folder):
     yield "grown", played(program, fresh, folder / "grown.d64", "1,1,S,15,7"), "OK", False
     yield "creation_cut", cut_creation(fresh, folder / "creation_cut.d64"), "MAPWRONG", False
     yield "created", created(program, fresh, folder / "created.d64"), "OK", False
+    yield "compared", (disks.blank(program, folder / "morning.d64", 4), folder / "shop.d64"), "OK", False
 
 
 def steps():
@@ -277,7 +287,8 @@ def main(program, only_check):
     stale, wanted = [], set()
     with tempfile.TemporaryDirectory() as folder:
         for name, image, verdict, with_words in made_disks(program, Path(folder)):
-            page = Page(subprocess.run([program, "picture", image], stdout=subprocess.PIPE, timeout=60).stdout)
+            words = ["--compare", *image] if isinstance(image, tuple) else [image]
+            page = Page(subprocess.run([program, "picture", *words], stdout=subprocess.PIPE, timeout=60).stdout)
             want(page.verdict.split()[0] == verdict, f"{name}: {page.verdict} in place of {verdict}")
             text = svg_text(page, with_words)
             want(len(text) < LARGEST, f"{name}: {len(text)} bytes")

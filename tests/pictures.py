@@ -18,6 +18,7 @@ from PIL import Image
 
 import disks
 from browser import Browser, Proxy
+from comparisons import see_comparison
 from drawn import MAP, PLACES, Disk, sectors_on
 from palette import DARKER, LIGHT, rgb
 from pages import Page
@@ -275,6 +276,27 @@ def see_renderings(program, browser, name, path, wanted, file, folder):
                lambda picture, who: see_colours(name, Seen(picture), wanted, who))
 
 
+def see_comparisons(program, browser, made, pages, folder):
+    """Compares disks of those that were made; gives how many pairs, and how many sectors differ in all."""
+    by_name = dict(zip((name for name, _ in made), pages))
+
+    def looks(file, page):
+        browser.scale(DOTS)
+        browser.open(file.as_uri())
+        box = browser.value("(r => ({x: Math.round(r.x), y: Math.round(r.y), width: r.width}))"
+                            "(document.querySelector('svg').getBoundingClientRect())")
+        chromium, librsvg = by_chromium(browser, box, file.with_suffix(".png")), by_librsvg(page, folder)
+        yield "Chromium", lambda place: chromium.at(middle(place))
+        yield "librsvg", lambda place: librsvg.at(middle(place))
+
+    pairs = [("both", "both"), ("blank", "shop"), ("shop", "full"), ("both", "loop"), ("mapwrong", "both"), ("both", "names"),
+             ("cc1541", "cbmconvert"), ("every byte", "crowded")]
+    counted = [see_comparison(program, browser, f"{one} and {other}", by_name[one], by_name[other], folder, looks)
+               for one, other in pairs]
+    want(counted[0] == 0, "a disk differs from itself")
+    return len(pairs), sum(counted)
+
+
 def see_control(browser, proxy, folder):
     """A page that does ask, so that silence says something: both counters have to hear it."""
     file = folder / "control.html"
@@ -317,13 +339,15 @@ def main(program, folder):
             pages = [(path, Page(path.read_bytes(), verdict)) for (_, path), verdict in zip(made, verdicts)]
             seconds, size = see_sheet(program, browser, pages, folder, LIGHT)
             print(f"sheet of 100 images: {size} bytes in {1000 * seconds:.0f} ms", flush=True)
+            pairs, marked = see_comparisons(program, browser, made, pages, folder)
+            print(f"{pairs} comparisons, {marked} sectors that differ", flush=True)
             see_control(browser, proxy, folder)
         finally:
             browser.close()
             proxy.close()
     apart, slowest, largest = map(max, zip(*seen))
     print(f"pictures: {len(seen)} disks, {len(PLACES) * len(seen)} sectors, each with its colour in Chromium and librsvg (at most "
-          f"{apart} of 255 apart) and its title; no request left a page; the largest has {largest} bytes, the slowest was "
+          f"{apart} of 255 apart) and its title; {pairs} comparisons, each to the byte and with its marks; no request left a page; the largest has {largest} bytes, the slowest was "
           f"on the screen after {1000 * slowest:.0f} ms: no difference")
 
 

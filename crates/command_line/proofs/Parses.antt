@@ -142,6 +142,7 @@ taking-met o found name at what image (Ok (jobs.Sheet paths)) told some is by-im
 taking-met o found name at what image (Ok (jobs.Describe paths)) told some is by-image by taking = absurd taking
 taking-met o found name at what image (Ok (jobs.View asked path)) told some is by-image by taking = absurd taking
 taking-met o found name at what image (Ok (jobs.Trim path)) told some is by-image by taking = absurd taking
+taking-met o found name at what image (Ok (jobs.Compare before after)) told some is by-image by taking = absurd taking
 taking-met o found name at what image (Ok (jobs.Check path)) told some is by-image by taking = absurd taking
 taking-met o found name at what image (Ok (jobs.Show path)) told some is by-image by taking = absurd taking
 taking-met o found name at what image (Ok (jobs.Play path script)) told some is by-image by taking = absurd taking
@@ -185,6 +186,7 @@ making-met o found name at image (Ok (jobs.Sheet paths)) told some is by-image j
 making-met o found name at image (Ok (jobs.Describe paths)) told some is by-image job = absurd job
 making-met o found name at image (Ok (jobs.View asked path)) told some is by-image job = absurd job
 making-met o found name at image (Ok (jobs.Trim path)) told some is by-image job = absurd job
+making-met o found name at image (Ok (jobs.Compare before after)) told some is by-image job = absurd job
 making-met o found name at image (Ok (jobs.Check path)) told some is by-image job = absurd job
 making-met o found name at image (Ok (jobs.Show path)) told some is by-image job = absurd job
 making-met o found name at image (Ok (jobs.Play path script)) told some is by-image job = absurd job
@@ -223,6 +225,7 @@ storing-met o found name at image (Ok (jobs.Sheet paths)) told some is by-image 
 storing-met o found name at image (Ok (jobs.Describe paths)) told some is by-image job = absurd job
 storing-met o found name at image (Ok (jobs.View asked path)) told some is by-image job = absurd job
 storing-met o found name at image (Ok (jobs.Trim path)) told some is by-image job = absurd job
+storing-met o found name at image (Ok (jobs.Compare before after)) told some is by-image job = absurd job
 storing-met o found name at image (Ok (jobs.Check path)) told some is by-image job = absurd job
 storing-met o found name at image (Ok (jobs.Show path)) told some is by-image job = absurd job
 storing-met o found name at image (Ok (jobs.Play path script)) told some is by-image job = absurd job

@@ -1,4 +1,4 @@
--- The job that draws an image, or images on a sheet, where its words are parsed.
+-- The job that draws an image, or images on a sheet, or two compared, where its words are parsed.
 use Rattle.std.proofs.Common.{◌≡◌, Bor, List, Option, Some, inl, inr, refl, subst, sym, true, []}
 use Rattle.std.specs.Prelude.{Bool, IfOk, MatchResult, Result, codes, false, if◌then◌else◌, option_map}
 use Rattle.clap.specs.Words.{Row, Text, found_of, rows_of}
@@ -8,7 +8,7 @@ use Rattle.ledger_jobs.specs.Jobs.{IsFit}
 use Rattle.ledger_jobs.specs.declared.jobs.Drawing.TheVariants as drawings
 use Rattle.ledger_jobs.specs.declared.jobs.Job.{Job}
 use Rattle.ledger_jobs.specs.declared.jobs.Job.TheVariants as jobs
-use Rattle.command_line.specs.Jobs.{AreTooMany, IsForOne, IsJob, IsNoJob, IsPictureJob, is_given}
+use Rattle.command_line.specs.Jobs.{AreMiscounted, IsForOne, IsJob, IsNoJob, IsPictureJob, is_given}
 use Rattle.command_line.specs.declared.faults.JobFault.{JobFault}
 use Rattle.command_line.proofs.Parses.{met-has, met-is}
 
@@ -27,7 +27,7 @@ picture-fit : (image : Bor Text) (svg : Bool)
 picture-fit image true = tt
 picture-fit image false = tt
 
--- what draws an image, or images on a sheet, is the job of `picture`; or there are too many, or there was no memory
+-- what draws an image, or images on a sheet, or two compared, is the job of `picture`; or there are too many, or there was no memory
 pub picturing-met : (o : Option (Bor Text × Bor ArgMatches)) (found : Option (Text × List Row)) (name : Bor Text)
     (at : Bor ArgMatches) (r : Result Job JobFault)
     → option_map (λ (p : Bor Text × Bor ArgMatches). (p.0.now, rows_of (found_of p.1.now))) o ≡ found
@@ -42,9 +42,12 @@ picturing-met o found name at r told some is (inl (image, same, by-image, one)) 
 picturing-met o found name at r told some is (inr (inl (images, same, are))) =
     let P : Result Job JobFault → Type 0 = λ j. MatchResult j (IsJob found) (IsNoJob [] found) × IfOk j IsFit in
     subst P (sym same) (met-has o found name at (codes "picture") _ told some is are, tt)
-picturing-met o found name at r told some is (inr (inr (inl (same, many)))) =
+picturing-met o found name at r told some is (inr (inr (inl (before, after, same, are)))) =
     let P : Result Job JobFault → Type 0 = λ j. MatchResult j (IsJob found) (IsNoJob [] found) × IfOk j IsFit in
-    subst P (sym same) ((refl, met-has o found name at (codes "picture") AreTooMany told some is many), tt)
-picturing-met o found name at r told some is (inr (inr (inr (e, same, kind)))) =
+    subst P (sym same) (met-has o found name at (codes "picture") _ told some is are, tt)
+picturing-met o found name at r told some is (inr (inr (inr (inl (same, many))))) =
+    let P : Result Job JobFault → Type 0 = λ j. MatchResult j (IsJob found) (IsNoJob [] found) × IfOk j IsFit in
+    subst P (sym same) ((refl, met-has o found name at (codes "picture") AreMiscounted told some is many), tt)
+picturing-met o found name at r told some is (inr (inr (inr (inr (e, same, kind))))) =
     let P : Result Job JobFault → Type 0 = λ j. MatchResult j (IsJob found) (IsNoJob [] found) × IfOk j IsFit in
     subst P (sym same) (kind, tt)

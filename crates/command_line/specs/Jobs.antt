@@ -1,6 +1,6 @@
 -- What the words of a command line ask for (our own).
-use Rattle.std.specs.Prelude.{◌≡◌, ◌≤◌, ◌<◌, ◌⊎◌, ◌||◌, ℕ, Bool, true, false, List, Option, Some, None, Result, Ok, Err, []}
-use Rattle.std.specs.Prelude.{◌==◌, codes, if◌then◌else◌, length, map, vec_items, Vec}
+use Rattle.std.specs.Prelude.{◌≡◌, ◌≢◌, ◌≤◌, ◌<◌, ◌⊎◌, ◌||◌, ℕ, Bool, true, false, List, Option, Some, None, Result, Ok, Err}
+use Rattle.std.specs.Prelude.{[], ◌∷◌, ◌==◌, codes, if◌then◌else◌, length, map, vec_items, Vec}
 use Rattle.d64_image.specs.Places.{place_at}
 use Rattle.d64_image.specs.declared.place.Place.{Place}
 use Rattle.std.specs.List.{after_first, before_first}
@@ -133,19 +133,30 @@ abbrev pub picture_job : List Row → Bor Text → Job
 picture_job rows image =
     if is_given (codes "svg") rows then jobs.Draw drawings.Poster image else jobs.Draw drawings.Picture image
 
--- no sheet is asked for, and there is one image
+-- neither a sheet nor a comparison is asked for, and there is one image
 abbrev pub IsForOne : List Row → Type 0
-IsForOne rows = (is_given (codes "sheet") rows ≡ false) × (length (values (codes "IMAGE") rows) < 2)
+IsForOne rows = (is_given (codes "sheet") rows ≡ false) × (is_given (codes "compare") rows ≡ false)
+    × (length (values (codes "IMAGE") rows) < 2)
+
+-- these two are the images that are to be compared, before and after
+abbrev pub AreCompared : List Row → (before after : Text) → Type 0
+AreCompared rows before after = (is_given (codes "sheet") rows ≡ false) × (is_given (codes "compare") rows ≡ true)
+    × (values (codes "IMAGE") rows ≡ before ∷ after ∷ [])
 
 -- these are the images, in their order, for a sheet that has room for them
 abbrev pub AreOnSheet : List Row → List (Bor Text) → Type 0
 AreOnSheet rows images = (is_given (codes "sheet") rows ≡ true)
     × (map (λ image. image.now) images ≡ values (codes "IMAGE") rows) × (length images ≤ 400)
 
--- there are several images and no sheet is asked for, or more than a sheet has room for
-abbrev pub AreTooMany : List Row → Type 0
-AreTooMany rows = ((is_given (codes "sheet") rows ≡ false) × (2 ≤ length (values (codes "IMAGE") rows)))
-    ⊎ ((is_given (codes "sheet") rows ≡ true) × (400 < length (values (codes "IMAGE") rows)))
+-- there are several images and neither a sheet nor a comparison is asked for, or more than a sheet has room for, or not
+-- two to be compared
+abbrev pub AreMiscounted : List Row → Type 0
+AreMiscounted rows =
+    ((is_given (codes "sheet") rows ≡ false) × (is_given (codes "compare") rows ≡ false)
+    × (2 ≤ length (values (codes "IMAGE") rows)))
+    ⊎ (((is_given (codes "sheet") rows ≡ true) × (400 < length (values (codes "IMAGE") rows)))
+    ⊎ ((is_given (codes "sheet") rows ≡ false) × (is_given (codes "compare") rows ≡ true)
+    × (length (values (codes "IMAGE") rows) ≢ 2)))
 
 -- the flags ask for this drawing; `map` has none, and draws one image so
 abbrev pub IsDrawnBy : Drawing → List Row → Type 0
@@ -214,6 +225,7 @@ IsJob found (jobs.Check image) = Has found (codes "check")
     (λ rows. IsOnlyImage rows image.now × IsViewedBy overviews.Check rows)
 IsJob found (jobs.Describe images) = Has found (codes "check") (λ rows. AreDescribed rows (vec_items images))
 IsJob found (jobs.Sheet images) = Has found (codes "picture") (λ rows. AreOnSheet rows (vec_items images))
+IsJob found (jobs.Compare before after) = Has found (codes "picture") (λ rows. AreCompared rows before.now after.now)
 IsJob found (jobs.View what image) = Has found (word_of_view what)
     (λ rows. (image.now ≡ value (codes "IMAGE") rows) × IsViewIn rows what)
 IsJob found (jobs.Trim image) = Has found (codes "trim") (λ rows. image.now ≡ value (codes "IMAGE") rows)
@@ -309,14 +321,23 @@ IsSheet images result =
     ⊎ (((result ≡ Err faults.Images) × (400 < length images))
     ⊎ ((e : Error) × (result ≡ Err (faults.Words e)) × HasKind [] e))
 
--- and of one that draws one image, or images on a sheet
+-- the comparison of these two images; or there aren't two
+abbrev pub IsComparing : List (Bor Text) → Result Job JobFault → Type 0
+IsComparing images result =
+    ((before : Bor Text) × (after : Bor Text) × (result ≡ Ok (jobs.Compare before after))
+    × (images ≡ before ∷ after ∷ []))
+    ⊎ ((result ≡ Err faults.Images) × (length images ≢ 2))
+
+-- and of one that draws one image, or images on a sheet, or two compared
 abbrev pub IsPictureJob : List Row → Result Job JobFault → Type 0
 IsPictureJob rows result =
     ((image : Bor Text) × (result ≡ Ok (picture_job rows image)) × (image.now ≡ value (codes "IMAGE") rows)
     × IsForOne rows)
     ⊎ (((images : Vec (Bor Text) Global) × (result ≡ Ok (jobs.Sheet images)) × AreOnSheet rows (vec_items images))
-    ⊎ (((result ≡ Err faults.Images) × AreTooMany rows)
-    ⊎ ((e : Error) × (result ≡ Err (faults.Words e)) × HasKind [] e)))
+    ⊎ (((before : Bor Text) × (after : Bor Text) × (result ≡ Ok (jobs.Compare before after))
+    × AreCompared rows before.now after.now)
+    ⊎ (((result ≡ Err faults.Images) × AreMiscounted rows)
+    ⊎ ((e : Error) × (result ≡ Err (faults.Words e)) × HasKind [] e))))
 
 -- the text of NAME is none that the subcommand takes
 abbrev pub IsRefusedName : Option (Text × List Row) → Type 0
@@ -333,4 +354,4 @@ IsNoJob kinds found faults.Name = (kinds ≡ []) × IsRefusedName found
 IsNoJob kinds found faults.Length =
     (kinds ≡ []) × Has found (codes "make") (λ rows. HasNewName rows × (length_in rows ≡ None))
 IsNoJob kinds found faults.Sector = (kinds ≡ []) × Has found (codes "sector") (λ rows. place_in rows ≡ None)
-IsNoJob kinds found faults.Images = (kinds ≡ []) × Has found (codes "picture") AreTooMany
+IsNoJob kinds found faults.Images = (kinds ≡ []) × Has found (codes "picture") AreMiscounted

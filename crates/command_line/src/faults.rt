@@ -21,7 +21,8 @@ pub enum JobFault {
     /// The length of a record isn't one of 1 to 254, in decimal digits without leading zeros.
     #[error("LENGTH")]
     Length,
-    /// There are several images to be drawn, but not on a sheet; or more than a sheet has room for.
+    /// There are several images to be drawn, but neither on a sheet nor to be compared; or more than a sheet has room for, or
+    /// not two to be compared.
     #[error("IMAGES")]
     Images,
     /// The text of a sector isn't that of one of the disk: its track, a slash and its number, such as 17/4.

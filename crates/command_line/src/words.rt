@@ -8,7 +8,7 @@ ghost use Rattle.keeper_commands.specs.Makes.{IsNewName};
 ghost use Rattle.ledger_jobs.specs.Jobs.{IsFit};
 ghost use Rattle.ledger_jobs.specs.Names.{IsNameOf, name_bytes};
 ghost use Rattle.command_line.specs.Jobs.{IsCheckJob, IsDescribing, IsHeard, IsJob, IsMakingJob, IsNoJob, IsOverviewJob};
-ghost use Rattle.command_line.specs.Jobs.{IsParse, IsPictureJob};
+ghost use Rattle.command_line.specs.Jobs.{IsComparing, IsParse, IsPictureJob};
 ghost use Rattle.command_line.specs.Jobs.{IsSeveral, IsSheet, IsStoringJob, IsTakingJob};
 ghost use Rattle.command_line.specs.Jobs.{effect_in, format_job, job_of_one, loss_in, picture_job, play_job, unowned_in};
 ghost use Rattle.rel_records.specs.File.{IsLength};
@@ -279,7 +279,20 @@ fn on_sheet<'a>(alloc: Global, images: &[&'a str]) -> Result<Job<'a>, JobFault>
     }
 }
 
-/// The job that draws an image as a page or as a poster, or images on a sheet.
+/// The job that compares these images, of which there have to be two.
+fn comparing<'a>(images: &[&'a str]) -> Result<Job<'a>, JobFault>
+    ensures { IsComparing images.now result }
+{
+    if images.len() != 2 {
+        return Err(JobFault::Images);
+    }
+    Ok(Job::Compare {
+        before: images[0],
+        after: images[1],
+    })
+}
+
+/// The job that draws an image as a page or as a poster, or images on a sheet, or compares two.
 fn picturing<'a>(alloc: Global, matches: &ArgMatches<'a>) -> Result<Job<'a>, JobFault>
     ensures { IsPictureJob (rows_of (found_of matches.now)) result }
 {
@@ -289,6 +302,9 @@ fn picturing<'a>(alloc: Global, matches: &ArgMatches<'a>) -> Result<Job<'a>, Job
     };
     if is_given(matches, "sheet") {
         return on_sheet(alloc, images);
+    }
+    if is_given(matches, "compare") {
+        return comparing(images);
     }
     if images.len() >= 2 {
         return Err(JobFault::Images);

@@ -100,9 +100,10 @@ store = with_rule (may_accept_loss (with_rule (with_rule (over_image (codes "sto
 abbrev pub map : App
 map = over_images (codes "map")
 
--- picture IMAGE.. [--svg] [--sheet]
+-- picture IMAGE.. [--svg] [--sheet] [--compare]
 abbrev pub picture : App
-picture = with_rule (with_rule (over_images (codes "picture")) (flag (codes "svg"))) (flag (codes "sheet"))
+picture = with_rule (with_rule (with_rule (over_images (codes "picture")) (flag (codes "svg"))) (flag (codes "sheet")))
+    (flag (codes "compare"))
 
 -- free IMAGE
 abbrev pub free : App

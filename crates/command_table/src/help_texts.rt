@@ -236,12 +236,14 @@ pub(crate) const PICTURE: &str = "\
 Draws a damaged disk too, as far as its links can be followed. The page loads
 nothing and has no script, and neither does the poster (297 by 420 mm).
 A sheet has a tile for each image, also for one that is refused, and ends with
-the greatest status of its images.
+the greatest status of its images. --compare takes two images: it marks the
+sectors of the second that differ from the first, lists the files and records
+that changed, and ends with the second image's status.
 
 Exit status:
   0  the disk is clean
   1  a fault, or the image is refused
-  2  IMAGES: several without --sheet, or more than 400
+  2  IMAGES: several without --sheet, more than 400, or not two with --compare
   3  FILE, NO MEMORY, IN USE
 
 Example: ledger picture --sheet ./*.d64 > all.html";

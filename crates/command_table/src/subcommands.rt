@@ -305,7 +305,7 @@ pub(crate) const SUBCOMMANDS: [Subcommand; 19] = [
         more: MAP,
         values: &[IMAGES],
     },
-    // picture IMAGE.. [--svg] [--sheet]
+    // picture IMAGE.. [--svg] [--sheet] [--compare]
     Subcommand {
         name: "picture",
         about: "Prints a drawing of the disk as an HTML page, or as a poster",
@@ -323,6 +323,12 @@ pub(crate) const SUBCOMMANDS: [Subcommand; 19] = [
                 word: Some("sheet"),
                 count: Count::Flag,
                 help: "Prints a page with a small drawing of each image, at most 400",
+            },
+            Value {
+                name: "compare",
+                word: Some("compare"),
+                count: Count::Flag,
+                help: "Prints a page of the second of two images, with what differs from the first",
             },
         ],
     },

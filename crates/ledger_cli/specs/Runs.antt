@@ -12,6 +12,7 @@ use Rattle.shop_commands.specs.Plays.{IsUntouched}
 use Rattle.shop_commands.specs.declared.faults.RunFault.{RunFault}
 use Rattle.shop_commands.specs.declared.faults.RunFault.TheVariants as run
 use Rattle.ledger_jobs.specs.Columns.{text_in}
+use Rattle.ledger_jobs.specs.Comparisons.{IsComparingRun}
 use Rattle.ledger_jobs.specs.Drawings.{IsDrawingRun}
 use Rattle.ledger_jobs.specs.Ends.{Ended, JobEnd, as_drawn, as_job, end_of, end_status, exit_status, refusal_line}
 use Rattle.ledger_jobs.specs.Keeping.{IsDryRepair, IsRepairOver}
@@ -174,6 +175,8 @@ module _ {F : Type 0} (position : F → Option ℕ) (bytes contents : F → Opti
       (after ≡ file) × EndsAs as_viewed end (IsViewRun told what image old new)
   IsJobRun told (jobs.Trim path) image script file after old new end =
       (after ≡ file) × (new ≡ old) × (end ≡ Err (refusals.Run run.File))
+  IsJobRun told (jobs.Compare before later) image script file after old new end =
+      (after ≡ file) × EndsAs as_drawn end (IsComparingRun told image script old new)
   IsJobRun told (jobs.Several what paths) image script file after old new end =
       (after ≡ file) × (new ≡ old) × (end ≡ Err (refusals.Run run.File))
   IsJobRun told (jobs.Sheet paths) image script file after old new end =

@@ -5,8 +5,8 @@ ghost use Rattle.ledger_jobs.specs.Jobs.{IsFit};
 
 use crate::changing::{Ended, copy, format, make, play, repair, serve, store_columns};
 use ledger_jobs::{
-    Job, Reading, Refusal, drawing_run, drawn_end, end, job_end, reading_run, take_told, view_run,
-    viewed_end,
+    Job, Reading, Refusal, comparing_run, drawing_run, drawn_end, end, job_end, reading_run,
+    take_told, view_run, viewed_end,
 };
 use shop_commands::RunFault;
 use std::alloc::Global;
@@ -65,6 +65,7 @@ fn obey<F: Write + Seek + Drop, W: Write>(
         }
         Job::Draw { what, .. } => (file, drawn_end(drawing_run(alloc, what, image, out))),
         Job::View { what, .. } => (file, viewed_end(view_run(alloc, what, image, out))),
+        Job::Compare { .. } => (file, drawn_end(comparing_run(alloc, image, script, out))),
         // it would want the bytes of each, or standard error too
         Job::Several { .. } | Job::Sheet { .. } | Job::Describe { .. } | Job::Trim { .. } => {
             (file, Err(Refusal::Run(RunFault::File)))
@@ -76,7 +77,7 @@ fn obey<F: Write + Seek + Drop, W: Write>(
 
 /// Does a job over the bytes of its files, prints what it prints, reports in a line on `err` why it isn't done, and
 /// returns the exit status and the file. Bytes that the job doesn't read are empty: `image` are those of IMAGE, `script`
-/// those of SCRIPT or RECORDS, or of `serve`'s standard input. `file` is IMAGE for writing, at its start, for a job that
+/// those of SCRIPT or RECORDS, or of `serve`'s standard input; `Compare` has the first image and the second one there. `file` is IMAGE for writing, at its start, for a job that
 /// writes it, and the copy for `Copy`; without one such a job ends with 3 and `FILE`, and nothing is printed. A job that
 /// only reads leaves it as it was. There are no logs: `Serve` writes the image itself, whatever way the job says.
 /// A job over several images ends with 3 and `FILE`, since only one has its bytes here: call `overview_run` for each.

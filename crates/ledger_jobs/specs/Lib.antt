@@ -1,4 +1,5 @@
 pub mod Columns
+pub mod Comparisons
 pub mod Copies
 pub mod Drawings
 pub mod DurableRuns
@@ -14,6 +15,7 @@ pub mod Names
 pub mod Overviews
 pub mod Runs
 pub mod Serves
+pub mod SheetPages
 pub mod Trims
 pub mod Views
 pub mod WatchedFiles

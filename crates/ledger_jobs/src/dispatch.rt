@@ -6,6 +6,7 @@ ghost use Rattle.ledger_jobs.specs.Ends.{as_drawn, as_job, as_kept, as_repaired,
 ghost use Rattle.ledger_jobs.specs.Jobs.{IsFit, needed};
 ghost use Rattle.ledger_jobs.specs.Runs.{IsReadingEnd, IsReadingOf};
 
+use crate::comparisons::do_comparing;
 use crate::copying::do_copying;
 use crate::descriptions::do_describing;
 use crate::drawing::drawing_run;
@@ -315,7 +316,7 @@ where
 /// before the image is written, and read in the place of the image otherwise. `InUse` where another program has it; `Log`
 /// if its log gives no image; `File` where a file couldn't be opened or read, and the faults of `reading_run`,
 /// `format_run`, `play_durably`, `serve_guarded`, `serve_logged_guarded`, `copy_run`, `repair_guarded`, `make_guarded`,
-/// `store_guarded`, `take_told`, `extract_run`, `drawing_run` and `view_run`. `Trim` ends with `File`, since it reports on
+/// `store_guarded`, `take_told`, `extract_run`, `drawing_run`, `comparing_run` and `view_run`. `Trim` ends with `File`, since it reports on
 /// standard error: call `do_trim`. What is wrong with one of several images is printed, and only an
 /// output that failed ends the job before the last of them.
 pub fn do_job<F, R, W>(rt: &R, job: &Job<'_>, out: &mut W) -> Result<Option<Fault>, Refusal>
@@ -374,6 +375,7 @@ where
         Job::Draw { what, image } => do_drawing(rt, what, image, out),
         Job::View { what, image } => do_viewing(rt, what, image, out),
         Job::Trim { .. } => Err(Refusal::Run(RunFault::File)),
+        Job::Compare { before, after } => do_comparing(rt, before, after, out),
         Job::Sheet { ref images } => do_sheet(rt, images.as_slice(), out),
         Job::Describe { ref images } => do_describing(rt, images.as_slice(), out),
         Job::Several { what, ref images } => do_several(rt, what, images.as_slice(), out),

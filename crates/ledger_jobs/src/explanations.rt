@@ -111,16 +111,18 @@ fn image_of<'a>(job: &Job<'a>) -> &'a str {
         Job::Several { images, .. } | Job::Sheet { images } | Job::Describe { images } => {
             images.first().copied().unwrap_or("")
         }
+        Job::Compare { before, .. } => before,
         Job::Dry { script } => script,
     }
 }
 
-/// The script, or the records, that it reads behind that.
+/// The script, the records or the second image that it reads behind that.
 fn text_of<'a>(job: &Job<'a>) -> Option<&'a str> {
     match job {
         Job::Play { script, .. } | Job::PlaySynced { script, .. } => Some(script),
         Job::Store { records, .. } => Some(records),
         Job::Dry { script } => Some(script),
+        Job::Compare { after, .. } => Some(after),
         _ => None,
     }
 }
@@ -134,7 +136,7 @@ fn writes(job: &Job<'_>) -> bool {
         Job::List { .. } | Job::Check { .. } | Job::Show { .. } | Job::Dry { .. } => false,
         Job::Take { .. } | Job::Draw { .. } | Job::Copy { .. } => false,
         Job::Extract { .. } => false,
-        Job::View { .. } | Job::Trim { .. } => false,
+        Job::View { .. } | Job::Trim { .. } | Job::Compare { .. } => false,
         Job::Several { .. } | Job::Sheet { .. } | Job::Describe { .. } => false,
     }
 }
@@ -142,6 +144,17 @@ fn writes(job: &Job<'_>) -> bool {
 /// Tells this of the file at a path. Where it can't be told there is nobody left to tell.
 fn tell_of<E: Write, T: Display + Drop>(err: &mut E, path: &str, said: T) {
     let _ = writeln!(err, "ledger: {}: {said}", ShownPath(path));
+}
+
+/// Tells this of a job's image, or of the two that it compares: which one isn't known.
+fn tell_of_image<E: Write>(err: &mut E, job: &Job<'_>, said: &str) {
+    match job {
+        Job::Compare { before, after } => {
+            let (before, after) = (ShownPath(before), ShownPath(after));
+            let _ = writeln!(err, "ledger: {before} or {after}: {said}");
+        }
+        _ => tell_of(err, image_of(job), said),
+    }
 }
 
 /// Tells what the system says of a file that can't be opened. False where it can.
@@ -215,6 +228,14 @@ pub(crate) fn size_of<R: Files>(rt: &R, path: &str) -> Option<u64> {
     match regular_at(rt, path) {
         Ok(found) => Some(found.len()),
         Err(_) => None,
+    }
+}
+
+/// The image of a job that has another size than a disk: of two the first one, unless it has that size.
+fn missized_of<'a, R: Files>(rt: &R, job: &Job<'a>) -> &'a str {
+    match job {
+        Job::Compare { before, after } if size_of(rt, before) == Some(174_848) => after,
+        _ => image_of(job),
     }
 }
 
@@ -343,8 +364,8 @@ where
     let image = image_of(job);
     match subject_of(refusal) {
         About::Files => tell_files(rt, job, err),
-        About::Size => tell_size(rt, image, err),
-        About::Image(said) => tell_of(err, image, said),
+        About::Size => tell_size(rt, missized_of(rt, job), err),
+        About::Image(said) => tell_of_image(err, job, said),
         About::Text(said) => tell_of(err, text_of(job).unwrap_or(image), said),
         About::Made => tell_made(job, err),
         About::Nothing => {}

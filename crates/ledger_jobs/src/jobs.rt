@@ -253,6 +253,13 @@ pub enum Job<'a> {
         /// The images' paths.
         images: Vec<&'a str>,
     },
+    /// Two images that are read, compared: the second one is drawn, with what differs from the first one.
+    Compare {
+        /// The first image's path.
+        before: &'a str,
+        /// The second image's path.
+        after: &'a str,
+    },
     /// Several images that are read, in their order: what is printed of each, and why it is refused, behind its name.
     Several {
         /// What is printed of each.

@@ -1,6 +1,7 @@
 //! The program over a runtime: its jobs, the files that they open, and how they end.
 #![tactic(auto)]
 
+mod comparisons;
 mod copying;
 mod descriptions;
 mod dispatch;
@@ -30,6 +31,7 @@ mod trimming;
 mod viewing;
 mod watched_files;
 
+pub use comparisons::comparing_run;
 pub use copying::copy_run;
 pub use dispatch::{do_job, do_over, drawn_end, job_end};
 pub use drawing::drawing_run;

@@ -1,4 +1,7 @@
 //! A contact sheet of images, each read as if it were alone.
+ghost use Rattle.std.specs.Prelude.{IfOk, map};
+ghost use Rattle.ledger_jobs.specs.SheetPages.{AreTiles, IsSheetPrinted, IsTileOf, IsUnreadTile};
+
 use crate::dispatch::image_at;
 use crate::refusals::Refusal;
 use disk_layout::Fault;
@@ -15,7 +18,9 @@ fn put_unread<W: Write>(
     path: &str,
     refusal: Refusal,
     out: &mut W,
-) -> Result<u8, PictureFault> {
+) -> Result<u8, PictureFault>
+    ensures ok { IfOk result (IsUnreadTile W.contents path.now refusal out.old out.new) }
+{
     let Ok(told) = format!(in alloc; "{refusal}") else {
         return Err(PictureFault::NoMemory);
     };
@@ -29,11 +34,28 @@ where
     F: Read + Locks + OpenFile + Drop,
     R: Files<File = F> + Input + AllocGlobal,
     W: Write,
+    ensures ok { IfOk result (IsTileOf W.contents path.now out.old out.new) }
 {
     match image_at(rt, path) {
         Ok(image) => sheet_tile(rt.alloc(), path, image.as_slice(), out),
         Err(refusal) => put_unread(rt.alloc(), path, refusal, out),
     }
+}
+
+/// Prints the tile of each image, in their order, and returns the greatest exit status of theirs.
+fn put_tiles<F, R, W>(rt: &R, paths: &[&str], out: &mut W) -> Result<u8, PictureFault>
+where
+    F: Read + Locks + OpenFile + Drop,
+    R: Files<File = F> + Input + AllocGlobal,
+    W: Write,
+    ensures ok { IfOk result (AreTiles W.contents (map (λ path. path.now) paths.now) out.old out.new) }
+{
+    let mut greatest = 0;
+    for &path in paths {
+        let status = put_tile_at(rt, path, out)?;
+        greatest = status.max(greatest);
+    }
+    Ok(greatest)
 }
 
 /// Prints the sheet, and returns the greatest exit status of its images.
@@ -42,12 +64,10 @@ where
     F: Read + Locks + OpenFile + Drop,
     R: Files<File = F> + Input + AllocGlobal,
     W: Write,
+    ensures ok { IfOk result (IsSheetPrinted W.contents (map (λ path. path.now) paths.now) out.old out.new) }
 {
     sheet_begin(out, paths.len())?;
-    let mut greatest = 0;
-    for path in paths {
-        greatest = greatest.max(put_tile_at(rt, path, out)?);
-    }
+    let greatest = put_tiles(rt, paths, out)?;
     sheet_finish(out)?;
     Ok(greatest)
 }

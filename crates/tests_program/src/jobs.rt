@@ -73,6 +73,7 @@ fn row_of<'a>(job: &Job<'a>) -> Row<'a> {
             image,
         } => ("sector", image, "", place.track() + place.sector()),
         Job::Trim { image } => ("trim", image, "", 0),
+        Job::Compare { before, after } => ("picture --compare", before, after, 0),
         Job::Sheet { ref images } => {
             let first = images.first().copied().unwrap_or("");
             let second = images.get(1).copied().unwrap_or("");

@@ -1,4 +1,4 @@
-//! Images drawn on a contact sheet, and what is refused of several images that are to be drawn.
+//! Images drawn on a contact sheet, two images compared, and what is refused of several images that are to be drawn.
 use crate::scenes::each;
 
 /// Sheets of images, also of those that can't be read; the status is the greatest of theirs.
@@ -29,6 +29,43 @@ tells FILE|
 ends 3
 ";
 
+/// Two images compared; the status is the second one's.
+const COMPARED: &[u8] = b"
+$ ledger_cli picture --compare a.d64 a.d64
+prints <!DOCTYPE html>|<html lang=\"en\">|..
+
+hurt LOOP
+$ ledger_cli picture a.d64 a.d64 --compare
+prints <!DOCTYPE html>|<html lang=\"en\">|..
+ends 1
+
+$ ledger_cli picture --compare a.d64 s.txt
+tells IMAGE SIZE|
+ends 1
+
+$ ledger_cli picture --compare b.d64 a.d64
+tells FILE|
+ends 3
+
+output-takes 0
+$ ledger_cli picture --compare a.d64 a.d64
+tells FILE|
+ends 3
+
+person ledger_cli picture --compare a.d64 s.txt
+tells IMAGE SIZE|ledger: s.txt has 9 bytes; it is cut short, since 35 tracks have 174848; read the disk again|
+ends 1
+
+run ledger picture --compare a.d64 s.txt
+tells IMAGE SIZE|
+ends 1
+";
+
+#[test]
+fn two_images_are_compared(rt: HostRuntime) {
+    each(&rt, COMPARED);
+}
+
 #[test]
 fn sheets_are_drawn(rt: HostRuntime) {
     each(&rt, DRAWN);
@@ -42,6 +79,12 @@ job ledger picture b.d64 --sheet
 prints picture --sheet, b.d64, , 1
 job ledger picture a.d64 b.d64
 prints fault 5, status 2
+job ledger picture --compare a.d64 b.d64
+prints picture --compare, a.d64, b.d64, 0
+job ledger picture --compare a.d64
+prints fault 5, status 2
+job ledger picture --compare a.d64 b.d64 c.d64
+prints fault 5, status 2
 
 $ ledger_cli picture a.d64 b.d64
 tells IMAGES|
@@ -52,7 +95,7 @@ tells IMAGES|
 ends 2
 
 person ledger_cli picture a.d64 b.d64
-tells IMAGES|ledger: several images are drawn on a sheet (--sheet), which has room for 400|
+tells IMAGES|ledger: several images are drawn on a sheet (--sheet), which has room for 400; two are compared (--compare)|
 ends 2
 ";
 

@@ -1,0 +1,35 @@
+-- Tiles printed one after another.
+use Rattle.std.proofs.Common.{◌≡◌, ◌<◌, ◌+◌, ◌++◌, ◌∙◌, ℕ, List, [], ◌∷◌, ap, arith, get_or, length, map, refl, subst, sym, take}
+use Rattle.std.specs.Prelude.{Option, max}
+use Rattle.std.specs.Borrow.{Bor}
+use Rattle.std.proofs.lemmas.List.{map_more}
+use Rattle.ledger_jobs.specs.SheetPages.{AreTiles, IsTileOf}
+
+module _ {W : Type 0} (contents : W → Option (List ℕ)) where
+  -- one tile behind the others
+  tiles-push : (paths : List (List ℕ)) (path : List ℕ) (old mid new : W) (greatest status : ℕ)
+      → AreTiles contents paths old mid greatest → IsTileOf contents path mid new status
+      → AreTiles contents (paths ++ path ∷ []) old new (max status greatest)
+  tiles-push [] path old mid new greatest status (same, zero') tile =
+      let none : max status greatest ≡ max status 0 = ap (max status) zero' in
+      (new, status, 0, subst (λ (w : W). IsTileOf contents path w new status) same tile, (refl, refl), none)
+  tiles-push (p ∷ ps) path old mid new greatest status (next, first, rest, one, others, most) tile =
+      let both : max status greatest ≡ max first (max status rest) = omega (arith, most) in
+      (next, first, max status rest, one, tiles-push ps path next mid new rest status others tile, both)
+
+  pub no-tiles : (old : W) → AreTiles contents [] old old 0
+  no-tiles old = (refl, refl)
+
+  -- the tile of one path more
+  pub tiles-more : (paths : List (Bor (List ℕ))) (i : ℕ) (path : Bor (List ℕ)) (old mid new : W) (greatest status : ℕ)
+      → i < length paths → get_or paths i path ≡ path
+      → AreTiles contents (map (λ (p : Bor (List ℕ)). p.now) (take i paths)) old mid greatest
+      → IsTileOf contents path.now mid new status
+      → AreTiles contents (map (λ (p : Bor (List ℕ)). p.now) (take (i + 1) paths)) old new (max status greatest)
+  tiles-more paths i path old mid new greatest status inside here before tile =
+      let taken : map (λ (p : Bor (List ℕ)). p.now) (take (i + 1) paths)
+      ≡ map (λ (p : Bor (List ℕ)). p.now) (take i paths) ++ path.now ∷ [] =
+      map_more (λ (p : Bor (List ℕ)). p.now) paths i path inside
+      ∙ ap (λ (p : Bor (List ℕ)). map (λ (q : Bor (List ℕ)). q.now) (take i paths) ++ p.now ∷ []) here in
+      subst (λ (all : List (List ℕ)). AreTiles contents all old new (max status greatest)) (sym taken)
+      (tiles-push (map (λ (p : Bor (List ℕ)). p.now) (take i paths)) path.now old mid new greatest status before tile)

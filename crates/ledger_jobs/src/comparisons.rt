@@ -1,0 +1,43 @@
+//! Two images compared, each read as if it were alone.
+ghost use Rattle.ledger_jobs.specs.Comparisons.{IsComparingRun};
+
+use crate::dispatch::{drawn_end, image_at};
+use crate::refusals::Refusal;
+use disk_layout::Fault;
+use disk_pictures::{PictureFault, compare_images};
+use shop_commands::Locks;
+use std::alloc::Global;
+use std::fs::OpenFile;
+use std::io::{Read, Write};
+use std::rt::Files;
+
+/// Draws the second of two images with what differs from the first one, and returns the fault that a check of the second one
+/// reports. `ImageSize`; `Layout` if the directory's sectors aren't a chain on track 18, of either image; `NoMemory`: nothing
+/// was printed then. `File` if the output failed.
+pub fn comparing_run<W: Write>(
+    alloc: Global,
+    before: &[u8],
+    after: &[u8],
+    out: &mut W,
+) -> Result<Option<Fault>, PictureFault>
+    ensures run { IsComparingRun W.contents before.now after.now out.old out.new result }
+{
+    compare_images(alloc, before, after, out)
+}
+
+/// Compares the images at two paths.
+pub(crate) fn do_comparing<F, R, W>(
+    rt: &R,
+    before: &str,
+    after: &str,
+    out: &mut W,
+) -> Result<Option<Fault>, Refusal>
+where
+    F: Read + Locks + OpenFile + Drop,
+    R: Files<File = F> + Input + AllocGlobal,
+    W: Write,
+{
+    let first = image_at(rt, before)?;
+    let second = image_at(rt, after)?;
+    drawn_end(comparing_run(rt.alloc(), first.as_slice(), second.as_slice(), out))
+}
