@@ -6,10 +6,11 @@
 #   store    9,000 changed records of 18 bytes, and the same lines again, which change nothing
 #   pictures `picture` of a full disk, also by the clock; the pages of a full shop, a blank one, a day's, and of a full one with a
 #            loop, with a block count and with a map that is wrong are compared first
+#   sheet    a contact sheet of 100 images, a half of them full shops, also by the clock
 # Images lie in FOLDER, in memory if there is room for it (/dev/shm): so a sync takes no time, and the processor time, the
 # kernel's too, is the program's own. What is printed and the images are compared first, and by `strace`, where it is
 # installed, how often both write and sync. Wants python3. A part is a function and a plain program, keepers_PART_plain.rs.
-parts="records store pictures"
+parts="records store pictures sheet"
 chosen="${1:-all}"
 source "$(dirname "$0")/common.sh"
 folder="$(mktemp -d "${3:-$([ -d /dev/shm ] && echo /dev/shm || echo /var/tmp)}/keepers.XXXXXX")"
@@ -127,9 +128,32 @@ part_pictures() {
     awk -v spent=$((ended - started)) -v times="$times" 'BEGIN { printf "pictures by the clock: %.2f ms a page\n", spent / 1e6 / times }'
 }
 
+part_sheet() {
+    make_shops
+    local images=() times=1 started ended
+    damaged loop 336 1 000
+    for number in $(seq 50); do
+        cp "$work/full.d64" "$folder/full$number.d64" && cp "$work/day.d64" "$folder/day$number.d64"
+        images+=("$folder/full$number.d64" "$folder/day$number.d64")
+    done
+    cp "$work/loop.d64" "$folder/full50.d64"
+    run_plain() { "$plain" picture --sheet "${images[@]}" || true; }
+    run_proved() { "$proved" picture --sheet "${images[@]}" || true; }
+    run_plain >"$work/plain.html"
+    run_proved >"$work/proved.html"
+    cmp -s "$work/plain.html" "$work/proved.html" || stop "sheet: the two pages differ"
+    echo -n "a sheet of 100 images, $(wc -c <"$work/proved.html") bytes: "
+    print_ratio "$times" 1000 "ms a sheet"
+    started=$(date +%s%N)
+    run_proved >/dev/null
+    ended=$(date +%s%N)
+    awk -v spent=$((ended - started)) 'BEGIN { printf "the sheet by the clock: %.0f ms\n", spent / 1e6 }'
+}
+
 for part in $parts; do
     [ "$chosen" = all ] || [ "$chosen" = "$part" ] || continue
     name="keepers_$part"
+    [ "$part" = sheet ] && name=keepers_pictures
     prepare ledger
     "part_$part"
 done

@@ -57,7 +57,7 @@ class Entry:
     """A used entry of the directory, and the sectors that its links come to."""
 
     def __init__(self, raw):
-        self.kind = raw[2]
+        self.raw, self.kind = raw, raw[2]
         self.name = name_text(raw[5:21].rstrip(b"\xa0"))
         self.shown = html_name(raw[5:21].rstrip(b"\xa0"))
         self.signs = signs(raw[5:21].rstrip(b"\xa0"))

@@ -2,9 +2,11 @@
 """What `picture` prints of an image, by the rules and to the byte, in plain Python over drawn.py:
 
     tests/pages.py IMAGE VERDICT [--svg|--tile]
+    tests/pages.py --compare IMAGE VERDICT IMAGE VERDICT
 
 VERDICT is what `check` prints, which isn't judged here. The parts that are the same on each page and poster (style, dashes, legend,
-end) are taken from specs/Pictures.antt, specs/Posters.antt and specs/Sheets.antt, where the contracts have them."""
+end) are taken from specs/Pictures.antt, specs/Posters.antt, specs/Sheets.antt and specs/ComparedPages.antt, where the contracts have
+them."""
 
 import re
 import sys
@@ -27,7 +29,7 @@ WORDS = {
 
 def fixed(name):
     """A text that the definition of this name gives."""
-    text = "".join((SPECS / f"{it}.antt").read_text(encoding="utf-8") for it in ("Pictures", "Posters", "Sheets"))
+    text = "".join((SPECS / f"{it}.antt").read_text(encoding="utf-8") for it in ("Pictures", "Posters", "Sheets", "ComparedPages"))
     found = re.search(rf'^{name} = codes\s+"((?:[^"\\]|\\.)*)"', text, re.M)
     return re.sub(r"\\(.)", lambda one: {"n": "\n"}.get(one[1], one[1]), found[1])
 
@@ -130,7 +132,8 @@ class Page:
                 f"<bdi>{html(entry.signs)}</bdi></td>"
                 f"<td>{entry.type_text('&lt;')}</td><td>{cells}</td></tr>\n")
 
-    def text(self):
+    def head(self):
+        """The page up to the first group of sectors."""
         name = html(self.disk.disk_name())
         title = (f'<!DOCTYPE html>\n<html lang="en">\n<meta charset="utf-8">\n<meta name="viewport" content="width=device-width,'
                  f'initial-scale=1">\n<title>{name}</title>\n<style>{fixed("style")}{fixed("dashes")}</style>\n<h1>{name}'
@@ -142,9 +145,11 @@ class Page:
                 'colour of its file; the table lists the files">\n<svg x="-6900" y="-1200" width="13800" height="2400" '
                 f'viewBox="-6900 -1200 13800 2400"><text y="400">{name}</text></svg>\n'
                 '<g transform="rotate(-90)" aria-hidden="true">\n')
-        rows = "".join(self.row(number) for number in range(len(self.disk.entries)))
-        return title + told + self.drawing() + fixed("legend_text") + rows + fixed("end_text")
+        return title + told
 
+    def text(self):
+        rows = "".join(self.row(number) for number in range(len(self.disk.entries)))
+        return self.head() + self.drawing() + fixed("legend_text") + rows + fixed("end_text")
 
     def line(self, number):
         """The line of an entry on the poster."""
@@ -209,7 +214,93 @@ def sheet(tiles):
             f'<h1>Disks: {len(tiles)}</h1>\n<main>\n' + "".join(tiles) + fixed("sheet_end"))
 
 
-def main(image, verdict, how=None):
+def runs(numbers):
+    """Ascending numbers, of a run of neighbours the first and the last."""
+    parts = []
+    for number in numbers:
+        if parts and parts[-1][1] == number - 1:
+            parts[-1][1] = number
+        else:
+            parts.append([number, number])
+    return "".join(f" {first}" if first == last else f" {first}-{last}" for first, last in parts)
+
+
+class Comparison:
+    """The pages of two disks, before and after, as one."""
+
+    def __init__(self, before, after):
+        self.before, self.after = before, after
+
+    def differs(self, place):
+        return self.before.disk.sector(place) != self.after.disk.sector(place)
+
+    def differences(self):
+        return [place for place in PLACES if self.differs(place)]
+
+    @staticmethod
+    def counterparts(entries, others):
+        """For each entry the one with its name among others that has as many of that name before it, or None."""
+        left, found = {}, []
+        for other in others:
+            left.setdefault(other.name, []).append(other)
+        for entry in entries:
+            same = left.get(entry.name)
+            found.append(same.pop(0) if same else None)
+        return found
+
+    @staticmethod
+    def contents(disk, entry):
+        bytes_of = b"".join(disk.sector(place)[2:] for place in entry.blocks)
+        return bytes_of[:254 * max(len(entry.blocks) - 1, 0) + max(entry.last, 1) - 1]
+
+    def records(self, former, entry):
+        """The numbers of the records that differ, if both files have records of one length."""
+        if not (former.has_records() and entry.has_records() and former.length == entry.length):
+            return []
+        old, new = self.contents(self.before.disk, former), self.contents(self.after.disk, entry)
+        size = entry.length
+        return [1 + at for at in range(max(former.records(), entry.records()))
+                if old[at * size:(at + 1) * size] != new[at * size:(at + 1) * size]]
+
+    def row(self, number, former):
+        entry = self.after.disk.entries[number]
+        if former is None:
+            state, parts, records = "new", "", []
+        else:
+            changed = former.raw[2:] != entry.raw[2:]
+            sectors = any(map(self.differs, entry.blocks + entry.sides))
+            if not changed and not sectors:
+                return ""
+            same = self.contents(self.before.disk, former) == self.contents(self.after.disk, entry)
+            state, records = "changed", self.records(former, entry)
+            parts = "entry " * changed + "sectors " * sectors + "bytes" * (not same)
+        return (f'<tr><td><i class="{look(number)}"></i></td><td>{state}</td><td><a href="#f{number}">{html(entry.shown)}</a>'
+                f"<bdi>{html(entry.signs)}</bdi></td><td>{parts}</td><td>{runs(records)}</td></tr>\n")
+
+    def rows(self):
+        old, new = self.before.disk.entries, self.after.disk.entries
+        rows = [self.row(number, former) for number, former in enumerate(self.counterparts(new, old))]
+        gone = [f"<tr><td></td><td>gone</td><td>{html(entry.shown)}<bdi>{html(entry.signs)}</bdi></td><td></td><td></td></tr>\n"
+                for entry, later in zip(old, self.counterparts(old, new)) if later is None]
+        return "".join(rows + gone)
+
+    def text(self):
+        places = self.differences()
+        marks = "".join(f"{ring(place)}/>\n" for place in places)
+        return (self.after.head() + self.after.drawing() + fixed("marks_head") + marks + "</g>\n" + fixed("compared_head")
+                + f"{html(self.before.disk.disk_name())} ({self.before.verdict}). Sectors that differ: {len(places)}"
+                + fixed("compared_legend") + self.rows() + fixed("end_text"))
+
+
+def compare(before, verdict, after, later):
+    """The comparison of the images at two paths, of which `check` prints this."""
+    return Comparison(Page(Path(before).read_bytes(), verdict), Page(Path(after).read_bytes(), later)).text()
+
+
+def main(image, verdict, how=None, *more):
+    if image == "--compare":
+        sys.stdout.write(compare(verdict, how, *more))
+        return
     page = Page(Path(image).read_bytes(), verdict)
     sys.stdout.write(page.poster() if how == "--svg" else page.tile(image) if how == "--tile" else page.text())
 

@@ -11,4 +11,5 @@ pub mod mirror;
 pub mod pictures;
 pub mod places;
 pub mod sha256;
+pub mod sheets;
 pub mod shop;

@@ -11,7 +11,7 @@ const END: &str = "</table>\n<p class=\"all\"><a href=\"#all\">Show all files</a
 
 /// Whose a sector is: the map's, the directory's, an entry's by its number, as a block or a side sector, or nobody's.
 #[derive(Clone, Copy, PartialEq)]
-enum Owner {
+pub(super) enum Owner {
     Nobody,
     System,
     Blocks(usize),
@@ -44,11 +44,11 @@ impl Entry<'_> {
 }
 
 /// What is drawn of a disk.
-struct Drawing<'a> {
-    map: &'a Sector,
+pub(super) struct Drawing<'a> {
+    pub(super) map: &'a Sector,
     directory: Vec<Place>,
     entries: Vec<Entry<'a>>,
-    owners: [Owner; SECTORS],
+    pub(super) owners: [Owner; SECTORS],
 }
 
 /// The sectors that the links come to from what these bytes name, each once, and the last used byte where a chain ends.
@@ -98,7 +98,7 @@ impl<'a> Drawing<'a> {
         }
     }
 
-    fn read(sectors: &'a [Sector]) -> Option<Drawing<'a>> {
+    pub(super) fn read(sectors: &'a [Sector]) -> Option<Drawing<'a>> {
         let directory = directory(sectors)?;
         let slots = directory.iter().flat_map(|place| sectors[place.index()].chunks(32)).filter(|slot| slot[2] != 0);
         let entries: Vec<Entry> = slots.map(|slot| Drawing::entry(sectors, slot)).collect();
@@ -115,24 +115,24 @@ impl<'a> Drawing<'a> {
         Some(drawing)
     }
 
-    fn is_free(&self, place: Place) -> bool {
+    pub(super) fn is_free(&self, place: Place) -> bool {
         let byte = self.map[4 * place.track as usize + 1 + place.sector as usize / 8];
         byte >> (place.sector % 8) & 1 == 1
     }
 
-    fn blocks_free(&self) -> u32 {
+    pub(super) fn blocks_free(&self) -> u32 {
         (1..=35).filter(|&track| track != 18).map(|track| u32::from(self.map[4 * track])).sum()
     }
 }
 
 /// Bytes of the disk without shifted spaces at their end.
-fn unpadded(bytes: &[u8]) -> &[u8] {
+pub(super) fn unpadded(bytes: &[u8]) -> &[u8] {
     let end = bytes.iter().rposition(|&byte| byte != 0xA0).map_or(0, |at| at + 1);
     &bytes[..end]
 }
 
 /// Bytes of the disk as a page shows them.
-struct Html<'a>(&'a [u8]);
+pub(super) struct Html<'a>(pub(super) &'a [u8]);
 
 /// How many bytes a byte takes there.
 fn html_length(byte: u8) -> usize {
@@ -173,7 +173,7 @@ const BLOCKS: [char; 32] = [
 ];
 
 /// A name as a C64 shows it; nothing if that is what is typed.
-struct Signs<'a>(&'a [u8]);
+pub(super) struct Signs<'a>(pub(super) &'a [u8]);
 
 impl Display for Signs<'_> {
     fn fmt(&self, f: &mut Formatter) -> fmt::Result {
@@ -261,7 +261,7 @@ fn put_entry(out: &mut impl Write, drawing: &Drawing, number: usize, entry: &Ent
 }
 
 /// The sectors of a track.
-fn on_track(track: u8) -> impl Iterator<Item = Place> {
+pub(super) fn on_track(track: u8) -> impl Iterator<Item = Place> {
     (0..sectors_of(track)).map(move |sector| Place { track, sector })
 }
 

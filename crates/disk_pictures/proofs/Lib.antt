@@ -1,11 +1,18 @@
 pub mod Apart
+pub mod ChangedRows
+pub mod ComparedAlone
+pub mod ComparedMarkup
 pub mod Counted
 pub mod CountedDrawing
+pub mod Called
+pub mod Counting
 pub mod Drawn
 pub mod DrawnNumbers
 pub mod DrawnOnce
+pub mod FileBytes
 pub mod HowManyDrawn
 pub mod Marks
+pub mod Marking
 pub mod Markups
 pub mod Named
 pub mod Opening
@@ -24,6 +31,7 @@ pub mod SheetMarkup
 pub mod Sides
 pub mod Sound
 pub mod SoundPrinted
+pub mod TileNumbers
 pub mod Told
 pub mod Trimmed
 pub mod Viewed

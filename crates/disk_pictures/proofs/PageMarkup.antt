@@ -38,7 +38,7 @@ behind a x y p = both a a x y (alike a) p
 pub before : (a b x : List ℕ) → IsSameMarkup a b → IsSameMarkup (a ++ x) (b ++ x)
 before a b x p = both a b x x p (alike x)
 
-where-so : (t : Bool) (a b : List ℕ) → IsSameMarkup a b → IsSameMarkup (if t then a else []) (if t then b else [])
+pub where-so : (t : Bool) (a b : List ℕ) → IsSameMarkup a b → IsSameMarkup (if t then a else []) (if t then b else [])
 where-so true a b p = p
 where-so false a b p = alike []
 
@@ -114,7 +114,7 @@ module _ (f g : Show) (same : (bytes : List ℕ) → IsSameMarkup (f bytes) (g b
   unfolding summary_text
   on-summary v map l = before _ _ _ (on-sentence l v)
 
-  on-told : (v : Option Fault) (map : Sector) (l : Layout)
+  pub on-told : (v : Option Fault) (map : Sector) (l : Layout)
       → IsSameMarkup (told_text f v map l) (told_text g v map l)
   unfolding told_text
   on-told v map l =
@@ -130,7 +130,7 @@ module _ (f g : Show) (same : (bytes : List ℕ) → IsSameMarkup (f bytes) (g b
 -- the parts with names as a C64 shows them
 module _ (f g : Show) (same : (bytes : List ℕ) → IsSameMarkup (f bytes) (g bytes)) (s u : Show)
     (alike-signs : (bytes : List ℕ) → IsSameMarkup (s bytes) (u bytes)) where
-  on-title : (map : Sector) → IsSameMarkup (title_text f s map) (title_text g u map)
+  pub on-title : (map : Sector) → IsSameMarkup (title_text f s map) (title_text g u map)
   unfolding title_text
   on-title map =
       let name = disk_name map in
@@ -140,7 +140,7 @@ module _ (f g : Show) (same : (bytes : List ℕ) → IsSameMarkup (f bytes) (g b
       (both (f name) (g name) _ _ (same name)
       (behind (codes "<bdi>") _ _ (before (s name) (u name) _ (alike-signs name)))))))))
 
-  on-link : (k : ℕ) (name : List ℕ) → IsSameMarkup (link_text f s k name) (link_text g u k name)
+  pub on-link : (k : ℕ) (name : List ℕ) → IsSameMarkup (link_text f s k name) (link_text g u k name)
   unfolding link_text
   on-link k name =
       behind (codes "<a href=\"#f") _ _

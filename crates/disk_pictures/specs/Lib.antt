@@ -1,3 +1,6 @@
+pub mod ComparedOutcomes
+pub mod ComparedPages
+pub mod Comparisons
 pub mod Drawings
 pub mod Faults
 pub mod Held
@@ -15,6 +18,7 @@ pub mod Sentences
 pub mod Sharing
 pub mod Sheets
 pub mod Texts
+pub mod TileSectors
 pub mod Tiles
 pub mod Trims
 pub mod Views

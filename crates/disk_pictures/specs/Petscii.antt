@@ -19,7 +19,7 @@ sign_text b (Some c) = encode c
 abbrev pub petscii_byte : ℕ → List ℕ
 petscii_byte b = if nat_lt b 64 then html_byte b else sign_text b (character_of Graphics b)
 
--- the bytes of a name that are shown so: none if that's what is typed
+-- the bytes of a name that are shown so: none if it has no byte whose character ASCII lacks
 abbrev pub signed : List ℕ → List ℕ
 signed bytes = if list_all is_common bytes then [] else bytes
 

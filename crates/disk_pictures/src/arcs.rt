@@ -59,14 +59,14 @@ impl Display for PlaceText {
 
 /// The beginning of a sector's circle on a ring of this radius.
 #[derive(Clone, Copy)]
-struct Ring {
+pub(crate) struct Ring {
     radius: u16,
     place: Place,
 }
 
 impl Ring {
     /// On the ring of its own track.
-    fn of(place: Place) -> Ring
+    pub(crate) fn of(place: Place) -> Ring
         ensures radius { result.radius ≡ radius_of (track_of place) }
         ensures place { result.place ≡ place }
     {

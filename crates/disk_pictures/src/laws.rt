@@ -15,8 +15,9 @@ ghost use Rattle.disk_pictures.specs.Petscii.{petscii_of};
 ghost use Rattle.disk_pictures.specs.Pictures.{drawing_text, page_text, picture_page};
 ghost use Rattle.disk_pictures.specs.Posters.{poster_of, poster_text};
 ghost use Rattle.disk_pictures.specs.Sectors.{as_printed, by_number, drawing_by, times};
-ghost use Rattle.disk_pictures.specs.Sheets.{refused_tile, tile_text};
+ghost use Rattle.disk_pictures.specs.Sheets.{refused_tile, small_drawing, tile_text};
 ghost use Rattle.disk_pictures.specs.Texts.{is_fault_at};
+ghost use Rattle.disk_pictures.specs.TileSectors.{small_by};
 ghost use Rattle.disk_pictures.specs.declared.owners.Owner.{Owner};
 ghost use Rattle.disk_pictures.specs.declared.owners.Owner.TheVariants as kinds;
 
@@ -56,6 +57,17 @@ pub fn pages_have_683_sectors()
         → length (drawing_by by_number show v map l) ≡ 683 }
     ensures once { (img : Image) (l : Layout) → IsDrawn img l → (show : Show) (v : Option Fault) (map : Sector)
         (p : Place) → times (index_of p) (drawing_by by_number show v map l) ≡ 1 }
+{}
+
+/// The small drawing of a tile has 683 sectors, each once: written with the number of its sector in place of each stroke, and
+/// with nothing of all else, it has 683 numbers, and that of each sector once. With each stroke and all else as they are it
+/// is the drawing that is printed.
+pub fn tiles_have_683_sectors()
+    ensures printed { (v : Option Fault) (map : Sector) (l : Layout)
+        → small_by as_printed v map l ≡ small_drawing v map l }
+    ensures all { (v : Option Fault) (map : Sector) (l : Layout) → length (small_by by_number v map l) ≡ 683 }
+    ensures once { (v : Option Fault) (map : Sector) (l : Layout) (p : Place)
+        → times (index_of p) (small_by by_number v map l) ≡ 1 }
 {}
 
 /// What is drawn of an image with a layout is that layout and nothing else: the directory's sectors, and of each entry

@@ -3,6 +3,12 @@
 
 mod arcs;
 mod byte_lines;
+mod changes;
+mod compared;
+mod comparing;
+mod comparison_laws;
+mod counterparts;
+mod differences;
 mod drawing;
 mod drawn_file;
 mod faults;
@@ -34,13 +40,16 @@ mod texts;
 mod tiles;
 mod trimming;
 mod verdicts;
+mod versions;
 mod white_lines;
 
+pub use comparing::compare_images;
+pub use comparison_laws::comparisons_show_what_differs;
 pub use faults::PictureFault;
 pub use free_printing::free_image;
 pub use laws::{
     marks_tell_entries_apart, names_bring_no_markup, pages_have_683_sectors,
-    sectors_are_drawn_once, sound_disks_are_drawn_as_laid_out,
+    sectors_are_drawn_once, sound_disks_are_drawn_as_laid_out, tiles_have_683_sectors,
 };
 pub use map_printing::map_image;
 pub use picture_printing::picture_image;

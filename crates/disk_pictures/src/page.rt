@@ -206,9 +206,11 @@ impl Display for Cells<'_> {
 
 /// The name of an entry, which leads to its group, and beside it as a C64 shows it.
 #[derive(Clone, Copy)]
-struct Link<'a> {
-    number: usize,
-    name: &'a [u8],
+pub(crate) struct Link<'a> {
+    /// The entry's number.
+    pub number: usize,
+    /// The entry's name.
+    pub name: &'a [u8],
 }
 
 impl Display for Link<'_> {

@@ -8,7 +8,7 @@ use petscii_text::{CharacterSet, character};
 use std::fmt::{self, Display, Formatter};
 
 /// A name as a C64 shows it after it was switched on, in Unicode, with `&`, `<` and `>` escaped. Nothing is shown of a name
-/// that looks there as it is typed.
+/// without a byte whose character ASCII lacks.
 #[derive(Clone, Copy)]
 pub(crate) struct Petscii<'a>(pub &'a [u8]);
 
@@ -50,7 +50,7 @@ fn is_typed_so(name: &[u8]) -> bool
     true
 }
 
-/// The bytes of the name that are shown: none if all are shown as they are typed.
+/// The bytes of the name that are shown: none if it has no byte whose character ASCII lacks.
 fn signed(name: &[u8]) -> &[u8]
     ensures { result.now ≡ signed_bytes name.now }
 {

@@ -1,5 +1,5 @@
 //! What is printed of a disk beside its sectors.
-ghost use Rattle.std.specs.Prelude.{◌≡◌, None, Some, if◌then◌else◌};
+ghost use Rattle.std.specs.Prelude.{◌≡◌, ◌≤◌, IfSome, None, Some, if◌then◌else◌};
 ghost use Rattle.disk_layout.specs.Layout.{record_length};
 ghost use Rattle.disk_pictures.specs.Drawings.{file_in};
 ghost use Rattle.disk_pictures.specs.Texts.{has_records, records_in, type_text, verdict_text};
@@ -102,8 +102,9 @@ impl DrawnFile {
 
     /// Its record length and how many whole records its blocks have, where these are told.
     pub(crate) fn records(&self) -> Option<(u8, usize)>
-        ensures { result ≡ (if has_records (file_in self.now)
+        ensures value { result ≡ (if has_records (file_in self.now)
             then Some (record_length self.now.slot, records_in (file_in self.now)) else None) }
+        ensures few { IfSome result (λ records. records.1 ≤ 182880) }
     {
         if !self.has_records() {
             return None;

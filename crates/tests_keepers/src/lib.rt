@@ -8,6 +8,8 @@ mod byte_rows;
 #[cfg(test)]
 mod comparing;
 #[cfg(test)]
+mod comparison_rows;
+#[cfg(test)]
 mod cut_rows;
 #[cfg(test)]
 mod disks;

@@ -129,7 +129,7 @@ pub(crate) fn adler(bytes: &[u8]) -> u32 {
 }
 
 /// Sees that a job ended so: with this fault of the disk told, or with none.
-fn is_found(
+pub(crate) fn is_found(
     rt: &(impl AllocGlobal + Abort),
     ended: Result<Option<Fault>, PictureFault>,
     told: &str,

@@ -1,0 +1,51 @@
+//! A disk of a comparison: its sectors, what is drawn of it, and what a check reports.
+ghost use Rattle.std.specs.Prelude.{◌≡◌, length};
+
+use crate::drawing::Drawing;
+use crate::faults::PictureFault;
+use crate::verdicts::judged;
+use d64_image::Place;
+use disk_layout::Fault;
+use std::alloc::Global;
+
+/// A disk of a comparison.
+#[derive(Drop)]
+pub(crate) struct Compared<'a> {
+    /// Its sectors, in the order of their indices.
+    pub(crate) sectors: &'a [[u8; 256]],
+    /// What is drawn of it.
+    pub(crate) drawing: Drawing,
+    /// What a check of it reports.
+    pub(crate) found: Option<Fault>,
+    pub ghost full: { length sectors.now ≡ 683 },
+}
+
+impl<'a> Compared<'a> {
+    ghost use Rattle.std.specs.Prelude.{◌≢◌, IfErr, IfOk};
+    ghost use Rattle.d64_image.specs.Images.{sector as sector_of};
+    ghost use Rattle.disk_pictures.specs.ComparedOutcomes.{IsDiskOf, disk_in};
+    ghost use Rattle.disk_pictures.specs.Outcomes.{IsPictureFault};
+    ghost use Rattle.disk_pictures.specs.declared.faults.PictureFault.TheVariants as faults;
+
+    /// The disk that has this image.
+    pub(crate) fn of(alloc: Global, image: &'a [u8]) -> Result<Compared<'a>, PictureFault>
+        ensures ok { IfOk result (λ disk. IsDiskOf image.now (disk_in disk)) }
+        ensures err { IfErr result (IsPictureFault image.now) }
+        ensures not_file { IfErr result (λ fault. fault ≢ faults.File) }
+    {
+        let (drawing, found) = judged(alloc, image)?;
+        let (sectors, _) = image.as_chunks::<256>();
+        Ok(Compared {
+            sectors,
+            drawing,
+            found,
+        })
+    }
+
+    /// The bytes of a sector.
+    pub(crate) fn sector(&self, place: Place) -> &[u8; 256]
+        ensures { result.now ≡ sector_of self.now.sectors.now place }
+    {
+        &self.sectors[place.index()]
+    }
+}

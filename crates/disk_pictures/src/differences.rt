@@ -1,0 +1,147 @@
+//! The sectors in which two disks differ, marked and counted.
+ghost use Rattle.std.specs.Prelude.{◌≡◌, ◌≤◌, ◌*◌, IfErr, OnOk, Some, if◌then◌else◌, length, []};
+ghost use Rattle.std.specs.Io.KnownBytes.{Appends};
+ghost use Rattle.std.specs.List.{list_any};
+ghost use Rattle.d64_image.specs.Places.{place_at};
+ghost use Rattle.disk_pictures.specs.ComparedPages.{differences, mark_arc, marks_text};
+ghost use Rattle.disk_pictures.specs.Comparisons.{differs as differs_at, number_of};
+ghost use Rattle.disk_pictures.specs.Texts.{at_place, each_below};
+ghost use Rattle.disk_pictures.specs.declared.faults.PictureFault.TheVariants as faults;
+
+use crate::arcs::Ring;
+use crate::compared::Compared;
+use crate::faults::PictureFault;
+use crate::others::{GROUP_END, SECTORS, TRACKS};
+use crate::output::put;
+use d64_image::Place;
+use std::fmt::{self, Display, Formatter};
+use std::io::Write;
+
+/// The style of what a comparison has beyond a page, and the beginning of the marks.
+const MARKS: &str =
+    "<style>svg>g>g:not(#f):not(.differs){opacity:.4}svg>g>g:target:not(#f){opacity:1}.differs circle{stroke:#000;\
+    stroke-width:320;pointer-events:none}.differs i{color:#000;padding:4px 0}td:nth-child(5){text-align:left;\
+    white-space:normal}@media screen and (prefers-color-scheme:dark){.differs circle{stroke:#fff}\
+    .differs i{color:#fff}}</style>\n<g class=\"differs\">\n";
+
+/// Whether the two disks hold other bytes at a place.
+fn differs(before: &Compared<'_>, after: &Compared<'_>, place: Place) -> bool
+    ensures { result ≡ differs_at before.now.sectors.now after.now.sectors.now place }
+{
+    before.sector(place) != after.sector(place)
+}
+
+/// Whether one of these sectors differs.
+pub(crate) fn are_changed(before: &Compared<'_>, after: &Compared<'_>, places: &[Place]) -> bool
+    ensures { result ≡ list_any (differs_at before.now.sectors.now after.now.sectors.now) places.now }
+{
+    for &place in places {
+        if differs(before, after, place) {
+            return true;
+        }
+    }
+    false
+}
+
+/// How many sectors that differ the track has at this number: one or none.
+fn count_at(before: &Compared<'_>, after: &Compared<'_>, track: u8, sector: u8) -> u16
+    ensures value { result ≡ length (at_place (λ p. if differs_at before.now.sectors.now after.now.sectors.now p
+        then number_of p else []) (place_at track sector)) }
+    ensures few { result ≤ 1 }
+{
+    match Place::new(track, sector) {
+        Some(place) if differs(before, after, place) => 1,
+        _ => 0,
+    }
+}
+
+/// How many sectors of a track differ.
+fn count_on(before: &Compared<'_>, after: &Compared<'_>, track: u8) -> u16
+    ensures value { result ≡ length (each_below 21 (λ sector. at_place (λ p. if differs_at before.now.sectors.now
+        after.now.sectors.now p then number_of p else []) (place_at track sector))) }
+    ensures few { result ≤ 21 }
+{
+    let mut count = 0;
+    for sector in 0..SECTORS {
+        count += count_at(before, after, track, sector);
+    }
+    count
+}
+
+/// How many sectors differ, at most 683.
+pub(crate) fn count(before: &Compared<'_>, after: &Compared<'_>) -> u16
+    ensures { result ≡ differences before.now.sectors.now after.now.sectors.now }
+{
+    let mut count = 0;
+    for below in 0..TRACKS {
+        count += count_on(before, after, below + 1);
+    }
+    count
+}
+
+/// The mark of a sector.
+#[derive(Clone, Copy)]
+struct Mark(Place);
+
+impl Display for Mark {
+    ghost output = { λ mark. Some (mark_arc mark.0) };
+
+    fn fmt<W: fmt::Write>(&self, f: &mut Formatter<W>) -> fmt::Result {
+        writeln!(f, "{}/>", Ring::of(self.0))
+    }
+}
+
+/// Marks a sector, if it differs.
+fn put_mark<W: Write>(
+    out: &mut W,
+    before: &Compared<'_>,
+    after: &Compared<'_>,
+    place: Place,
+) -> Result<(), PictureFault>
+    ensures ok { OnOk result (Appends (W.contents out.old) (W.contents out.new)
+        (if differs_at before.now.sectors.now after.now.sectors.now place then mark_arc place else [])) }
+    ensures err { IfErr result (λ fault. fault ≡ faults.File) }
+{
+    if differs(before, after, place) {
+        put(out, Mark(place))
+    } else {
+        Ok(())
+    }
+}
+
+/// Marks the sectors of a track that differ.
+fn put_marks_on<W: Write>(
+    out: &mut W,
+    before: &Compared<'_>,
+    after: &Compared<'_>,
+    track: u8,
+) -> Result<(), PictureFault>
+    ensures ok { OnOk result (Appends (W.contents out.old) (W.contents out.new)
+        (each_below 21 (λ sector. at_place (λ p. if differs_at before.now.sectors.now after.now.sectors.now p
+        then mark_arc p else []) (place_at track sector)))) }
+    ensures err { IfErr result (λ fault. fault ≡ faults.File) }
+{
+    for sector in 0..SECTORS {
+        if let Some(place) = Place::new(track, sector) {
+            put_mark(out, before, after, place)?;
+        }
+    }
+    Ok(())
+}
+
+/// Marks the sectors that differ, track by track.
+pub(crate) fn put_marks<W: Write>(
+    out: &mut W,
+    before: &Compared<'_>,
+    after: &Compared<'_>,
+) -> Result<(), PictureFault>
+    ensures ok { OnOk result (Appends (W.contents out.old) (W.contents out.new)
+        (marks_text before.now.sectors.now after.now.sectors.now)) }
+    ensures err { IfErr result (λ fault. fault ≡ faults.File) }
+{
+    put(out, MARKS)?;
+    for below in 0..TRACKS {
+        put_marks_on(out, before, after, below + 1)?;
+    }
+    put(out, GROUP_END)
+}
