@@ -11,7 +11,6 @@ use Rattle.host_session.specs.session.Opening.{IsAShop}
 use Rattle.shop_commands.specs.Plays.{IsUntouched}
 use Rattle.shop_commands.specs.declared.faults.RunFault.{RunFault}
 use Rattle.shop_commands.specs.declared.faults.RunFault.TheVariants as run
-use Rattle.ledger_jobs.specs.Columns.{text_in}
 use Rattle.ledger_jobs.specs.Comparisons.{IsComparingRun}
 use Rattle.ledger_jobs.specs.Drawings.{IsDrawingRun}
 use Rattle.ledger_jobs.specs.Ends.{Ended, JobEnd, as_drawn, as_job, end_of, end_status, exit_status, refusal_line}
@@ -23,7 +22,6 @@ use Rattle.ledger_jobs.specs.Runs.{IsNoShop, IsPlayRun, IsReadingEnd}
 use Rattle.ledger_jobs.specs.Views.{IsViewRun, as_viewed}
 use Rattle.ledger_jobs.specs.declared.jobs.Job.{Job}
 use Rattle.ledger_jobs.specs.declared.jobs.Job.TheVariants as jobs
-use Rattle.ledger_jobs.specs.declared.jobs.Columns.{Columns}
 use Rattle.ledger_jobs.specs.declared.jobs.Effect.{Effect}
 use Rattle.ledger_jobs.specs.declared.jobs.Effect.TheVariants as effects
 use Rattle.ledger_jobs.specs.declared.jobs.Loss.{Loss}
@@ -132,13 +130,6 @@ module _ {F : Type 0} (position : F → Option ℕ) (bytes contents : F → Opti
       (λ f left. IsGuarded image loss (IsUntouched f left old new)
       (IsKeptEndOf (IsStoreOver (stream position bytes contents) told image name text f left old new)) end)
 
-  -- the same of lines that have the records so; or there was no memory for these lines, and nothing was done
-  abbrev pub IsStoreJob : (W → Option (List ℕ)) → (image name : List ℕ) → Columns → (text : List ℕ) → Loss → Option F
-      → Option F → W → W → JobEnd → Type 0
-  IsStoreJob told image name c text loss file after old new end =
-      IsStored told image name (text_in c text) loss file after old new end
-      ⊎ ((after ≡ file) × (new ≡ old) × (end ≡ Err (refusals.Run run.NoMemory)))
-
   -- what comes of each job: its run over the bytes that it reads, and over the file that it writes
   abbrev pub IsJobRun : (W → Option (List ℕ)) → Job → (image script : List ℕ) → Option F → Option F → W → W → JobEnd
       → Type 0
@@ -166,7 +157,7 @@ module _ {F : Type 0} (position : F → Option ℕ) (bytes contents : F → Opti
   IsJobRun told (jobs.Make path name L loss) image script file after old new end =
       IsMade told image (name_bytes name) L loss file after old new end
   IsJobRun told (jobs.Store path name text c loss) image script file after old new end =
-      IsStoreJob told image (name_bytes name) c script loss file after old new end
+      IsStored told image (name_bytes name) script loss file after old new end
   IsJobRun told (jobs.Take what path name) image script file after old new end =
       (after ≡ file) × IsTakingEnd told what image (name_bytes name) old new end
   IsJobRun told (jobs.Draw what path) image script file after old new end =

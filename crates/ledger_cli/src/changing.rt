@@ -1,8 +1,7 @@
 //! Jobs that write their image, run over its file.
 ghost use Rattle.std.specs.Prelude.{◌≡◌, ◌≤◌};
 ghost use Rattle.keeper_commands.specs.Makes.{IsNewName};
-ghost use Rattle.ledger_cli.specs.Runs.{IsCopyJob, IsFormatted, IsMade, IsPlayed, IsRepairJob, IsRepaired, IsServed};
-ghost use Rattle.ledger_cli.specs.Runs.{IsStoreJob, IsStored};
+ghost use Rattle.ledger_cli.specs.Runs.{IsCopyJob, IsFormatted, IsMade, IsPlayed, IsRepairJob, IsRepaired, IsServed, IsStored};
 ghost use Rattle.ledger_cli.specs.Runs.{frees as frees_of};
 ghost use Rattle.ledger_jobs.specs.Ends.{as_job, end_of};
 ghost use Rattle.ledger_jobs.specs.Names.{name_bytes};
@@ -13,10 +12,9 @@ use crate::playing::play_written;
 use crate::stream::{begin, file_of};
 use disk_layout::Fault;
 use host_session::Printer;
-use keeper_commands::plain_lines;
 use ledger_jobs::{
-    Columns, Effect, Loss, Name, Refusal, Unowned, dry_repair_guarded, job_end, loss_refusal,
-    make_guarded, repair_guarded, serve_run, store_guarded,
+    Effect, Loss, Name, Refusal, Unowned, dry_repair_guarded, job_end, loss_refusal, make_guarded,
+    repair_guarded, serve_run, store_guarded,
 };
 use shop_commands::RunFault;
 use std::alloc::Global;
@@ -196,7 +194,7 @@ pub(crate) fn make<F: Write + Seek + Drop, W: Write>(
 }
 
 /// Stores records in a relative file of the image, over its file.
-fn store<F: Write + Seek + Drop, W: Write>(
+pub(crate) fn store<F: Write + Seek + Drop, W: Write>(
     alloc: Global,
     image: &[u8],
     name: &Name,
@@ -215,28 +213,5 @@ fn store<F: Write + Seek + Drop, W: Write>(
             (file_of(stream), ended)
         }
         Err((fault, file)) => (file, Err(Refusal::Run(fault))),
-    }
-}
-
-/// Stores records in a relative file of the image, over its file, from lines that have them so.
-pub(crate) fn store_columns<F: Write + Seek + Drop, W: Write>(
-    alloc: Global,
-    image: &[u8],
-    name: &Name,
-    columns: Columns,
-    records: &[u8],
-    loss: Loss,
-    file: Option<F>,
-    out: &mut W,
-) -> (Option<F>, Ended)
-    ensures { IsStoreJob F.stream_position F.stream_bytes F.contents W.contents image.now (name_bytes name.now) columns
-        records.now loss file result.0 out.old out.new result.1 }
-{
-    match columns {
-        Columns::One => store(alloc, image, name, records, loss, file, out),
-        Columns::Fields => match plain_lines(alloc, records) {
-            Ok(plain) => store(alloc, image, name, plain.as_slice(), loss, file, out),
-            Err(_) => (file, Err(Refusal::Run(RunFault::NoMemory))),
-        },
     }
 }

@@ -3,7 +3,7 @@ ghost use Rattle.std.specs.Prelude.{◌≡◌, Option};
 ghost use Rattle.ledger_cli.specs.Runs.{IsJobRun, IsRead, IsRun};
 ghost use Rattle.ledger_jobs.specs.Jobs.{IsFit};
 
-use crate::changing::{Ended, copy, format, make, play, repair, serve, store_columns};
+use crate::changing::{Ended, copy, format, make, play, repair, serve, store};
 use ledger_jobs::{
     Job, Reading, Refusal, comparing_run, drawing_run, drawn_end, end, job_end, reading_run,
     take_told, view_run, viewed_end,
@@ -53,12 +53,7 @@ fn obey<F: Write + Seek + Drop, W: Write>(
             loss,
             ..
         } => make(alloc, image, name, length, loss, file, out),
-        Job::Store {
-            ref name,
-            columns,
-            loss,
-            ..
-        } => store_columns(alloc, image, name, columns, script, loss, file, out),
+        Job::Store { ref name, loss, .. } => store(alloc, image, name, script, loss, file, out),
         Job::Take { what, ref name, .. } => {
             let ended = take_told(alloc, what, image, name.as_bytes(), out);
             (file, ended)
@@ -77,7 +72,9 @@ fn obey<F: Write + Seek + Drop, W: Write>(
 
 /// Does a job over the bytes of its files, prints what it prints, reports in a line on `err` why it isn't done, and
 /// returns the exit status and the file. Bytes that the job doesn't read are empty: `image` are those of IMAGE, `script`
-/// those of SCRIPT or RECORDS, or of `serve`'s standard input; `Compare` has the first image and the second one there. `file` is IMAGE for writing, at its start, for a job that
+/// those of SCRIPT or RECORDS, or of `serve`'s standard input; lines with a column for each field are made plain before
+/// (`plain_lines` of `keeper_commands`). `Compare` has the first image and the second one there. `file` is IMAGE for writing,
+/// at its start, for a job that
 /// writes it, and the copy for `Copy`; without one such a job ends with 3 and `FILE`, and nothing is printed. A job that
 /// only reads leaves it as it was. There are no logs: `Serve` writes the image itself, whatever way the job says.
 /// A job over several images ends with 3 and `FILE`, since only one has its bytes here: call `overview_run` for each.
