@@ -2,7 +2,7 @@
 use crate::given::Given;
 use crate::memory::{Errors, Memory, add};
 use crate::opened::{Opened, open_stored};
-use crate::stored::failed;
+use crate::stored::{Kind, failed};
 use std::alloc::{Allocator, Global};
 use std::env::FillError;
 use std::fmt::{Display, Write as _};
