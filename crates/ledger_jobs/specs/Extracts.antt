@@ -11,22 +11,23 @@ use Rattle.keeper_commands.specs.declared.faults.KeepFault.TheVariants as keep
 use Rattle.shop_commands.specs.declared.faults.RunFault.TheVariants as run
 use Rattle.ledger_jobs.specs.Ends.{JobEnd}
 use Rattle.ledger_jobs.specs.Losses.{IsSeen}
+use Rattle.ledger_jobs.specs.declared.refusals.Refusal.{Refusal}
 use Rattle.ledger_jobs.specs.declared.refusals.Refusal.TheVariants as refusals
 
--- that all is done was said, or the output failed
-abbrev pub IsDoneTold : {W : Type 0} → (W → Option (List ℕ)) → W → W → JobEnd → Type 0
-IsDoneTold contents old new end =
+-- why the files aren't all made and whole: the fault for which they weren't made, the first fault of what was, or that a
+-- file is cut short there
+abbrev pub refusal_of : Result (Option Fault) KeepFault → Option Place → Option Refusal
+refusal_of (Ok None) None = None
+refusal_of (Ok None) (Some p) = Some (refusals.Short p)
+refusal_of (Ok (Some fault)) cut = Some (refusals.Keep (keep.Layout fault))
+refusal_of (Err fault) cut = Some (refusals.Keep fault)
+
+-- How it is told that the job is refused, or that it isn't: then that is said, or the output failed
+abbrev pub IsExtractTold : {W : Type 0} → (W → Option (List ℕ)) → Option Refusal → W → W → JobEnd → Type 0
+IsExtractTold contents (Some refusal) old new end = (end ≡ Err refusal) × (new ≡ old)
+IsExtractTold contents None old new end =
     ((end ≡ Ok None) × Appends (contents old) (contents new) (codes "EXTRACTED\n"))
     ⊎ ((end ≡ Err (refusals.Run run.File)) × AppendsPart (contents old) (contents new) (codes "EXTRACTED\n"))
-
--- How it is told that the files were made, with this first fault, or weren't; and that a file is cut short there, or none
-abbrev pub IsExtractTold : {W : Type 0} → (W → Option (List ℕ)) → Result (Option Fault) KeepFault → Option Place → W → W
-    → JobEnd → Type 0
-IsExtractTold contents (Ok None) None old new end = IsDoneTold contents old new end
-IsExtractTold contents (Ok None) (Some p) old new end = (end ≡ Err (refusals.Short p)) × (new ≡ old)
-IsExtractTold contents (Ok (Some fault)) cut old new end =
-    (end ≡ Err (refusals.Keep (keep.Layout fault))) × (new ≡ old)
-IsExtractTold contents (Err fault) cut old new end = (end ≡ Err (refusals.Keep fault)) × (new ≡ old)
 
 -- All files of the image were made in the folder, or not all for a fault; and that was told, with what is seen of files
 -- that are cut short. Or there was no memory to see that, and nothing was done.
@@ -36,4 +37,4 @@ IsExtractEnd files contents image folder left old new end =
     ((end ≡ Err (refusals.Run run.NoMemory)) × (left ≡ folder) × (new ≡ old))
     ⊎ ((ended : Result (Option Fault) KeepFault) × (cut : Option Place)
     × MatchResult ended (IsExtracted files image folder left) (IsExtractFault files image folder left)
-    × IsSeen image None cut × IsExtractTold contents ended cut old new end)
+    × IsSeen image None cut × IsExtractTold contents (refusal_of ended cut) old new end)

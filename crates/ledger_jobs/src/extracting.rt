@@ -1,5 +1,6 @@
 //! All files of an image, taken out to a folder that is new.
-ghost use Rattle.ledger_jobs.specs.Extracts.{IsExtractEnd, IsExtractTold};
+ghost use Rattle.std.specs.Prelude.{◌≡◌};
+ghost use Rattle.ledger_jobs.specs.Extracts.{IsExtractEnd, IsExtractTold, refusal_of};
 
 use crate::dispatch::image_at;
 use crate::losses::{cut_in, run_end};
@@ -83,23 +84,33 @@ where
     }
 }
 
-/// Prints `EXTRACTED` if all files of an image were made, each is whole and none is cut short; otherwise nothing. Returns
-/// how the job ended.
-fn tell_extracted<W: Write>(
+/// Why the files of an image aren't all made and whole: the fault for which they weren't made, the first fault of what
+/// was, or that a file is cut short there.
+fn extract_refusal(
     ended: Result<Option<Fault>, KeepFault>,
     cut: Option<Place>,
+) -> Option<Refusal>
+    ensures { result ≡ refusal_of ended cut }
+{
+    match (ended, cut) {
+        (Ok(None), None) => None,
+        (Ok(None), Some(place)) => Some(Refusal::Short(place)),
+        (Ok(Some(fault)), _) => Some(Refusal::Keep(KeepFault::Layout(fault))),
+        (Err(fault), _) => Some(Refusal::Keep(fault)),
+    }
+}
+
+/// Prints `EXTRACTED`, unless the job is refused. Returns how it ended.
+fn tell_extracted<W: Write>(
+    refused: Option<Refusal>,
     out: &mut W,
 ) -> Result<Option<Fault>, Refusal>
-    ensures { IsExtractTold W.contents ended cut out.old out.new result }
+    ensures { IsExtractTold W.contents refused out.old out.new result }
 {
-    match ended {
-        Ok(None) => match cut {
-            None => run_end(put_whole(out, b"EXTRACTED\n")),
-            Some(place) => Err(Refusal::Short(place)),
-        },
-        Ok(Some(fault)) => Err(Refusal::Keep(KeepFault::Layout(fault))),
-        Err(fault) => Err(Refusal::Keep(fault)),
+    if let Some(refusal) = refused {
+        return Err(refusal);
     }
+    run_end(put_whole(out, b"EXTRACTED\n"))
 }
 
 /// Makes all files of an image in a folder, as `extract_image` does, and prints `EXTRACTED` if all are whole. Otherwise
@@ -115,7 +126,7 @@ pub fn extract_run<N: NewFolder, W: Write>(
 {
     let cut = cut_in(alloc, image, None)?;
     let ended = extract_image(alloc, image, folder);
-    tell_extracted(ended, cut, out)
+    tell_extracted(extract_refusal(ended, cut), out)
 }
 
 /// Makes all files of the image at a path, as its shop is now, in a folder at another, where nothing may stand.

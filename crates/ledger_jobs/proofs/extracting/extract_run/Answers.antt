@@ -19,5 +19,5 @@ returns g c = inr (
   c.in_ok-cut.cut,
   either c.extract_image-ended.result c.extract_image-ended.ensures.ok c.extract_image-ended.ensures.err,
   c.in_ok-cut.ensures.ok,
-  c.tell_extracted.ensures,
+  rw (← c.extract_refusal.ensures) c.tell_extracted.ensures,
 )
