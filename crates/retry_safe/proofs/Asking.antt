@@ -42,6 +42,7 @@ module _ {D : Type 0} (h : History D) (s : Shop) (message : List ℕ) (disk : D)
         held = then h disk old.disk new.disk (IsBeforeOrAfter s message) (before old.disk moments)
             (k.moments s rest.shop).held;
         later = omega (arith, same, later k alive);
+        writes = omega (arith, moments.writes, (k.moments s rest.shop).writes);
       }
     where
       later : IsHandled h old new message told → old.dead ≡ false → h.failures old.disk ≤ h.failures new.disk
@@ -59,6 +60,7 @@ module _ {D : Type 0} (h : History D) (s : Shop) (message : List ℕ) (disk : D)
     answer = tt;
     held = before d moments;
     later = later;
+    writes = omega (arith, moments.writes);
   }
 
 -- what isn't told has any consequence

@@ -1,7 +1,8 @@
 mod Asking
+mod Counted
 pub mod Examples
 mod Played
-mod Received
+pub mod Received
 mod Repeats
-mod Safe
+pub mod Safe
 mod Unfit

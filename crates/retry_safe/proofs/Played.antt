@@ -35,14 +35,14 @@ module _ {D : Type 0} (h : History D) (s : Shop) (ms : List Message) (n : ℕ) (
       (held_beneath h a b P held)
 
   -- some of the messages were played, from the first on
-  pub of_played : (begun rest : List Message) (told : List Reply) (fails : List Bool) (counted : List (List Ask))
+  pub of_played : fuse_limit a ≡ n → (begun rest : List Message) (told : List Reply) (fails : List Bool) (counted : List (List Ask))
       → begun ++ rest ≡ ms → new ≡ old ++ told → IsCounted (start_of s) [] begun fails counted
       → told ≡ answers (start_of s) [] begun fails counted
       → IsShop (h.image (fuse_disk b)) (with_state s (plain (start_of s) (all_of counted)))
       → HeldBeginnings (fuse h) s ms a b
       → (AreUncut ms → most_of_run (length ms) < n → NeverFailed h (fuse_disk a) (fuse_disk b) → begun ≡ ms)
       → IsLeft h s ms n (fuse_disk a) (fuse_disk b) old new
-  of_played begun rest told fails counted parts put is told_is shop held all =
+  of_played limit begun rest told fails counted parts put is told_is shop held all =
       let start = start_of s in
       let turns = turns_of start [] begun fails counted in
       let messages = messages_are start [] begun fails counted is in
@@ -57,6 +57,7 @@ module _ {D : Type 0} (h : History D) (s : Shop) (ms : List Message) (n : ℕ) (
             (counted_are start [] begun fails counted is) shop;
         held = on_the_way held;
         later = held.reached.failures;
+        writes = omega (arith, held.reached.writes, held.reached.limit, limit, b.within);
       }
 
   -- where the fuse has enough for all, and the disk beneath doesn't fail, no call failed
@@ -75,33 +76,33 @@ module _ {D : Type 0} (h : History D) (s : Shop) (ms : List Message) (n : ℕ) (
       not_blown blown = omega (arith, blown, held.reached.limit, left, limit, bounded, more, a.within, b.within)
 
   -- the run was played to its end
-  pub played_whole : (told : List Reply) → new ≡ old ++ told → (p : IsPlayedWhole (fuse h) s ms a b told)
+  pub played_whole : fuse_limit a ≡ n → (told : List Reply) → new ≡ old ++ told → (p : IsPlayedWhole (fuse h) s ms a b told)
       → HeldBeginnings (fuse h) s ms a b → IsLeft h s ms n (fuse_disk a) (fuse_disk b) old new
-  played_whole told put p held =
-      of_played ms [] told p.fails p.counted (append-nil ms) put p.is p.told_is p.ends.shop held (λ _ _ _. refl)
+  played_whole limit told put p held =
+      of_played limit ms [] told p.fails p.counted (append-nil ms) put p.is p.told_is p.ends.shop held (λ _ _ _. refl)
 
   -- power went, or the device failed, in a message
-  pub played_in_part : (told : List Reply) → new ≡ old ++ told → (p : StoppedByDevice (fuse h) s ms a b told)
+  pub played_in_part : fuse_limit a ≡ n → (told : List Reply) → new ≡ old ++ told → (p : StoppedByDevice (fuse h) s ms a b told)
       → HeldBeginnings (fuse h) s ms a b
       → (AreUncut ms → most_of_run (length ms) < n → NeverFailed h (fuse_disk a) (fuse_disk b) → ⊥)
       → IsLeft h s ms n (fuse_disk a) (fuse_disk b) old new
-  played_in_part told put p held not =
-      of_played p.begun p.rest told p.played.fails p.played.counted p.parts put p.played.is p.played.told_is p.played.ends
+  played_in_part limit told put p held not =
+      of_played limit p.begun p.rest told p.played.fails p.played.counted p.parts put p.played.is p.played.told_is p.played.ends
       held (λ uncut more never. absurd (not uncut more never))
 
   -- or in the opening
-  pub not_played : new ≡ old → IsShop (h.image (fuse_disk b)) s → HeldBeginnings (fuse h) s ms a b
+  pub not_played : fuse_limit a ≡ n → new ≡ old → IsShop (h.image (fuse_disk b)) s → HeldBeginnings (fuse h) s ms a b
       → (AreUncut ms → most_of_run (length ms) < n → NeverFailed h (fuse_disk a) (fuse_disk b) → ⊥)
       → IsLeft h s ms n (fuse_disk a) (fuse_disk b) old new
-  not_played same shop held not =
-      of_played [] ms [] [] [] refl (same ∙ sym (append-nil old)) tt refl
+  not_played limit same shop held not =
+      of_played limit [] ms [] [] [] refl (same ∙ sym (append-nil old)) tt refl
       (subst (λ state. IsShop (h.image (fuse_disk b)) (with_state s state)) (sym (plain_nil (start_of s))) shop)
       held (λ uncut more never. absurd (not uncut more never))
 
   -- the three ends of a run
-  pub after_ok : (room : ℕ) → PlaysEvents (fuse h) ms a room old new (Ok b) → IsShop (h.image (fuse_disk a)) s
+  pub after_ok : (room : ℕ) → PlaysEvents (fuse h) ms a room old new (Ok b) → fuse_limit a ≡ n → IsShop (h.image (fuse_disk a)) s
       → IsLeft h s ms n (fuse_disk a) (fuse_disk b) old new
-  after_ok room k shop = let x = k.ok s shop in played_whole x.0 x.1 x.2 (k.moments s shop)
+  after_ok room k limit shop = let x = k.ok s shop in played_whole limit x.0 x.1 x.2 (k.moments s shop)
 
   pub after_device : (room : ℕ) (fault : PlayFault) → fault ≡ faults.Device
       → PlaysEvents (fuse h) ms a room old new (Err (fault, b))
@@ -110,7 +111,7 @@ module _ {D : Type 0} (h : History D) (s : Shop) (ms : List Message) (n : ℕ) (
   after_device room fault is k left limit fresh shop =
       let x = k.device s shop is in
       let held = k.moments s shop in
-      played_in_part x.0 x.1 x.2 held (λ uncut more never.
+      played_in_part limit x.0 x.1 x.2 held (λ uncut more never.
       let e : faults.Device ≡ faults.NoMemory = sym is ∙ k.plays (s, shop)
       (enough left limit fresh held (k.writes s shop uncut) more never) in
       absurd cc)
@@ -122,7 +123,7 @@ module _ {D : Type 0} (h : History D) (s : Shop) (ms : List Message) (n : ℕ) (
   after_opening room fault f is k left limit fresh shop =
       let held = k.moments s shop in
       let refused = k.«open» f is in
-      not_played (k.silent (λ e. let z : faults.Open f ≡ faults.Device = sym is ∙ e in absurd cc))
+      not_played limit (k.silent (λ e. let z : faults.Open f ≡ faults.Device = sym is ∙ e in absurd cc))
       (at_end (fuse h) a b (λ c. IsShop c s) (refused.same s shop).held) held (λ uncut more never.
       let e : faults.Open f ≡ faults.NoMemory = sym is ∙ k.plays (s, shop)
       (enough left limit fresh held (k.writes s shop uncut) more never) in

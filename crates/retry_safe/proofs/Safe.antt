@@ -26,7 +26,7 @@ use Rattle.retry_safe.specs.RetrySafe.{IfAnswered, IsAnswered, IsOpened, Reopene
 use Rattle.retry_safe.specs.Turns.{IsLastOfTill, Turn, asks_in, counted_in}
 
 -- the reply to a message looks at the limits of the shop alone
-replies_on : (s : Shop) (state : State) (o : Option Ask)
+pub replies_on : (s : Shop) (state : State) (o : Option Ask)
     → reply_in (start_of (with_state s state)) state o ≡ reply_in (start_of s) state o
 replies_on s state None = refl
 replies_on s state (Some a) = refl
@@ -37,7 +37,7 @@ parted : (turns first later : List Turn) (t : Turn) → turns ≡ first ++ t ∷
 parted turns first later t is = ap counted_in is ∙ flat_map-append (λ (x : Turn). x.counted) first (t ∷ later)
 
 -- a repeat is told what it was told first
-repeats : (s : Shop) (turns : List Turn) (again : List ℕ) (before : List Ask) → IsLastOfTill again before turns
+pub repeats : (s : Shop) (turns : List Turn) (again : List ℕ) (before : List Ask) → IsLastOfTill again before turns
     → reply (start_of s) (counted_in turns) (request_of again) ≡ reply (start_of s) before (request_of again)
 repeats s turns again before x =
     let start = start_of s in
@@ -51,16 +51,16 @@ repeats s turns again before x =
     ∙ ap (λ (o : Option Ask). reply start before o) (sym x.is)
 
 -- where the till was answered, one fact gives another
-answered_so : {D : Type 0} (result : Reopened D) (P Q : D → Reply → Type 0) → ((d : D) (r : Reply) → P d r → Q d r)
+pub answered_so : {D : Type 0} (result : Reopened D) (P Q : D → Reply → Type 0) → ((d : D) (r : Reply) → P d r → Q d r)
     → IfAnswered result P → IfAnswered result Q
 answered_so (Ok x) P Q f p = λ not. f x.0.disk x.1 (p not)
 answered_so (Err e) P Q f p = tt
 
-opened_so : {D : Type 0} (result : Reopened D) → IsOpened result → IsAnswered result
+pub opened_so : {D : Type 0} (result : Reopened D) → IsOpened result → IsAnswered result
 opened_so (Ok x) o = o
 opened_so (Err e) o = absurd o
 
-all_so : {D : Type 0} (result : Reopened D) (P : Type 0) → P → IfAnswered result (λ _ _. P)
+pub all_so : {D : Type 0} (result : Reopened D) (P : Type 0) → P → IfAnswered result (λ _ _. P)
 all_so (Ok x) P p = λ _. p
 all_so (Err e) P p = tt
 

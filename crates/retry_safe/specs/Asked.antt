@@ -1,5 +1,5 @@
 -- What comes of a message on a disk that is opened for it. All of it is our own.
-use Rattle.std.specs.Prelude.{◌≡◌, ◌≤◌, ℕ, List}
+use Rattle.std.specs.Prelude.{◌≡◌, ◌≤◌, ◌+◌, ℕ, List}
 use Rattle.d64_image.specs.History.{History, NeverFailed}
 use Rattle.host_session.specs.Held.{HeldOnly}
 use Rattle.host_session.specs.session.Handling.{IsBeforeOrAfter, after_of}
@@ -16,3 +16,5 @@ pub record IsAsked {D : Type 0} (h : History D) (s : Shop) (message : List ℕ) 
         × IsSettled (h.image d) (after_of s message))
     pub held : HeldOnly h disk (left_of result) (IsBeforeOrAfter s message)
     pub later : h.failures disk ≤ h.failures (left_of result)
+    -- 952 sectors in the opening, and 3618 in the message
+    pub writes : h.writes (left_of result) ≤ h.writes disk + 4570

@@ -1,5 +1,5 @@
 -- What a run leaves in which power goes for good. All of it is our own.
-use Rattle.std.specs.Prelude.{◌≡◌, ◌≤◌, ◌<◌, ◌++◌, ℕ, List, [], length, map}
+use Rattle.std.specs.Prelude.{◌≡◌, ◌≤◌, ◌<◌, ◌+◌, ◌++◌, ℕ, List, [], length, map}
 use Rattle.d64_image.specs.History.{History, NeverFailed}
 use Rattle.d64_image.specs.Images.{Image}
 use Rattle.host_session.specs.Held.{HeldOnly}
@@ -36,3 +36,4 @@ pub record IsLeft {D : Type 0} (h : History D) (s : Shop) (events : List Message
   pub shop : IsShop (h.image left) (with_state s (plain (start_of s) (counted_in turns)))
   pub held : HeldOnly h disk left (IsOfShop s)
   pub later : h.failures disk ≤ h.failures left
+  pub writes : h.writes left ≤ h.writes disk + power

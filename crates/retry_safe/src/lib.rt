@@ -5,4 +5,4 @@ mod power_loss;
 #[cfg(test)]
 mod tests;
 
-pub use power_loss::retry_after_power_loss;
+pub use power_loss::{ask, retry_after_power_loss};

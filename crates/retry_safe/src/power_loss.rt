@@ -1,5 +1,5 @@
 //! A run that power ends, and what its shop's disk is afterwards.
-ghost use Rattle.std.specs.Prelude.{◌≡◌, ◌≢◌, ◌≤◌, IfErr, IfOk, IsErr, map};
+ghost use Rattle.std.specs.Prelude.{◌≡◌, ◌≢◌, ◌≤◌, ◌+◌, IfErr, IfOk, IsErr, map, sum};
 ghost use Rattle.host_session.specs.Held.{HeldOnly};
 ghost use Rattle.host_session.specs.declared.runs.plays.PlayFault.TheVariants as faults;
 ghost use Rattle.host_session.specs.events.Events.{message_of};
@@ -37,6 +37,8 @@ fn play_until<D: Sectors>(
 fn open_until<D: Sectors>(disk: D, power: u32) -> D
     ensures moments { (s : Shop) → IsShop (D.history.image disk) s → HeldOnly D.history disk result (λ c. IsShop c s) }
     ensures later { (s : Shop) → IsShop (D.history.image disk) s → D.history.failures disk ≤ D.history.failures result }
+    ensures writes { (s : Shop) → IsShop (D.history.image disk) s
+        → D.history.writes result ≤ D.history.writes disk + power }
     ensures unfit { (IsAShop (D.history.image disk) → ⊥) → IsKept D.history disk result }
 {
     match Session::open(Fuse::new(disk, power)) {
@@ -49,6 +51,8 @@ fn open_until<D: Sectors>(disk: D, power: u32) -> D
 fn open_until_each<D: Sectors>(disk: D, recoveries: &[u32]) -> D
     ensures moments { (s : Shop) → IsShop (D.history.image disk) s → HeldOnly D.history disk result (λ c. IsShop c s) }
     ensures later { (s : Shop) → IsShop (D.history.image disk) s → D.history.failures disk ≤ D.history.failures result }
+    ensures writes { (s : Shop) → IsShop (D.history.image disk) s
+        → D.history.writes result ≤ D.history.writes disk + sum recoveries.now }
     ensures unfit { (IsAShop (D.history.image disk) → ⊥) → IsKept D.history disk result }
 {
     let mut disk = disk;
@@ -59,7 +63,9 @@ fn open_until_each<D: Sectors>(disk: D, recoveries: &[u32]) -> D
 }
 
 /// Opens the disk, and answers a message.
-fn ask<D: Sectors>(disk: D, message: &[u8]) -> Result<(Session<D>, Reply), (PlayFault, D)>
+///
+/// `Open`: the disk is no shop's, or the device failed.
+pub fn ask<D: Sectors>(disk: D, message: &[u8]) -> Result<(Session<D>, Reply), (PlayFault, D)>
     ensures asked { (s : Shop) → IsShop (D.history.image disk) s → IsAsked D.history s message.now disk result }
     ensures unfit { (IsAShop (D.history.image disk) → ⊥)
         → IsErr result × IsKept D.history disk (left_of result) }
@@ -94,6 +100,10 @@ pub fn retry_after_power_loss<D: Sectors>(
     ensures safe { (s : Shop) → IsShop (D.history.image disk) s
         → RetrySafe D.history s (map message_of events.now) power again.now disk
         replies.old.items replies.new.items result }
+    // power stays away: no more is written than it lets pass in the run and in each opening of `recoveries`, and behind
+    // them 952 sectors in the last opening and 3618 in the message
+    ensures writes { (s : Shop) → IsShop (D.history.image disk) s → D.history.writes (left_of result)
+        ≤ D.history.writes disk + power + sum recoveries.now + 4570 }
     // what is no shop's disk is refused, and isn't written
     ensures unfit { (IsAShop (D.history.image disk) → ⊥)
         → IsErr result × IsKept D.history disk (left_of result) }

@@ -1,7 +1,7 @@
 //! The call on a disk in memory, with power that goes after each number of writes that a first set can take. What a till
 //! is told comes from the trade rule, by hand.
 use crate::retry_after_power_loss;
-use d64_image::MemDisk;
+use d64_image::{MemDisk, Meter};
 use disk_layout::blank_image;
 use host_session::Event;
 use request_cards::Reply;
@@ -38,4 +38,39 @@ fn a_repeat_hears_the_kept_answer_wherever_power_goes(rt: HostRuntime) {
         let _disk = session.close();
         assert_eq!(rt; on_hand, Ok(Some(7)));
     }
+}
+
+/// How many sectors are written in all, where power goes after each number of a first set's writes, and then in these
+/// openings.
+fn written(rt: &(impl Abort + AllocGlobal), recoveries: &[u32]) -> u64 {
+    let set = [Event {
+        message: b"1,1,S,15,7",
+        cut: None,
+    }];
+    let mut all: u64 = 0;
+    for power in 0..12 {
+        let mut replies: Vec<Reply> = Vec::new(rt.alloc());
+        let disk = Meter::new(fresh(rt));
+        let ran = retry_after_power_loss(
+            disk,
+            &set,
+            power,
+            recoveries,
+            b"1,1,S,15,7",
+            &mut replies,
+        );
+        let Ok((session, _)) = ran else {
+            panic!(rt; "not opened");
+        };
+        all = all.wrapping_add(session.close().writes());
+    }
+    all
+}
+
+#[test]
+fn each_listed_opening_is_made(rt: HostRuntime) {
+    let without = written(&rt, &[]);
+    // what it wrote before power went is written once more
+    let is_more = written(&rt, &[1]) > without;
+    assert_eq!(rt; is_more, true);
 }

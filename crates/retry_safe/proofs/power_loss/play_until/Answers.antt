@@ -14,7 +14,7 @@ returns-in-Ok-clause-left g c = λ s shop.
     let b = c.in-Ok.fuse in
     let there = subst (λ d. IsShop (h.image d) s) (sym c.new.ensures.disk) shop in
     beneath h s ms c.args.power c.new.result b _ _ c.args.disk c.into_inner.result c.new.ensures.disk
-    c.into_inner.ensures (after_ok h s ms c.args.power c.new.result b _ _ _ c.in-Ok.ensures there)
+    c.into_inner.ensures (after_ok h s ms c.args.power c.new.result b _ _ _ c.in-Ok.ensures c.new.ensures.limit there)
 
 pub returns-in-Err-Open-default-clause-left : goal.returns-in-Err-Open-default-clause-left
 returns-in-Err-Open-default-clause-left g c = λ s shop.

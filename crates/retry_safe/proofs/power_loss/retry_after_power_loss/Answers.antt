@@ -1,5 +1,5 @@
 -- The promise, of the three steps.
-use Rattle.std.proofs.Common.{refl, subst, sym, ◌≡◌}
+use Rattle.std.proofs.Common.{ap, arith, refl, subst, sym, ◌≡◌}
 use Rattle.host_session.specs.declared.runs.plays.PlayFault.TheVariants as faults
 use Rattle.host_session.specs.events.Events.{message_of}
 use Rattle.host_session.proofs.lemmas.Held.{at_end}
@@ -20,6 +20,14 @@ returns-in-Ok g c =
           c.open_until_each.result _ _ c.ask.result left (c.open_until_each.ensures.moments _ left.shop)
           (c.open_until_each.ensures.later _ left.shop)
           (c.ask.ensures.asked _ (at_end h _ _ _ (c.open_until_each.ensures.moments _ left.shop)));
+      writes = λ s shop.
+          let left = c.in-Ok.ensures.left s shop in
+          omega (
+            arith,
+            left.writes,
+            c.open_until_each.ensures.writes _ left.shop,
+            (c.ask.ensures.asked _ (at_end h _ _ _ (c.open_until_each.ensures.moments _ left.shop))).writes,
+          );
       unfit = λ none.
           let first = c.in-Ok.ensures.unfit none in
           let opened = kept_then h _ _ _ first (c.open_until_each.ensures.unfit (no_shop_yet h _ _ first none)) in
@@ -36,6 +44,7 @@ returns-in-Err g c =
       safe = λ s shop.
           no_memory h s (map message_of c.args.events.now) c.args.power c.args.again.now c.args.disk c.in-Err.disk _ _ shop
           kept.0 kept.1;
+      writes = λ s shop. omega (arith, ap h.writes kept.0);
       unfit = λ none. (refl, subst (IsKept h c.args.disk) (sym kept.0) (kept_none h c.args.disk));
       memory = λ is. kept;
     }
