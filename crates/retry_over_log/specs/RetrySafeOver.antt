@@ -1,0 +1,87 @@
+-- The promise of the product for a shop that is served over a log, as one record. All of it is our own.
+use Rattle.std.specs.Prelude.{◌≡◌, ◌⊎◌, ◌≤◌, ◌+◌, ◌++◌, ℕ, List, [], ◌∷◌, OnSome, Option, length, map}
+use Rattle.std.specs.Prelude.{option_to_list, true}
+use Rattle.std.specs.Io.KnownBytes.{Consumes, IsAtEnd}
+use Rattle.d64_image.specs.Images.{Image}
+use Rattle.d64_image.specs.Memory.{disk_image}
+use Rattle.d64_image.specs.declared.mem_disk.MemDisk.{MemDisk}
+use Rattle.disk_layout.specs.Clean.{IsClean}
+use Rattle.host_session.specs.events.Events.{uncut}
+use Rattle.host_session.specs.runs.Chains.{told_in}
+use Rattle.host_session.specs.shop.Shop.{IsSettled, IsShop, Shop, start_of, with_state}
+use Rattle.line_server.specs.Batches.{BatchInput}
+use Rattle.line_server.specs.Read.{AreWhole, LacksLf}
+use Rattle.log_server.specs.Reporting.{IsToldTo, LogOutput}
+use Rattle.log_server.specs.Serves.{AreFirst}
+use Rattle.request_cards.specs.Ledgers.{plain, replies, reply}
+use Rattle.request_cards.specs.Reading.{request_of}
+use Rattle.request_cards.specs.Requests.{Ask}
+use Rattle.request_cards.specs.declared.reply.Reply.{Reply}
+use Rattle.retry_safe.specs.Left.{IsReceived}
+use Rattle.retry_safe.specs.RetrySafe.{IfAnswered, IsAnswered, Reopened}
+use Rattle.retry_safe.specs.Turns.{Answered, CountsOnce, EachTurn, IsLastOfTill, Turn, asks_in, counted_in}
+use Rattle.script_lines.specs.Lines.{lines}
+use Rattle.shop_log.specs.ImageLogs.{LogHistory}
+
+-- the first n lines count, and with them each line from the k-th on whose reply was told by that moment
+abbrev pub AreKept : {L : Type 0} → LogHistory L → ℕ → ℕ → ℕ → List (Reply × L) → Type 0
+AreKept h at n k [] = Unit {0}
+AreKept h at n k (x ∷ xs) = (h.moment x.1 ≤ at → k + 1 ≤ n) × AreKept h at n (k + 1) xs
+
+-- Replies were told to these lines, of which the first n count once power has gone at that moment.
+pub record AreToldOver {L T : Type 0} (h : LogHistory L) (o : LogOutput L T) (s : Shop) (ls : List (List ℕ)) (at n : ℕ)
+    (old new : T) : Type 0 where
+  -- each reply beside the log over which it was told, and the one that the output broke off
+  pub turns : List (Reply × L)
+  pub last : Option (Reply × L)
+  pub told : IsToldTo o old new turns last
+  pub replies_are : AreFirst (told_in (turns ++ option_to_list last)) (replies (start_of s) [] ls)
+  pub kept : AreKept h at n 0 (turns ++ option_to_list last)
+
+-- Lines were read from an input, over this log and output at the end.
+pub record AreRead {L R T : Type 0} (h : LogHistory L) (i : BatchInput R) (o : LogOutput L T) (log : L) (old new : R)
+    (out : T) : Type 0 where
+  -- the lines, each with its LF, and what was read behind them, which is no line
+  pub handled : List ℕ
+  pub rest : List ℕ
+  pub whole : AreWhole handled
+  pub lacks : LacksLf rest
+  pub read : Consumes (i.remaining old) (i.remaining new) (handled ++ rest)
+  -- all that there was, unless the log takes no more commits, the input or the output may have failed, or there were
+  -- 2^64 - 1 lines
+  pub all : OnSome (i.remaining old) (IsAtEnd (i.remaining new)) ⊎ ((h.is_over log ≡ true)
+      ⊎ ((i.has_failed new ≡ true) ⊎ ((o.has_failed out ≡ true) ⊎ (18446744073709551615 ≤ length (lines handled)))))
+
+-- Power went at that moment of the log, and left the disk of the shop after these turns.
+pub record HasGone {L : Type 0} (h : LogHistory L) (s : Shop) (at : ℕ) (log : L) (turns : List Turn) : Type 0 where
+  pub image : Image
+  pub left : (t : ℕ) → t ≤ at → h.left_since log t image
+  pub shop : IsShop image (with_state s (plain (start_of s) (counted_in turns)))
+
+-- Lines were served over a log that stood for the disk of a shop s, and power went at the moment `at`. Then the disk that
+-- it left was opened, and a till sent a message again. The fields of the same names are those of `RetrySafe`.
+pub record RetrySafeOver {L R T : Type 0} (h : LogHistory L) (i : BatchInput R) (o : LogOutput L T) (s : Shop)
+    (again : List ℕ) (at : ℕ) (log : L) (old_in new_in : R) (old new : T) (result : Reopened MemDisk) : Type 0 where
+  -- Whatever the lines: these were read. A beginning of them counts, and no other.
+  pub read : AreRead h i o log old_in new_in new
+  pub turns : List Turn
+  pub received : IsReceived (map uncut (lines read.handled)) turns
+  -- The replies that were told are those to the first lines. What was told before power went counts.
+  pub told : AreToldOver h o s (lines read.handled) at (length turns) old new
+  -- What power left is the shop after the lines that count.
+  pub gone : IfAnswered result (λ _ _. HasGone h s at log turns)
+  -- Each that counts does so by the answer over those before it, and once.
+  pub answered : EachTurn (Answered s) [] turns
+  pub counts : EachTurn (CountsOnce s) [] turns
+  -- The next opening succeeds, and the till is answered, unless the disk couldn't be had.
+  pub opens : IsAnswered result
+  -- The cards are those of applying each new request once, in the order counted.
+  pub cards : IfAnswered result (λ d _. IsSettled (disk_image d)
+      (with_state s (plain (start_of s) (counted_in turns ++ asks_in again))))
+  -- A line that counted, repeated before its till's next one, hears the answer that is kept of it.
+  pub repeat : (before : List Ask) → IsLastOfTill again before turns
+      → IfAnswered result (λ _ r. r ≡ reply (start_of s) before (request_of again))
+  -- Every block has one owner, and the map agrees.
+  pub owners : IfAnswered result (λ d _. IsClean (disk_image d))
+  -- The other files stay.
+  pub others : IfAnswered result (λ d _. (t : Shop) → IsShop (disk_image d) t → t.rest ≡ s.rest)

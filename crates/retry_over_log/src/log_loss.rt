@@ -1,0 +1,46 @@
+//! A service over a log that power ends, and what its shop is afterwards.
+ghost use Rattle.std.specs.Prelude.{◌≤◌};
+ghost use Rattle.d64_image.specs.Memory.{disk_image};
+ghost use Rattle.host_session.specs.shop.Shop.{IsShop, Shop};
+ghost use Rattle.retry_over_log.specs.RetrySafeOver.{RetrySafeOver};
+
+use crate::power::PowerLoss;
+use d64_image::MemDisk;
+use host_session::{PlayFault, Session};
+use line_server::BatchSource;
+use log_server::{Reports, Room, serve_batches};
+use request_cards::Reply;
+use retry_safe::ask;
+use shop_log::ImageLog;
+
+/// Serves the shop of a disk over a log until the input ends or something fails, lets power go, opens what is left, and
+/// has a message asked again.
+///
+/// The log stands for the disk. `power` says at which moment of the log the power goes, in the service or after it, and
+/// which disk it leaves. That disk is opened, and the session answers `again`.
+///
+/// `NoMemory`: the disk that is left couldn't be had. `Open`: it is no shop's, as if the one that was served was none.
+/// `Device` is never told. It takes no memory but the room, and up to 430 kB of stack.
+pub fn retry_after_log_loss<L: ImageLog, R: BatchSource, T: Reports<L>, P: PowerLoss<L>>(
+    disk: MemDisk,
+    log: &mut L,
+    input: &mut R,
+    out: &mut T,
+    room: &mut Room,
+    power: P,
+    again: &[u8],
+) -> Result<(Session<MemDisk>, Reply), (PlayFault, MemDisk)>
+    ensures { (s : Shop) → IsShop (disk_image disk) s → L.history.stands_for log.old (disk_image disk)
+        → L.history.moment log.old ≤ P.moment power
+        → RetrySafeOver L.history R.input T.output s again.now (P.moment power) log.new input.old input.new
+        out.old out.new result }
+{
+    let served = match serve_batches(disk, log, input, out, room) {
+        Ok(served) => served,
+        Err((_, served)) => served,
+    };
+    match power.leaves(log) {
+        Ok(left) => ask(left, again),
+        Err(_) => Err((PlayFault::NoMemory, served)),
+    }
+}

@@ -1,0 +1,17 @@
+//! Power that goes while a log is in use, or after it.
+ghost use Rattle.std.specs.Prelude.{◌≤◌, IfOk, ℕ};
+ghost use Rattle.d64_image.specs.Memory.{disk_image};
+
+use d64_image::{ImageFault, MemDisk};
+use shop_log::ImageLog;
+
+/// Power that goes at a moment of a log, and what is left then.
+pub trait PowerLoss<L: ImageLog> {
+    /// The moment of the log at which it goes.
+    ghost moment: { Self → ℕ };
+
+    /// The disk that the next opening finds. Err if it can't be had, as without memory, or before that moment.
+    fn leaves(self, log: &L) -> Result<MemDisk, ImageFault>
+        ensures left { IfOk result (λ disk. (t : ℕ) → t ≤ moment self
+            → L.history.left_since log.now t (disk_image disk)) };
+}
