@@ -47,7 +47,7 @@ fn written(rt: &(impl Abort + AllocGlobal), recoveries: &[u32]) -> u64 {
         message: b"1,1,S,15,7",
         cut: None,
     }];
-    let mut all = 0;
+    let mut all: u64 = 0;
     for power in 0..12 {
         let mut replies: Vec<Reply> = Vec::new(rt.alloc());
         let disk = Meter::new(fresh(rt));
