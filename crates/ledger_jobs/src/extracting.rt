@@ -86,10 +86,7 @@ where
 
 /// Why the files of an image aren't all made and whole: the fault for which they weren't made, the first fault of what
 /// was, or that a file is cut short there.
-fn extract_refusal(
-    ended: Result<Option<Fault>, KeepFault>,
-    cut: Option<Place>,
-) -> Option<Refusal>
+fn extract_refusal(ended: Result<Option<Fault>, KeepFault>, cut: Option<Place>) -> Option<Refusal>
     ensures { result ≡ refusal_of ended cut }
 {
     match (ended, cut) {
@@ -101,10 +98,7 @@ fn extract_refusal(
 }
 
 /// Prints `EXTRACTED`, unless the job is refused. Returns how it ended.
-fn tell_extracted<W: Write>(
-    refused: Option<Refusal>,
-    out: &mut W,
-) -> Result<Option<Fault>, Refusal>
+fn tell_extracted<W: Write>(refused: Option<Refusal>, out: &mut W) -> Result<Option<Fault>, Refusal>
     ensures { IsExtractTold W.contents refused out.old out.new result }
 {
     if let Some(refusal) = refused {
