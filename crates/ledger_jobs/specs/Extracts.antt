@@ -14,12 +14,15 @@ use Rattle.ledger_jobs.specs.Losses.{IsSeen}
 use Rattle.ledger_jobs.specs.declared.refusals.Refusal.{Refusal}
 use Rattle.ledger_jobs.specs.declared.refusals.Refusal.TheVariants as refusals
 
--- why the files aren't all made and whole: the fault for which they weren't made, the first fault of what was, or that a
--- file is cut short there
+-- why files that were all made aren't whole: their first fault, or that a file is cut short there
+abbrev pub refusal_found : Option Fault → Option Place → Option Refusal
+refusal_found None None = None
+refusal_found None (Some p) = Some (refusals.Short p)
+refusal_found (Some fault) cut = Some (refusals.Keep (keep.Layout fault))
+
+-- why they aren't all made and whole: that, or the fault for which they weren't made
 abbrev pub refusal_of : Result (Option Fault) KeepFault → Option Place → Option Refusal
-refusal_of (Ok None) None = None
-refusal_of (Ok None) (Some p) = Some (refusals.Short p)
-refusal_of (Ok (Some fault)) cut = Some (refusals.Keep (keep.Layout fault))
+refusal_of (Ok found) cut = refusal_found found cut
 refusal_of (Err fault) cut = Some (refusals.Keep fault)
 
 -- How it is told that the job is refused, or that it isn't: then that is said, or the output failed

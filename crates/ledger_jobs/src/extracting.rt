@@ -1,6 +1,6 @@
 //! All files of an image, taken out to a folder that is new.
 ghost use Rattle.std.specs.Prelude.{◌≡◌};
-ghost use Rattle.ledger_jobs.specs.Extracts.{IsExtractEnd, IsExtractTold, refusal_of};
+ghost use Rattle.ledger_jobs.specs.Extracts.{IsExtractEnd, IsExtractTold, refusal_found, refusal_of};
 
 use crate::dispatch::image_at;
 use crate::losses::{cut_in, run_end};
@@ -84,16 +84,27 @@ where
     }
 }
 
+/// Why files that were all made aren't whole: their first fault, or that a file is cut short there.
+fn found_refusal(found: Option<Fault>, cut: Option<Place>) -> Option<Refusal>
+    ensures { result ≡ refusal_found found cut }
+{
+    if let Some(fault) = found {
+        return Some(Refusal::Keep(KeepFault::Layout(fault)));
+    }
+    match cut {
+        Some(place) => Some(Refusal::Short(place)),
+        None => None,
+    }
+}
+
 /// Why the files of an image aren't all made and whole: the fault for which they weren't made, the first fault of what
 /// was, or that a file is cut short there.
 fn extract_refusal(ended: Result<Option<Fault>, KeepFault>, cut: Option<Place>) -> Option<Refusal>
     ensures { result ≡ refusal_of ended cut }
 {
-    match (ended, cut) {
-        (Ok(None), None) => None,
-        (Ok(None), Some(place)) => Some(Refusal::Short(place)),
-        (Ok(Some(fault)), _) => Some(Refusal::Keep(KeepFault::Layout(fault))),
-        (Err(fault), _) => Some(Refusal::Keep(fault)),
+    match ended {
+        Ok(found) => found_refusal(found, cut),
+        Err(fault) => Some(Refusal::Keep(fault)),
     }
 }
 

@@ -4,9 +4,9 @@ use Rattle.std.specs.Prelude.{IfErr, IfOk, MatchResult}
 use Rattle.std.proofs.lemmas.Result.{err_from_is_err_and}
 use Rattle.ledger_jobs.proofs.extracting.extract_run.Goals as goal
 
-either : {T E : Type 0} {P : T → Type 0} {Q : E → Type 0} (r : Result T E) → IfOk r P → IfErr r Q → MatchResult r P Q
-either (Ok x) ok err = ok
-either (Err e) ok err = err
+either : {T E : Type 0} (P : T → Type 0) (Q : E → Type 0) (r : Result T E) → IfOk r P → IfErr r Q → MatchResult r P Q
+either P Q (Ok x) ok err = ok
+either P Q (Err e) ok err = err
 
 pub returns-in_err-cut : goal.returns-in_err-cut
 returns-in_err-cut g c =
@@ -17,7 +17,7 @@ pub returns : goal.returns
 returns g c = inr (
   c.extract_image-ended.result,
   c.in_ok-cut.cut,
-  either c.extract_image-ended.result c.extract_image-ended.ensures.ok c.extract_image-ended.ensures.err,
+  either _ _ c.extract_image-ended.result c.extract_image-ended.ensures.ok c.extract_image-ended.ensures.err,
   c.in_ok-cut.ensures.ok,
   rw (← c.extract_refusal.ensures) c.tell_extracted.ensures,
 )
