@@ -236,9 +236,9 @@ pub(crate) const PICTURE: &str = "\
 Draws a damaged disk too, as far as its links can be followed. The page loads
 nothing and has no script, and neither does the poster (297 by 420 mm).
 A sheet has a tile for each image, also for one that is refused, and ends with
-the greatest status of its images. --compare takes two images: it marks the
-sectors of the second that differ from the first, lists the files and records
-that changed, and ends with the second image's status.
+the greatest status of its images. A comparison has the second image, with the
+sectors marked that differ from the first, and a list of the files and records
+that changed. It ends with the second image's status.
 
 Exit status:
   0  the disk is clean
