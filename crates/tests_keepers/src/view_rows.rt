@@ -175,7 +175,7 @@ fn longer(rt: &(impl Abort + AllocGlobal), row: &Trim) -> Vec<u8> {
     }
     let first = if more == 22528 { 196608 } else { 174848 };
     for &(at, error) in errors {
-        for byte in bytes.iter_mut().skip(first + at).take(1) {
+        for byte in bytes.iter_mut().skip(first).skip(at).take(1) {
             *byte = error;
         }
     }
