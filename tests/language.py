@@ -80,7 +80,7 @@ def prose(block):
 
 
 def sentences(text):
-    return re.split(r"(?<=[.!?])(?:\)|\*)* +(?=[A-Z0-9`(*\"])", text)
+    return re.split(r"(?<=[.!?])(?:\)|\*)* +(?=[A-Z0-9`(*\"]|--)", text)
 
 
 def findings(text):
