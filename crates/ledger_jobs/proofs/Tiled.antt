@@ -21,15 +21,13 @@ module _ {W : Type 0} (contents : W → Option (List ℕ)) where
   no-tiles old = (refl, refl)
 
   -- the tile of one path more
-  pub tiles-more : (paths : List (Bor (List ℕ))) (i : ℕ) (path : Bor (List ℕ)) (old mid new : W) (greatest status : ℕ)
-      → i < length paths → get_or paths i path ≡ path
+  pub tiles-more : (paths : List (Bor (List ℕ))) (i : ℕ) (d : Bor (List ℕ)) (old mid new : W) (greatest status : ℕ)
+      → i < length paths
       → AreTiles contents (map (λ (p : Bor (List ℕ)). p.now) (take i paths)) old mid greatest
-      → IsTileOf contents path.now mid new status
+      → IsTileOf contents (get_or paths i d).now mid new status
       → AreTiles contents (map (λ (p : Bor (List ℕ)). p.now) (take (i + 1) paths)) old new (max status greatest)
-  tiles-more paths i path old mid new greatest status inside here before tile =
-      let taken : map (λ (p : Bor (List ℕ)). p.now) (take (i + 1) paths)
-      ≡ map (λ (p : Bor (List ℕ)). p.now) (take i paths) ++ path.now ∷ [] =
-      map_more (λ (p : Bor (List ℕ)). p.now) paths i path inside
-      ∙ ap (λ (p : Bor (List ℕ)). map (λ (q : Bor (List ℕ)). q.now) (take i paths) ++ p.now ∷ []) here in
-      subst (λ (all : List (List ℕ)). AreTiles contents all old new (max status greatest)) (sym taken)
-      (tiles-push (map (λ (p : Bor (List ℕ)). p.now) (take i paths)) path.now old mid new greatest status before tile)
+  tiles-more paths i d old mid new greatest status inside before tile =
+      subst (λ (all : List (List ℕ)). AreTiles contents all old new (max status greatest))
+      (sym (map_more (λ (p : Bor (List ℕ)). p.now) paths i d inside))
+      (tiles-push (map (λ (p : Bor (List ℕ)). p.now) (take i paths)) (get_or paths i d).now old mid new greatest status
+      before tile)

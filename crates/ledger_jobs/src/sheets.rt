@@ -51,7 +51,7 @@ where
     ensures ok { IfOk result (AreTiles W.contents (map (λ path. path.now) paths.now) out.old out.new) }
 {
     let mut greatest = 0;
-    for &path in paths {
+    for path in paths {
         let status = put_tile_at(rt, path, out)?;
         greatest = status.max(greatest);
     }

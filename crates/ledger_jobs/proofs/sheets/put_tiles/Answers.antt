@@ -1,6 +1,7 @@
 -- The tile of one path more.
-use Rattle.std.proofs.Common.{sym}
+use Rattle.std.proofs.Common.{[], map, subst, sym, take, ℕ, ◌+◌}
 use Rattle.ledger_jobs.proofs.Tiled.{no-tiles, tiles-more}
+use Rattle.ledger_jobs.specs.SheetPages.{AreTiles}
 use Rattle.ledger_jobs.proofs.sheets.put_tiles.Goals as goal
 
 pub loop-path-init : goal.loop-path-init
@@ -8,5 +9,10 @@ loop-path-init g c = no-tiles g.W.Write.contents _
 
 pub loop-path-preserved : goal.loop-path-preserved
 loop-path-preserved g c =
-    tiles-more g.W.Write.contents c.args.paths.now c.loop-path.path-index c.path-item.result _ _ _ _ _ c.loop-path-test.true
-    (sym c.path-item.is) c.loop-path.invariant c.in_ok-status.ensures.ok
+    let told = g.W.Write.contents in
+    let paths = c.args.paths.now in
+    let i = c.loop-path.path-index in
+    subst (λ (most : ℕ). AreTiles told (map (λ path. path.now) (take (i + 1) paths)) c.args.out.now c.put_tile_at.new.out most)
+    (sym c.max-greatest.ensures)
+    (tiles-more told paths i (record { ref_ptr = (0, 0); now = [] }) c.args.out.now c.loop-path.out c.put_tile_at.new.out
+    c.loop-path.greatest c.in_ok-status.status c.loop-path-test.true c.loop-path.invariant c.in_ok-status.ensures.ok)
