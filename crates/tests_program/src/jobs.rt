@@ -71,7 +71,12 @@ fn row_of<'a>(job: &Job<'a>) -> Row<'a> {
         Job::View {
             what: View::Sector(place),
             image,
-        } => ("sector", image, "", place.track() + place.sector()),
+        } => (
+            "sector",
+            image,
+            "",
+            place.track().wrapping_add(place.sector()),
+        ),
         Job::Trim { image } => ("trim", image, "", 0),
         Job::Compare { before, after } => ("picture --compare", before, after, 0),
         Job::Sheet { ref images } => {
