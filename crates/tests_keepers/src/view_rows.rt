@@ -191,7 +191,7 @@ fn tracks_1_to_35_are_printed(rt: HostRuntime) {
         let ended = trim_image(rt.alloc(), image.as_slice(), &mut out, &mut err);
         same_at(&rt, ended, Ok(row.3.is_empty()), row.3);
         same_at(&rt, err.as_slice(), row.3.as_bytes(), row.3);
-        let tracks = &image.as_slice()[..174848];
-        same_at(&rt, out.as_slice() == tracks, true, row.3);
+        let is_front = image.as_slice().starts_with(out.as_slice());
+        same_at(&rt, (out.len(), is_front), (174848, true), row.3);
     }
 }
