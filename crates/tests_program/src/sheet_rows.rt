@@ -53,7 +53,7 @@ tells FILE|
 ends 3
 
 person ledger_cli picture --compare a.d64 s.txt
-tells IMAGE SIZE|ledger: s.txt has 9 bytes; it is cut short, since 35 tracks have 174848; read the disk again|
+tells IMAGE SIZE|ledger: s.txt has 10 bytes; it is cut short, since 35 tracks have 174848; read the disk again|
 ends 1
 
 run ledger picture --compare a.d64 s.txt
