@@ -100,7 +100,7 @@ class Trial:
             heard = served.reply()
             if heard is None or heard.endswith("MEDIA"):
                 break
-            want(heard == shop.reply(line), f"{line} is told {heard}")
+            want(heard == shop.reply(line), f"{line} gets the answer {heard}")
             answered = number
         status, rest, err = served.finish()
         want((status, rest, err) == (3, [], "DEVICE"), f"a full log without room ends with {status}, {rest}, {err}")
