@@ -35,8 +35,7 @@ abbrev pub map_count : Sector → ℕ → ℕ
 map_count bytes t = slice_index bytes (4 * t)
 
 -- the bit of sector s of track t, 1 for free: bit s mod 8 of byte s / 8. In 11 FC FF 07 it is 0 for the sectors 0 and
--- 1,
--- and 1 for the sectors 2 to 18
+-- 1, and 1 for the sectors 2 to 18
 abbrev pub map_bit : Sector → ℕ → ℕ → ℕ
 map_bit bytes t s = bit_at (slice_index bytes (4 * t + 1 + s / 8)) (s % 8)
 
@@ -49,13 +48,13 @@ abbrev pub numbers_below : ℕ → List ℕ
 numbers_below zero = []
 numbers_below (suc n) = n ∷ numbers_below n
 
--- the map of a disk on which these places are taken: the bits of the sectors that exist, and each track's count of its
--- ones
+-- the map of a disk on which these places are taken: the bits of the sectors that exist, and for each track the count
+-- of its bits that are 1
 pub record IsMapOf (bytes : Sector) (owned : List Place) : Type 0 where
   pub marked : (p : Place) → IsFree bytes p ↔ ¬ (Contains owned p)
   pub counts : (t : ℕ) → 1 ≤ t → t ≤ 35 → map_count bytes t ≡ sum_by (map_bit bytes t) (numbers_below (sectors_on t))
 
--- only the bit of the sector at p and the count of its track differ; the 24 bits of a track are all meant here
+-- only the bit of the sector at p and the count of its track differ; this holds for all 24 bits of a track
 pub record IsSameBut (old new : Sector) (p : Place) : Type 0 where
   pub bits : (t s : ℕ) → s < 24 → (t ≢ p.track) ⊎ (s ≢ p.sector) → map_bit new t s ≡ map_bit old t s
   pub counts : (t : ℕ) → t ≢ p.track → map_count new t ≡ map_count old t
@@ -74,13 +73,13 @@ pub record IsGiven (old new : Sector) (p : Place) : Type 0 where
   pub count : map_count new p.track ≡ min (map_count old p.track + 1) 255
   pub rest : IsSameBut old new p
 
--- how many tracks a track is away from track 18, where the directory is: 1 for the tracks 17 and 19
+-- the distance of a track from track 18, the directory's: 1 for the tracks 17 and 19
 abbrev pub distance : ℕ → ℕ
 distance t = (t - 18) + (18 - t)
 
--- the order in which data blocks are picked (our own): by the distance of the track from track 18, so that the head
--- moves
--- little; at one distance the lower track first; on a track by sector. 17/20 is before 19/0, and 19/18 before 16/0
+-- The order in which data blocks are picked is our choice: by the distance of the track from track 18, so that the head
+-- moves little; at equal distance the lower track first; on a track by sector. 17/20 is before 19/0, and 19/18 before
+-- 16/0.
 abbrev pub IsBefore : Place → Place → Type 0
 IsBefore p q =
     (distance p.track < distance q.track)
