@@ -14,7 +14,8 @@ pub trait OpensFile {
     fn sync_folder(&mut self) -> io::Result<()>;
 }
 
-/// A file that is overwritten, and opened at the first use; nothing is touched before. Syncing it also syncs its folder.
+/// A file that is overwritten. It is opened at the first use; nothing is touched before. Syncing it also syncs its
+/// folder.
 #[derive(Drop)]
 pub struct OverwrittenFile<O: OpensFile> {
     opens: O,

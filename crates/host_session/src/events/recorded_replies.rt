@@ -7,7 +7,7 @@ use d64_image::MemDisk;
 use request_cards::Reply;
 use std::alloc::Global;
 
-/// A reply, and the bytes of the image over which it was told.
+/// A reply, and the bytes of the image at that moment.
 #[derive(Drop)]
 pub struct RecordedReply {
     /// The reply.
@@ -16,7 +16,7 @@ pub struct RecordedReply {
     pub bytes: Vec<u8>,
 }
 
-/// An output that keeps what it was told: each reply, with a copy of what the disk held then.
+/// An output that keeps each reply with a copy of what the disk held then.
 #[derive(Drop)]
 pub struct RecordedReplies {
     turns: Vec<RecordedReply>,
@@ -28,7 +28,7 @@ pub struct RecordedReplies {
 }
 
 impl RecordedReplies {
-    /// Takes so many replies at most.
+    /// Takes at most this number of replies.
     pub fn new(alloc: Global, most: usize) -> RecordedReplies
         ensures turns { turns_of result ≡ [] }
         ensures most { result.most ≡ most }

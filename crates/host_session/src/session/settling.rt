@@ -38,7 +38,7 @@ fn bring_to_rest<D: Sectors>(
     migrate(drive, requests)
 }
 
-/// Mends a shop's disk that was judged, and brings it to rest. What was found is then as the disk has it at rest.
+/// Repairs a shop's disk that was checked, and brings it to rest. `found` then is as the disk has it at rest.
 // Out of line, as `judge` is.
 #[inline(never)]
 pub(crate) fn settle<D: Sectors>(
