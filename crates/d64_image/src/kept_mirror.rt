@@ -12,8 +12,8 @@ use crate::sector_file::SectorFile;
 use crate::sectors::Sectors;
 
 /// A disk in memory, and a file that keeps the same image. The mirror hands each sector to the file before memory takes
-/// it. If the file fails, memory stays as it was, and each later call fails: whether the file keeps the failed sector
-/// isn't known, and a later write would make the file and memory differ for good.
+/// it. If the file fails, memory stays as it was, and each later call fails. Whether the file keeps the failed sector
+/// is unknown, and a later write would make the file and memory differ for good.
 #[derive(Drop)]
 pub struct KeptMirror<F: SectorFile> {
     file: F,

@@ -11,7 +11,7 @@ use std::io::{Seek, SeekFrom, Write};
 
 /// A disk in memory, and a file that holds the same image: any file with `Write` and `Seek`. The mirror hands each
 /// sector to the file, at 256 times its index, before memory takes it. If the file fails, memory stays as it was, and
-/// each later call fails: what the file holds of the failed sector isn't known, and a later write would make the file
+/// each later call fails. What the file holds of the failed sector is unknown, and a later write would make the file
 /// and memory differ for good. Over a file that is a `SectorFile`, `KeptMirror` also promises what the file keeps.
 #[derive(Drop)]
 pub struct Mirror<F> {

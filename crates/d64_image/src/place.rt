@@ -1,4 +1,4 @@
-//! Where a sector lies: its track and its sector, which together are on the disk.
+//! The place of a sector: its track and its sector, which together are on the disk.
 ghost use Rattle.std.specs.Prelude.{◌<◌, ◌≡◌, ◌↔◌, IsSome, Some};
 ghost use Rattle.d64_image.specs.Geometry.{sectors_on};
 

@@ -16,8 +16,10 @@ use d64_image::{Place, Sectors};
 ///
 /// A sector whose byte 0 isn't 0 links to the place in bytes 0-1. A sector whose byte 0 is 0 ends the chain.
 ///
-/// Errors: `BadLink` at a sector whose link is no place of the disk, `Loop` at a sector that the links reach a second
-/// time, and `Device` at a sector that the device failed to read. After an error `places` has the sectors visited.
+/// Errors, after which `places` has the sectors visited:
+/// - `BadLink` at a sector whose link is no place of the disk;
+/// - `Loop` at a sector that the links reach a second time;
+/// - `Device` at a sector that the device failed to read.
 ///
 /// Each sector is read at most once. The disk has 683 sectors and none is visited twice, so 720 places are enough for
 /// every chain.

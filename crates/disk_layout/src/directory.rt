@@ -80,8 +80,10 @@ fn add_used(bytes: &[u8; 256], place: Place, slots: &mut ArrayVec<Slot, 144>)
 /// directory's sectors, which are linked from 18/1 on, and by number in each sector. The list passed in is emptied
 /// first; after an error it may hold anything.
 ///
-/// Errors: `BadLink` at a sector whose link is no place of the disk, leaves track 18 or names 18/0, `Loop` at a sector
-/// that the links reach a second time, and `Device` at a sector that the device failed to read.
+/// Errors:
+/// - `BadLink` at a sector whose link is no place of the disk, leaves track 18 or names 18/0;
+/// - `Loop` at a sector that the links reach a second time;
+/// - `Device` at a sector that the device failed to read.
 ///
 /// Track 18 has eighteen sectors for the directory. Each is read at most once and has eight slots, so 144 are enough.
 pub fn read_directory<D: Sectors>(

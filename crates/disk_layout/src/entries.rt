@@ -28,8 +28,8 @@ pub fn padded_name(name: &[u8]) -> [u8; 16]
     padded
 }
 
-/// Bytes 2 to 31 of the slot of a closed relative file: its name, its first data block, its first side sector, the
-/// length of its records, and the number of its data blocks and side sectors together.
+/// Bytes 2 to 31 of the slot of a closed relative file. They hold its name, its first data block, its first side
+/// sector, the length of its records, and the number of its data blocks and side sectors together.
 pub fn relative_entry(
     name: &[u8],
     first: Place,

@@ -101,7 +101,7 @@ pub record OpensText {D : Type 0} (S : History D) (old new : D) (k k' : OpenFile
   pub opened : IsOpenedBy S old new text (channel_of k.last) (channel_of k'.last) result
   pub failures : TellsFailure S old new result
 
--- The disk was mended, or isn't sound.
+-- The disk was repaired, or isn't sound.
 pub record Validates {D : Type 0} (S : History D) (old new : D) (result : Result Status Dead) : Type 0 where
   pub row : IfOk result (ValidatesTo (S.image old) (S.image new))
   pub moments : MendsFrom S old new 883

@@ -1,4 +1,4 @@
--- What each call promises that mends a sound disk. Our own.
+-- What each call that mends a sound disk promises. Our own.
 use Rattle.std.specs.Prelude.{ℕ, ◌≡◌, ◌≤◌, ◌+◌, ◌*◌, [], ◌∷◌, Contains, List, OnOk, Result, length}
 use Rattle.d64_image.specs.History.{Changes, History, WritesNothing}
 use Rattle.d64_image.specs.Images.{sector}

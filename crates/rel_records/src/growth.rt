@@ -110,9 +110,9 @@ fn grow<D: Sectors>(
 /// Grows the file by empty records until it has record `number`. If the file has that record, or for 0, nothing is read
 /// or written.
 ///
-/// The file gets all whole records that fit into its blocks. If it doesn't have the record, `TooLarge` is returned if
-/// the record would need more than 720 data blocks or its number is past 65535, and `Full` if there aren't enough free
-/// blocks. Neither writes anything. At most ten sectors are read.
+/// The file gets all whole records that fit into its blocks. If it doesn't have the record, two errors are possible.
+/// `TooLarge`: the record would need more than 720 data blocks, or its number is past 65535. `Full`: there aren't
+/// enough free blocks. Neither writes anything. At most ten sectors are read.
 pub fn grow_to<D: Sectors>(disk: &mut D, file: &mut RelFile, number: u32) -> Result<(), RelFault>
     requires clean { IsClean (D.history.image disk.old) }
     requires of { IsOf (D.history.image disk.old) file.old }

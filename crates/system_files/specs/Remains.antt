@@ -1,4 +1,4 @@
--- What a file that is written over holds, and what may remain of it if power goes. Our own.
+-- What a file that is overwritten holds, and what may remain of it after a power loss. Our own.
 use Rattle.std.specs.Prelude.{◌≡◌, ◌⊎◌, ◌≤◌, ◌+◌, ◌-◌, ◌*◌, ℕ, List, ◌++◌, None, OnOk, Option, Result, Some, length, max, option_map}
 use Rattle.std.specs.Prelude.{replicate, slice_index, take}
 use Rattle.d64_image.specs.Offsets.{overwritten}

@@ -1,4 +1,4 @@
--- An image that is written over a file, and what remains if power goes on the way. Our own.
+-- An image that is written over a file, and what remains if power fails on the way. Our own.
 use Rattle.std.specs.Prelude.{◌≡◌, ◌⊎◌, ◌≤◌, ℕ, List, ◌++◌, OnOk, Result, Some, drop, length, slice_index, take}
 use Rattle.d64_image.specs.Memory.{sectors_in}
 use Rattle.disk_layout.specs.Layout.{IsSound}

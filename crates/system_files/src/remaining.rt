@@ -1,4 +1,4 @@
-//! Files that are written over, and what may remain of them if power goes.
+//! Files that are overwritten, and what may remain of them after a power loss.
 ghost use Rattle.std.specs.Prelude.{OnOk};
 ghost use Rattle.system_files.specs.Remains.{IsBroughtWhole, IsEndedBehind, IsPutOver, Remains, unknown};
 

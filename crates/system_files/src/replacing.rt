@@ -47,9 +47,9 @@ fn seal<F: EndedFile>(file: &mut F, image: &[u8]) -> io::Result<()>
     file.sync_whole()
 }
 
-/// Replaces all that a file holds with an image. If power goes on the way there remains what could remain before, or bytes
-/// that aren't the image of a sound disk, or the image. At Ok the image remains. At an error any of these does: the file
-/// may be spoiled.
+/// Replaces all that a file holds with an image. If power fails on the way, there remains what could remain before, or
+/// bytes that aren't the image of a sound disk, or the image. At Ok the image remains. At an error any of the three
+/// may: the file may be spoiled.
 pub fn replace_image<F: EndedFile>(file: &mut F, image: &[u8]) -> io::Result<()>
     requires size { length image.now ≡ 174848 }
     ensures { IsReplaced F.remains file.old file.new image.now result }

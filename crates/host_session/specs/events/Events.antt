@@ -16,7 +16,7 @@ pub record Message : Type 0 where
 abbrev pub uncut : List ℕ → Message
 uncut bytes = record { bytes = bytes; cut_after = None }
 
--- a message in which power goes
+-- a message in which power fails
 abbrev pub cut_at : List ℕ → ℕ → Message
 cut_at bytes after = record { bytes = bytes; cut_after = Some after }
 

@@ -27,7 +27,7 @@ LeavesAlone h s m old new = AsksNothing s m → IsLeftAlone h m.cut_after old ne
 abbrev pub AskNothing : Shop → List Message → Type 0
 AskNothing s ms = AllByRecursion (AsksNothing s) ms
 
--- power goes in none of these messages
+-- power fails in none of these messages
 abbrev pub AreUncut : List Message → Type 0
 AreUncut ms = AllByRecursion (λ m. m.cut_after ≡ None) ms
 

@@ -54,7 +54,7 @@ abbrev pub IsPlayedWhole : {D : Type 0} → History D → Shop → List Message 
 IsPlayedWhole h s messages old new told =
     IsPlayed h s messages old new told NoneGotMedia (λ state. IsSettled (h.image new) (with_state s state))
 
--- A beginning of the messages was played, in the last of which the device failed.
+-- A prefix of the messages was played, and in the last of them the device failed.
 pub record StoppedByDevice {D : Type 0} (h : History D) (s : Shop) (messages : List Message) (old new : D)
     (told : List Reply) : Type 0 where
   pub begun : List Message
@@ -62,7 +62,7 @@ pub record StoppedByDevice {D : Type 0} (h : History D) (s : Shop) (messages : L
   pub parts : begun ++ rest ≡ messages
   pub played : IsPlayed h s begun old new told FailsAtLast (λ state. IsShop (h.image new) (with_state s state))
 
--- A beginning of the messages was played, whose last reply the output failed to take.
+-- A prefix of the messages was played, and the output failed to take the last reply.
 pub record StoppedByOutput {D : Type 0} (h : History D) (s : Shop) (messages : List Message) (old new : D)
     (told : List Reply) : Type 0 where
   pub begun : List Message

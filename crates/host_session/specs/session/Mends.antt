@@ -1,4 +1,4 @@
--- What a call gives that mends a shop's disk and hands out a drive over it. All of it is our own.
+-- The result of a call that mends a shop's disk and returns a drive over it. All of it is our own.
 use Rattle.std.specs.Prelude.{ℕ, ◌≡◌, IfErr, IfOk, Result}
 use Rattle.d64_image.specs.History.{History}
 use Rattle.host_session.specs.Held.{Changes}

@@ -1,4 +1,4 @@
--- The shop that a blank image stands for. All of it is our own.
+-- The shop of a blank image. All of it is our own.
 use Rattle.std.specs.Prelude.{ℕ, ◌≤◌, ◌*◌, List, [], ◌∷◌, ◌++◌}
 use Rattle.d64_image.specs.Images.{Image, IsImage}
 use Rattle.disk_layout.specs.Blank.{IsBlank, names_of, request_blocks}

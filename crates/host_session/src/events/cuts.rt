@@ -1,4 +1,4 @@
-//! One event of a run: a message, or one in which power goes and the openings after it.
+//! One event of a run: a message, or one in which power fails and the openings after it.
 ghost use Rattle.std.specs.Prelude.{◌≡◌, ◌≤◌, ◌+◌, ◌↔◌, IfErr, IfOk, IsTrue, false};
 ghost use Rattle.host_session.specs.Held.{HeldOnly};
 ghost use Rattle.host_session.specs.events.Events.{cut_at, uncut};

@@ -22,7 +22,7 @@ pub struct RecordedReplies {
     turns: Vec<RecordedReply>,
     /// How many replies it takes at most.
     most: usize,
-    /// How many of them were handed on.
+    /// How many of them were flushed.
     handed: usize,
     alloc: Global,
 }
@@ -49,7 +49,7 @@ impl RecordedReplies {
         self.turns.as_slice()
     }
 
-    /// How many of them were handed on.
+    /// How many of them were flushed.
     pub fn handed(&self) -> usize
         ensures { result ≡ self.now.handed }
     {

@@ -1,4 +1,4 @@
-//! A shop's disk brought to rest: mended, without an open intent and without a card of version 1.
+//! A shop's disk brought to rest: repaired, without an open intent and without a card of version 1.
 ghost use Rattle.std.specs.Prelude.{◌≡◌, IfNone, IfOk, false};
 ghost use Rattle.host_session.specs.session.Mends.{Mends};
 ghost use Rattle.host_session.specs.session.Settling.{HasNewTable, HasTable};

@@ -47,7 +47,8 @@ fn take_places(parts: &mut Parts) -> Place
     fresh
 }
 
-/// Makes these bytes those of the last block of a file with `behind` blocks before it and all whole records that fit.
+/// Makes these bytes those of the last block of a file that has `behind` blocks before it and all whole records that
+/// fit.
 fn make_fresh(bytes: &mut [u8; 256], behind: u16, length: u8)
     requires few { behind < 720 }
     requires length { IsLength length }
@@ -59,7 +60,7 @@ fn make_fresh(bytes: &mut [u8; 256], behind: u16, length: u8)
     fill(bytes, at, at, length, full_records(behind + 1, length));
 }
 
-/// The bytes of the last block of a file with `behind` blocks before it and all whole records that fit.
+/// The bytes of the last block of a file that has `behind` blocks before it and all whole records that fit.
 pub(crate) fn fresh_block(behind: u16, length: u8) -> [u8; 256]
     requires few { behind < 720 }
     requires length { IsLength length }
