@@ -8,13 +8,13 @@ pub record History (D : Type 0) : Type 1 where
   pub image : D → Image
   -- the moment, as a number that doesn't fall
   pub moment : D → ℕ
-  -- what it may have held at some moment from that one on
+  -- what it may have held at a moment from that one on
   pub held : D → ℕ → Image → Type 0
   -- how many reads and writes have passed, and how many calls have failed
   pub reads : D → ℕ
   pub writes : D → ℕ
   pub failures : D → ℕ
-  -- the last value of the count of failures, where it is spent
+  -- the greatest value of the count of failures, at which it is spent
   pub last : ℕ
   -- there are 683 sectors of 256 bytes
   pub whole : (d : D) → IsImage (image d)
@@ -23,7 +23,7 @@ pub record History (D : Type 0) : Type 1 where
   -- since now nothing else is held
   pub only_now : (d : D) (c : Image) → held d (moment d) c → c ≡ image d
   pub up_to_last : (d : D) → failures d ≤ last
-  -- the second comes of the first by calls on the device
+  -- calls on the device lead from the first to the second
   pub reached : D → D → Type 0
   pub reached_same : (d : D) → reached d d
   pub reached_then : (a b c : D) → reached a b → reached b c → reached a c
@@ -65,17 +65,17 @@ pub record Failed {D : Type 0} (S : History D) (old new : D) : Type 0 where
   pub later : S.failures old ≤ S.failures new
   pub rose : S.failures new < S.last → S.failures old < S.failures new
 
--- The count of failures neither rose nor is spent: the premise "where the device doesn't fail".
+-- The count of failures neither rose nor is spent: the premise "if the device doesn't fail".
 pub record NeverFailed {D : Type 0} (S : History D) (old new : D) : Type 0 where
   pub same : S.failures new ≡ S.failures old
   pub not_spent : S.failures new < S.last
 
--- An error of these is told only where the device failed, and any other answer only where no failure was counted.
+-- An error of this kind is returned only if the device failed, and any other answer only if no failure was counted.
 abbrev pub TellsOf : {D T E : Type 0} → (of_device : E → Bool) → History D → D → D → Result T E → Type 0
 TellsOf of_device S old new (Ok _) = S.failures new ≡ S.failures old
 TellsOf of_device S old new (Err e) = MatchBool (of_device e) (Failed S old new) (S.failures new ≡ S.failures old)
 
--- An error is told only where the device failed, and Ok where no failure was counted.
+-- An error is returned only if the device failed, and Ok only if no failure was counted.
 abbrev pub TellsFailure : {D T E : Type 0} → History D → D → D → Result T E → Type 0
 TellsFailure S old new result = TellsOf (λ _. true) S old new result
 
@@ -95,12 +95,12 @@ pub record Changes {D : Type 0} (S : History D) (old new : D) (n : ℕ) (P : Ima
   pub held : HeldOnly S old new P
   pub writes : S.writes new ≤ S.writes old + n
 
--- A call that writes nothing, however much it reads: the image stays, and no write is counted.
+-- A call that writes nothing, and reads any number of sectors: the image stays, and no write is counted.
 pub record WritesNothing {D : Type 0} (S : History D) (old new : D) : Type 0 where
   pub image : S.image new ≡ S.image old
   pub held : HeldOnly S old new (λ c. c ≡ S.image old)
   pub writes : S.writes new ≡ S.writes old
 
--- Where a write was counted, the image at the end has P.
+-- If a write was counted, the image at the end has P.
 abbrev pub IfCounted : {D : Type 0} → History D → D → D → (Image → Type 0) → Type 0
 IfCounted S old new P = S.writes old < S.writes new → P (S.image new)

@@ -23,6 +23,6 @@ pub record IsImage (img : Image) : Type 0 where
 unfoldable pub sector : Image → Place → Sector
 sector img p = slice_index_or img (index_of p) []
 
--- the image with these bytes at a place, and the same elsewhere
+-- the image with these bytes at a place, and the same everywhere else
 unfoldable pub put : Image → Place → Sector → Image
 put img p bytes = slice_set img (index_of p) bytes

@@ -22,7 +22,7 @@ disk_image disk = disk.sectors.items
 abbrev pub disk_bytes : MemDisk → List ℕ
 disk_bytes disk = bytes_of (disk_image disk)
 
--- It names what it holds now and nothing of the past, and never fails.
+-- The history names what the disk holds now and nothing of the past. The disk never fails.
 abbrev pub memory : History MemDisk
 memory = record {
   image = disk_image;

@@ -15,6 +15,6 @@ meter_reads m = calls_of m.reads
 abbrev pub meter_writes : {D : Type 0} → Meter D → ℕ
 meter_writes m = calls_of m.writes
 
--- all is as beneath, but for the counts
+-- everything is as in the disk beneath, except the counts
 abbrev pub meter : {D : Type 0} → History D → History (Meter D)
 meter h = record (through meter_disk h) { reads = meter_reads; writes = meter_writes }

@@ -19,7 +19,7 @@ abbrev pub place_if : (track sector : ℕ) → Dec (sector < sectors_on track) �
 place_if track sector (yes h) = Some (record { track = track; sector = sector; on_disk = h })
 place_if track sector (no _) = None
 
--- the place with this track and sector, where the disk has it
+-- the place with this track and sector, if the disk has it
 unfoldable pub place_at : ℕ → ℕ → Option Place
 place_at track sector = place_if track sector (dec_lt sector (sectors_on track))
 

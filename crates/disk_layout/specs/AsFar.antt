@@ -1,4 +1,4 @@
--- Chains of sectors as far as they go, of a disk that is hurt too. Our own.
+-- Chains of sectors as far as they go, on damaged disks too. Our own.
 use Rattle.std.specs.Prelude.{◌≡◌, ◌⊎◌, ℕ, List, [], ◌∷◌, ◌++◌, Contains}
 use Rattle.d64_image.specs.Images.{Image}
 use Rattle.d64_image.specs.declared.place.Place.{Place}

@@ -65,7 +65,7 @@ count_field s = little_number 2 (slice_range s.bytes 30 32)
 abbrev pub sides_for : ℕ → ℕ
 sides_for n = (n + 119) / 120
 
--- the sector at p is side sector j of the file, as far as a sound image asks
+-- the sector at p is side sector j of the file, as far as a sound image requires
 pub record IsSide (img : Image) (f : File) (j : ℕ) (p : Place) : Type 0 where
   pub number : byte img p 2 ≡ j
   pub length_byte : byte img p 3 ≡ record_length f.slot
@@ -95,7 +95,7 @@ OwnsNothing f = (f.blocks ≡ []) × (f.last ≡ 0) × (f.sides ≡ [])
 abbrev pub IsPlainFile : Image → File → Type 0
 IsPlainFile img f = HasChain img f × (f.sides ≡ [])
 
--- the entry is closed, and its file is as its type asks
+-- the entry is closed, and its file is as its type requires
 pub record IsFile (img : Image) (f : File) : Type 0 where
   pub closed : IsClosedType (type_byte f.slot)
   pub rel : IsTrue (is_rel f.slot) → IsRelFile img f

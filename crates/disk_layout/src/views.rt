@@ -83,7 +83,7 @@ impl<'a> BamView<'a> {
     }
 
     /// The counts of all tracks but 18 together, as stored: what a directory listing ends with.
-    // Out of line: a caller sets aside room for all 35 steps at its start, also where it doesn't come to ask.
+    // Out of line: a caller reserves stack for all 35 steps at its start, even if it never calls this.
     #[inline(never)]
     pub fn blocks_free(&self) -> u16
         ensures { result ≡ blocks_free self.now.bytes.now }
@@ -181,21 +181,21 @@ impl<'a> EntryView<'a> {
         unpadded(&self.bytes[5..21])
     }
 
-    /// Whether bytes 3-4 are to name a first data block: track 0 says that there is none.
+    /// Whether the slot names a first data block in bytes 3-4: track 0 means that there is none.
     pub fn has_first_block(&self) -> bool
         ensures { IsTrue result ↔ (slice_index self.now.bytes.now 3 ≢ 0) }
     {
         self.bytes[3] != 0
     }
 
-    /// The first data block; None where bytes 3-4 name no place of the disk.
+    /// The first data block. None if bytes 3-4 name no place of the disk.
     pub fn first_block(&self) -> Option<Place>
         ensures { result ≡ named_at self.now.bytes.now 3 }
     {
         Place::new(self.bytes[3], self.bytes[4])
     }
 
-    /// The first side sector, in the slot of a relative file; None where bytes 21-22 name no place of the disk.
+    /// The first side sector, in the slot of a relative file. None if bytes 21-22 name no place of the disk.
     pub fn first_side(&self) -> Option<Place>
         ensures { result ≡ named_at self.now.bytes.now 21 }
     {

@@ -1,4 +1,4 @@
--- A relative file of an image, and what of it the tables ask. Our own.
+-- A relative file of an image, and what the tables need to know of it. Our own.
 use Rattle.std.specs.Prelude.{ℕ, ◌≡◌, ◌≢◌, IsTrue, List, None, Option, Some, slice_get}
 use Rattle.d64_image.specs.Images.{Image}
 use Rattle.disk_layout.specs.Layout.{File, IsLayout, Layout, is_rel, record_length}

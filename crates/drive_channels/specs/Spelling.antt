@@ -40,7 +40,7 @@ pub record IsName (name : List ℕ) : Type 0 where
   pub high : length name ≤ 16
   pub bytes : AllByRecursion (λ b. IsTrue (is_name_byte b)) name
 
--- what a text of open asks for: a name, and a record length where one is given
+-- the contents of a text of open: a name, and a record length if one is given
 pub record Wish : Type 0 where
   pub name : List ℕ
   pub length : Option ℕ
@@ -72,7 +72,7 @@ IsInitialize text = (text ≡ codes "I") ⊎ (text ≡ codes "I0") ⊎ (text ≡
 abbrev pub BeginsWithP : List ℕ → Type 0
 BeginsWithP text = (rest : List ℕ) × (text ≡ 80 ∷ rest)
 
--- P, the channel, the record with its low byte first, and the position where there is one; 0 counts as 1
+-- P, the channel, the record with its low byte first, and the position if there is one; 0 counts as 1
 abbrev pub wanted_channel : List ℕ → ℕ
 wanted_channel text = slice_index text 1 % 16
 

@@ -26,7 +26,7 @@ pub record IsMadeTrack (old new : Sector) (t : Owners) (track : ℕ) : Type 0 wh
   pub spare : HasNoSpare new track
   pub keeps : KeepsTracks old new track
 
--- the map was made by the table, beside the same bytes
+-- the map was made by the table, and the bytes outside it are the same
 pub record IsMadeMap (old new : Sector) (t : Owners) : Type 0 where
   pub right : IsRightMap new t
   pub spare : (track : ℕ) → 1 ≤ track → track ≤ 35 → HasNoSpare new track

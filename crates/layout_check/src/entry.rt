@@ -1,4 +1,4 @@
-//! What a used slot of the directory says by itself: its type and its record length.
+//! What a used slot of the directory shows by itself: its type and its record length.
 ghost use Rattle.std.specs.Prelude.{IfErr, OnOk};
 ghost use Rattle.layout_check.specs.Entry.{IsProper, IsShown};
 

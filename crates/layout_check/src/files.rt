@@ -35,8 +35,8 @@ fn survey_plain<D: Sectors>(
     Ok(())
 }
 
-/// What a clean disk must not have of a relative entry that owns so many sectors: a side sector whose bytes aren't
-/// exact, or another block count; None where both are right.
+/// What a clean disk must not have of a relative entry that owns this number of sectors: a side sector whose bytes
+/// aren't exact, or another block count. None if both are right.
 fn unclean_of(slot: &Slot, inexact: Option<Place>, owned: usize) -> Option<Fault>
     ensures { ToldOfEntry slot.now inexact owned result }
 {
@@ -73,10 +73,10 @@ fn survey_relative<D: Sectors>(
 /// Finds the file of a used slot, and claims what it owns for the owner with this number. `parts` is room for what it
 /// owns. An entry that isn't relative and names no first block (track 0) owns nothing.
 ///
-/// The answer is what a clean disk must not have beyond what a sound one must not: a side sector whose bytes aren't
-/// exact or a wrong block count. It holds only where the whole disk is sound, so the caller keeps it back until then.
+/// Returns what a sound disk may have and a clean one may not: a side sector whose bytes aren't exact, or a wrong block
+/// count. This is a fault only if the whole disk is sound, so the caller keeps it back until then.
 ///
-/// Told is what is wrong with the slot, its chain or its side sectors; or `OwnedTwice` at a sector that is claimed
+/// The error is a fault of the slot, its chain or its side sectors, or `OwnedTwice` at a sector that has an owner
 /// already.
 pub(crate) fn survey_entry<D: Sectors>(
     disk: &mut D,

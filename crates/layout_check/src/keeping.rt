@@ -1,4 +1,4 @@
-//! Sectors that the map calls taken and that nobody owns, given an owner, so that they stay taken.
+//! Stray sectors, which are taken in the map but owned by nobody, are given an owner so that they stay taken.
 ghost use Rattle.std.specs.Prelude.{◌≡◌, ◌≢◌, ◌⊎◌, ◌<◌, ◌≤◌, IfOk, IsFalse, IsTrue, List, length};
 ghost use Rattle.d64_image.specs.declared.place.Place.{Place};
 ghost use Rattle.d64_image.specs.History.{OnlyReads};
@@ -13,7 +13,7 @@ use crate::survey_outcome::Survey;
 use d64_image::{Place, Sectors};
 use disk_layout::{BamView, Fault, map_place, read_sector};
 
-/// The number of a sector that the map calls taken and that nobody owns.
+/// The number of a stray sector: it is taken in the map, but nobody owns it.
 const STRAY: u8 = 253;
 
 /// Whether the map calls this sector taken, and it has no owner.
@@ -64,8 +64,8 @@ fn mark_strays(map: &[u8; 256], owners: &mut Owners) -> u16
     count
 }
 
-/// The sectors of a sound disk that was surveyed which have an owner, and beside these the stray ones: those that its
-/// map calls taken and that nobody owns. And how many stray ones it has.
+/// The sectors of a sound disk that are owned, by its survey, or stray: taken in the map but owned by nobody. Returns
+/// the number of stray sectors too.
 pub(crate) fn taken_sectors<D: Sectors>(disk: &mut D, found: Survey) -> Result<(Owners, u16), Fault>
     requires { IsToldBy (D.history.image disk.old) found }
     ensures table { IfOk result (λ taken. IsTakenTable (D.history.image disk.old) taken.0 taken.1) }

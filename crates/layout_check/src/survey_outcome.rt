@@ -1,4 +1,4 @@
-//! What a survey of a disk found: who owns which sector, and how many entries there are.
+//! What a survey of a disk found: the owner of each sector, and the number of entries.
 ghost use Rattle.std.specs.Prelude.{IsFalse, IsTrue};
 ghost use Rattle.layout_check.specs.Open.{IsOpen, IsShut};
 
@@ -19,8 +19,9 @@ pub struct Survey {
 pub(crate) struct Findings {
     /// The owners and the entries.
     pub(crate) survey: Survey,
-    /// A side sector whose bytes aren't exact, or a wrong block count: the first in the order of the directory. It
-    /// holds where the whole disk was seen to be sound. None where all are right.
+    /// The first fault, in the order of the directory, that a sound disk may have and a clean one may not: a side
+    /// sector whose bytes aren't exact, or a wrong block count. It holds if the whole disk is sound. None if all are
+    /// right.
     pub(crate) unclean: Option<Fault>,
 }
 
@@ -43,7 +44,7 @@ impl Survey {
     ghost use Rattle.disk_layout.specs.Rest.{taken_by_others};
     ghost use Rattle.layout_check.specs.Survey.{IsSurveyOf, entries_of};
 
-    /// What these owners and so many entries tell.
+    /// The survey with these owners and this number of entries.
     pub(crate) fn new(owners: Owners, entries: usize) -> Survey
         ensures owners { result.owners ≡ owners }
         ensures entries { result.entries ≡ entries }

@@ -5,7 +5,7 @@ ghost use Rattle.named_lines.specs.Named.{heading, named, piece};
 
 use std::io::{self, Write};
 
-/// Writes what stands before a line.
+/// Writes the heading of a line.
 fn put_heading<W: Write>(out: &mut W, name: &[u8]) -> io::Result<()>
     ensures { OnOk result (Appends (W.contents out.old) (W.contents out.new) (heading name.now)) }
 {
@@ -13,7 +13,7 @@ fn put_heading<W: Write>(out: &mut W, name: &[u8]) -> io::Result<()>
     out.write_all(b": ")
 }
 
-/// Writes one byte, and before it what stands before a line if it begins one.
+/// Writes one byte, after the heading if the byte begins a line.
 fn put_piece<W: Write>(out: &mut W, name: &[u8], begins: bool, byte: u8) -> io::Result<()>
     ensures { OnOk result (Appends (W.contents out.old) (W.contents out.new) (piece name.now begins byte)) }
 {

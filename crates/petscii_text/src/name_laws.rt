@@ -13,8 +13,8 @@ pub fn names_differ()
     ensures index { (n : ℕ) (a : List ℕ) (s : Ending) → file_name_of n a s ≢ codes "index.csv" }
 {}
 
-/// Whatever the entry is called, the name is one that any system takes, and a file with this name lies in the folder in
-/// which it is used.
+/// Whatever the entry's name is, any system takes the file's name, and the file is in the folder in which the name is
+/// used.
 pub fn names_are_safe()
     ensures { (n : ℕ) (a : List ℕ) (s : Ending) → n < 256 → length a ≤ 16 → IsSafeName (file_name_of n a s) }
 {}

@@ -1,4 +1,4 @@
-//! What a line of a script tells of: a message, and the reset in it where there is one.
+//! The event in a line of a script: a message, and its reset if it has one.
 use arrayvec::ArrayVec;
 
 /// A reset of the power, and the openings that are stopped before the one that isn't.
@@ -10,11 +10,11 @@ pub struct Cut {
     pub recoveries: ArrayVec<u32, 8>,
 }
 
-/// A message, and where power goes in it.
+/// A message, and the reset in it.
 #[derive(Drop)]
 pub struct Event<'a> {
     /// The message: any bytes.
     pub message: &'a [u8],
-    /// The reset, where power goes in this message.
+    /// The reset, if power fails in this message.
     pub cut: Option<Cut>,
 }

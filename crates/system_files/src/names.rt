@@ -15,7 +15,7 @@ struct Identity {
 }
 
 impl Identity {
-    /// The file of which the system says this.
+    /// The file that this metadata describes.
     fn of(found: &Metadata) -> Identity {
         Identity {
             device: found.dev(),

@@ -25,7 +25,7 @@ pub record IsEvent {D : Type 0} (h : History D) (s : Shop) (m : Message) (old ne
   pub is : MayCount s.top s.state (request_of m.bytes) m.cut_after failed counted
   pub blame : failed ≡ true → Failed h old new
   pub later : h.failures old ≤ h.failures new
-  -- no call failed where power stays and no failure is told
+  -- no call failed if power didn't fail and no failure is reported
   pub unfailed : m.cut_after ≡ None → failed ≡ false → h.failures new ≡ h.failures old
   pub moments : HeldOnly h old new (IsInEvent s m)
   pub quiet : LeavesAlone h s m old new

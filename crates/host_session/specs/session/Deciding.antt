@@ -16,14 +16,14 @@ traded cards top b = trade (cards b.item) (cards b.to) (room_for top b.item) b
 abbrev pub IsInTable : ℕ → Type 0
 IsInTable item = (1 ≤ item) × (item ≤ 10160)
 
--- a till's last request, and the one before it, where it has a card
+-- a till's last request, and the one before it, if it has a card
 abbrev pub newest_in : Option Card → Option Entry
 newest_in card = option_map (λ c. c.newest) card
 
 abbrev pub second_in : Option Card → Option Entry
 second_in card = option_and_then (λ c. c.second) card
 
--- the till's card with one request more, an open intent where the answer is done
+-- the till's card with one more request, an open intent if the answer is done
 abbrev pub card_with : Option Card → Ask → Answer → Card
 card_with card a answer = record {
   version = 2;

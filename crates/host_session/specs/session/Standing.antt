@@ -33,7 +33,8 @@ state_in cards requests = record {
   prior = λ t. option_and_then (λ c. c.second) (nth requests t);
 }
 
--- A session stands on a shop, whose limits it has; one that isn't dead on a settled one, whose state its tables hold.
+-- A session's image is that of a shop, whose limits it has. If it isn't dead, the shop is settled, and the session's
+-- tables hold its state.
 pub record IsStanding (img : Image) (dead : Bool) (top tills : ℕ) (state : State) : Type 0 where
   pub shop : Shop
   pub is_shop : IsShop img shop

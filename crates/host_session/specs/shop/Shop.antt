@@ -1,4 +1,4 @@
--- What a disk image stands for: a shop. All of it is our own.
+-- The shop that a disk image stands for. All of it is our own.
 use Rattle.std.specs.Prelude.{◌≡◌, ◌≤◌, ◌⊎◌, ℕ, Bool, false, ◌||◌, ◌==◌, List, [], ◌∷◌, Option, Some, None, IsSome}
 use Rattle.std.specs.Prelude.{if◌then◌else◌, length, take, map, flat_map, Contains, option_map}
 use Rattle.std.specs.Option.{option_and_then}
@@ -19,7 +19,7 @@ use Rattle.host_session.specs.shop.Files.{Files, HasFiles, record_at}
 abbrev pub cards_in : List (List ℕ) → List (Option Card)
 cards_in requests = map request_card_of (take 64 requests)
 
--- the card of a till, where its record holds one
+-- the card of a till, if its record holds one
 abbrev pub card_at : List (Option Card) → ℕ → Option Card
 card_at cards till = option_and_then (λ c. c) (record_at cards till)
 
@@ -49,11 +49,11 @@ results cards = flat_map (λ c. results_of c.newest) cards
 abbrev pub items : List (ℕ × ℕ) → List ℕ
 items quantities = map (λ q. q.0) quantities
 
--- the quantity on a card, where it is the card of this item
+-- the quantity on a card, if it is the card of this item
 abbrev pub quantity_if : ℕ → Stock → Option ℕ
 quantity_if item s = if s.item == item then Some s.quantity else None
 
--- the quantity in a record, where that holds the card of this item
+-- the quantity in a record, if that holds the card of this item
 abbrev pub quantity_in : ℕ → List ℕ → Option ℕ
 quantity_in item bytes = option_and_then (quantity_if item) (stock_card_of bytes)
 
@@ -83,7 +83,7 @@ IsStockRecord item bytes = (bytes ≡ empty_record 18) ⊎ IsSome (quantity_in i
 abbrev pub IsIntended : List (List ℕ) → ℕ → Type 0
 IsIntended requests item = Contains (items (results (intents (cards_in requests)))) item
 
--- the records of both files are as a ledger's are
+-- the records of both files are valid for a ledger
 pub record AreLedgerRecords (stock requests : List (List ℕ)) : Type 0 where
   -- each till's record is empty or a card
   pub request_records : (till : ℕ) (bytes : List ℕ) → till ≤ 64 → record_at requests till ≡ Some bytes
@@ -92,7 +92,7 @@ pub record AreLedgerRecords (stock requests : List (List ℕ)) : Type 0 where
   pub one_intent : length (intents (cards_in requests)) ≤ 1
   -- and STOCK has the records of its items
   pub intent_has_records : (item : ℕ) → IsIntended requests item → IsSome (record_at stock item)
-  -- each other record of STOCK is empty or the card of its item
+  -- every other record of STOCK is empty or the card of its item
   pub stock_records : (item : ℕ) (bytes : List ℕ) → record_at stock item ≡ Some bytes
       → IsIntended requests item ⊎ IsStockRecord item bytes
 
@@ -111,7 +111,7 @@ state_of stock requests = record {
   prior = λ t. option_and_then (λ c. c.second) (card_at (cards_in requests) t);
 }
 
--- What a shop's disk stands for: what requests change, its limits, and the rest of the disk.
+-- What a shop's disk stands for: the state that requests change, its limits, and the rest of the disk.
 pub record Shop : Type 0 where
   pub state : State
   -- tills are 1 to this number
@@ -143,7 +143,7 @@ pub record IsSettled (img : Image) (s : Shop) : Type 0 where
   pub no_intent : intents (cards_in shop.files.requests) ≡ []
   pub no_old_card : any_old (cards_in shop.files.requests) ≡ false
 
--- where a list of requests begins
+-- the state in which a list of requests begins, and its limits
 abbrev pub start_of : Shop → Start
 start_of s = record { state = s.state; tills = s.tills; top = s.top }
 

@@ -1,4 +1,4 @@
-//! A shop's disk mended, and a drive switched on over it.
+//! A shop's disk repaired, and a drive switched on over it.
 ghost use Rattle.disk_layout.specs.Clean.{IsClean};
 ghost use Rattle.disk_layout.specs.Layout.{IsSound};
 ghost use Rattle.host_session.specs.session.Mends.{Mends};

@@ -37,7 +37,7 @@ pub(crate) fn mark_answered(text: &mut [u8; REQUEST_CARD_LENGTH])
 }
 
 /// Writes the quantity on hand of an item whose record is there.
-// In line, as all on the way to a device's write is: a return right behind a call of the system is dear.
+// In line, as all on the way to a device's write is: a return right after a system call is slow.
 #[inline(always)]
 fn put_quantity<D: Sectors>(drive: &mut ShopDrive<D>, item: u16, quantity: u32) -> Result<(), Dead>
     requires ready { IsReady D.history drive.old }

@@ -26,7 +26,7 @@ pub struct LedgerFiles {
     pub(crate) top: u16,
 }
 
-/// Surveys a disk: its fault is told as opening tells it.
+/// Surveys a disk. A fault is returned as one of opening.
 fn survey_disk<D: Sectors>(disk: &mut D) -> Result<Survey, OpenFault>
     ensures ok { IfOk result (λ found. (l : Layout) × IsLayout (D.history.image disk.old) l × IsSurveyOf l found) }
     ensures err { IfErr result (Refuses (Failed D.history disk.old disk.new) (D.history.image disk.old)) }
@@ -40,7 +40,7 @@ fn survey_disk<D: Sectors>(disk: &mut D) -> Result<Survey, OpenFault>
     }
 }
 
-/// The first closed relative file of a name, where it has records of its length.
+/// The first closed relative file of a name, if its records have the right length.
 fn find_shop_file<D: Sectors>(disk: &mut D, file: ShopFile) -> Result<Option<RelFile>, OpenFault>
     requires sound { IsSound (D.history.image disk.old) }
     ensures found { (l : Layout) → IsLayout (D.history.image disk.old) l

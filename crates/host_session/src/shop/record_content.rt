@@ -1,4 +1,4 @@
-//! The records of the two files, read and judged one by one.
+//! The records of the two files, read and checked one by one.
 ghost use Rattle.std.specs.Prelude.{◌≡◌, ◌≤◌, ◌↔◌, ℕ, IsTrue, List, Option, length, replicate};
 ghost use Rattle.disk_layout.specs.Records.{empty_record};
 ghost use Rattle.host_session.specs.declared.faults.OpenFault.TheVariants.{Device};
@@ -61,8 +61,8 @@ fn what_is_held<C>(card: Option<C>, bytes: &[u8]) -> RecordContent<C>
     }
 }
 
-/// What a till's record holds; None past the last record. Nothing is written. `last` is the block of REQUESTS that was
-/// read last, `text` is room for the record.
+/// The contents of a till's record. None past the last record. Nothing is written. `last` is the block of REQUESTS that
+/// was read last, `text` is room for the record.
 pub(crate) fn read_till<D: Sectors>(
     disk: &mut D,
     files: &LedgerFiles,
@@ -91,7 +91,7 @@ pub(crate) fn read_till<D: Sectors>(
 }
 
 /// What these bytes of a record of STOCK hold.
-// In line: an opening asks it of each item.
+// In line: an opening calls it for each item.
 #[inline(always)]
 fn item_held(bytes: &[u8]) -> RecordContent<StockCard>
     requires { length bytes.now ≡ 18 }
@@ -125,8 +125,8 @@ fn read_item_next<D: Sectors>(
     }
 }
 
-/// What an item's record holds; None past the last record. Nothing is written. `last` is the block of STOCK that was
-/// read last, where most records lie; `text` is room for one that doesn't lie whole in it.
+/// The contents of an item's record. None past the last record. Nothing is written. `last` is the block of STOCK that
+/// was read last, which has most records; `text` is room for a record that goes on in another block.
 #[inline(always)]
 pub(crate) fn read_item<D: Sectors>(
     disk: &mut D,

@@ -1,4 +1,4 @@
--- A file takes one data block more: what is kept in memory for it, what it leaves, and what it writes. The order of the
+-- A file takes one more data block: what is kept in memory for it, what it leaves, and what it writes. The order of the
 -- writes is our own.
 use Rattle.std.specs.Prelude.{
   ℕ,
@@ -40,7 +40,8 @@ use Rattle.rel_records.specs.declared.growth.step_parts.Parts.{Parts}
 use Rattle.rel_records.specs.declared.rel_file.RelFile.{RelFile}
 use Rattle.rel_records.specs.growth.Growth.{full, records_had}
 
--- l is the layout of the image, which is clean, f its relative file at place n, and p is what is kept of them in memory
+-- l is the layout of the image, which is clean, f is its relative file at place n, and p is what is kept of them in
+-- memory
 pub record IsAt (img : Image) (l : Layout) (n : ℕ) (f : File) (p : Parts) : Type 0 where
   pub clean : IsCleanLayout img l
   pub there : slice_get l.files n ≡ Some f
@@ -69,11 +70,11 @@ IsFilledUp f = record_count (length f.blocks) f.last (record_length f.slot) ≡ 
 abbrev pub StandsFilled : Image → Parts → Type 0
 StandsFilled img p = (l : Layout) × (n : ℕ) × (f : File) × IsAt img l n f p × IsFilledUp f
 
--- the sectors that the next block takes: two where the side sectors of n blocks are full
+-- the number of sectors that the next block takes: two if the side sectors of n blocks are full
 abbrev pub taken_next : ℕ → ℕ
 taken_next n = if nat_eq (n % 120) 0 then 2 else 1
 
--- how many sectors are written for it: five, and where a side sector is new, each older one too
+-- how many sectors are written for it: five, and if a side sector is new, each older one too
 abbrev pub step_writes : ℕ → ℕ
 step_writes n = if nat_eq (n % 120) 0 then (5 + sides_for n) else 5
 
