@@ -71,7 +71,7 @@ fn place_of(text: &[u8]) -> Option<Position>
     })
 }
 
-/// Goes to a place in the file, on the same channel: what that comes to.
+/// Moves to a place in the file, on the same channel. Returns the status.
 fn go_to(found: &NamedFile, spot: &mut Position, wanted: Position) -> Status
     requires record_low { 1 ≤ wanted.record_number }
     requires record_high { wanted.record_number ≤ 65535 }
@@ -140,7 +140,7 @@ impl OpenFiles {
         Status::NoChannel
     }
 
-    /// Does a command that isn't for the disk: what it comes to.
+    /// Does a command that isn't for the disk. Returns the status.
     fn command(&mut self, text: &[u8]) -> Status
         requires other { ¬ (IsValidate text.now) }
         ensures row { (img : Image) → (s : statuses.Status) → IsKnown img self.old
@@ -160,7 +160,7 @@ impl OpenFiles {
     }
 }
 
-/// Mends the disk: what that comes to.
+/// Repairs the disk. Returns the status.
 fn validate<D: Sectors>(disk: &mut D) -> Result<Status, Dead>
     ensures { Validates D.history disk.old disk.new result }
 {

@@ -77,7 +77,7 @@ impl<D: Sectors> Drive<D> {
         &self.disk
     }
 
-    /// What the last call came to, as reading the error channel gives it; it is 00 from then on.
+    /// The status of the last call, as a read of the error channel returns it. It is 00 from then on.
     pub fn status(&mut self) -> Result<Status, Dead>
         ensures serves { Serves D.history self.old self.new result }
         ensures told { IfOk result (λ s. s ≡ self.old.status) }
