@@ -100,7 +100,7 @@ pub record IsKnown (img : Image) (k : OpenFiles) : Type 0 where
   pub fresh : k.checked ≡ false → (k.last ≡ None) × (k.before ≡ None)
   pub remembered : k.checked ≡ true → Remembers img k.last k.before
 
--- what a drive that isn't dead knows is so
+-- what a drive that isn't dead knows is right
 abbrev pub IsSteady : {D : Type 0} → History D → Inside D → Type 0
 IsSteady S d = d.dead ≡ false → IsKnown (S.image d.disk) d.known
 

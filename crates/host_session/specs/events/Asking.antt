@@ -97,7 +97,7 @@ of_events = record {
 abbrev pub noted_in : {A : Type 0} → RecordedEvents A → List Image
 noted_in now = map (λ (v : Vec ℕ Global). sectors_in v.items) now.disks.items
 
--- the events that were taken of a source, each noted with what the disk held
+-- the events that were taken from a source, each recorded with what the disk held
 abbrev pub noted : {A : Type 0} → Source A → Source (RecordedEvents A)
 noted a = record {
   gives = λ first now xs. a.gives first.asks now.asks xs × (noted_in now ≡ noted_in first ++ map (λ x. x.1.image) xs);

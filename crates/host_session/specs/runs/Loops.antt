@@ -119,7 +119,7 @@ abbrev pub with_disk : {D : Type 0} → D → Result Unit LoopFault → Result D
 with_disk disk (Ok _) = Ok disk
 with_disk disk (Err fault) = Err (fault, disk)
 
--- what a stretch of whole messages came to
+-- the result of a stretch of whole messages
 abbrev pub IsStretch : {D A T : Type 0} → History D → Source A → Output T → Origin D A T → View D → A → T → Stopped
     → Type 0
 IsStretch h a o from session asks out stretches.Cut = (session.dead ≡ false)

@@ -22,7 +22,7 @@ view_code {D} code =
 abbrev pub nth : {X : Type 0} → List (Option X) → ℕ → Option X
 nth xs n = if n == 0 then None else slice_index_or xs (n - 1) None
 
--- a table of n places that begins so
+-- a table of n places that begins with these
 abbrev pub padded_to : {X : Type 0} → ℕ → List (Option X) → List (Option X)
 padded_to n xs = xs ++ replicate (n - length xs) None
 

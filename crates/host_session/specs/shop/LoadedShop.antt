@@ -103,7 +103,7 @@ pub record HasJudgedTills (f : Files) (x : NewQuantities) : Type 0 where
   pub new : listed x ≡ results (intents (cards_in f.requests))
   pub there : (item : ℕ) → IsIntended f.requests item → IsSome (record_at f.stock item)
 
--- the item's record is empty, its card, or excused by an open intent, and so much is on hand; None: there is no such
+-- the item's record is empty, its card, or excused by an open intent, and this is on hand; None: there is no such
 -- record
 abbrev pub IsJudgedItem : Files → ℕ → Option (Option ℕ) → Type 0
 IsJudgedItem f item None = length f.stock < item
