@@ -3,9 +3,11 @@ use Rattle.std.specs.Prelude.{ℕ, ◌<◌, ◌≡◌, List, [], length, slice_i
 use Rattle.d64_image.specs.declared.place.Place.{Place}
 use Rattle.d64_image.specs.Places.{index_of}
 
+-- the bytes of a sector
 abbrev pub Sector : Type 0
 Sector = List ℕ
 
+-- the sectors of a disk, by their indices
 abbrev pub Image : Type 0
 Image = List (List ℕ)
 

@@ -25,6 +25,7 @@ channel_at entry s = record {
   position = s.position;
 }
 
+-- the channel at this place in the file with this entry, if there is one
 abbrev pub channel_in : ℕ → Option Position → Option Channel
 channel_in entry None = None
 channel_in entry (Some s) = Some (channel_at entry s)

@@ -177,12 +177,12 @@ impl<D: Sectors> Drive<D> {
     /// Does a command, and sets the status:
     ///
     /// - `V`, `V0`, `VALIDATE` and `VALIDATE0` repair the disk: 00, or 71 if it isn't sound. An open channel keeps its
-    /// place.
+    ///   place.
     /// - `I`, `I0`, `INITIALIZE` and `INITIALIZE0` do nothing: 00.
     /// - `P` moves the open channel. After it come the channel (modulo 16), the record's low and high byte and, if
-    /// given, the position. The status is 00, or 50 if the file has no such record yet. It is 51 if the position is
-    /// past the record's end, 52 if the record would need more than 720 blocks, and 70 if the channel isn't the open
-    /// one. At 51, 52 and 70 the place stays.
+    ///   given, the position. The status is 00, or 50 if the file has no such record yet. It is 51 if the position is
+    ///   past the record's end, 52 if the record would need more than 720 blocks, and 70 if the channel isn't the open
+    ///   one. At 51, 52 and 70 the place stays.
     /// - An empty command, or a `P` of another length: 30.
     /// - Any other command: 31.
     ///

@@ -10,8 +10,8 @@ use std::marker::Model;
 /// A drive with one relative channel, over a disk.
 ///
 /// Each call does what the first matching row of its table says, and sets the status, which `status` returns. The
-/// tables are those of the 1541 User's Guide (relative files, command channel and error channel); they are in
-/// `docs/DRIVE.md`. Once the device has failed, every call but `into_disk` returns `Dead` and changes nothing.
+/// tables are in `docs/DRIVE.md`; they follow the 1541 User's Guide (relative files, command channel and error
+/// channel). Once the device has failed, every call but `into_disk` returns `Dead` and changes nothing.
 #[derive(Drop)]
 pub struct Drive<D: Sectors> {
     pub(crate) disk: D,

@@ -76,6 +76,7 @@ of_script = record {
 abbrev pub last_taken : ℕ → List Event → Option Event
 last_taken n events = if n == 0 then None else slice_get events (n - 1)
 
+-- the message of an event; without an event an empty one
 abbrev pub message_here : Option Event → Message
 message_here None = uncut []
 message_here (Some e) = message_of e

@@ -16,10 +16,11 @@ traded cards top b = trade (cards b.item) (cards b.to) (room_for top b.item) b
 abbrev pub IsInTable : ℕ → Type 0
 IsInTable item = (1 ≤ item) × (item ≤ 10160)
 
--- a till's last request, and the one before it, if it has a card
+-- a till's last request, if it has a card
 abbrev pub newest_in : Option Card → Option Entry
 newest_in card = option_map (λ c. c.newest) card
 
+-- the request before a till's last one, if its card has one
 abbrev pub second_in : Option Card → Option Entry
 second_in card = option_and_then (λ c. c.second) card
 

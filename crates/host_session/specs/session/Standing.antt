@@ -13,6 +13,7 @@ pub record View (D : Type 0) : Type 0 where
   pub disk : D
   pub dead : Bool
 
+-- a view is coded as its disk and whether it is dead
 abbrev pub view_code : {D : Type 0} → Coded D → Coded (View D)
 view_code {D} code =
     code_by (D × Bool) (coded× code coded_bool) (λ v. (v.disk, v.dead)) (λ p. record { disk = p.0; dead = p.1 })

@@ -18,11 +18,12 @@ use Rattle.host_session.specs.shop.Files.{Files, record_at}
 use Rattle.host_session.specs.shop.Shop.{AreLedgerRecords, IsIntended, IsRequestRecord, IsStockRecord, card_at}
 use Rattle.host_session.specs.shop.Shop.{cards_in, intents, items, results, results_of, state_of}
 
--- the new quantities, item by item
+-- one new quantity or none, as a list
 abbrev pub pair_in : Option (ℕ × ℕ) → List (ℕ × ℕ)
 pair_in None = []
 pair_in (Some q) = q ∷ []
 
+-- the new quantities, item by item
 abbrev pub listed : NewQuantities → List (ℕ × ℕ)
 listed x = pair_in x.first ++ pair_in x.second
 

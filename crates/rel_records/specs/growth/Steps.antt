@@ -58,6 +58,7 @@ pub record IsAt (img : Image) (l : Layout) (n : ℕ) (f : File) (p : Parts) : Ty
   pub last : p.last ≡ sector img last_place
   pub directory : p.directory ≡ sector img f.slot.sector
 
+-- p is what is kept in memory of a clean image and one of its relative files
 abbrev pub StandsAt : Image → Parts → Type 0
 StandsAt img p = (l : Layout) × (n : ℕ) × (f : File) × IsAt img l n f p
 
