@@ -12,7 +12,7 @@ use arrayvec::ArrayVec;
 use d64_image::{MemDisk, Place};
 use disk_layout::{EntryView, Slot, walk_chain};
 
-/// What of a disk as a whole decides whether a file of it is cut short.
+/// The facts of the whole disk on which it depends whether a file is cut short.
 #[derive(Clone, Copy)]
 pub(crate) struct Facts {
     /// A sector is taken in the map but owned by nobody.
@@ -21,7 +21,7 @@ pub(crate) struct Facts {
     pub(crate) shop: bool,
 }
 
-/// The end of a chain: its last block, and how many it has.
+/// The end of a chain: its last block, and how many blocks it has.
 #[derive(Clone, Copy)]
 struct Tail {
     place: Place,
@@ -64,7 +64,7 @@ fn is_blank(disk: &mut MemDisk, place: Place) -> bool
     bytes_at(disk, place) == [0; 256]
 }
 
-/// Whether the chain of an entry of a sound disk, which ends so, is too short.
+/// Whether the chain of an entry of a sound disk, with this end, is too short.
 fn is_short(disk: &mut MemDisk, slot: &Slot, tail: Tail, facts: Facts) -> bool
     requires some { 1 ≤ tail.blocks }
     requires few { tail.blocks ≤ 720 }

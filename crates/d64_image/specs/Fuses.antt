@@ -9,10 +9,11 @@ use Rattle.d64_image.specs.History.{History, Failed, through}
 abbrev pub fuse_disk : {D : Type 0} → Fuse D → D
 fuse_disk f = f.disk
 
--- how many writes it lets pass in all, and how many it has let pass
+-- how many writes it lets pass in all
 abbrev pub fuse_limit : {D : Type 0} → Fuse D → ℕ
 fuse_limit f = f.limit
 
+-- how many writes it has let pass
 abbrev pub fuse_passed : {D : Type 0} → Fuse D → ℕ
 fuse_passed f = f.passed
 

@@ -15,10 +15,11 @@ sectors_in bytes = first_chunks 256 683 bytes
 abbrev pub bytes_of : Image → List ℕ
 bytes_of img = flat_map (λ bytes. bytes) img
 
--- what a disk in memory holds, as an image and as bytes
+-- what a disk in memory holds, as an image
 abbrev pub disk_image : MemDisk → Image
 disk_image disk = disk.sectors.items
 
+-- what a disk in memory holds, as bytes
 abbrev pub disk_bytes : MemDisk → List ℕ
 disk_bytes disk = bytes_of (disk_image disk)
 

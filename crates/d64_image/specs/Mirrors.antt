@@ -10,10 +10,11 @@ use Rattle.d64_image.specs.Images.{Image, Sector, put}
 use Rattle.d64_image.specs.Memory.{disk_image, memory}
 use Rattle.d64_image.specs.Offsets.{offset_of}
 
--- the disk in memory, and the file
+-- the disk in memory
 abbrev pub mirror_disk : {F : Type 0} → Mirror F → MemDisk
 mirror_disk m = m.disk
 
+-- the file
 abbrev pub mirror_file : {F : Type 0} → Mirror F → F
 mirror_file m = m.file
 

@@ -41,17 +41,19 @@ use Rattle.disk_layout.specs.Entries.{rel_entry}
 use Rattle.disk_layout.specs.Rest.{slot_name}
 use Rattle.disk_layout.specs.Side.{link_bytes, side_sector}
 
--- STOCK: a data block of 14 empty records of 18 bytes at 17/0, and its side sector at 17/1
+-- STOCK's data block: 14 empty records of 18 bytes at 17/0
 abbrev pub stock_block : Place
 stock_block = record { track = 17; sector = 0; on_disk = lit< tt }
 
+-- STOCK's side sector: 17/1
 abbrev pub stock_side : Place
 stock_side = record { track = 17; sector = 1; on_disk = lit< tt }
 
--- REQUESTS: data blocks of two empty records of 127 bytes, from 17/2 on, and their side sector at 17/3
+-- REQUESTS' first data block: 17/2. Its data blocks have two empty records of 127 bytes each
 abbrev pub requests_block : Place
 requests_block = record { track = 17; sector = 2; on_disk = lit< tt }
 
+-- REQUESTS' side sector: 17/3
 abbrev pub requests_side : Place
 requests_side = record { track = 17; sector = 3; on_disk = lit< tt }
 
@@ -59,13 +61,15 @@ requests_side = record { track = 17; sector = 3; on_disk = lit< tt }
 abbrev pub request_blocks : ℕ → ℕ
 request_blocks tills = (tills + 1) / 2
 
--- the place of data block k of REQUESTS, counted from 0: 17/2, 17/4 to 17/20, then 19/0 to 19/13
+-- the track of data block k of REQUESTS, counted from 0: the blocks are at 17/2, 17/4 to 17/20, then 19/0 to 19/13
 abbrev pub request_track : ℕ → ℕ
 request_track k = if nat_lt k 18 then 17 else 19
 
+-- its sector: 2, then 4 to 20 on track 17, then 0 to 13 on track 19
 abbrev pub request_sector : ℕ → ℕ
 request_sector k = if nat_lt k 1 then 2 else (if nat_lt k 18 then k + 3 else k - 18)
 
+-- p is the place of data block k of REQUESTS
 abbrev pub IsRequestPlace : ℕ → Place → Type 0
 IsRequestPlace k p = (p.track ≡ request_track k) × (p.sector ≡ request_sector k)
 

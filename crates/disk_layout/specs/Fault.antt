@@ -102,6 +102,7 @@ pub data Owner : Type 0 where
   blocks_of : Slot → Owner
   sides_of : Slot → Owner
 
+-- the owner has the sector at p, as far as chains and side sectors are good
 abbrev pub Owns : Image → Owner → Place → Type 0
 Owns img map_itself p = p ≡ map_place
 Owns img the_directory p = IsDirectorySector img p

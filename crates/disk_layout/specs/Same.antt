@@ -37,6 +37,7 @@ pub record Stays : Type 0 where
   pub bytes : List Sector
   pub sides : List Place
 
+-- what stays of a file of an image
 abbrev pub stays_of : Image → File → Stays
 stays_of img f = record {
   sector = f.slot.sector;

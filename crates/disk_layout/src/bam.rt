@@ -10,7 +10,7 @@ use d64_image::{DeviceFault, Place, Sectors};
 /// changes the other bytes, such as the disk's name.
 #[derive(Clone, Copy, Debug, PartialEq, Eq)]
 pub struct Bam {
-    /// The bytes as the disk has them or is to have them.
+    /// The bytes that the disk has or is to have.
     pub bytes: [u8; 256],
     pub ghost whole: { length bytes ≡ 256 },
 }
@@ -42,7 +42,7 @@ impl Bam {
         Ok(Bam { bytes })
     }
 
-    /// The same bytes as they are read: name, id and counts.
+    /// A view of these bytes: name, id and counts.
     pub fn view(&self) -> BamView<'_>
         ensures { result.bytes.now ≡ self.now.bytes }
     {

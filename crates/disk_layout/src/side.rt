@@ -95,7 +95,7 @@ impl<'a> SideView<'a> {
         Place::new(self.bytes[0], self.bytes[1])
     }
 
-    /// Its number among the file's side sectors, as its byte 2 has it: 0 to 5 in a sound file.
+    /// Its number among the file's side sectors, from its byte 2: 0 to 5 in a sound file.
     pub fn number(&self) -> u8
         ensures { result ≡ slice_index self.now.bytes.now 2 }
     {

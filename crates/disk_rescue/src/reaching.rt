@@ -8,16 +8,16 @@ use arrayvec::ArrayVec;
 use d64_image::{MemDisk, Place, Sectors};
 use disk_layout::{EntryView, Fault, MOST_BLOCKS, Slot, walk_as_far};
 
-/// What ends the blocks that can be reached of a file.
+/// The end of the blocks of a file that can be reached.
 #[derive(Clone, Copy, Debug, PartialEq, Eq)]
 pub struct Reach {
     /// The index of the last byte of the last block that is the file's: 0 or 1 if it has none there.
     pub last: u8,
-    /// What ended the chain, if it wasn't its end: `BadLink` or `Loop`.
+    /// The fault that ended the chain early: `BadLink` or `Loop`. None if the chain came to its end.
     pub fault: Option<Fault>,
 }
 
-/// What ends the walk from `first` over these sectors.
+/// The end of the walk from `first` over these sectors.
 fn end_of(disk: &mut MemDisk, first: Place, places: &[Place], last: u8) -> Reach
     requires { IsWalk (disk_image disk.old) first places.now last }
     ensures reach { IsReach (disk_image disk.old) first places.now result.fault result.last }
@@ -44,7 +44,7 @@ fn end_of(disk: &mut MemDisk, first: Place, places: &[Place], last: u8) -> Reach
     }
 }
 
-/// Fills `blocks` with the sectors that the links from `first` come to, as far as they go.
+/// Fills `blocks` with the sectors that the links from `first` reach, as far as they go.
 fn reach_blocks(
     disk: &mut MemDisk,
     first: Place,
@@ -57,7 +57,7 @@ fn reach_blocks(
     end_of(disk, first, blocks.as_slice(), last)
 }
 
-/// Whether the entry names no block and needn't: its file has no bytes then.
+/// Whether the entry names no block and needs none: its file then has no bytes.
 fn names_no_block(slot: &Slot) -> bool
     ensures { IsTrue result ↔ NamesNoBlock slot.now }
 {

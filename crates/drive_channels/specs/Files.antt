@@ -15,6 +15,7 @@ pub record IsRelAt (img : Image) (l : Layout) (entry : ℕ) (f : File) : Type 0 
 abbrev pub IsNamedFile : Image → List ℕ → ℕ → File → Type 0
 IsNamedFile img name entry f = (l : Layout) × IsLayout img l × IsFirst l name entry f
 
+-- there is a closed relative file of the name
 abbrev pub HasFile : Image → List ℕ → Type 0
 HasFile img name = (entry : ℕ) × (f : File) × IsNamedFile img name entry f
 

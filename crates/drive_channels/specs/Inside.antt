@@ -25,6 +25,7 @@ channel_at entry s = record {
   position = s.position;
 }
 
+-- the channel at this place in the file with this entry, if there is one
 abbrev pub channel_in : ℕ → Option Position → Option Channel
 channel_in entry None = None
 channel_in entry (Some s) = Some (channel_at entry s)
@@ -100,7 +101,7 @@ pub record IsKnown (img : Image) (k : OpenFiles) : Type 0 where
   pub fresh : k.checked ≡ false → (k.last ≡ None) × (k.before ≡ None)
   pub remembered : k.checked ≡ true → Remembers img k.last k.before
 
--- what a drive that isn't dead knows is so
+-- what a drive that isn't dead knows is right
 abbrev pub IsSteady : {D : Type 0} → History D → Inside D → Type 0
 IsSteady S d = d.dead ≡ false → IsKnown (S.image d.disk) d.known
 

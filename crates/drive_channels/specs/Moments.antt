@@ -48,6 +48,7 @@ pub record IsCreatingFor (old : Image) (l : Layout) (w : Wish) (img : Image) : T
 abbrev pub IsCreatingFrom : Image → Layout → List ℕ → Image → Type 0
 IsCreatingFrom old l text img = (img ≡ old) ⊎ ((w : Wish) × IsWish text w × IsCreatingFor old l w img)
 
+-- the text is empty
 abbrev pub is_nil : List ℕ → Bool
 is_nil [] = true
 is_nil (x ∷ xs) = false

@@ -132,6 +132,7 @@ MovesTo x r position y c l f =
       status = if nat_lt (records_had f) r then RecordNotPresent else Ok;
     })
 
+-- the command P, which names a channel, a record and a position
 abbrev pub Moves : View → List ℕ → View → Type 0
 Moves x text y =
     when ¬ ((length text ≡ 4) ⊎ (length text ≡ 5)) then Tells x SyntaxError y otherwise

@@ -71,7 +71,7 @@ fn place_of(text: &[u8]) -> Option<Position>
     })
 }
 
-/// Goes to a place in the file, on the same channel: what that comes to.
+/// Moves to a place in the file, on the same channel. Returns the status.
 fn go_to(found: &NamedFile, spot: &mut Position, wanted: Position) -> Status
     requires record_low { 1 ≤ wanted.record_number }
     requires record_high { wanted.record_number ≤ 65535 }
@@ -140,7 +140,7 @@ impl OpenFiles {
         Status::NoChannel
     }
 
-    /// Does a command that isn't for the disk: what it comes to.
+    /// Does a command that isn't for the disk. Returns the status.
     fn command(&mut self, text: &[u8]) -> Status
         requires other { ¬ (IsValidate text.now) }
         ensures row { (img : Image) → (s : statuses.Status) → IsKnown img self.old
@@ -160,7 +160,7 @@ impl OpenFiles {
     }
 }
 
-/// Mends the disk: what that comes to.
+/// Repairs the disk. Returns the status.
 fn validate<D: Sectors>(disk: &mut D) -> Result<Status, Dead>
     ensures { Validates D.history disk.old disk.new result }
 {
@@ -177,12 +177,12 @@ impl<D: Sectors> Drive<D> {
     /// Does a command, and sets the status:
     ///
     /// - `V`, `V0`, `VALIDATE` and `VALIDATE0` repair the disk: 00, or 71 if it isn't sound. An open channel keeps its
-    /// place.
+    ///   place.
     /// - `I`, `I0`, `INITIALIZE` and `INITIALIZE0` do nothing: 00.
     /// - `P` moves the open channel. After it come the channel (modulo 16), the record's low and high byte and, if
-    /// given, the position. The status is 00, or 50 if the file has no such record yet. It is 51 if the position is
-    /// past the record's end, 52 if the record would need more than 720 blocks, and 70 if the channel isn't the open
-    /// one. At 51, 52 and 70 the place stays.
+    ///   given, the position. The status is 00, or 50 if the file has no such record yet. It is 51 if the position is
+    ///   past the record's end, 52 if the record would need more than 720 blocks, and 70 if the channel isn't the open
+    ///   one. At 51, 52 and 70 the place stays.
     /// - An empty command, or a `P` of another length: 30.
     /// - Any other command: 31.
     ///

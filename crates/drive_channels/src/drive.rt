@@ -10,8 +10,8 @@ use std::marker::Model;
 /// A drive with one relative channel, over a disk.
 ///
 /// Each call does what the first matching row of its table says, and sets the status, which `status` returns. The
-/// tables are those of the 1541 User's Guide (relative files, command channel and error channel); they are in
-/// `docs/DRIVE.md`. Once the device has failed, every call but `into_disk` returns `Dead` and changes nothing.
+/// tables are in `docs/DRIVE.md`; they follow the 1541 User's Guide (relative files, command channel and error
+/// channel). Once the device has failed, every call but `into_disk` returns `Dead` and changes nothing.
 #[derive(Drop)]
 pub struct Drive<D: Sectors> {
     pub(crate) disk: D,
@@ -77,7 +77,7 @@ impl<D: Sectors> Drive<D> {
         &self.disk
     }
 
-    /// What the last call came to, as reading the error channel gives it; it is 00 from then on.
+    /// The status of the last call, as a read of the error channel returns it. It is 00 from then on.
     pub fn status(&mut self) -> Result<Status, Dead>
         ensures serves { Serves D.history self.old self.new result }
         ensures told { IfOk result (λ s. s ≡ self.old.status) }

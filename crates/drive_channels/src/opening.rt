@@ -116,7 +116,8 @@ impl OpenFiles {
         false
     }
 
-    /// Makes this file the one opened last, with no channel; the one before it is the one opened last until now.
+    /// Makes this file the one opened last, with no channel. The file before it is then the one that was opened last
+    /// until now.
     fn put_last(&mut self, found: NamedFile)
         ensures last { self.new.last ≡ Some (record { found = found; spot = None }) }
         ensures before { self.new.before ≡ found_in self.old.last }
@@ -186,7 +187,7 @@ impl OpenFiles {
         Status::FileNotFound
     }
 
-    /// Makes a file that isn't there, and opens it: what that comes to.
+    /// Makes a file that isn't there, and opens it. Returns the status.
     fn make<D: Sectors>(
         &mut self,
         disk: &mut D,

@@ -68,7 +68,7 @@ fn give(bytes: &[u8], position: u8, to: &mut ArrayVec<u8, DATA>)
     copy(&rest[..end], to);
 }
 
-/// Reads at a place, and goes on from it: what that comes to.
+/// Reads at a place, and goes on from it. Returns the status.
 fn read_at<D: Sectors>(
     disk: &mut D,
     found: &NamedFile,

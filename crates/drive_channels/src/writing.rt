@@ -22,7 +22,7 @@ use crate::status::Status;
 use d64_image::Sectors;
 use rel_records::{RelFault, grow_to, write_record};
 
-/// Grows the file so that the record at a place is there: what it comes to.
+/// Grows the file so that it has the record at a place. Returns the status.
 fn grow_at<D: Sectors>(disk: &mut D, found: &mut NamedFile, spot: Position) -> Result<Status, Dead>
     requires { IsPlace (D.history.image disk.old) found.old spot }
     ensures { WritesAt D.history disk.old disk.new found.old found.new spot spot [] result }
@@ -36,7 +36,7 @@ fn grow_at<D: Sectors>(disk: &mut D, found: &mut NamedFile, spot: Position) -> R
     }
 }
 
-/// Writes a text that isn't empty at a place, and goes on from it: what that comes to.
+/// Writes a text that isn't empty at a place, and goes on from it. Returns the status.
 fn write_text<D: Sectors>(
     disk: &mut D,
     found: &mut NamedFile,
@@ -69,7 +69,7 @@ fn write_text<D: Sectors>(
     }
 }
 
-/// Writes at a place, and goes on from it: what that comes to.
+/// Writes at a place, and goes on from it. Returns the status.
 fn write_at<D: Sectors>(
     disk: &mut D,
     found: &mut NamedFile,

@@ -15,18 +15,18 @@ ghost use Rattle.request_cards.specs.declared.reply.Reply.{Reply};
 
 use d64_image::Sectors;
 
-/// A disk is one shop's at most.
+/// A disk is at most one shop's.
 pub fn one_shop()
     ensures { (img : Image) (s t : Shop) → IsShop img s → IsShop img t → s ≡ t }
 {}
 
-/// A disk of which a fault of opening holds, other than the device's, is no shop's.
+/// A disk with a fault of opening, other than the device's, is no shop's.
 pub fn refused_no_shop()
     ensures { (img : Image) (fault : OpenFault) (s : Shop) → Refuses ⊥ img fault → ¬ (IsShop img s) }
 {}
 
-/// What a shop keeps of a till are the last two of all requests that the till was ever answered, with their answers:
-/// those that the disk held, and then the new ones of the requests that follow.
+/// What a shop keeps of a till is the last two of all requests that the till was ever answered, with their answers. All
+/// of them are those that the disk held, and then the new ones of the requests that follow.
 pub fn last_two()
     ensures { (img : Image) (s : Shop) → IsShop img s → (asks : List Ask) (till : ℕ)
         → KeepsLastTwo (start_of s) asks till }

@@ -22,7 +22,7 @@ use drive_channels::Dead;
 use request_cards::{Answer, Request, RequestCard};
 use std::marker::Model;
 
-/// How many items a shop has at most: as many as the largest file has records.
+/// The greatest number of items of a shop: as many as the largest file has records.
 pub(crate) const ITEMS: usize = 10160;
 
 /// An open ledger: a shop on a disk.

@@ -39,7 +39,7 @@ pub record IsCleanBut (strays : List Place) (img : Image) (l : Layout) : Type 0 
   pub files : AllByRecursion (λ f. IsTrue (is_rel f.slot) → IsExactFile img f) l.files
   pub map : IsMapOf (sector img map_place) (strays ++ map_place ∷ owners l)
 
--- a sector that the new map calls free, the old one called free: no bit goes from taken to free
+-- a sector that is free in the new map was free in the old one: no bit goes from taken to free
 abbrev pub FreesNothing : Image → Image → Type 0
 FreesNothing old new = (p : Place) → IsFree (sector new map_place) p → IsFree (sector old map_place) p
 
@@ -47,8 +47,8 @@ FreesNothing old new = (p : Place) → IsFree (sector new map_place) p → IsFre
 abbrev pub MarksTaken : Owners → Layout → List Place → Type 0
 MarksTaken t l strays = (p : Place) → (owner_of t p ≢ 255) ↔ Contains (strays ++ map_place ∷ owners l) p
 
--- from the one table to the other these sectors got an owner: those among the ones looked at that the map calls taken
--- and that had none
+-- from the one table to the other these sectors got an owner: those among the ones looked at that are taken in the map
+-- and had none
 pub record AreMarked (map : Sector) (old new : Owners) (Looked : Place → Type 0) (ps : List Place) : Type 0 where
   pub once : EachOnce ps
   pub those : (p : Place) → Contains ps p ↔ (Looked p × ¬ (IsFree map p) × (owner_of old p ≡ 255))
@@ -82,7 +82,7 @@ pub record MakesCleanBut {D T : Type 0} (strays : List Place) (S : History D) (o
       → OnOk result (AreMade (IsRightBut strays l) (repair_order l) (S.image old) (S.image new))
   pub spare : ClearsSpare (S.image old) (S.image new)
   pub failures : TellsDevice S old new result
-  -- a disk that is so is not written
+  -- a disk that is clean in this way isn't written
   pub quiet : (l : Layout) → IsCleanBut strays (S.image old) l → WritesNothing S old new
   pub reads : (l : Layout) → IsLayout (S.image old) l → ReadsFew S old new (19 + 5 * length (owners l)) result
 
@@ -106,9 +106,9 @@ pub record RepairsKeeping {D : Type 0} (S : History D) (old new : D) (result : R
   -- if the device doesn't fail, the result is Ok exactly on a sound image
   pub sound : NeverFailed S old new → (IsOk result ↔ IsSound (S.image old))
   pub moments : MendsFrom S old new 883
-  -- in no image held a sector is free that wasn't
+  -- no image held has a sector free that wasn't
   pub frees : Changes S old new 883 (FreesNothing (S.image old))
-  -- files that are whole are so in each image held
+  -- whole files are whole in each image held
   pub whole : HoldsWhole S old new
   -- no sector that is right is written, the others once, the map first, then the side sectors, then the directory
   pub order : (l : Layout) (strays : List Place) → IsLayout (S.image old) l → AreStray (S.image old) l strays
@@ -125,6 +125,6 @@ pub record RepairsKeeping {D : Type 0} (S : History D) (old new : D) (result : R
   pub failures : TellsFault S old new result
   -- on any disk, whatever the result
   pub reads : S.reads new ≤ S.reads old + 5544
-  -- and at Ok seven a sector of the directory or a file
+  -- and at Ok at most seven for each sector of the directory or a file
   pub few_reads : OnOk result ((l : Layout) → IsLayout (S.image old) l
       → S.reads new ≤ S.reads old + (38 + 7 * length (owners l)))

@@ -20,7 +20,7 @@ pub record KeepsTracks (old new : Sector) (track : ℕ) : Type 0 where
   pub counts : (t : ℕ) → t ≢ track → map_count new t ≡ map_count old t
   pub header : SameHeader old new
 
--- a track was made by the table
+-- the map of a track was made by the table
 pub record IsMadeTrack (old new : Sector) (t : Owners) (track : ℕ) : Type 0 where
   pub right : IsRightTrack new t track
   pub spare : HasNoSpare new track

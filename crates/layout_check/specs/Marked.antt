@@ -14,7 +14,7 @@ use Rattle.layout_check.specs.declared.owners.Owners.{Owners}
 abbrev pub IsMarked : Sector → Owners → Place → Type 0
 IsMarked bytes t p = IsFree bytes p ↔ (owner_of t p ≡ 255)
 
--- how many sectors of a track the bits call free
+-- how many sectors of a track are free by their bits
 abbrev pub ones_on : Sector → ℕ → ℕ
 ones_on bytes track = sum_by (map_bit bytes track) (numbers_below (sectors_on track))
 

@@ -34,7 +34,7 @@ pub record Repairs {D : Type 0} (S : History D) (old new : D) (result : Result S
   -- if the device doesn't fail, the result is Ok exactly on a sound image
   pub sound : NeverFailed S old new → (IsOk result ↔ IsSound (S.image old))
   pub moments : MendsFrom S old new 883
-  -- files that are whole are so in each image held
+  -- whole files are whole in each image held
   pub whole : HoldsWhole S old new
   -- no sector that is right is written, the others once, the map first, then the side sectors, then the directory
   pub order : (l : Layout) → IsLayout (S.image old) l → GoesOver S old new (IsRight l) (repair_order l)

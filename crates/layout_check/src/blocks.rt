@@ -11,8 +11,8 @@ use arrayvec::ArrayVec;
 use d64_image::{Place, Sectors};
 use disk_layout::{EntryView, Fault, MOST_BLOCKS, Slot, read_sector, walk_chain};
 
-/// Follows the chain of a closed entry that names a first block, and fills `blocks` with its sectors in order. The
-/// answer is the index of the last used byte in the last one.
+/// Follows the chain of a closed entry that names a first block, and fills `blocks` with its sectors in order. Returns
+/// the index of the last used byte of the last one.
 pub(crate) fn survey_blocks<D: Sectors>(
     disk: &mut D,
     slot: &Slot,

@@ -14,7 +14,7 @@ use crate::survey_walk::survey_files;
 use d64_image::Sectors;
 use disk_layout::{Fault, map_place, read_sector};
 
-/// Judges the map of a sound disk that was surveyed.
+/// Checks the map of a sound disk that was surveyed.
 fn check_map<D: Sectors>(disk: &mut D, found: &Survey) -> Result<(), Fault>
     requires { IsToldBy (D.history.image disk.old) found.now }
     ensures map { OnOk result (HasMap (D.history.image disk.old)) }

@@ -1,4 +1,4 @@
-//! The file of one entry: what it owns is found, and claimed for it.
+//! Finds the file of one entry, and claims for it what it owns.
 ghost use Rattle.std.specs.Prelude.{◌≢◌, ◌<◌, IfErr, IfOk, IsFalse, IsTrue, None, OnOk, slice_index};
 ghost use Rattle.disk_layout.specs.Fault.{IsClosed};
 ghost use Rattle.disk_layout.specs.Layout.{is_rel};
@@ -15,7 +15,7 @@ use arrayvec::ArrayVec;
 use d64_image::{Place, Sectors};
 use disk_layout::{EntryView, Fault, MOST_BLOCKS, Slot};
 
-/// The file of an entry that isn't relative and names a first block: its chain.
+/// Finds the file of an entry that isn't relative and names a first block: its chain.
 fn survey_plain<D: Sectors>(
     disk: &mut D,
     slot: &Slot,
@@ -49,7 +49,7 @@ fn unclean_of(slot: &Slot, inexact: Option<Place>, owned: usize) -> Option<Fault
     None
 }
 
-/// The file of a relative entry: its chain, and its side sectors. The answer is what a clean disk must not have.
+/// Finds the file of a relative entry: its chain, and its side sectors. Returns what a clean disk must not have.
 fn survey_relative<D: Sectors>(
     disk: &mut D,
     slot: &Slot,

@@ -16,7 +16,7 @@ use disk_layout::{BamView, Fault, map_place, read_sector};
 /// The number of a stray sector: it is taken in the map, but nobody owns it.
 const STRAY: u8 = 253;
 
-/// Whether the map calls this sector taken, and it has no owner.
+/// Whether this sector is taken in the map, and has no owner.
 fn is_stray(map: &[u8; 256], owners: &Owners, place: Place) -> bool
     ensures stray { IsTrue result → ¬ (IsFree map.now place) × ¬ (owner_of owners.now place ≢ 255) }
     ensures other { IsFalse result → IsFree map.now place ⊎ (owner_of owners.now place ≢ 255) }
@@ -24,7 +24,7 @@ fn is_stray(map: &[u8; 256], owners: &Owners, place: Place) -> bool
     !BamView::new(map).is_free(place) && !owners.is_owned(place)
 }
 
-/// Gives this sector an owner, if the map calls it taken and it has none: how many sectors got one, 0 or 1.
+/// Gives this sector an owner, if it is stray. Returns how many sectors got one, 0 or 1.
 fn mark_place(map: &[u8; 256], owners: &mut Owners, place: Place) -> u16
     ensures marked { (ps : List Place)
         × AreMarked map.now owners.old owners.new (λ p. p ≡ place) ps × (result ≡ length ps) }
@@ -37,7 +37,7 @@ fn mark_place(map: &[u8; 256], owners: &mut Owners, place: Place) -> u16
     1
 }
 
-/// Gives the sectors of a track that the map calls taken and that have no owner one: how many these are.
+/// Gives the stray sectors of a track an owner. Returns how many these are.
 fn mark_track(map: &[u8; 256], owners: &mut Owners, track: u8) -> u16
     ensures marked { (ps : List Place)
         × AreMarked map.now owners.old owners.new (λ p. p.track ≡ track) ps × (result ≡ length ps) }
@@ -52,7 +52,7 @@ fn mark_track(map: &[u8; 256], owners: &mut Owners, track: u8) -> u16
     count
 }
 
-/// Gives the sectors of the disk that the map calls taken and that have no owner one: how many these are.
+/// Gives the stray sectors of the disk an owner. Returns how many these are.
 fn mark_strays(map: &[u8; 256], owners: &mut Owners) -> u16
     ensures marked { (ps : List Place)
         × AreMarked map.now owners.old owners.new (λ p. p.track < 36) ps × (result ≡ length ps) }

@@ -26,7 +26,7 @@ fn is_right_track(map: &[u8; 256], owners: &Owners, track: u8) -> bool
     right & (view.free_on(track) == count)
 }
 
-/// Judges the bit of each sector of a track, and the track's count.
+/// Checks the bit of each sector of a track, and the track's count.
 fn check_track(map: &[u8; 256], owners: &Owners, track: u8) -> Result<(), Fault>
     requires first { 1 ≤ track }
     requires last { track ≤ 35 }

@@ -84,8 +84,8 @@ fn mend_sides<D: Sectors>(
     Ok(())
 }
 
-/// Gives the side sectors of a relative entry of a sound disk the bytes that they are to have. `parts` is filled with
-/// what the entry owns.
+/// Gives the side sectors of a relative entry of a sound disk the bytes that they should have. Fills `parts` with what
+/// the entry owns.
 fn mend_relative<D: Sectors>(disk: &mut D, slot: &Slot, parts: &mut Parts) -> Result<(), Fault>
     requires filed { IsFiled (D.history.image disk.old) slot.now }
     requires rel { IsTrue (is_rel slot.now) }

@@ -74,8 +74,8 @@ impl Owners {
         self.numbers[place.index()] = number;
     }
 
-    /// Gives all these sectors, no two of which are equal, to one owner. If one of them is owned already, `OwnedTwice`
-    /// is returned at it, and the table may hold anything.
+    /// Gives all these sectors, no two of which are equal, to one owner. If any of them is owned already,
+    /// `OwnedTwice` is returned at such a sector, and the table may hold anything.
     pub(crate) fn claim(&mut self, number: u8, places: &[Place]) -> Result<(), Fault>
         requires some { number < 255 }
         requires once { EachOnce places.now }

@@ -21,8 +21,8 @@ use disk_layout::{
     write_other,
 };
 
-/// How many sectors a relative entry of a sound disk owns: its data blocks and its side sectors. `parts` is filled
-/// with these.
+/// How many sectors a relative entry of a sound disk owns: its data blocks and its side sectors. Fills `parts` with
+/// these.
 fn count_owned<D: Sectors>(disk: &mut D, slot: &Slot, parts: &mut Parts) -> Result<u16, Fault>
     requires entry { IsEntry (D.history.image disk.old) slot.now }
     requires rel { IsTrue (is_rel slot.now) }

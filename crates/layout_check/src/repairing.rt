@@ -14,8 +14,8 @@ use crate::survey_walk::survey;
 use d64_image::Sectors;
 use disk_layout::Fault;
 
-/// Gives a sound disk the map that calls these sectors taken, and the side sectors and the block counts that it is to
-/// have, in this order.
+/// Gives a sound disk the map in which these sectors are taken, and the side sectors and the block counts that it
+/// should have, in this order.
 fn mend<D: Sectors>(disk: &mut D, taken: &Owners) -> Result<(), Fault>
     requires { (l : Layout) × (strays : List Place) × IsLayout (D.history.image disk.old) l
         × MarksTaken taken.now l strays }

@@ -7,14 +7,14 @@ use d64_image::Place;
 use disk_layout::Fault;
 use std::ops::Range;
 
-/// What a sound disk has: the owner of each sector, and the number of entries. It is of the disk as it was surveyed.
+/// The owner of each sector of a sound disk, and the number of entries, at the time of the survey.
 #[derive(Drop)]
 pub struct Survey {
     owners: Owners,
     entries: usize,
 }
 
-/// A survey, and what it kept back because only a clean disk must not have it.
+/// A survey, and a fault that was kept back because only a clean disk must not have it.
 #[derive(Drop)]
 pub(crate) struct Findings {
     /// The owners and the entries.
@@ -81,9 +81,9 @@ impl Survey {
         self.entries
     }
 
-    /// How many of the 664 sectors outside track 18 no other entry owns: those that are free, and those of the entry
-    /// with this number, which is its place among the used entries, from 0. If there is no such entry, the sectors that
-    /// no entry owns.
+    /// How many of the 664 sectors outside track 18 no other entry owns: those without an owner, and those of the entry
+    /// with this number, which is its position among the used entries, from 0. If there is no such entry, the sectors
+    /// that no entry owns.
     pub fn outside(&self, entry: usize) -> u16
         ensures { (l : Layout) → IsSurveyOf l self.now → result + taken_by_others l entry ≡ 664 }
     {

@@ -6,13 +6,14 @@ ghost use Rattle.petscii_text.specs.FileNames.{ending_of, ending_text, file_name
 
 use arrayvec::ArrayVec;
 
-/// How many bytes a name has at most: three digits, a hyphen, sixteen bytes of the entry's name, and an ending of four.
+/// The greatest number of bytes of a name: three digits, a hyphen, sixteen bytes of the entry's name, and an ending of
+/// four.
 pub const NAME_ROOM: usize = 24;
 
 /// The name of a file, in bytes of ASCII.
 pub type FileName = ArrayVec<u8, 24>;
 
-/// What a file's name ends with.
+/// The ending of a file's name.
 #[derive(Clone, Copy, Debug, PartialEq, Eq)]
 pub enum Ending {
     /// `.del`
@@ -25,7 +26,7 @@ pub enum Ending {
     Usr,
     /// `.rel`
     Rel,
-    /// `.bin`, of a type that there isn't
+    /// `.bin`, for an unknown type
     Other,
     /// `.csv`, the records of a relative file as lines
     Records,

@@ -36,7 +36,8 @@ pub record HasRecords (old new : Image) (l : Layout) (n : ℕ) (rs : List (List 
   pub records : records new file ≡ rs
   pub places : (f : File) → slice_get l.files n ≡ Some f → KeepsPlaces old f file rs
 
--- what a call leaves that is done: so, and new is clean, and v is of that file
+-- what a call that is done leaves: new is clean, all files except the one at place n are as in old, that one has these
+-- records, and v is of it
 pub record LeavesRecords (old new : Image) (l : Layout) (n : ℕ) (rs : List (List ℕ)) (v : RelFile) : Type 0 where
   pub layout : Layout
   pub clean : IsCleanLayout new layout

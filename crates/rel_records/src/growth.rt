@@ -26,7 +26,7 @@ use crate::sizes::{blocks_for, side_count};
 use d64_image::{DeviceFault, Sectors};
 use disk_layout::Bam;
 
-/// How many sectors a file of `blocks` blocks needs to have `wanted` of them, beyond those that it has.
+/// How many sectors a file of `blocks` blocks needs, beyond those that it has, to have `wanted` blocks.
 fn sectors_needed(blocks: u16, wanted: u16) -> u16
     requires blocks { blocks ≤ 720 }
     requires wanted { wanted ≤ 720 }

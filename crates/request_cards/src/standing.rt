@@ -54,7 +54,7 @@ fn late(prior: Option<(Request, Answer)>, request: &Request) -> Word
 ///
 /// - A till past `tills` gets `NO TILL`.
 /// - If the number is that of the last request or the one before, and the wish is the same, it gets the kept answer; if
-/// the wishes differ, `CLASH`.
+///   the wishes differ, `CLASH`.
 /// - Any other number below the last gets `STALE`.
 /// - The number one past the last, or 1 if nothing is kept, is new.
 /// - Any greater number gets `AHEAD`.

@@ -45,7 +45,7 @@ pub record IsReset (bytes : List ℕ) (k : ℕ) (recoveries message : List ℕ) 
   pub few : length recoveries ≤ 8
   pub each : AllByRecursion (λ m. m ≤ 99999) recoveries
 
--- The grammar of lines: a line that doesn't begin with @ is its own message. A line is bad that has no such form.
+-- The grammar of lines: a line that doesn't begin with @ is its own message. A line with neither form is bad.
 abbrev pub IsLine : List ℕ → Line → Type 0
 IsLine bytes l = ((slice_index bytes 0 ≢ 64) × (l ≡ record { message = bytes; reset = None }))
     ⊎ ((k : ℕ) × (recoveries : List ℕ) × (message : List ℕ) × IsReset bytes k recoveries message

@@ -1,10 +1,10 @@
 //! The event in a line of a script: a message, and its reset if it has one.
 use arrayvec::ArrayVec;
 
-/// A reset of the power, and the openings that are stopped before the one that isn't.
+/// A reset of the power, and the recoveries that are stopped before the whole one.
 #[derive(Drop)]
 pub struct Cut {
-    /// Power goes after this many sector writes of the message, or after its last one, the answer unread.
+    /// Power fails after this many sector writes of the message, or after its last one, before the answer is read.
     pub after: u32,
     /// The listed recoveries: each opening is stopped after this many of its sector writes.
     pub recoveries: ArrayVec<u32, 8>,

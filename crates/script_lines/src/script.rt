@@ -35,7 +35,7 @@ fn lf_among(bytes: &[u8; WINDOW]) -> u8
     at
 }
 
-/// The place of the first LF.
+/// The index of the first LF.
 fn end_of_line(script: &[u8]) -> Option<usize>
     ensures { MatchOption result
         ((k : ℕ) → k < length script.now → slice_index script.now k ≢ 10)

@@ -1,4 +1,4 @@
-//! Names that may come to lead elsewhere while a file is open.
+//! Names of open files. Such a name may come to lead elsewhere.
 ghost use Rattle.std.specs.Prelude.{◌≡◌};
 
 use std::fs::{Metadata, OpenFile};

@@ -23,7 +23,7 @@ pub struct OverwrittenFile<O: OpensFile> {
 }
 
 impl<O: OpensFile> OverwrittenFile<O> {
-    /// The file that is opened so, and isn't opened yet.
+    /// A file that `opens` will open. It isn't opened yet.
     pub fn new(opens: O) -> OverwrittenFile<O> {
         OverwrittenFile { opens, file: None }
     }

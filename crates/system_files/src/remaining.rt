@@ -11,8 +11,8 @@ pub trait EndedFile {
     // what is known of the bytes that it holds, and of those that remain after a power loss
     ghost remains: { Remains Self } = { unknown };
 
-    /// Writes all these bytes over those from that place on; zeros fill what was missing before it. At an error a part of
-    /// them was written.
+    /// Writes all these bytes over those from that place on; zeros fill what was missing before it. At an error a part
+    /// of them may be written.
     fn put_over(&mut self, bytes: &[u8], at: u64) -> io::Result<()>
         ensures { IsPutOver remains self.old self.new bytes.now at result };
 

@@ -7,7 +7,7 @@ use std::io;
 use std::os::fd::AsRawFd;
 use std::rt::Files;
 
-/// What can be read and written whatever comes, and holds nothing.
+/// A file that can always be read and written, and is always empty.
 const NOTHING: &str = "/dev/null";
 
 /// The files that stand in for standard streams that were closed when the program started: reading standard input then

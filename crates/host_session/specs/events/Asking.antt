@@ -76,6 +76,7 @@ of_script = record {
 abbrev pub last_taken : ℕ → List Event → Option Event
 last_taken n events = if n == 0 then None else slice_get events (n - 1)
 
+-- the message of an event; without an event an empty one
 abbrev pub message_here : Option Event → Message
 message_here None = uncut []
 message_here (Some e) = message_of e
@@ -97,7 +98,7 @@ of_events = record {
 abbrev pub noted_in : {A : Type 0} → RecordedEvents A → List Image
 noted_in now = map (λ (v : Vec ℕ Global). sectors_in v.items) now.disks.items
 
--- the events that were taken of a source, each noted with what the disk held
+-- the events that were taken from a source, each recorded with what the disk held
 abbrev pub noted : {A : Type 0} → Source A → Source (RecordedEvents A)
 noted a = record {
   gives = λ first now xs. a.gives first.asks now.asks xs × (noted_in now ≡ noted_in first ++ map (λ x. x.1.image) xs);

@@ -58,6 +58,7 @@ IsRunWhole h o s taken disk left old new = (x : IsToldWhole h o s (messages_in t
     × AreWithin h (messages_in taken) x.turns x.run.first
     × AreSparing h (messages_in taken) x.turns x.run.first
 
+-- The same if the output failed at the last reply.
 abbrev pub IsRunToOutput : {D T : Type 0} → History D → Output T → Shop → List (Message × Instant) → D → D → T → T
     → Type 0
 IsRunToOutput h o s taken disk left old new = (x : IsToldToOutput h o s (messages_in taken) disk left old new)
@@ -65,6 +66,7 @@ IsRunToOutput h o s taken disk left old new = (x : IsToldToOutput h o s (message
     × AreWithin h (messages_in taken) (x.turns ++ x.last ∷ []) x.run.first
     × AreSparing h (messages_in taken) (x.turns ++ x.last ∷ []) x.run.first
 
+-- The same if the device failed in the last message.
 abbrev pub IsRunToDevice : {D T : Type 0} → History D → Output T → Shop → List (Message × Instant) → D → D → T → T
     → Type 0
 IsRunToDevice h o s taken disk left old new = (x : IsToldToDevice h o s (messages_in taken) disk left old new)
@@ -119,7 +121,7 @@ abbrev pub with_disk : {D : Type 0} → D → Result Unit LoopFault → Result D
 with_disk disk (Ok _) = Ok disk
 with_disk disk (Err fault) = Err (fault, disk)
 
--- what a stretch of whole messages came to
+-- the result of a stretch of whole messages
 abbrev pub IsStretch : {D A T : Type 0} → History D → Source A → Output T → Origin D A T → View D → A → T → Stopped
     → Type 0
 IsStretch h a o from session asks out stretches.Cut = (session.dead ≡ false)

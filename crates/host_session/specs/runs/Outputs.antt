@@ -40,7 +40,7 @@ written contents = record {
   none = λ w. Appends-nil (contents w);
 }
 
--- so were those of a printer, to its writer
+-- the same for a printer, over its writer
 abbrev pub printed : {W : Type 0} → (W → Option (List ℕ)) → Output (Printer W)
 printed contents = output_in printer_out (written contents)
 
@@ -54,7 +54,7 @@ listed = record {
   none = λ v. sym (append-nil v.items);
 }
 
--- a reply that was heard, with what the disk held then
+-- a reply that was kept, with what the disk held then
 abbrev pub turn_of : RecordedReply → Reply × Image
 turn_of t = (t.reply, sectors_in t.bytes.items)
 
@@ -62,7 +62,7 @@ turn_of t = (t.reply, sectors_in t.bytes.items)
 abbrev pub held_in : List (Reply × Instant) → List (Reply × Image)
 held_in turns = map (λ x. (x.0, x.1.image)) turns
 
--- what was heard up to now
+-- the replies that were kept up to now
 abbrev pub turns_of : RecordedReplies → List (Reply × Image)
 turns_of h = map turn_of h.turns.items
 

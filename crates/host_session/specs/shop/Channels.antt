@@ -8,6 +8,7 @@ use Rattle.host_session.specs.declared.shop.shop_drive.ShopFile.{ShopFile}
 use Rattle.host_session.specs.declared.shop.shop_drive.ShopFile.TheVariants.{Requests, Stock}
 use Rattle.host_session.specs.shop.Selecting.{channel_at}
 
+-- the name of the file
 abbrev pub name_of : ShopFile → List ℕ
 name_of Stock = codes "STOCK"
 name_of Requests = codes "REQUESTS"

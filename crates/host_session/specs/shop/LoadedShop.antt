@@ -18,11 +18,12 @@ use Rattle.host_session.specs.shop.Files.{Files, record_at}
 use Rattle.host_session.specs.shop.Shop.{AreLedgerRecords, IsIntended, IsRequestRecord, IsStockRecord, card_at}
 use Rattle.host_session.specs.shop.Shop.{cards_in, intents, items, results, results_of, state_of}
 
--- the new quantities, item by item
+-- one new quantity or none, as a list
 abbrev pub pair_in : Option (ℕ × ℕ) → List (ℕ × ℕ)
 pair_in None = []
 pair_in (Some q) = q ∷ []
 
+-- the new quantities, item by item
 abbrev pub listed : NewQuantities → List (ℕ × ℕ)
 listed x = pair_in x.first ++ pair_in x.second
 
@@ -103,7 +104,7 @@ pub record HasJudgedTills (f : Files) (x : NewQuantities) : Type 0 where
   pub new : listed x ≡ results (intents (cards_in f.requests))
   pub there : (item : ℕ) → IsIntended f.requests item → IsSome (record_at f.stock item)
 
--- the item's record is empty, its card, or excused by an open intent, and so much is on hand; None: there is no such
+-- the item's record is empty, its card, or excused by an open intent, and this is on hand; None: there is no such
 -- record
 abbrev pub IsJudgedItem : Files → ℕ → Option (Option ℕ) → Type 0
 IsJudgedItem f item None = length f.stock < item

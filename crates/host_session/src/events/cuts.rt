@@ -55,7 +55,7 @@ fn cut_openings<D: Sectors>(disk: D, recoveries: &[u32]) -> D
 
 /// A message in which power fails, the listed recoveries, and a whole recovery. If the whole one failed, Err has the
 /// disk.
-// Out of line: a run without a reset has no use for these sessions.
+// Out of line: a run without a reset doesn't use these sessions.
 #[inline(never)]
 pub(crate) fn cut_event<D: Sectors>(
     session: Session<D>,

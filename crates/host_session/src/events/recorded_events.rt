@@ -19,7 +19,7 @@ pub struct RecordedEvents<A> {
 }
 
 impl<A> RecordedEvents<A> {
-    /// The events of this source; none is noted yet.
+    /// The events of this source; none is recorded yet.
     pub fn new(alloc: Global, asks: A) -> RecordedEvents<A>
         ensures asks { result.asks ≡ asks }
         ensures none { noted_in result ≡ [] }

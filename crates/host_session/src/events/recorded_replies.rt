@@ -42,7 +42,7 @@ impl RecordedReplies {
         }
     }
 
-    /// What was heard, in order.
+    /// The replies that were kept, in order.
     pub fn turns(&self) -> &[RecordedReply]
         ensures { result.now ≡ self.now.turns.items }
     {

@@ -8,7 +8,7 @@ ghost use Rattle.script_lines.specs.Resets.{Line, line_of};
 use d64_image::Sectors;
 use script_lines::{Cut, Event, event_at, next_line};
 
-/// What asking for the next event comes to.
+/// The result of asking for the next event.
 #[derive(Clone, Copy, Debug, PartialEq, Eq)]
 pub enum Next {
     /// An event was taken.
@@ -24,7 +24,7 @@ pub trait EventSource<D: Sectors> {
     /// What is known of the messages that this source gives.
     ghost source: { Source Self };
 
-    /// Takes the next event. The disk is lent as it is then.
+    /// Takes the next event. `disk` is the disk as it is then.
     fn next(&mut self, disk: &D) -> Next
         ensures { IsNext source self.old self.new (instant_of D.history disk.now) result };
 

@@ -25,7 +25,7 @@ pub enum LoopFault {
 
 /// The end of a stretch of whole messages.
 enum Stopped {
-    /// Power goes in the event that was taken last, which isn't handled yet.
+    /// Power fails in the event that was taken last, which isn't handled yet.
     Cut,
     /// The run is over.
     Ended(Result<(), LoopFault>),
@@ -74,7 +74,7 @@ fn ended<D>(disk: D, end: Result<(), LoopFault>) -> Result<D, (LoopFault, D)>
 }
 
 /// The run from an event with a reset on, which was taken and isn't handled yet.
-// Out of line: a run without a reset has no use for these sessions.
+// Out of line: a run without a reset doesn't use these sessions.
 #[inline(never)]
 fn run_on<D: Sectors, A: EventSource<D>, T: ReplySink<D>>(
     session: Session<D>,

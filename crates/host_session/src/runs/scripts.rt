@@ -88,7 +88,7 @@ pub fn play_script<D: Sectors, T: ReplySink<D>>(
 /// - `Open` if the disk isn't opened. Nothing is written to `out`.
 /// - `Output` if the writer fails or takes no more. The lines handled so far stand.
 /// - `Device` if the device failed, after the first MEDIA, or after a `CUT` whose whole recovery failed. It is returned
-/// even if the writer failed too.
+///   even if the writer failed too.
 ///
 /// No memory is allocated. It takes as much stack as `play_script`.
 pub fn run_script<D: Sectors, W: Write>(

@@ -1,4 +1,4 @@
-//! What the tables of a session decide of a request, and what becomes of them.
+//! Decides a request by the tables of a session, and updates the tables.
 ghost use Rattle.std.specs.Prelude.{◌≡◌, ◌≤◌, ◌+◌, IfSome, Some};
 ghost use Rattle.host_session.specs.session.Deciding.{IsInTable, card_with, newest_in, renewed, second_in, traded};
 ghost use Rattle.host_session.specs.session.Standing.{nth, state_in};

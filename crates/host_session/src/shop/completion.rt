@@ -67,7 +67,7 @@ fn put_results<D: Sectors>(
 {
     let new = new_quantities(till, card);
     let Some((item, quantity)) = new.first else {
-        // what isn't done is no open intent
+        // a request that wasn't done has no open intent
         return Ok(());
     };
     let Some((to, to_quantity)) = new.second else {

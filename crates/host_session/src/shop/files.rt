@@ -64,8 +64,8 @@ fn find_shop_file<D: Sectors>(disk: &mut D, file: ShopFile) -> Result<Option<Rel
     }
 }
 
-/// The last item that a new card in this file may have: the last one whose record lies in as many blocks as fit, with
-/// their side sectors, into the sectors outside track 18 that no other file owns. 120 blocks take one side sector.
+/// The last item that a new card in this file may have. Its record is the last one in as many blocks as fit, with their
+/// side sectors, into the sectors outside track 18 that no other file owns. 120 blocks take one side sector.
 fn top_of(found: &Survey, entry: usize) -> u16
     requires told { (l : Layout) × IsSurveyOf l found.now }
     ensures { (l : Layout) → IsSurveyOf l found.now → IsTop l entry result }

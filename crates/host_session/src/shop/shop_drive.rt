@@ -40,7 +40,7 @@ impl ShopFile {
         }
     }
 
-    /// The length of its records.
+    /// The length of its records, in bytes.
     pub(crate) fn record_length(self) -> u8
         ensures { result ≡ length_of self }
     {

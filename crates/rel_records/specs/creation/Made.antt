@@ -80,7 +80,7 @@ abbrev pub HasNoRoom : Image → Layout → Type 0
 HasNoRoom img l = (blocks_free (sector img map_place) < 2)
     ⊎ (AreFullSectors img l.directory × IsFullTrack (sector img map_place) 18)
 
--- what a creation leaves that is done: so, and v is of the new file
+-- what a creation that is done leaves: one file more, and v is of that file
 pub record IsMade (old : Image) (l : Layout) (name : List ℕ) (L : ℕ) (new : Image) (v : RelFile) : Type 0 where
   pub more : HasFileMore old l name L new
   pub of : IsFileOf new more.layout (entry_of v) more.file v

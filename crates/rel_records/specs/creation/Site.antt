@@ -37,6 +37,7 @@ pub record IsSectorSite (img : Image) (l : Layout) (s : Site) (fresh : Place) : 
   pub number : s.number ≡ 0
   pub entry : s.entry ≡ 8 * length l.directory
 
+-- the site is right for a new file: with a free slot, or with a new directory sector
 abbrev pub IsSite : Image → Layout → Site → Type 0
 IsSite img l s = MatchOption s.fresh (IsSlotSite img l s) (IsSectorSite img l s)
 
@@ -45,6 +46,7 @@ abbrev pub sector_or : Place → Option Place → Place
 sector_or p None = p
 sector_or p (Some fresh) = fresh
 
+-- the directory sector of the site that the entry goes into
 abbrev pub sector_of : Site → Place
 sector_of s = sector_or s.place s.fresh
 

@@ -46,7 +46,7 @@ fill_writes f =
     (if nat_lt (records_had f * record_length f.slot) (254 * (length f.blocks - 1)) then 2 else 1)
 
 -- how many older side sectors are written while a file gets n data blocks: 1 with its second side sector, 2 with its
--- third ..
+-- third ...
 abbrev pub side_writes : ℕ → ℕ
 side_writes n = sides_for n * (sides_for n - 1) / 2
 

@@ -44,7 +44,7 @@ fn free_slot(bytes: &[u8; 256]) -> Option<u8>
     None
 }
 
-/// The first free slot of these directory sectors, in order, of which there is one at least.
+/// The first free slot of these directory sectors, in order. There is at least one sector.
 pub(crate) fn find_room<D: Sectors>(disk: &mut D, places: &[Place]) -> Result<Room, DeviceFault>
     requires { 1 ≤ length places.now }
     ensures bytes { IfOk result (λ room. room.bytes ≡ sector (D.history.image disk.old) room.place) }

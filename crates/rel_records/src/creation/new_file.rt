@@ -114,8 +114,8 @@ fn write_in_slot<D: Sectors>(
     disk.write(site.place, bytes)
 }
 
-/// Writes a new file's sectors and a new directory sector with its entry, and then the directory's last sector, which
-/// got the link to that: this last write makes the file.
+/// Writes a new file's sectors and a new directory sector with its entry. Then writes the directory's last sector with
+/// the link to the new one: this last write makes the file.
 fn write_behind<D: Sectors>(
     disk: &mut D,
     site: &Site,

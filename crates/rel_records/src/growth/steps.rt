@@ -29,7 +29,7 @@ use crate::growth::step_parts::Parts;
 use d64_image::{DeviceFault, Place, Sectors};
 use disk_layout::{POINTERS, map_place, side_bytes};
 
-/// Writes the side sector of that number with its exact bytes.
+/// Writes the side sector with this number, with its exact bytes.
 fn write_side<D: Sectors>(
     disk: &mut D,
     number: u8,
