@@ -7,7 +7,8 @@ use crate::faults::JobFault;
 use crate::progress::{Watched, is_long};
 use crate::words::command_line;
 use disk_layout::Fault;
-use ledger_jobs::{Job, Refusal, announce, do_job, do_trim, end, explain, tell_cut};
+use ledger_jobs::{Job, Refusal, announce, do_job, do_trim, end, explain, files_of, tell_cut};
+use noted_files::{Failures, NotedRuntime};
 use shop_commands::{EndedFile, Locks, RunFault};
 use std::alloc::{AllocError, Global};
 use std::env;
@@ -134,6 +135,28 @@ where
     ended
 }
 
+/// Does a job over an output that is gathered, and keeps why calls of the system failed.
+fn do_noted<'a, F, R, E>(
+    rt: &R,
+    job: &Job<'a>,
+    told: Audience,
+    failures: &Failures<'a>,
+    err: &mut E,
+) -> Result<Option<Fault>, Refusal>
+where
+    F: EndedFile + Read + Locks + OpenFile + Drop,
+    R: Files<File = F> + Input + Print + AllocGlobal,
+    E: Write,
+    requires { IsFit job.now }
+{
+    let files = files_of(job);
+    let noted = NotedRuntime::new(rt, files.as_slice(), failures);
+    match BufWriter::with_capacity(rt.alloc(), OUTPUT_ROOM, io::writer(&noted)) {
+        Ok(mut out) => do_watched(&noted, job, told, &mut out, err),
+        Err(_) => Err(Refusal::Run(RunFault::NoMemory)),
+    }
+}
+
 /// Does a job over an output that is gathered, and answers the exit status. A person is told more of what isn't done.
 fn obey_job<F, R, E>(rt: &R, job: &Job<'_>, told: Audience, err: &mut E) -> u8
 where
@@ -145,15 +168,13 @@ where
     if told != Audience::Program {
         announce(rt, job, err);
     }
-    let ended = match BufWriter::with_capacity(rt.alloc(), OUTPUT_ROOM, io::writer(rt)) {
-        Ok(mut out) => do_watched(rt, job, told, &mut out, err),
-        Err(error) => return refuse(err, &io::Error::from(error)),
-    };
+    let failures = Failures::none();
+    let ended = do_noted(rt, job, told, &failures, err);
     let refusal = ended.err();
     let status = end(ended, err).status;
     if told != Audience::Program {
         match refusal {
-            Some(refusal) => explain(rt, job, refusal, err),
+            Some(refusal) => explain(rt, job, refusal, failures.cause(), err),
             None => tell_cut(rt, job, err),
         }
     }

@@ -7,13 +7,15 @@ use crate::losses::cut_in;
 use crate::refusals::Refusal;
 use d64_image::Place;
 use disk_pictures::PictureFault;
+use arrayvec::ArrayVec;
 use keeper_commands::KeepFault;
+use noted_files::Failure;
 use shop_commands::{Locks, RunFault};
 use std::fmt::Display;
-use std::fs::{File, OpenFile, OpenOptions};
-use std::io::{self, Read, Write};
+use std::fs::OpenFile;
+use std::io::{self, ErrorKind, Read, Write};
 use std::rt::Files;
-use system_files::{ShownPath, opened_to_change, opened_to_read, regular_at};
+use system_files::{ShownPath, regular_at};
 
 /// What a refusal is about.
 enum About {
@@ -21,6 +23,8 @@ enum About {
     Files,
     /// The image's size.
     Size,
+    /// A file that failed while it was written or read.
+    Device,
     /// The image, of which this is to be said.
     Image(&'static str),
     /// The script or the records, of which this is to be said.
@@ -36,8 +40,14 @@ const JUDGED: &str = "docs/KEEPERS.md says what the word means, and what to do";
 
 const NO_SHOP: &str = "it is no shop of this program, or another program wrote to it";
 
-const UNWRITTEN: &str =
-    "it couldn't be written; copy it to another medium, check the copy, and go on there";
+const UNWRITTEN: &str = "; copy it to another medium, check the copy, and go on there";
+
+const FULL: &str = "; make room there, and go on";
+
+const GONE: &str = "its name doesn't lead to the file that was opened, or that has another length";
+
+const UNREAD: &str =
+    "ledger: a file couldn't be read to its end, or the output not be written";
 
 const KEPT: &str = "no file owns what is kept, but another program may; `repair --free` frees it";
 
@@ -54,7 +64,7 @@ fn about_run(fault: RunFault) -> About {
         RunFault::ImageSize => About::Size,
         RunFault::Layout(_) => About::Image(JUDGED),
         RunFault::BadLine(_) => About::Text(BAD_LINE),
-        RunFault::Device => About::Image(UNWRITTEN),
+        RunFault::Device => About::Device,
         RunFault::NoMemory => About::Nothing,
         _ => About::Image(NO_SHOP),
     }
@@ -69,7 +79,7 @@ fn about_keep(fault: KeepFault) -> About {
         KeepFault::FileExists => About::Image("a file has this name; `ledger list` shows them"),
         KeepFault::DiskFull => About::Image("too few blocks are free; nothing was done"),
         KeepFault::BadLine(_) => About::Text(BAD_LINE),
-        KeepFault::Device => About::Image(UNWRITTEN),
+        KeepFault::Device => About::Device,
         KeepFault::NoMemory => About::Nothing,
         KeepFault::Geos => About::Image(
             "it is a disk of GEOS, which keeps sectors that no file owns",
@@ -116,28 +126,23 @@ fn image_of<'a>(job: &Job<'a>) -> &'a str {
     }
 }
 
-/// The script, the records or the second image that it reads behind that.
+/// The script or the records that a job reads after its first file.
 fn text_of<'a>(job: &Job<'a>) -> Option<&'a str> {
     match job {
         Job::Play { script, .. } | Job::PlaySynced { script, .. } => Some(script),
         Job::Store { records, .. } => Some(records),
         Job::Dry { script } => Some(script),
-        Job::Compare { after, .. } => Some(after),
         _ => None,
     }
 }
 
-/// Whether it writes its first file.
-fn writes(job: &Job<'_>) -> bool {
+/// The second file of a job, or the folder that it makes.
+fn second_of<'a>(job: &Job<'a>) -> Option<&'a str> {
     match job {
-        Job::Format { .. } | Job::FormatNew { .. } => true,
-        Job::Play { .. } | Job::PlaySynced { .. } | Job::Serve { .. } => true,
-        Job::Repair { .. } | Job::Make { .. } | Job::Store { .. } => true,
-        Job::List { .. } | Job::Check { .. } | Job::Show { .. } | Job::Dry { .. } => false,
-        Job::Take { .. } | Job::Draw { .. } | Job::Copy { .. } => false,
-        Job::Extract { .. } => false,
-        Job::View { .. } | Job::Trim { .. } | Job::Compare { .. } => false,
-        Job::Several { .. } | Job::Sheet { .. } | Job::Describe { .. } => false,
+        Job::Compare { after, .. } => Some(after),
+        Job::Copy { copy, .. } => Some(copy),
+        Job::Extract { folder, .. } => Some(folder),
+        _ => text_of(job),
     }
 }
 
@@ -157,30 +162,39 @@ fn tell_of_image<E: Write>(err: &mut E, job: &Job<'_>, said: &str) {
     }
 }
 
-/// Tells what the system says of a file that can't be opened. False where it can.
-fn told_unopened<T: Drop, E: Write>(err: &mut E, path: &str, tried: io::Result<T>) -> bool {
-    match tried {
-        Ok(_) => false,
-        Err(error) => {
-            tell_of(err, path, error);
-            true
+/// The words of a job that name files: those that a failure of the system can be about. None of a job over several
+/// images, which prints what is wrong with each.
+pub fn files_of<'a>(job: &Job<'a>) -> ArrayVec<&'a str, 2> {
+    let mut files = ArrayVec::new();
+    if let Job::Several { .. } | Job::Sheet { .. } | Job::Describe { .. } = job {
+        return files;
+    }
+    for path in [Some(image_of(job)), second_of(job)] {
+        match path {
+            Some(path) if path != STANDARD_INPUT => files.push(path),
+            _ => {}
         }
     }
+    files
 }
 
-/// Opens the file of an image as its job does. An error if it isn't a regular file; such a thing isn't opened.
-fn opened_for<R: Files>(rt: &R, job: &Job<'_>, image: &str) -> io::Result<R::File> {
-    match job {
-        Job::Format { .. } | Job::FormatNew { .. } => {
-            regular_at(rt, image)?;
-            OpenOptions::new().write(true).open(rt, image)
+/// Prints what the system said of a call that failed, and this after it.
+fn tell_failure<E: Write>(err: &mut E, failure: &Failure<'_>, said: &str) {
+    let Failure {
+        subject,
+        error,
+        sector,
+    } = failure;
+    let _ = match sector {
+        Some(place) => {
+            let (track, number) = (place.track(), place.sector());
+            writeln!(err, "ledger: {subject}: {error}, at sector {track}/{number}{said}")
         }
-        _ if writes(job) => opened_to_change(rt, image),
-        _ => opened_to_read(rt, image),
-    }
+        None => writeln!(err, "ledger: {subject}: {error}{said}"),
+    };
 }
 
-/// Whether this is the first file of a job, and an image.
+/// Whether this is the path of a job's image, and not of a script or of standard input.
 fn is_image(job: &Job<'_>, path: &str) -> bool {
     match job {
         Job::Dry { .. } => false,
@@ -188,36 +202,53 @@ fn is_image(job: &Job<'_>, path: &str) -> bool {
     }
 }
 
-/// Whether opening a script or records may wait, as for a pipe whose writer is gone.
-fn may_wait<R: Files>(rt: &R, path: &str) -> bool {
-    match rt.metadata(path) {
-        Ok(found) => !found.is_file(),
-        Err(_) => false,
+/// The first image of a job at whose path stands something else than a regular file, and what is wrong with that.
+fn image_at_fault<'a, R: Files>(rt: &R, job: &Job<'a>) -> Option<(&'a str, io::Error)> {
+    let after = match job {
+        Job::Compare { after, .. } => Some(*after),
+        _ => None,
+    };
+    for path in [Some(image_of(job)), after] {
+        let path = path?;
+        if is_image(job, path) {
+            if let Err(error) = regular_at(rt, path) {
+                return Some((path, error));
+            }
+        }
+    }
+    None
+}
+
+/// Prints why a file couldn't be opened, read or written: what the system said of it. If it said nothing, something else
+/// than a regular file stands where an image is wanted.
+fn tell_files<R: Files, E: Write>(
+    rt: &R,
+    job: &Job<'_>,
+    cause: Option<Failure<'_>>,
+    err: &mut E,
+) {
+    if let Some(failure) = cause {
+        return tell_failure(err, &failure, "");
+    }
+    match image_at_fault(rt, job) {
+        Some((image, error)) => tell_of(err, image, error),
+        None => {
+            let _ = writeln!(err, "{UNREAD}");
+        }
     }
 }
 
-/// Prints which of a job's files can't be opened. Standard input isn't opened, nor a script that is no regular file:
-/// that may wait.
-fn tell_files<F, R, E>(rt: &R, job: &Job<'_>, err: &mut E)
-where
-    F: Drop,
-    R: Files<File = F>,
-    E: Write,
-{
-    let image = image_of(job);
-    if is_image(job, image) && told_unopened(err, image, opened_for(rt, job, image)) {
-        return;
+/// Prints why a file failed while it was written or read, and what to do. If the system said nothing, it is no longer
+/// the file that was opened.
+fn tell_device<E: Write>(job: &Job<'_>, cause: Option<Failure<'_>>, err: &mut E) {
+    let Some(failure) = cause else {
+        return tell_of(err, image_of(job), GONE);
+    };
+    match failure.error.kind() {
+        ErrorKind::NotFound => tell_failure(err, &failure, ""),
+        ErrorKind::StorageFull | ErrorKind::QuotaExceeded => tell_failure(err, &failure, FULL),
+        _ => tell_failure(err, &failure, UNWRITTEN),
     }
-    if let Some(text) = text_of(job) {
-        let tried = text != STANDARD_INPUT && !may_wait(rt, text);
-        if tried && told_unopened(err, text, File::open(rt, text)) {
-            return;
-        }
-    }
-    let _ = writeln!(
-        err,
-        "ledger: a file couldn't be read to its end, or the output not be written"
-    );
 }
 
 /// How many bytes a regular file has. None of standard input and if the system doesn't say; nothing is opened.
@@ -352,19 +383,21 @@ where
     }
 }
 
-/// Tells a person, in a line below the refusal's own, which file it is about, what the system says of it then, or what
-/// to do. The job's files, but for standard input, are opened once more for it, and neither made, read nor changed. Where
-/// it can't be told there is nobody left to tell.
-pub fn explain<F, R, E>(rt: &R, job: &Job<'_>, refusal: Refusal, err: &mut E)
-where
-    F: OpenFile + Drop,
-    R: Files<File = F>,
-    E: Write,
-{
+/// Prints for a person, in a line below the refusal's own, which file it is about, what the system said of it, or what to
+/// do. `cause` is why a call of the system failed, if one did. No file is opened for it. If it can't be printed, there is
+/// nobody left to tell.
+pub fn explain<R: Files, E: Write>(
+    rt: &R,
+    job: &Job<'_>,
+    refusal: Refusal,
+    cause: Option<Failure<'_>>,
+    err: &mut E,
+) {
     let image = image_of(job);
     match subject_of(refusal) {
-        About::Files => tell_files(rt, job, err),
+        About::Files => tell_files(rt, job, cause, err),
         About::Size => tell_size(rt, missized_of(rt, job), err),
+        About::Device => tell_device(job, cause, err),
         About::Image(said) => tell_of_image(err, job, said),
         About::Text(said) => tell_of(err, text_of(job).unwrap_or(image), said),
         About::Made => tell_made(job, err),

@@ -37,7 +37,7 @@ pub use dispatch::{do_job, do_over, drawn_end, job_end};
 pub use drawing::drawing_run;
 pub use durable_runs::{play_durably, serve_durably};
 pub use endings::{Ending, end, tell};
-pub use explanations::{announce, explain, tell_cut};
+pub use explanations::{announce, explain, files_of, tell_cut};
 pub use extracting::extract_run;
 pub use jobs::{
     Columns, Drawing, Effect, Job, Loss, Overview, Reading, Taking, Unowned, View, Way,

@@ -5,9 +5,9 @@ ghost use Rattle.ledger_jobs.specs.DurableRuns.{IsFinished};
 
 use crate::refusals::Refusal;
 use disk_layout::Fault;
-use shop_commands::{Durability, ImageFile, Locks, RunFault, WritesAt, read_image};
+use shop_commands::{Durability, ImageFile, Locks, RunFault, WritesAt};
 use std::alloc::Global;
-use std::io::{self, Read};
+use std::io;
 
 /// Locks an image's file for this program alone. Where each sector is brought to the disk, so is first what the file
 /// holds: an earlier program's writes may still be on their way. `InUse`; `Device` where that failed. Nothing was read
@@ -16,6 +16,7 @@ pub(crate) fn lock_exclusive<F: Locks>(file: &mut F, durability: Durability) -> 
     ensures owned { OnOk result (F.IsOwned file.new) }
     ensures shared { OnOk result (F.IsShared file.new) }
     ensures synced { OnOk result (IsSynced F.held F.lasting durability file.new) }
+    ensures untouched { F.held file.new ≡ F.held file.old }
 {
     if let Err(error) = file.lock_alone() {
         return Err(Refusal::of_lock(&error));
@@ -29,6 +30,7 @@ pub(crate) fn lock_exclusive<F: Locks>(file: &mut F, durability: Durability) -> 
 /// Locks an image's file so that nobody writes it while it is read. `InUse`: nothing was read.
 pub(crate) fn lock_shared<F: Locks>(file: &mut F) -> Result<(), Refusal>
     ensures shared { OnOk result (F.IsShared file.new) }
+    ensures untouched { F.held file.new ≡ F.held file.old }
 {
     match file.lock_shared() {
         Ok(()) => Ok(()),
@@ -37,11 +39,12 @@ pub(crate) fn lock_shared<F: Locks>(file: &mut F) -> Result<(), Refusal>
 }
 
 /// The bytes of an image that nobody writes while it is read.
-pub(crate) fn read_shared<F: Read + Locks>(alloc: Global, file: &mut F) -> io::Result<Vec<u8>>
+pub(crate) fn read_shared<F: Locks>(alloc: Global, file: &mut F) -> io::Result<Vec<u8>>
     requires shared { F.IsShared file.old }
-    ensures { IfOk result (λ bytes. IfSome (F.remaining file.old) (λ all. vec_items bytes ≡ take 174849 all)) }
+    ensures bytes { IfOk result (λ bytes. IfSome (F.held file.old) (λ all. vec_items bytes ≡ take 174849 all)) }
+    ensures untouched { F.held file.new ≡ F.held file.old }
 {
-    read_image(alloc, file)
+    file.image(alloc)
 }
 
 /// The bytes of an image that this program has alone, and which are on the disk where each sector is brought there.
@@ -52,6 +55,7 @@ fn read_locked<F: Locks>(alloc: Global, file: &mut F, durability: Durability) ->
     ensures bytes { IfOk result (λ bytes. IfSome (F.held file.new) (λ all. vec_items bytes ≡ take 174849 all)) }
     ensures owned { F.IsOwned file.new }
     ensures synced { IsSynced F.held F.lasting durability file.new }
+    ensures untouched { F.held file.new ≡ F.held file.old }
 {
     file.image(alloc)
 }
@@ -66,6 +70,7 @@ pub(crate) fn own_image<F: Locks>(
     ensures bytes { IfOk result (λ bytes. IfSome (F.held file.new) (λ all. vec_items bytes ≡ take 174849 all)) }
     ensures owned { OnOk result (F.IsOwned file.new) }
     ensures synced { OnOk result (IsSynced F.held F.lasting durability file.new) }
+    ensures untouched { F.held file.new ≡ F.held file.old }
 {
     lock_exclusive(file, durability)?;
     match read_locked(alloc, file, durability) {

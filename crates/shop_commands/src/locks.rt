@@ -13,11 +13,13 @@ pub trait Locks: WritesAt {
     /// Locks the file for this program alone. `WouldBlock` if another has a lock on it.
     fn lock_alone(&mut self) -> Result<(), TryLockError>
         ensures owned { OnOk result (Self.IsOwned self.new) }
-        ensures shared { OnOk result (Self.IsShared self.new) };
+        ensures shared { OnOk result (Self.IsShared self.new) }
+        ensures held { Self.held self.new ≡ Self.held self.old };
 
     /// Locks the file so that others may read it too, and none writes it. `WouldBlock` if another has it alone.
     fn lock_shared(&mut self) -> Result<(), TryLockError>
-        ensures shared { OnOk result (Self.IsShared self.new) };
+        ensures shared { OnOk result (Self.IsShared self.new) }
+        ensures held { Self.held self.new ≡ Self.held self.old };
 
     /// The bytes of the image that it is: the first 174,849, or all of them where there are fewer. Nothing was read of
     /// it before. Its error where it failed, or where there was no memory for them.

@@ -31,7 +31,7 @@ script 1,1,S,1,5|
 sync 3 fails
 person ledger_cli play --sync a.d64 s.txt
 prints 1,1,MEDIA|
-tells DEVICE|ledger: a.d64: it couldn't be written; copy it to another medium, check the copy, and go on there|
+tells DEVICE|ledger: a.d64: other error; copy it to another medium, check the copy, and go on there|
 ends 3
 written
 
@@ -39,7 +39,7 @@ hurt WRONG MAP
 script
 sync 2 fails
 person ledger_cli repair a.d64
-tells DEVICE|ledger: a.d64: it couldn't be written; copy it to another medium, check the copy, and go on there|
+tells DEVICE|ledger: a.d64: other error; copy it to another medium, check the copy, and go on there|
 ends 3
 written
 ";

@@ -38,14 +38,14 @@ no script
 input 1,1,S,42,120|
 input-fails
 person ledger_cli play a.d64 /dev/stdin
-tells FILE|ledger: a file couldn't be read to its end, or the output not be written|
+tells FILE|ledger: standard input: timed out|
 ends 3
 
 no script
 input D64
 input-fails
 person ledger_cli check /dev/stdin
-tells FILE|ledger: a file couldn't be read to its end, or the output not be written|
+tells FILE|ledger: standard input: timed out|
 ends 3
 
 no script

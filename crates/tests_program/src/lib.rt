@@ -6,6 +6,8 @@
 #[cfg(test)]
 mod advice_rows;
 #[cfg(test)]
+mod cause_rows;
+#[cfg(test)]
 mod comparing;
 #[cfg(test)]
 mod day_rows;

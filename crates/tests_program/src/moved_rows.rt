@@ -126,7 +126,7 @@ pipe script
 output-takes 2 bytes
 person ledger_cli dry s.txt
 prints 1,
-tells FILE|ledger: a file couldn't be read to its end, or the output not be written|
+tells FILE|ledger: standard output: no storage space|
 ends 3
 ";
 
