@@ -3,7 +3,7 @@
 #   tests/package.sh [DEBIAN]
 # Two runs, in other folders and with another umask, time zone and language, make the same bytes. lintian finds no error and no warning.
 # The completions complete in bash, zsh and fish (tests/completions.py). Then, where there is no kit, in a clean Debian that debootstrap
-# makes in a folder of its own: the package is installed, and somebody who isn't root has the first minute of the README: a shop is
+# makes in a folder of its own: the package is installed, and somebody who isn't root has the first session of the README: a shop is
 # made, a day with power cuts is played, shown and checked, and what is printed is what the README says. The man page is shown by
 # `man`, dpkg finds each file as it was packed, the documents' links lead to files, scripts can be run, and no file is called as one of
 # Debian's package `ledger`. Then it is removed, and no file of it is left. The tarball is unpacked and run.
