@@ -26,8 +26,10 @@ impl<I: Read> Read for NotedReader<'_, '_, I> {
 
 impl<I: BufRead> BufRead for NotedReader<'_, '_, I> {
     fn fill_buf(&mut self) -> io::Result<&[u8]> {
-        let outcome = self.reader.fill_buf();
-        self.failures.noted(Some(Subject::Input), None, outcome)
+        match self.reader.fill_buf() {
+            Ok(shown) => Ok(shown),
+            Err(error) => Err(self.failures.noted_error(Subject::Input, error)),
+        }
     }
 
     fn consume(&mut self, amount: usize) {
