@@ -1,10 +1,7 @@
 pub mod Counts
 pub mod Extracted
 pub mod Inside
-pub mod Lengths
 pub mod Made
-pub mod Paddings
 pub mod Parts
 pub mod Pieced
-pub mod ReadSoFar
 pub mod Reached

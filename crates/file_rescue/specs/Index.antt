@@ -11,22 +11,13 @@ use Rattle.disk_layout.specs.declared.faults.Fault.{Fault}
 use Rattle.petscii_text.specs.FileNames.{ending_of, file_name_of}
 use Rattle.petscii_text.specs.declared.characters.CharacterSet.TheVariants.{Graphics}
 use Rattle.quoted_text.specs.Quoted.{quoted}
-use Rattle.file_rescue.specs.Names.{name_of}
+use Rattle.disk_entries.specs.Names.{name_of}
+use Rattle.disk_entries.specs.Types.{type_name}
 use Rattle.file_rescue.specs.declared.rows.Row.{Row}
 
 -- the first line: what stands in each column
 abbrev pub heading : List ℕ
 heading = codes "number,file,name,text,type,closed,locked,blocks,found,length,bytes,fault,shared\n"
-
--- the type, which stands in the low four bits of a type byte
-abbrev pub type_name : ℕ → List ℕ
-type_name kind =
-    if nat_eq kind 0 then codes "DEL"
-    else if nat_eq kind 1 then codes "SEQ"
-    else if nat_eq kind 2 then codes "PRG"
-    else if nat_eq kind 3 then codes "USR"
-    else if nat_eq kind 4 then codes "REL"
-    else codes "???"
 
 -- bit 7 of a type byte says that the file is closed, bit 6 that it is locked
 abbrev pub closed_text : ℕ → List ℕ

@@ -1,8 +1,6 @@
-pub mod Directories
 pub mod Folders
 pub mod Index
 pub mod Memory
-pub mod Names
 pub mod Owned
 pub mod Rescues
 pub mod Sharing

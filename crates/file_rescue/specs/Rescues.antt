@@ -20,10 +20,10 @@ use Rattle.keeper_commands.specs.declared.faults.KeepFault.TheVariants as keep
 use Rattle.petscii_text.specs.FileNames.{ending_of, file_name_of}
 use Rattle.petscii_text.specs.declared.file_names.Ending.{Ending}
 use Rattle.petscii_text.specs.declared.file_names.Ending.TheVariants.{Records}
-use Rattle.file_rescue.specs.Directories.{IsReadSoFar}
+use Rattle.disk_entries.specs.Directories.{IsReadSoFar}
 use Rattle.file_rescue.specs.Folders.{AddsFiles, AddsPart, NewFile, new_file}
 use Rattle.file_rescue.specs.Index.{heading, row_text}
-use Rattle.file_rescue.specs.Names.{name_of}
+use Rattle.disk_entries.specs.Names.{name_of}
 use Rattle.file_rescue.specs.Sharing.{first_shared, owned}
 use Rattle.file_rescue.specs.declared.rescuing.Rescued.{Rescued}
 use Rattle.file_rescue.specs.declared.rows.Row.{Row}

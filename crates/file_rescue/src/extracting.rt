@@ -10,7 +10,6 @@ ghost use Rattle.file_rescue.specs.Rescues.{AreRescued, IsExtractFault, IsExtrac
 ghost use Rattle.file_rescue.specs.Rescues.{files_from, files_of, first_fault, row_of, rows_from};
 ghost use Rattle.file_rescue.specs.Sharing.{owned};
 
-use crate::directory::read_so_far;
 use crate::folders::NewFolder;
 use crate::making::{make, make_files};
 use crate::output::put;
@@ -19,6 +18,7 @@ use crate::rows::Row;
 use crate::sharing::Owners;
 use arrayvec::ArrayVec;
 use d64_image::{MemDisk, Place};
+use disk_entries::read_so_far;
 use disk_layout::Fault;
 use keeper_commands::{KeepFault, load};
 use std::alloc::Global;

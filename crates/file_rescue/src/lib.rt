@@ -2,13 +2,11 @@
 #![tactic(auto)]
 
 mod blocks;
-mod directory;
 mod extracting;
 mod folders;
 mod laws;
 mod making;
 mod mem_folder;
-mod names;
 mod output;
 mod record_lines;
 mod rescuing;

@@ -8,10 +8,10 @@ ghost use Rattle.keeper_commands.specs.declared.faults.KeepFault.TheVariants as 
 
 use crate::blocks::put_file;
 use crate::folders::NewFolder;
-use crate::names::entry_name;
 use crate::record_lines::put_records;
 use crate::rescuing::Rescued;
 use d64_image::MemDisk;
+use disk_entries::entry_name;
 use disk_layout::EntryView;
 use keeper_commands::KeepFault;
 use petscii_text::{Ending, file_name};

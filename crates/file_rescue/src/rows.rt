@@ -2,12 +2,11 @@
 ghost use Rattle.std.specs.Prelude.{◌≡◌, Some};
 ghost use Rattle.file_rescue.specs.Index.{closed_text, ended_text, entry_text, found_text, length_text, locked_text};
 ghost use Rattle.file_rescue.specs.Index.{naming_text, row_text, shared_text};
-ghost use Rattle.file_rescue.specs.Index.{type_name as name_of_type};
 ghost use Rattle.file_rescue.specs.Rescues.{fault_of};
 
-use crate::names::entry_name;
 use byte_text::Text;
 use d64_image::Place;
+use disk_entries::{entry_name, type_name};
 use disk_layout::{EntryView, Fault, Slot};
 use petscii_text::{CharacterSet, Ending, file_name};
 use quoted_text::Quoted;
@@ -46,20 +45,6 @@ impl Row {
             None
         };
         self.fault.or(shared.or(unclosed))
-    }
-}
-
-/// The name of the type with this number, the low four bits of its byte.
-fn type_name(kind: u8) -> &'static str
-    ensures { result.now ≡ name_of_type kind }
-{
-    match kind {
-        0 => "DEL",
-        1 => "SEQ",
-        2 => "PRG",
-        3 => "USR",
-        4 => "REL",
-        _ => "???",
     }
 }
 

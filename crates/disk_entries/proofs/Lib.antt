@@ -1,0 +1,4 @@
+pub mod Filtered
+pub mod Lengths
+pub mod Paddings
+pub mod ReadSoFar

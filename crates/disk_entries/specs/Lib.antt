@@ -1,0 +1,4 @@
+pub mod Directories
+pub mod Names
+pub mod Nearness
+pub mod Types
