@@ -59,18 +59,6 @@ impl<'a> Failures<'a> {
         }
     }
 
-    /// The error of a call about this, which is kept.
-    pub(crate) fn noted_error(&self, subject: Subject<'a>, error: io::Error) -> io::Error
-        ensures { result ≡ error }
-    {
-        self.note(Failure {
-            subject,
-            error,
-            sector: None,
-        });
-        error
-    }
-
     /// What came of a call about this, kept if it failed.
     pub(crate) fn noted<T: Drop>(
         &self,
