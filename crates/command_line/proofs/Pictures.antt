@@ -8,7 +8,7 @@ use Rattle.ledger_jobs.specs.Jobs.{IsFit}
 use Rattle.ledger_jobs.specs.declared.jobs.Drawing.TheVariants as drawings
 use Rattle.ledger_jobs.specs.declared.jobs.Job.{Job}
 use Rattle.ledger_jobs.specs.declared.jobs.Job.TheVariants as jobs
-use Rattle.command_line.specs.Jobs.{AreMiscounted, IsForOne, IsJob, IsNoJob, IsPictureJob, is_given}
+use Rattle.command_line.specs.Jobs.{IsForOne, IsJob, IsNoJob, IsNoPicture, IsPictureJob, is_given}
 use Rattle.command_line.specs.declared.faults.JobFault.{JobFault}
 use Rattle.command_line.proofs.Parses.{met-has, met-is}
 
@@ -47,7 +47,7 @@ picturing-met o found name at r told some is (inr (inr (inl (before, after, same
     subst P (sym same) (met-has o found name at (codes "picture") _ told some is are, tt)
 picturing-met o found name at r told some is (inr (inr (inr (inl (same, many))))) =
     let P : Result Job JobFault → Type 0 = λ j. MatchResult j (IsJob found) (IsNoJob [] found) × IfOk j IsFit in
-    subst P (sym same) ((refl, met-has o found name at (codes "picture") AreMiscounted told some is many), tt)
+    subst P (sym same) ((refl, met-has o found name at (codes "picture") IsNoPicture told some is many), tt)
 picturing-met o found name at r told some is (inr (inr (inr (inr (e, same, kind))))) =
     let P : Result Job JobFault → Type 0 = λ j. MatchResult j (IsJob found) (IsNoJob [] found) × IfOk j IsFit in
     subst P (sym same) (kind, tt)

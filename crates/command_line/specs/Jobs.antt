@@ -1,6 +1,6 @@
 -- What the words of a command line ask for (our own).
-use Rattle.std.specs.Prelude.{◌≡◌, ◌≢◌, ◌≤◌, ◌<◌, ◌⊎◌, ◌||◌, ℕ, Bool, true, false, List, Option, Some, None, Result, Ok, Err}
-use Rattle.std.specs.Prelude.{[], ◌∷◌, ◌==◌, codes, if◌then◌else◌, length, map, vec_items, Vec}
+use Rattle.std.specs.Prelude.{◌≡◌, ◌≢◌, ◌≤◌, ◌<◌, ◌⊎◌, ◌&&◌, ◌||◌, ℕ, Bool, true, false, List, Option, Some, None, Result, Ok}
+use Rattle.std.specs.Prelude.{Err, [], ◌∷◌, ◌==◌, codes, if◌then◌else◌, length, map, vec_items, Vec}
 use Rattle.d64_image.specs.Places.{place_at}
 use Rattle.d64_image.specs.declared.place.Place.{Place}
 use Rattle.std.specs.List.{after_first, before_first}
@@ -138,25 +138,31 @@ abbrev pub IsForOne : List Row → Type 0
 IsForOne rows = (is_given (codes "sheet") rows ≡ false) × (is_given (codes "compare") rows ≡ false)
     × (length (values (codes "IMAGE") rows) < 2)
 
--- these two are the images that are to be compared, before and after
+-- two of --svg, --sheet and --compare are given
+abbrev pub has_two_forms : List Row → Bool
+has_two_forms rows =
+    (is_given (codes "svg") rows && (is_given (codes "sheet") rows || is_given (codes "compare") rows))
+    || (is_given (codes "sheet") rows && is_given (codes "compare") rows)
+
+-- these two are the images that are to be compared, before and after, and no other form is asked for
 abbrev pub AreCompared : List Row → (before after : Text) → Type 0
-AreCompared rows before after = (is_given (codes "sheet") rows ≡ false) × (is_given (codes "compare") rows ≡ true)
+AreCompared rows before after = (has_two_forms rows ≡ false) × (is_given (codes "compare") rows ≡ true)
     × (values (codes "IMAGE") rows ≡ before ∷ after ∷ [])
 
--- these are the images, in their order, for a sheet that has room for them
+-- these are the images, in their order, for a sheet that has room for them, and no other form is asked for
 abbrev pub AreOnSheet : List Row → List (Bor Text) → Type 0
-AreOnSheet rows images = (is_given (codes "sheet") rows ≡ true)
+AreOnSheet rows images = (has_two_forms rows ≡ false) × (is_given (codes "sheet") rows ≡ true)
     × (map (λ image. image.now) images ≡ values (codes "IMAGE") rows) × (length images ≤ 400)
 
 -- there are several images and neither a sheet nor a comparison is asked for, or more than a sheet has room for, or not
--- two to be compared
-abbrev pub AreMiscounted : List Row → Type 0
-AreMiscounted rows =
+-- two to be compared; or two forms are asked for
+abbrev pub IsNoPicture : List Row → Type 0
+IsNoPicture rows =
     ((is_given (codes "sheet") rows ≡ false) × (is_given (codes "compare") rows ≡ false)
     × (2 ≤ length (values (codes "IMAGE") rows)))
     ⊎ (((is_given (codes "sheet") rows ≡ true) × (400 < length (values (codes "IMAGE") rows)))
-    ⊎ ((is_given (codes "sheet") rows ≡ false) × (is_given (codes "compare") rows ≡ true)
-    × (length (values (codes "IMAGE") rows) ≢ 2)))
+    ⊎ (((is_given (codes "compare") rows ≡ true) × (length (values (codes "IMAGE") rows) ≢ 2))
+    ⊎ (has_two_forms rows ≡ true)))
 
 -- the flags ask for this drawing; `map` has none, and draws one image so
 abbrev pub IsDrawnBy : Drawing → List Row → Type 0
@@ -336,7 +342,7 @@ IsPictureJob rows result =
     ⊎ (((images : Vec (Bor Text) Global) × (result ≡ Ok (jobs.Sheet images)) × AreOnSheet rows (vec_items images))
     ⊎ (((before : Bor Text) × (after : Bor Text) × (result ≡ Ok (jobs.Compare before after))
     × AreCompared rows before.now after.now)
-    ⊎ (((result ≡ Err faults.Images) × AreMiscounted rows)
+    ⊎ (((result ≡ Err faults.Images) × IsNoPicture rows)
     ⊎ ((e : Error) × (result ≡ Err (faults.Words e)) × HasKind [] e))))
 
 -- the text of NAME is none that the subcommand takes
@@ -354,4 +360,4 @@ IsNoJob kinds found faults.Name = (kinds ≡ []) × IsRefusedName found
 IsNoJob kinds found faults.Length =
     (kinds ≡ []) × Has found (codes "make") (λ rows. HasNewName rows × (length_in rows ≡ None))
 IsNoJob kinds found faults.Sector = (kinds ≡ []) × Has found (codes "sector") (λ rows. place_in rows ≡ None)
-IsNoJob kinds found faults.Images = (kinds ≡ []) × Has found (codes "picture") AreMiscounted
+IsNoJob kinds found faults.Images = (kinds ≡ []) × Has found (codes "picture") IsNoPicture

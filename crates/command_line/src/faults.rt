@@ -22,7 +22,7 @@ pub enum JobFault {
     #[error("LENGTH")]
     Length,
     /// There are several images to be drawn, but neither on a sheet nor to be compared; or more than a sheet has room for, or
-    /// not two to be compared.
+    /// not two to be compared; or two forms of a picture are asked for: a poster, a sheet, a comparison.
     #[error("IMAGES")]
     Images,
     /// The text of a sector isn't that of one of the disk: its track, a slash and its number, such as 17/4.

@@ -73,7 +73,7 @@ fn explain_words<E: Write>(fault: &JobFault, err: &mut E) {
         ),
         JobFault::Images => writeln!(
             err,
-            "ledger: several images are drawn on a sheet (--sheet), which has room for 400; two are compared (--compare)"
+            "ledger: give one image, alone or with --svg; or up to 400 with --sheet; or two with --compare"
         ),
         JobFault::Name => writeln!(
             err,

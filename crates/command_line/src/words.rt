@@ -12,7 +12,8 @@ ghost use Rattle.command_line.specs.Jobs.{IsComparing, IsParse, IsPictureJob};
 ghost use Rattle.command_line.specs.Jobs.{IsSeveral, IsSheet, IsStoringJob, IsTakingJob};
 ghost use Rattle.command_line.specs.Jobs.{effect_in, format_job, job_of_one, loss_in, picture_job, play_job, unowned_in};
 ghost use Rattle.rel_records.specs.File.{IsLength};
-ghost use Rattle.command_line.specs.Jobs.{is_explained as explained, is_given as given, serve_durability as of_serve};
+ghost use Rattle.command_line.specs.Jobs.{has_two_forms as two_forms, is_explained as explained, is_given as given};
+ghost use Rattle.command_line.specs.Jobs.{serve_durability as of_serve};
 ghost use Rattle.command_line.specs.Jobs.{place_if_both, spelled_place, way_in};
 ghost use Rattle.command_line.specs.Forms.{byte_form_in, columns_in, name_form_in, record_form_in, set_in};
 
@@ -292,6 +293,15 @@ fn comparing<'a>(images: &[&'a str]) -> Result<Job<'a>, JobFault>
     })
 }
 
+/// Whether two forms of a picture are asked for, of which it has one.
+fn has_two_forms<'a>(matches: &ArgMatches<'a>) -> bool
+    ensures { result ≡ two_forms (rows_of (found_of matches.now)) }
+{
+    let sheet = is_given(matches, "sheet");
+    let compare = is_given(matches, "compare");
+    (is_given(matches, "svg") && (sheet || compare)) || (sheet && compare)
+}
+
 /// The job that draws an image as a page or as a poster, or images on a sheet, or compares two.
 fn picturing<'a>(alloc: Global, matches: &ArgMatches<'a>) -> Result<Job<'a>, JobFault>
     ensures { IsPictureJob (rows_of (found_of matches.now)) result }
@@ -300,6 +310,9 @@ fn picturing<'a>(alloc: Global, matches: &ArgMatches<'a>) -> Result<Job<'a>, Job
         // A parse without an image is refused.
         return Err(JobFault::Words(Error::from(AllocError)));
     };
+    if has_two_forms(matches) {
+        return Err(JobFault::Images);
+    }
     if is_given(matches, "sheet") {
         return on_sheet(alloc, images);
     }

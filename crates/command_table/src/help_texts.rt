@@ -243,7 +243,8 @@ that changed. It ends with the second image's status.
 Exit status:
   0  the disk is clean
   1  a fault, or the image is refused
-  2  IMAGES: several without --sheet, more than 400, or not two with --compare
+  2  IMAGES: several without --sheet, more than 400, not two with --compare, or
+     two of --svg, --sheet and --compare
   3  FILE, NO MEMORY, IN USE
 
 Example: ledger picture --sheet ./*.d64 > all.html";

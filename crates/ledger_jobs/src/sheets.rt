@@ -1,6 +1,6 @@
 //! A contact sheet of images, each read as if it were alone.
-ghost use Rattle.std.specs.Prelude.{IfOk, map};
-ghost use Rattle.ledger_jobs.specs.SheetPages.{AreTiles, IsSheetPrinted, IsTileOf, IsUnreadTile};
+ghost use Rattle.std.specs.Prelude.{IfOk, List, map, ℕ};
+ghost use Rattle.ledger_jobs.specs.SheetPages.{AreTiles, IsSheetPrinted, IsTileFrom, IsTileOf, IsUnreadTile, Loaded, as_loaded};
 
 use crate::dispatch::image_at;
 use crate::refusals::Refusal;
@@ -11,6 +11,32 @@ use std::alloc::Global;
 use std::fs::OpenFile;
 use std::io::{Read, Write};
 use std::rt::Files;
+
+/// Where the images of a sheet are read.
+trait ImageSource {
+    /// What may be read at a path: an image's bytes, or why there are none.
+    ghost gives: { Self → List ℕ → Loaded → Type 0 };
+
+    /// Reads the image at a path.
+    fn image(&self, path: &str) -> Result<Vec<u8>, Refusal>
+        ensures { gives self.now path.now (as_loaded result) };
+}
+
+/// The images of files, and that of standard input. Nothing is known of a file before it is read.
+#[derive(Clone, Copy)]
+struct FileImages<'a, R>(&'a R);
+
+impl<F, R> ImageSource for FileImages<'_, R>
+where
+    F: Read + Locks + OpenFile + Drop,
+    R: Files<File = F> + Input + AllocGlobal,
+{
+    ghost gives = { λ _ _ _. Unit };
+
+    fn image(&self, path: &str) -> Result<Vec<u8>, Refusal> {
+        image_at(self.0, path)
+    }
+}
 
 /// Prints the tile of an image that can't be read, with what the command would tell of it alone. Returns its exit status.
 fn put_unread<W: Write>(
@@ -28,46 +54,64 @@ fn put_unread<W: Write>(
     Ok(refusal.status())
 }
 
-/// Prints the tile of the image at a path, and returns the exit status that its picture alone would have.
-fn put_tile_at<F, R, W>(rt: &R, path: &str, out: &mut W) -> Result<u8, PictureFault>
-where
-    F: Read + Locks + OpenFile + Drop,
-    R: Files<File = F> + Input + AllocGlobal,
-    W: Write,
-    ensures ok { IfOk result (IsTileOf W.contents path.now out.old out.new) }
+/// Prints the tile of the image at a path, of which this was read, and returns the exit status that its picture alone would
+/// have.
+fn put_tile_of<W: Write>(
+    alloc: Global,
+    path: &str,
+    read: Result<Vec<u8>, Refusal>,
+    out: &mut W,
+) -> Result<u8, PictureFault>
+    ensures ok { IfOk result (IsTileOf W.contents path.now (as_loaded read) out.old out.new) }
 {
-    match image_at(rt, path) {
-        Ok(image) => sheet_tile(rt.alloc(), path, image.as_slice(), out),
-        Err(refusal) => put_unread(rt.alloc(), path, refusal, out),
+    match read {
+        Ok(image) => sheet_tile(alloc, path, image.as_slice(), out),
+        Err(refusal) => put_unread(alloc, path, refusal, out),
     }
 }
 
+/// Reads the image at a path, prints its tile, and returns the exit status that its picture alone would have.
+fn put_tile_at<S: ImageSource, W: Write>(
+    alloc: Global,
+    source: &S,
+    path: &str,
+    out: &mut W,
+) -> Result<u8, PictureFault>
+    ensures ok { IfOk result (IsTileFrom (S.gives source.now) W.contents path.now out.old out.new) }
+{
+    put_tile_of(alloc, path, source.image(path), out)
+}
+
 /// Prints the tile of each image, in their order, and returns the greatest exit status of theirs.
-fn put_tiles<F, R, W>(rt: &R, paths: &[&str], out: &mut W) -> Result<u8, PictureFault>
-where
-    F: Read + Locks + OpenFile + Drop,
-    R: Files<File = F> + Input + AllocGlobal,
-    W: Write,
-    ensures ok { IfOk result (AreTiles W.contents (map (λ path. path.now) paths.now) out.old out.new) }
+fn put_tiles<S: ImageSource, W: Write>(
+    alloc: Global,
+    source: &S,
+    paths: &[&str],
+    out: &mut W,
+) -> Result<u8, PictureFault>
+    ensures ok { IfOk result
+        (AreTiles (S.gives source.now) W.contents (map (λ path. path.now) paths.now) out.old out.new) }
 {
     let mut greatest = 0;
     for path in paths {
-        let status = put_tile_at(rt, path, out)?;
+        let status = put_tile_at(alloc, source, path, out)?;
         greatest = status.max(greatest);
     }
     Ok(greatest)
 }
 
-/// Prints the sheet, and returns the greatest exit status of its images.
-fn put_sheet<F, R, W>(rt: &R, paths: &[&str], out: &mut W) -> Result<u8, PictureFault>
-where
-    F: Read + Locks + OpenFile + Drop,
-    R: Files<File = F> + Input + AllocGlobal,
-    W: Write,
-    ensures ok { IfOk result (IsSheetPrinted W.contents (map (λ path. path.now) paths.now) out.old out.new) }
+/// Prints the sheet of what the source gives at these paths, and returns the greatest exit status of its images.
+fn put_sheet<S: ImageSource, W: Write>(
+    alloc: Global,
+    source: &S,
+    paths: &[&str],
+    out: &mut W,
+) -> Result<u8, PictureFault>
+    ensures ok { IfOk result
+        (IsSheetPrinted (S.gives source.now) W.contents (map (λ path. path.now) paths.now) out.old out.new) }
 {
     sheet_begin(out, paths.len())?;
-    let greatest = put_tiles(rt, paths, out)?;
+    let greatest = put_tiles(alloc, source, paths, out)?;
     sheet_finish(out)?;
     Ok(greatest)
 }
@@ -86,7 +130,7 @@ where
     R: Files<File = F> + Input + AllocGlobal,
     W: Write,
 {
-    match put_sheet(rt, paths, out) {
+    match put_sheet(rt.alloc(), &FileImages(rt), paths, out) {
         Ok(0) => Ok(None),
         Ok(greatest) => Err(Refusal::Several(greatest)),
         Err(fault) => Err(Refusal::Draw(fault)),

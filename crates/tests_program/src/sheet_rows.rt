@@ -71,7 +71,7 @@ fn sheets_are_drawn(rt: HostRuntime) {
     each(&rt, DRAWN);
 }
 
-/// The jobs that words ask for, and too many images.
+/// The jobs that words ask for, too many images, and two forms at once.
 const ASKED: &[u8] = b"
 job ledger picture --sheet a.d64 b.d64
 prints picture --sheet, a.d64, b.d64, 2
@@ -85,6 +85,12 @@ job ledger picture --compare a.d64
 prints fault 5, status 2
 job ledger picture --compare a.d64 b.d64 c.d64
 prints fault 5, status 2
+job ledger picture --compare a.d64 b.d64 --sheet
+prints fault 5, status 2
+job ledger picture --svg --compare a.d64 b.d64
+prints fault 5, status 2
+job ledger picture a.d64 --sheet --svg
+prints fault 5, status 2
 
 $ ledger_cli picture a.d64 b.d64
 tells IMAGES|
@@ -95,7 +101,11 @@ tells IMAGES|
 ends 2
 
 person ledger_cli picture a.d64 b.d64
-tells IMAGES|ledger: several images are drawn on a sheet (--sheet), which has room for 400; two are compared (--compare)|
+tells IMAGES|ledger: give one image, alone or with --svg; or up to 400 with --sheet; or two with --compare|
+ends 2
+
+$ ledger_cli picture --sheet --compare a.d64 a.d64
+tells IMAGES|
 ends 2
 ";
 

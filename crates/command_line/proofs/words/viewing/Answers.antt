@@ -1,5 +1,5 @@
 -- Two images or more are those of the words.
-use Rattle.std.proofs.Common.{◌≡◌, ◌≤◌, ◌∙◌, Bor, List, Option, Result, Some, [], ap, inl, inr, length, subst, sym, ℕ}
+use Rattle.std.proofs.Common.{◌≡◌, ◌∙◌, Bor, List, Option, Result, Some, [], ap, inl, inr, subst, sym}
 use Rattle.std.specs.Prelude.{codes, map, option_map, unwrap_or}
 use Rattle.clap.specs.Words.{Row, Text, all_of, found_of, rows_of}
 use Rattle.command_line.specs.Jobs.{AreImages, IsOverviewJob, IsSeveral}

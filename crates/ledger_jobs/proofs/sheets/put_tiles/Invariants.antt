@@ -4,5 +4,5 @@ use Rattle.ledger_jobs.specs.SheetPages.{AreTiles}
 use Rattle.ledger_jobs.proofs.sheets.put_tiles.Given as goal
 
 abbrev pub invariant-loop-path : goal.invariant-loop-path
-invariant-loop-path g l = AreTiles g.W.Write.contents (map (λ path. path.now) (take l.path-index l.paths)) l.fn.out l.out
-    l.greatest
+invariant-loop-path g l = AreTiles (g.S.ImageSource.gives l.source) g.W.Write.contents
+    (map (λ path. path.now) (take l.path-index l.paths)) l.fn.out l.out l.greatest
