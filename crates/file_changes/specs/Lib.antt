@@ -1,0 +1,5 @@
+-- The definitions of this crate.
+pub mod Entries
+pub mod Faults
+pub mod Patches
+pub mod Renames

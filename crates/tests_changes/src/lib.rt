@@ -1,0 +1,9 @@
+//! Rows of changes to the files of a disk. Tests only: no program stands on this crate.
+#![tactic(auto)]
+
+#[cfg(test)]
+mod comparing;
+#[cfg(test)]
+mod disks;
+#[cfg(test)]
+mod renaming_rows;
