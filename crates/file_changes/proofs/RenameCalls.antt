@@ -16,11 +16,14 @@ use Rattle.file_changes.specs.Entries.{IsFirstNamed, IsFreeName, entries_of}
 use Rattle.file_changes.specs.Patches.{PatchesSector, patched}
 use Rattle.file_changes.specs.Renames.{FindsRenamable, HasNewName, IsRenamable, IsRenamed, Renames}
 use Rattle.file_changes.specs.declared.faults.ChangeFault.{ChangeFault}
-use Rattle.file_changes.specs.declared.faults.ChangeFault.TheVariants.{Device, Exists, NotFound}
+use Rattle.file_changes.specs.declared.faults.ChangeFault.TheVariants.{Device, Exists, Locked, NotFound}
 
 -- no third fault
 no-device : (Device ≡ NotFound) ⊎ (Device ≡ Exists) → ⊥
 no-device told = ⊎_elim (λ e. cc) (λ e. cc) told
+
+no-locked : (Locked ≡ NotFound) ⊎ (Locked ≡ Exists) → ⊥
+no-locked told = ⊎_elim (λ e. cc) (λ e. cc) told
 
 not-exists : NotFound ≡ Exists → ⊥
 not-exists e = cc
@@ -86,6 +89,7 @@ module _ {D : Type 0} (S : History D) (a b : D) (from to : List ℕ) (slots : Li
     failures = fine;
   }
   found (Err Device) first missing exists told = absurd (no-device told)
+  found (Err Locked) first missing exists told = absurd (no-locked told)
 
 -- the entry's number
 pub entry-low : (img : Image) (l : Layout) (s : Slot) (from to : List ℕ) → IsLayout img l

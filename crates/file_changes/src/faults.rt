@@ -12,6 +12,9 @@ pub enum ChangeFault {
     /// An entry of the directory has the new name already.
     #[error("FILE EXISTS")]
     Exists,
+    /// The entry is locked.
+    #[error("FILE LOCKED")]
+    Locked,
     /// The device failed.
     #[error("DEVICE")]
     Device,

@@ -4,6 +4,10 @@
 #[cfg(test)]
 mod comparing;
 #[cfg(test)]
+mod deleting_rows;
+#[cfg(test)]
 mod disks;
+#[cfg(test)]
+mod formatting_rows;
 #[cfg(test)]
 mod renaming_rows;
