@@ -1,0 +1,7 @@
+-- The definitions of this crate.
+pub mod Deletes
+pub mod Entries
+pub mod Faults
+pub mod Formats
+pub mod Patches
+pub mod Renames
