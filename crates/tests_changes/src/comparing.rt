@@ -1,0 +1,29 @@
+//! What tests compare. Each comparison is one call, so that a test is proved in little time however many it makes.
+use std::fmt::Debug;
+use std::process::Abort;
+
+/// Sees that both are the same in a row of a table, which it names where they differ.
+pub(crate) fn same_at<T: PartialEq + Debug + Drop, L: Debug + Drop>(
+    rt: &impl Abort,
+    got: T,
+    want: T,
+    row: L,
+) {
+    assert_eq!(rt; got, want, "{row:?}");
+}
+
+/// Sees that an image has the bytes of another one, but for these from this one on.
+pub(crate) fn differs_in(
+    rt: &impl Abort,
+    got: &[u8],
+    before: &[u8],
+    changes: &[(usize, &'static [u8])],
+) {
+    for (number, (byte, was)) in got.iter().zip(before).enumerate() {
+        let mut want = was;
+        for (from, bytes) in changes {
+            want = bytes.get(number.wrapping_sub(*from)).unwrap_or(want);
+        }
+        same_at(rt, byte, want, number);
+    }
+}
