@@ -4,6 +4,7 @@ use crate::dispatch::image_of_file;
 use crate::files::STANDARD_INPUT;
 use crate::jobs::Job;
 use crate::losses::cut_in;
+use crate::near_names::tell_name;
 use crate::refusals::Refusal;
 use d64_image::Place;
 use disk_pictures::PictureFault;
@@ -23,6 +24,8 @@ enum About {
     Size,
     /// The image, of which this is to be said.
     Image(&'static str),
+    /// A name that no file of the image has.
+    Name,
     /// The script or the records, of which this is to be said.
     Text(&'static str),
     /// A file that is to be made.
@@ -65,7 +68,7 @@ fn about_keep(fault: KeepFault) -> About {
         KeepFault::File => About::Files,
         KeepFault::ImageSize => About::Size,
         KeepFault::Layout(_) => About::Image(JUDGED),
-        KeepFault::NoFile => About::Image("it has no such file; `ledger list` shows what it has"),
+        KeepFault::NoFile => About::Name,
         KeepFault::FileExists => About::Image("a file has this name; `ledger list` shows them"),
         KeepFault::DiskFull => About::Image("too few blocks are free; nothing was done"),
         KeepFault::BadLine(_) => About::Text(BAD_LINE),
@@ -102,7 +105,7 @@ fn subject_of(refusal: Refusal) -> About {
 fn image_of<'a>(job: &Job<'a>) -> &'a str {
     match job {
         Job::Format { image, .. } | Job::FormatNew { image, .. } => image,
-        Job::List { image, .. } | Job::Check { image } | Job::Show { image } => image,
+        Job::List { image, .. } | Job::Check { image, .. } | Job::Show { image } => image,
         Job::Play { image, .. } | Job::PlaySynced { image, .. } | Job::Serve { image, .. } => image,
         Job::Repair { image, .. } | Job::Take { image, .. } | Job::Draw { image, .. } => image,
         Job::Extract { image, .. } => image,
@@ -288,7 +291,7 @@ where
     R: Files<File = F> + AllocGlobal,
     E: Write,
 {
-    let Job::Check { image } = job else {
+    let Job::Check { image, .. } = job else {
         return;
     };
     if let Some(place) = cut_at(rt, image) {
@@ -353,12 +356,13 @@ where
 }
 
 /// Tells a person, in a line below the refusal's own, which file it is about, what the system says of it then, or what
-/// to do. The job's files, but for standard input, are opened once more for it, and neither made, read nor changed. Where
-/// it can't be told there is nobody left to tell.
+/// to do. The job's files, but for standard input, are opened once more for it, and neither made nor changed. If no file has
+/// the name, the image is locked with others that read it, and read for the names that are near. Where it can't be told there
+/// is nobody left to tell.
 pub fn explain<F, R, E>(rt: &R, job: &Job<'_>, refusal: Refusal, err: &mut E)
 where
-    F: OpenFile + Drop,
-    R: Files<File = F>,
+    F: Read + Locks + OpenFile + Drop,
+    R: Files<File = F> + AllocGlobal,
     E: Write,
 {
     let image = image_of(job);
@@ -366,6 +370,7 @@ where
         About::Files => tell_files(rt, job, err),
         About::Size => tell_size(rt, missized_of(rt, job), err),
         About::Image(said) => tell_of_image(err, job, said),
+        About::Name => tell_name(rt, job, image, err),
         About::Text(said) => tell_of(err, text_of(job).unwrap_or(image), said),
         About::Made => tell_made(job, err),
         About::Nothing => {}
