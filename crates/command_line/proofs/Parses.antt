@@ -143,7 +143,7 @@ taking-met o found name at what image (Ok (jobs.Describe paths)) told some is by
 taking-met o found name at what image (Ok (jobs.View asked path)) told some is by-image by taking = absurd taking
 taking-met o found name at what image (Ok (jobs.Trim path)) told some is by-image by taking = absurd taking
 taking-met o found name at what image (Ok (jobs.Compare before after)) told some is by-image by taking = absurd taking
-taking-met o found name at what image (Ok (jobs.Check path)) told some is by-image by taking = absurd taking
+taking-met o found name at what image (Ok (jobs.Check findings path)) told some is by-image by taking = absurd taking
 taking-met o found name at what image (Ok (jobs.Show path)) told some is by-image by taking = absurd taking
 taking-met o found name at what image (Ok (jobs.Play path script)) told some is by-image by taking = absurd taking
 taking-met o found name at what image (Ok (jobs.PlaySynced path script)) told some is by-image by taking = absurd taking
@@ -187,7 +187,7 @@ making-met o found name at image (Ok (jobs.Describe paths)) told some is by-imag
 making-met o found name at image (Ok (jobs.View asked path)) told some is by-image job = absurd job
 making-met o found name at image (Ok (jobs.Trim path)) told some is by-image job = absurd job
 making-met o found name at image (Ok (jobs.Compare before after)) told some is by-image job = absurd job
-making-met o found name at image (Ok (jobs.Check path)) told some is by-image job = absurd job
+making-met o found name at image (Ok (jobs.Check findings path)) told some is by-image job = absurd job
 making-met o found name at image (Ok (jobs.Show path)) told some is by-image job = absurd job
 making-met o found name at image (Ok (jobs.Play path script)) told some is by-image job = absurd job
 making-met o found name at image (Ok (jobs.PlaySynced path script)) told some is by-image job = absurd job
@@ -226,7 +226,7 @@ storing-met o found name at image (Ok (jobs.Describe paths)) told some is by-ima
 storing-met o found name at image (Ok (jobs.View asked path)) told some is by-image job = absurd job
 storing-met o found name at image (Ok (jobs.Trim path)) told some is by-image job = absurd job
 storing-met o found name at image (Ok (jobs.Compare before after)) told some is by-image job = absurd job
-storing-met o found name at image (Ok (jobs.Check path)) told some is by-image job = absurd job
+storing-met o found name at image (Ok (jobs.Check findings path)) told some is by-image job = absurd job
 storing-met o found name at image (Ok (jobs.Show path)) told some is by-image job = absurd job
 storing-met o found name at image (Ok (jobs.Play path script)) told some is by-image job = absurd job
 storing-met o found name at image (Ok (jobs.PlaySynced path script)) told some is by-image job = absurd job

@@ -1,5 +1,5 @@
 -- The job that prints this of one image, or of several, where its words are parsed.
-use Rattle.std.proofs.Common.{◌≡◌, Bor, List, Option, Some, inl, inr, subst, sym, []}
+use Rattle.std.proofs.Common.{◌≡◌, Bor, List, Option, Some, inl, inr, refl, subst, sym, []}
 use Rattle.std.specs.Prelude.{IfOk, MatchResult, Result, codes, option_map}
 use Rattle.clap.specs.Words.{Row, Text, found_of, rows_of}
 use Rattle.clap.specs.declared.parser.matches.ArgMatches.{ArgMatches}
@@ -7,7 +7,7 @@ use Rattle.ledger_jobs.specs.Jobs.{IsFit}
 use Rattle.ledger_jobs.specs.declared.jobs.Job.{Job}
 use Rattle.ledger_jobs.specs.declared.jobs.Overview.{Overview}
 use Rattle.ledger_jobs.specs.declared.jobs.Overview.TheVariants as overviews
-use Rattle.command_line.specs.Forms.{IsViewedBy}
+use Rattle.command_line.specs.Forms.{IsViewedBy, findings_in}
 use Rattle.command_line.specs.Jobs.{IsCheckJob, IsJob, IsNoJob, IsOnlyImage, IsOverviewJob, job_of_one, word_of_overview}
 use Rattle.command_line.specs.declared.faults.JobFault.{JobFault}
 use Rattle.command_line.proofs.Parses.{met-has}
@@ -20,7 +20,7 @@ only-met : (o : Option (Bor Text × Bor ArgMatches)) (found : Option (Text × Li
     → IsViewedBy what (rows_of (found_of at.now)) → IsJob found (job_of_one what image) × IsFit (job_of_one what image)
 only-met o found name at (overviews.List form) image told some is only by =
     (met-has o found name at (codes "list") _ told some is (only, by), tt)
-only-met o found name at overviews.Check image told some is only by =
+only-met o found name at (overviews.Check what) image told some is only by =
     (met-has o found name at (codes "check") _ told some is (only, by), tt)
 only-met o found name at overviews.Map image told some is only by =
     (met-has o found name at (codes "map") _ told some is only, tt)
@@ -48,7 +48,7 @@ pub checking-met : (o : Option (Bor Text × Bor ArgMatches)) (found : Option (Te
     → o ≡ Some (name, at) → name.now ≡ codes "check"
     → IsCheckJob (rows_of (found_of at.now)) r → MatchResult r (IsJob found) (IsNoJob [] found) × IfOk r IsFit
 checking-met o found name at r told some is (inl (viewed, job)) =
-    viewing-met o found name at overviews.Check r told some is viewed job
+    viewing-met o found name at (overviews.Check (findings_in (rows_of (found_of at.now)))) r told some is (viewed, refl) job
 checking-met o found name at r told some is (inr (inl (images, same, are))) =
     let P : Result Job JobFault → Type 0 = λ j. MatchResult j (IsJob found) (IsNoJob [] found) × IfOk j IsFit in
     subst P (sym same) (met-has o found name at (codes "check") _ told some is are, tt)

@@ -8,6 +8,8 @@ use Rattle.keeper_commands.specs.declared.forms.RecordForm.{RecordForm}
 use Rattle.keeper_commands.specs.declared.forms.RecordForm.TheVariants as records
 use Rattle.ledger_jobs.specs.declared.jobs.Columns.{Columns}
 use Rattle.ledger_jobs.specs.declared.jobs.Columns.TheVariants as columns
+use Rattle.ledger_jobs.specs.declared.jobs.Findings.{Findings}
+use Rattle.ledger_jobs.specs.declared.jobs.Findings.TheVariants as findings
 use Rattle.ledger_jobs.specs.declared.jobs.Overview.{Overview}
 use Rattle.ledger_jobs.specs.declared.jobs.Overview.TheVariants as overviews
 use Rattle.ledger_jobs.specs.declared.jobs.Taking.{Taking}
@@ -54,6 +56,10 @@ byte_form_in rows = byte_form (set_in rows)
 abbrev pub name_form_in : List Row → NameForm
 name_form_in rows = name_form (set_in rows)
 
+-- which faults the flags ask for: the first, but with --all all of them
+abbrev pub findings_in : List Row → Findings
+findings_in rows = if is_given (codes "all") rows then findings.All else findings.First
+
 -- the flags ask for what is taken in this form
 abbrev pub IsTakenBy : Taking → List Row → Type 0
 IsTakenBy (takings.Records form) rows = form ≡ record_form_in rows
@@ -62,5 +68,5 @@ IsTakenBy (takings.Bytes form) rows = form ≡ byte_form_in rows
 -- the flags ask for this overview; with --json `check` describes images in place of it
 abbrev pub IsViewedBy : Overview → List Row → Type 0
 IsViewedBy (overviews.List form) rows = form ≡ name_form_in rows
-IsViewedBy overviews.Check rows = is_given (codes "json") rows ≡ false
+IsViewedBy (overviews.Check what) rows = (is_given (codes "json") rows ≡ false) × (what ≡ findings_in rows)
 IsViewedBy _ rows = ⊤

@@ -36,7 +36,7 @@ use Rattle.ledger_jobs.specs.declared.jobs.View.TheVariants as views
 use Rattle.ledger_jobs.specs.declared.jobs.Way.{Way}
 use Rattle.ledger_jobs.specs.declared.jobs.Way.TheVariants as ways
 use Rattle.ledger_jobs.specs.Names.{IsNameOf, name_bytes}
-use Rattle.command_line.specs.Forms.{IsTakenBy, IsViewedBy, columns_in}
+use Rattle.command_line.specs.Forms.{IsTakenBy, IsViewedBy, columns_in, findings_in}
 pub use Rattle.command_line.specs.Flags.{is_given}
 use Rattle.command_line.specs.declared.faults.JobFault.{JobFault}
 use Rattle.command_line.specs.declared.faults.JobFault.TheVariants as faults
@@ -195,13 +195,13 @@ HasNewName rows = (bytes : List ℕ) × IsNameOf (value (codes "NAME") rows) byt
 -- the job that prints this of one image
 abbrev pub job_of_one : Overview → Bor Text → Job
 job_of_one (overviews.List form) image = jobs.List form image
-job_of_one overviews.Check image = jobs.Check image
+job_of_one (overviews.Check what) image = jobs.Check what image
 job_of_one overviews.Map image = jobs.Draw drawings.Map image
 
 -- the subcommand that prints this
 abbrev pub word_of_overview : Overview → Text
 word_of_overview (overviews.List form) = codes "list"
-word_of_overview overviews.Check = codes "check"
+word_of_overview (overviews.Check what) = codes "check"
 word_of_overview overviews.Map = codes "map"
 
 -- this is the only image
@@ -227,8 +227,8 @@ IsJob found (jobs.FormatNew image tills) = Has found (codes "format")
     × (is_given (codes "new") rows ≡ true))
 IsJob found (jobs.List form image) = Has found (codes "list")
     (λ rows. IsOnlyImage rows image.now × IsViewedBy (overviews.List form) rows)
-IsJob found (jobs.Check image) = Has found (codes "check")
-    (λ rows. IsOnlyImage rows image.now × IsViewedBy overviews.Check rows)
+IsJob found (jobs.Check what image) = Has found (codes "check")
+    (λ rows. IsOnlyImage rows image.now × IsViewedBy (overviews.Check what) rows)
 IsJob found (jobs.Describe images) = Has found (codes "check") (λ rows. AreDescribed rows (vec_items images))
 IsJob found (jobs.Sheet images) = Has found (codes "picture") (λ rows. AreOnSheet rows (vec_items images))
 IsJob found (jobs.Compare before after) = Has found (codes "picture") (λ rows. AreCompared rows before.now after.now)
@@ -316,7 +316,7 @@ IsDescribing images result =
 -- and of one that checks images, or describes each
 abbrev pub IsCheckJob : List Row → Result Job JobFault → Type 0
 IsCheckJob rows result =
-    ((is_given (codes "json") rows ≡ false) × IsOverviewJob rows overviews.Check result)
+    ((is_given (codes "json") rows ≡ false) × IsOverviewJob rows (overviews.Check (findings_in rows)) result)
     ⊎ (((images : Vec (Bor Text) Global) × (result ≡ Ok (jobs.Describe images)) × AreDescribed rows (vec_items images))
     ⊎ ((e : Error) × (result ≡ Err (faults.Words e)) × HasKind [] e))
 

@@ -15,7 +15,7 @@ ghost use Rattle.rel_records.specs.File.{IsLength};
 ghost use Rattle.command_line.specs.Jobs.{has_two_forms as two_forms, is_explained as explained, is_given as given};
 ghost use Rattle.command_line.specs.Jobs.{serve_durability as of_serve};
 ghost use Rattle.command_line.specs.Jobs.{place_if_both, spelled_place, way_in};
-ghost use Rattle.command_line.specs.Forms.{byte_form_in, columns_in, name_form_in, record_form_in, set_in};
+ghost use Rattle.command_line.specs.Forms.{byte_form_in, columns_in, findings_in, name_form_in, record_form_in, set_in};
 
 use crate::faults::JobFault;
 use clap::{ArgMatches, Error};
@@ -24,7 +24,7 @@ use d64_image::Place;
 use disk_pictures::MOST_TILES;
 use keeper_commands::{ByteForm, RecordForm};
 use ledger_jobs::{
-    Columns, Drawing, Effect, Job, Loss, Name, Overview, Taking, Unowned, View, Way,
+    Columns, Drawing, Effect, Findings, Job, Loss, Name, Overview, Taking, Unowned, View, Way,
 };
 use petscii_text::CharacterSet;
 use request_cards::number;
@@ -228,6 +228,17 @@ fn byte_form<'a>(matches: &ArgMatches<'a>) -> ByteForm
     }
 }
 
+/// Which faults of an image are printed.
+fn findings<'a>(matches: &ArgMatches<'a>) -> Findings
+    ensures { result ≡ findings_in (rows_of (found_of matches.now)) }
+{
+    if is_given(matches, "all") {
+        Findings::All
+    } else {
+        Findings::First
+    }
+}
+
 /// How names of a disk are printed.
 fn name_form<'a>(matches: &ArgMatches<'a>) -> NameForm
     ensures { result ≡ name_form_in (rows_of (found_of matches.now)) }
@@ -331,7 +342,7 @@ fn of_one<'a>(what: Overview, image: &'a str) -> Job<'a>
 {
     match what {
         Overview::List(form) => Job::List { form, image },
-        Overview::Check => Job::Check { image },
+        Overview::Check(findings) => Job::Check { findings, image },
         Overview::Map => Job::Draw {
             what: Drawing::Map,
             image,
@@ -380,7 +391,7 @@ fn checking<'a>(alloc: Global, matches: &ArgMatches<'a>) -> Result<Job<'a>, JobF
     ensures { IsCheckJob (rows_of (found_of matches.now)) result }
 {
     if !is_given(matches, "json") {
-        return viewing(alloc, matches, Overview::Check);
+        return viewing(alloc, matches, Overview::Check(findings(matches)));
     }
     let Some(images) = values_of(matches, "IMAGE") else {
         // A parse without an image is refused.

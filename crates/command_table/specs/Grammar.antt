@@ -43,9 +43,9 @@ may_be_text a = with_rule (with_rule a (flag (codes "text"))) (flag (codes "mixe
 abbrev pub list : App
 list = may_be_text (over_images (codes "list"))
 
--- check IMAGE.. [--json]
+-- check IMAGE.. [--json] [--all]
 abbrev pub check : App
-check = with_rule (over_images (codes "check")) (flag (codes "json"))
+check = with_rule (with_rule (over_images (codes "check")) (flag (codes "json"))) (flag (codes "all"))
 
 -- show IMAGE
 abbrev pub show : App

@@ -65,7 +65,9 @@ short there; not with several images.
 With several images each line begins with the image's name, also for an image
 that is refused, and the status is the greatest.
 With --json each image gives an object of JSON in a line. Its `files` are those
-that the fault concerns, and `free` counts blocks.
+that the fault concerns, and `free` counts blocks. With --all every fault is
+printed, the first one first, with its files: OWNEDTWICE 6/17 \"A\" \"B\". MAPWRONG
+is only printed if the files are sound. --json passes --all over.
 
 Exit status:
   0  OK

@@ -148,7 +148,7 @@ pub(crate) const SUBCOMMANDS: [Subcommand; 19] = [
         more: LIST,
         values: &[IMAGES, TEXT, MIXED],
     },
-    // check IMAGE.. [--json]
+    // check IMAGE.. [--json] [--all]
     Subcommand {
         name: "check",
         about: "Checks the layout of images: prints OK, or a fault and its sector",
@@ -160,6 +160,12 @@ pub(crate) const SUBCOMMANDS: [Subcommand; 19] = [
                 word: Some("json"),
                 count: Count::Flag,
                 help: "Prints an object of JSON for each image, in a line",
+            },
+            Value {
+                name: "all",
+                word: Some("all"),
+                count: Count::Flag,
+                help: "Prints every fault, each with the files that it concerns",
             },
         ],
     },

@@ -1,6 +1,11 @@
 pub mod Ends
+pub mod Followed
 pub mod Found
+pub mod Gathered
 pub mod Kept
-pub mod Paddings
+pub mod Lined
+pub mod SameFaults
+pub mod Shown
 pub mod Spelled
+pub mod Those
 pub mod Written

@@ -1,5 +1,6 @@
+pub mod AllFaults
 pub mod Json
-pub mod Names
+pub mod NearNames
 pub mod Objects
 pub mod Outcomes
 pub mod Trails

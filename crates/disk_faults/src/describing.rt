@@ -19,7 +19,7 @@ use std::alloc::Global;
 use std::io::Write;
 
 /// The disk in memory that holds the image.
-fn load(alloc: Global, image: &[u8]) -> Result<MemDisk, DescribeFault>
+pub(crate) fn load(alloc: Global, image: &[u8]) -> Result<MemDisk, DescribeFault>
     ensures ok { IfOk result (λ disk. (length image.now ≡ 174848)
         × (disk_image disk ≡ sectors_in image.now)) }
     ensures err { IfErr result (IsLoadFault image.now) }
@@ -32,7 +32,7 @@ fn load(alloc: Global, image: &[u8]) -> Result<MemDisk, DescribeFault>
 }
 
 /// What a check of the disk finds; None if it is clean. Its survey isn't kept.
-fn verdict(disk: &mut MemDisk) -> Option<Fault>
+pub(crate) fn verdict(disk: &mut MemDisk) -> Option<Fault>
     ensures verdict { IsVerdict (disk_image disk.old) result }
     ensures same { disk_image disk.new ≡ disk_image disk.old }
 {
@@ -43,8 +43,9 @@ fn verdict(disk: &mut MemDisk) -> Option<Fault>
 }
 
 /// The bytes of 18/0. A disk in memory gives them always.
-fn read_map(disk: &mut MemDisk) -> [u8; 256]
-    ensures { result ≡ sector (disk_image disk.old) map_at }
+pub(crate) fn read_map(disk: &mut MemDisk) -> [u8; 256]
+    ensures map { result ≡ sector (disk_image disk.old) map_at }
+    ensures same { disk_image disk.new ≡ disk_image disk.old }
 {
     let mut map = [0; 256];
     let _ = disk.read(map_place(), &mut map);

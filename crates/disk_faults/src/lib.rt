@@ -2,12 +2,19 @@
 #![tactic(auto)]
 
 mod concerned;
+mod counting;
 mod describing;
 mod faults;
 mod following;
+mod gathering;
+mod holding;
 mod json;
 mod laws;
-mod names;
+mod lines;
+mod links;
+mod listing;
+mod map_bits;
+mod near_names;
 mod objects;
 mod showing;
 mod sides;
@@ -17,3 +24,5 @@ mod trail;
 pub use describing::{describe_image, describe_refusal};
 pub use faults::DescribeFault;
 pub use laws::strings_are_read_back;
+pub use listing::list_faults;
+pub use near_names::print_near_names;

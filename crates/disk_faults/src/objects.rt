@@ -5,13 +5,13 @@ ghost use Rattle.disk_faults.specs.Objects.{disk_name_text, disk_text, files_tex
 ghost use Rattle.disk_faults.specs.Objects.{object_text, place_of, refused_head, refused_text, size_text, verdict_text};
 
 use crate::json::{put_string, put_typed};
-use crate::names::{entry_name, header_name};
 use d64_image::Place;
+use disk_entries::{disk_name, entry_name};
 use disk_layout::{BamView, Fault, Slot};
 use std::io::{self, Write};
 
 /// Where a fault is.
-fn fault_place(fault: Fault) -> Place
+pub(crate) fn fault_place(fault: Fault) -> Place
     ensures { result ≡ place_of fault }
 {
     match fault {
@@ -97,7 +97,7 @@ fn put_disk_name<W: Write>(out: &mut W, map: &[u8; 256]) -> io::Result<()>
         ",\"free\":{},\"disk\":",
         BamView::new(map).blocks_free()
     )?;
-    put_typed(out, header_name(map))
+    put_typed(out, disk_name(map))
 }
 
 /// Writes what 18/0 says of the disk, and the end of the object.

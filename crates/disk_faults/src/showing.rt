@@ -12,7 +12,7 @@ use d64_image::Place;
 use disk_layout::{EntryView, Fault, POINTERS, Slot};
 
 /// Whether two places are the same.
-fn is_same(at: Place, place: Place) -> bool
+pub(crate) fn is_same(at: Place, place: Place) -> bool
     ensures { IsTrue result ↔ (at ≡ place) }
 {
     at == place
@@ -39,7 +39,7 @@ fn is_back(fault: Fault, place: Place) -> bool
 }
 
 /// Whether a chain that ends so links to no place at this sector, or in this directory sector is to begin and doesn't.
-fn ends_nowhere(end: Option<Fault>, place: Place) -> bool
+pub(crate) fn ends_nowhere(end: Option<Fault>, place: Place) -> bool
     ensures { IsTrue result ↔ (end ≡ Some (BadLink place)) }
 {
     match end {
@@ -49,7 +49,7 @@ fn ends_nowhere(end: Option<Fault>, place: Place) -> bool
 }
 
 /// Whether a chain that ends so links back to this sector.
-fn comes_back(end: Option<Fault>, place: Place) -> bool
+pub(crate) fn comes_back(end: Option<Fault>, place: Place) -> bool
     ensures { IsTrue result ↔ (end ≡ Some (Loop place)) }
 {
     match end {

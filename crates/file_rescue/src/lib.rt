@@ -1,7 +1,6 @@
 //! What can be rescued of the files of a 1541 disk, written to a folder that is new.
 #![tactic(auto)]
 
-mod blocks;
 mod extracting;
 mod folders;
 mod laws;

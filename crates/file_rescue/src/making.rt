@@ -6,14 +6,13 @@ ghost use Rattle.file_rescue.specs.Rescues.{IsMakeFault, IsRescued, bytes_in, en
 ghost use Rattle.file_rescue.specs.Rescues.{records_length};
 ghost use Rattle.keeper_commands.specs.declared.faults.KeepFault.TheVariants as faults;
 
-use crate::blocks::put_file;
 use crate::folders::NewFolder;
 use crate::record_lines::put_records;
 use crate::rescuing::Rescued;
 use d64_image::MemDisk;
 use disk_entries::entry_name;
 use disk_layout::EntryView;
-use keeper_commands::KeepFault;
+use keeper_commands::{ByteForm, KeepFault, put_file};
 use petscii_text::{Ending, file_name};
 use std::alloc::Global;
 
@@ -59,7 +58,13 @@ fn bytes_of(alloc: Global, disk: &mut MemDisk, file: &Rescued) -> Result<Vec<u8>
     let Ok(mut bytes) = Vec::with_capacity(alloc, 254 * file.blocks.len()) else {
         return Err(KeepFault::NoMemory);
     };
-    match put_file(&mut bytes, disk, file.blocks.as_slice(), file.last) {
+    match put_file(
+        &mut bytes,
+        disk,
+        file.blocks.as_slice(),
+        file.last,
+        ByteForm::Plain,
+    ) {
         Ok(()) => Ok(bytes),
         Err(_) => Err(KeepFault::NoMemory),
     }

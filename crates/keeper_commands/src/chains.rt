@@ -106,8 +106,9 @@ fn put_blocks<W: Write>(
     Ok(())
 }
 
-/// Prints the bytes of a file with these blocks, up to the index `last` of the last one, in this form.
-pub(crate) fn put_file<W: Write>(
+/// Prints the bytes of a file with these blocks, up to the index `last` of the last one, in this form: of each but the last
+/// one 254. `File` if the output failed, which may then have a part.
+pub fn put_file<W: Write>(
     out: &mut W,
     disk: &mut MemDisk,
     blocks: &[Place],
@@ -116,6 +117,7 @@ pub(crate) fn put_file<W: Write>(
 ) -> Result<(), KeepFault>
     ensures ok { OnOk result (Appends (W.contents out.old) (W.contents out.new)
         (bytes_as form (file_bytes (disk_image disk.old) blocks.now last))) }
+    ensures same { disk_image disk.new ≡ disk_image disk.old }
     ensures err { IfErr result (λ fault. fault ≡ faults.File) }
 {
     match blocks {

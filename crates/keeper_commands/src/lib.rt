@@ -22,6 +22,7 @@ mod record_storing;
 mod storing;
 
 pub use byte_printing::bytes_image;
+pub use chains::put_file;
 pub use column_lines::plain_lines;
 pub use faults::KeepFault;
 pub use forms::{ByteForm, RecordForm};

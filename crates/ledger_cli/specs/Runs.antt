@@ -16,6 +16,7 @@ use Rattle.ledger_jobs.specs.Drawings.{IsDrawingRun}
 use Rattle.ledger_jobs.specs.Ends.{Ended, JobEnd, as_drawn, as_job, end_of, end_status, exit_status, refusal_line}
 use Rattle.ledger_jobs.specs.Keeping.{IsDryRepair, IsRepairOver}
 use Rattle.ledger_jobs.specs.Kept.{IsMakeOver, IsStoreOver}
+use Rattle.ledger_jobs.specs.Listings.{IsListingRun, as_listed}
 use Rattle.ledger_jobs.specs.Losses.{IsEndOf, IsGuarded, IsKeptEndOf, IsRepairedEndOf, IsTakingEnd}
 use Rattle.ledger_jobs.specs.Names.{name_bytes}
 use Rattle.ledger_jobs.specs.Runs.{IsNoShop, IsPlayRun, IsReadingEnd}
@@ -24,6 +25,8 @@ use Rattle.ledger_jobs.specs.declared.jobs.Job.{Job}
 use Rattle.ledger_jobs.specs.declared.jobs.Job.TheVariants as jobs
 use Rattle.ledger_jobs.specs.declared.jobs.Effect.{Effect}
 use Rattle.ledger_jobs.specs.declared.jobs.Effect.TheVariants as effects
+use Rattle.ledger_jobs.specs.declared.jobs.Findings.{Findings}
+use Rattle.ledger_jobs.specs.declared.jobs.Findings.TheVariants as findings
 use Rattle.ledger_jobs.specs.declared.jobs.Loss.{Loss}
 use Rattle.ledger_jobs.specs.declared.jobs.Unowned.{Unowned}
 use Rattle.ledger_jobs.specs.declared.jobs.Unowned.TheVariants as unowned
@@ -38,6 +41,11 @@ EndsAs {A} told end P = (ended : A) × (end ≡ told ended) × P ended
 -- what was asked of these bytes ended so
 abbrev pub IsRead : {W : Type 0} → (W → Option (List ℕ)) → Reading → List ℕ → W → W → JobEnd → Type 0
 IsRead contents what bytes old new end = EndsAs as_job end (IsReadingEnd contents what bytes old new)
+
+-- a check of these bytes, of the first fault or of all, ended so
+abbrev pub IsChecked : {W : Type 0} → (W → Option (List ℕ)) → Findings → List ℕ → W → W → JobEnd → Type 0
+IsChecked contents findings.First image old new end = IsRead contents readings.Check image old new end
+IsChecked contents findings.All image old new end = EndsAs as_listed end (IsListingRun contents image old new)
 
 -- A job that writes an image wasn't begun: the file and the output are as they were.
 pub record IsUnbegun {F W : Type 0} (image : List ℕ) (file after : Option F) (old new : W) (end : JobEnd) : Type 0 where
@@ -139,8 +147,8 @@ module _ {F : Type 0} (position : F → Option ℕ) (bytes contents : F → Opti
       IsFormatted told tills file after old new end
   IsJobRun told (jobs.List form path) image script file after old new end =
       (after ≡ file) × IsRead told (readings.List form) image old new end
-  IsJobRun told (jobs.Check path) image script file after old new end =
-      (after ≡ file) × IsRead told readings.Check image old new end
+  IsJobRun told (jobs.Check what path) image script file after old new end =
+      (after ≡ file) × IsChecked told what image old new end
   IsJobRun told (jobs.Show path) image script file after old new end =
       (after ≡ file) × IsRead told readings.Show image old new end
   IsJobRun told (jobs.Dry path) image script file after old new end =

@@ -8,6 +8,6 @@ mod running;
 mod stream;
 
 pub use command_line::{Audience, JobFault, hold_streams, job, program};
-pub use ledger_jobs::{Job, Overview, overview_run, trim_run};
+pub use ledger_jobs::{Findings, Job, Overview, overview_run, trim_run};
 pub use running::{run, run_over};
 pub use shop_commands::{DryFault, dry};

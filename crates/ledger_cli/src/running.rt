@@ -1,12 +1,12 @@
 //! Jobs run over the bytes of their files.
 ghost use Rattle.std.specs.Prelude.{◌≡◌, Option};
-ghost use Rattle.ledger_cli.specs.Runs.{IsJobRun, IsRead, IsRun};
+ghost use Rattle.ledger_cli.specs.Runs.{IsChecked, IsJobRun, IsRead, IsRun};
 ghost use Rattle.ledger_jobs.specs.Jobs.{IsFit};
 
 use crate::changing::{Ended, copy, format, make, play, repair, serve, store};
 use ledger_jobs::{
-    Job, Reading, Refusal, comparing_run, drawing_run, drawn_end, end, job_end, reading_run,
-    take_told, view_run, viewed_end,
+    Findings, Job, Reading, Refusal, comparing_run, drawing_run, drawn_end, end, job_end,
+    listed_end, listing_run, reading_run, take_told, view_run, viewed_end,
 };
 use shop_commands::RunFault;
 use std::alloc::Global;
@@ -17,6 +17,16 @@ fn read<W: Write>(alloc: Global, what: Reading, bytes: &[u8], out: &mut W) -> En
     ensures { IsRead W.contents what bytes.now out.old out.new result }
 {
     job_end(reading_run(alloc, what, bytes, out))
+}
+
+/// Checks an image, or prints all its faults.
+fn checked<W: Write>(alloc: Global, what: Findings, image: &[u8], out: &mut W) -> Ended
+    ensures { IsChecked W.contents what image.now out.old out.new result }
+{
+    match what {
+        Findings::First => read(alloc, Reading::Check, image, out),
+        Findings::All => listed_end(listing_run(alloc, image, out)),
+    }
 }
 
 /// Does a job over the bytes of its files. Returns how it ended, with the file.
@@ -35,7 +45,7 @@ fn obey<F: Write + Seek + Drop, W: Write>(
     match *job {
         Job::Format { tills, .. } | Job::FormatNew { tills, .. } => format(alloc, tills, file, out),
         Job::List { form, .. } => (file, read(alloc, Reading::List(form), image, out)),
-        Job::Check { .. } => (file, read(alloc, Reading::Check, image, out)),
+        Job::Check { findings, .. } => (file, checked(alloc, findings, image, out)),
         Job::Show { .. } => (file, read(alloc, Reading::Show, image, out)),
         Job::Dry { .. } => (file, read(alloc, Reading::Dry, script, out)),
         Job::Play { .. } | Job::PlaySynced { .. } => play(alloc, image, script, file, out),

@@ -4,8 +4,10 @@ use Rattle.std.specs.declared.alloc.Global.{Global}
 use Rattle.std.specs.Io.KnownBytes.{Appends}
 use Rattle.ledger_jobs.specs.Drawings.{IsDrawingRun}
 use Rattle.ledger_jobs.specs.Ends.{JobEnd, as_drawn, as_job, end_line, end_status}
+use Rattle.ledger_jobs.specs.Listings.{IsListingRun, as_listed}
 use Rattle.ledger_jobs.specs.Runs.{IsReadingEnd}
 use Rattle.ledger_jobs.specs.declared.jobs.Drawing.TheVariants as drawings
+use Rattle.ledger_jobs.specs.declared.jobs.Findings.TheVariants as findings
 use Rattle.ledger_jobs.specs.declared.jobs.Overview.{Overview}
 use Rattle.ledger_jobs.specs.declared.jobs.Overview.TheVariants as overviews
 use Rattle.ledger_jobs.specs.declared.jobs.Reading.TheVariants as readings
@@ -19,8 +21,10 @@ EndsAs {A} told end P = (ended : A) × (end ≡ told ended) × P ended
 abbrev pub IsOverview : {W : Type 0} → (W → Option (List ℕ)) → Overview → (image : List ℕ) → W → W → JobEnd → Type 0
 IsOverview contents (overviews.List form) image old new end =
     EndsAs as_job end (IsReadingEnd contents (readings.List form) image old new)
-IsOverview contents overviews.Check image old new end =
+IsOverview contents (overviews.Check findings.First) image old new end =
     EndsAs as_job end (IsReadingEnd contents readings.Check image old new)
+IsOverview contents (overviews.Check findings.All) image old new end =
+    EndsAs as_listed end (IsListingRun contents image old new)
 IsOverview contents overviews.Map image old new end =
     EndsAs as_drawn end (IsDrawingRun contents drawings.Map image old new)
 

@@ -35,7 +35,7 @@ where
     R: Files<File = F> + AllocGlobal,
     E: Write,
 {
-    let Job::Check { image } = job else {
+    let Job::Check { image, .. } = job else {
         return;
     };
     if let Some(place) = cut_at(rt, image) {

@@ -14,8 +14,9 @@ use crate::durable_runs::play_durably;
 use crate::extracting::do_extracting;
 use crate::files::{AtPath, Older, STANDARD_INPUT, room_for, script_at};
 use crate::image_logs::{logged_image, opened_and_landed};
-use crate::jobs::{Drawing, Job, Reading, Taking, Way};
+use crate::jobs::{Drawing, Findings, Job, Reading, Taking, Way};
 use crate::keeper_files::{do_make, do_repair, do_store};
+use crate::listings::do_listing;
 use crate::locks::{lock_shared, own_image, read_shared};
 use crate::losses::take_told;
 use crate::names::Name;
@@ -316,7 +317,7 @@ where
 /// before the image is written, and read in the place of the image otherwise. `InUse` where another program has it; `Log`
 /// if its log gives no image; `File` where a file couldn't be opened or read, and the faults of `reading_run`,
 /// `format_run`, `play_durably`, `serve_guarded`, `serve_logged_guarded`, `copy_run`, `repair_guarded`, `make_guarded`,
-/// `store_guarded`, `take_told`, `extract_run`, `drawing_run`, `comparing_run` and `view_run`. `Trim` ends with `File`, since it reports on
+/// `store_guarded`, `take_told`, `extract_run`, `listing_run`, `drawing_run`, `comparing_run` and `view_run`. `Trim` ends with `File`, since it reports on
 /// standard error: call `do_trim`. What is wrong with one of several images is printed, and only an
 /// output that failed ends the job before the last of them.
 pub fn do_job<F, R, W>(rt: &R, job: &Job<'_>, out: &mut W) -> Result<Option<Fault>, Refusal>
@@ -330,7 +331,10 @@ where
         Job::Format { image, tills } => do_format(rt, image, tills, Older::Replaced, out),
         Job::FormatNew { image, tills } => do_format(rt, image, tills, Older::Kept, out),
         Job::List { form, image } => do_reading(rt, Reading::List(form), image, out),
-        Job::Check { image } => do_reading(rt, Reading::Check, image, out),
+        Job::Check { findings, image } => match findings {
+            Findings::First => do_reading(rt, Reading::Check, image, out),
+            Findings::All => do_listing(rt, image, out),
+        },
         Job::Show { image } => do_reading(rt, Reading::Show, image, out),
         Job::Dry { script } => do_reading(rt, Reading::Dry, script, out),
         Job::Play { image, script } => do_playing(rt, image, script, Durability::AtEnd, out),

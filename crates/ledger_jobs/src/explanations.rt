@@ -3,13 +3,15 @@
 use crate::files::STANDARD_INPUT;
 use crate::job_files::{image_of, size_of, text_of};
 use crate::jobs::Job;
+use crate::near_names::tell_name;
 use crate::refusals::Refusal;
 use disk_pictures::PictureFault;
 use keeper_commands::KeepFault;
 use noted_files::Failure;
-use shop_commands::RunFault;
+use shop_commands::{Locks, RunFault};
 use std::fmt::Display;
-use std::io::{self, ErrorKind, Write};
+use std::fs::OpenFile;
+use std::io::{self, ErrorKind, Read, Write};
 use std::rt::Files;
 use system_files::{ShownPath, regular_at};
 
@@ -23,6 +25,8 @@ enum About {
     Device,
     /// The image, of which this is printed.
     Image(&'static str),
+    /// A name that no file of the image has.
+    Name,
     /// The script or the records, of which this is printed.
     Text(&'static str),
     /// A file that is to be made.
@@ -71,7 +75,7 @@ fn about_keep(fault: KeepFault) -> About {
         KeepFault::File => About::Files,
         KeepFault::ImageSize => About::Size,
         KeepFault::Layout(_) => About::Image(JUDGED),
-        KeepFault::NoFile => About::Image("it has no such file; `ledger list` shows what it has"),
+        KeepFault::NoFile => About::Name,
         KeepFault::FileExists => About::Image("a file has this name; `ledger list` shows them"),
         KeepFault::DiskFull => About::Image("too few blocks are free; nothing was done"),
         KeepFault::BadLine(_) => About::Text(BAD_LINE),
@@ -247,21 +251,28 @@ fn tell_made<E: Write>(job: &Job<'_>, err: &mut E) {
 }
 
 /// Prints for a person, in a line below the refusal's own, which file it is about, what the system said of it, or what to
-/// do. `cause` is why a call of the system failed, if one did. No file is opened for it. If it can't be printed, there is
-/// nobody left to tell.
-pub fn explain<R: Files, E: Write>(
+/// do. `cause` is why a call of the system failed, if one did. No file is opened for it, except that the image is locked
+/// with others that read it, and read for the names that are near, if no file has the name. If it can't be printed, there
+/// is nobody left to tell.
+pub fn explain<F, R, E>(
     rt: &R,
     job: &Job<'_>,
     refusal: Refusal,
     cause: Option<Failure<'_>>,
     err: &mut E,
-) {
+)
+where
+    F: Read + Locks + OpenFile + Drop,
+    R: Files<File = F> + AllocGlobal,
+    E: Write,
+{
     let image = image_of(job);
     match subject_of(refusal) {
         About::Files => tell_files(rt, job, cause, err),
         About::Size => tell_size(rt, missized_of(rt, job), err),
         About::Device => tell_device(job, cause, err),
         About::Image(said) => tell_of_image(err, job, said),
+        About::Name => tell_name(rt, job, image, err),
         About::Text(said) => tell_of(err, text_of(job).unwrap_or(image), said),
         About::Made => tell_made(job, err),
         About::Nothing => {}

@@ -9,7 +9,7 @@ use system_files::regular_at;
 pub(crate) fn image_of<'a>(job: &Job<'a>) -> &'a str {
     match job {
         Job::Format { image, .. } | Job::FormatNew { image, .. } => image,
-        Job::List { image, .. } | Job::Check { image } | Job::Show { image } => image,
+        Job::List { image, .. } | Job::Check { image, .. } | Job::Show { image } => image,
         Job::Play { image, .. } | Job::PlaySynced { image, .. } | Job::Serve { image, .. } => image,
         Job::Repair { image, .. } | Job::Take { image, .. } | Job::Draw { image, .. } => image,
         Job::Extract { image, .. } => image,

@@ -55,13 +55,22 @@ pub enum Way {
     InPlace,
 }
 
+/// Which of the faults of an image are printed.
+#[derive(Clone, Copy, Debug, PartialEq, Eq)]
+pub enum Findings {
+    /// The first one that a check finds.
+    First,
+    /// All that hold, that one first, each with the files that it concerns.
+    All,
+}
+
 /// What is printed of each of several images.
 #[derive(Clone, Copy, Debug, PartialEq, Eq)]
 pub enum Overview {
     /// Its directory, with its names in this form.
     List(NameForm),
     /// Whether its layout is clean, and otherwise what is wrong with it.
-    Check,
+    Check(Findings),
     /// A line for each track.
     Map,
 }
@@ -128,6 +137,8 @@ pub enum Job<'a> {
     },
     /// Whether the layout of an image is clean, and otherwise what is wrong with it.
     Check {
+        /// What is printed of that.
+        findings: Findings,
         /// The image's path.
         image: &'a str,
     },

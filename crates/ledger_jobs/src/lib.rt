@@ -17,10 +17,12 @@ mod job_files;
 mod jobs;
 mod keeper_files;
 mod keeper_runs;
+mod listings;
 mod locks;
 mod logged_runs;
 mod losses;
 mod names;
+mod near_names;
 mod overviews;
 mod refusals;
 mod serving_files;
@@ -44,9 +46,10 @@ pub use explanations::explain;
 pub use extracting::extract_run;
 pub use job_files::files_of;
 pub use jobs::{
-    Columns, Drawing, Effect, Job, Loss, Overview, Reading, Taking, Unowned, View, Way,
+    Columns, Drawing, Effect, Findings, Job, Loss, Overview, Reading, Taking, Unowned, View, Way,
 };
 pub use keeper_runs::{dry_repair_run, make_run, repair_run, store_run, taking_run};
+pub use listings::{listed_end, listing_run};
 pub use logged_runs::serve_logged;
 pub use losses::{
     dry_repair_guarded, loss_refusal, make_guarded, repair_guarded, serve_guarded,

@@ -10,7 +10,8 @@ ghost use Rattle.named_lines.specs.Named.{named};
 use crate::dispatch::{drawn_end, image_at, job_end};
 use crate::drawing::drawing_run;
 use crate::endings::end;
-use crate::jobs::{Drawing, Overview, Reading};
+use crate::jobs::{Drawing, Findings, Overview, Reading};
+use crate::listings::{listed_end, listing_run};
 use crate::refusals::Refusal;
 use crate::shop_runs::reading_run;
 use disk_layout::Fault;
@@ -48,7 +49,8 @@ fn overview<W: Write>(
 {
     match what {
         Overview::List(form) => read(alloc, Reading::List(form), image, out),
-        Overview::Check => read(alloc, Reading::Check, image, out),
+        Overview::Check(Findings::First) => read(alloc, Reading::Check, image, out),
+        Overview::Check(Findings::All) => listed_end(listing_run(alloc, image, out)),
         Overview::Map => drawn_end(drawing_run(alloc, Drawing::Map, image, out)),
     }
 }

@@ -19,6 +19,7 @@ mod fault_rows;
 mod field_rows;
 #[cfg(test)]
 mod line_rows;
+mod listed_rows;
 #[cfg(test)]
 mod making_rows;
 #[cfg(test)]

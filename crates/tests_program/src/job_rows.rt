@@ -29,6 +29,8 @@ job ledger trim a.d64
 prints trim, a.d64, , 0
 job ledger check a.d64
 prints check, a.d64, , 0
+job ledger check a.d64 --all
+prints check all, a.d64, , 0
 job ledger show a.d64
 prints show, a.d64, , 0
 job ledger play a.d64 s.txt

@@ -3,7 +3,9 @@ use crate::runs::texts_of;
 use command_line::command_line;
 use keeper_commands::{ByteForm, RecordForm};
 use ledger_cli::{Job, job};
-use ledger_jobs::{Columns, Drawing, Effect, Loss, Name, Overview, Taking, Unowned, View, Way};
+use ledger_jobs::{
+    Columns, Drawing, Effect, Findings, Loss, Name, Overview, Taking, Unowned, View, Way,
+};
 use petscii_text::CharacterSet;
 use shop_commands::{Durability, NameForm};
 use std::alloc::Global;
@@ -26,7 +28,10 @@ fn row_of<'a>(job: &Job<'a>) -> Row<'a> {
         Job::Format { image, tills } => ("format", image, "", tills),
         Job::FormatNew { image, tills } => ("format new", image, "", tills),
         Job::List { image, .. } => ("list", image, "", 0),
-        Job::Check { image } => ("check", image, "", 0),
+        Job::Check { findings, image } => match findings {
+            Findings::First => ("check", image, "", 0),
+            Findings::All => ("check all", image, "", 0),
+        },
         Job::Show { image } => ("show", image, "", 0),
         Job::Dry { script } => ("dry", "", script, 0),
         Job::Play { image, script } => ("play", image, script, 0),
@@ -97,7 +102,8 @@ fn row_of<'a>(job: &Job<'a>) -> Row<'a> {
         Job::Several { what, ref images } => {
             let name = match what {
                 Overview::List(_) => "list several",
-                Overview::Check => "check several",
+                Overview::Check(Findings::First) => "check several",
+                Overview::Check(Findings::All) => "check all several",
                 Overview::Map => "map several",
             };
             let first = images.first().copied().unwrap_or("");
@@ -152,7 +158,7 @@ fn stored_from(columns: Columns) -> &'static str {
 fn viewed_as(what: Overview) -> &'static str {
     match what {
         Overview::List(form) => names_of(form),
-        Overview::Check | Overview::Map => "",
+        Overview::Check(_) | Overview::Map => "",
     }
 }
 

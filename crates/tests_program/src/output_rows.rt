@@ -2,7 +2,7 @@
 ghost use Rattle.ledger_jobs.specs.Jobs.{IsFit};
 
 use crate::scenes::{each, first_scene};
-use ledger_jobs::{Drawing, Effect, Job, Loss, Unowned, do_job, end};
+use ledger_jobs::{Drawing, Effect, Findings, Job, Loss, Unowned, do_job, end};
 use shop_commands::NameForm;
 use std::io::{self, Write};
 use std::process::Abort;
@@ -183,7 +183,10 @@ const LIST_JOB: Job<'static> = Job::List {
     image: "a.d64",
 };
 
-const CHECK_JOB: Job<'static> = Job::Check { image: "a.d64" };
+const CHECK_JOB: Job<'static> = Job::Check {
+    findings: Findings::First,
+    image: "a.d64",
+};
 
 const DRY_JOB: Job<'static> = Job::Dry { script: "s.txt" };
 

@@ -128,6 +128,16 @@ prints LOOP 17/0|
 ends 1
 
 no script
+hurt LOOP
+run ledger check --all a.d64
+prints LOOP 17/0 \"STOCK\"|
+ends 1
+
+no script
+run ledger check --all a.d64
+prints OK|
+
+no script
 image short
 run ledger check a.d64
 tells IMAGE SIZE|

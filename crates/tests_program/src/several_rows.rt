@@ -15,6 +15,11 @@ $ ledger_cli check s.txt a.d64
 prints s.txt: IMAGE SIZE|a.d64: LOOP 17/0|
 ends 1
 
+hurt LOOP
+$ ledger_cli check --all a.d64 s.txt
+prints a.d64: LOOP 17/0 \"STOCK\"|s.txt: IMAGE SIZE|
+ends 1
+
 hurt WRONG MAP
 $ ledger_cli check b.d64 a.d64 s.txt
 prints b.d64: FILE|a.d64: MAPWRONG 18/0|s.txt: IMAGE SIZE|

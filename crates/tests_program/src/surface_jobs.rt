@@ -2,7 +2,7 @@
 ghost use Rattle.ledger_jobs.specs.Jobs.{IsFit};
 
 use crate::comparing::{byte_at, same, same_at};
-use ledger_cli::{DryFault, Job, JobFault, dry, job, run, run_over};
+use ledger_cli::{DryFault, Findings, Job, JobFault, dry, job, run, run_over};
 use shop_commands::NameForm;
 use std::io::Cursor;
 use std::process::Abort;
@@ -27,7 +27,7 @@ fn parts<'a>(job: &Job<'a>) -> (&'static str, &'a str, &'a str, u8) {
     match *job {
         Job::Format { image, tills } => ("format", image, "", tills),
         Job::List { image, .. } => ("list", image, "", 0),
-        Job::Check { image } => ("check", image, "", 0),
+        Job::Check { image, .. } => ("check", image, "", 0),
         Job::Show { image } => ("show", image, "", 0),
         Job::Play { image, script } => ("play", image, script, 0),
         Job::Dry { script } => ("dry", "", script, 0),
@@ -140,7 +140,10 @@ fn images_are_made_and_read(rt: HostRuntime) {
     );
     ends(
         &rt,
-        &Job::Check { image: "a.d64" },
+        &Job::Check {
+            findings: Findings::First,
+            image: "a.d64",
+        },
         bytes,
         None,
         (0, "OK\n", ""),
@@ -155,7 +158,10 @@ fn images_are_made_and_read(rt: HostRuntime) {
     let short = (b"D64".as_slice(), b"".as_slice());
     ends(
         &rt,
-        &Job::Check { image: "a.d64" },
+        &Job::Check {
+            findings: Findings::First,
+            image: "a.d64",
+        },
         short,
         None,
         (1, "", "IMAGE SIZE\n"),

@@ -135,6 +135,11 @@ person ledger_cli store a.d64 CARDS s.txt
 tells NO FILE|ledger: a.d64: it has no such file; `ledger list` shows what it has|
 ends 1
 
+script
+person ledger_cli bytes a.d64 stock
+tells NO FILE|ledger: a.d64: it has no such file, but \"STOCK\" REL|
+ends 1
+
 script 1,A|x|
 person ledger_cli store a.d64 REQUESTS s.txt
 tells RECORDS LINE 2|ledger: s.txt: nothing was done; mend the line, and run it again|

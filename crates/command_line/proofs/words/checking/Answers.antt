@@ -3,8 +3,10 @@ use Rattle.std.proofs.Common.{◌≡◌, ◌∙◌, Bor, List, Option, Result, S
 use Rattle.std.specs.Prelude.{codes, map, option_map, unwrap_or}
 use Rattle.clap.specs.Words.{Row, Text, all_of, found_of, rows_of}
 use Rattle.command_table.specs.Grammar.{values}
-use Rattle.command_line.specs.Jobs.{AreDescribed, IsCheckJob, IsDescribing, is_given}
+use Rattle.command_line.specs.Jobs.{AreDescribed, IsCheckJob, IsDescribing, IsOverviewJob, is_given}
+use Rattle.ledger_jobs.specs.declared.jobs.Findings.{Findings}
 use Rattle.ledger_jobs.specs.declared.jobs.Job.{Job}
+use Rattle.ledger_jobs.specs.declared.jobs.Overview.TheVariants as overviews
 use Rattle.command_line.specs.declared.faults.JobFault.{JobFault}
 use Rattle.command_line.proofs.words.checking.Goals as goal
 
@@ -24,7 +26,12 @@ described-met rows images r given told (inl (all, same, items)) =
 described-met rows images r given told (inr none) = inr (inr none)
 
 pub returns-then-not-is_given : goal.returns-then-not-is_given
-returns-then-not-is_given c = inl (sym c.is_given.ensures ∙ c.if-not-is_given.true, c.viewing.ensures)
+returns-then-not-is_given c =
+    let rows = rows_of (found_of c.args.matches.now) in
+    inl (
+      sym c.is_given.ensures ∙ c.if-not-is_given.true,
+      subst (λ (what : Findings). IsOverviewJob rows (overviews.Check what) c.viewing.result) c.findings.ensures c.viewing.ensures,
+    )
 
 pub returns : goal.returns
 returns c =

@@ -30,7 +30,7 @@ returns-in-Ok g c =
     let found = c.verdict-found.result in
     let files = c.list_files.new.files.items in
     let judged = c.verdict-found.ensures.same ∙ loaded.1 in
-    let map = c.read_map-map.ensures ∙ ap (λ (i : Image). sector i map_place) (c.list_files.ensures.same ∙ judged) in
+    let map = c.read_map-map.ensures.map ∙ ap (λ (i : Image). sector i map_place) (c.list_files.ensures.same ∙ judged) in
     record {
       ok = record {
         size = loaded.0;

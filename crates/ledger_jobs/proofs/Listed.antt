@@ -1,0 +1,18 @@
+-- All faults of an image were printed, and what the output held back was handed on.
+use Rattle.std.proofs.Common.{List, ℕ}
+use Rattle.std.specs.Prelude.{Option}
+use Rattle.std.specs.Io.KnownBytes.{Keeps}
+use Rattle.std.proofs.KnownBytes.{Appends-kept}
+use Rattle.disk_faults.specs.AllFaults.{AreListed}
+use Rattle.disk_layout.specs.declared.faults.Fault.{Fault}
+
+pub listed-kept : {W : Type 0} (contents : W → Option (List ℕ)) (image : List ℕ) (old mid new : W) (found : Option Fault)
+    → AreListed contents image old mid found → Keeps (contents mid) (contents new)
+    → AreListed contents image old new found
+listed-kept contents image old mid new found h kept =
+    let (text, listing, put) = h.listed in
+    record {
+      size = h.size;
+      verdict = h.verdict;
+      listed = (text, listing, Appends-kept (contents old) (contents mid) (contents new) text put kept);
+    }

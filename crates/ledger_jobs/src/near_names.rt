@@ -1,0 +1,59 @@
+//! What a person is told if an image has no file of a name: which names are near.
+use crate::dispatch::image_of_file;
+use crate::files::STANDARD_INPUT;
+use crate::jobs::Job;
+use crate::names::Name;
+use disk_faults::print_near_names;
+use shop_commands::Locks;
+use std::fs::OpenFile;
+use std::io::{Read, Write};
+use std::rt::Files;
+use system_files::ShownPath;
+
+/// What is told if no name is near.
+const NO_SUCH_FILE: &str = "it has no such file; `ledger list` shows what it has";
+
+/// The name of the file that it asks for.
+fn name_of<'j>(job: &'j Job<'_>) -> Option<&'j Name> {
+    match job {
+        Job::Take { name, .. } | Job::Store { name, .. } => Some(name),
+        _ => None,
+    }
+}
+
+/// The names of a job's image that are near to the one that it asks for, as `print_near_names` prints them. None if there
+/// are none, if the image can't be read again, and of standard input.
+fn near_names_of<F, R>(rt: &R, job: &Job<'_>, path: &str) -> Option<Vec<u8>>
+where
+    F: Read + Locks + OpenFile + Drop,
+    R: Files<File = F> + AllocGlobal,
+{
+    let name = name_of(job)?;
+    if path == STANDARD_INPUT {
+        return None;
+    }
+    let image = image_of_file(rt, path).ok()?;
+    let mut near = Vec::new(rt.alloc());
+    print_near_names(rt.alloc(), image.as_slice(), name.as_bytes(), &mut near).ok()?;
+    if near.is_empty() { None } else { Some(near) }
+}
+
+/// Tells that a job's image has no file of the name, and which names are near.
+pub(crate) fn tell_name<F, R, E>(rt: &R, job: &Job<'_>, path: &str, err: &mut E)
+where
+    F: Read + Locks + OpenFile + Drop,
+    R: Files<File = F> + AllocGlobal,
+    E: Write,
+{
+    let image = ShownPath(path);
+    match near_names_of(rt, job, path) {
+        Some(near) => {
+            let _ = write!(err, "ledger: {image}: it has no such file, but");
+            let _ = err.write_all(near.as_slice());
+            let _ = err.write_all(b"\n");
+        }
+        None => {
+            let _ = writeln!(err, "ledger: {image}: {NO_SUCH_FILE}");
+        }
+    }
+}
