@@ -5,7 +5,8 @@
 
 PROGRAM is what `tools/program` prints, and CUTS what `tools/program test_every_cut` prints. Each of its words is run over and
 over: the first request for memory is refused, then the second, and so on, until a run has none left to refuse. Each time
-- it ends with status 3 and `NO MEMORY`, with nothing printed and no file changed;
+- it ends with status 3 and `NO MEMORY`, with nothing printed and no image changed; `serve` may have printed all replies, if it
+  was refused the memory to land its log, which stays;
 - or, where it can do without, it does and prints what it does with all its memory.
 CUTS plays a short day: it says so where memory is wanted, with status 1, and never that something differs. A small library
 that is loaded before the program refuses the memory; it is made with `cc`. It prints how much was tried. The status is 1 at
@@ -102,6 +103,11 @@ def no_memory(said, same):
     return said == (3, b"", b"NO MEMORY\n") and same
 
 
+def no_memory_or_unlanded(replies):
+    """The same, but the replies may have been printed."""
+    return lambda said, same: no_memory((said[0], b"" if said[1] == replies else said[1], said[2]), same)
+
+
 def no_memory_for_a_day(said, same):
     return said[0] == 1 and b"memory" in said[1].splitlines()[-1] and same
 
@@ -119,8 +125,10 @@ class Disks:
             sys.exit(1)
 
     def put(self, name, make):
-        """The image of this name, made by these words where it wasn't yet."""
+        """The image of this name, made by these words where it wasn't yet, with no log beside it."""
         image = self.trial.folder / IMAGE
+        for log in self.trial.folder.glob(IMAGE + "-log*"):
+            log.unlink()
         if name not in self.made:
             image.unlink(missing_ok=True)
             make()
@@ -191,7 +199,11 @@ def main():
         for file, text in (("script", SCRIPT), ("lines", LINES), ("records", RECORDS)):
             (trial.folder / file).write_bytes(text)
         for words, begin, given, status in lines_of(Disks(trial, program)):
-            count = trial.each([program, *words], begin, no_memory, status, given)
+            wanted = no_memory
+            if words[0] == "serve":
+                begin()
+                wanted = no_memory_or_unlanded(trial.run([program, *words], given=given)[0][1])
+            count = trial.each([program, *words], begin, wanted, status, given)
             print(f"{' '.join(words)}{' of a wrong map' if status else ''}: {count} requests for memory refused in turn", flush=True)
         if len(sys.argv) > 2:
             count = trial.each([Path(sys.argv[2]).resolve(), "6", "1", "20"], lambda: None, no_memory_for_a_day)

@@ -79,6 +79,17 @@ log_refusal (logs.File error) = refusals.Run (io_fault (error_kind error))
 abbrev pub JobEnd : Type 0
 JobEnd = Result (Option Fault) Refusal
 
+-- what is told of a log that can't be landed for this reason
+abbrev pub landing_fault : Refusal → Refusal
+landing_fault (refusals.Run run.NoMemory) = refusals.Run run.NoMemory
+landing_fault _ = refusals.Run run.Device
+
+-- how a service ends that ended so, and whose log can't be landed for this fault
+abbrev pub unlanded : JobEnd → LogFault → JobEnd
+unlanded (Ok _) fault = Err (landing_fault (log_refusal fault))
+unlanded (Err (refusals.Run run.File)) fault = Err (landing_fault (log_refusal fault))
+unlanded (Err refusal) fault = Err refusal
+
 -- the exit status: 1 also where a fault was printed
 abbrev pub end_status : JobEnd → ℕ
 end_status (Ok None) = 0

@@ -9,6 +9,7 @@ pub mod FileServes
 pub mod Jobs
 pub mod Keeping
 pub mod Kept
+pub mod LandedRuns
 pub mod Listings
 pub mod LoggedRuns
 pub mod Losses

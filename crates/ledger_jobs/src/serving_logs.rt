@@ -1,5 +1,7 @@
 //! Serving the shop of the image at a path, over a log beside it.
 ghost use Rattle.std.specs.Prelude.{◌≡◌, IfOk, length};
+ghost use Rattle.ledger_jobs.specs.Ends.{landing_fault, unlanded as unlanded_end};
+ghost use Rattle.ledger_jobs.specs.LandedRuns.{IsLandedEnd};
 
 use crate::dispatch::told;
 use crate::image_logs::{is_sized, log_refusal, opened_alone};
@@ -10,9 +12,9 @@ use crate::serving_images::name_of;
 use crate::watched_files::{WhileThere, served_end};
 use disk_layout::Fault;
 use host_session::Printer;
-use log_files::{ImageFolder, LiveLog, LogFolder, LogNames, forget_making, land_in};
+use log_files::{ImageFolder, LiveLog, LogFault, LogFolder, LogNames, forget_making, land_in};
 use shop_commands::{Durability, EndedFile, Locks, RunFault};
-use shop_log::LogFile;
+use shop_log::{LogFile, LogRoom};
 use std::fs::OpenFile;
 use std::io::{BufReader, Write};
 use std::rt::Files;
@@ -53,27 +55,44 @@ fn shop_of<L: LogFile, D: LogFolder<L>, R: AllocGlobal>(
     }
 }
 
-/// How a service ends whose log can't be landed: a refusal stays what it is.
-fn unlanded(ended: Result<Option<Fault>, Refusal>) -> Result<Option<Fault>, Refusal> {
+/// What is reported of a log that can't be landed for this reason: `NoMemory` if memory was refused, otherwise `Device`.
+fn landing_refusal(refusal: &Refusal) -> Refusal
+    ensures { result ≡ landing_fault refusal.now }
+{
+    match refusal {
+        Refusal::Run(RunFault::NoMemory) => Refusal::Run(RunFault::NoMemory),
+        _ => Refusal::Run(RunFault::Device),
+    }
+}
+
+/// How a service ends that ended so, and whose log can't be landed for this fault: a refusal stays what it is.
+fn unlanded(
+    ended: Result<Option<Fault>, Refusal>,
+    fault: &LogFault,
+) -> Result<Option<Fault>, Refusal>
+    ensures { result ≡ unlanded_end ended fault.now }
+{
     match ended {
-        Ok(_) | Err(Refusal::Run(RunFault::File)) => Err(Refusal::Run(RunFault::Device)),
+        Ok(_) | Err(Refusal::Run(RunFault::File)) => Err(landing_refusal(&log_refusal(fault))),
         Err(refusal) => Err(refusal),
     }
 }
 
 /// Lands the log of a service that ended so, unless a commit of it failed or the image's file has gone: then the log
-/// stays where it is, and the next beginning lands it. `Device` if it couldn't be landed.
+/// stays where it is, and the next beginning lands it. `NoMemory` or `Device` if it couldn't be landed.
 fn landed_end<L: LogFile, D: LogFolder<L> + Drop>(
     log: LiveLog<L, D>,
     ended: Result<Option<Fault>, Refusal>,
-) -> Result<Option<Fault>, Refusal> {
+) -> (Option<D>, Result<Option<Fault>, Refusal>)
+    ensures { IsLandedEnd D.history log ended result.0 result.1 }
+{
     if let Err(Refusal::Run(RunFault::Device)) = ended {
-        return ended;
+        return (None, ended);
     }
-    let (_, landed) = log.end();
+    let (folder, landed) = log.end();
     match landed {
-        Ok(()) => ended,
-        Err(_) => unlanded(ended),
+        Ok(()) => (Some(folder), ended),
+        Err(fault) => (Some(folder), unlanded(ended, &fault)),
     }
 }
 
@@ -101,7 +120,8 @@ where
     let mut answers = WhileThere::new(name, &mut printer);
     let ended = serve_logged_guarded(rt.alloc(), image, &mut log, loss, &mut input, &mut answers);
     let gone = answers.is_gone();
-    landed_end(log, served_end(ended, gone))
+    let (_, end) = landed_end(log, served_end(ended, gone));
+    end
 }
 
 /// The end of a service over a log that couldn't be made, or renewed. What was made of a further log is removed, since it
@@ -146,15 +166,16 @@ where
     let names = told(LogNames::of(rt, alloc, path))?;
     let mut folder = folder_of(rt, &names, path, durability)?;
     let shop = shop_of(rt, &mut folder, loss)?;
+    let room = told(LogRoom::new(alloc).map_err(From::from))?;
     let bytes = told(
         shop.as_slice()
             .as_flattened()
             .to_vec(alloc)
             .map_err(From::from),
     )?;
-    let log = match told(LiveLog::begin(alloc, folder, shop)) {
+    let log = match LiveLog::begin(alloc, folder, room, shop) {
         Ok(log) => log,
-        Err(refusal) => return cleared_end(rt, path, &image, &names, Err(refusal)),
+        Err((error, _)) => return cleared_end(rt, path, &image, &names, told(Err(error))),
     };
     // others may read it from here on
     if let Err(error) = image.lock_shared() {

@@ -3,11 +3,12 @@ use Rattle.std.proofs.Common.{◌≡◌, ◌∙◌, ℕ, List, Bool, ap, false, 
 use Rattle.std.proofs.lemmas.Bool.{false≢true}
 use Rattle.std.specs.Prelude.{Contains, None, Option, Result, Some}
 use Rattle.d64_image.specs.Images.{Image}
+use Rattle.shop_log.specs.Files.{FileHistory}
 use Rattle.shop_log.specs.Logs.{StandsFor, log_file}
 use Rattle.shop_log.specs.declared.log.Log.{Log}
 use Rattle.shop_log.specs.declared.log_file.LogFile.{Ghosts}
 use Rattle.log_files.specs.Bringing.{IsAlone, IsBrought, RestsAlone}
-use Rattle.log_files.specs.Folders.{Acts, AllLeft, Brings, Folder, FolderHistory, HasNames, IsMaking, IsNaming, LeavesFolders, Making, being_made, named}
+use Rattle.log_files.specs.Folders.{Acts, AllLeft, Brings, Folder, FolderHistory, HasNames, IsGivenUp, IsMaking, IsNaming, LeavesFolders, Making, being_made, named}
 use Rattle.log_files.specs.Folders.Making.{Fresh, Missing, Older}
 use Rattle.log_files.specs.Serving.{Serves}
 use Rattle.log_files.specs.Shops.{Gives, GivesOneOf, LogGives, given_by}
@@ -49,6 +50,11 @@ module _ {D : Type 0} (h : FolderHistory D) (old a : D) (shop : Image) (s : Fold
 
   pub made_moments : LeavesFolders h old a (IsBrought shop)
   made_moments = goes_on h old old a (IsBrought shop) (started h old (IsBrought shop) all) makes.time made
+
+  -- and then its file failed, and was closed
+  pub given_up_moments : {F : Type 0} (g : FileHistory F) (b : D) (file : F) → IsGivenUp h g a b file
+      → LeavesFolders h old b (IsBrought shop)
+  given_up_moments g b file up = goes_on h old a b (IsBrought shop) made_moments up.time (λ o may. made o (up.outcomes o may))
 
   module _ (b : D) {E2 : Type 0} (syncing : Result Unit E2) (brings : Brings h a b HasNames syncing) where
     kept : AllLeft h b (IsBrought shop)

@@ -1,5 +1,5 @@
 -- Runs of commits, one behind another, and what is said of results.
-use Rattle.std.proofs.Common.{◌≡◌, ◌⊎◌, ◌∙◌, Bool, arith, false, inl, inr, refl, subst, sym, ⊎_elim}
+use Rattle.std.proofs.Common.{◌≡◌, ◌⊎◌, ◌∙◌, Bool, arith, false, inl, inr, refl, subst, sym, true, ⊎_elim}
 use Rattle.std.proofs.lemmas.Bool.{false≢true}
 use Rattle.std.specs.Prelude.{Err, IsTrue, Ok, OnErr, OnOk, Result}
 use Rattle.d64_image.specs.Images.{Image}
@@ -15,6 +15,10 @@ on_err A B (Err e) f a = f a
 
 pub not_none : {P : Type 0} (b : Bool) → b ≡ false → IsTrue b → P
 not_none b is true_of = absurd (false≢true (sym is ∙ true_of))
+
+pub not_true : (b : Bool) → (b ≡ true → ⊥) → b ≡ false
+not_true true never = absurd (never refl)
+not_true false never = refl
 
 -- before the first call
 pub started : {L : Type 0} (h : LogHistory L) (l : L) (image : Image) (P : Image → Type 0) → h.stands_for l image → P image

@@ -3,7 +3,7 @@ use Rattle.std.proofs.Common.{◌≡◌, ◌⊎◌, ℕ, List, [], ap, arith, in
 use Rattle.std.proofs.lemmas.Option.{none-some}
 use Rattle.std.specs.Prelude.{Err, None, Ok, OnErr, OnOk, Option, Result, Some}
 use Rattle.shop_log.specs.Files.{NotesFailure, SyncsBytes, WritesBytes}
-use Rattle.log_files.specs.Folders.{Acts, Brings, CountsFailure, Folder, IsReturned, LogOf, Passes, with_log}
+use Rattle.log_files.specs.Folders.{Acts, Brings, CountsFailure, Folder, IsGivenUp, IsReturned, LogOf, Passes, with_log}
 use Rattle.log_files.specs.Folders.Making.{Missing}
 use Rattle.log_files.specs.Unknown.{unknown_file, unknown_folder}
 
@@ -93,6 +93,15 @@ put_back : (s : Folder) (o : Option (List ℕ)) → s.log ≡ o
     → ((s ≡ s) × (s.log ≡ None)) ⊎ ((c : List ℕ) × Unit {0} × (s ≡ with_log c s))
 put_back s None is = inl (refl, is)
 put_back s (Some c) is = inr (c, tt, ap (λ (l : Option (List ℕ)). record { image = s.image; log = l; making = s.making }) is)
+
+pub given_up : {D F : Type 0} (old new : D) (file : F) → IsGivenUp unknown_folder unknown_file old new file
+given_up old new file = record {
+  held = refl;
+  outcomes = λ s may. tt;
+  time = passes old new;
+  failed = λ is. refl;
+  passed = λ is. refl;
+}
 
 pub returned : {D F E : Type 0} (old new : D) (file : F) (r : Result Unit E)
     → IsReturned unknown_folder unknown_file old new file r

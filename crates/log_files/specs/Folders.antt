@@ -1,5 +1,5 @@
 -- The folder in which an image stands, with its log beside it: what it holds, and what a power loss may leave. Our own.
-use Rattle.std.specs.Prelude.{ℕ, ◌+◌, ◌-◌, ◌≡◌, ◌≤◌, ◌⊎◌, Bool, IsSome, List, None, OnErr, OnOk, Option, Result, Some, slice_set, true}
+use Rattle.std.specs.Prelude.{ℕ, ◌+◌, ◌-◌, ◌≡◌, ◌≤◌, ◌⊎◌, Bool, IsSome, List, None, OnErr, OnOk, Option, Result, Some, false, slice_set, true}
 use Rattle.d64_image.specs.Images.{Image}
 use Rattle.shop_log.specs.Files.{FileHistory}
 
@@ -164,6 +164,14 @@ module _ {D F : Type 0} (h : FolderHistory D) (g : FileHistory F) where
     pub failures : CountsFailure h old new result
     -- a failure of the file is one of the folder
     pub file_failures : g.has_failed file ≡ true → h.has_failed new ≡ true
+
+  -- The file of a log in the making was closed: nothing changed, but a failure of the file is one of the folder.
+  pub record IsGivenUp (old new : D) (file : F) : Type 0 where
+    pub held : h.held new ≡ h.held old
+    pub outcomes : (s : Folder) → h.may_leave new s → h.may_leave old s
+    pub time : Passes h old new
+    pub failed : g.has_failed file ≡ true → h.has_failed new ≡ true
+    pub passed : g.has_failed file ≡ false → h.has_failed new ≡ h.has_failed old
 
   -- The log's file was closed, and nothing else was asked of the files.
   pub record IsClosedAlone (old : D) (file : F) (new : D) : Type 0 where

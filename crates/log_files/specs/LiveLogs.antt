@@ -84,10 +84,10 @@ module _ {F D : Type 0} {G : Ghosts F} (h : FolderHistory D) where
   IsLeftAlone d (Some log) new = IsClosedAlone h G.history d (log_file log) new
   IsLeftAlone d None new = new ≡ d
 
-  -- whether its files may have failed; a log that couldn't be renewed has
+  -- whether its file may have failed; one that couldn't be renewed is none, and the folder counts its failure
   abbrev pub failed_now : Option (Log F G) → Bool
   failed_now (Some log) = G.history.has_failed (log_file log)
-  failed_now None = true
+  failed_now None = false
 
   -- The log is open, and a power loss leaves this image.
   pub record Stands (d : D) (open_log : Option (Log F G)) (used : Bool) (base now : Image) : Type 0 where

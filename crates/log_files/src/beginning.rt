@@ -1,5 +1,5 @@
 //! The beginning of a service over a log.
-ghost use Rattle.std.specs.Prelude.{◌≡◌, IfErr, IfOk, List, Some, length};
+ghost use Rattle.std.specs.Prelude.{◌≡◌, ◌⊎◌, IfErr, IfOk, List, Some, length, true};
 ghost use Rattle.d64_image.specs.Images.{Image};
 ghost use Rattle.log_files.specs.Faults.{IsMisfit};
 ghost use Rattle.log_files.specs.Folders.{AllLeft, Folder, LeavesFolders};
@@ -9,15 +9,14 @@ ghost use Rattle.log_files.specs.Shops.{Gives, GivesOneOf};
 use crate::landing::{LogFault, land};
 use crate::log_folder::LogFolder;
 use crate::making::make_new;
-use shop_log::{Log, LogFile};
-use std::alloc::Global;
+use shop_log::{Log, LogFile, LogRoom};
 
 /// Lands a log that is there, and makes a new one, whose base is the image that was found. `shop` is that image. A power
 /// loss at any moment, and an error, leave a folder from which the next beginning finds an image that it might have found
 /// before.
 pub fn begin<F: LogFile, D: LogFolder<F>>(
-    alloc: Global,
     folder: &mut D,
+    room: LogRoom,
     now: &mut [[u8; 256]],
     shop: &mut [[u8; 256]],
 ) -> Result<Log<F>, LogFault>
@@ -29,8 +28,10 @@ pub fn begin<F: LogFile, D: LogFolder<F>>(
     ensures ok { IfOk result (λ log. (shops : List Image) (s : Folder) → D.history.held folder.old ≡ Some s
         → GivesOneOf shops s → AllLeft D.history folder.old (GivesOneOf shops)
         → Gives s shop.new × Serves D.history folder.new log shop.new) }
+    // an error is returned only if the log gives no image, or after a failure of the folder or of the log's file
+    ensures cause { IfErr result (λ e. IsMisfit e ⊎ (D.history.has_failed folder.new ≡ true)) }
 {
     land(folder, now, shop)?;
-    let log = make_new(alloc, folder, shop)?;
+    let log = make_new(folder, room, shop)?;
     Ok(log)
 }

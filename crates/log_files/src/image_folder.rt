@@ -130,6 +130,10 @@ where
         Ok(self.log_of(file, self.synced))
     }
 
+    fn leave_making(&mut self, file: SystemLog<'a, R>) {
+        drop(file);
+    }
+
     fn name_log(&mut self, file: &SystemLog<'a, R>) -> io::Result<()> {
         self.rt.rename(self.names.making(), self.names.log())?;
         file.named.set(true);

@@ -6,7 +6,7 @@ use crate::landing::LogFault;
 use crate::log_folder::LogFolder;
 use crate::making::make_new;
 use crate::renewing::renew;
-use shop_log::{ImageLog, Log, LogFile, none_touched};
+use shop_log::{ImageLog, Log, LogFile, LogRoom, none_touched};
 use std::alloc::Global;
 use std::io;
 
@@ -26,30 +26,43 @@ pub struct LiveLog<F: LogFile, D> {
 }
 
 impl<F: LogFile, D: LogFolder<F> + Drop> LiveLog<F, D> {
-    ghost use Rattle.std.specs.Prelude.{◌⊎◌, IfOk, IsErr, OnErr, OnOk, Some, false, true};
+    ghost use Rattle.std.specs.Prelude.{◌⊎◌, IfErr, IfOk, IsErr, OnErr, OnOk, Some, false, true};
     ghost use Rattle.d64_image.specs.Images.{Image};
-    ghost use Rattle.log_files.specs.Folders.{AllLeft, Folder};
+    ghost use Rattle.log_files.specs.Folders.{AllLeft, Folder, LeavesFolders};
     ghost use Rattle.log_files.specs.Bringing.{IsBrought, RestsAlone};
     ghost use Rattle.log_files.specs.LiveLogs.{IsEnding, IsLeftAlone, is_shut, of_live};
     ghost use Rattle.shop_log.specs.ImageLogs.{IsEither, LeavesImages};
     ghost use Rattle.shop_log.specs.Marks.{Covers};
 
-    /// Makes a log in a folder that was landed with this image. At an error the folder gives the same image.
-    pub fn begin(alloc: Global, mut folder: D, shop: Vec<[u8; 256]>) -> io::Result<LiveLog<F, D>>
+    /// Makes a log in a folder that was landed with this image, in this room. At an error the folder, which is returned,
+    /// gives the same image.
+    pub fn begin(
+        alloc: Global,
+        mut folder: D,
+        room: LogRoom,
+        shop: Vec<[u8; 256]>,
+    ) -> Result<LiveLog<F, D>, (io::Error, D)>
         requires sized { length shop.items ≡ 683 }
         ensures stands { IfOk result (λ live. (s : Folder) → D.history.held folder ≡ Some s → s.image ≡ shop.items
             → AllLeft D.history folder (IsBrought shop.items) → (of_live D.history).stands_for live shop.items) }
         // it takes a commit
         ensures room { IfOk result (λ live. (of_live D.history).is_over live ≡ false) }
+        ensures err { IfErr result (λ e. (s : Folder) → D.history.held folder ≡ Some s
+            → AllLeft D.history folder (IsBrought shop.items)
+            → LeavesFolders D.history folder e.1 (IsBrought shop.items)) }
+        // and then the folder or the log's file failed
+        ensures cause { IfErr result (λ e. D.history.has_failed e.1 ≡ true) }
     {
-        let log = make_new(alloc, &mut folder, shop.as_slice())?;
-        Ok(LiveLog {
-            alloc,
-            folder,
-            log: Some(log),
-            base: shop,
-            used: false,
-        })
+        match make_new(&mut folder, room, shop.as_slice()) {
+            Ok(log) => Ok(LiveLog {
+                alloc,
+                folder,
+                log: Some(log),
+                base: shop,
+                used: false,
+            }),
+            Err(error) => Err((error, folder)),
+        }
     }
 
     /// Commits to the log, which must have room. Returns whether it is full then.
@@ -64,6 +77,7 @@ impl<F: LogFile, D: LogFolder<F> + Drop> LiveLog<F, D> {
         ensures cause { OnErr result (((of_live D.history).is_over self.old ≡ true)
             ⊎ ((of_live D.history).has_failed self.new ≡ true)) }
         ensures err { OnErr result ((of_live D.history).is_over self.new ≡ true) }
+        ensures open { OnOk result (is_shut D.history self.new.log ≡ false) }
     {
         let Some(log) = &mut self.log else {
             return Err(io::ErrorKind::Other.into());
@@ -85,14 +99,16 @@ impl<F: LogFile, D: LogFolder<F> + Drop> LiveLog<F, D> {
         ensures any_moment { (of_live D.history).stands_for self.old now.now
             → LeavesImages (of_live D.history) self.old self.new (λ c. c ≡ now.now) }
         ensures room { OnOk result ((of_live D.history).is_over self.new ≡ false) }
-        ensures cause { OnErr result ((of_live D.history).has_failed self.new ≡ true) }
+        // an error is returned only if it had no log, or after a failure of the folder or of a log's file
+        ensures cause { OnErr result ((is_shut D.history self.old.log ≡ true)
+            ⊎ ((of_live D.history).has_failed self.new ≡ true)) }
         ensures err { OnErr result ((of_live D.history).is_over self.new ≡ true) }
     {
         let Some(log) = self.log.take() else {
             return Err(io::ErrorKind::Other.into());
         };
         let base = self.base.as_slice();
-        let new = renew(self.alloc, &mut self.folder, log, base, now)?;
+        let new = renew(&mut self.folder, log, base, now)?;
         self.base.as_mut_slice().copy_from_slice(now);
         self.used = false;
         self.log = Some(new);

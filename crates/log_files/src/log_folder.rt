@@ -1,6 +1,6 @@
 //! The folder in which an image stands, as its log's life sees it.
-ghost use Rattle.std.specs.Prelude.{◌≡◌, ◌<◌, [], IfOk, List, None, OnOk, Some, length, option_map, ℕ};
-ghost use Rattle.log_files.specs.Folders.{Acts, Brings, Folder, FolderHistory, HasImage, HasNames, IsImageWritten, IsMaking, IsNaming, IsRemoving, IsReturned, LogOf, Same, being_made, named, unlogged, with_sector};
+ghost use Rattle.std.specs.Prelude.{◌≡◌, ◌<◌, [], IfOk, List, None, OnErr, OnOk, Some, length, option_map, true, ℕ};
+ghost use Rattle.log_files.specs.Folders.{Acts, Brings, Folder, FolderHistory, HasImage, HasNames, IsGivenUp, IsImageWritten, IsMaking, IsNaming, IsRemoving, IsReturned, LogOf, Same, being_made, named, unlogged, with_sector};
 ghost use Rattle.shop_log.specs.Files.{Only};
 
 use shop_log::LogFile;
@@ -51,12 +51,17 @@ pub trait LogFolder<F: LogFile> {
         ensures known { IfOk result (λ file. (s : Folder) → history.held self.old ≡ Some s → F.history.held file ≡ Some []) }
         ensures acts { Acts history self.old self.new being_made IsMaking result };
 
+    /// Closes a log in the making whose making failed. What has its name stays.
+    fn leave_making(&mut self, file: F)
+        ensures { IsGivenUp history F.history self.old self.new file };
+
     /// Gives the name of the log to `IMAGE-log.new`, whose file this is, in place of one that may have it. The file must
     /// be synced: of another one nothing is said.
     fn name_log(&mut self, file: &F) -> io::Result<()>
         ensures lent { OnOk result (history.lent self.new ≡ F.history.moment file.now) }
         ensures acts { (f : List ℕ) → F.history.held file.now ≡ Some f → Only f (F.history.may_leave file.now)
-            → Acts history self.old self.new (named f) (IsNaming f) result };
+            → Acts history self.old self.new (named f) (IsNaming f) result }
+        ensures cause { OnErr result (history.has_failed self.new ≡ true) };
 
     /// Takes away the log's name.
     fn remove_log(&mut self) -> io::Result<()>

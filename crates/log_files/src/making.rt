@@ -1,5 +1,5 @@
 //! A new log beside its image.
-ghost use Rattle.std.specs.Prelude.{◌≡◌, IfOk, Some, false, length};
+ghost use Rattle.std.specs.Prelude.{◌≡◌, IfOk, OnErr, Some, false, length, true};
 ghost use Rattle.log_files.specs.Bringing.{IsBrought};
 ghost use Rattle.log_files.specs.Folders.{AllLeft, Folder, LeavesFolders};
 ghost use Rattle.log_files.specs.Serving.{Serves};
@@ -7,15 +7,14 @@ ghost use Rattle.log_files.specs.Shops.{Gives};
 ghost use Rattle.shop_log.specs.Logs.{takes_none};
 
 use crate::log_folder::LogFolder;
-use shop_log::{Log, LogFile};
-use std::alloc::Global;
+use shop_log::{Log, LogFile, LogRoom};
 use std::io;
 
 /// Makes a log whose base is the image, under the name of one in the making; brings its bytes and that name to the disk,
 /// and then gives it the log's name, in place of a log that may have it and gives the same image.
 pub(crate) fn make_new<F: LogFile, D: LogFolder<F>>(
-    alloc: Global,
     folder: &mut D,
+    room: LogRoom,
     shop: &[[u8; 256]],
 ) -> io::Result<Log<F>>
     requires sized { length shop.now ≡ 683 }
@@ -25,9 +24,17 @@ pub(crate) fn make_new<F: LogFile, D: LogFolder<F>>(
     ensures ok { IfOk result (λ log. (s : Folder) → D.history.held folder.old ≡ Some s → s.image ≡ shop.now
         → AllLeft D.history folder.old (IsBrought shop.now) → Serves D.history folder.new log shop.now) }
     ensures room { IfOk result (λ log. takes_none log ≡ false) }
+    // an error is returned only after a failure of the folder, or of the log's file
+    ensures cause { OnErr result (D.history.has_failed folder.new ≡ true) }
 {
     let file = folder.make_log()?;
-    let log = Log::begin(alloc, file, shop)?;
+    let log = match Log::begin_in(room, file, shop) {
+        Ok(log) => log,
+        Err((error, file)) => {
+            folder.leave_making(file);
+            return Err(error);
+        }
+    };
     folder.sync_folder()?;
     folder.name_log(log.file())?;
     folder.sync_folder()?;

@@ -263,6 +263,12 @@ impl LogFolder<MemLog> for MemFolder {
         Ok(MemLog::new(self.alloc))
     }
 
+    fn leave_making(&mut self, file: MemLog) {
+        if file.is_failed() {
+            self.failed = true;
+        }
+    }
+
     fn name_log(&mut self, file: &MemLog) -> io::Result<()> {
         if self.failed {
             return refused();

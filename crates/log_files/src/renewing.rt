@@ -1,5 +1,5 @@
 //! A full log that is renewed.
-ghost use Rattle.std.specs.Prelude.{◌≡◌, Bool, IfOk, Some, false, length};
+ghost use Rattle.std.specs.Prelude.{◌≡◌, Bool, IfOk, OnErr, Some, false, length, true};
 ghost use Rattle.log_files.specs.LiveLogs.{IsRenewing, Stands};
 ghost use Rattle.log_files.specs.Serving.{Serves};
 ghost use Rattle.shop_log.specs.Logs.{takes_none};
@@ -9,13 +9,11 @@ use crate::log_folder::LogFolder;
 use crate::making::make_new;
 use crate::marking::mark_found;
 use shop_log::{Log, LogFile};
-use std::alloc::Global;
 use std::io;
 
 /// Marks the log, brings this image to IMAGE, and makes a new log with the image as its base, which takes the name of the
 /// old one. `base` is what IMAGE has. At an error the folder gives the image.
 pub(crate) fn renew<F: LogFile, D: LogFolder<F>>(
-    alloc: Global,
     folder: &mut D,
     log: Log<F>,
     base: &[[u8; 256]],
@@ -28,9 +26,12 @@ pub(crate) fn renew<F: LogFile, D: LogFolder<F>>(
     ensures ok { IfOk result (λ new. (used : Bool) → Stands D.history folder.old (Some log) used base.now now.now
         → Serves D.history folder.new new now.now) }
     ensures room { IfOk result (λ new. takes_none new ≡ false) }
+    // an error is returned only after a failure of the folder, or of a log's file
+    ensures cause { OnErr result (D.history.has_failed folder.new ≡ true) }
 {
-    folder.close_log(log.into_file())?;
+    let (file, room) = log.into_parts();
+    folder.close_log(file)?;
     mark_found(folder)?;
     bring(folder, base, now)?;
-    make_new(alloc, folder, now)
+    make_new(folder, room, now)
 }

@@ -1,5 +1,5 @@
 //! A new log's file.
-ghost use Rattle.std.specs.Prelude.{◌≡◌, [], List, None, OnOk, Some, ℕ};
+ghost use Rattle.std.specs.Prelude.{◌≡◌, [], List, None, OnErr, OnOk, Some, ℕ, true};
 ghost use Rattle.shop_log.specs.Files.{Rests};
 ghost use Rattle.shop_log.specs.Recovered.{IsLog};
 
@@ -12,6 +12,7 @@ use std::io;
 pub(crate) fn lay_out<F: LogFile>(file: &mut F) -> io::Result<()>
     ensures laid { OnOk result (F.history.held file.old ≡ Some [] → (f : List ℕ) × Rests F.history file.new f × IsLog f 0) }
     ensures unknown { F.history.held file.old ≡ None → F.history.held file.new ≡ None }
+    ensures failed { OnErr result (F.history.has_failed file.new ≡ true) }
 {
     for k in 0..BLOCKS + 1 {
         file.write_at(BLOCK * k, &[0; BLOCK])?;

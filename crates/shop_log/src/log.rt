@@ -9,6 +9,7 @@ use crate::blocks::BLOCK;
 use crate::committing::append_commit;
 use crate::laying_out::lay_out;
 use crate::log_file::LogFile;
+use crate::log_room::LogRoom;
 use std::alloc::Global;
 use std::io;
 
@@ -40,34 +41,57 @@ pub fn none_touched(touched: &[bool; 683]) -> bool
 }
 
 impl<F: LogFile> Log<F> {
-    ghost use Rattle.std.specs.Prelude.{◌⊎◌, [], IfOk, IsErr, OnErr, OnOk, Some, List, ℕ, false};
+    ghost use Rattle.std.specs.Prelude.{◌⊎◌, [], IfErr, IfOk, IsErr, OnErr, OnOk, Some, List, ℕ, false};
     ghost use Rattle.d64_image.specs.Images.{Image};
     ghost use Rattle.shop_log.specs.Files.{LeavesOnly, SeesOnly};
     ghost use Rattle.shop_log.specs.Logs.{StandsFor, is_closed, log_end, log_file, takes_none};
     ghost use Rattle.shop_log.specs.Recovered.{IsLeft, is_marked};
     ghost use Rattle.shop_log.specs.Marks.{Covers};
 
-    /// Makes a log of an empty file: zeros, synced, and then the image as its base, synced. At an error the file is no
-    /// log yet, or one with this base.
-    pub fn begin(alloc: Global, mut file: F, image: &[[u8; 256]]) -> io::Result<Log<F>>
+    /// Makes a log of an empty file in this room: zeros, synced, and then the image as its base, synced. At an error the
+    /// file failed, and is returned: it is no log yet, or one with this base.
+    pub fn begin_in(
+        room: LogRoom,
+        mut file: F,
+        image: &[[u8; 256]],
+    ) -> Result<Log<F>, (io::Error, F)>
         requires sized { length image.now ≡ 683 }
         requires empty { (f : List ℕ) → F.history.held file ≡ Some f → f ≡ [] }
         ensures ok { IfOk result (λ log. F.history.held file ≡ Some [] → StandsFor log image.now image.now) }
         // it takes a commit, whatever that has
         ensures room { IfOk result (λ log. takes_none log ≡ false) }
+        // an error is returned only after a failure of the file
+        ensures cause { IfErr result (λ e. F.history.has_failed e.1 ≡ true) }
     {
-        let mut room = Vec::new(alloc);
-        let Ok(()) = room.resize(MOST, [0; BLOCK]) else {
+        let LogRoom { mut blocks } = room;
+        if let Err(error) = lay_out(&mut file) {
+            return Err((error, file));
+        }
+        match append_commit(&mut file, &mut blocks, 0, image, &[true; 683]) {
+            Ok(end) => Ok(Log {
+                file,
+                end,
+                closed: false,
+                room: blocks,
+            }),
+            Err(error) => Err((error, file)),
+        }
+    }
+
+    /// Makes a log of an empty file, as `begin_in` does, in memory that it takes. An error also if that is refused.
+    pub fn begin(alloc: Global, file: F, image: &[[u8; 256]]) -> io::Result<Log<F>>
+        requires sized { length image.now ≡ 683 }
+        requires empty { (f : List ℕ) → F.history.held file ≡ Some f → f ≡ [] }
+        ensures ok { IfOk result (λ log. F.history.held file ≡ Some [] → StandsFor log image.now image.now) }
+        ensures room { IfOk result (λ log. takes_none log ≡ false) }
+    {
+        let Ok(room) = LogRoom::new(alloc) else {
             return Err(io::ErrorKind::OutOfMemory.into());
         };
-        lay_out(&mut file)?;
-        let end = append_commit(&mut file, &mut room, 0, image, &[true; 683])?;
-        Ok(Log {
-            file,
-            end,
-            closed: false,
-            room,
-        })
+        match Log::begin_in(room, file, image) {
+            Ok(log) => Ok(log),
+            Err((error, _)) => Err(error),
+        }
     }
 
     /// Whether it is too full for one more commit, whatever that has.
@@ -151,5 +175,13 @@ impl<F: LogFile> Log<F> {
     {
         let Log { file, .. } = self;
         file
+    }
+
+    /// Its file, and the room for another log. The log is over.
+    pub fn into_parts(self) -> (F, LogRoom)
+        ensures { result.0 ≡ log_file self }
+    {
+        let Log { file, room, .. } = self;
+        (file, LogRoom { blocks: room })
     }
 }

@@ -3,7 +3,7 @@
 use crate::comparing::{same, same_at};
 use crate::logs::{begun, change, commit, numbered, two_touched, without};
 use log_files::{LiveLog, LogFault, LogFolder, MemFolder, Misfit, land, land_in};
-use shop_log::{ImageLog, MemLog};
+use shop_log::{ImageLog, LogRoom, MemLog};
 use std::process::Abort;
 
 /// What is found in a folder.
@@ -162,7 +162,8 @@ fn service(
     }
     let mut folder = MemFolder::new(rt.alloc(), image).ok()?;
     let shop = land_in(rt.alloc(), &mut folder).ok()?;
-    LiveLog::begin(rt.alloc(), folder, shop).ok()
+    let room = LogRoom::new(rt.alloc()).ok()?;
+    LiveLog::begin(rt.alloc(), folder, room, shop).ok()
 }
 
 /// A service of one commit.

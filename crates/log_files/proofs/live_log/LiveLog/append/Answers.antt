@@ -1,6 +1,7 @@
 -- One commit of the log.
 use Rattle.std.proofs.Common.{refl}
 use Rattle.log_files.proofs.Moves.{committed, stands_after, the_log, unmoved}
+use Rattle.log_files.proofs.Times.{not_true}
 use Rattle.log_files.proofs.live_log.LiveLog.append.Goals as goal
 
 pub returns-then-is_full-clause-any_moment : goal.returns-then-is_full-clause-any_moment
@@ -29,3 +30,6 @@ returns-clause-ok g c before stands covers =
     c.args.self.now.base.items before c.args.now.now c.in-Some.is stands
     (c.in_ok-commit.ensures.ok c.args.self.now.base.items before here covers)
     (c.commit.ensures.any_moment c.args.self.now.base.items before here covers).later
+
+pub returns-clause-open : goal.returns-clause-open
+returns-clause-open g c = not_true _ c.in_ok-commit.ensures.opened

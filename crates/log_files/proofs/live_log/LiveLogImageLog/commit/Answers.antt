@@ -1,5 +1,6 @@
 -- Nothing, a commit, or a commit and a renewal.
-use Rattle.std.proofs.Common.{inl, inr, refl, subst}
+use Rattle.std.proofs.Common.{◌∙◌, inl, inr, refl, subst, sym, ⊎_elim}
+use Rattle.std.proofs.lemmas.Bool.{false≢true}
 use Rattle.shop_log.specs.ImageLogs.{IsEither}
 use Rattle.shop_log.proofs.Ends.{quiet}
 use Rattle.log_files.specs.LiveLogs.{Stands, of_live}
@@ -29,7 +30,9 @@ returns-then-branch-clause-committed g c = record {
       (weaker (of_live g.D.LogFolder.history) c.append.new.self c.renew.new.self _ (IsEither before c.args.now.now) (λ i is. inr is)
       (c.renew.ensures.any_moment (c.in_ok-append.ensures.ok before stands covers)));
   quiet = λ none. not_none c.none_touched.result c.if-none_touched.false (c.none_touched.ensures.all none);
-  cause = on_err _ _ c.renew.result (λ failed. inr failed) c.renew.ensures.cause;
+  cause = on_err _ _ c.renew.result
+      (λ cause. ⊎_elim (λ shut. absurd (false≢true (sym c.in_ok-append.ensures.open ∙ shut))) (λ failed. inr failed) cause)
+      c.renew.ensures.cause;
   err = c.renew.ensures.err;
 }
 
