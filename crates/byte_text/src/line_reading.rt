@@ -12,7 +12,7 @@ use request_cards::number_before_comma;
 /// records of one byte. A disk of 35 tracks has room for 167,132.
 const LAST_RECORD: u32 = 182_880;
 
-/// What stands between quotation marks, if there are two at the ends; otherwise the same.
+/// The bytes between quotation marks, if there are two at the ends. Otherwise all bytes.
 fn unquoted(text: &[u8]) -> &[u8]
     ensures { IsQuoted text.now result.now
         ⊎ ((result.now ≡ text.now) × ((inner : List ℕ) → ¬ (IsQuoted text.now inner))) }
@@ -38,12 +38,12 @@ fn is_one_column(text: &[u8], inner: &[u8]) -> bool
     inner.len() < text.len() || !has_comma(text)
 }
 
-/// The number of a record's line, which is handed in without its end, and in `bytes` its bytes. The two quotation marks
-/// may be left out, as spreadsheets leave them out, and the bytes may end in zeros.
+/// Returns the number of a record's line, which is passed without its end, and puts the record's bytes into `bytes`.
+/// The two quotation marks may be left out, as spreadsheets do, and the bytes may end in zeros.
 ///
-/// None if the line is of no record; `bytes` may have anything then. A record's line begins with a number of 1 to
-/// 182,880, without leading zeros, and a comma. After these stands the text of at most 254 bytes. Without quotation marks
-/// the text has no comma: it would be several columns.
+/// None if the line is of no record; `bytes` may then hold anything. A record's line begins with a number of 1 to
+/// 182,880, without leading zeros, and a comma. The text of at most 254 bytes follows. Without quotation marks the text
+/// may not have a comma: it would be several columns.
 pub fn read_line(line: &[u8], bytes: &mut ArrayVec<u8, MOST_BYTES>) -> Option<u32>
     ensures found { IfSome result (λ n. (1 ≤ n) × (n ≤ 182880) × IsLineOf line.now n bytes.new.items) }
     ensures none { IsNone result → (n : ℕ) → (bs : List ℕ) → 1 ≤ n → n ≤ 182880 → AreBytes bs → length bs ≤ 254

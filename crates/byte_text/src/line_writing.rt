@@ -13,8 +13,8 @@ use std::io::{self, Write};
 pub const LINE_ROOM: usize = 776;
 
 /// Puts the line of a record, with its LF, after the first `start` bytes of the room, and returns where it ends. The
-/// line has the record's number, counted from 1, and its bytes up to the last one that isn't 0. It is a line of a file
-/// of comma-separated values, and no quotation mark of it is ever doubled.
+/// line has the record's number, counted from 1, and its bytes up to the last one that isn't 0. It is a line of
+/// comma-separated values, and a quotation mark in it is never doubled.
 #[inline(always)]
 pub fn put_line(
     number: u32,
@@ -32,8 +32,8 @@ pub fn put_line(
     put_behind(b"\"\n", room, end)
 }
 
-/// Writes the line of a record, as `put_line` puts it. The writer is handed it at once; an error is the writer's, which
-/// may then have a part of the line.
+/// Writes the line of a record, as `put_line` puts it. The writer gets it in one call. An error is the writer's, which
+/// may have taken a part of the line.
 pub fn write_line<W: Write>(
     out: &mut W,
     number: u32,

@@ -1,4 +1,4 @@
-//! Texts put into a room, each after what it has.
+//! Texts put into a buffer, one after another.
 ghost use Rattle.std.specs.Prelude.{◌≡◌, ◌≤◌, ◌+◌, ◌*◌, ◌/◌, ◌%◌, ◌++◌, ◌∷◌, [], decimal, length, take};
 ghost use Rattle.byte_text.specs.Texts.{byte_text, text_of};
 ghost use Rattle.byte_text.specs.Texts.{digit as digit_of};

@@ -1,6 +1,6 @@
--- When a file is cut short: a sector of it was lost and reads as the end of its chain, so that the file is shorter than
--- its side sectors or its block count say. Chains, side sectors, counts and the map are those of the 1541 User's Guide;
--- what counts as cut is our own.
+-- When a file is cut short: one of its sectors was lost and now reads as the end of the chain. The file is then shorter
+-- than its side sectors or its block count say. Chains, side sectors, counts and the map are those of the 1541 User's
+-- Guide; what counts as cut is our own.
 use Rattle.std.specs.Prelude.{◌≡◌, ◌⊎◌, ◌-◌, ◌/◌, ◌<◌, ◌∷◌, ◌||◌, IsTrue}
 use Rattle.std.specs.Prelude.{Some, length, Contains, replicate, slice_get}
 use Rattle.d64_image.specs.Images.{Image, sector}
@@ -29,7 +29,7 @@ pub record IsCutIn (img : Image) (strays shop : Type 0) (f : File) (p : Place) :
   pub last : slice_get f.blocks (length f.blocks - 1) ≡ Some p
   pub short : IsShort img strays shop f p
 
--- the map calls a sector taken that nobody owns
+-- a sector is taken in the map but owned by nobody
 abbrev pub HasStray : Image → Layout → Type 0
 HasStray img l = (p : Place) × ¬ (IsFree (sector img map_place) p) × ¬ (Contains (map_place ∷ owners l) p)
 

@@ -17,7 +17,7 @@ use d64_image::{MemDisk, Place};
 use disk_layout::{Fault, Slot, map_place, read_directory};
 use layout_check::survey;
 
-/// Whether an entry is asked for.
+/// Whether the call is about this entry: always without a name, otherwise if the entry has the name.
 fn is_asked(slot: &Slot, name: Option<&[u8]>) -> bool
     ensures { IsTrue result ↔ IsAsked (option_map (λ n. n.now) name.entry) slot.now }
 {
@@ -27,7 +27,7 @@ fn is_asked(slot: &Slot, name: Option<&[u8]>) -> bool
     }
 }
 
-/// The place where the first of these entries of a sound disk is cut short, of those that are asked for.
+/// The place where the first of these entries of a sound disk is cut short, among all of them or those of the name.
 fn first_cut(disk: &mut MemDisk, slots: &[Slot], name: Option<&[u8]>, facts: Facts) -> Option<Place>
     ensures told { (l : Layout) → IsLayout (disk_image disk.old) l → slots.now ≡ map (λ f. f.slot) l.files
         → (IsTrue facts.strays ↔ HasStray (disk_image disk.old) l) → (IsTrue facts.shop ↔ HasStock l)
@@ -44,16 +44,16 @@ fn first_cut(disk: &mut MemDisk, slots: &[Slot], name: Option<&[u8]>, facts: Fac
     None
 }
 
-/// Finds the first file of a sound disk that is cut short, in the order of the directory: of all files, or of those of
-/// a name, which has no shifted spaces at its end. The answer is the sector where its chain ends, and None if none
-/// of them is cut short. Otherwise a fault that holds of the disk, as `survey` returns it.
+/// Finds the first file of a sound disk that is cut short, in the order of the directory: of all files, or of those
+/// with a name, which has no shifted spaces at its end. Returns the sector where its chain ends, and None if none of
+/// them is cut short. If the disk isn't sound, the error is a fault that holds of it, as `survey` returns it.
 ///
-/// Nothing is written, and no memory is taken. It takes some 20 KB of the stack.
+/// Nothing is written, and no memory is allocated. It takes about 20 KB of the stack.
 pub fn find_cut(disk: &mut MemDisk, name: Option<&[u8]>) -> Result<Option<Place>, Fault>
     ensures ok { IfOk result (λ told. (l : Layout) → IsLayout (disk_image disk.old) l
         → IsToldOf (disk_image disk.old) l (option_map (λ n. n.now) name.entry) told) }
     ensures err { IfErr result (Holds nowhere (disk_image disk.old)) }
-    // exactly the disks that aren't sound aren't judged
+    // the result is Ok exactly on a sound disk
     ensures sound { IsOk result ↔ IsSound (disk_image disk.old) }
     ensures same { disk_image disk.new ≡ disk_image disk.old }
 {

@@ -7,9 +7,9 @@ use crate::cuts::find_cut;
 use d64_image::{ImageFault, MemDisk, Place};
 use std::alloc::Global;
 
-/// Finds the first file that is cut short, as `find_cut` does, on the disk whose image has these bytes. None also if
-/// the disk isn't sound, and so no file of it is judged. `Size` exactly if they aren't 174,848; `NoMemory` if the
-/// memory for another 174,848 bytes was refused.
+/// Finds the first file that is cut short, as `find_cut` does, on the disk whose image has these bytes. Returns None
+/// also if the disk isn't sound: then no file of it is checked. The error is `Size` exactly if they aren't 174,848
+/// bytes, and `NoMemory` if the memory for another 174,848 bytes was refused.
 pub fn find_image_cut(
     alloc: Global,
     image: &[u8],

@@ -61,8 +61,8 @@ fn lists_one_behind(disk: &mut MemDisk, bytes: &[u8; 256]) -> bool
     }
 }
 
-/// Whether no more than one data block is listed past a chain, and none if its file never grows. These are the
-/// bytes of the side sector that points to the last blocks of the chain, `used` of them.
+/// Whether at most one data block is listed past a chain, and none if its file never grows. The bytes are those of the
+/// side sector that points to the last blocks of the chain, `used` of them.
 fn lists_well(disk: &mut MemDisk, bytes: &[u8; 256], used: usize, never_grows: bool) -> bool
     requires { used ≤ 120 }
     ensures told { IsTrue result ↔ ListsWell (disk_image disk.old) (IsTrue never_grows) bytes.now used }
@@ -93,7 +93,8 @@ fn side_at(disk: &mut MemDisk, slot: &Slot, number: usize) -> Option<[u8; 256]>
     Some(bytes_at(disk, place))
 }
 
-/// Whether the side sectors of a relative file of a sound disk, whose chain has so many blocks, list more than they may.
+/// Whether the side sectors of a relative file of a sound disk list more than they may. `blocks` is the length of its
+/// chain.
 pub(crate) fn is_listed_past(
     disk: &mut MemDisk,
     slot: &Slot,

@@ -1,4 +1,4 @@
-//! Sectors that the map calls taken and nobody owns.
+//! Sectors that are taken in the map but owned by nobody.
 ghost use Rattle.std.specs.Prelude.{◌≡◌, ◌↔◌, ◌≤◌, ◌∷◌, Contains, IsTrue};
 ghost use Rattle.d64_image.specs.declared.place.Place.{Place};
 ghost use Rattle.disk_layout.specs.Directory.{map_place};
@@ -10,7 +10,7 @@ use d64_image::Place;
 use disk_layout::BamView;
 use layout_check::Survey;
 
-/// Whether the map, whose bytes these are, calls the sector taken, and nobody owns it.
+/// Whether the sector is taken in the map, which has these bytes, but owned by nobody.
 fn is_stray(map: &[u8; 256], found: &Survey, place: Place) -> bool
     ensures { (l : Layout) → IsSurveyOf l found.now
         → (IsTrue result ↔ (¬ (IsFree map.now place) × ¬ (Contains (map_place ∷ owners l) place))) }

@@ -1,4 +1,4 @@
-//! Where the chain of a file ends, and whether that is too early.
+//! The end of a file's chain, and whether it comes too early.
 ghost use Rattle.std.specs.Prelude.{◌≡◌, ◌↔◌, ◌≤◌, ◌-◌, ◌<◌, ⊤, IsTrue, MatchOption, Some, [], length, replicate, slice_get};
 ghost use Rattle.d64_image.specs.Images.{sector};
 ghost use Rattle.d64_image.specs.Memory.{disk_image};
@@ -12,16 +12,16 @@ use arrayvec::ArrayVec;
 use d64_image::{MemDisk, Place};
 use disk_layout::{EntryView, Slot, walk_chain};
 
-/// What of a disk as a whole decides whether a file of it is cut short.
+/// The facts of the whole disk on which it depends whether a file is cut short.
 #[derive(Clone, Copy)]
 pub(crate) struct Facts {
-    /// The map calls a sector taken that nobody owns.
+    /// A sector is taken in the map but owned by nobody.
     pub(crate) strays: bool,
     /// It has a shop's `STOCK`.
     pub(crate) shop: bool,
 }
 
-/// The end of a chain: its last block, and how many it has.
+/// The end of a chain: its last block, and how many blocks it has.
 #[derive(Clone, Copy)]
 struct Tail {
     place: Place,
@@ -49,7 +49,7 @@ fn tail_of(disk: &mut MemDisk, slot: &Slot) -> Option<Tail>
     })
 }
 
-/// Whether an entry's block count, as stored, is greater than so many.
+/// Whether an entry's block count, as stored, is greater than this number.
 fn counts_more(slot: &Slot, blocks: usize) -> bool
     ensures { IsTrue result ↔ (blocks < count_field slot.now) }
 {
@@ -64,7 +64,7 @@ fn is_blank(disk: &mut MemDisk, place: Place) -> bool
     bytes_at(disk, place) == [0; 256]
 }
 
-/// Whether the chain of an entry of a sound disk, which ends so, is too short.
+/// Whether the chain of an entry of a sound disk, with this end, is too short.
 fn is_short(disk: &mut MemDisk, slot: &Slot, tail: Tail, facts: Facts) -> bool
     requires some { 1 ≤ tail.blocks }
     requires few { tail.blocks ≤ 720 }

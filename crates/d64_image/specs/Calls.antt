@@ -4,7 +4,7 @@ use Rattle.d64_image.specs.declared.place.Place.{Place}
 use Rattle.d64_image.specs.History.{History, HeldOnly, OldOr, OnlyReads, TellsFailure}
 use Rattle.d64_image.specs.Images.{Sector, put, sector}
 
--- Ok answers the bytes that stand at p; an error is this fault, and comes of a failure at p. The disk is the same.
+-- At Ok the call returns the bytes at p. An error is this fault, and the device failed at p. The disk is the same.
 pub record ReadsSector {D T E : Type 0} (S : History D) (old new : D) (p : Place) (bytes : Sector) (fault : E)
     (result : Result T E) : Type 0 where
   pub sector : OnOk result (bytes ≡ sector (S.image old) p)
@@ -13,15 +13,15 @@ pub record ReadsSector {D T E : Type 0} (S : History D) (old new : D) (p : Place
   pub told : IfErr result (λ e. e ≡ fault)
   pub failed : OnErr result (S.failed_at new p)
 
--- At Ok the bytes stand at p. At an error, which is this fault and comes of a failure at p, they do or p is as before;
--- nothing else changes, and nothing else was ever held.
+-- At Ok the bytes are at p. At an error they are, or p is as before; the error is this fault, and the device failed at
+-- p. Nothing else changes, and nothing else was ever held.
 pub record WritesSector {D T E : Type 0} (S : History D) (old new : D) (p : Place) (bytes : Sector) (fault : E)
     (result : Result T E) : Type 0 where
   pub ok : OnOk result (S.image new ≡ put (S.image old) p bytes)
   pub err : OnErr result (OldOr (S.image old) (put (S.image old) p bytes) (S.image new))
   -- during the call
   pub held : HeldOnly S old new (OldOr (S.image old) (put (S.image old) p bytes))
-  -- a write is counted at most once, and at Ok alone
+  -- a write is counted at most once, and only at Ok
   pub counted : OnOk result (S.writes new ≤ S.writes old + 1)
   pub uncounted : OnErr result (S.writes new ≡ S.writes old)
   pub reads : S.reads new ≡ S.reads old

@@ -99,7 +99,7 @@ length-joined k (x ∷ xs) sizes =
     let rest : length (bytes_of xs) ≡ k * length xs = length-joined k xs (λ i lt. sizes (suc i) (suc-le-suc lt)) in
     length-append x (bytes_of xs) ∙ ap₂ (λ (a b : ℕ). a + b) here rest ∙ sym (step k (length xs))
 
--- where every chunk is of zeros, all is zeros
+-- if every chunk has zeros alone, all bytes are zero
 pub zeros_joined : (img : Image) (i : ℕ) → ((j k : ℕ) → get_or (get_or img j []) k 0 ≡ 0)
     → get_or (bytes_of img) i 0 ≡ 0
 zeros_joined [] i zeros = get_or_past [] i 0 zero-le

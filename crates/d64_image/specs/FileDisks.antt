@@ -6,14 +6,14 @@ use Rattle.d64_image.specs.History.{History}
 use Rattle.d64_image.specs.Images.{Image, IsImage}
 use Rattle.d64_image.specs.Keeps.{Agrees, FileFailed, Keeps, failed_to, kept_or}
 
--- a file with the image that it keeps, or the one that it is taken to keep, where that isn't known
+-- a file with the image that it keeps, or, if that isn't known, the image that it is taken to keep
 pub record FileDisk {F : Type 0} (K : Keeps F) : Type 0 where
   pub file : F
   pub image : Image
   pub whole : IsImage image
   pub agrees : Agrees (K.kept file) image
 
--- 1 where a call of the file has failed since it was `first`, or their count is spent, else 0
+-- 1 if a call of the file has failed since it was `first`, or if the count of failures is spent; otherwise 0
 abbrev pub fails_since : {F : Type 0} → Keeps F → F → F → ℕ
 fails_since K first file =
     if nat_lt (K.failures file) K.last then (if nat_lt (K.failures first) (K.failures file) then 1 else 0) else 1

@@ -9,14 +9,15 @@ use Rattle.d64_image.specs.History.{History, Failed, through}
 abbrev pub fuse_disk : {D : Type 0} → Fuse D → D
 fuse_disk f = f.disk
 
--- how many writes it lets pass in all, and how many it has let pass
+-- how many writes it lets pass in all
 abbrev pub fuse_limit : {D : Type 0} → Fuse D → ℕ
 fuse_limit f = f.limit
 
+-- how many writes it has let pass
 abbrev pub fuse_passed : {D : Type 0} → Fuse D → ℕ
 fuse_passed f = f.passed
 
--- how many it still lets pass; at 0 it has blown
+-- how many writes it still lets pass; at 0 it has blown
 abbrev pub fuse_left : {D : Type 0} → Fuse D → ℕ
 fuse_left f = f.limit - f.passed
 
@@ -24,7 +25,7 @@ fuse_left f = f.limit - f.passed
 abbrev pub fuse_failures : {D : Type 0} → Fuse D → ℕ
 fuse_failures f = f.failed.n
 
--- From old to new: the limit stayed, and where a call failed the fuse has blown, or the disk beneath it failed.
+-- From old to new: the limit stayed. If a call failed, the fuse has blown, or the disk beneath it failed.
 pub record IsFused {D : Type 0} (h : History D) (old new : Fuse D) : Type 0 where
   pub limit : fuse_limit new ≡ fuse_limit old
   pub passed : fuse_passed old ≤ fuse_passed new
@@ -76,7 +77,7 @@ fused_then h a b c x y = record {
       x.cause;
 }
 
--- It has blown, so that it fails each call, or the disk beneath failed there.
+-- The fuse has blown and fails each call, or the disk beneath failed there.
 abbrev pub fails_at : {D : Type 0} → History D → Fuse D → Place → Type 0
 fails_at h f p = (fuse_left f ≡ 0) ⊎ h.failed_at (fuse_disk f) p
 

@@ -1,22 +1,22 @@
--- What a file keeps of a disk, where that is known, now and at the moments before; and what keeping a sector promises.
--- Our own.
+-- What a file keeps of a disk, if that is known, now and at the moments before; and what keeping a sector promises. Our
+-- own.
 use Rattle.std.specs.Prelude.{ℕ, ◌≡◌, ◌<◌, ◌≤◌, ◌+◌, ◌⊎◌, Option, Some, None, Result, Ok, Err, OnErr, OnOk, refl}
 use Rattle.std.proofs.Common.{arith}
 use Rattle.std.proofs.lemmas.Option.{none-some}
 use Rattle.d64_image.specs.Images.{Image, IsImage, Sector, put}
 use Rattle.d64_image.specs.declared.place.Place.{Place}
 
--- What a file's type says of it: what it keeps of a disk now, what it may have kept before, and what it counts.
+-- What the type of a file promises: what a file keeps of a disk now, what it may have kept before, and what it counts.
 pub record Keeps (F : Type 0) : Type 1 where
-  -- what it keeps now; None where that isn't known
+  -- what it keeps now; None if that isn't known
   pub kept : F → Option Image
   -- the moment, as a number that doesn't fall
   pub moment : F → ℕ
-  -- what it may have kept at some moment from that one on
+  -- what it may have kept at a moment from that one on
   pub held : F → ℕ → Image → Type 0
   -- how many sectors it took
   pub writes : F → ℕ
-  -- how many calls have failed, and the last value of that count, where it is spent
+  -- how many calls have failed, and the greatest value of that count, at which it is spent
   pub failures : F → ℕ
   pub last : ℕ
   -- there are 683 sectors of 256 bytes
@@ -26,7 +26,7 @@ pub record Keeps (F : Type 0) : Type 1 where
   -- since now nothing else is held
   pub only_now : (f : F) (c : Image) → held f (moment f) c → kept f ≡ Some c
   pub up_to_last : (f : F) → failures f ≤ last
-  -- the second comes of the first by sectors that it was to keep
+  -- the second comes from the first by sectors that it was to keep
   pub reached : F → F → Type 0
   pub reached_same : (f : F) → reached f f
   pub reached_then : (a b c : F) → reached a b → reached b c → reached a c
@@ -44,7 +44,7 @@ pub record FileFailed {F : Type 0} (K : Keeps F) (old new : F) : Type 0 where
   pub later : K.failures old ≤ K.failures new
   pub rose : K.failures new < K.last → K.failures old < K.failures new
 
--- An error is told only where the file failed, and Ok where no failure was counted.
+-- An error is returned only if the file failed, and Ok only if no failure was counted.
 abbrev pub TellsFileFailure : {F T E : Type 0} → Keeps F → F → F → Result T E → Type 0
 TellsFileFailure K old new (Ok _) = K.failures new ≡ K.failures old
 TellsFileFailure K old new (Err _) = FileFailed K old new
@@ -54,7 +54,7 @@ abbrev pub put_kept : Option Image → Place → Sector → Option Image
 put_kept None p bytes = None
 put_kept (Some c) p bytes = Some (put c p bytes)
 
--- what is kept, and this image where that isn't known
+-- what is kept, or this image if that isn't known
 abbrev pub kept_or : Option Image → Image → Image
 kept_or None img = img
 kept_or (Some c) img = c
@@ -78,13 +78,13 @@ module _ {F : Type 0} (K : Keeps F) (a b c : F) where
     rose = λ lt. omega (arith, f.rose (omega (arith, lt, le)), le);
   }
 
--- At Ok the bytes stand at p, and are kept. At an error they are, or p is as before. Nothing else was kept on the way.
+-- At Ok the bytes are at p, and are kept. At an error they are, or p is as before. Nothing else was kept on the way.
 pub record KeepsSector {F T E : Type 0} (K : Keeps F) (old new : F) (p : Place) (bytes : Sector)
     (result : Result T E) : Type 0 where
   pub ok : OnOk result (K.kept new ≡ put_kept (K.kept old) p bytes)
   pub err : OnErr result ((K.kept new ≡ K.kept old) ⊎ (K.kept new ≡ put_kept (K.kept old) p bytes))
   pub held : KeptOnly K old new (λ c. (K.kept old ≡ Some c) ⊎ (put_kept (K.kept old) p bytes ≡ Some c))
-  -- a sector is counted at most once, and at Ok alone
+  -- a sector is counted at most once, and only at Ok
   pub counted : OnOk result (K.writes new ≤ K.writes old + 1)
   pub uncounted : OnErr result (K.writes new ≡ K.writes old)
   pub failures : TellsFileFailure K old new result
@@ -92,8 +92,8 @@ pub record KeepsSector {F T E : Type 0} (K : Keeps F) (old new : F) (p : Place) 
 pub none_kept : {c : Image} {A : Type 0} → None ≡ Some c → A
 none_kept {c} e = absurd (none-some c e)
 
--- A file of which nothing is known but that it is the same file, by this relation, and how many of its calls passed and
--- failed.
+-- A file of which nothing is known except that it is the same file, by this relation, and how many of its calls passed
+-- and failed.
 abbrev pub unknown : {F : Type 0} (writes failures : F → ℕ) (last : ℕ) → ((f : F) → failures f ≤ last)
     → (same : F → F → Type 0) → ((f : F) → same f f)
     → ((a b c : F) → same a b → same b c → same a c) → Keeps F

@@ -9,7 +9,7 @@ use Rattle.d64_image.specs.Images.{Image}
 use Rattle.d64_image.specs.Keeps.{FileFailed, failed_from, failed_to, kept_or, kept_whole}
 use Rattle.d64_image.specs.Memory.{disk_image}
 
--- 1 where it holds
+-- 1 if true, 0 if false
 abbrev pub one_if : Bool → ℕ
 one_if true = 1
 one_if false = 0
@@ -34,14 +34,13 @@ module _ {F : Type 0} {G : Ghosts F} where
   abbrev pub mirror_writes : KeptMirror F G → ℕ
   mirror_writes m = m.taken.n
 
-  -- what the file keeps, and memory's image where that isn't known
+  -- what the file keeps, or memory's image if that isn't known
   abbrev pub mirror_image : KeptMirror F G → Image
   mirror_image m = kept_or (G.keeps.kept m.file) (disk_image m.disk)
 
-  -- From old to new: the file is one that comes of it by sectors that it was to keep. A broken mirror stays so, with
-  -- its file
-  -- as it is; it is broken where its file failed, and only there; and it did nothing to the file where it took no
-  -- sector.
+  -- From old to new: the file is one that comes from the old one by sectors that it was to keep. A broken mirror stays
+  -- so, and its file stays as it is. It is broken if its file failed, and only then. A mirror that took no sector and
+  -- is not broken did nothing to the file.
   pub record IsMirrored (old new : KeptMirror F G) : Type 0 where
     pub file : G.keeps.reached old.file new.file
     pub failures : G.keeps.failures old.file ≤ G.keeps.failures new.file
@@ -93,9 +92,8 @@ module _ {F : Type 0} {G : Ghosts F} where
         (x.quiet first (omega (arith, few, second)));
   }
 
-  -- What it holds is what its file keeps, and what its memory holds where that isn't known. Its failures are spent with
-  -- the
-  -- first: from then on each call fails.
+  -- A mirror holds what its file keeps, or what its memory holds if that isn't known. Its count of failures is spent
+  -- with the first: from then on each call fails.
   abbrev pub mirror : History (KeptMirror F G)
   mirror = record {
     image = mirror_image;

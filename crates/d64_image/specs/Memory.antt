@@ -15,14 +15,15 @@ sectors_in bytes = first_chunks 256 683 bytes
 abbrev pub bytes_of : Image → List ℕ
 bytes_of img = flat_map (λ bytes. bytes) img
 
--- what a disk in memory holds, as an image and as bytes
+-- what a disk in memory holds, as an image
 abbrev pub disk_image : MemDisk → Image
 disk_image disk = disk.sectors.items
 
+-- what a disk in memory holds, as bytes
 abbrev pub disk_bytes : MemDisk → List ℕ
 disk_bytes disk = bytes_of (disk_image disk)
 
--- It names what it holds now and nothing of the past, and never fails.
+-- The history names what the disk holds now and nothing of the past. The disk never fails.
 abbrev pub memory : History MemDisk
 memory = record {
   image = disk_image;

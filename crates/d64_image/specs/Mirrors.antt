@@ -10,14 +10,15 @@ use Rattle.d64_image.specs.Images.{Image, Sector, put}
 use Rattle.d64_image.specs.Memory.{disk_image, memory}
 use Rattle.d64_image.specs.Offsets.{offset_of}
 
--- the disk in memory, and the file
+-- the disk in memory
 abbrev pub mirror_disk : {F : Type 0} → Mirror F → MemDisk
 mirror_disk m = m.disk
 
+-- the file
 abbrev pub mirror_file : {F : Type 0} → Mirror F → F
 mirror_file m = m.file
 
--- where the last sector that it handed to the file ended; None before the first
+-- the position in the file after the last sector that it handed over; None before the first
 abbrev pub mirror_at : {F : Type 0} → Mirror F → Option ℕ
 mirror_at m = m.at
 
@@ -39,8 +40,8 @@ pub record IsSought {F : Type 0} (position : F → Option ℕ) (bytes : F → Op
   pub moved : IfSome (position old) (λ _. position new ≡ Some n)
   pub kept : Keeps (bytes old) (bytes new)
 
--- A file that stands at `at`, where that is known, was handed these bytes at n, and nothing else: it stood there
--- already, or else one seek brought it there.
+-- A file that is at `at`, if that is known, was handed these bytes at n, and nothing else. It was there already, or one
+-- seek brought it there.
 pub record IsHanded {F : Type 0} (position : F → Option ℕ) (bytes contents : F → Option (List ℕ))
     (at : Option ℕ) (old new : F) (n : ℕ) (handed : List ℕ) : Type 0 where
   pub ready : F
@@ -57,7 +58,7 @@ abbrev pub with_sectors : Image → List Handed → Image
 with_sectors img [] = img
 with_sectors img (x ∷ xs) = with_sectors (put img x.place x.bytes) xs
 
--- where a file stands after these sectors
+-- the position of a file after these sectors
 abbrev pub at_after : Option ℕ → List Handed → Option ℕ
 at_after at [] = at
 at_after at (x ∷ xs) = at_after (Some (offset_of x.place + 256)) xs
@@ -69,8 +70,8 @@ AreHanded {F} position bytes contents at old new (x ∷ xs) =
     (next : F) × IsHanded position bytes contents at old next (offset_of x.place) x.bytes
     × AreHanded position bytes contents (Some (offset_of x.place + 256)) next new xs
 
--- From old to new memory took these sectors, each after the file was handed it, and nothing else. What the file was handed
--- in a call in which it failed isn't said.
+-- From old to new memory took these sectors, each after the file was handed it, and nothing else. This leaves open what
+-- the file was handed in a call in which it failed.
 pub record TookSectors {F : Type 0} (position : F → Option ℕ) (bytes contents : F → Option (List ℕ))
     (old new : Mirror F) (sectors : List Handed) : Type 0 where
   pub memory : disk_image (mirror_disk new) ≡ with_sectors (disk_image (mirror_disk old)) sectors
@@ -79,8 +80,8 @@ pub record TookSectors {F : Type 0} (position : F → Option ℕ) (bytes content
   pub handed : AreHanded position bytes contents (mirror_at old) (mirror_file old) file sectors
   pub end : is_broken new ⊎ ((mirror_file new ≡ file) × (mirror_at new ≡ at_after (mirror_at old) sectors))
 
--- From old to new: what memory took the file was handed first; a broken mirror stayed so and changed nothing; and where a
--- call failed it is broken.
+-- From old to new: the file was first handed what memory took. A broken mirror stayed so and changed nothing. If a call
+-- failed, the mirror is broken.
 pub record IsMirrored {F : Type 0} (position : F → Option ℕ) (bytes contents : F → Option (List ℕ))
     (old new : Mirror F) : Type 0 where
   pub sectors : List Handed
@@ -164,8 +165,8 @@ module _ {F : Type 0} (position : F → Option ℕ) (bytes contents : F → Opti
         y.cause;
   }
 
--- What it holds is what its memory holds. It counts the sectors that memory took and its own failures, all of which are of
--- its file.
+-- A mirror holds what its memory holds. It counts the sectors that memory took, and its own failures, each of which is
+-- a failure of its file.
 abbrev pub mirror : {F : Type 0} → (F → Option ℕ) → (F → Option (List ℕ)) → (F → Option (List ℕ)) → History (Mirror F)
 mirror position bytes contents = record (through mirror_disk memory) {
   writes = mirror_writes;

@@ -1,5 +1,4 @@
--- Where a sector stands in a file of sectors, and bytes that are written over others. The order is that of the D64
--- layout.
+-- Where a sector is in a file of sectors, and bytes that are written over others. The order is that of the D64 layout.
 use Rattle.std.specs.Prelude.{ℕ, ◌+◌, ◌*◌, ◌++◌, List, take, drop, length}
 use Rattle.d64_image.specs.declared.place.Place.{Place}
 use Rattle.d64_image.specs.Places.{index_of}

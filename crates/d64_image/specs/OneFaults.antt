@@ -1,4 +1,4 @@
--- A disk of which one call of a run fails. Our own.
+-- A disk of which one call in a run fails. Our own.
 use Rattle.std.specs.Prelude.{ℕ, ◌≡◌, ◌≢◌, ◌≤◌, ◌⊎◌, Bool, Option, None, Some, Result, refl}
 use Rattle.std.proofs.Common.{◌∙◌, inl, inr, ⊎_elim, sym, le_refl, arith}
 use Rattle.d64_image.specs.declared.faults.DeviceFault.{DeviceFault}
@@ -15,7 +15,7 @@ use Rattle.d64_image.specs.declared.one_fault.OneFault.{OneFault}
 abbrev pub faulty_disk : {D : Type 0} → OneFault D → D
 faulty_disk f = f.disk
 
--- where the one call failed; None while that is still to come
+-- the place at which the one call failed; None while that is still to come
 abbrev pub fault_place : {D : Type 0} → OneFault D → Option Place
 fault_place f = f.place
 
@@ -35,13 +35,12 @@ is_done f = f.done
 abbrev pub faulty_failures : {D : Type 0} → OneFault D → ℕ
 faulty_failures f = calls_of f.failed
 
--- a write reached the disk, whatever that answered
+-- a write reached the disk, whatever the disk returned
 pub record Reaches {D : Type 0} (h : History D) (old new : D) (p : Place) (bytes : Sector) : Type 0 where
   pub answer : Result (Unit {0}) DeviceFault
   pub written : WritesSector h old new p bytes device_fault answer
 
--- From old to new: the place of its fault stays, and where a call failed that was its one fault, or the disk beneath
--- failed.
+-- From old to new: the place of its fault stays. If a call failed, that was its one fault, or the disk beneath failed.
 pub record IsOnce {D : Type 0} (h : History D) (old new : OneFault D) : Type 0 where
   pub beneath : h.reached (faulty_disk old) (faulty_disk new)
   pub failures : h.failures (faulty_disk old) ≤ h.failures (faulty_disk new)
@@ -82,7 +81,7 @@ once_then h a b c x y = record {
       y.cause;
 }
 
--- Its one fault was there, or the disk beneath failed there.
+-- The one fault was at this place, or the disk beneath failed there.
 abbrev pub fails_there : {D : Type 0} → History D → OneFault D → Place → Type 0
 fails_there h f p = (fault_place f ≡ Some p) ⊎ h.failed_at (faulty_disk f) p
 
@@ -93,7 +92,7 @@ failed_still h a b p x failed = ⊎_elim
     (λ f. inr (h.failed_stays a.disk b.disk p x.beneath f))
     failed
 
--- It counts its own failures, and the writes that it answered with Ok.
+-- The disk counts its own failures, and the writes to which it returned Ok.
 abbrev pub one_fault : {D : Type 0} → History D → History (OneFault D)
 one_fault h = record (through faulty_disk h) {
   writes = λ f. calls_of f.written;

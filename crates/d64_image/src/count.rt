@@ -1,7 +1,7 @@
 //! A count that stays at its greatest value once there.
 ghost use Rattle.std.specs.Prelude.{◌≤◌};
 
-/// A device's count of calls, up to 2^64 - 1.
+/// A device's count of calls, from 0 to 2^64 - 1.
 #[derive(Clone, Copy, Debug, PartialEq, Eq)]
 pub struct Count {
     n: u64,
@@ -19,14 +19,14 @@ impl Count {
         Count { n: 0 }
     }
 
-    /// Counts one call more; at 2^64 - 1 it stays.
+    /// Counts one more call. A count of 2^64 - 1 stays.
     pub fn add_one(&mut self)
         ensures { calls_of self.new ≡ min (calls_of self.old + 1) 18446744073709551615 }
     {
         self.n = self.n.saturating_add(1);
     }
 
-    /// How many calls.
+    /// The number of calls counted.
     pub fn get(&self) -> u64
         ensures { result ≡ calls_of self.now }
     {

@@ -1,10 +1,10 @@
-//! A file that is a device: all that it keeps is known.
+//! A device used as a file: everything that it keeps is known.
 use crate::place::Place;
 use crate::sector_file::SectorFile;
 use crate::sectors::Sectors;
 use std::io;
 
-/// A device in the place of a file. It keeps what the device holds, and fails where the device does.
+/// A device in the place of a file. It keeps what the device holds, and fails when the device does.
 #[derive(Drop)]
 pub struct DeviceAsFile<D> {
     disk: D,

@@ -11,10 +11,10 @@ pub struct DeviceFault;
 /// Why an image was not loaded, or a disk not made.
 #[derive(Clone, Copy, Debug, PartialEq, Eq, Error)]
 pub enum ImageFault {
-    /// The image hasn't 174,848 bytes.
+    /// The image doesn't have 174,848 bytes.
     #[error("the image has another size than 174848 bytes")]
     Size,
-    /// Memory for the disk was refused.
+    /// The memory for the disk was refused.
     #[error("no memory for the image")]
     NoMemory,
 }

@@ -20,7 +20,7 @@ impl<D: Sectors> Fuse<D> {
     ghost use Rattle.std.specs.Prelude.{◌≡◌};
     ghost use Rattle.d64_image.specs.Fuses.{fuse, fuse_disk, fuse_left, fuse_limit};
 
-    /// A fuse round a disk, which lets this many writes pass and then blows.
+    /// A fuse round a disk. It lets this many writes pass and then blows.
     pub fn new(disk: D, limit: u32) -> Fuse<D>
         ensures disk { fuse_disk result ≡ disk }
         ensures limit { fuse_limit result ≡ limit }
@@ -57,12 +57,12 @@ impl<D: Sectors> Sectors for Fuse<D> {
 
     ghost history = { fuse D.history };
 
-    /// Passes a read on where the fuse has not blown.
+    /// Passes a read on if the fuse has not blown. A blown fuse returns the fault and leaves the disk alone.
     fn read(&mut self, place: Place, to: &mut [u8; 256]) -> Result<(), DeviceFault>
         ensures device { ReadsSector (fuse D.history) self.old self.new place to.new device_fault result }
         // a blown fuse reads nothing
         ensures spent { fuse_left self.old ≡ 0 → IsErr result × (fuse_disk self.new ≡ fuse_disk self.old) }
-        // else the disk beneath answers
+        // otherwise the disk beneath answers
         ensures passes { 0 < fuse_left self.old
             → ReadsSector D.history (fuse_disk self.old) (fuse_disk self.new) place to.new device_fault result }
         ensures kept { (fuse_left self.new ≡ fuse_left self.old) × (fuse_limit self.new ≡ fuse_limit self.old) }
@@ -80,12 +80,13 @@ impl<D: Sectors> Sectors for Fuse<D> {
         }
     }
 
-    /// Passes a write on where the fuse has not blown; a write that passed uses it up by one.
+    /// Passes a write on if the fuse has not blown. A write that passed uses the fuse up by one. A blown fuse returns
+    /// the fault and leaves the disk alone.
     fn write(&mut self, place: Place, from: &[u8; 256]) -> Result<(), DeviceFault>
         ensures device { WritesSector (fuse D.history) self.old self.new place from.now device_fault result }
         // a blown fuse writes nothing
         ensures spent { fuse_left self.old ≡ 0 → IsErr result × (fuse_disk self.new ≡ fuse_disk self.old) }
-        // else the disk beneath answers
+        // otherwise the disk beneath answers
         ensures passes { 0 < fuse_left self.old
             → WritesSector D.history (fuse_disk self.old) (fuse_disk self.new) place from.now device_fault
             result }

@@ -11,9 +11,9 @@ use crate::place::Place;
 use crate::sector_file::SectorFile;
 use crate::sectors::Sectors;
 
-/// A disk in memory, and a file that keeps the same image. Each sector is handed to the file before memory takes it.
-/// Where the file fails, memory stays, and each call fails from then on: whether the file keeps that sector isn't
-/// known, and what came after it would part the two for good.
+/// A disk in memory, and a file that keeps the same image. The mirror hands each sector to the file before memory takes
+/// it. If the file fails, memory stays as it was, and each later call fails. Whether the file keeps the failed sector
+/// is unknown, and a later write would make the file and memory differ for good.
 #[derive(Drop)]
 pub struct KeptMirror<F: SectorFile> {
     file: F,
@@ -27,7 +27,8 @@ impl<F: SectorFile> KeptMirror<F> {
     ghost use Rattle.std.specs.Prelude.{◌↔◌};
     ghost use Rattle.d64_image.specs.KeptMirrors.{mirror_file, is_broken, mirror_disk, mirror_writes};
 
-    /// A mirror of a disk in a file that keeps the same image, or of which that isn't known. Neither is touched.
+    /// A mirror of a disk in a file. The file keeps the same image, or what it keeps isn't known. This changes neither
+    /// of them.
     pub fn new(file: F, disk: MemDisk) -> KeptMirror<F>
         requires agrees { Agrees (F.keeps.kept file) (disk_image disk) }
         ensures file { mirror_file result ≡ file }
@@ -82,10 +83,10 @@ impl<F: SectorFile> Sectors for KeptMirror<F> {
 
     ghost history = { mirror };
 
-    /// Reads memory alone.
+    /// Reads memory alone. The call fails exactly if the mirror is broken.
     fn read(&mut self, place: Place, to: &mut [u8; 256]) -> Result<(), DeviceFault>
         ensures device { ReadsSector mirror self.old self.new place to.new device_fault result }
-        // it fails exactly where it is broken
+        // it fails exactly if the mirror is broken
         ensures broken { is_broken self.old → IsErr result }
         ensures whole { (is_broken self.old → ⊥) → IsOk result }
         ensures file { mirror_file self.new ≡ mirror_file self.old }
@@ -96,8 +97,9 @@ impl<F: SectorFile> Sectors for KeptMirror<F> {
         self.disk.read(place, to)
     }
 
-    /// Hands the sector to the file, and then to memory. Where the file fails, memory is as before.
-    // In line: a return right behind a call of the system is dear.
+    /// Hands the sector to the file, and then to memory. If the file fails, memory is as before and the mirror is
+    /// broken.
+    // In line: a return right after a system call is slow.
     #[inline(always)]
     fn write(&mut self, place: Place, from: &[u8; 256]) -> Result<(), DeviceFault>
         ensures device { WritesSector mirror self.old self.new place from.now device_fault result }

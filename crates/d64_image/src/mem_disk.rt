@@ -8,10 +8,10 @@ use crate::place::Place;
 use crate::sectors::Sectors;
 use std::alloc::Global;
 
-/// How many sectors a disk of 35 tracks has.
+/// The number of sectors of a disk of 35 tracks.
 const SECTORS: usize = 683;
 
-/// How many bytes its image has: 683 sectors of 256 bytes.
+/// The number of bytes of its image: 683 sectors of 256 bytes.
 const IMAGE_SIZE: usize = 174_848;
 
 /// A disk in memory, as the bytes of a D64 image: sector after sector in the order of their indices.
@@ -27,8 +27,8 @@ impl MemDisk {
     ghost use Rattle.d64_image.specs.Images.{sector};
     ghost use Rattle.d64_image.specs.Memory.{disk_bytes, disk_image, sectors_in};
 
-    /// The disk whose image has these bytes. Size exactly where they aren't 174,848; NoMemory where the memory for
-    /// another 174,848 bytes was refused.
+    /// The disk whose image has these bytes. The error is `Size` exactly if they aren't 174,848 bytes. It is `NoMemory`
+    /// if the memory for another 174,848 bytes was refused.
     pub fn load(alloc: Global, bytes: &[u8]) -> Result<MemDisk, ImageFault>
         ensures size { IsErrOf result ImageFault.Size ↔ (length bytes.now ≢ 174848) }
         ensures ok { IfOk result (λ disk. disk_bytes disk ≡ bytes.now) }
@@ -44,7 +44,7 @@ impl MemDisk {
         }
     }
 
-    /// A disk with a 0 in every byte. NoMemory where the memory for its 174,848 bytes was refused.
+    /// A disk whose bytes are all 0. The error is `NoMemory` if the memory for its 174,848 bytes was refused.
     pub fn zeroed(alloc: Global) -> Result<MemDisk, ImageFault>
         ensures size { IsErrOf result ImageFault.Size → ⊥ }
         ensures ok { IfOk result (λ disk. (i : ℕ) → slice_index (disk_bytes disk) i ≡ 0) }
@@ -57,7 +57,7 @@ impl MemDisk {
         }
     }
 
-    /// The bytes of the image, 174,848 of them.
+    /// The 174,848 bytes of the image.
     pub fn bytes(&self) -> &[u8]
         ensures value { result.now ≡ disk_bytes self.now }
         ensures size { length result.now ≡ 174848 }

@@ -29,14 +29,14 @@ impl<D: Sectors> Meter<D> {
         }
     }
 
-    /// How many reads passed.
+    /// The number of reads that passed.
     pub fn reads(&self) -> u64
         ensures { result ≡ meter_reads self.now }
     {
         self.reads.get()
     }
 
-    /// How many writes passed.
+    /// The number of writes that passed.
     pub fn writes(&self) -> u64
         ensures { result ≡ meter_writes self.now }
     {
@@ -64,7 +64,7 @@ impl<D: Sectors> Sectors for Meter<D> {
 
     ghost history = { meter D.history };
 
-    /// Passes a read on, and counts it where it passed.
+    /// Passes a read on, and counts it if it succeeds.
     fn read(&mut self, place: Place, to: &mut [u8; 256]) -> Result<(), DeviceFault>
         ensures device { ReadsSector (meter D.history) self.old self.new place to.new device_fault result }
         // the disk beneath answers, and is read once
@@ -78,7 +78,7 @@ impl<D: Sectors> Sectors for Meter<D> {
         Ok(())
     }
 
-    /// Passes a write on, and counts it where it passed.
+    /// Passes a write on, and counts it if it succeeds.
     fn write(&mut self, place: Place, from: &[u8; 256]) -> Result<(), DeviceFault>
         ensures device { WritesSector (meter D.history) self.old self.new place from.now device_fault result }
         // the disk beneath answers, and is written once

@@ -9,10 +9,10 @@ use crate::place::Place;
 use crate::sectors::Sectors;
 use std::io::{Seek, SeekFrom, Write};
 
-/// A disk in memory, and a file that holds the same image: any file that is written and sought. Each sector is handed to
-/// the file, at 256 times its index, before memory takes it. If the file fails, memory stays, and each call fails from
-/// then on: what the file holds of that sector isn't known, and what came after it would part the two for good. What a
-/// `SectorFile` keeps a `KeptMirror` says.
+/// A disk in memory, and a file that holds the same image: any file with `Write` and `Seek`. The mirror hands each
+/// sector to the file, at 256 times its index, before memory takes it. If the file fails, memory stays as it was, and
+/// each later call fails. What the file holds of the failed sector is unknown, and a later write would make the file
+/// and memory differ for good. Over a file that is a `SectorFile`, `KeptMirror` also promises what the file keeps.
 #[derive(Drop)]
 pub struct Mirror<F> {
     file: F,
@@ -23,9 +23,9 @@ pub struct Mirror<F> {
     failed: Count,
 }
 
-/// Writes all these bytes. A file that gathers what it is handed hands it on.
+/// Writes all these bytes. A file that gathers bytes passes them on.
 #[tactic(auto, using(crate::proofs::Mirrored::appends_kept))]
-// In line, as all on the way to the file is: a return right behind a call of the system is dear.
+// In line, as all on the way to the file is: a return right after a system call is slow.
 #[inline(always)]
 fn write_through<F: Write>(file: &mut F, bytes: &[u8]) -> std::io::Result<()>
     ensures { OnOk result (Appends (F.contents file.old) (F.contents file.new) bytes.now) }
@@ -40,7 +40,8 @@ impl<F: Write + Seek> Mirror<F> {
     ghost use Rattle.d64_image.specs.Mirrors.{mirror_failures, mirror_file, mirror_writes};
     ghost use Rattle.d64_image.specs.Offsets.{offset_of};
 
-    /// A mirror of a disk in a file that holds the same 174,848 bytes, wherever it stands. Neither is touched.
+    /// A mirror of a disk in a file that holds the same 174,848 bytes, at whatever position the file is. This changes
+    /// neither of them.
     pub fn new(file: F, disk: MemDisk) -> Mirror<F>
         ensures disk { mirror_disk result ≡ disk }
         ensures file { mirror_file result ≡ file }
@@ -82,7 +83,7 @@ impl<F: Write + Seek> Mirror<F> {
         (file, disk)
     }
 
-    /// Hands a sector to the file, without a seek where the file stands there already.
+    /// Hands a sector to the file. It seeks only if the file is at another position.
     // In line, as `write_through` is.
     #[inline(always)]
     fn hand_over(&mut self, place: Place, from: &[u8; 256]) -> std::io::Result<()>
@@ -115,10 +116,10 @@ impl<F: Write + Seek> Sectors for Mirror<F> {
 
     ghost history = { mirror F.stream_position F.stream_bytes F.contents };
 
-    /// Reads memory alone.
+    /// Reads memory alone. The call fails exactly if the mirror is broken.
     fn read(&mut self, place: Place, to: &mut [u8; 256]) -> Result<(), DeviceFault>
         ensures device { ReadsSector (mirror F.stream_position F.stream_bytes F.contents) self.old self.new place to.new device_fault result }
-        // it fails exactly where it is broken
+        // it fails exactly if the mirror is broken
         ensures broken { is_broken self.old → IsErr result }
         ensures whole { (is_broken self.old → ⊥) → IsOk result }
         ensures file { (mirror_file self.new ≡ mirror_file self.old) × (mirror_at self.new ≡ mirror_at self.old) }
@@ -130,7 +131,8 @@ impl<F: Write + Seek> Sectors for Mirror<F> {
         self.disk.read(place, to)
     }
 
-    /// Hands the sector to the file, and then to memory. Where the file fails, memory is as before.
+    /// Hands the sector to the file, and then to memory. If the file fails, memory is as before and the mirror is
+    /// broken.
     // In line, as `write_through` is.
     #[inline(always)]
     fn write(&mut self, place: Place, from: &[u8; 256]) -> Result<(), DeviceFault>
@@ -138,8 +140,8 @@ impl<F: Write + Seek> Sectors for Mirror<F> {
             device_fault result }
         // a broken mirror hands nothing over
         ensures broken { is_broken self.old → IsErr result × (mirror_file self.new ≡ mirror_file self.old) }
-        // the file was handed this sector alone, at its place, with a seek only where it stood elsewhere; that is where
-        // memory's bytes changed
+        // the file was handed this sector alone, at its place, with a seek only if it was at another position; memory's
+        // bytes changed at that same place
         ensures handed { OnOk result (IsHanded F.stream_position F.stream_bytes F.contents
             (mirror_at self.old) (mirror_file self.old) (mirror_file self.new) (offset_of place) from.now) }
         ensures bytes { OnOk result (disk_bytes (mirror_disk self.new)

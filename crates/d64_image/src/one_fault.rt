@@ -1,11 +1,11 @@
-//! A disk of which one call of a run fails.
+//! A disk of which one call in a run fails.
 use crate::count::Count;
 use crate::faults::DeviceFault;
 use crate::place::Place;
 use crate::sectors::Sectors;
 
-/// Fails one call, by its number among the reads and writes from 0 on, and passes each other call to the disk beneath.
-/// Where that call is a write, the disk may have taken it nevertheless.
+/// Fails one call, and passes every other call to the disk beneath. The reads and writes are numbered together from 0.
+/// If the failing call is a write, the disk beneath may take it nevertheless.
 #[derive(Drop)]
 pub struct OneFault<D> {
     disk: D,
@@ -20,7 +20,8 @@ impl<D: Sectors> OneFault<D> {
     ghost use Rattle.std.specs.Prelude.{◌≡◌, ◌+◌, None, Some, IsTrue, false};
     ghost use Rattle.d64_image.specs.OneFaults.{calls_left, fault_place, faulty_disk, is_done, is_due, one_fault};
 
-    /// A disk whose call with this number fails; where it is a write, `done` says whether the disk takes it.
+    /// A disk whose call with the number `at` fails. If that call is a write, `done` says whether the disk beneath
+    /// takes it.
     pub fn new(disk: D, at: u32, done: bool) -> OneFault<D>
         ensures disk { faulty_disk result ≡ disk }
         ensures left { calls_left result ≡ at }
@@ -38,7 +39,7 @@ impl<D: Sectors> OneFault<D> {
         }
     }
 
-    /// Where the call failed; None where it is still to come.
+    /// The place at which the call failed. None if that call is still to come.
     pub fn place(&self) -> Option<Place>
         ensures { result ≡ fault_place self.now }
     {
@@ -60,7 +61,7 @@ impl<D: Sectors> OneFault<D> {
         disk
     }
 
-    /// Counts a call, and tells whether it is the one that fails.
+    /// Counts a call, and returns whether it is the one that fails.
     fn is_hit(&mut self, place: Place) -> bool
         ensures hit { IsTrue result → is_due self.old × (self.new.place ≡ Some place) }
         ensures missed { result ≡ false → (is_due self.old → ⊥) × (self.new.place ≡ self.old.place) }
@@ -90,13 +91,13 @@ impl<D: Sectors> Sectors for OneFault<D> {
 
     ghost history = { one_fault D.history };
 
-    /// Passes a read on where it isn't the call that fails.
+    /// Passes a read on if it isn't the call that fails.
     fn read(&mut self, place: Place, to: &mut [u8; 256]) -> Result<(), DeviceFault>
         ensures device { ReadsSector (one_fault D.history) self.old self.new place to.new device_fault result }
         // the call that fails reads nothing
         ensures due { is_due self.old
             → IsErr result × (faulty_disk self.new ≡ faulty_disk self.old) × (fault_place self.new ≡ Some place) }
-        // else the disk beneath answers
+        // otherwise the disk beneath answers
         ensures passes { (is_due self.old → ⊥)
             → ReadsSector D.history (faulty_disk self.old) (faulty_disk self.new) place to.new device_fault result
             × (fault_place self.new ≡ fault_place self.old) }
@@ -117,15 +118,15 @@ impl<D: Sectors> Sectors for OneFault<D> {
         }
     }
 
-    /// Passes a write on where it isn't the call that fails, or where that is to be done.
+    /// Passes a write on if it isn't the call that fails, or if the disk is to take the failing write.
     fn write(&mut self, place: Place, from: &[u8; 256]) -> Result<(), DeviceFault>
         ensures device { WritesSector (one_fault D.history) self.old self.new place from.now device_fault result }
-        // the call that fails is done or not, as it was told
+        // the disk takes the failing write or not, as `done` says
         ensures due { is_due self.old → IsErr result × (fault_place self.new ≡ Some place) }
         ensures undone { is_due self.old → is_done self.old ≡ false → faulty_disk self.new ≡ faulty_disk self.old }
         ensures reaches { is_due self.old → is_done self.old ≡ true
             → Reaches D.history (faulty_disk self.old) (faulty_disk self.new) place from.now }
-        // else the disk beneath answers
+        // otherwise the disk beneath answers
         ensures passes { (is_due self.old → ⊥)
             → WritesSector D.history (faulty_disk self.old) (faulty_disk self.new) place from.now device_fault result
             × (fault_place self.new ≡ fault_place self.old) }

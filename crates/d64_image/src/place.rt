@@ -1,4 +1,4 @@
-//! Where a sector lies: its track and its sector, which together are on the disk.
+//! The place of a sector: its track and its sector, which together are on the disk.
 ghost use Rattle.std.specs.Prelude.{◌<◌, ◌≡◌, ◌↔◌, IsSome, Some};
 ghost use Rattle.d64_image.specs.Geometry.{sectors_on};
 
@@ -10,7 +10,7 @@ pub struct Place {
     ghost on_disk: { sector < sectors_on track },
 }
 
-/// How many sectors a track has, and 0 where there is no such track: the four speed zones of the 1541.
+/// The number of sectors of a track, and 0 if there is no such track: the four speed zones of the 1541.
 fn sectors_of(track: u8) -> u8
     ensures { result ≡ sectors_on track }
 {
@@ -23,7 +23,7 @@ fn sectors_of(track: u8) -> u8
     }
 }
 
-/// For each track how many sectors the tracks below it have together.
+/// For each track the number of sectors on all tracks below it.
 const BELOW: [u16; 36] = [
     0, 0, 21, 42, 63, 84, 105, 126, 147, 168, 189, 210, 231, 252, 273, 294, 315, 336, 357, 376,
     395, 414, 433, 452, 471, 490, 508, 526, 544, 562, 580, 598, 615, 632, 649, 666,
@@ -32,7 +32,7 @@ const BELOW: [u16; 36] = [
 impl Place {
     ghost use Rattle.d64_image.specs.Places.{index_of, place_at, sector_of, track_of};
 
-    /// The place with this track and this sector; None exactly where the disk has no such sector.
+    /// The place with this track and this sector. None exactly if the disk has no such sector.
     pub fn new(track: u8, sector: u8) -> Option<Place>
         ensures value { result ≡ place_at track sector }
         ensures on_disk { IsSome result ↔ (sector < sectors_on track) }
@@ -44,7 +44,7 @@ impl Place {
         }
     }
 
-    /// The place with this track and this sector, where the caller knows that the disk has it: nothing is asked.
+    /// The place with this track and this sector. The caller knows that the disk has it: nothing is checked.
     pub fn known(track: u8, sector: u8) -> Place
         requires { IsSome (place_at track sector) }
         ensures { place_at track sector ≡ Some result }
@@ -66,7 +66,7 @@ impl Place {
         self.sector
     }
 
-    /// Where the sector stands in an image, in sectors, from 0 to 682: track by track, and sector by sector.
+    /// The position of the sector in an image, in sectors, from 0 to 682: track by track, and sector by sector.
     pub fn index(self) -> usize
         ensures value { result ≡ index_of self }
         ensures bound { result < 683 }

@@ -4,12 +4,12 @@ ghost use Rattle.d64_image.specs.Keeps.{Keeps, KeepsSector};
 use crate::place::Place;
 use std::io;
 
-/// A file that keeps the sectors of a disk, and says what it keeps and kept, where that is known.
+/// A file that keeps the sectors of a disk. Its history says what it keeps and kept, if that is known.
 pub trait SectorFile {
     /// What a file of this type keeps and kept, and how often it failed.
     ghost keeps: { Keeps Self };
 
-    /// Keeps a sector. At an error it is kept, or the file is as before; nothing else was ever kept on the way.
+    /// Keeps a sector. At an error the sector is kept, or the file is as before. Nothing else was ever kept on the way.
     fn keep(&mut self, place: Place, from: &[u8; 256]) -> io::Result<()>
         ensures { KeepsSector keeps self.old self.new place from.now result };
 }

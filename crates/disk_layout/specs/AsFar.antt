@@ -1,4 +1,4 @@
--- Chains of sectors as far as they go, of a disk that is hurt too. Our own.
+-- Chains of sectors as far as they go, on damaged disks too. Our own.
 use Rattle.std.specs.Prelude.{◌≡◌, ◌⊎◌, ℕ, List, [], ◌∷◌, ◌++◌, Contains}
 use Rattle.d64_image.specs.Images.{Image}
 use Rattle.d64_image.specs.declared.place.Place.{Place}
@@ -14,7 +14,7 @@ StopsAt img ps last u =
     EndsAt img last u
     ⊎ ((u ≡ 0) × (LinksNowhere img last ⊎ ((q : Place) × LinksTo img last q × Contains ps q)))
 
--- ps are the sectors that the links from p come to, in order and each once, as far as they go
+-- ps are the sectors that the links from p reach, in order and each once, as far as they go
 pub record IsWalk (img : Image) (p : Place) (ps : List Place) (u : ℕ) : Type 0 where
   pub front : List Place
   pub last : Place
@@ -23,7 +23,7 @@ pub record IsWalk (img : Image) (p : Place) (ps : List Place) (u : ℕ) : Type 0
   pub stops : StopsAt img ps last u
   pub once : EachOnce ps
 
--- nothing but the device fails such a walk
+-- the only error of such a walk is the device's
 abbrev pub IsDeviceFault : (Place → Type 0) → Fault → Type 0
 IsDeviceFault failed_at (Device p) = failed_at p
 IsDeviceFault failed_at _ = ⊥

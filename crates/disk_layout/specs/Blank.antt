@@ -41,17 +41,19 @@ use Rattle.disk_layout.specs.Entries.{rel_entry}
 use Rattle.disk_layout.specs.Rest.{slot_name}
 use Rattle.disk_layout.specs.Side.{link_bytes, side_sector}
 
--- STOCK: a data block of 14 empty records of 18 bytes at 17/0, and its side sector at 17/1
+-- STOCK's data block: 14 empty records of 18 bytes at 17/0
 abbrev pub stock_block : Place
 stock_block = record { track = 17; sector = 0; on_disk = lit< tt }
 
+-- STOCK's side sector: 17/1
 abbrev pub stock_side : Place
 stock_side = record { track = 17; sector = 1; on_disk = lit< tt }
 
--- REQUESTS: data blocks of two empty records of 127 bytes, from 17/2 on, and their side sector at 17/3
+-- REQUESTS' first data block: 17/2. Its data blocks have two empty records of 127 bytes each
 abbrev pub requests_block : Place
 requests_block = record { track = 17; sector = 2; on_disk = lit< tt }
 
+-- REQUESTS' side sector: 17/3
 abbrev pub requests_side : Place
 requests_side = record { track = 17; sector = 3; on_disk = lit< tt }
 
@@ -59,13 +61,15 @@ requests_side = record { track = 17; sector = 3; on_disk = lit< tt }
 abbrev pub request_blocks : ℕ → ℕ
 request_blocks tills = (tills + 1) / 2
 
--- where data block k of REQUESTS lies, counted from 0: 17/2, 17/4 to 17/20, then 19/0 to 19/13
+-- the track of data block k of REQUESTS, counted from 0: the blocks are at 17/2, 17/4 to 17/20, then 19/0 to 19/13
 abbrev pub request_track : ℕ → ℕ
 request_track k = if nat_lt k 18 then 17 else 19
 
+-- its sector: 2, then 4 to 20 on track 17, then 0 to 13 on track 19
 abbrev pub request_sector : ℕ → ℕ
 request_sector k = if nat_lt k 1 then 2 else (if nat_lt k 18 then k + 3 else k - 18)
 
+-- p is the place of data block k of REQUESTS
 abbrev pub IsRequestPlace : ℕ → Place → Type 0
 IsRequestPlace k p = (p.track ≡ request_track k) × (p.sector ≡ request_sector k)
 
@@ -74,15 +78,15 @@ pub record AreRequestPlaces (blocks : List Place) (n : ℕ) : Type 0 where
   pub count : length blocks ≡ n
   pub each : (k : ℕ) (p : Place) → slice_get blocks k ≡ Some p → IsRequestPlace k p
 
--- how many sectors of a track are taken, the lowest ones, where REQUESTS has n data blocks
+-- how many sectors of a track are taken, the lowest ones, if REQUESTS has n data blocks
 abbrev pub taken_on : ℕ → ℕ → ℕ
 taken_on n t = if nat_eq t 17 then min (n + 3) 21 else (if nat_eq t 18 then 2 else (if nat_eq t 19 then n - 18 else 0))
 
--- what stands behind the map: the disk's name, two A0, its id, A0, `2A`, four A0, and zeros
+-- the bytes after the map: the disk's name, two A0, its id, A0, `2A`, four A0, and zeros
 abbrev pub names_of : List ℕ → List ℕ → List ℕ
 names_of name id = slot_name name ++ (160 ∷ 160 ∷ (id ++ (160 ∷ 50 ∷ 65 ∷ 160 ∷ 160 ∷ 160 ∷ 160 ∷ replicate 85 0)))
 
--- 18/0: bytes 0-3, each track's count and bits, and what stands behind the map.
+-- 18/0: bytes 0-3, each track's count and bits, and the bytes after the map.
 -- For 1 block track 17 reads 11 F0 FF 1F, for 32 blocks 00 00 00 00 and track 19 then 05 00 C0 07
 pub record IsBlankMap (bytes : Sector) (name id : List ℕ) (n : ℕ) : Type 0 where
   pub start : take 4 bytes ≡ 18 ∷ 1 ∷ 65 ∷ 0 ∷ []
@@ -97,7 +101,7 @@ blank_directory n =
     (0 ∷ 255 ∷ []) ++ (rel_entry (codes "STOCK") stock_block stock_side 18 2
     ++ ((0 ∷ 0 ∷ []) ++ (rel_entry (codes "REQUESTS") requests_block requests_side 127 (n + 1) ++ replicate 192 0)))
 
--- a data block of so many empty records of L bytes, which links to the next block or ends with this index
+-- a data block of this number of empty records of L bytes, which links to the next block or ends with this index
 pub record IsEmptyBlock (bytes : Sector) (next : Option Place) (last L records : ℕ) : Type 0 where
   pub link : take 2 bytes ≡ link_bytes next last
   pub filled : (j : ℕ) → j < 254 → slice_index bytes (2 + j) ≡ filler L records j

@@ -11,7 +11,7 @@ use Rattle.disk_layout.specs.Rest.{IsFirst}
 use Rattle.disk_layout.specs.Room.{IsTopOf}
 use Rattle.disk_layout.specs.Whole.{IsWhole}
 
--- STOCK: its block ends with index 253, behind 14 records of 18 bytes
+-- STOCK: its block ends with index 253, after 14 records of 18 bytes
 abbrev pub stock_file : ℕ → File
 stock_file n = record {
   slot = slot_in directory_start (blank_directory n) 0;
@@ -51,9 +51,9 @@ abbrev pub BlankIsWhole : Type 0
 BlankIsWhole = (old new : Image) (name id : List ℕ) (tills : ℕ) → 1 ≤ tills → tills ≤ 64 → IsImage new
     → IsBlank old new name id tills → IsWhole new
 
--- the greatest record number of STOCK on the blank image, with so many tills: of the 664 sectors outside track 18
--- REQUESTS
--- owns its data blocks and one side sector, and so many data blocks of STOCK need six. 9256 for 1 till, 8819 for 64
+-- The greatest record number of STOCK on the blank image, with this number of tills: 9256 for 1 till, 8819 for 64.
+-- There are 664 sectors outside track 18. REQUESTS owns its data blocks and one side sector. STOCK then needs six side
+-- sectors.
 abbrev pub blank_top : ℕ → ℕ
 blank_top tills = 254 * (664 - (request_blocks tills + 1) - 6) / 18
 

@@ -6,9 +6,8 @@ use Rattle.disk_layout.specs.Blank.{IsBlankMap, IsEmptyBlock, blank_directory, r
 use Rattle.disk_layout.specs.Directory.{directory_start, map_place}
 use Rattle.disk_layout.specs.Side.{side_sector}
 
--- sector i stands at p and has these bytes: the map, the directory, STOCK's block and side sector, REQUESTS' side
--- sector,
--- and then its blocks
+-- sector i is the one at p and has these bytes: the map, the directory, STOCK's block and side sector, REQUESTS' side
+-- sector, and then its blocks
 abbrev pub IsWritten : List ℕ → List ℕ → List Place → ℕ → Place → Sector → Type 0
 IsWritten name id blocks zero p bytes = (p ≡ map_place) × IsBlankMap bytes name id (length blocks)
 IsWritten name id blocks (suc zero) p bytes = (p ≡ directory_start) × (bytes ≡ blank_directory (length blocks))

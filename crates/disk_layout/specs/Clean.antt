@@ -15,7 +15,7 @@ pub record IsExactFile (img : Image) (f : File) : Type 0 where
       → sector img q ≡ side_sector j f.blocks f.sides (record_length f.slot)
   pub count : count_field f.slot ≡ length f.blocks + sides_for (length f.blocks)
 
--- the layout of a clean image: relative files are exact, and the map is that of what is owned
+-- the layout of a clean image: relative files are exact, and the map has exactly the owned sectors taken
 pub record IsCleanLayout (img : Image) (l : Layout) : Type 0 where
   pub layout : IsLayout img l
   pub files : AllByRecursion (λ f. IsTrue (is_rel f.slot) → IsExactFile img f) l.files

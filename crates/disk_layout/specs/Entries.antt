@@ -1,4 +1,4 @@
--- Entries: a new one, and, in our own words for what growth leaves, some with their block counts left out.
+-- Entries: a new one, and entries whose block counts are left out. The latter are our own, for what growth leaves.
 use Rattle.std.specs.Prelude.{ℕ, ◌⊎◌, ◌<◌, ◌≤◌, ◌+◌, ◌*◌, length, slice_index, ◌≡◌, List, take, map, ◌++◌, ◌∷◌}
 use Rattle.std.specs.Prelude.{replicate}
 use Rattle.byteorder.specs.Endian.{little_bytes}
@@ -23,13 +23,13 @@ uncounted s = record { sector = s.sector; number = s.number; bytes = take 30 s.b
 abbrev pub SameEntries : List Slot → List Slot → Type 0
 SameEntries es fs = map uncounted es ≡ map uncounted fs
 
--- the bytes of a directory sector change in the block count of slot n alone
+-- the bytes of a directory sector change only in the block count of slot n
 pub record IsRecounted (old new : Sector) (n : ℕ) : Type 0 where
   pub old_long : length old ≡ 256
   pub long : length new ≡ 256
   pub same : (i : ℕ) → (i < 32 * n + 30) ⊎ (32 * n + 32 ≤ i) → slice_index new i ≡ slice_index old i
 
--- the bytes of a directory sector change in the block counts of its slots alone
+-- the bytes of a directory sector change only in the block counts of its slots
 pub record IsRecountedAll (old new : Sector) : Type 0 where
   pub old_long : length old ≡ 256
   pub long : length new ≡ 256

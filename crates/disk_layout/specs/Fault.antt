@@ -1,4 +1,5 @@
--- What a told fault means at its place. Our own: each is a fact of the image, said without the walk that found it.
+-- What a reported fault means at its place. Our own: each is a fact of the image, stated without the walk that found
+-- it.
 use Rattle.std.specs.Prelude.{
   ◌≡◌,
   ◌≢◌,
@@ -94,13 +95,14 @@ pub record IsSideSector (img : Image) (s : Slot) (blocks : List Place) (j : ℕ)
   pub number : length before ≡ j
   pub leads : Leads img first before p
 
--- who may own a sector
+-- what can own a sector
 pub data Owner : Type 0 where
   map_itself : Owner
   the_directory : Owner
   blocks_of : Slot → Owner
   sides_of : Slot → Owner
 
+-- the owner has the sector at p, as far as chains and side sectors are good
 abbrev pub Owns : Image → Owner → Place → Type 0
 Owns img map_itself p = p ≡ map_place
 Owns img the_directory p = IsDirectorySector img p
@@ -128,7 +130,7 @@ pub record IsRelOf (l : Layout) (p : Place) (f : File) : Type 0 where
 abbrev pub nowhere : Place → Type 0
 nowhere _ = ⊥
 
--- what survey may tell: a fact of the image, or of the places at which the device failed
+-- what survey may report: a fact of the image, or of the places at which the device failed
 abbrev pub Holds : (Place → Type 0) → Image → Fault → Type 0
 Holds failed_at img (BadLink p) =
     (IsDirectorySector img p × LinksNowhere img p)
@@ -155,7 +157,7 @@ Holds failed_at img (CountWrong p) = ⊥
 Holds failed_at img (MapWrong p) = ⊥
 Holds failed_at img (Device p) = failed_at p
 
--- what check may tell as well
+-- what check may report as well
 abbrev pub HoldsOfClean : (Place → Type 0) → Image → Fault → Type 0
 HoldsOfClean failed_at img (BadSide p) = Holds failed_at img (BadSide p) ⊎ ((l : Layout) × IsLayout img l × (f : File)
     × Contains l.files f × IsTrue (is_rel f.slot) × (j : ℕ) × (slice_get f.sides j ≡ Some p)
@@ -191,6 +193,6 @@ abbrev pub of_device : Fault → Bool
 of_device (Device _) = true
 of_device _ = false
 
--- Device is told only where the device failed, and any other answer only where no failure was counted
+-- Device is returned only if the device failed, and any other answer only if no failure was counted
 abbrev pub TellsFault : {D T : Type 0} → History D → D → D → Result T Fault → Type 0
 TellsFault S old new result = TellsOf of_device S old new result

@@ -1,4 +1,4 @@
--- Where a directory sector links to (1541 User's Guide, directory format).
+-- The sector to which a directory sector links (1541 User's Guide, directory format).
 use Rattle.std.specs.Prelude.{◌⊎◌}
 use Rattle.d64_image.specs.Images.{Sector}
 use Rattle.d64_image.specs.declared.place.Place.{Place}

@@ -14,6 +14,7 @@ use Rattle.disk_layout.specs.declared.faults.Fault.TheVariants.{
   Unclosed,
 }
 
+-- the number by which a fault is reported
 abbrev pub number_of : Fault → ℕ
 number_of (BadLink _) = 1
 number_of (Loop _) = 2

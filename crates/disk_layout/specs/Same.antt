@@ -37,6 +37,7 @@ pub record Stays : Type 0 where
   pub bytes : List Sector
   pub sides : List Place
 
+-- what stays of a file of an image
 abbrev pub stays_of : Image → File → Stays
 stays_of img f = record {
   sector = f.slot.sector;
@@ -53,7 +54,7 @@ abbrev pub IsCountByte : List ℕ → ℕ → Type 0
 IsCountByte bytes i = (30 ≤ i % 32) × ((slice_index bytes (32 * (i / 32) + 2) ≡ 132)
     ⊎ (slice_index bytes (32 * (i / 32) + 2) ≡ 196))
 
--- the directory sector at p is as it was but for block counts of closed REL entries
+-- the directory sector at p is as it was, except for block counts of closed REL entries
 abbrev pub SameButCounts : Image → Image → Place → Type 0
 SameButCounts old new p = (i : ℕ) → i < 256 → IsCountByte (sector old p) i ⊎ (byte new p i ≡ byte old p i)
 

@@ -29,7 +29,7 @@ abbrev pub link_bytes : Option Place → ℕ → List ℕ
 link_bytes (Some q) u = place_bytes q
 link_bytes None u = 0 ∷ u ∷ []
 
--- the list with zeros behind it, n bytes in all
+-- the list with zeros after it, n bytes in all
 unfoldable pub padded : ℕ → List ℕ → List ℕ
 padded n xs = xs ++ replicate (n - length xs) 0
 

@@ -1,4 +1,4 @@
--- What the sectors of track 18 hold beside the map's bits (1541 User's Guide, directory format and disk name).
+-- What the sectors of track 18 hold besides the map's bits (1541 User's Guide, directory format and disk name).
 use Rattle.std.specs.Prelude.{
   ◌≡◌,
   ◌≢◌,
@@ -19,8 +19,8 @@ use Rattle.std.specs.Prelude.{
 use Rattle.d64_image.specs.Images.{Sector}
 use Rattle.disk_layout.specs.Map.{map_count, numbers_below}
 
--- a name without its padding: the bytes before the first A0, all of them where there is none.
--- 53 54 4F 43 4B A0 A0 .. gives `STOCK`
+-- a name without its padding: the bytes before the first A0, all of them if there is none.
+-- 53 54 4F 43 4B A0 A0 ... gives `STOCK`
 pub record IsUnpadded (padded name : List ℕ) : Type 0 where
   pub front : name ≡ take (length name) padded
   pub bytes : (k : ℕ) → k < length name → slice_index padded k ≢ 160

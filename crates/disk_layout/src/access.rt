@@ -1,4 +1,4 @@
-//! Sectors read and written by calls of the layout: a device's failure is told as a fault of the sector.
+//! Sectors read and written for the layout: a device's failure is returned as a fault of the sector.
 ghost use Rattle.std.specs.Prelude.{◌≡◌};
 ghost use Rattle.d64_image.specs.Calls.{ReadsSector, WritesSector};
 ghost use Rattle.d64_image.specs.History.{WritesNothing};
@@ -9,21 +9,21 @@ ghost use Rattle.disk_layout.specs.declared.faults.Fault.TheVariants.{Device};
 use crate::faults::Fault;
 use d64_image::{Place, Sectors};
 
-/// Reads a sector as it was last written, of 256 bytes.
+/// Reads the 256 bytes of a sector as they were last written.
 ///
-/// `Device` at this place is told where the device failed there, and no other fault; the bytes that were read are then
-/// any bytes. The disk is the same at each answer.
+/// The only error is `Device` at this place: the device failed there, and the buffer holds any bytes. The disk is the
+/// same after each call.
 pub fn read_sector<D: Sectors>(disk: &mut D, place: Place, to: &mut [u8; 256]) -> Result<(), Fault>
     ensures { ReadsSector D.history disk.old disk.new place to.new (Device place) result }
 {
     disk.read(place, to).map_err(|_| Fault::Device(place))
 }
 
-/// Writes a sector of 256 bytes.
+/// Writes the 256 bytes of a sector.
 ///
-/// `Device` at this place is told where the device failed there, and no other fault; the sector is then written or as
-/// before. Nothing else changes, and nothing else was ever held.
-// In line, as all on the way to a device's write is: a return right behind a call of the system is dear.
+/// The only error is `Device` at this place: the device failed there, and the sector is written or as before. Nothing
+/// else changes, and nothing else was ever held.
+// In line, as all on the way to a device's write is: a return right after a system call is slow.
 #[inline(always)]
 pub fn write_sector<D: Sectors>(disk: &mut D, place: Place, from: &[u8; 256]) -> Result<(), Fault>
     ensures { WritesSector D.history disk.old disk.new place from.now (Device place) result }
@@ -31,7 +31,7 @@ pub fn write_sector<D: Sectors>(disk: &mut D, place: Place, from: &[u8; 256]) ->
     disk.write(place, from).map_err(|_| Fault::Device(place))
 }
 
-/// Writes a sector, as `write_sector` does, where its bytes are others than those that it has, which are handed in.
+/// Writes a sector, as `write_sector` does, if the wanted bytes differ from those that it has. The caller passes both.
 pub fn write_other<D: Sectors>(
     disk: &mut D,
     place: Place,

@@ -5,12 +5,12 @@ use crate::directory::{DIRECTORY_TRACK, map_place};
 use crate::views::BamView;
 use d64_image::{DeviceFault, Place, Sectors};
 
-/// The 256 bytes of 18/0, in memory: read, changed, and then written back by the caller. Bytes 4 to 143 are the map:
-/// four for each track, its count of free sectors and a bit for each sector, 1 for free. The other bytes, the disk's
-/// name among them, no call changes.
+/// The 256 bytes of 18/0, in memory: the caller reads them, changes them, and then writes them back. Bytes 4 to 143 are
+/// the map. It has four bytes for each track: its count of free sectors and a bit for each sector, 1 for free. No call
+/// changes the other bytes, such as the disk's name.
 #[derive(Clone, Copy, Debug, PartialEq, Eq)]
 pub struct Bam {
-    /// The bytes as the disk has them or is to have them.
+    /// The bytes that the disk has or is to have.
     pub bytes: [u8; 256],
     pub ghost whole: { length bytes ≡ 256 },
 }
@@ -29,7 +29,7 @@ impl Bam {
     }
 
     /// Reads 18/0.
-    // Out of line: a caller clears 256 bytes for it at its start, also where it doesn't come to read.
+    // Out of line: a caller clears 256 bytes for it at its start, even if it never reads.
     #[inline(never)]
     pub fn read<D: Sectors>(disk: &mut D) -> Result<Bam, DeviceFault>
         ensures ok { IfOk result (λ map. map.bytes ≡ sector (D.history.image disk.old) map_place) }
@@ -42,21 +42,22 @@ impl Bam {
         Ok(Bam { bytes })
     }
 
-    /// The same bytes as they are read: name, id and counts.
+    /// A view of these bytes: name, id and counts.
     pub fn view(&self) -> BamView<'_>
         ensures { result.bytes.now ≡ self.now.bytes }
     {
         BamView::new(&self.bytes)
     }
 
-    /// Whether the map calls the sector free.
+    /// Whether the sector is free in the map.
     pub fn is_free(&self, place: Place) -> bool
         ensures { IsTrue result ↔ IsFree self.now.bytes place }
     {
         self.view().is_free(place)
     }
 
-    /// Takes a free sector: its bit becomes 0, and its track's count one less. Where it isn't free nothing changes.
+    /// Takes a free sector: its bit becomes 0, and its track's count one less. If the sector isn't free, nothing
+    /// changes.
     pub fn take(&mut self, place: Place)
         ensures taken { IsFree self.old.bytes place → IsTaken self.old.bytes self.new.bytes place }
         ensures not_free { ¬ (IsFree self.old.bytes place) → self.new.bytes ≡ self.old.bytes }
@@ -69,7 +70,7 @@ impl Bam {
         }
     }
 
-    /// Gives a sector back: its bit becomes 1, and its track's count one more. Where it is free nothing changes.
+    /// Gives a sector back: its bit becomes 1, and its track's count one more. If the sector is free, nothing changes.
     pub fn give(&mut self, place: Place)
         ensures given { ¬ (IsFree self.old.bytes place) → IsGiven self.old.bytes self.new.bytes place }
         ensures free { IsFree self.old.bytes place → self.new.bytes ≡ self.old.bytes }
@@ -83,7 +84,7 @@ impl Bam {
     }
 
     /// The next sector for data: the first free one, on the tracks 17, 19, 16, 20 and so on to 1 and 35, the lowest
-    /// sector first; None where all are taken. Track 18 is left out.
+    /// sector first. Track 18 is left out. None if all others are taken.
     pub fn pick(&self) -> Option<Place>
         ensures { MatchOption result (IsFullDisk self.now.bytes) (IsFirstFree self.now.bytes) }
     {
@@ -98,7 +99,7 @@ impl Bam {
         None
     }
 
-    /// The next sector for the directory: the lowest free one of track 18, None where all are taken.
+    /// The next sector for the directory: the lowest free one of track 18. None if all of them are taken.
     pub fn pick_directory(&self) -> Option<Place>
         ensures { MatchOption result (IsFullTrack self.now.bytes 18) (IsFirstOn self.now.bytes 18) }
     {

@@ -14,13 +14,13 @@ use crate::side::side_bytes;
 use arrayvec::ArrayVec;
 use d64_image::{DeviceFault, Place, Sectors};
 
-/// How long a record of STOCK is, in bytes.
+/// The length of a record of STOCK, in bytes.
 const STOCK_LENGTH: u8 = 18;
 
-/// How long a record of REQUESTS is, in bytes.
+/// The length of a record of REQUESTS, in bytes.
 const REQUEST_LENGTH: u8 = 127;
 
-/// The place behind the one of that number.
+/// The place after the one with this number.
 fn next_of(places: &[Place], number: usize) -> Option<Place>
     requires { number < length places.now }
     ensures { result ≡ slice_get places.now (number + 1) }
@@ -28,7 +28,7 @@ fn next_of(places: &[Place], number: usize) -> Option<Place>
     places.get(number + 1).copied()
 }
 
-/// A data block of empty records, which links to the next block or ends with this index.
+/// A data block of empty records. It links to the next block, or, as the last one, has the index `last` in byte 1.
 fn empty_block(next: Option<Place>, last: u8, length: u8, records: u8) -> [u8; 256]
     requires { 0 < length }
     ensures { IsEmptyBlock result next last length records }
@@ -45,7 +45,7 @@ fn empty_block(next: Option<Place>, last: u8, length: u8, records: u8) -> [u8; 2
     bytes
 }
 
-/// The second file's data block of that number, with its bytes.
+/// The second file's data block with this number, and its bytes.
 fn request_sector(requests: &[Place], number: usize) -> (Place, [u8; 256])
     requires { number < length requests.now }
     ensures place { slice_get requests.now number ≡ Some result.0 }
@@ -83,7 +83,7 @@ fn directory_bytes(blocks: u8) -> [u8; 256]
     bytes
 }
 
-/// The sector of that number among those that are written, with its bytes: map, directory, then the files' sectors.
+/// The sector with this number among those that are written, and its bytes: map, directory, then the files' sectors.
 fn blank_sector(number: usize, name: &[u8], id: [u8; 2], requests: &[Place]) -> (Place, [u8; 256])
     requires name { length name.now ≤ 16 }
     requires blocks { length requests.now ≤ 32 }
@@ -112,8 +112,8 @@ fn blank_sector(number: usize, name: &[u8], id: [u8; 2], requests: &[Place]) -> 
     }
 }
 
-/// Where the second file's data block of that number lies: behind the first file's sectors, and behind its own side
-/// sector, as blocks are picked on an empty disk.
+/// The place of the second file's data block with this number. As blocks are picked on an empty disk, it comes after
+/// the first file's sectors and after the second file's side sector.
 fn request_place(number: u8) -> Place
     requires { number < 32 }
     ensures { IsRequestPlace number result }
@@ -137,12 +137,12 @@ fn request_places(blocks: u8) -> ArrayVec<Place, 32>
     places
 }
 
-/// Writes the blank image: the disk's name and id, a directory with two relative files, and a map that calls all but
-/// their sectors free. STOCK has records of 18 bytes, 14 empty ones in one block. REQUESTS has records of 127 bytes,
-/// two to a block, an empty one for each till, so one more where their number is odd.
+/// Writes the blank image: the disk's name and id, a directory with two relative files, and a map in which all sectors
+/// but theirs are free. STOCK has records of 18 bytes, 14 empty ones in one block. REQUESTS has records of 127 bytes,
+/// two to a block. It has an empty record for each till, and one more if the number of tills is odd.
 ///
-/// No sector is written that stays 0 in the image: the disk handed in holds zeros, and where it doesn't, the sectors
-/// that the image has no use for stay as they are. At an error some of the sectors are written.
+/// Sectors that are 0 in the image aren't written: the caller passes a disk of zeros. On any other disk, the sectors
+/// that the image doesn't use stay as they are. At an error some of the sectors are written.
 pub fn blank_image<D: Sectors>(
     disk: &mut D,
     name: &[u8],
@@ -153,7 +153,7 @@ pub fn blank_image<D: Sectors>(
     requires some { 1 ≤ tills }
     requires few { tills ≤ 64 }
     ensures ok { OnOk result (IsBlank (D.history.image disk.old) (D.history.image disk.new) name.now id tills) }
-    // whatever the disk held before: the law blank_is_clean says with which layout
+    // clean whatever the disk held before: the law blank_is_clean names the layout
     ensures clean { OnOk result (IsClean (D.history.image disk.new)) }
     ensures moments { Changes D.history disk.old disk.new (5 + request_blocks tills)
         (SameElsewhere (request_blocks tills) (D.history.image disk.old)) }

@@ -2,7 +2,7 @@
 ghost use Rattle.std.specs.Prelude.{◌≡◌};
 ghost use Rattle.disk_layout.specs.BlankLayout.{BlankHasTop, BlankIsClean, BlankIsWhole, blank_top};
 
-/// The blank image is clean, whatever the disk held before: its directory, its two files and its map agree, each file
+/// The blank image is clean, whatever the disk held before. Its directory, its two files and its map agree. Each file
 /// is found by its name, and all its records are empty.
 pub fn blank_is_clean()
     ensures { BlankIsClean }

@@ -7,7 +7,7 @@ use crate::bam::Bam;
 use crate::entries::padded_name;
 use d64_image::Place;
 
-/// 18/0 with no sector free: what stands before the map, 140 bytes 0, the name and the id.
+/// 18/0 with no sector free: the bytes before the map, 140 zeros, the name and the id.
 fn blank_header(name: &[u8], id: [u8; 2]) -> [u8; 256]
     requires { length name.now ≤ 16 }
     ensures { result ≡ (18 ∷ 1 ∷ 65 ∷ 0 ∷ []) ++ (replicate 140 0 ++ names_of name.now id) }
@@ -23,7 +23,7 @@ fn blank_header(name: &[u8], id: [u8; 2]) -> [u8; 256]
     bytes
 }
 
-/// How many sectors of a track are taken, the lowest ones.
+/// How many sectors of a track are taken: the lowest ones.
 fn taken_on(track: u8, blocks: u8) -> u8
     requires { blocks ≤ 32 }
     ensures value { result ≡ taken_on blocks track }
@@ -37,7 +37,7 @@ fn taken_on(track: u8, blocks: u8) -> u8
     }
 }
 
-/// Frees the sectors of a track from this one on, where none was free.
+/// Frees the sectors of a track from this one on. None of the track was free.
 fn free_from(map: &mut Bam, track: u8, taken: u8)
     requires taken { taken ≤ 24 }
     requires none { IsWithoutFree map.old.bytes track }
@@ -50,7 +50,7 @@ fn free_from(map: &mut Bam, track: u8, taken: u8)
     }
 }
 
-/// 18/0 of the blank image in which the second file has so many data blocks.
+/// 18/0 of the blank image in which the second file has this number of data blocks.
 pub(crate) fn blank_map(name: &[u8], id: [u8; 2], blocks: u8) -> [u8; 256]
     requires name { length name.now ≤ 16 }
     requires blocks { blocks ≤ 32 }

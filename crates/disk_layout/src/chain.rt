@@ -11,14 +11,17 @@ use crate::visited::Visited;
 use arrayvec::ArrayVec;
 use d64_image::{Place, Sectors};
 
-/// Follows the chain of sectors that begins at `first` to its end, and fills `places` with its sectors in order. The
-/// answer is the last sector's byte 1: the index of the last used byte there, below 2 where none is used.
+/// Follows the chain of sectors that begins at `first` to its end, and fills `places` with its sectors in order.
+/// Returns byte 1 of the last sector: the index of its last used byte, below 2 if none is used.
 ///
-/// A sector whose byte 0 isn't 0 links to the place in bytes 0-1, and a sector whose byte 0 is 0 ends the chain. Told
-/// are `BadLink` at a sector whose link is no place of the disk, `Loop` at a sector that the links come to a second
-/// time, and `Device` at a sector that the device failed to read. After a fault `places` has the sectors visited.
+/// A sector whose byte 0 isn't 0 links to the place in bytes 0-1. A sector whose byte 0 is 0 ends the chain.
 ///
-/// Each sector is read once at most. The disk has 683 sectors and none is visited twice, so 720 places suffice for
+/// Errors, after which `places` has the sectors visited:
+/// - `BadLink` at a sector whose link is no place of the disk;
+/// - `Loop` at a sector that the links reach a second time;
+/// - `Device` at a sector that the device failed to read.
+///
+/// Each sector is read at most once. The disk has 683 sectors and none is visited twice, so 720 places are enough for
 /// every chain.
 pub fn walk_chain<D: Sectors>(
     disk: &mut D,
@@ -28,7 +31,7 @@ pub fn walk_chain<D: Sectors>(
     ensures chain { IfOk result (λ u. IsChain (D.history.image disk.old) first places.new.items u) }
     ensures fault { IfErr result (HoldsOfChain (D.history.failed_at disk.new) (D.history.image disk.old) first) }
     ensures failures { TellsFault D.history disk.old disk.new result }
-    // no sector is read twice, and the disk has no more
+    // no sector is read twice, and a disk has 683
     ensures reads { OnlyReads D.history disk.old disk.new (length places.new.items) }
     ensures few { length places.new.items ≤ 683 }
 {

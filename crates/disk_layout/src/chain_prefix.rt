@@ -1,4 +1,4 @@
-//! Chains of sectors as far as they go: of a disk that is hurt too.
+//! Chains of sectors as far as they go, on damaged disks too.
 ghost use Rattle.std.specs.Prelude.{◌≤◌, IfErr, IfOk, length};
 ghost use Rattle.d64_image.specs.History.{OnlyReads};
 ghost use Rattle.disk_layout.specs.AsFar.{IsDeviceFault, IsWalk};
@@ -11,13 +11,14 @@ use crate::visited::Visited;
 use arrayvec::ArrayVec;
 use d64_image::{Place, Sectors};
 
-/// Follows the links from `first` on as far as they go, and fills `places` with the sectors that they come to, in order
-/// and each once: up to one that ends the chain (byte 0 is 0), one whose link is no place of the disk, or one that
-/// links to a sector visited before. The answer is byte 1 of the sector that ends the chain, which is the index of its
-/// last used byte, and 0 where none ends it.
+/// Follows the links from `first` on as far as they go, and fills `places` with the sectors that they reach, in order
+/// and each once. It stops at a sector that ends the chain (byte 0 is 0), whose link is no place of the disk, or that
+/// links to a sector visited before. Returns byte 1 of the sector that ends the chain, the index of its last used byte;
+/// 0 if no sector ends it.
 ///
-/// Nothing of the disk is a fault here. `Device` is told at a sector that the device failed to read; `places` then has
-/// the sectors visited, that one among them. Each sector is read once at most, so 720 places suffice.
+/// Nothing that the disk holds is an error here. `Device` is returned at a sector that the device failed to read;
+/// `places` then has the sectors visited, the failed one among them. Each sector is read at most once, so 720 places
+/// are enough.
 pub fn walk_as_far<D: Sectors>(
     disk: &mut D,
     first: Place,
@@ -26,7 +27,7 @@ pub fn walk_as_far<D: Sectors>(
     ensures walk { IfOk result (λ u. IsWalk (D.history.image disk.old) first places.new.items u) }
     ensures fault { IfErr result (IsDeviceFault (D.history.failed_at disk.new)) }
     ensures failures { TellsFault D.history disk.old disk.new result }
-    // no sector is read twice, and the disk has no more
+    // no sector is read twice, and a disk has 683
     ensures reads { OnlyReads D.history disk.old disk.new (length places.new.items) }
     ensures few { length places.new.items ≤ 683 }
 {

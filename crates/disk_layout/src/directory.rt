@@ -18,17 +18,17 @@ use d64_image::{Place, Sectors};
 /// The track of the map and of the directory, on which no data block is placed.
 pub(crate) const DIRECTORY_TRACK: u8 = 18;
 
-/// How many sectors a directory has at most: those of track 18 but the map's.
+/// The greatest number of sectors of a directory: those of track 18 except the map's.
 const DIRECTORY_SECTORS: usize = 18;
 
-/// 18/0, where the map of free sectors stands.
+/// 18/0, the sector of the map of free sectors.
 pub fn map_place() -> Place
     ensures { result ≡ names.map_place }
 {
     Place::known(DIRECTORY_TRACK, 0)
 }
 
-/// 18/1, where the directory begins.
+/// 18/1, the first sector of the directory.
 pub fn directory_start() -> Place
     ensures { result ≡ names.directory_start }
 {
@@ -42,8 +42,8 @@ fn is_directory_place(place: Place) -> bool
     place.track() == DIRECTORY_TRACK && place.sector() != 0
 }
 
-/// The sector to which a directory sector with these bytes links; None where it links to none that a directory may
-/// have: those of track 18 but the map's.
+/// The sector to which a directory sector with these bytes links. None if it links to no sector that a directory may
+/// have: those of track 18 except the map's.
 fn next_sector(bytes: &[u8; 256]) -> Option<Place>
     ensures { MatchOption result (LinksOut bytes.now) (λ next. Names bytes.now 0 next × IsDirectoryPlace next) }
 {
@@ -76,15 +76,16 @@ fn add_used(bytes: &[u8; 256], place: Place, slots: &mut ArrayVec<Slot, 144>)
     }
 }
 
-/// Lists the entries of the directory: the slots whose type byte isn't 0, in the order of the directory's sectors,
-/// which are linked from 18/1 on, and by number in each. The list handed in is emptied first; after a fault what it
-/// holds is open. An entry is listed whatever its type byte is, closed or not.
+/// Lists the entries of the directory: the slots whose type byte isn't 0, closed or not. They are in the order of the
+/// directory's sectors, which are linked from 18/1 on, and by number in each sector. The list passed in is emptied
+/// first; after an error it may hold anything.
 ///
-/// Told are `BadLink` at a sector whose link is no place of the disk, leaves track 18 or names 18/0, `Loop` at a sector
-/// that the links come to a second time, and `Device` at a sector that the device failed to read.
+/// Errors:
+/// - `BadLink` at a sector whose link is no place of the disk, leaves track 18 or names 18/0;
+/// - `Loop` at a sector that the links reach a second time;
+/// - `Device` at a sector that the device failed to read.
 ///
-/// Track 18 has eighteen sectors for the directory, each is read once at most, and each has eight slots: so 144
-/// suffice.
+/// Track 18 has eighteen sectors for the directory. Each is read at most once and has eight slots, so 144 are enough.
 pub fn read_directory<D: Sectors>(
     disk: &mut D,
     slots: &mut ArrayVec<Slot, 144>,

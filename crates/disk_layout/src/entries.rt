@@ -15,10 +15,10 @@ pub(crate) const REL: u8 = 0x84;
 /// The type byte of a closed relative file that is locked.
 pub(crate) const LOCKED_REL: u8 = 0xC4;
 
-/// Where in a slot the block count stands, low byte first.
+/// The index of the block count in a slot, low byte first.
 const COUNT_AT: usize = 30;
 
-/// A name as a slot or 18/0 holds it: sixteen bytes, shifted spaces behind the name.
+/// A name as a slot or 18/0 holds it: sixteen bytes, the name and then shifted spaces.
 pub fn padded_name(name: &[u8]) -> [u8; 16]
     requires { length name.now ≤ 16 }
     ensures { result ≡ slot_name name.now }
@@ -28,8 +28,8 @@ pub fn padded_name(name: &[u8]) -> [u8; 16]
     padded
 }
 
-/// Bytes 2 to 31 of the slot of a relative file that is closed: its name, its first data block, its first side sector,
-/// the length of its records, and how many data blocks and side sectors it has together.
+/// Bytes 2 to 31 of the slot of a closed relative file. They hold its name, its first data block, its first side
+/// sector, the length of its records, and the number of its data blocks and side sectors together.
 pub fn relative_entry(
     name: &[u8],
     first: Place,
@@ -53,7 +53,7 @@ pub fn relative_entry(
 }
 
 /// Writes the block count of the slot with this number, from 0 to 7, into the bytes of its directory sector. All other
-/// bytes stay, and all of them where that is the count already.
+/// bytes stay. If that is the count already, all bytes stay.
 pub fn put_count(bytes: &mut [u8; 256], number: u8, count: u16)
     requires { number < 8 }
     ensures count { (p : Place) → count_field (slot_in p bytes.new number) ≡ count }

@@ -6,17 +6,17 @@ use d64_image::Place;
 use std::error::Error;
 use std::fmt::{self, Display, Formatter};
 
-/// A fault of the layout, with the sector at which it was found. What each one says of the image at its place is
-/// defined beside it; which of several is told is open.
+/// A fault of the layout, with the sector at which it was found. The definitions `Holds` and `HoldsOfClean` say what
+/// each one means for the image at its place. If there are several faults, any of them may be returned.
 #[derive(Clone, Copy, Debug, PartialEq, Eq)]
 pub enum Fault {
-    /// A link, or an entry's first block, is no place of the disk, or leads the directory where it may not be.
+    /// A link, or an entry's first block, is no place of the disk, or a link of the directory leaves its sectors.
     BadLink(Place),
-    /// A chain comes to this sector a second time.
+    /// A chain reaches this sector a second time.
     Loop(Place),
     /// The sector has two owners among the map, the directory, chains and side sectors.
     OwnedTwice(Place),
-    /// A closed slot of this directory sector has a type that there isn't.
+    /// A closed slot of this directory sector has an unknown type.
     BadType(Place),
     /// A used slot of this directory sector isn't closed.
     Unclosed(Place),
@@ -26,7 +26,7 @@ pub enum Fault {
     BadLength(Place),
     /// A relative entry of this directory sector has a wrong block count.
     CountWrong(Place),
-    /// The map is wrong about this sector, or, at 18/0, about some track's number of free sectors.
+    /// The map is wrong about this sector, or, at 18/0, about a track's number of free sectors.
     MapWrong(Place),
     /// The device failed at this sector.
     Device(Place),
@@ -73,7 +73,7 @@ impl Fault {
     }
 }
 
-/// Its word and its place, as `LOOP 17/0`.
+/// Its word and its place, such as `LOOP 17/0`.
 impl Display for Fault {
     ghost output = { λ fault. Some (fault_text fault) };
 

@@ -2,10 +2,11 @@
 ghost use Rattle.std.specs.Prelude.{◌≡◌, ◌≢◌, ℕ, ◌+◌, ◌-◌, ◌*◌, ◌<◌, ◌≤◌, slice_index};
 ghost use Rattle.disk_layout.specs.Records.{filler};
 
-/// How many bytes of data a block has, behind the two of its link.
+/// How many bytes of data a block has, after the two of its link.
 pub const DATA: usize = 254;
 
-/// Begins the records from `begin` to below `end`, counted from 0, of `size` bytes each: FF at the first byte of each.
+/// Begins the records from `begin` to below `end`, counted from 0, of `size` bytes each, with FF as the first byte of
+/// each.
 fn start_records(bytes: &mut [u8; 256], at: u32, size: u32, begin: u32, end: u32)
     requires size { size ≤ 255 }
     requires end { end ≤ 1000000 }
@@ -19,9 +20,9 @@ fn start_records(bytes: &mut [u8; 256], at: u32, size: u32, begin: u32, end: u32
     }
 }
 
-/// Writes empty records into a data block, from byte `from` of a file's joined data on, of which this block holds those
-/// from `at` on, 254 of them in bytes 2 to 255: FF where one of the first `total` records of `length` bytes begins, 00
-/// elsewhere. The bytes before, and the link in bytes 0-1, stay.
+/// Writes empty records into a data block. `at` is the index of the block's first data byte in a file's joined data;
+/// bytes 2 to 255 hold the 254 bytes from there on. From index `from` on each of them becomes FF if one of the first
+/// `total` records of `length` bytes begins there, and otherwise 00. The bytes before, and the link in bytes 0-1, stay.
 pub fn fill(bytes: &mut [u8; 256], at: u32, from: u32, length: u8, total: u32)
     requires at { at ≤ 1000000 }
     requires total { total ≤ 1000000 }

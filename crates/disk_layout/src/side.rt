@@ -1,4 +1,4 @@
-//! Side sectors of relative files: where a file's data blocks lie, 120 to a side sector.
+//! Side sectors of relative files: they list a file's data blocks, 120 to a side sector.
 ghost use Rattle.std.specs.Prelude.{◌≡◌, ◌+◌, ◌*◌, ◌++◌, ◌<◌, ◌≤◌, ◌∷◌, [], length, slice_get, slice_index, take, drop};
 ghost use Rattle.std.specs.Prelude.{flat_map};
 ghost use Rattle.disk_layout.specs.Chain.{named_at};
@@ -6,19 +6,20 @@ ghost use Rattle.disk_layout.specs.Side.{link_bytes, place_bytes, pointers_of, s
 
 use d64_image::Place;
 
-/// How many data blocks a side sector points to at most.
+/// The greatest number of data blocks that a side sector points to.
 pub const POINTERS: usize = 120;
 
-/// How many data blocks a relative file has at most: as many as the pointers of six side sectors.
+/// The greatest number of data blocks of a relative file: the pointers of six side sectors.
 pub const MOST_BLOCKS: usize = 720;
 
-/// Where in a side sector its pointers to data blocks stand, two bytes each.
+/// The index of the pointers to data blocks in a side sector, two bytes each.
 pub const POINTERS_AT: usize = 16;
 
-/// How many side sectors a side sector lists at most: a file has six or fewer.
+/// The greatest number of side sectors that a side sector lists: a file has six or fewer.
 const LISTED: usize = 6;
 
-/// The data blocks that side sector `number` points to: 120 from block 120 * number on, as far as there are so many.
+/// The data blocks that side sector `number` points to: 120 from block 120 * number on, or fewer if the file ends
+/// there.
 fn pointers(number: u8, blocks: &[Place]) -> &[Place]
     ensures places { result.now ≡ pointers_of number blocks.now }
     ensures few { length result.now ≤ 120 }
@@ -28,7 +29,7 @@ fn pointers(number: u8, blocks: &[Place]) -> &[Place]
     &blocks[start..end]
 }
 
-/// Bytes 0-1 of side sector `number`, which has `used` pointers.
+/// Bytes 0-1 of side sector `number`, in which `used` pointers are used.
 fn link(number: u8, sides: &[Place], used: usize) -> (u8, u8)
     requires few { used ≤ 120 }
     ensures { result.0 ∷ result.1 ∷ [] ≡ link_bytes (slice_get sides.now (number + 1)) (15 + 2 * used) }
@@ -55,8 +56,8 @@ fn put_places(bytes: &mut [u8; 256], at: usize, places: &[Place])
 /// sectors and this record length.
 ///
 /// Bytes 0-1 name the next side sector; in the last they are 0 and the index of the last used byte. Byte 2 is the
-/// number and byte 3 the record length. From byte 4 on stand the places of all side sectors, in every side sector
-/// alike, and from byte 16 on those of data blocks 120 * number and on; what is left over of both lists is 0.
+/// number and byte 3 the record length. The places of all side sectors begin at byte 4, the same in every side sector.
+/// The places of the data blocks from 120 * number on begin at byte 16. Unused bytes of either list are 0.
 pub fn side_bytes(number: u8, blocks: &[Place], sides: &[Place], length: u8) -> [u8; 256]
     ensures { result ≡ side_sector number blocks.now sides.now length }
 {
@@ -72,7 +73,7 @@ pub fn side_bytes(number: u8, blocks: &[Place], sides: &[Place], length: u8) -> 
     bytes
 }
 
-/// A side sector as it is read: its fields, and the places that it names, taken from its bytes where they lie.
+/// A view of a side sector's bytes: its fields, and the places that it names.
 #[derive(Clone, Copy)]
 pub struct SideView<'a> {
     /// The sector's bytes.
@@ -87,14 +88,14 @@ impl<'a> SideView<'a> {
         SideView { bytes }
     }
 
-    /// The next side sector; None where bytes 0-1 name no place, as in the last one.
+    /// The next side sector. None if bytes 0-1 name no place, as in the last one.
     pub fn next(&self) -> Option<Place>
         ensures { result ≡ named_at self.now.bytes.now 0 }
     {
         Place::new(self.bytes[0], self.bytes[1])
     }
 
-    /// Its number among the file's side sectors, as its byte 2 has it: 0 to 5 in a sound file.
+    /// Its number among the file's side sectors, from its byte 2: 0 to 5 in a sound file.
     pub fn number(&self) -> u8
         ensures { result ≡ slice_index self.now.bytes.now 2 }
     {
@@ -108,8 +109,7 @@ impl<'a> SideView<'a> {
         self.bytes[3]
     }
 
-    /// The file's side sector of that number, from 0 to 5, as this one lists it; None where the two bytes name no
-    /// place.
+    /// The file's side sector with this number, from 0 to 5, as this one lists it. None if the two bytes name no place.
     pub fn side(&self, number: usize) -> Option<Place>
         requires listed { number < 6 }
         ensures { result ≡ named_at self.now.bytes.now (4 + 2 * number) }
@@ -117,7 +117,7 @@ impl<'a> SideView<'a> {
         Place::new(self.bytes[4 + 2 * number], self.bytes[5 + 2 * number])
     }
 
-    /// The data block of that number, from 0 to 119, among those that it points to; None where the two bytes name no
+    /// The data block with this number, from 0 to 119, among those that it points to. None if the two bytes name no
     /// place.
     pub fn block(&self, number: usize) -> Option<Place>
         requires listed { number < 120 }

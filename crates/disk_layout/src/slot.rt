@@ -1,4 +1,4 @@
-//! A slot of the directory: where it stands, and its 32 bytes.
+//! A slot of the directory: its place, and its 32 bytes.
 ghost use Rattle.std.specs.Prelude.{◌≡◌, ◌<◌};
 
 use d64_image::Place;
@@ -6,7 +6,7 @@ use d64_image::Place;
 /// A slot of the directory. A directory sector has eight, of 32 bytes each (1541 User's Guide, directory format).
 #[derive(Clone, Copy, Debug, PartialEq, Eq, Default)]
 pub struct Slot {
-    /// The directory sector that it stands in.
+    /// The directory sector of the slot.
     pub sector: Place,
     /// Its number there, from 0 to 7.
     pub number: u8,

@@ -1,4 +1,4 @@
-//! The sectors of track 18 as they are read: names, counts and entries, lent and not copied.
+//! Views of the sectors of track 18: names, counts and entries, borrowed and not copied.
 ghost use Rattle.std.specs.Prelude.{◌≡◌, ◌≢◌, ◌+◌, ◌<◌, ◌≤◌, ◌↔◌, IsTrue, length, slice_index, slice_range};
 
 use crate::directory::DIRECTORY_TRACK;
@@ -25,7 +25,7 @@ ghost use Rattle.disk_layout.specs.Layout.{is_rel_type};
 ghost use Rattle.disk_layout.specs.Map.{IsFree, map_count};
 ghost use Rattle.byteorder.specs.Endian.{little_number};
 
-/// 18/0 as it is read: the disk's name and id, and the map.
+/// A view of 18/0: the disk's name and id, and the map.
 #[derive(Clone, Copy)]
 pub struct BamView<'a> {
     /// The sector's bytes.
@@ -73,7 +73,7 @@ impl<'a> BamView<'a> {
         self.bytes[4 * track as usize]
     }
 
-    /// Whether the map calls the sector free.
+    /// Whether the sector is free in the map.
     pub fn is_free(&self, place: Place) -> bool
         ensures { IsTrue result ↔ IsFree self.now.bytes.now place }
     {
@@ -82,8 +82,8 @@ impl<'a> BamView<'a> {
         (byte >> (sector % 8)) & 1 == 1
     }
 
-    /// The counts of all tracks but 18 together, as stored: what a directory listing ends with.
-    // Out of line: a caller sets aside room for all 35 steps at its start, also where it doesn't come to ask.
+    /// The counts of all tracks except 18 together, as stored: the number at the end of a directory listing.
+    // Out of line: a caller reserves stack for all 35 steps at its start, even if it never calls this.
     #[inline(never)]
     pub fn blocks_free(&self) -> u16
         ensures { result ≡ blocks_free self.now.bytes.now }
@@ -95,7 +95,7 @@ impl<'a> BamView<'a> {
         sum
     }
 
-    /// The count of a track as far as it is for data.
+    /// The count of a track, and 0 for track 18, which has no data.
     fn data_count(&self, track: u8) -> u8
         requires first { 1 ≤ track }
         requires last { track ≤ 35 }
@@ -109,7 +109,7 @@ impl<'a> BamView<'a> {
     }
 }
 
-/// A directory sector as it is read: its link and its eight slots.
+/// A view of a directory sector: its link and its eight slots.
 #[derive(Clone, Copy)]
 pub struct DirView<'a> {
     /// The sector's bytes.
@@ -144,7 +144,7 @@ impl<'a> DirView<'a> {
     }
 }
 
-/// A slot of the directory as it is read.
+/// A view of a slot of the directory.
 #[derive(Clone, Copy)]
 pub struct EntryView<'a> {
     /// The slot's 32 bytes.
@@ -181,21 +181,21 @@ impl<'a> EntryView<'a> {
         unpadded(&self.bytes[5..21])
     }
 
-    /// Whether bytes 3-4 are to name a first data block: track 0 says that there is none.
+    /// Whether the slot names a first data block in bytes 3-4: track 0 means that there is none.
     pub fn has_first_block(&self) -> bool
         ensures { IsTrue result ↔ (slice_index self.now.bytes.now 3 ≢ 0) }
     {
         self.bytes[3] != 0
     }
 
-    /// The first data block; None where bytes 3-4 name no place of the disk.
+    /// The first data block. None if bytes 3-4 name no place of the disk.
     pub fn first_block(&self) -> Option<Place>
         ensures { result ≡ named_at self.now.bytes.now 3 }
     {
         Place::new(self.bytes[3], self.bytes[4])
     }
 
-    /// The first side sector, in the slot of a relative file; None where bytes 21-22 name no place of the disk.
+    /// The first side sector, in the slot of a relative file. None if bytes 21-22 name no place of the disk.
     pub fn first_side(&self) -> Option<Place>
         ensures { result ≡ named_at self.now.bytes.now 21 }
     {

@@ -1,9 +1,9 @@
-//! Which sectors a walk has come to: a table with one mark a place.
+//! Which sectors a walk has reached: a table with one mark for each place.
 ghost use Rattle.std.specs.Prelude.{◌≡◌, length};
 
 use d64_image::Place;
 
-/// A set of places, with one mark for each place of the disk, so that asking and adding take the same time for each.
+/// A set of places, with one mark for each place of the disk. Looking up and adding take the same time for each place.
 #[derive(Drop)]
 pub(crate) struct Visited {
     seen: [bool; 683],

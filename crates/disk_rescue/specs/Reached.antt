@@ -31,8 +31,8 @@ pub record IsReach (img : Image) (p : Place) (ps : List Place) (fault : Option F
 abbrev pub NamesNoBlock : Slot → Type 0
 NamesNoBlock s = IsFalse (is_rel s) × (slice_index s.bytes 3 ≡ 0)
 
--- These blocks can be reached of the entry's file. It has none without a fault if the entry names no block and needn't,
--- and none with BadLink at its directory sector if it is to name one and doesn't.
+-- These blocks of the entry's file can be reached. If the entry names no block, there are none: without a fault if it
+-- needs none, and with BadLink at its directory sector if it should name one.
 abbrev pub IsReached : Image → Slot → List Place → Option Fault → ℕ → Type 0
 IsReached img s ps fault u =
     (NamesNoBlock s × (ps ≡ []) × (fault ≡ None) × (u ≡ 0))

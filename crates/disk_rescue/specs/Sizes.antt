@@ -7,7 +7,7 @@ use Rattle.d64_image.specs.declared.place.Place.{Place}
 abbrev pub IsImageSize : ℕ → Type 0
 IsImageSize n = (n ≡ 174848) ⊎ ((n ≡ 175531) ⊎ ((n ≡ 196608) ⊎ (n ≡ 197376)))
 
--- an error byte: 1 says that the sector was read
+-- an error byte: 1 means that the sector was read
 abbrev pub reading_error : ℕ → Option ℕ
 reading_error e = if nat_eq e 1 then None else Some e
 

@@ -1,4 +1,4 @@
-//! What can be had from a 1541 disk that is damaged, and from images of other sizes.
+//! What can be read from a 1541 disk that is damaged, and from images of other sizes.
 #![tactic(auto)]
 
 mod reaching;

@@ -8,16 +8,16 @@ use arrayvec::ArrayVec;
 use d64_image::{MemDisk, Place, Sectors};
 use disk_layout::{EntryView, Fault, MOST_BLOCKS, Slot, walk_as_far};
 
-/// What ends the blocks that can be reached of a file.
+/// The end of the blocks of a file that can be reached.
 #[derive(Clone, Copy, Debug, PartialEq, Eq)]
 pub struct Reach {
     /// The index of the last byte of the last block that is the file's: 0 or 1 if it has none there.
     pub last: u8,
-    /// What ended the chain, if it wasn't its end: `BadLink` or `Loop`.
+    /// The fault that ended the chain early: `BadLink` or `Loop`. None if the chain came to its end.
     pub fault: Option<Fault>,
 }
 
-/// What ends the walk from `first` over these sectors.
+/// The end of the walk from `first` over these sectors.
 fn end_of(disk: &mut MemDisk, first: Place, places: &[Place], last: u8) -> Reach
     requires { IsWalk (disk_image disk.old) first places.now last }
     ensures reach { IsReach (disk_image disk.old) first places.now result.fault result.last }
@@ -44,7 +44,7 @@ fn end_of(disk: &mut MemDisk, first: Place, places: &[Place], last: u8) -> Reach
     }
 }
 
-/// Fills `blocks` with the sectors that the links from `first` come to, as far as they go.
+/// Fills `blocks` with the sectors that the links from `first` reach, as far as they go.
 fn reach_blocks(
     disk: &mut MemDisk,
     first: Place,
@@ -57,7 +57,7 @@ fn reach_blocks(
     end_of(disk, first, blocks.as_slice(), last)
 }
 
-/// Whether the entry names no block and needn't: its file has no bytes then.
+/// Whether the entry names no block and needs none: its file then has no bytes.
 fn names_no_block(slot: &Slot) -> bool
     ensures { IsTrue result ↔ NamesNoBlock slot.now }
 {
@@ -65,12 +65,12 @@ fn names_no_block(slot: &Slot) -> bool
     !entry.is_relative() && !entry.has_first_block()
 }
 
-/// Fills `blocks` with those of the entry's file that can be reached, in order and each once, and returns what ends them.
-/// Nothing but the file's own chain is judged, and the entry needn't be closed, nor its type be one that there is.
+/// Fills `blocks` with those of the entry's file that can be reached, in order and each once, and returns what ends
+/// them. Nothing but the file's own chain is checked. The entry may be unclosed, and its type unknown.
 ///
-/// The fault is `BadLink` at a block that links to no place of the disk, or at the entry's directory sector if the entry
-/// is to name a first block and names none; or `Loop` at the block to which the last one links back. All bytes of the
-/// last block are the file's then, up to index 255.
+/// The fault is `BadLink` at a block that links to no place of the disk, or at the entry's directory sector if the
+/// entry should name a first block and names none. It is `Loop` at the block to which the last one links back. After a
+/// fault the file has all bytes of the last block, up to index 255.
 pub fn reach_file(
     disk: &mut MemDisk,
     slot: &Slot,

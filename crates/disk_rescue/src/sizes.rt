@@ -1,4 +1,4 @@
-//! Images of other sizes, for reading: of 40 tracks, and with a byte for each sector that says how it was read.
+//! Images of other sizes, for reading: of 40 tracks, and with an error byte for each sector.
 ghost use Rattle.std.specs.Prelude.{◌≡◌, ◌↔◌, IsTrue, MatchOption, length, take};
 ghost use Rattle.disk_rescue.specs.Sizes.{IsImageSize, error_of};
 
@@ -7,13 +7,13 @@ use d64_image::Place;
 /// How many bytes the sectors of tracks 1 to 35 have: an image that every command takes.
 const SIZE: usize = 174_848;
 
-/// The same of tracks 1 to 40.
+/// The same for tracks 1 to 40.
 const FORTY_TRACKS: usize = 196_608;
 
 /// The same with a byte for each of the 683 sectors.
 const WITH_ERRORS: usize = 175_531;
 
-/// The same of the 768 sectors of 40 tracks.
+/// The same for the 768 sectors of 40 tracks.
 const FORTY_WITH_ERRORS: usize = 197_376;
 
 /// Whether an image has one of the four sizes.
@@ -23,8 +23,8 @@ fn is_image_size(size: usize) -> bool
     size == SIZE || size == WITH_ERRORS || size == FORTY_TRACKS || size == FORTY_WITH_ERRORS
 }
 
-/// The 174,848 bytes of tracks 1 to 35 of an image of one of the four sizes: with 35 tracks or 40, with a byte for each
-/// sector that says how it was read, or without. None for any other size.
+/// The 174,848 bytes of tracks 1 to 35 of an image of one of the four sizes: 35 or 40 tracks, with an error byte for
+/// each sector or without. None for any other size.
 pub fn first_tracks(image: &[u8]) -> Option<&[u8]>
     ensures { MatchOption result (¬ (IsImageSize (length image.now)))
         (λ tracks. IsImageSize (length image.now) × (tracks.now ≡ take 174848 image.now)
@@ -36,9 +36,9 @@ pub fn first_tracks(image: &[u8]) -> Option<&[u8]>
     Some(&image[..SIZE])
 }
 
-/// How the drive failed to read this sector when the image was made: the error byte, such as 5 for error 23; None if it
-/// is 1, which says that the sector was read, or if the image has no error bytes. The error bytes come after all
-/// sectors, one for each in the order of the sectors.
+/// How the drive failed to read this sector when the image was made: the error byte, such as 5 for error 23. None if
+/// the error byte is 1, which means that the sector was read, or if the image has no error bytes. The error bytes come
+/// after all sectors, one for each in the order of the sectors.
 pub fn error_at(image: &[u8], place: Place) -> Option<u8>
     ensures { result ≡ error_of image.now place }
 {

@@ -45,7 +45,7 @@ pub record ReadsAt {D : Type 0} (S : History D) (old new : D) (e : NamedFile) (s
   pub reads : OnlyReads S old new 3
   pub failures : TellsFailure S old new result
 
--- A text was written at a place of a file, or its record made where it is empty, and the place went on from it.
+-- A text was written at a place of a file, and the place went on from it. An empty text only made the record.
 pub record WritesAt {D : Type 0} (S : History D) (old new : D) (e e' : NamedFile) (s s' : Position) (text : List ℕ)
     (result : Result Status Dead) : Type 0 where
   pub row : IfOk result (λ status. (before : Status) → (b : Bool) → InFile (at_spot (S.image old) e s before b)
@@ -58,7 +58,7 @@ pub record WritesAt {D : Type 0} (S : History D) (old new : D) (e e' : NamedFile
   pub reads : S.reads new ≤ S.reads old + 13
   pub failures : TellsFailure S old new result
 
--- A text was written to the channel of this number, where it is the open one.
+-- A text was written to the channel of this number, if that is the open one.
 pub record WritesOn {D : Type 0} (S : History D) (old new : D) (k k' : OpenFiles) (channel : ℕ) (text : List ℕ)
     (result : Result Status Dead) : Type 0 where
   pub row : IfOk result (λ status. (before : Status)
@@ -83,7 +83,7 @@ pub record MakesFile {D : Type 0} (S : History D) (old new : D) (k k' : OpenFile
       → Changes S old new (creation_writes l) (IsCreating (S.image old) l name size)
   pub failures : TellsFailure S old new result
 
--- The file that is asked for was opened, or made.
+-- The file of the text of open was opened, or made.
 pub record OpensWish {D : Type 0} (S : History D) (old new : D) (k k' : OpenFiles) (channel : ℕ) (w : Wish)
     (result : Result Status Dead) : Type 0 where
   pub row : IfOk result (λ status. (before : Status)
@@ -92,7 +92,7 @@ pub record OpensWish {D : Type 0} (S : History D) (old new : D) (k k' : OpenFile
   pub opened : IsOpenedFor S old new 702 w (channel_of k'.last) result
   pub failures : TellsFailure S old new result
 
--- What a text asks for was opened.
+-- The file that a text of open names was opened.
 pub record OpensText {D : Type 0} (S : History D) (old new : D) (k k' : OpenFiles) (channel : ℕ) (text : List ℕ)
     (result : Result Status Dead) : Type 0 where
   pub row : IfOk result (λ status. (before : Status)
@@ -101,7 +101,7 @@ pub record OpensText {D : Type 0} (S : History D) (old new : D) (k k' : OpenFile
   pub opened : IsOpenedBy S old new text (channel_of k.last) (channel_of k'.last) result
   pub failures : TellsFailure S old new result
 
--- The disk was mended, or isn't sound.
+-- The disk was repaired, or isn't sound.
 pub record Validates {D : Type 0} (S : History D) (old new : D) (result : Result Status Dead) : Type 0 where
   pub row : IfOk result (ValidatesTo (S.image old) (S.image new))
   pub moments : MendsFrom S old new 883
@@ -117,7 +117,7 @@ pub record LooksFor {D T : Type 0} (S : History D) (old new : D) (result : Resul
     pub reads : OnlyReads S old new 702
     pub failures : TellsFailure S old new result
 
--- The disk was checked, where no check had passed yet; the answer is whether one has now.
+-- The disk was checked, if no check had passed yet; the result is whether one has now.
 pub record Checks {D : Type 0} (S : History D) (old new : D) (k k' : OpenFiles) (result : Result Bool Dead) : Type 0 where
   pub passed : IfOk result (λ passed. passed ≡ true → (k'.checked ≡ true) × IsKnown (S.image old) k')
   pub refused : IfOk result (λ passed. passed ≡ false → (k' ≡ k) × (k.checked ≡ false) × ¬ (IsClean (S.image old)))
@@ -125,7 +125,7 @@ pub record Checks {D : Type 0} (S : History D) (old new : D) (k k' : OpenFiles) 
   pub reads : OnlyReads S old new 2115
   pub failures : TellsFailure S old new result
 
--- The channel of this number was read, where it is the open one.
+-- The channel of this number was read, if that is the open one.
 pub record ReadsOn {D : Type 0} (S : History D) (old new : D) (k k' : OpenFiles) (channel : ℕ) (given : List ℕ)
     (result : Result Status Dead) : Type 0 where
   pub row : IfOk result (λ status. (before : Status)

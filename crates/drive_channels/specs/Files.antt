@@ -1,4 +1,4 @@
--- A relative file of an image, and what of it the tables ask. Our own.
+-- A relative file of an image, and what the tables need to know of it. Our own.
 use Rattle.std.specs.Prelude.{ℕ, ◌≡◌, ◌≢◌, IsTrue, List, None, Option, Some, slice_get}
 use Rattle.d64_image.specs.Images.{Image}
 use Rattle.disk_layout.specs.Layout.{File, IsLayout, Layout, is_rel, record_length}
@@ -15,6 +15,7 @@ pub record IsRelAt (img : Image) (l : Layout) (entry : ℕ) (f : File) : Type 0 
 abbrev pub IsNamedFile : Image → List ℕ → ℕ → File → Type 0
 IsNamedFile img name entry f = (l : Layout) × IsLayout img l × IsFirst l name entry f
 
+-- there is a closed relative file of the name
 abbrev pub HasFile : Image → List ℕ → Type 0
 HasFile img name = (entry : ℕ) × (f : File) × IsNamedFile img name entry f
 

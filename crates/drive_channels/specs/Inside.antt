@@ -25,6 +25,7 @@ channel_at entry s = record {
   position = s.position;
 }
 
+-- the channel at this place in the file with this entry, if there is one
 abbrev pub channel_in : ℕ → Option Position → Option Channel
 channel_in entry None = None
 channel_in entry (Some s) = Some (channel_at entry s)
@@ -95,12 +96,12 @@ pub record Remembers (img : Image) (last : Option OpenFile) (before : Option Nam
   pub before_found : IfSome before (IsFound img)
   pub apart : IfSome last (λ o. IfSome before (λ e. entry_of e.file ≢ entry_of o.found.file))
 
--- nothing is known before a check has passed, and then what is remembered is so
+-- nothing is known before a check has passed; after that, what is remembered is right
 pub record IsKnown (img : Image) (k : OpenFiles) : Type 0 where
   pub fresh : k.checked ≡ false → (k.last ≡ None) × (k.before ≡ None)
   pub remembered : k.checked ≡ true → Remembers img k.last k.before
 
--- what a drive that isn't dead knows is so
+-- what a drive that isn't dead knows is right
 abbrev pub IsSteady : {D : Type 0} → History D → Inside D → Type 0
 IsSteady S d = d.dead ≡ false → IsKnown (S.image d.disk) d.known
 
@@ -116,7 +117,7 @@ abbrev pub found_in : Option OpenFile → Option NamedFile
 found_in None = None
 found_in (Some o) = Some o.found
 
--- after a look for the first closed relative file of a name: where there is one it is the one opened last, with no
+-- after a look for the first closed relative file of a name: if there is one, it is the one opened last, with no
 -- channel
 pub record HasLooked (img : Image) (name : List ℕ) (k : OpenFiles) (there : Bool) : Type 0 where
   pub known : IsKnown img k

@@ -38,7 +38,7 @@ IsOnTheWay old text c l f img =
     IsWriting old l c.entry f (added (record_length f.slot) (records_had f) c.record_number) c.record_number c.position
     text img
 
--- on the way of the creation of the file that is asked for
+-- an image on the way of the creation of the file that the text of open names
 pub record IsCreatingFor (old : Image) (l : Layout) (w : Wish) (img : Image) : Type 0 where
   pub length : ℕ
   pub given : w.length ≡ Some length
@@ -48,6 +48,7 @@ pub record IsCreatingFor (old : Image) (l : Layout) (w : Wish) (img : Image) : T
 abbrev pub IsCreatingFrom : Image → Layout → List ℕ → Image → Type 0
 IsCreatingFrom old l text img = (img ≡ old) ⊎ ((w : Wish) × IsWish text w × IsCreatingFor old l w img)
 
+-- the text is empty
 abbrev pub is_nil : List ℕ → Bool
 is_nil [] = true
 is_nil (x ∷ xs) = false
@@ -66,16 +67,16 @@ pub record IsWrittenAt {D T E : Type 0} (S : History D) (old new : D) (c : Chann
   pub uncounted : c.record_number ≤ records_had f → IsInOneBlock (record_length f.slot) c.record_number
       → OnErr result (S.writes new ≡ S.writes old)
 
--- a write to the channel of this number: so where it is open, else nothing is done to the disk
+-- a write to the channel of this number: as above if it is open; otherwise the disk isn't touched
 pub record IsWrittenOn {D T E : Type 0} (S : History D) (old new : D) (open_one : Option Channel) (number : ℕ)
     (text : List ℕ) (result : Result T E) : Type 0 where
   pub silent : ¬ (HasOn open_one number) → new ≡ old
   pub at : (c : Channel) (l : Layout) (f : File) → IsOn open_one number c → IsRelAt (S.image old) l c.entry f
       → IsWrittenAt S old new c l f text result
 
--- the opening of what is asked for, after at most n reads, and 55 more where the file is to be made: without a length,
--- where the file is there, and where no channel is open afterwards, nothing is written; else every image held is one of
--- the creation, and so is the count of writes
+-- The opening of the file of a wish, after at most n reads, and 55 more if the file is to be made. Without a length, if
+-- the file is there, or if no channel is open afterwards, nothing is written. Otherwise each image held, and the number
+-- of writes, is that of the creation.
 pub record IsOpenedFor {D T E : Type 0} (S : History D) (old new : D) (n : ℕ) (w : Wish) (after : Option Channel)
     (result : Result T E) : Type 0 where
   pub plain : w.length ≡ None → OnlyReads S old new n

@@ -40,7 +40,7 @@ pub record IsName (name : List ℕ) : Type 0 where
   pub high : length name ≤ 16
   pub bytes : AllByRecursion (λ b. IsTrue (is_name_byte b)) name
 
--- what a text of open asks for: a name, and a record length where one is given
+-- the contents of a text of open: a name, and a record length if one is given
 pub record Wish : Type 0 where
   pub name : List ℕ
   pub length : Option ℕ
@@ -56,6 +56,7 @@ abbrev pub IsSpelled : List ℕ → List ℕ → Option ℕ → Type 0
 IsSpelled text name None = text ≡ name
 IsSpelled text name (Some l) = (tail : List ℕ) × (text ≡ name ++ tail) × IsTail tail l
 
+-- the text is that of open for this wish: a name, or a name and a record length
 abbrev pub IsWish : List ℕ → Wish → Type 0
 IsWish text w = IsName w.name × IsSpelled text w.name w.length
 
@@ -72,12 +73,14 @@ IsInitialize text = (text ≡ codes "I") ⊎ (text ≡ codes "I0") ⊎ (text ≡
 abbrev pub BeginsWithP : List ℕ → Type 0
 BeginsWithP text = (rest : List ℕ) × (text ≡ 80 ∷ rest)
 
--- P, the channel, the record with its low byte first, and the position where there is one; 0 counts as 1
+-- the channel that a P names, modulo 16
 abbrev pub wanted_channel : List ℕ → ℕ
 wanted_channel text = slice_index text 1 % 16
 
+-- the record that a P names: low byte first, and 0 counts as 1
 abbrev pub wanted_record : List ℕ → ℕ
 wanted_record text = max 1 (slice_index text 2 + 256 * slice_index text 3)
 
+-- the position that a P names, counted from 1: 1 if there is none, and 0 counts as 1
 abbrev pub wanted_position : List ℕ → ℕ
 wanted_position text = max 1 (slice_index_or text 4 1)

@@ -1,5 +1,5 @@
--- What each call does: the rows of its table, of which the first one that holds counts.
--- Numbers and rules of relative files are those of the 1541 User's Guide; which case tells which number is our own.
+-- What each call does: the rows of its table, of which the first matching one applies.
+-- Numbers and rules of relative files are those of the 1541 User's Guide; which case has which number is our own.
 use Rattle.std.specs.Prelude.{
   ℕ,
   ◌≡◌,
@@ -60,7 +60,7 @@ use Rattle.drive_channels.specs.declared.status.Status.TheVariants.{
   UnknownCommand,
 }
 
--- where the condition holds, this; otherwise what the further rows say
+-- if the condition holds, this; otherwise what the further rows say
 infix 1 when◌then◌otherwise◌
 abbrev pub when◌then◌otherwise◌ : Type 0 → Type 0 → Type 0 → Type 0
 when c then does otherwise rest = (c × does) ⊎ (¬ c × rest)
@@ -77,7 +77,7 @@ OpensAt x number entry y = y ≡ record x {
   status = Ok;
 }
 
--- with a length, where there is no file of the name
+-- with a length, if there is no file of the name
 abbrev pub Creates : View → ℕ → List ℕ → Option ℕ → View → Type 0
 Creates x number name None y = ⊥
 Creates x number name (Some L) y =
@@ -101,7 +101,7 @@ Opens x number text y =
     when (x.checked ≡ false) × ¬ (IsClean x.image) then Tells x DirError y otherwise
     ((w : Wish) → IsWish text w → OpensFile (record x { checked = true }) number w y)
 
--- the open channel but where it has this number
+-- the open channel, but None if it has this number
 abbrev pub channel_without : ℕ → Option Channel → Option Channel
 channel_without number None = None
 channel_without number (Some c) = if nat_eq c.number number then None else Some c
@@ -118,7 +118,7 @@ IsOn open_one number c = (open_one ≡ Some c) × (c.number ≡ number)
 abbrev pub HasOn : Option Channel → ℕ → Type 0
 HasOn open_one number = (c : Channel) × IsOn open_one number c
 
--- so it is for the file of the open channel
+-- this holds of the file of the open channel
 abbrev pub InFile : View → (Channel → Layout → File → Type 0) → Type 0
 InFile x P = (c : Channel) (l : Layout) (f : File) → x.channel ≡ Some c → IsRelAt x.image l c.entry f → P c l f
 
@@ -132,13 +132,14 @@ MovesTo x r position y c l f =
       status = if nat_lt (records_had f) r then RecordNotPresent else Ok;
     })
 
+-- the command P, which names a channel, a record and a position
 abbrev pub Moves : View → List ℕ → View → Type 0
 Moves x text y =
     when ¬ ((length text ≡ 4) ⊎ (length text ≡ 5)) then Tells x SyntaxError y otherwise
     when ¬ (HasOn x.channel (wanted_channel text)) then Tells x NoChannel y otherwise
     InFile x (MovesTo x (wanted_record text) (wanted_position text) y)
 
--- a repair, and what it tells: 00 where the disk was sound, and is clean now; else 71, and nothing is changed
+-- a repair, and its status: 00 if the disk was sound, and it is clean now; otherwise 71, and nothing is changed
 abbrev pub ValidatesTo : Image → Image → Status → Type 0
 ValidatesTo old new status =
     when IsSound old then ((s : Survey) × IsRepaired old new s × (status ≡ Ok)) otherwise

@@ -15,7 +15,7 @@ use crate::status::Status;
 use d64_image::Sectors;
 
 impl OpenFile {
-    /// Closes its channel, where that has this number.
+    /// Closes its channel, if the channel has this number.
     fn close(&mut self, channel: u8)
         ensures found { self.new.found ≡ self.old.found }
         ensures channel { channel_in (entry_of self.old.found.file) self.new.spot
@@ -31,7 +31,7 @@ impl OpenFile {
 }
 
 impl OpenFiles {
-    /// Closes the channel, where it has this number.
+    /// Closes the open channel, if it has this number.
     fn close(&mut self, channel: u8)
         ensures channel { channel_of self.new.last ≡ channel_without channel (channel_of self.old.last) }
         ensures checked { self.new.checked ≡ self.old.checked }
@@ -44,7 +44,7 @@ impl OpenFiles {
 }
 
 impl<D: Sectors> Drive<D> {
-    /// Closes the channel, where it is open; the status is 00.
+    /// Closes the channel, if it is open. The status is 00.
     pub fn close(&mut self, channel: u8) -> Result<(), Dead>
         ensures serves { Serves D.history self.old self.new result }
         ensures row { OnOk result (Closes (view_of D.history self.old) channel (view_of D.history self.new)) }

@@ -33,7 +33,7 @@ fn is_word(text: &[u8], word: &[u8]) -> bool
     text == word
 }
 
-/// Whether the command asks for the disk to be mended.
+/// Whether the command is one to repair the disk.
 fn is_validate(text: &[u8]) -> bool
     ensures { IsTrue result ↔ IsValidate text.now }
 {
@@ -43,7 +43,7 @@ fn is_validate(text: &[u8]) -> bool
         || is_word(text, b"VALIDATE0")
 }
 
-/// Whether it asks for nothing here.
+/// Whether the command is one that does nothing here.
 fn is_initialize(text: &[u8]) -> bool
     ensures { IsTrue result ↔ IsInitialize text.now }
 {
@@ -53,7 +53,7 @@ fn is_initialize(text: &[u8]) -> bool
         || is_word(text, b"INITIALIZE0")
 }
 
-/// The place that a `P` asks for, where it is as long as one.
+/// The place that a `P` names. None if its length isn't that of a `P`.
 fn place_of(text: &[u8]) -> Option<Position>
     ensures { MatchOption result (¬ ((length text.now ≡ 4) ⊎ (length text.now ≡ 5))) (λ spot.
         ((length text.now ≡ 4) ⊎ (length text.now ≡ 5)) × (spot.channel ≡ wanted_channel text.now)
@@ -71,7 +71,7 @@ fn place_of(text: &[u8]) -> Option<Position>
     })
 }
 
-/// Goes to a place in the file, on the same channel: what that comes to.
+/// Moves to a place in the file, on the same channel. Returns the status.
 fn go_to(found: &NamedFile, spot: &mut Position, wanted: Position) -> Status
     requires record_low { 1 ≤ wanted.record_number }
     requires record_high { wanted.record_number ≤ 65535 }
@@ -98,7 +98,7 @@ fn go_to(found: &NamedFile, spot: &mut Position, wanted: Position) -> Status
 }
 
 impl OpenFile {
-    /// Goes to a place, where the open channel is the one that is meant: what that comes to.
+    /// Moves to a place, if the `P` names the open channel. Returns the status.
     fn position(&mut self, wanted: Position) -> Status
         requires record_low { 1 ≤ wanted.record_number }
         requires record_high { wanted.record_number ≤ 65535 }
@@ -125,7 +125,7 @@ impl OpenFile {
 }
 
 impl OpenFiles {
-    /// Places the open channel, where the `P` names it: what it comes to.
+    /// Moves the open channel, if the `P` names it. Returns the status.
     fn position(&mut self, text: &[u8]) -> Status
         ensures row { (img : Image) → (s : statuses.Status) → IsKnown img self.old
             → Moves (shown img self.old s) text.now (shown img self.new result) }
@@ -140,7 +140,7 @@ impl OpenFiles {
         Status::NoChannel
     }
 
-    /// Does a command that isn't for the disk: what it comes to.
+    /// Does a command that isn't for the disk. Returns the status.
     fn command(&mut self, text: &[u8]) -> Status
         requires other { ¬ (IsValidate text.now) }
         ensures row { (img : Image) → (s : statuses.Status) → IsKnown img self.old
@@ -160,7 +160,7 @@ impl OpenFiles {
     }
 }
 
-/// Mends the disk: what that comes to.
+/// Repairs the disk. Returns the status.
 fn validate<D: Sectors>(disk: &mut D) -> Result<Status, Dead>
     ensures { Validates D.history disk.old disk.new result }
 {
@@ -174,18 +174,23 @@ fn validate<D: Sectors>(disk: &mut D) -> Result<Status, Dead>
 }
 
 impl<D: Sectors> Drive<D> {
-    /// Does a command. `V`, `V0`, `VALIDATE` and `VALIDATE0` mend the disk: 00, or 71 where it isn't sound; an open
-    /// channel keeps its place. `I`, `I0`, `INITIALIZE` and `INITIALIZE0` do nothing: 00. `P`, the channel (modulo 16),
-    /// the record's low and high byte and, if one is given, the position place the open channel: 00, or 50 where the
-    /// file has no such record yet, 51 where the position is past the record's end, 52 where the record would need more
-    /// than 720 blocks, 70 where the channel isn't the open one; at 51, 52 and 70 the place stays. A command that is
-    /// empty, or a `P` of another length: 30. Any other: 31.
+    /// Does a command, and sets the status:
     ///
-    /// At `Dead` the disk holds what it held at one of the moments of the repair. 5543 sectors at most are read.
+    /// - `V`, `V0`, `VALIDATE` and `VALIDATE0` repair the disk: 00, or 71 if it isn't sound. An open channel keeps its
+    ///   place.
+    /// - `I`, `I0`, `INITIALIZE` and `INITIALIZE0` do nothing: 00.
+    /// - `P` moves the open channel. After it come the channel (modulo 16), the record's low and high byte and, if
+    ///   given, the position. The status is 00, or 50 if the file has no such record yet. It is 51 if the position is
+    ///   past the record's end, 52 if the record would need more than 720 blocks, and 70 if the channel isn't the open
+    ///   one. At 51, 52 and 70 the place stays.
+    /// - An empty command, or a `P` of another length: 30.
+    /// - Any other command: 31.
+    ///
+    /// At `Dead` the disk holds what it held at one of the moments of the repair. At most 5543 sectors are read.
     pub fn command(&mut self, text: &[u8]) -> Result<(), Dead>
         ensures serves { Serves D.history self.old self.new result }
         ensures row { OnOk result (Commands (view_of D.history self.old) text.now (view_of D.history self.new)) }
-        // V alone reads or writes
+        // only `V` reads or writes
         ensures silent { ¬ (IsValidate text.now) → self.new.disk ≡ self.old.disk }
         // and each image held is one of the repair
         ensures moments { MendsFrom D.history self.old.disk self.new.disk 883 }

@@ -9,15 +9,16 @@ use std::marker::Model;
 
 /// A drive with one relative channel, over a disk.
 ///
-/// Each call does what the first case of its table that holds says (1541 User's Guide, relative files, command channel
-/// and error channel; `docs/DRIVE.md` has the table), and sets the status that `status` then tells. Once the device has
-/// failed, every call but `into_disk` answers `Dead` and changes nothing.
+/// Each call does what the first matching row of its table says, and sets the status, which `status` returns. The
+/// tables are in `docs/DRIVE.md`; they follow the 1541 User's Guide (relative files, command channel and error
+/// channel). Once the device has failed, every call but `into_disk` returns `Dead` and changes nothing.
 #[derive(Drop)]
 pub struct Drive<D: Sectors> {
     pub(crate) disk: D,
     pub(crate) known: OpenFiles,
     pub(crate) status: Status,
-    /// Whether the device has failed. Each call that asks the device counts it as failed until it has answered.
+    /// Whether the device has failed. Each call that uses the device sets this, and clears it after the device
+    /// succeeded.
     pub(crate) dead: bool,
 }
 
@@ -76,7 +77,7 @@ impl<D: Sectors> Drive<D> {
         &self.disk
     }
 
-    /// What the last call came to, as reading the error channel gives it; it is 00 from then on.
+    /// The status of the last call, as a read of the error channel returns it. It is 00 from then on.
     pub fn status(&mut self) -> Result<Status, Dead>
         ensures serves { Serves D.history self.old self.new result }
         ensures told { IfOk result (λ s. s ≡ self.old.status) }

@@ -11,7 +11,7 @@ pub(crate) struct NamedFile {
     pub(crate) file: RelFile,
 }
 
-/// A channel and its place: the record and the byte in it, both from 1.
+/// A place in the file of a channel: the record and the byte in it, both from 1.
 #[derive(Clone, Copy)]
 pub(crate) struct Position {
     // the two bytes lie side by side: one with a word to itself is read as a word, which waits for the byte just

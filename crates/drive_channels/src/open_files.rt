@@ -3,8 +3,8 @@ ghost use Rattle.std.specs.Prelude.{◌≡◌, false, None};
 
 use crate::open_file::{NamedFile, OpenFile};
 
-/// What a drive knows of the files of its disk: the one that was opened last, with the open channel, and the one
-/// before, so that opening either again costs no read; and whether a check has passed since power-on.
+/// What a drive knows of the files of its disk: the file that was opened last, with the open channel, and the file
+/// before, so that opening either again needs no read. It also knows whether a check has passed since power-on.
 #[derive(Drop)]
 pub(crate) struct OpenFiles {
     pub(crate) last: Option<OpenFile>,

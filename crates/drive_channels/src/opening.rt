@@ -32,7 +32,7 @@ use layout_check::check;
 use rel_records::{RelFault, RelFile, create, find};
 use std::mem::swap;
 
-/// Whether the file's records have this length, if one is asked for.
+/// Whether the file's records have this length, if one is given.
 fn has_length(file: &RelFile, length: Option<u8>) -> bool
     ensures { IsTrue result ↔ IfSome length (λ l. length_of file.now ≡ l) }
 {
@@ -42,7 +42,7 @@ fn has_length(file: &RelFile, length: Option<u8>) -> bool
     }
 }
 
-/// The first closed relative file of this name, where there is one.
+/// The first closed relative file of this name. None if there is none.
 fn find_file<D: Sectors>(disk: &mut D, name: &[u8]) -> Result<Option<NamedFile>, Dead>
     requires clean { IsClean (D.history.image disk.old) }
     requires name { IsName name.now }
@@ -60,7 +60,7 @@ fn find_file<D: Sectors>(disk: &mut D, name: &[u8]) -> Result<Option<NamedFile>,
 }
 
 impl OpenFile {
-    /// Changes places with the file before, where that has this name. Whether it has.
+    /// Changes places with the file before, if that has this name. Returns whether it has.
     fn recall(&mut self, before: &mut Option<NamedFile>, name: &[u8]) -> bool
         ensures found { result ≡ true → (e : NamedFile) × (before.old ≡ Some e) × (e.name.items ≡ name.now)
             × (self.new ≡ record { found = e; spot = self.old.spot }) × (before.new ≡ Some self.old.found) }
@@ -98,7 +98,8 @@ impl OpenFiles {
         }
     }
 
-    /// Makes the file of this name the one opened last, where it is one of the two that are remembered. Whether it is.
+    /// Makes the file of this name the one opened last, if it is one of the two that are remembered. Returns whether it
+    /// is.
     fn recall(&mut self, name: &[u8]) -> bool
         requires closed { channel_of self.old.last ≡ None }
         ensures found { (img : Image) → IsKnown img self.old → result ≡ true → HasLooked img name.now self.new true }
@@ -115,7 +116,8 @@ impl OpenFiles {
         false
     }
 
-    /// Makes this file the one opened last, with no channel; the one before it is the one opened last until now.
+    /// Makes this file the one opened last, with no channel. The file before it is then the one that was opened last
+    /// until now.
     fn put_last(&mut self, found: NamedFile)
         ensures last { self.new.last ≡ Some (record { found = found; spot = None }) }
         ensures before { self.new.before ≡ found_in self.old.last }
@@ -128,7 +130,7 @@ impl OpenFiles {
         };
     }
 
-    /// Makes the file of this name the one opened last, with no channel, where there is one. Whether there is.
+    /// Makes the file of this name the one opened last, with no channel, if there is one. Returns whether there is.
     fn look_up<D: Sectors>(&mut self, disk: &mut D, name: &[u8]) -> Result<bool, Dead>
         requires shut { IsShut (D.history.image disk.old) self.old }
         requires name { IsName name.now }
@@ -146,7 +148,7 @@ impl OpenFiles {
         }
     }
 
-    /// Checks the disk, where no check has passed yet. Whether one has now.
+    /// Checks the disk, if no check has passed yet. Returns whether one has now.
     fn passes_check<D: Sectors>(&mut self, disk: &mut D) -> Result<bool, Dead>
         requires known { IsKnown (D.history.image disk.old) self.old }
         ensures { Checks D.history disk.old disk.new self.old self.new result }
@@ -166,8 +168,8 @@ impl OpenFiles {
         }
     }
 
-    /// Opens the file opened last at its first record, unless its records have another length than the one asked for:
-    /// what that comes to.
+    /// Opens the file opened last at its first record, unless its records have another length than the one given.
+    /// Returns the status.
     fn open_last(&mut self, channel: u8, length: Option<u8>) -> Status
         requires { IsChannelNumber channel }
         ensures row { (img : Image) → (name : List ℕ) → (s : statuses.Status) → HasLooked img name self.old true
@@ -185,7 +187,7 @@ impl OpenFiles {
         Status::FileNotFound
     }
 
-    /// Makes a file that isn't there, and opens it: what that comes to.
+    /// Makes a file that isn't there, and opens it. Returns the status.
     fn make<D: Sectors>(
         &mut self,
         disk: &mut D,
@@ -218,7 +220,7 @@ impl OpenFiles {
         }
     }
 
-    /// Opens the file that is asked for, or makes it: what that comes to.
+    /// Opens or makes the file that the text of open names. Returns the status.
     fn open_file<D: Sectors>(
         &mut self,
         disk: &mut D,
@@ -239,7 +241,7 @@ impl OpenFiles {
         }
     }
 
-    /// Opens what the text asks for, while no channel is open: what that comes to.
+    /// Opens the file that the text of open names, while no channel is open. Returns the status.
     // Out of line, since a call pays for all locals at its start, and `open` mostly finds the file remembered.
     #[inline(never)]
     fn open_wish<D: Sectors>(
@@ -262,7 +264,8 @@ impl OpenFiles {
         self.open_file(disk, channel, wish)
     }
 
-    /// Opens what the text asks for: what that comes to. The name of a file that is remembered is only compared.
+    /// Opens the file that the text of open names. Returns the status. If the file is remembered, only its name is
+    /// compared.
     fn open<D: Sectors>(&mut self, disk: &mut D, channel: u8, text: &[u8]) -> Result<Status, Dead>
         requires known { IsKnown (D.history.image disk.old) self.old }
         ensures { OpensText D.history disk.old disk.new self.old self.new channel text.now result }
@@ -279,26 +282,33 @@ impl OpenFiles {
 
 impl<D: Sectors> Drive<D> {
     /// Opens a channel, from 2 to 14, on the first closed relative file of a name, at its first record: 00. The text is
-    /// the name, or the name, `,L,` and one byte, the length of the file's records. With a length the file is made
-    /// where it isn't there.
+    /// the name, or the name, `,L,` and one byte, the length of the file's records. With a length the file is made if
+    /// it isn't there.
     ///
-    /// A channel that is none of these, or while one is open: 70. A text that is neither: 30. A disk that no check has
-    /// passed since power-on, and that the check refuses now: 71. Without a length and without such a file: 62. With
-    /// another length than the file's: 50. With a length, where the name belongs to a file of another type alone: 64.
-    /// Where there is no room for the new file: 72. In all these cases nothing is opened and nothing is written.
+    /// In the following cases nothing is opened and nothing is written. The first that matches sets the status:
     ///
-    /// At `Dead` the disk holds what it held at one of the moments of the creation; else 2872 sectors at most were read.
+    /// - 70 if the number isn't that of such a channel, or while a channel is open;
+    /// - 30 if the text is neither of the two;
+    /// - 71 if no check has passed since power-on and the check now finds a fault;
+    /// - 62 without a length, if there is no such file;
+    /// - 50 with another length than the file's;
+    /// - 64 with a length, if only files of another type have the name;
+    /// - 72 if there is no room for the new file.
+    ///
+    /// At `Dead` the disk holds what it held at one of the moments of the creation; otherwise at most 2872 sectors were
+    /// read.
     pub fn open(&mut self, channel: u8, text: &[u8]) -> Result<(), Dead>
         ensures serves { Serves D.history self.old self.new result }
         ensures row { OnOk result (Opens (view_of D.history self.old) channel text.now (view_of D.history self.new)) }
-        // without a length, or where the file is there, nothing is written; nor where the channel isn't opened
+        // without a length, if the file is there, or if the channel isn't opened, nothing is written
         ensures quiet { ((w : Wish) → IsWish text.now w → w.length ≡ None)
             ⊎ ((w : Wish) × IsWish text.now w × HasFile (D.history.image self.old.disk) w.name)
             → OnlyReads D.history self.old.disk self.new.disk 2817 }
         ensures refused { OnOk result (self.new.channel ≡ self.old.channel
             → OnlyReads D.history self.old.disk self.new.disk 2872) }
         ensures reads { OnOk result (D.history.reads self.new.disk ≤ D.history.reads self.old.disk + 2872) }
-        // nor on a disk that isn't clean; else every image held is one of the creation, and so is the count of writes
+        // nothing is written on a disk that isn't clean; otherwise each image held, and the number of writes, is that
+        // of the creation
         ensures unclean { ¬ (IsClean (D.history.image self.old.disk))
             → OnlyReads D.history self.old.disk self.new.disk 2115 }
         ensures moments { (l : Layout) → IsLayout (D.history.image self.old.disk) l

@@ -20,7 +20,7 @@ use d64_image::Sectors;
 use disk_layout::DATA;
 use rel_records::{RelFault, read_record};
 
-/// How many of the bytes there are up to the last one that isn't 00, and 1 where there is none.
+/// The number of bytes up to the last one that isn't 00, and 1 if there is none.
 fn end_of(bytes: &[u8]) -> usize
     requires some { 0 < length bytes.now }
     ensures low { 1 ≤ result }
@@ -56,8 +56,7 @@ fn rest_of(bytes: &[u8], from: usize) -> &[u8]
     &bytes[from..]
 }
 
-/// Gives the bytes from this position on, counted from 1, up to the last one that isn't 00, or one 00 where there is
-/// none.
+/// Gives the bytes from this position on, counted from 1, up to the last one that isn't 00, or one 00 if there is none.
 fn give(bytes: &[u8], position: u8, to: &mut ArrayVec<u8, DATA>)
     requires low { 0 < position }
     requires within { position ≤ length bytes.now }
@@ -69,7 +68,7 @@ fn give(bytes: &[u8], position: u8, to: &mut ArrayVec<u8, DATA>)
     copy(&rest[..end], to);
 }
 
-/// Reads at a place, and goes on from it: what that comes to.
+/// Reads at a place, and goes on from it. Returns the status.
 fn read_at<D: Sectors>(
     disk: &mut D,
     found: &NamedFile,
@@ -98,7 +97,7 @@ fn read_at<D: Sectors>(
 }
 
 impl OpenFile {
-    /// Reads where its channel is open and has this number.
+    /// Reads if its channel is open and has this number.
     fn read<D: Sectors>(
         &mut self,
         disk: &mut D,
@@ -124,7 +123,7 @@ impl OpenFile {
 }
 
 impl OpenFiles {
-    /// Reads where the channel is the open one.
+    /// Reads if the channel is the open one.
     fn read<D: Sectors>(
         &mut self,
         disk: &mut D,
@@ -143,11 +142,11 @@ impl OpenFiles {
 }
 
 impl<D: Sectors> Drive<D> {
-    /// Reads the record at the channel's place, from the position on up to its last byte that isn't 00, or one 00 where
-    /// there is none, and goes on to the next record: 00. Where the record isn't there the place stays: 50. A channel
-    /// that isn't open: 61. Then nothing is given. At most three sectors are read.
+    /// Reads the record at the channel's place, from the position on up to its last byte that isn't 00, or one 00 if
+    /// there is none, and goes on to the next record: 00. If the record isn't there, the status is 50 and the place
+    /// stays. If the channel isn't open, it is 61. In both cases no byte is returned. At most three sectors are read.
     ///
-    /// A drive that is dead gives nothing; where the device fails in this call, what is given is any bytes.
+    /// A dead drive returns no byte. If the device fails in this call, `to` may hold any bytes.
     pub fn read(&mut self, channel: u8, to: &mut ArrayVec<u8, DATA>) -> Result<(), Dead>
         ensures serves { Serves D.history self.old self.new result }
         ensures row { OnOk result

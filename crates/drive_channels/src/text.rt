@@ -4,7 +4,7 @@ ghost use Rattle.drive_channels.specs.Spelling as spelling;
 ghost use Rattle.drive_channels.specs.Spelling.{IsWish, Wish};
 ghost use Rattle.drive_channels.specs.Wishes.{wish_of};
 
-/// What a text of open asks for: a name of 1 to 16 bytes, and the record length, where one is given.
+/// The contents of a text of open: a name of 1 to 16 bytes, and the record length, if one is given.
 #[derive(Clone, Copy)]
 pub(crate) struct FileWish<'a> {
     pub(crate) name: &'a [u8],
@@ -26,7 +26,7 @@ fn is_name(bytes: &[u8]) -> bool
     !bytes.is_empty() && bytes.len() <= 16 && bytes.iter().all(|&byte| is_name_byte(byte))
 }
 
-/// The record length that ends a text of open, behind its name: `,L,` and one byte.
+/// The record length that ends a text of open, after its name: `,L,` and one byte.
 fn length_of_tail(tail: &[u8]) -> Option<u8>
     requires { length tail.now ≡ 4 }
     ensures { MatchOption result ((l : ℕ) → ¬ (spelling.IsTail tail.now l)) (spelling.IsTail tail.now) }
@@ -41,7 +41,7 @@ fn length_of_tail(tail: &[u8]) -> Option<u8>
     Some(length)
 }
 
-/// What the text asks for, where it is a name, or a name and a record length.
+/// The contents of the text, if it is a name, or a name and a record length. None otherwise.
 pub(crate) fn wish<'a>(text: &'a [u8]) -> Option<FileWish<'a>>
     ensures { MatchOption result ((w : Wish) → ¬ (IsWish text.now w)) (λ w. IsWish text.now (wish_of w)) }
 {

@@ -22,7 +22,7 @@ use crate::status::Status;
 use d64_image::Sectors;
 use rel_records::{RelFault, grow_to, write_record};
 
-/// Grows the file so that the record at a place is there: what it comes to.
+/// Grows the file so that it has the record at a place. Returns the status.
 fn grow_at<D: Sectors>(disk: &mut D, found: &mut NamedFile, spot: Position) -> Result<Status, Dead>
     requires { IsPlace (D.history.image disk.old) found.old spot }
     ensures { WritesAt D.history disk.old disk.new found.old found.new spot spot [] result }
@@ -36,7 +36,7 @@ fn grow_at<D: Sectors>(disk: &mut D, found: &mut NamedFile, spot: Position) -> R
     }
 }
 
-/// Writes a text that isn't empty at a place, and goes on from it: what that comes to.
+/// Writes a text that isn't empty at a place, and goes on from it. Returns the status.
 fn write_text<D: Sectors>(
     disk: &mut D,
     found: &mut NamedFile,
@@ -69,7 +69,7 @@ fn write_text<D: Sectors>(
     }
 }
 
-/// Writes at a place, and goes on from it: what that comes to.
+/// Writes at a place, and goes on from it. Returns the status.
 fn write_at<D: Sectors>(
     disk: &mut D,
     found: &mut NamedFile,
@@ -86,7 +86,7 @@ fn write_at<D: Sectors>(
 }
 
 impl OpenFile {
-    /// Writes where its channel is open and has this number.
+    /// Writes if its channel is open and has this number.
     fn write<D: Sectors>(&mut self, disk: &mut D, channel: u8, text: &[u8]) -> Result<Status, Dead>
         requires { (k : OpenFiles) × (k.last ≡ Some self.old) × IsKnown (D.history.image disk.old) k }
         ensures { (k : OpenFiles) → k.last ≡ Some self.old → IsKnown (D.history.image disk.old) k
@@ -106,7 +106,7 @@ impl OpenFile {
 }
 
 impl OpenFiles {
-    /// Writes where the channel is the open one.
+    /// Writes if the channel is the open one.
     fn write<D: Sectors>(&mut self, disk: &mut D, channel: u8, text: &[u8]) -> Result<Status, Dead>
         requires known { IsKnown (D.history.image disk.old) self.old }
         ensures { WritesOn D.history disk.old disk.new self.old self.new channel text.now result }
@@ -119,22 +119,24 @@ impl OpenFiles {
 }
 
 impl<D: Sectors> Drive<D> {
-    /// Writes the record at the channel's place, from the position on, and goes on to the next record: 00, or 51 where
-    /// the text reached past the record's end and was cut. The rest of the record becomes 00; a record that isn't there
-    /// is made first, as are all before it. Where it can't be, or the disk is too full for it, nothing is written and
-    /// the place stays: 52. An empty text makes the record and writes nothing into it; the place stays. A channel that
-    /// isn't open: 61. Thirteen sectors at most are read.
+    /// Writes the record at the channel's place, from the position on, and goes on to the next record: 00, or 51 if the
+    /// text reached past the record's end and was cut. The rest of the record becomes 00. If the record isn't there, it
+    /// is made first, and all before it. If it can't be made, or the disk is too full for it, the status is 52, nothing
+    /// is written and the place stays.
+    ///
+    /// An empty text makes the record and writes nothing into it; the place stays. If the channel isn't open, the
+    /// status is 61. At most thirteen sectors are read.
     ///
     /// At `Dead` the disk holds what it held at one of the moments of the growth or of the writing.
     pub fn write(&mut self, channel: u8, text: &[u8]) -> Result<(), Dead>
         ensures serves { Serves D.history self.old self.new result }
         ensures row { OnOk result (Writes (view_of D.history self.old) channel text.now (view_of D.history self.new)) }
-        // where the channel isn't open nothing is done to the disk, and where 52 is told nothing is written
+        // if the channel isn't open, the disk isn't touched; at 52 nothing is written
         ensures silent { ¬ (HasOn self.old.channel channel) → self.new.disk ≡ self.old.disk }
         ensures refused { OnOk result (self.new.status ≡ FileTooLarge
             → OnlyReads D.history self.old.disk self.new.disk 1) }
         ensures reads { D.history.reads self.new.disk ≤ D.history.reads self.old.disk + 13 }
-        // else every image held is one of the record call, and so is the count of writes
+        // otherwise each image held, and the number of writes, is that of the call on the record
         ensures moments { (c : Channel) (l : Layout) (f : File) → IsOn self.old.channel channel c
             → IsRelAt (D.history.image self.old.disk) l c.entry f
             → Changes D.history self.old.disk self.new.disk (writes_for f c text.now)

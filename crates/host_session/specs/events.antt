@@ -1,4 +1,4 @@
--- One event of a run: where it comes from, what it does and counts, and who is told.
+-- One event of a run: its source, what it does and counts, and the receiver of its reply.
 pub mod Events
 pub mod Counted
 pub mod Quiet

@@ -1,4 +1,4 @@
-//! One event of a run: where it comes from, a cut in it, and who is told its reply.
+//! One event of a run: its source, a cut in it, and the receiver of its reply.
 pub(crate) mod cuts;
 pub(crate) mod lines;
 pub(crate) mod printing;

@@ -4,8 +4,8 @@ ghost use Rattle.std.specs.Prelude.{◌≡◌};
 use disk_layout::Fault;
 use thiserror::Error;
 
-/// Why a disk isn't opened. What is judged first is told: `Layout`, `NoStock`, `NoRequests`, `BadRequestCard`,
-/// `TwoIntents`, `BadCard`. Nothing was written then.
+/// Why a disk isn't opened. If several faults hold, the first in this order is returned: `Layout`, `NoStock`,
+/// `NoRequests`, `BadRequestCard`, `TwoIntents`, `BadCard`. With these nothing was written.
 #[derive(Clone, Copy, Debug, PartialEq, Eq, Error)]
 pub enum OpenFault {
     /// The disk isn't sound. Never `Fault::Device`.
@@ -18,11 +18,11 @@ pub enum OpenFault {
     #[error("NO REQUESTS")]
     NoRequests,
     /// The lowest record of STOCK that is neither empty nor the card of its item. The items of the open intent aren't
-    /// judged.
+    /// checked.
     #[error("BAD CARD {0}")]
     BadCard(u16),
     /// The lowest till, up to 64, whose record of REQUESTS is neither empty nor a card, or is an open intent for an
-    /// item whose record STOCK hasn't.
+    /// item that has no record in STOCK.
     #[error("BAD REQUEST CARD {0}")]
     BadRequestCard(u8),
     /// More than one intent is open.

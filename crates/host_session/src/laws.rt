@@ -15,42 +15,42 @@ ghost use Rattle.request_cards.specs.declared.reply.Reply.{Reply};
 
 use d64_image::Sectors;
 
-/// A disk is one shop's at most.
+/// A disk is at most one shop's.
 pub fn one_shop()
     ensures { (img : Image) (s t : Shop) → IsShop img s → IsShop img t → s ≡ t }
 {}
 
-/// A disk of which a fault of opening holds, other than the device's, is no shop's.
+/// A disk with a fault of opening, other than the device's, is no shop's.
 pub fn refused_no_shop()
     ensures { (img : Image) (fault : OpenFault) (s : Shop) → Refuses ⊥ img fault → ¬ (IsShop img s) }
 {}
 
-/// What a shop keeps of a till are the last two of all requests that the till was ever answered, with their answers:
-/// those that the disk held, and then the new ones of the requests that follow.
+/// What a shop keeps of a till is the last two of all requests that the till was ever answered, with their answers. All
+/// of them are those that the disk held, and then the new ones of the requests that follow.
 pub fn last_two()
     ensures { (img : Image) (s : Shop) → IsShop img s → (asks : List Ask) (till : ℕ)
         → KeepsLastTwo (start_of s) asks till }
 {}
 
-/// Whatever messages to a shop and replies are lost, repeated or reordered, and wherever power fails: each till has
-/// heard its new requests with their answers, in order and each once, at most one more of its requests is new, and it
-/// was never told that it went astray.
+/// Messages to a shop and replies may be lost, repeated or reordered, and power may fail at any point. Each till has
+/// still got its new requests with their answers, in order and each once, and at most one more of its requests is new.
+/// It never got a reply that means that it went astray.
 pub fn both_ends()
     ensures { (s : Shop) (steps : List Step) (till : ℕ)
         → HoldsAtBothEnds (start_of s) (after_steps (start_of s) steps) till }
 {}
 
-/// Beginnings only grow in a run: behind any of its events the disk is at rest, and from then on it holds no image of a
-/// beginning before that one. So no write is taken back and made again, and no reply that was told is lost on the way.
-/// A run that a device ended is such a run up to its last event.
+/// Prefixes only grow in a run: after any of its events the disk is at rest, and from then on it holds no image of a
+/// shorter prefix. So no write is taken back and made again, and no reply that was passed on is lost on the way. A run
+/// that a device ended is such a run up to its last event.
 pub fn only_grows<D: Sectors>()
     ensures { (s : Shop) (ms ns : List Message) (xs ys : List (Reply × D)) (old new : D) → length ms ≡ length xs
         → HasRun D.history s (ms ++ ns) (xs ++ ys) old new → GrowsFrom D.history s ms ns xs old new }
 {}
 
-/// The blank image for 1 to 64 tills is a shop's, whatever the disk held before, and at rest: no cards, nothing kept of
-/// any till, so many tills (one more where their number is odd), room for new cards up to item `blank_top tills`, no
-/// other file, and the name and the id that it was given.
+/// The blank image for 1 to 64 tills is a shop's, whatever the disk held before, and at rest. It has no cards, and
+/// nothing is kept of any till. It has this number of tills, or one more if the number is odd, and room for new cards
+/// up to item `blank_top tills`. It has no other file, and the name and the id that it was given.
 pub fn blank_is_a_shop()
     ensures { BlankIsAShop }
 {}

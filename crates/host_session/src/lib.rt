@@ -3,11 +3,11 @@
 
 mod faults;
 mod laws;
-// The two files of a shop on a disk: found, read and judged; their records written through a drive.
+// The two files of a shop on a disk: found, read and checked; their records are written through a drive.
 mod shop;
 // An open session: its disk opened and brought to rest, its messages answered.
 mod session;
-// One event of a run: where it comes from, a cut in it, and who is told its reply.
+// One event of a run: its source, a cut in it, and the receiver of its reply.
 mod events;
 // The loop of all runs, and its callers.
 mod runs;

@@ -22,13 +22,14 @@ use drive_channels::Dead;
 use request_cards::{Answer, Request, RequestCard};
 use std::marker::Model;
 
-/// How many items a shop has at most: as many as the largest file has records.
+/// The greatest number of items of a shop: as many as the largest file has records.
 pub(crate) const ITEMS: usize = 10160;
 
 /// An open ledger: a shop on a disk.
 ///
-/// What the disk holds is kept here as well, so that a repeat, a refused request and a decision read no sector. Once
-/// the device has failed the session is dead: nothing is written any more, and the disk is to be opened again.
+/// The session also keeps in memory what the disk holds, so that a repeat, a refused request and a decision read no
+/// sector. Once the device has failed the session is dead: it writes nothing any more, and the disk has to be opened
+/// again.
 pub struct Session<D: Sectors> {
     pub(crate) drive: ShopDrive<D>,
     /// The last item that a new card may have.
@@ -59,7 +60,7 @@ impl<D: Sectors> Session<D> {
     /// Whether the device failed: a message got MEDIA.
     pub fn is_dead(&self) -> bool
         ensures value { result ≡ self.now.dead }
-        // else the disk is at rest
+        // otherwise the disk is at rest
         ensures settled { result ≡ false → (s : Shop) → IsShop (D.history.image self.now.disk) s
             → IsSettled (D.history.image self.now.disk) s }
     {
@@ -102,7 +103,7 @@ impl<D: Sectors> Session<D> {
         drive.into_disk()
     }
 
-    /// The same session on a disk whose power goes after so many sector writes.
+    /// The same session on a disk whose power fails after this number of sector writes.
     pub(crate) fn fused(self, writes: u32) -> Session<Fuse<D>>
         ensures disk { fuse_disk result.disk ≡ self.disk }
         ensures limit { fuse_limit result.disk ≡ writes }
@@ -163,7 +164,7 @@ pub(crate) fn newest_of(card: &RequestCard, till: u8) -> (Request, Answer)
 }
 
 impl<D: Sectors> Session<D> {
-    /// The quantity on hand of an item, where it has a card. Err where the session is dead.
+    /// The quantity on hand of an item, if it has a card. Err if the session is dead.
     pub fn card(&self, item: u16) -> Result<Option<u32>, Dead>
         ensures ok { (s : Shop) → IsShop (D.history.image self.now.disk) s
             → IfOk result (λ q. q ≡ s.state.ledger.cards item) }
@@ -175,7 +176,7 @@ impl<D: Sectors> Session<D> {
         Ok(on_hand(&self.cards, item))
     }
 
-    /// The last request of a till with its answer, where the till has one. Err where the session is dead.
+    /// The last request of a till with its answer, if the till has one. Err if the session is dead.
     pub fn kept(&self, till: u8) -> Result<Option<(Request, Answer)>, Dead>
         ensures ok { (s : Shop) → IsShop (D.history.image self.now.disk) s
             → IfOk result (λ e. e ≡ option_map (told_of till) (s.state.ledger.kept till)) }
@@ -190,7 +191,7 @@ impl<D: Sectors> Session<D> {
         Ok(Some(newest_of(&card, till)))
     }
 
-    /// The request of a till before its last one with its answer, where the disk has it. Err where the session is dead.
+    /// The request of a till before its last one with its answer, if the disk has it. Err if the session is dead.
     pub fn prior(&self, till: u8) -> Result<Option<(Request, Answer)>, Dead>
         ensures ok { (s : Shop) → IsShop (D.history.image self.now.disk) s
             → IfOk result (λ e. e ≡ option_map (told_of till) (s.state.prior till)) }

@@ -1,4 +1,4 @@
-//! The two files of a shop on a disk: found, read and judged; their records written through a drive.
+//! The two files of a shop on a disk: found, read and checked; their records are written through a drive.
 pub(crate) mod completion;
 mod files;
 pub(crate) mod growth;

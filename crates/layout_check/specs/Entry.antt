@@ -1,4 +1,4 @@
--- What a used slot of the directory says by itself (1541 User's Guide, directory format).
+-- What a used slot of the directory shows by itself (1541 User's Guide, directory format).
 use Rattle.std.specs.Prelude.{ℕ, ◌≡◌, ◌≢◌, ◌⊎◌, ◌<◌, ◌≤◌, IsTrue, List}
 use Rattle.d64_image.specs.Images.{Image}
 use Rattle.d64_image.specs.declared.place.Place.{Place}
@@ -20,7 +20,7 @@ pub record IsProper (s : Slot) : Type 0 where
   pub closed : IsClosedType (type_byte s)
   pub length : IsTrue (is_rel s) → (1 ≤ record_length s) × (record_length s ≤ 254)
 
--- the fault is what the slot's own bytes show, told at its directory sector
+-- the fault is what the slot's own bytes show, reported at its directory sector
 abbrev pub IsShown : Slot → Fault → Type 0
 IsShown s (BadType p) = (p ≡ s.sector) × (128 ≤ type_byte s) × ¬ (IsClosedType (type_byte s))
 IsShown s (Unclosed p) = (p ≡ s.sector) × (type_byte s < 128)

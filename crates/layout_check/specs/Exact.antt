@@ -1,4 +1,4 @@
--- What a check asks of a relative entry beyond what a survey asks. Our own.
+-- What a check requires of a relative entry beyond what a survey requires. Our own.
 use Rattle.std.specs.Prelude.{
   ℕ,
   ◌≡◌,
@@ -32,9 +32,8 @@ use Rattle.disk_layout.specs.declared.faults.Fault.{Fault}
 use Rattle.disk_layout.specs.declared.faults.Fault.TheVariants.{BadSide, CountWrong}
 use Rattle.disk_layout.specs.declared.slot.Slot.{Slot}
 
--- a call that makes at most n reads, no write, and tells why the image isn't clean: a fault that holds of it. Device is
--- told
--- only where the device failed
+-- a call that makes at most n reads and no write, and returns why the image isn't clean: a fault that holds of it.
+-- Device is returned only if the device failed
 pub record TellsUnclean {D : Type 0} (S : History D) (old new : D) (n : ℕ) (fault : Fault) : Type 0 where
   pub reads : OnlyReads S old new n
   pub failures : TellsFault {T = ℕ} S old new (Err fault)
@@ -63,14 +62,13 @@ pub record IsFirstInexact (img : Image) (s : Slot) (blocks sides : List Place) (
   pub other : ¬ (IsExactSide img s blocks sides number place)
   pub first : (k : ℕ) (p : Place) → k < number → slice_get sides k ≡ Some p → IsExactSide img s blocks sides k p
 
--- what is told of these side sectors: the first whose bytes aren't exact, or None where all are
+-- what is reported of these side sectors: the first whose bytes aren't exact, or None if all are exact
 abbrev pub ToldOfSides : Image → Slot → List Place → List Place → Option Place → Type 0
 ToldOfSides img s blocks sides (Some p) = IsFirstInexact img s blocks sides p
 ToldOfSides img s blocks sides None = AreExactSides img s blocks sides
 
--- what is told of a relative entry: the side sector that isn't exact, or else the count of an entry that doesn't own so
--- many
--- sectors; None where it does
+-- what is reported of a relative entry: the side sector that isn't exact; otherwise a wrong count, if the count isn't
+-- the number of sectors owned; otherwise None
 abbrev pub ToldOfEntry : Slot → Option Place → ℕ → Option Fault → Type 0
 ToldOfEntry s (Some p) owned told = told ≡ Some (BadSide p)
 ToldOfEntry s None owned (Some fault) = (fault ≡ CountWrong s.sector) × (count_field s ≢ owned)
@@ -87,12 +85,12 @@ IsInexactFile img f _ = ⊥
 abbrev pub IsCleanFile : Image → File → Type 0
 IsCleanFile img f = IsTrue (is_rel f.slot) → IsExactFile img f
 
--- what is told of a file: as what it isn't exact, or None where it is
+-- what is reported of a file: the fault by which it isn't exact, or None if it is
 abbrev pub ToldOfFile : Image → File → Option Fault → Type 0
 ToldOfFile img f (Some fault) = IsInexactFile img f fault
 ToldOfFile img f None = IsCleanFile img f
 
--- of these files this one is the first that isn't exact, as the fault says
+-- the first of these files that isn't exact, as the fault says
 pub record IsFirstInexactFile (img : Image) (fs : List File) (fault : Fault) : Type 0 where
   pub before : List File
   pub file : File
@@ -101,15 +99,15 @@ pub record IsFirstInexactFile (img : Image) (fs : List File) (fault : Fault) : T
   pub exact : AllByRecursion (IsCleanFile img) before
   pub told : IsInexactFile img file fault
 
--- what is told of these files: the fault of the first that isn't exact, or None where all are
+-- what is reported of these files: the fault of the first that isn't exact, or None if all are exact
 abbrev pub ToldOfFiles : Image → List File → Option Fault → Type 0
 ToldOfFiles img fs (Some fault) = IsFirstInexactFile img fs fault
 ToldOfFiles img fs None = AllByRecursion (IsCleanFile img) fs
 
--- the map is that of what is owned, and of the strays
+-- the map is that of the owned sectors and the strays
 abbrev pub HasMapBut : List Place → Image → Type 0
 HasMapBut strays img = (l : Layout) → IsLayout img l → IsMapOf (sector img map_place) (strays ++ map_place ∷ owners l)
 
--- the map is that of what is owned
+-- the map is that of the owned sectors
 abbrev pub HasMap : Image → Type 0
 HasMap img = HasMapBut [] img

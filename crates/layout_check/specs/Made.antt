@@ -20,13 +20,13 @@ pub record KeepsTracks (old new : Sector) (track : ℕ) : Type 0 where
   pub counts : (t : ℕ) → t ≢ track → map_count new t ≡ map_count old t
   pub header : SameHeader old new
 
--- a track was made by the table
+-- the map of a track was made by the table
 pub record IsMadeTrack (old new : Sector) (t : Owners) (track : ℕ) : Type 0 where
   pub right : IsRightTrack new t track
   pub spare : HasNoSpare new track
   pub keeps : KeepsTracks old new track
 
--- the map was made by the table, beside the same bytes
+-- the map was made by the table, and the bytes outside it are the same
 pub record IsMadeMap (old new : Sector) (t : Owners) : Type 0 where
   pub right : IsRightMap new t
   pub spare : (track : ℕ) → 1 ≤ track → track ≤ 35 → HasNoSpare new track

@@ -21,7 +21,7 @@ pub record IsMended (a : Image) (l : Layout) (c : Image) : Type 0 where
 abbrev pub Mends : {D : Type 0} → History D → D → D → ℕ → Type 0
 Mends S old new n = (a : Image) (l : Layout) → IsMended a l (S.image old) → Changes S old new n (IsMended a l)
 
--- Device alone is told, where the device failed, at a place where it did; Ok only where no failure was counted
+-- the only error is Device, at a place at which the device failed; Ok only if no failure was counted
 abbrev pub TellsDevice : {D T : Type 0} → History D → D → D → Result T Fault → Type 0
 TellsDevice S old new (Ok _) = S.failures new ≡ S.failures old
 TellsDevice S old new (Err fault) = Failed S old new × ((p : Place) × (fault ≡ Device p) × S.failed_at new p)

@@ -1,4 +1,4 @@
--- What each call promises that mends a sound disk. Our own.
+-- What each call that mends a sound disk promises. Our own.
 use Rattle.std.specs.Prelude.{ℕ, ◌≡◌, ◌≤◌, ◌+◌, ◌*◌, [], ◌∷◌, Contains, List, OnOk, Result, length}
 use Rattle.d64_image.specs.History.{Changes, History, WritesNothing}
 use Rattle.d64_image.specs.Images.{sector}
@@ -21,8 +21,8 @@ pub record MendsDisk {D T : Type 0} (S : History D) (old new : D) (n : ℕ)
   pub mends : Mends S old new n
   pub failures : TellsDevice S old new result
 
--- these sectors of an image of this layout are gone over in order, each written once and only where it isn't right,
--- also where the device fails; at Ok all of them are right, and nothing else changed
+-- the call visits these sectors of an image of this layout in order, and writes each at most once and only if it isn't
+-- right, even if the device fails; at Ok all of them are right, and nothing else changed
 pub record PutsRightBut {D T : Type 0} (strays : List Place) (S : History D) (old new : D) (l : Layout)
     (ps : List Place) (result : Result T Fault) : Type 0 where
   pub over : GoesOver S old new (IsRightBut strays l) ps
@@ -98,7 +98,7 @@ pub record MendsCounts {D T : Type 0} (S : History D) (old new : D) (result : Re
   pub counted : OnOk result (AreCounted (S.image new))
   -- every image held, the last one too, has the same files
   pub moments : Changes S old new 18 (KeepsButCounts (S.image old))
-  -- a sector is written where a count in it is wrong, in the order of the directory
+  -- a sector is written if a count in it is wrong, in the order of the directory
   pub right : (l : Layout) → IsLayout (S.image old) l → PutsRight S old new l l.directory result
   pub quiet : AreCounted (S.image old) → WritesNothing S old new
   pub failures : TellsDevice S old new result

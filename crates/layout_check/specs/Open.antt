@@ -5,7 +5,7 @@ use Rattle.std.specs.Prelude.{ℕ, ◌≡◌, ◌≢◌, ◌⊎◌, ◌<◌, ◌
 abbrev pub IsOff : ℕ → Type 0
 IsOff n = (n < 357) ⊎ (376 ≤ n)
 
--- nobody owns it, or the entry e does
+-- nobody owns the sector, or the entry e does
 abbrev pub IsOpen : ℕ → ℕ → ℕ → Type 0
 IsOpen e n number = IsOff n × ((number ≡ 255) ⊎ (number ≡ e))
 

@@ -1,4 +1,4 @@
--- Who owns each sector, as far as a survey has come. Our own.
+-- The owner of each sector, as far as a survey has come. Our own.
 use Rattle.std.specs.Prelude.{◌≡◌, ◌≢◌, ℕ, List, ◌∷◌, Contains, slice_index}
 use Rattle.d64_image.specs.Places.{index_of}
 use Rattle.d64_image.specs.declared.place.Place.{Place}
@@ -16,7 +16,7 @@ abbrev pub IsClaimed : Owners → Owners → ℕ → List Place → Type 0
 IsClaimed old new n ps = (p : Place) → (Contains ps p → (owner_of old p ≡ 255) × (owner_of new p ≡ n))
     × (¬ (Contains ps p) → owner_of new p ≡ owner_of old p)
 
--- the fault is told at one of these places, which has an owner in the table
+-- the fault is reported at one of these places, which has an owner in the table
 abbrev pub IsOwned : Owners → List Place → Fault → Type 0
 IsOwned t ps fault = (p : Place) × (fault ≡ OwnedTwice p) × Contains ps p × (owner_of t p ≢ 255)
 

@@ -28,7 +28,7 @@ owned_by fs = length (flat_map file_owns fs)
 abbrev pub owned_if : (File → Bool) → List File → ℕ
 owned_if test fs = sum_by (λ f. cond (test f) (length (file_owns f)) 0) fs
 
--- the slot of the file stands in the directory sector at p
+-- the slot of the file is in the directory sector at p
 abbrev pub is_in : Place → File → Bool
 is_in p f = nat_eq (index_of f.slot.sector) (index_of p)
 

@@ -22,7 +22,7 @@ pub record IsRelAt (l : Layout) (p : Place) (n : ℕ) (f : File) : Type 0 where
   pub sector : f.slot.sector ≡ p
   pub number : f.slot.number ≡ n
 
--- in these bytes of the directory sector at p the block count of slot n is right, where it is a relative entry's
+-- in these bytes of the directory sector at p the block count of slot n is right, if the slot is a relative entry's
 abbrev pub IsRightAt : Image → Place → Sector → ℕ → Type 0
 IsRightAt img p bytes n = (l : Layout) (f : File) → IsLayout img l → IsRelAt l p n f
     → count_field (slot_in p bytes n) ≡ owned_count f
@@ -36,20 +36,20 @@ abbrev pub AreCounted : Image → Type 0
 AreCounted img = (l : Layout) (f : File) → IsLayout img l → Contains l.files f → IsTrue (is_rel f.slot)
     → count_field f.slot ≡ owned_count f
 
--- the bytes of a directory sector differ in block counts of relative entries alone
+-- the bytes of a directory sector differ only in block counts of relative entries
 pub record IsCountedAs (old new : Sector) : Type 0 where
   pub old_long : length old ≡ 256
   pub long : length new ≡ 256
   pub same : (i : ℕ) → i < 256 → IsCountByte old i ⊎ (slice_index new i ≡ slice_index old i)
 
--- the bytes of a directory sector got counts that are right in this sense, and nothing else; those that were right are
--- the same
+-- the bytes of a directory sector got counts that are right in this sense, and nothing else changed; bytes that were
+-- right are the same
 pub record GetsCounts (Right : Sector → Type 0) (old new : Sector) : Type 0 where
   pub counts : IsCountedAs old new
   pub right : Right new
   pub kept : Right old → new ≡ old
 
--- the image differs in block counts of relative entries in these directory sectors alone
+-- the image differs only in block counts of relative entries in these directory sectors
 pub record IsRecountOf (old new : Image) (ps : List Place) : Type 0 where
   pub counts : (p : Place) → Contains ps p → IsCountedAs (sector old p) (sector new p)
   pub rest : (p : Place) → ¬ (Contains ps p) → sector new p ≡ sector old p
@@ -61,7 +61,7 @@ pub record IsSameButCounts (old new : Image) (l : Layout) : Type 0 where
   pub files : SameFiles old new l layout
   pub rest : (p : Place) → ¬ (Contains l.directory p) → sector new p ≡ sector old p
 
--- so it is for each layout of the old one
+-- this holds for each layout of the old image
 abbrev pub KeepsButCounts : Image → Image → Type 0
 KeepsButCounts old new = (l : Layout) → IsLayout old l → IsSameButCounts old new l
 
@@ -74,11 +74,12 @@ pub record IsDirectorySector (img : Image) (p : Place) : Type 0 where
   pub sound : IsSound img
   pub own : IsInDirectory img p
 
--- one directory sector has other counts, and all else is the same
+-- one directory sector has other counts, and everything else is the same
 abbrev pub IsRecountAt : Image → Place → Image → Type 0
 IsRecountAt old p new = IsRecountOf old new (p ∷ [])
 
--- one directory sector has right block counts, and is as it was where it had them, and all else is the same
+-- one directory sector has right block counts, and everything else is the same; if its counts were right, it is as it
+-- was
 pub record IsMendedAt (old : Image) (p : Place) (new : Image) : Type 0 where
   pub counts : IsRecountAt old p new
   pub kept : AreRightIn old p (sector old p) → sector new p ≡ sector old p

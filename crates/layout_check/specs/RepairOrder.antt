@@ -26,7 +26,7 @@ IsRight l p bytes = IsRightBut [] l p bytes
 abbrev pub sides_of : List File → List Place
 sides_of fs = flat_map (λ f. f.sides) fs
 
--- what a repair goes over: the map, the side sectors, the directory
+-- the sectors that a repair visits: the map, the side sectors, the directory
 abbrev pub repair_order : Layout → List Place
 repair_order l = map_place ∷ (sides_of l.files ++ l.directory)
 

@@ -14,7 +14,7 @@ use Rattle.layout_check.specs.Survey.{IsSurveyOf}
 use Rattle.layout_check.specs.declared.survey_outcome.Survey.{Survey}
 use Rattle.std.specs.Prelude.{◌↔◌, ℕ, ◌≤◌, ◌+◌, ◌*◌, IfErr, IfOk, IsOk, OnOk, Result, length}
 
--- the new image is clean and has the files of the old one, which the survey tells
+-- the new image is clean and has the files of the old one, and the survey is of its layout
 pub record IsRepaired (old new : Image) (s : Survey) : Type 0 where
   pub before : Layout
   pub after : Layout
@@ -27,14 +27,14 @@ pub record IsRepaired (old new : Image) (s : Survey) : Type 0 where
 abbrev pub MendsFrom : {D : Type 0} → History D → D → D → ℕ → Type 0
 MendsFrom S old new n = (l : Layout) → IsLayout (S.image old) l → Changes S old new n (IsMended (S.image old) l)
 
--- What comes of a repair: a sound disk is made clean, and any other is left as it is.
+-- The result of a repair: a sound disk is made clean, and any other is left as it is.
 pub record Repairs {D : Type 0} (S : History D) (old new : D) (result : Result Survey Fault) : Type 0 where
   pub ok : IfOk result (IsRepaired (S.image old) (S.image new))
   pub err : IfErr result (Holds (S.failed_at new) (S.image old))
-  -- neither a fault nor a layout is told always
+  -- if the device doesn't fail, the result is Ok exactly on a sound image
   pub sound : NeverFailed S old new → (IsOk result ↔ IsSound (S.image old))
   pub moments : MendsFrom S old new 883
-  -- files that are whole are so in each image held
+  -- whole files are whole in each image held
   pub whole : HoldsWhole S old new
   -- no sector that is right is written, the others once, the map first, then the side sectors, then the directory
   pub order : (l : Layout) → IsLayout (S.image old) l → GoesOver S old new (IsRight l) (repair_order l)
@@ -47,7 +47,7 @@ pub record Repairs {D : Type 0} (S : History D) (old new : D) (result : Result S
   -- nor is one that is clean
   pub quiet : IsClean (S.image old) → WritesNothing S old new
   pub failures : TellsFault S old new result
-  -- of any disk, whatever is told
+  -- on any disk, whatever the result
   pub reads : S.reads new ≤ S.reads old + 5543
   -- and at Ok seven a sector of the directory or a file
   pub few_reads : OnOk result ((l : Layout) → IsLayout (S.image old) l

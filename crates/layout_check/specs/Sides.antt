@@ -1,4 +1,4 @@
--- What is judged of side sectors, one at a time (1541 User's Guide, relative file format).
+-- What is checked of side sectors, one at a time (1541 User's Guide, relative file format).
 use Rattle.std.specs.Prelude.{
   ℕ,
   ◌≡◌,
@@ -63,7 +63,7 @@ abbrev pub HasOtherFields : Sector → Slot → List Place → ℕ → Type 0
 HasOtherFields bytes s blocks j = (slice_index bytes 2 ≢ j) ⊎ ((slice_index bytes 3 ≢ record_length s)
     ⊎ IsMispointed bytes blocks j)
 
--- a side sector is as a sound image asks beside its link: it has these three, and lists all side sectors
+-- a side sector is as a sound image requires except for its link: it has these three fields, and lists all side sectors
 pub record IsSoundSide (bytes : Sector) (s : Slot) (blocks sides : List Place) (j : ℕ) : Type 0 where
   pub fields : HasSideFields bytes s blocks j
   pub lists : NamesEach bytes 4 sides
@@ -82,7 +82,7 @@ pub record AreLinkedSides (img : Image) (s : Slot) (blocks sides : List Place) :
   pub leads : Leads img first front last
   pub count : length sides ≡ sides_for (length blocks)
 
--- and each judged alone
+-- the side sectors are linked, and each has the right fields
 pub record IsWalkOfSides (img : Image) (s : Slot) (blocks sides : List Place) : Type 0 where
   pub linked : AreLinkedSides img s blocks sides
   pub judged : (j : ℕ) (q : Place) → slice_get sides j ≡ Some q → HasSideFields (sector img q) s blocks j

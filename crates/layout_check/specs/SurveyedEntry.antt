@@ -26,7 +26,7 @@ pub record IsClaimedFile (img : Image) (s : Slot) (n : ℕ) (old new : Owners) (
   pub blocks : IsClaimed old between n g.blocks
   pub sides : IsClaimed between new n g.sides
 
--- a sector of the entry has an owner in the table, where none of this entry's was
+-- a sector of the entry has an owner in the table already
 pub record IsClash {D : Type 0} (S : History D) (old new : D) (s : Slot) (t : Owners) (fault : Fault) : Type 0 where
   pub place : Place
   pub told : fault ≡ OwnedTwice place
@@ -46,7 +46,7 @@ pub record ClaimsBlocks {D : Type 0} (S : History D) (old new : D) (s : Slot) (n
   pub ok : OnOk result (Passes S old new (length ps))
   pub err : IfErr result (TellsOrClashes S old new s t)
 
--- the file of the entry was found, each of its sectors read at most twice, and judged whether it is exact
+-- the call found the file of the entry, read each of its sectors at most twice, and checked whether it is exact
 abbrev pub SurveysEntry : {D : Type 0} → History D → D → D → Slot → ℕ → Owners → Owners → Option Fault → Type 0
 SurveysEntry S old new s n t u unclean = (g : File) × IsClaimedFile (S.image old) s n t u g
     × ToldOfFile (S.image old) g unclean × Passes S old new (2 * length (file_owns g))

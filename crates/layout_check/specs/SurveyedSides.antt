@@ -8,7 +8,8 @@ use Rattle.layout_check.specs.Calls.{Passes, TellsUnsound}
 use Rattle.layout_check.specs.Exact.{ToldOfSides}
 use Rattle.layout_check.specs.Sides.{HasParts, IsWalkOfSides, ListsEach}
 
--- the side sectors of an entry with these blocks were found, each read at most twice, and judged whether they are exact
+-- the call found the side sectors of an entry with these blocks, read each at most twice, and checked whether they are
+-- exact
 pub record SurveysSides {D : Type 0} (S : History D) (old new : D) (s : Slot) (bs ss : List Place)
     (result : Result (Option Place) Fault) : Type 0 where
   pub sides : OnOk result (IsWalkOfSides (S.image old) s bs ss)

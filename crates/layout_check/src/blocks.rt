@@ -11,8 +11,8 @@ use arrayvec::ArrayVec;
 use d64_image::{Place, Sectors};
 use disk_layout::{EntryView, Fault, MOST_BLOCKS, Slot, read_sector, walk_chain};
 
-/// Follows the chain of a closed entry that names a first block, and fills `blocks` with its sectors in order. The
-/// answer is the index of the last used byte in the last one.
+/// Follows the chain of a closed entry that names a first block, and fills `blocks` with its sectors in order. Returns
+/// the index of the last used byte of the last one.
 pub(crate) fn survey_blocks<D: Sectors>(
     disk: &mut D,
     slot: &Slot,
@@ -37,7 +37,7 @@ fn contains(places: &[Place], place: Place) -> bool
     places.contains(&place)
 }
 
-/// What is told of a sector that has an owner already, where a chain leads to it through these blocks of its own.
+/// The fault for a sector that has an owner already, if a chain leads to it through these blocks of its own.
 // Out of line: a sound disk has none
 #[inline(never)]
 fn owned_block(place: Place, blocks: &[Place]) -> Fault
@@ -52,10 +52,10 @@ fn owned_block(place: Place, blocks: &[Place]) -> Fault
 }
 
 /// Fills `places` with the blocks as `survey_blocks` does, and gives each to the owner with this number when the walk
-/// comes to it: so the table of owners is also that of the sectors visited, and costs no time while a link is waited
-/// for.
+/// reaches it. So the table of owners also marks the sectors visited, and updating it takes no time while a read waits
+/// for its link.
 ///
-/// `OwnedTwice` is told at a sector that another owned. What the table has after a fault is open.
+/// `OwnedTwice` is returned at a sector that another owned. After an error the table may hold anything.
 pub(crate) fn claim_blocks<D: Sectors>(
     disk: &mut D,
     slot: &Slot,

@@ -14,7 +14,7 @@ use crate::survey_walk::survey_files;
 use d64_image::Sectors;
 use disk_layout::{Fault, map_place, read_sector};
 
-/// Judges the map of a sound disk that was surveyed.
+/// Checks the map of a sound disk that was surveyed.
 fn check_map<D: Sectors>(disk: &mut D, found: &Survey) -> Result<(), Fault>
     requires { IsToldBy (D.history.image disk.old) found.now }
     ensures map { OnOk result (HasMap (D.history.image disk.old)) }
@@ -26,15 +26,15 @@ fn check_map<D: Sectors>(disk: &mut D, found: &Survey) -> Result<(), Fault>
     check_bits(&map, found.owners())
 }
 
-/// Checks the disk: where it is sound, and its side sectors, the block counts of its relative entries and its map are
-/// exact, the answer tells the owners and the entries; else a fault that holds at its place. An image with no fault of
-/// any kind is clean.
+/// Checks the disk. If it is sound, and its side sectors, the block counts of its relative entries and its map are
+/// exact, the result has the owners and the number of entries. Otherwise the result is a fault that holds at its place.
+/// An image with no fault of any kind is clean.
 ///
-/// Nothing is written, and no memory is taken.
+/// Nothing is written, and no memory is allocated.
 pub fn check<D: Sectors>(disk: &mut D) -> Result<Survey, Fault>
     ensures ok { IfOk result (λ s. (l : Layout) × IsCleanLayout (D.history.image disk.old) l × IsSurveyOf l s) }
     ensures err { IfErr result (HoldsOfClean (D.history.failed_at disk.new) (D.history.image disk.old)) }
-    // neither a fault nor a layout is told always
+    // if the device doesn't fail, the result is Ok exactly on a clean image
     ensures clean { NeverFailed D.history disk.old disk.new → (IsOk result ↔ IsClean (D.history.image disk.old)) }
     ensures failures { TellsFault D.history disk.old disk.new result }
     // the survey, and the map

@@ -1,10 +1,10 @@
-//! What a used slot of the directory says by itself: its type and its record length.
+//! What a used slot of the directory shows by itself: its type and its record length.
 ghost use Rattle.std.specs.Prelude.{IfErr, OnOk};
 ghost use Rattle.layout_check.specs.Entry.{IsProper, IsShown};
 
 use disk_layout::{EntryView, Fault, Slot};
 
-/// Judges the type of a used slot, and for a relative entry its record length, which is 1 to 254.
+/// Checks the type of a used slot, and for a relative entry its record length, which is 1 to 254.
 pub(crate) fn judge_entry(slot: &Slot) -> Result<(), Fault>
     ensures ok { OnOk result (IsProper slot.now) }
     ensures err { IfErr result (IsShown slot.now) }

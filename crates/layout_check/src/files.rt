@@ -1,4 +1,4 @@
-//! The file of one entry: what it owns is found, and claimed for it.
+//! Finds the file of one entry, and claims for it what it owns.
 ghost use Rattle.std.specs.Prelude.{◌≢◌, ◌<◌, IfErr, IfOk, IsFalse, IsTrue, None, OnOk, slice_index};
 ghost use Rattle.disk_layout.specs.Fault.{IsClosed};
 ghost use Rattle.disk_layout.specs.Layout.{is_rel};
@@ -15,7 +15,7 @@ use arrayvec::ArrayVec;
 use d64_image::{Place, Sectors};
 use disk_layout::{EntryView, Fault, MOST_BLOCKS, Slot};
 
-/// The file of an entry that isn't relative and names a first block: its chain.
+/// Finds the file of an entry that isn't relative and names a first block: its chain.
 fn survey_plain<D: Sectors>(
     disk: &mut D,
     slot: &Slot,
@@ -35,8 +35,8 @@ fn survey_plain<D: Sectors>(
     Ok(())
 }
 
-/// What a clean disk must not have of a relative entry that owns so many sectors: a side sector whose bytes aren't
-/// exact, or another block count; None where both are right.
+/// What a clean disk must not have of a relative entry that owns this number of sectors: a side sector whose bytes
+/// aren't exact, or another block count. None if both are right.
 fn unclean_of(slot: &Slot, inexact: Option<Place>, owned: usize) -> Option<Fault>
     ensures { ToldOfEntry slot.now inexact owned result }
 {
@@ -49,7 +49,7 @@ fn unclean_of(slot: &Slot, inexact: Option<Place>, owned: usize) -> Option<Fault
     None
 }
 
-/// The file of a relative entry: its chain, and its side sectors. The answer is what a clean disk must not have.
+/// Finds the file of a relative entry: its chain, and its side sectors. Returns what a clean disk must not have.
 fn survey_relative<D: Sectors>(
     disk: &mut D,
     slot: &Slot,
@@ -73,10 +73,10 @@ fn survey_relative<D: Sectors>(
 /// Finds the file of a used slot, and claims what it owns for the owner with this number. `parts` is room for what it
 /// owns. An entry that isn't relative and names no first block (track 0) owns nothing.
 ///
-/// The answer is what a clean disk must not have beyond what a sound one must not: a side sector whose bytes aren't
-/// exact or a wrong block count. It holds only where the whole disk is sound, so the caller keeps it back until then.
+/// Returns what a sound disk may have and a clean one may not: a side sector whose bytes aren't exact, or a wrong block
+/// count. This is a fault only if the whole disk is sound, so the caller keeps it back until then.
 ///
-/// Told is what is wrong with the slot, its chain or its side sectors; or `OwnedTwice` at a sector that is claimed
+/// The error is a fault of the slot, its chain or its side sectors, or `OwnedTwice` at a sector that has an owner
 /// already.
 pub(crate) fn survey_entry<D: Sectors>(
     disk: &mut D,

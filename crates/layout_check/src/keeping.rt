@@ -1,4 +1,4 @@
-//! Sectors that the map calls taken and that nobody owns, given an owner, so that they stay taken.
+//! Stray sectors, which are taken in the map but owned by nobody, are given an owner so that they stay taken.
 ghost use Rattle.std.specs.Prelude.{◌≡◌, ◌≢◌, ◌⊎◌, ◌<◌, ◌≤◌, IfOk, IsFalse, IsTrue, List, length};
 ghost use Rattle.d64_image.specs.declared.place.Place.{Place};
 ghost use Rattle.d64_image.specs.History.{OnlyReads};
@@ -13,10 +13,10 @@ use crate::survey_outcome::Survey;
 use d64_image::{Place, Sectors};
 use disk_layout::{BamView, Fault, map_place, read_sector};
 
-/// The number of a sector that the map calls taken and that nobody owns.
+/// The number of a stray sector: it is taken in the map, but nobody owns it.
 const STRAY: u8 = 253;
 
-/// Whether the map calls this sector taken, and it has no owner.
+/// Whether this sector is taken in the map, and has no owner.
 fn is_stray(map: &[u8; 256], owners: &Owners, place: Place) -> bool
     ensures stray { IsTrue result → ¬ (IsFree map.now place) × ¬ (owner_of owners.now place ≢ 255) }
     ensures other { IsFalse result → IsFree map.now place ⊎ (owner_of owners.now place ≢ 255) }
@@ -24,7 +24,7 @@ fn is_stray(map: &[u8; 256], owners: &Owners, place: Place) -> bool
     !BamView::new(map).is_free(place) && !owners.is_owned(place)
 }
 
-/// Gives this sector an owner, if the map calls it taken and it has none: how many sectors got one, 0 or 1.
+/// Gives this sector an owner, if it is stray. Returns how many sectors got one, 0 or 1.
 fn mark_place(map: &[u8; 256], owners: &mut Owners, place: Place) -> u16
     ensures marked { (ps : List Place)
         × AreMarked map.now owners.old owners.new (λ p. p ≡ place) ps × (result ≡ length ps) }
@@ -37,7 +37,7 @@ fn mark_place(map: &[u8; 256], owners: &mut Owners, place: Place) -> u16
     1
 }
 
-/// Gives the sectors of a track that the map calls taken and that have no owner one: how many these are.
+/// Gives the stray sectors of a track an owner. Returns how many these are.
 fn mark_track(map: &[u8; 256], owners: &mut Owners, track: u8) -> u16
     ensures marked { (ps : List Place)
         × AreMarked map.now owners.old owners.new (λ p. p.track ≡ track) ps × (result ≡ length ps) }
@@ -52,7 +52,7 @@ fn mark_track(map: &[u8; 256], owners: &mut Owners, track: u8) -> u16
     count
 }
 
-/// Gives the sectors of the disk that the map calls taken and that have no owner one: how many these are.
+/// Gives the stray sectors of the disk an owner. Returns how many these are.
 fn mark_strays(map: &[u8; 256], owners: &mut Owners) -> u16
     ensures marked { (ps : List Place)
         × AreMarked map.now owners.old owners.new (λ p. p.track < 36) ps × (result ≡ length ps) }
@@ -64,8 +64,8 @@ fn mark_strays(map: &[u8; 256], owners: &mut Owners) -> u16
     count
 }
 
-/// The sectors of a sound disk that was surveyed which have an owner, and beside these the stray ones: those that its
-/// map calls taken and that nobody owns. And how many stray ones it has.
+/// The sectors of a sound disk that are owned, by its survey, or stray: taken in the map but owned by nobody. Returns
+/// the number of stray sectors too.
 pub(crate) fn taken_sectors<D: Sectors>(disk: &mut D, found: Survey) -> Result<(Owners, u16), Fault>
     requires { IsToldBy (D.history.image disk.old) found }
     ensures table { IfOk result (λ taken. IsTakenTable (D.history.image disk.old) taken.0 taken.1) }

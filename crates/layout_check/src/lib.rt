@@ -1,4 +1,4 @@
-//! Judges the layout of a 1541 disk, and repairs what is inexact in it.
+//! Checks the layout of a 1541 disk, and repairs what is inexact in it.
 #![tactic(auto)]
 
 mod blocks;

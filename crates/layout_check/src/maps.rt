@@ -1,4 +1,4 @@
-//! The map of free sectors, beside who owns which sector.
+//! Compares the map of free sectors with the owners of the sectors.
 ghost use Rattle.std.specs.Prelude.{◌≤◌, IfErr, IsTrue, OnOk};
 ghost use Rattle.layout_check.specs.Marked.{IsRightMap, IsRightTrack, IsWrongMap};
 
@@ -6,8 +6,8 @@ use crate::owners::Owners;
 use d64_image::Place;
 use disk_layout::{BamView, Fault, map_place};
 
-/// Whether the map has the right bit for each sector of a track, and the right count of them. No branch hangs on a bit,
-/// so that this takes a third of the time of `check_track`, which tells what is wrong.
+/// Whether the map has the right bit for each sector of a track, and the right count of them. No branch depends on a
+/// bit, so this takes a third of the time of `check_track`, which returns what is wrong.
 fn is_right_track(map: &[u8; 256], owners: &Owners, track: u8) -> bool
     requires first { 1 ≤ track }
     requires last { track ≤ 35 }
@@ -26,7 +26,7 @@ fn is_right_track(map: &[u8; 256], owners: &Owners, track: u8) -> bool
     right & (view.free_on(track) == count)
 }
 
-/// Judges the bit of each sector of a track, and the track's count.
+/// Checks the bit of each sector of a track, and the track's count.
 fn check_track(map: &[u8; 256], owners: &Owners, track: u8) -> Result<(), Fault>
     requires first { 1 ≤ track }
     requires last { track ≤ 35 }
@@ -50,7 +50,7 @@ fn check_track(map: &[u8; 256], owners: &Owners, track: u8) -> Result<(), Fault>
     Ok(())
 }
 
-/// Judges the bytes of 18/0: the bit of each sector, and the count of each track. What stands beside them isn't judged.
+/// Checks the bytes of 18/0: the bit of each sector, and the count of each track. The other bytes aren't checked.
 pub(crate) fn check_bits(map: &[u8; 256], owners: &Owners) -> Result<(), Fault>
     ensures ok { OnOk result (IsRightMap map.now owners.now) }
     ensures err { IfErr result (IsWrongMap map.now owners.now) }

@@ -1,4 +1,4 @@
-//! The map and the side sectors that a sound disk is to have, each written where the disk has another.
+//! The map and the side sectors that a sound disk should have. Each is written if the disk has other bytes.
 ghost use Rattle.std.specs.Prelude.{◌≤◌, IsTrue, List, length};
 ghost use Rattle.d64_image.specs.declared.place.Place.{Place};
 ghost use Rattle.disk_layout.specs.Free.{IsWithoutFree};
@@ -19,7 +19,7 @@ use disk_layout::{
     Bam, EntryView, Fault, Slot, map_place, read_directory, read_sector, side_bytes, write_other,
 };
 
-/// Frees the sectors of a track that nobody owns, where none was free.
+/// Frees the sectors of a track that nobody owns. None of the track was free.
 fn free_track(map: &mut Bam, owners: &Owners, track: u8)
     requires none { IsWithoutFree map.old.bytes track }
     ensures { IsMadeTrack map.old.bytes map.new.bytes owners.now track }
@@ -33,8 +33,8 @@ fn free_track(map: &mut Bam, owners: &Owners, track: u8)
     }
 }
 
-/// The bytes that 18/0 is to have: the map by the owners, bits past a track's last sector 0; and beside the map what
-/// stands there.
+/// The bytes that 18/0 should have: the map by the owners, with the bits past a track's last sector 0. The bytes
+/// outside the map stay.
 fn map_of(old: &[u8; 256], owners: &Owners) -> [u8; 256]
     ensures { IsMadeMap old.now result owners.now }
 {
@@ -47,7 +47,8 @@ fn map_of(old: &[u8; 256], owners: &Owners) -> [u8; 256]
     map.bytes
 }
 
-/// Gives a sound disk the map that calls the sectors taken which have an owner in this table, where it has another.
+/// Gives a sound disk the map in which exactly the sectors with an owner in this table are taken. It is written only if
+/// the disk has another.
 pub(crate) fn mend_map<D: Sectors>(disk: &mut D, taken: &Owners) -> Result<(), Fault>
     ensures { (l : Layout) (strays : List Place) → IsLayout (D.history.image disk.old) l
         → MarksTaken taken.now l strays → MendsMap strays D.history disk.old disk.new result }
@@ -61,8 +62,8 @@ pub(crate) fn mend_map<D: Sectors>(disk: &mut D, taken: &Owners) -> Result<(), F
     write_other(disk, map_place(), &map, &wanted)
 }
 
-/// Gives the side sectors of a relative entry of a sound disk the bytes that they are to have, in their order, each
-/// where it has others.
+/// Gives the side sectors of a relative entry of a sound disk the bytes that they should have, in their order. Each is
+/// written only if it has others.
 fn mend_sides<D: Sectors>(
     disk: &mut D,
     slot: &Slot,
@@ -83,8 +84,8 @@ fn mend_sides<D: Sectors>(
     Ok(())
 }
 
-/// Gives the side sectors of a relative entry of a sound disk the bytes that they are to have. `parts` is filled with
-/// what the entry owns.
+/// Gives the side sectors of a relative entry of a sound disk the bytes that they should have. Fills `parts` with what
+/// the entry owns.
 fn mend_relative<D: Sectors>(disk: &mut D, slot: &Slot, parts: &mut Parts) -> Result<(), Fault>
     requires filed { IsFiled (D.history.image disk.old) slot.now }
     requires rel { IsTrue (is_rel slot.now) }
@@ -96,8 +97,8 @@ fn mend_relative<D: Sectors>(disk: &mut D, slot: &Slot, parts: &mut Parts) -> Re
     }
 }
 
-/// Gives the side sectors of all relative entries of a sound disk the bytes that they are to have, in the order of the
-/// directory, each where it has others.
+/// Gives the side sectors of all relative entries of a sound disk the bytes that they should have, in the order of the
+/// directory. Each is written only if it has others.
 pub(crate) fn mend_entries<D: Sectors>(disk: &mut D) -> Result<(), Fault>
     requires { IsSound (D.history.image disk.old) }
     ensures { MendsEntries D.history disk.old disk.new result }

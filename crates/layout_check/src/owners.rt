@@ -1,4 +1,4 @@
-//! Who owns each sector of a disk, as far as a survey has come: a table with one number a place.
+//! The owner of each sector of a disk, as far as a survey has come: a table with one number for each place.
 ghost use Rattle.std.specs.Prelude.{◌≡◌, length};
 
 use d64_image::Place;
@@ -10,8 +10,8 @@ pub(crate) const NOBODY: u8 = 255;
 /// The number of the map and the directory.
 const SYSTEM: u8 = 254;
 
-/// The owner of each sector, as a number: 255 for nobody, 254 for the map and the directory, and for an entry its
-/// place among the used entries, from 0. Asking takes the same time for each sector, however much is owned.
+/// The owner of each sector, as a number: 255 for nobody, 254 for the map and the directory. An entry has its position
+/// among the used entries, from 0. A look-up takes the same time for each sector, however much is owned.
 #[derive(Drop)]
 pub(crate) struct Owners {
     numbers: [u8; 683],
@@ -33,7 +33,7 @@ impl Owners {
         }
     }
 
-    /// The map and the directory, which has these sectors, own theirs; nobody owns another.
+    /// The table in which the map and the directory, with these sectors, own theirs, and nobody owns any other.
     pub(crate) fn of_directory(directory: &[Place]) -> Owners
         ensures { IsSystem result directory.now }
     {
@@ -74,8 +74,8 @@ impl Owners {
         self.numbers[place.index()] = number;
     }
 
-    /// Gives all these sectors, which differ from each other, to one owner; or tells `OwnedTwice` at one of them that
-    /// is owned already. What the table has then is open.
+    /// Gives all these sectors, no two of which are equal, to one owner. If any of them is owned already,
+    /// `OwnedTwice` is returned at such a sector, and the table may hold anything.
     pub(crate) fn claim(&mut self, number: u8, places: &[Place]) -> Result<(), Fault>
         requires some { number < 255 }
         requires once { EachOnce places.now }

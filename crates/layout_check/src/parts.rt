@@ -4,7 +4,7 @@ use arrayvec::ArrayVec;
 use d64_image::Place;
 use disk_layout::MOST_BLOCKS;
 
-/// The data blocks and the side sectors of a relative entry, each in order. The room is used again from entry to entry.
+/// The data blocks and the side sectors of a relative entry, each in order. The memory is used again for each entry.
 #[derive(Drop)]
 pub(crate) struct Parts {
     /// Its data blocks.

@@ -21,8 +21,8 @@ use disk_layout::{
     write_other,
 };
 
-/// How many sectors a relative entry of a sound disk owns: its data blocks and its side sectors. `parts` is filled
-/// with these.
+/// How many sectors a relative entry of a sound disk owns: its data blocks and its side sectors. Fills `parts` with
+/// these.
 fn count_owned<D: Sectors>(disk: &mut D, slot: &Slot, parts: &mut Parts) -> Result<u16, Fault>
     requires entry { IsEntry (D.history.image disk.old) slot.now }
     requires rel { IsTrue (is_rel slot.now) }
@@ -35,7 +35,7 @@ fn count_owned<D: Sectors>(disk: &mut D, slot: &Slot, parts: &mut Parts) -> Resu
     Ok((parts.blocks.len() + parts.sides.len()) as u16)
 }
 
-/// Makes the block count of one slot right in the bytes of its directory sector, where it is a relative entry's.
+/// Makes the block count of one slot right in the bytes of its directory sector, if the slot is a relative entry's.
 fn recount_slot<D: Sectors>(
     disk: &mut D,
     place: Place,
@@ -84,7 +84,7 @@ fn recount_sector<D: Sectors>(
     Ok(())
 }
 
-/// Makes the block counts right in a directory sector of a sound disk, which is written where one of them is wrong.
+/// Makes the block counts right in a directory sector of a sound disk. The sector is written if one of them is wrong.
 /// `parts` is room for what an entry owns.
 fn mend_sector<D: Sectors>(disk: &mut D, place: Place, parts: &mut Parts) -> Result<(), Fault>
     requires { IsDirectorySector (D.history.image disk.old) place }
@@ -114,10 +114,10 @@ fn find_directory<D: Sectors>(
 }
 
 /// Makes the block counts of the relative entries of a sound disk right: each is the number of the entry's data blocks
-/// and side sectors. The directory's sectors are gone over in order, and one is written, once, where a count in it is
-/// wrong; nothing else changes, and where all counts are right nothing is written.
+/// and side sectors. Visits the directory's sectors in order, and writes a sector, once, if a count in it is wrong.
+/// Nothing else changes. If all counts are right, nothing is written.
 ///
-/// `Device` is told where the device failed, and no other fault; the sectors before that one are then mended.
+/// The only error is `Device`, if the device failed; the sectors before that one then have right counts.
 pub(crate) fn mend_counts<D: Sectors>(disk: &mut D) -> Result<(), Fault>
     requires { IsSound (D.history.image disk.old) }
     ensures { MendsCounts D.history disk.old disk.new result }

@@ -1,4 +1,4 @@
-//! The repair of a disk: where it is sound, it is made clean.
+//! The repair of a disk: a sound disk is made clean.
 ghost use Rattle.std.specs.Prelude.{List};
 ghost use Rattle.d64_image.specs.declared.place.Place.{Place};
 ghost use Rattle.disk_layout.specs.Layout.{IsLayout, Layout};
@@ -14,8 +14,8 @@ use crate::survey_walk::survey;
 use d64_image::Sectors;
 use disk_layout::Fault;
 
-/// Gives a sound disk the map that calls these sectors taken, and the side sectors and the block counts that it is to
-/// have, in this order.
+/// Gives a sound disk the map in which these sectors are taken, and the side sectors and the block counts that it
+/// should have, in this order.
 fn mend<D: Sectors>(disk: &mut D, taken: &Owners) -> Result<(), Fault>
     requires { (l : Layout) × (strays : List Place) × IsLayout (D.history.image disk.old) l
         × MarksTaken taken.now l strays }
@@ -27,18 +27,21 @@ fn mend<D: Sectors>(disk: &mut D, taken: &Owners) -> Result<(), Fault>
     mend_counts(disk)
 }
 
-/// Repairs a disk: a sound one is made clean, with the same files; any other is left as it is, and the survey's fault
-/// is told. The answer tells the owners and the entries.
+/// Repairs a disk: a sound one is made clean, with the same files. Any other is left as it is, and the survey's fault
+/// is returned. At `Ok` the result has the owners and the number of entries.
 ///
-/// Written are the map where a bit or a count in it is wrong (then the bits past the tracks' last sectors become 0),
-/// the side sectors that haven't exactly their bytes, in the order of the directory, and the directory sectors in which
-/// a block count is wrong, each once: so none of a clean disk. Every image that the disk holds on the way is sound and
-/// has the same files; those that are whole stay so in each. At most 5543 reads are made, at `Ok` 37 and seven a sector
-/// of the directory or a file.
+/// A repair writes, each once:
+/// - the map, if a bit or a count in it is wrong; the bits past the tracks' last sectors then become 0;
+/// - the side sectors that don't have exactly their bytes, in the order of the directory;
+/// - the directory sectors in which a block count is wrong.
 ///
-/// A sector that the map calls taken and that nobody owns becomes free: `repair_keeping` leaves it taken.
+/// On a clean disk nothing is written. Every image that the disk holds on the way is sound and has the same files, and
+/// whole files stay whole. A repair makes at most 5543 reads; at `Ok`, at most 37 and seven for each sector of the
+/// directory or a file.
 ///
-/// `Device` is told where the device failed; what was mended until then stays mended.
+/// A stray sector, which is taken in the map but owned by nobody, becomes free: `repair_keeping` leaves it taken.
+///
+/// `Device` is returned if the device failed; what was mended until then stays mended.
 pub fn repair<D: Sectors>(disk: &mut D) -> Result<Survey, Fault>
     ensures { Repairs D.history disk.old disk.new result }
 {
@@ -47,16 +50,16 @@ pub fn repair<D: Sectors>(disk: &mut D) -> Result<Survey, Fault>
     Ok(found)
 }
 
-/// Repairs a disk as `repair` does, and frees nothing: each sector that the map calls taken and that nobody owns stays
-/// taken. Returns how many such sectors there are; but for them the disk is clean. They may be blocks that were written
-/// by direct access, or that a program keeps in a way of its own.
+/// Repairs a disk as `repair` does, and frees nothing: each stray sector, which is taken in the map but owned by
+/// nobody, stays taken. Returns the number of stray sectors. Apart from them the disk is clean. They may be blocks that
+/// were written by direct access, or that a program keeps in a way of its own.
 ///
-/// Every image that the disk holds on the way is sound, has the same files, whole ones whole, and calls no sector free
-/// that wasn't. At
-/// most 5544 reads are made, at `Ok` 38 and seven a sector of the directory or a file.
+/// Every image that the disk holds on the way is sound and has the same files. Whole files stay whole, and no sector
+/// becomes free in the map. At most 5544 reads are made; at `Ok`, at most 38 and seven for each sector of the directory
+/// or a file.
 ///
-/// A disk that isn't sound is left as it is, and the survey's fault returned. `Device` is returned if the device failed;
-/// what was mended until then stays mended.
+/// A disk that isn't sound is left as it is, and the survey's fault is returned. `Device` is returned if the device
+/// failed; what was mended until then stays mended.
 pub fn repair_keeping<D: Sectors>(disk: &mut D) -> Result<u16, Fault>
     ensures { RepairsKeeping D.history disk.old disk.new result }
 {

@@ -1,4 +1,4 @@
-//! The side sectors of a relative entry, judged as far as a sound disk asks.
+//! The side sectors of a relative entry, checked as far as a sound disk requires.
 ghost use Rattle.std.specs.Prelude.{◌+◌, ◌*◌, ◌<◌, ◌≤◌, IfErr, IsFalse, IsTrue, OnOk, length};
 ghost use Rattle.disk_layout.specs.Fault.{IsClosed};
 ghost use Rattle.disk_layout.specs.Layout.{is_rel, sides_for};
@@ -15,7 +15,7 @@ use disk_layout::{
     EntryView, Fault, POINTERS, POINTERS_AT, SideView, Slot, read_sector, side_bytes,
 };
 
-/// Where in a side sector the places of all side sectors stand.
+/// The index of the list of all side sectors in a side sector.
 const LIST_AT: usize = 4;
 
 /// Whether the bytes from `at` on name these places in order, track and sector of each.
@@ -24,7 +24,7 @@ fn names_each(sector: &[u8; 256], at: usize, places: &[Place]) -> bool
     ensures right { IsTrue result → NamesEach sector.now at places.now }
     ensures wrong { IsFalse result → IsMisnamed sector.now at places.now }
 {
-    // with no way out at the first difference, so that several places are compared at once
+    // without an exit at the first difference, so that several places are compared at once
     let mut same = true;
     for (number, place) in places.iter().enumerate() {
         let byte = at + 2 * number;
@@ -44,7 +44,7 @@ fn is_numbered(sector: &[u8; 256], number: usize, slot: &Slot) -> bool
 }
 
 /// Whether the bytes of a sector are those of side sector `number`, from 0, of an entry with these blocks: its number,
-/// its record length and its pointers. The list of side sectors and the link are judged beside.
+/// its record length and its pointers. The list of side sectors and the link are checked elsewhere.
 fn is_side(sector: &[u8; 256], number: usize, slot: &Slot, blocks: &[Place]) -> bool
     requires { number < sides_for (length blocks.now) }
     ensures right { IsTrue result → HasSideFields sector.now slot.now blocks.now number }
@@ -58,9 +58,9 @@ fn is_side(sector: &[u8; 256], number: usize, slot: &Slot, blocks: &[Place]) -> 
     names_each(sector, POINTERS_AT, &blocks[start..end])
 }
 
-/// Whether the bytes of a sector are those of side sector `number`, as `is_side` has it, and list all side sectors:
-/// what a sound disk asks of it beside its link.
-// Out of line: asked only where the bytes aren't exact
+/// Whether the bytes of a sector are those of side sector `number`, as in `is_side`, and list all side sectors:
+/// everything that a sound disk requires of it except its link.
+// Out of line: called only if the bytes aren't exact
 #[inline(never)]
 fn is_sound_side(
     sector: &[u8; 256],
@@ -77,11 +77,11 @@ fn is_sound_side(
     is_side(sector, number, slot, blocks) && names_each(sector, LIST_AT, sides)
 }
 
-/// Follows the side sectors of a closed relative entry with these blocks from the first on by their links, as many as
-/// the blocks need, and fills `sides` with their places in order. Each one's number and record length are judged.
+/// Follows the links of a closed relative entry's side sectors from the first on, as many as these blocks need, and
+/// fills `sides` with their places in order. Each one's number and record length are checked.
 ///
-/// Told are `BadSide` at the entry's directory sector, where the entry names no first side sector, or at a side sector
-/// that has another number or record length or links to no place, and `Device`.
+/// Errors: `BadSide` at the entry's directory sector if the entry names no first side sector; `BadSide` at a side
+/// sector that has another number or record length or links to no place; and `Device`.
 fn walk_sides<D: Sectors>(
     disk: &mut D,
     slot: &Slot,
@@ -118,11 +118,11 @@ fn walk_sides<D: Sectors>(
     Ok(())
 }
 
-/// Finds the side sectors of a closed relative entry with these blocks, as `walk_sides` does, and judges each one's
-/// pointers and list of all side sectors. Each is read twice at most.
+/// Finds the side sectors of a closed relative entry with these blocks, as `walk_sides` does, and checks each one's
+/// pointers and list of all side sectors. Each is read at most twice.
 ///
-/// The answer is the first of them whose bytes aren't exactly those that they are to be, which a sound disk may have
-/// and a clean one not; None where all are exact.
+/// Returns the first of them whose bytes aren't exact, which a sound disk may have and a clean one may not. None if all
+/// are exact.
 pub(crate) fn survey_sides<D: Sectors>(
     disk: &mut D,
     slot: &Slot,
@@ -140,7 +140,7 @@ pub(crate) fn survey_sides<D: Sectors>(
     let mut sector = [0u8; 256];
     for (number, &side) in sides.iter().enumerate() {
         read_sector(disk, side, &mut sector)?;
-        // exact bytes are all that a sound disk asks
+        // exact bytes satisfy everything that a sound disk requires
         if sector != side_bytes(number as u8, blocks, sides, record_length) {
             if !is_sound_side(&sector, number, slot, blocks, sides) {
                 return Err(Fault::BadSide(side));
@@ -151,8 +151,8 @@ pub(crate) fn survey_sides<D: Sectors>(
     Ok(inexact)
 }
 
-/// Finds the data blocks and the side sectors of a closed relative entry, and fills `parts` with them in order. The
-/// answer is the first side sector whose bytes aren't exact; None where all are.
+/// Finds the data blocks and the side sectors of a closed relative entry, and fills `parts` with them in order. Returns
+/// the first side sector whose bytes aren't exact. None if all are.
 pub(crate) fn find_parts<D: Sectors>(
     disk: &mut D,
     slot: &Slot,

@@ -1,4 +1,4 @@
-//! What a survey of a disk found: who owns which sector, and how many entries there are.
+//! What a survey of a disk found: the owner of each sector, and the number of entries.
 ghost use Rattle.std.specs.Prelude.{IsFalse, IsTrue};
 ghost use Rattle.layout_check.specs.Open.{IsOpen, IsShut};
 
@@ -7,20 +7,21 @@ use d64_image::Place;
 use disk_layout::Fault;
 use std::ops::Range;
 
-/// What a sound disk has: the owner of each sector, and the number of entries. It is of the disk as it was surveyed.
+/// The owner of each sector of a sound disk, and the number of entries, at the time of the survey.
 #[derive(Drop)]
 pub struct Survey {
     owners: Owners,
     entries: usize,
 }
 
-/// A survey, and what it kept back because only a clean disk must not have it.
+/// A survey, and a fault that was kept back because only a clean disk must not have it.
 #[derive(Drop)]
 pub(crate) struct Findings {
     /// The owners and the entries.
     pub(crate) survey: Survey,
-    /// A side sector whose bytes aren't exact, or a wrong block count: the first in the order of the directory. It
-    /// holds where the whole disk was seen to be sound. None where all are right.
+    /// The first fault, in the order of the directory, that a sound disk may have and a clean one may not: a side
+    /// sector whose bytes aren't exact, or a wrong block count. It holds if the whole disk is sound. None if all are
+    /// right.
     pub(crate) unclean: Option<Fault>,
 }
 
@@ -43,7 +44,7 @@ impl Survey {
     ghost use Rattle.disk_layout.specs.Rest.{taken_by_others};
     ghost use Rattle.layout_check.specs.Survey.{IsSurveyOf, entries_of};
 
-    /// What these owners and so many entries tell.
+    /// The survey with these owners and this number of entries.
     pub(crate) fn new(owners: Owners, entries: usize) -> Survey
         ensures owners { result.owners ≡ owners }
         ensures entries { result.entries ≡ entries }
@@ -80,9 +81,9 @@ impl Survey {
         self.entries
     }
 
-    /// How many of the 664 sectors outside track 18 no other entry owns: those that are free, and those of the entry
-    /// with this number, which is its place among the used entries, from 0. If there is no such entry, the sectors that
-    /// no entry owns.
+    /// How many of the 664 sectors outside track 18 no other entry owns: those without an owner, and those of the entry
+    /// with this number, which is its position among the used entries, from 0. If there is no such entry, the sectors
+    /// that no entry owns.
     pub fn outside(&self, entry: usize) -> u16
         ensures { (l : Layout) → IsSurveyOf l self.now → result + taken_by_others l entry ≡ 664 }
     {

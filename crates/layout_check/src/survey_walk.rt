@@ -30,13 +30,13 @@ fn survey_directory<D: Sectors>(
     Ok(())
 }
 
-/// Surveys the disk as `survey` does, and judges beside that the bytes of the side sectors and the block counts.
+/// Surveys the disk as `survey` does, and also checks the bytes of the side sectors and the block counts.
 pub(crate) fn survey_files<D: Sectors>(disk: &mut D) -> Result<Findings, Fault>
     ensures ok { IfOk result (Surveys D.history disk.old disk.new) }
     ensures err { IfErr result (TellsUnsound D.history disk.old disk.new 2114) }
 {
     let mut slots = ArrayVec::new();
-    // the directory's places stand where blocks will: a list of their own would take time to blank
+    // the directory's places are kept in the room for blocks: a list of their own would take time to clear
     let mut parts = Parts::new();
     survey_directory(disk, &mut slots, &mut parts.blocks)?;
     let mut owners = Owners::of_directory(parts.blocks.as_slice());
@@ -51,18 +51,18 @@ pub(crate) fn survey_files<D: Sectors>(disk: &mut D) -> Result<Findings, Fault>
     })
 }
 
-/// Surveys the disk: where each link, each type, each record length and each side sector of the entries agrees and no
-/// sector has two owners, the answer tells the owners and the entries; else a fault that holds at its place, where of
-/// several it is open which. An image that has no such fault is sound. Counts of blocks, the map, and those bytes of
-/// side sectors that name nothing are not judged.
+/// Surveys the disk. The result has the owners and the number of entries if each link, each type, each record length
+/// and each side sector of the entries agrees and no sector has two owners. Otherwise the result is a fault that holds
+/// at its place; if there are several, it may be any of them. An image that has no such fault is sound. Block counts,
+/// the map, and the bytes of side sectors that name nothing aren't checked.
 ///
-/// Nothing is written. Each owned sector is read twice at most, and no memory is taken.
+/// Nothing is written. Each owned sector is read at most twice, and no memory is allocated.
 pub fn survey<D: Sectors>(disk: &mut D) -> Result<Survey, Fault>
     ensures ok { IfOk result (λ s.
         (l : Layout) × IsLayout (D.history.image disk.old) l × IsSurveyOf l s
         × OnlyReads D.history disk.old disk.new (18 + 2 * length (owners l))) }
     ensures err { IfErr result (Holds (D.history.failed_at disk.new) (D.history.image disk.old)) }
-    // neither a fault nor a layout is told always
+    // if the device doesn't fail, the result is Ok exactly on a sound image
     ensures sound { NeverFailed D.history disk.old disk.new → (IsOk result ↔ IsSound (D.history.image disk.old)) }
     ensures failures { TellsFault D.history disk.old disk.new result }
     // the directory, all that may be owned twice, and the sectors of one entry once more

@@ -12,14 +12,14 @@ use shop_commands::RunFault;
 use std::alloc::Global;
 use std::io::{Seek, Write};
 
-/// Does what is asked of these bytes.
+/// Does a reading job over these bytes.
 fn read<W: Write>(alloc: Global, what: Reading, bytes: &[u8], out: &mut W) -> Ended
     ensures { IsRead W.contents what bytes.now out.old out.new result }
 {
     job_end(reading_run(alloc, what, bytes, out))
 }
 
-/// Does a job over the bytes of its files, and answers how it ended, with the file.
+/// Does a job over the bytes of its files. Returns how it ended, with the file.
 fn obey<F: Write + Seek + Drop, W: Write>(
     alloc: Global,
     job: &Job<'_>,
@@ -61,30 +61,35 @@ fn obey<F: Write + Seek + Drop, W: Write>(
         Job::Draw { what, .. } => (file, drawn_end(drawing_run(alloc, what, image, out))),
         Job::View { what, .. } => (file, viewed_end(view_run(alloc, what, image, out))),
         Job::Compare { .. } => (file, drawn_end(comparing_run(alloc, image, script, out))),
-        // it would want the bytes of each, or standard error too
+        // it needs the bytes of each image, or standard error too
         Job::Several { .. } | Job::Sheet { .. } | Job::Describe { .. } | Job::Trim { .. } => {
             (file, Err(Refusal::Run(RunFault::File)))
         }
-        // it would want a folder
+        // it needs a folder
         Job::Extract { .. } => (file, Err(Refusal::Run(RunFault::File))),
     }
 }
 
-/// Does a job over the bytes of its files, prints what it prints, reports in a line on `err` why it isn't done, and
-/// returns the exit status and the file. Bytes that the job doesn't read are empty: `image` are those of IMAGE, `script`
-/// those of SCRIPT or RECORDS, or of `serve`'s standard input; lines with a column for each field are made plain before
-/// (`plain_lines` of `keeper_commands`). `Compare` has the first image and the second one there. `file` is IMAGE for writing,
-/// at its start, for a job that
-/// writes it, and the copy for `Copy`; without one such a job ends with 3 and `FILE`, and nothing is printed. A job that
-/// only reads leaves it as it was. There are no logs: `Serve` writes the image itself, whatever way the job says.
-/// A job over several images ends with 3 and `FILE`, since only one has its bytes here: call `overview_run` for each.
-/// So does `Extract`, since there is no folder: call `extract_run` over one.
-/// So does `Trim`, which reports on standard error: call `trim_run`.
+/// Does a job over the bytes of its files. Prints the job's output, reports in a line on `err` why it isn't done, and
+/// returns the exit status and the file.
+///
+/// Bytes that the job doesn't read are empty. `image` has the bytes of IMAGE. `script` has those of SCRIPT or RECORDS,
+/// or of `serve`'s standard input. For `Compare` they have the first image and the second one. Lines with a column for
+/// each field are made plain before the call (`plain_lines` of `keeper_commands`).
+///
+/// `file` is IMAGE for writing, at its start, for a job that writes it, and the copy for `Copy`. If it is missing, such
+/// a job ends with 3 and `FILE`, and nothing is printed. A job that only reads leaves it as it was. There are no logs:
+/// `Serve` always writes the image itself.
+///
+/// Three kinds of job end with 3 and `FILE`:
+/// - a job over several images, since only one has its bytes here: call `overview_run` for each;
+/// - `Extract`, since there is no folder: call `extract_run` over one;
+/// - `Trim`, which reports on standard error: call `trim_run`.
 ///
 /// The file is handed each sector at 256 times its index, before memory takes it, and nothing else; `Format` and `Copy`
-/// hand it the whole image. It can't be ended: what a longer file held after an image stays there. Whether it was there before, and
-/// when its sectors come to the disk, is up to the caller. If it fails the status is 3, and of what it was handed in that
-/// call nothing is known.
+/// hand it the whole image. It isn't cut: what a longer file held after an image stays there. The caller decides
+/// whether it was there before, and when its sectors are synced. If it fails, the status is 3, and nothing is known of
+/// what it was handed in that call.
 pub fn run_over<F: Write + Seek + Drop, W: Write, E: Write>(
     alloc: Global,
     job: &Job<'_>,
@@ -102,7 +107,8 @@ pub fn run_over<F: Write + Seek + Drop, W: Write, E: Write>(
     (end(ended, err).status, left)
 }
 
-/// The same, and lets the file go: hand in `&mut` of one that is needed afterwards. Returns the exit status.
+/// Does the same as `run_over`, and drops the file: pass `&mut` of a file that is needed afterwards. Returns the exit
+/// status.
 pub fn run<F: Write + Seek + Drop, W: Write, E: Write>(
     alloc: Global,
     job: &Job<'_>,
@@ -113,7 +119,7 @@ pub fn run<F: Write + Seek + Drop, W: Write, E: Write>(
     err: &mut E,
 ) -> u8
     requires { IsFit job.now }
-    // the file is let go as this
+    // the file is dropped in this state
     ensures { (left : Option F) × IsRun F.stream_position F.stream_bytes F.contents W.contents E.contents job.now image.now
         script.now file left out.old out.new err.old err.new result }
 {

@@ -1,19 +1,15 @@
-//! What a person at a terminal is told: what is going to be replaced, and below a refusal which file it is about, what
-//! the system says of it, and what to do.
-use crate::dispatch::image_of_file;
+//! The line that a person at a terminal reads below a refusal: which file it is about, what the system said of it, and what
+//! to do.
 use crate::files::STANDARD_INPUT;
+use crate::job_files::{image_of, size_of, text_of};
 use crate::jobs::Job;
-use crate::losses::cut_in;
 use crate::refusals::Refusal;
-use d64_image::Place;
 use disk_pictures::PictureFault;
-use arrayvec::ArrayVec;
 use keeper_commands::KeepFault;
 use noted_files::Failure;
-use shop_commands::{Locks, RunFault};
+use shop_commands::RunFault;
 use std::fmt::Display;
-use std::fs::OpenFile;
-use std::io::{self, ErrorKind, Read, Write};
+use std::io::{self, ErrorKind, Write};
 use std::rt::Files;
 use system_files::{ShownPath, regular_at};
 
@@ -25,13 +21,13 @@ enum About {
     Size,
     /// A file that failed while it was written or read.
     Device,
-    /// The image, of which this is to be said.
+    /// The image, of which this is printed.
     Image(&'static str),
-    /// The script or the records, of which this is to be said.
+    /// The script or the records, of which this is printed.
     Text(&'static str),
     /// A file that is to be made.
     Made,
-    /// Nothing that its own line doesn't say.
+    /// Nothing that the refusal's own line leaves open.
     Nothing,
 }
 
@@ -46,15 +42,15 @@ const FULL: &str = "; make room there, and go on";
 
 const GONE: &str = "its name doesn't lead to the file that was opened, or that has another length";
 
-const UNREAD: &str =
-    "ledger: a file couldn't be read to its end, or the output not be written";
+const UNREAD: &str = "ledger: a file couldn't be read to its end, or the output not be written";
 
 const KEPT: &str = "no file owns what is kept, but another program may; `repair --free` frees it";
 
 const FOREIGN_LOG: &str =
     "the log beside it is of another image, or not whole; docs/LOG.md says what to do";
 
-const CUT_SHORT: &str = "a file ends at that sector, too early: docs/KEEPERS.md says what to do";
+pub(crate) const CUT_SHORT: &str =
+    "a file ends at that sector, too early: docs/KEEPERS.md says what to do";
 
 const BAD_LINE: &str = "nothing was done; mend the line, and run it again";
 
@@ -108,50 +104,12 @@ fn subject_of(refusal: Refusal) -> About {
     }
 }
 
-/// The file that a job reads or writes first.
-fn image_of<'a>(job: &Job<'a>) -> &'a str {
-    match job {
-        Job::Format { image, .. } | Job::FormatNew { image, .. } => image,
-        Job::List { image, .. } | Job::Check { image } | Job::Show { image } => image,
-        Job::Play { image, .. } | Job::PlaySynced { image, .. } | Job::Serve { image, .. } => image,
-        Job::Repair { image, .. } | Job::Take { image, .. } | Job::Draw { image, .. } => image,
-        Job::Extract { image, .. } => image,
-        Job::View { image, .. } | Job::Trim { image } => image,
-        Job::Make { image, .. } | Job::Store { image, .. } | Job::Copy { image, .. } => image,
-        Job::Several { images, .. } | Job::Sheet { images } | Job::Describe { images } => {
-            images.first().copied().unwrap_or("")
-        }
-        Job::Compare { before, .. } => before,
-        Job::Dry { script } => script,
-    }
-}
-
-/// The script or the records that a job reads after its first file.
-fn text_of<'a>(job: &Job<'a>) -> Option<&'a str> {
-    match job {
-        Job::Play { script, .. } | Job::PlaySynced { script, .. } => Some(script),
-        Job::Store { records, .. } => Some(records),
-        Job::Dry { script } => Some(script),
-        _ => None,
-    }
-}
-
-/// The second file of a job, or the folder that it makes.
-fn second_of<'a>(job: &Job<'a>) -> Option<&'a str> {
-    match job {
-        Job::Compare { after, .. } => Some(after),
-        Job::Copy { copy, .. } => Some(copy),
-        Job::Extract { folder, .. } => Some(folder),
-        _ => text_of(job),
-    }
-}
-
-/// Tells this of the file at a path. Where it can't be told there is nobody left to tell.
+/// Prints this of the file at a path. If it can't be printed, there is nobody left to read it.
 fn tell_of<E: Write, T: Display + Drop>(err: &mut E, path: &str, said: T) {
     let _ = writeln!(err, "ledger: {}: {said}", ShownPath(path));
 }
 
-/// Tells this of a job's image, or of the two that it compares: which one isn't known.
+/// Prints this of a job's image, or of the two that it compares, since it isn't known which one it is.
 fn tell_of_image<E: Write>(err: &mut E, job: &Job<'_>, said: &str) {
     match job {
         Job::Compare { before, after } => {
@@ -160,22 +118,6 @@ fn tell_of_image<E: Write>(err: &mut E, job: &Job<'_>, said: &str) {
         }
         _ => tell_of(err, image_of(job), said),
     }
-}
-
-/// The words of a job that name files: those that a failure of the system can be about. None of a job over several
-/// images, which prints what is wrong with each.
-pub fn files_of<'a>(job: &Job<'a>) -> ArrayVec<&'a str, 2> {
-    let mut files = ArrayVec::new();
-    if let Job::Several { .. } | Job::Sheet { .. } | Job::Describe { .. } = job {
-        return files;
-    }
-    for path in [Some(image_of(job)), second_of(job)] {
-        match path {
-            Some(path) if path != STANDARD_INPUT => files.push(path),
-            _ => {}
-        }
-    }
-    files
 }
 
 /// Prints what the system said of a call that failed, and this after it.
@@ -188,7 +130,10 @@ fn tell_failure<E: Write>(err: &mut E, failure: &Failure<'_>, said: &str) {
     let _ = match sector {
         Some(place) => {
             let (track, number) = (place.track(), place.sector());
-            writeln!(err, "ledger: {subject}: {error}, at sector {track}/{number}{said}")
+            writeln!(
+                err,
+                "ledger: {subject}: {error}, at sector {track}/{number}{said}"
+            )
         }
         None => writeln!(err, "ledger: {subject}: {error}{said}"),
     };
@@ -221,12 +166,7 @@ fn image_at_fault<'a, R: Files>(rt: &R, job: &Job<'a>) -> Option<(&'a str, io::E
 
 /// Prints why a file couldn't be opened, read or written: what the system said of it. If it said nothing, something else
 /// than a regular file stands where an image is wanted.
-fn tell_files<R: Files, E: Write>(
-    rt: &R,
-    job: &Job<'_>,
-    cause: Option<Failure<'_>>,
-    err: &mut E,
-) {
+fn tell_files<R: Files, E: Write>(rt: &R, job: &Job<'_>, cause: Option<Failure<'_>>, err: &mut E) {
     if let Some(failure) = cause {
         return tell_failure(err, &failure, "");
     }
@@ -251,17 +191,6 @@ fn tell_device<E: Write>(job: &Job<'_>, cause: Option<Failure<'_>>, err: &mut E)
     }
 }
 
-/// How many bytes a regular file has. None of standard input and if the system doesn't say; nothing is opened.
-pub(crate) fn size_of<R: Files>(rt: &R, path: &str) -> Option<u64> {
-    if path == STANDARD_INPUT {
-        return None;
-    }
-    match regular_at(rt, path) {
-        Ok(found) => Some(found.len()),
-        Err(_) => None,
-    }
-}
-
 /// The image of a job that has another size than a disk: of two the first one, unless it has that size.
 fn missized_of<'a, R: Files>(rt: &R, job: &Job<'a>) -> &'a str {
     match job {
@@ -270,7 +199,7 @@ fn missized_of<'a, R: Files>(rt: &R, job: &Job<'a>) -> &'a str {
     }
 }
 
-/// Tells how many bytes an image has, which format has so many, and how to get one of 35 tracks without error bytes.
+/// Prints how many bytes an image has, which format has that many, and how to get one of 35 tracks without error bytes.
 fn tell_size<R: Files, E: Write>(rt: &R, image: &str, err: &mut E) {
     const WANTED: &str = "an image of 35 tracks without error bytes has 174848";
     const ERROR_BYTES: &str =
@@ -296,52 +225,7 @@ fn tell_size<R: Files, E: Write>(rt: &R, image: &str, err: &mut E) {
     let _ = writeln!(err, "{said}");
 }
 
-/// Where the first file of the image at a path is cut short, as its shop is now. None also if another program has it
-/// alone, if it can't be read, and of standard input.
-fn cut_at<F, R>(rt: &R, path: &str) -> Option<Place>
-where
-    F: Read + Locks + OpenFile + Drop,
-    R: Files<File = F> + AllocGlobal,
-{
-    if path == STANDARD_INPUT {
-        return None;
-    }
-    let image = image_of_file(rt, path).ok()?;
-    cut_in(rt.alloc(), image.as_slice(), None).unwrap_or_default()
-}
-
-/// Prints for a person, after the verdict of a check, where the first file of the image is cut short, if one is: a line
-/// `SHORT t/s`. The image's file is opened, locked with others that read it, and read once more for it. If that can't be
-/// done, or the line not be printed, nothing is printed.
-pub fn tell_cut<F, R, E>(rt: &R, job: &Job<'_>, err: &mut E)
-where
-    F: Read + Locks + OpenFile + Drop,
-    R: Files<File = F> + AllocGlobal,
-    E: Write,
-{
-    let Job::Check { image } = job else {
-        return;
-    };
-    if let Some(place) = cut_at(rt, image) {
-        let _ = writeln!(err, "SHORT {}/{}", place.track(), place.sector());
-    }
-}
-
-/// Tells a person where the first file of an image is cut short that is going to be played.
-fn warn_of_cut<F, R, E>(rt: &R, image: &str, err: &mut E)
-where
-    F: Read + Locks + OpenFile + Drop,
-    R: Files<File = F> + AllocGlobal,
-    E: Write,
-{
-    if let Some(place) = cut_at(rt, image) {
-        let (track, sector) = (place.track(), place.sector());
-        let image = ShownPath(image);
-        let _ = writeln!(err, "ledger: {image}: SHORT {track}/{sector}; {CUT_SHORT}");
-    }
-}
-
-/// Tells that a file can't be made, since it is there, or its log.
+/// Prints that a file can't be made, since it or its log is there.
 fn tell_made<E: Write>(job: &Job<'_>, err: &mut E) {
     match job {
         Job::Copy { copy, .. } => {
@@ -359,27 +243,6 @@ fn tell_made<E: Write>(job: &Job<'_>, err: &mut E) {
             image_of(job),
             "it or its log is there already; `format` without `--new` replaces it",
         ),
-    }
-}
-
-/// Prints for a person which file a job is going to replace, or where the first file of an image that is going to be
-/// played is cut short, if there is one; that image is locked with others that read it while it is read. If a line can't
-/// be printed, there is nobody left to tell.
-pub fn announce<F, R, E>(rt: &R, job: &Job<'_>, err: &mut E)
-where
-    F: Read + Locks + OpenFile + Drop,
-    R: Files<File = F> + AllocGlobal,
-    E: Write,
-{
-    match job {
-        Job::Format { image, .. } => {
-            if let Some(bytes) = size_of(rt, image) {
-                let image = ShownPath(image);
-                let _ = writeln!(err, "ledger: replacing {image}, which has {bytes} bytes");
-            }
-        }
-        Job::Play { image, .. } | Job::PlaySynced { image, .. } => warn_of_cut(rt, image, err),
-        _ => {}
     }
 }
 

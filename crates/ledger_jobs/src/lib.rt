@@ -1,6 +1,7 @@
 //! The program over a runtime: its jobs, the files that they open, and how they end.
 #![tactic(auto)]
 
+mod announcements;
 mod comparisons;
 mod copying;
 mod descriptions;
@@ -12,6 +13,7 @@ mod explanations;
 mod extracting;
 mod files;
 mod image_logs;
+mod job_files;
 mod jobs;
 mod keeper_files;
 mod keeper_runs;
@@ -31,14 +33,16 @@ mod trimming;
 mod viewing;
 mod watched_files;
 
+pub use announcements::{announce, tell_cut};
 pub use comparisons::comparing_run;
 pub use copying::copy_run;
 pub use dispatch::{do_job, do_over, drawn_end, job_end};
 pub use drawing::drawing_run;
 pub use durable_runs::{play_durably, serve_durably};
 pub use endings::{Ending, end, tell};
-pub use explanations::{announce, explain, files_of, tell_cut};
+pub use explanations::explain;
 pub use extracting::extract_run;
+pub use job_files::files_of;
 pub use jobs::{
     Columns, Drawing, Effect, Job, Loss, Overview, Reading, Taking, Unowned, View, Way,
 };

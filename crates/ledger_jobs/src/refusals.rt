@@ -10,34 +10,35 @@ use std::error::Error;
 use std::fmt::{self, Display, Formatter};
 use std::fs::TryLockError;
 
-/// Why a job isn't done, as it is told on standard error.
+/// Why a job isn't done, as it is reported on standard error.
 #[derive(Clone, Copy, Debug, PartialEq, Eq)]
 pub enum Refusal {
-    /// What is wrong with the image or the script; or a file, the output or memory.
+    /// A fault of the image or the script; or of a file, the output or memory.
     Run(RunFault),
-    /// The same of a job over the files of an image.
+    /// The same for a job over the files of an image.
     Keep(KeepFault),
-    /// The same of a job that draws an image.
+    /// The same for a job that draws an image.
     Draw(PictureFault),
     /// Another program has the image. Nothing was read or changed.
     InUse,
-    /// The disk is repaired but for so many sectors, which stay taken though no file owns them. The output says so.
+    /// The disk is repaired, except that this number of sectors stay taken though no file owns them. The output says
+    /// so.
     Kept(u16),
-    /// A file is to be made under a name that exists, or beside a log of that name. Nothing was changed.
+    /// A file is to be made under a name that exists, or that has a log beside it. Nothing was changed.
     Exists,
-    /// The log beside the image gives none: it is of another image, or isn't whole. Nothing was changed.
+    /// The log beside the image can't be used: it is of another image, or isn't whole. Nothing was changed.
     Log,
     /// A file of the image is cut short: its chain ends at this sector, too early.
     Short(Place),
-    /// An image was trimmed, of which sectors weren't read or are past track 35, as standard error has said.
+    /// An image was trimmed, and sectors of it weren't read or are past track 35. Standard error has them.
     Trimmed,
-    /// Of several images at least one has a fault or is refused. The output says which and why. This is the greatest exit
-    /// status of theirs.
+    /// At least one of several images has a fault or is refused. The output has which and why. This is the greatest of
+    /// their exit statuses.
     Several(u8),
 }
 
 impl Refusal {
-    /// The exit status: 1 for what the image or the script holds, 3 for a file, the output, memory or another program.
+    /// The exit status: 1 for a fault of the image or the script, 3 for a file, the output, memory or another program.
     pub fn status(&self) -> u8
         ensures { result ≡ refusal_status self.now }
     {
@@ -55,7 +56,7 @@ impl Refusal {
         }
     }
 
-    /// Whether it is told on standard error: all but what was told before.
+    /// Whether it is reported on standard error now: all but what was reported before.
     pub(crate) fn is_told(&self) -> bool
         ensures { result ≡ told_there self.now }
     {
@@ -66,8 +67,8 @@ impl Refusal {
         }
     }
 
-    /// What is told where a file isn't locked for this reason: `InUse` where another program has it, else that it can't
-    /// be used.
+    /// The refusal for a file that isn't locked for this reason: `InUse` if another program has it, otherwise that it
+    /// can't be used.
     pub(crate) fn of_lock(error: &TryLockError) -> Refusal
         ensures { result ≡ lock_refusal error.now }
     {

@@ -1,4 +1,4 @@
-//! Tracks 1 to 35 of an image of another size, done over its bytes and its file.
+//! Tracks 1 to 35 of an image of another size, over its bytes and over its file.
 ghost use Rattle.std.specs.Prelude.{◌≡◌};
 ghost use Rattle.ledger_jobs.specs.Overviews.{EndsAs};
 ghost use Rattle.ledger_jobs.specs.Trims.{IsTrimRun, as_trimmed};
@@ -17,10 +17,10 @@ use std::io::{self, Read, Write};
 use std::rt::Files;
 use system_files::opened_to_read;
 
-/// How many bytes of an image are read: one more than one of 40 tracks with error bytes has.
+/// The greatest number of bytes of an image that are read: one more than one of 40 tracks with error bytes has.
 const IMAGE_BYTES: u64 = 197_377;
 
-/// What came of a trimmed image, as a job's end.
+/// The end of a job that trimmed an image.
 fn trimmed_end(ended: Result<bool, PictureFault>) -> Result<Option<Fault>, Refusal>
     ensures { result ≡ as_trimmed ended }
 {
@@ -31,8 +31,8 @@ fn trimmed_end(ended: Result<bool, PictureFault>) -> Result<Option<Fault>, Refus
     }
 }
 
-/// Prints tracks 1 to 35 of an image, and on `err` what isn't there, as `trim_image` does. `Trimmed` if something was
-/// reported there.
+/// Prints tracks 1 to 35 of an image, and on `err` what isn't there, as `trim_image` does. The error is `Trimmed` if
+/// something was reported on `err`.
 pub fn trim_run<W: Write, E: Write>(
     alloc: Global,
     image: &[u8],
@@ -45,7 +45,7 @@ pub fn trim_run<W: Write, E: Write>(
     trimmed_end(trim_image(alloc, image, out, err))
 }
 
-/// The bytes that a reader has, but no more than one beyond the largest image.
+/// The bytes that a reader has, up to one more than the largest image has.
 fn read_long<R: Read + Drop>(alloc: Global, reader: R) -> io::Result<Vec<u8>> {
     read_script(alloc, reader.take(IMAGE_BYTES), IMAGE_BYTES as usize)
 }

@@ -1,7 +1,7 @@
 -- Texts each line of which begins with the name of what it is about. Our own.
 use Rattle.std.specs.Prelude.{ℕ, Bool, true, List, [], ◌∷◌, ◌++◌, ◌==◌, codes, if◌then◌else◌}
 
--- what stands before a line: the name, a colon and a space
+-- the heading of a line: the name, a colon and a space
 abbrev pub heading : List ℕ → List ℕ
 heading name = name ++ codes ": "
 
@@ -9,7 +9,7 @@ heading name = name ++ codes ": "
 abbrev pub piece : (name : List ℕ) → (begins : Bool) → ℕ → List ℕ
 piece name begins b = if begins then heading name ++ b ∷ [] else b ∷ []
 
--- the rest of a text, the first byte of which begins a line or doesn't; behind it those do that follow an LF (10)
+-- the rest of a text; `begins` says whether its first byte begins a line; every other line begins after an LF (10)
 abbrev pub rest_named : (name : List ℕ) → (begins : Bool) → List ℕ → List ℕ
 rest_named name begins [] = []
 rest_named name begins (b ∷ bs) = piece name begins b ++ rest_named name (b == 10) bs

@@ -1,4 +1,4 @@
-//! Texts each line of which begins with the name of what it is about, as `grep` prints what it finds in several files.
+//! Texts each line of which begins with a name, as `grep` prints lines that it finds in several files.
 #![tactic(auto)]
 
 mod naming;

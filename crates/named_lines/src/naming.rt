@@ -5,7 +5,7 @@ ghost use Rattle.named_lines.specs.Named.{heading, named, piece};
 
 use std::io::{self, Write};
 
-/// Writes what stands before a line.
+/// Writes the heading of a line.
 fn put_heading<W: Write>(out: &mut W, name: &[u8]) -> io::Result<()>
     ensures { OnOk result (Appends (W.contents out.old) (W.contents out.new) (heading name.now)) }
 {
@@ -13,7 +13,7 @@ fn put_heading<W: Write>(out: &mut W, name: &[u8]) -> io::Result<()>
     out.write_all(b": ")
 }
 
-/// Writes one byte, and before it what stands before a line if it begins one.
+/// Writes one byte, after the heading if the byte begins a line.
 fn put_piece<W: Write>(out: &mut W, name: &[u8], begins: bool, byte: u8) -> io::Result<()>
     ensures { OnOk result (Appends (W.contents out.old) (W.contents out.new) (piece name.now begins byte)) }
 {
@@ -23,8 +23,8 @@ fn put_piece<W: Write>(out: &mut W, name: &[u8], begins: bool, byte: u8) -> io::
     out.write_all(&[byte])
 }
 
-/// Writes a text, and before each of its lines the name, a colon and a space. No LF is added: a last line without one
-/// stays so. An error is the writer's, which may then have a part.
+/// Writes a text with the name, a colon and a space before each of its lines. No LF is added: a last line without one
+/// stays as it is. An error is the writer's, which may have taken a part.
 pub fn put_named<W: Write>(out: &mut W, name: &[u8], text: &[u8]) -> io::Result<()>
     ensures { OnOk result (Appends (W.contents out.old) (W.contents out.new) (named name.now text.now)) }
 {

@@ -36,7 +36,11 @@ pub struct NotedFile<'n, 'a, F> {
 
 impl<'n, 'a, F> NotedFile<'n, 'a, F> {
     /// This file, which is about that.
-    pub(crate) fn new(file: F, subject: Option<Subject<'a>>, failures: &'n Failures<'a>) -> NotedFile<'n, 'a, F> {
+    pub(crate) fn new(
+        file: F,
+        subject: Option<Subject<'a>>,
+        failures: &'n Failures<'a>,
+    ) -> NotedFile<'n, 'a, F> {
         NotedFile {
             file,
             subject,
@@ -58,7 +62,8 @@ impl<'n, 'a, F> NotedFile<'n, 'a, F> {
         if outcome.is_ok() {
             return outcome;
         }
-        self.failures.noted(self.subject, self.sector_at(bytes, at), outcome)
+        self.failures
+            .noted(self.subject, self.sector_at(bytes, at), outcome)
     }
 
     /// The sector that these bytes of the file are, if it is the file of an image and they are one.

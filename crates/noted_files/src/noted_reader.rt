@@ -3,7 +3,7 @@ use crate::failures::Failures;
 use crate::subjects::Subject;
 use std::io::{self, BufRead, Read};
 
-/// A reader of standard input, whose failures are kept. All that it gives is the reader's.
+/// A reader of standard input, which keeps why `read` failed. All that it gives is the reader's.
 #[derive(Drop)]
 pub struct NotedReader<'n, 'a, I> {
     reader: I,
@@ -25,9 +25,9 @@ impl<I: Read> Read for NotedReader<'_, '_, I> {
 }
 
 impl<I: BufRead> BufRead for NotedReader<'_, '_, I> {
+    // A failure isn't kept here: scripts and lines are read by `read`.
     fn fill_buf(&mut self) -> io::Result<&[u8]> {
-        let outcome = self.reader.fill_buf();
-        self.failures.noted(Some(Subject::Input), None, outcome)
+        self.reader.fill_buf()
     }
 
     fn consume(&mut self, amount: usize) {

@@ -23,7 +23,11 @@ pub struct NotedRuntime<'n, 'a, R> {
 impl<'n, 'a, R> NotedRuntime<'n, 'a, R> {
     /// A runtime over this one, for a job whose files these words name. The failures of a job without such words aren't
     /// kept, except those of its input and output.
-    pub fn new(rt: &'n R, words: &'n [&'a str], failures: &'n Failures<'a>) -> NotedRuntime<'n, 'a, R> {
+    pub fn new(
+        rt: &'n R,
+        words: &'n [&'a str],
+        failures: &'n Failures<'a>,
+    ) -> NotedRuntime<'n, 'a, R> {
         NotedRuntime {
             rt,
             words,
@@ -38,7 +42,8 @@ impl<'n, 'a, R> NotedRuntime<'n, 'a, R> {
         if outcome.is_ok() {
             return outcome;
         }
-        self.failures.noted(Subject::of(self.words, path), None, outcome)
+        self.failures
+            .noted(Subject::of(self.words, path), None, outcome)
     }
 
     /// What came of printing, kept if it failed.
@@ -64,7 +69,9 @@ impl<'n, 'a, R: Files> Files for NotedRuntime<'n, 'a, R> {
 
     fn open_file(&self, how: &OpenOptions, path: &str) -> io::Result<NotedFile<'n, 'a, R::File>> {
         let subject = Subject::of(self.words, path);
-        let opened = self.failures.noted(subject, None, self.rt.open_file(how, path))?;
+        let opened = self
+            .failures
+            .noted(subject, None, self.rt.open_file(how, path))?;
         Ok(NotedFile::new(opened, subject, self.failures))
     }
 

@@ -1,4 +1,4 @@
-//! Names of files that stand for the entries of a disk.
+//! Names of files, one for each entry of a disk.
 ghost use Rattle.std.specs.Prelude.{◌≡◌, ◌≤◌, ◌+◌, ◌++◌, length, map};
 ghost use Rattle.arrayvec.specs.ArrayVec.{array_vec_len};
 ghost use Rattle.petscii_text.specs.FileNames as names;
@@ -6,13 +6,14 @@ ghost use Rattle.petscii_text.specs.FileNames.{ending_of, ending_text, file_name
 
 use arrayvec::ArrayVec;
 
-/// How many bytes a name has at most: three digits, a hyphen, sixteen bytes of the entry's name, and an ending of four.
+/// The greatest number of bytes of a name: three digits, a hyphen, sixteen bytes of the entry's name, and an ending of
+/// four.
 pub const NAME_ROOM: usize = 24;
 
 /// The name of a file, in bytes of ASCII.
 pub type FileName = ArrayVec<u8, 24>;
 
-/// What a file's name ends with.
+/// The ending of a file's name.
 #[derive(Clone, Copy, Debug, PartialEq, Eq)]
 pub enum Ending {
     /// `.del`
@@ -25,7 +26,7 @@ pub enum Ending {
     Usr,
     /// `.rel`
     Rel,
-    /// `.bin`, of a type that there isn't
+    /// `.bin`, for an unknown type
     Other,
     /// `.csv`, the records of a relative file as lines
     Records,
@@ -63,7 +64,7 @@ impl Ending {
     }
 }
 
-/// A byte of an entry's name as it stands in a file's name: itself, or a low line if some system refuses it there.
+/// A byte of an entry's name in a file's name: the byte itself, or a low line if a system refuses it there.
 fn file_byte(byte: u8) -> u8
     ensures { result ≡ names.file_byte byte }
 {
@@ -108,9 +109,9 @@ fn push_ending(text: &mut FileName, ending: Ending)
     }
 }
 
-/// The name of the file that stands for an entry: the entry's number, a hyphen, its name, which has sixteen bytes at
-/// most, and the ending, such as `01-LETTER 02.prg`. Each byte of the name that some system refuses in a file's name is
-/// a low line: those outside $20 to $7A, and `" * / : < > ? \`.
+/// The name of the file for an entry: the entry's number, a hyphen, its name, which has at most sixteen bytes, and the
+/// ending, such as `01-LETTER 02.prg`. Bytes of the name outside $20 to $7A, and `" * / : < > ? \`, become low lines,
+/// because not every system allows them in a file's name.
 ///
 /// Entries with different numbers have different names (`names_differ`), and each name is one of a file in the folder
 /// that it is used in (`names_are_safe`).

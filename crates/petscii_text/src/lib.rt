@@ -1,4 +1,4 @@
-//! PETSCII as text of Unicode, and names of files that stand for the entries of a disk.
+//! PETSCII as text of Unicode, and names of files for the entries of a disk.
 #![tactic(auto)]
 
 mod characters;

@@ -3,8 +3,8 @@ ghost use Rattle.std.specs.Prelude.{◌≡◌, ◌≢◌, ◌<◌, ◌≤◌, �
 ghost use Rattle.petscii_text.specs.FileNames.{IsSafeName, file_name_of};
 ghost use Rattle.petscii_text.specs.declared.file_names.Ending.{Ending};
 
-/// Two entries never have one name, whatever they are called, and the files of one entry have different names too. None
-/// of the names is that of the index.
+/// Two entries never have the same file name, whatever their own names are. The files of one entry have different names
+/// too. None of the names is that of the index.
 pub fn names_differ()
     ensures numbers { (m n : ℕ) (a b : List ℕ) (s t : Ending) → m < 256 → n < 256
         → file_name_of m a s ≡ file_name_of n b t → m ≡ n }
@@ -13,8 +13,8 @@ pub fn names_differ()
     ensures index { (n : ℕ) (a : List ℕ) (s : Ending) → file_name_of n a s ≢ codes "index.csv" }
 {}
 
-/// Whatever the entry is called, the name is one that any system takes, and a file with this name lies in the folder in
-/// which it is used.
+/// Whatever the entry's name is, any system takes the file's name, and the file is in the folder in which the name is
+/// used.
 pub fn names_are_safe()
     ensures { (n : ℕ) (a : List ℕ) (s : Ending) → n < 256 → length a ≤ 16 → IsSafeName (file_name_of n a s) }
 {}

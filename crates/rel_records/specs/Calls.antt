@@ -25,7 +25,8 @@ use Rattle.rel_records.specs.declared.faults.RelFault.TheVariants.{TooLarge}
 use Rattle.rel_records.specs.declared.rel_file.RelFile.{RelFile}
 use Rattle.rel_records.specs.growth.Growth.{IsFull, IsTooLarge, added, growth_writes, needed, records_had}
 
--- At most so many sectors are read and none is written. At Ok this holds of the answer; the one fault is the device's.
+-- At most this number of sectors are read and none is written. At Ok this holds of the result; the one error is the
+-- device's.
 pub record ReadsAtMost {D T : Type 0} (S : History D) (old new : D) (most : ℕ) (result : Result T RelFault)
     (P : T → Type 0) : Type 0 where
   pub ok : IfOk result P
@@ -33,8 +34,8 @@ pub record ReadsAtMost {D T : Type 0} (S : History D) (old new : D) (most : ℕ)
   pub reads : OnlyReads S old new most
   pub failures : TellsRelFault S old new result
 
--- At most so many sectors are written, and so many read. At Ok this holds of the image; each image on the way is one of
--- these.
+-- At most this number of sectors are written, and this number read. At Ok this holds of the image; each image on the
+-- way is one of these.
 pub record WritesAtMost {D T E : Type 0} (S : History D) (old new : D) (most read : ℕ) (held done : Image → Type 0)
     (result : Result T E) : Type 0 where
   pub ok : OnOk result (done (S.image new))
@@ -59,7 +60,7 @@ pub record HasRead (img : Image) (v : RelFile) (number : ℕ) (text : List ℕ) 
   pub bytes : OfItsFile img v (λ l n f. IsRecord (records img f) number text)
   pub size : length text ≡ length_of v
 
--- A record was read into a text; where it isn't there nothing was.
+-- A record was read into a text. If the record isn't there, nothing was read.
 pub record ReadsRecord {D : Type 0} (S : History D) (old new : D) (v : RelFile) (number : ℕ) (text : List ℕ) (most : ℕ)
     (result : Result (Unit {0}) RelFault) : Type 0 where
   pub ok : OfItsFile (S.image old) v (λ l n f. OnOk result (IsRecord (records (S.image old) f) number text))
@@ -71,8 +72,8 @@ pub record ReadsRecord {D : Type 0} (S : History D) (old new : D) (v : RelFile) 
   pub reads : OnlyReads S old new most
   pub failures : TellsRelFault S old new result
 
--- The sector at a place was written with these bytes, by one write, and at most so many were read: at an error, which
--- is the device's, they may stand or not.
+-- The sector at a place was written with these bytes, by one write, and at most this number of sectors were read. At an
+-- error, which is the device's, the sector has these bytes or its old ones.
 pub record PutsSector {D T : Type 0} (S : History D) (old new : D) (p : Place) (bytes : Sector) (read : ℕ)
     (result : Result T RelFault) : Type 0 where
   pub ok : OnOk result (S.image new ≡ put (S.image old) p bytes)
@@ -92,7 +93,8 @@ pub record IsPosition (img : Image) (v : RelFile) (number position : ℕ) : Type
   pub position_low : 1 ≤ position
   pub position_high : position ≤ length_of v
 
--- And its bytes from the position on begin in the file's data block of this number, from 0, which stands at this place.
+-- The bytes of the record from the position on begin in the file's data block of this number, from 0, which is at this
+-- place.
 pub record BeginsIn (img : Image) (v : RelFile) (number position block : ℕ) (place : Place) : Type 0 where
   pub there : IsPosition img v number position
   pub at : OfItsFile img v (λ l n f. slice_get f.blocks block ≡ Some place)
@@ -108,7 +110,7 @@ pub record WritesOver {D : Type 0} (S : History D) (old new : D) (l : Layout) (n
       (with_written (record_length f.slot) number position text (records (S.image old) f)) v)
   pub moments : Changes S old new most (IsWriting (S.image old) l n f 0 number position text)
 
--- A text was written from a position on into a record that is there, by at most so many writes, and reads.
+-- A text was written from a position on into a record that is there, with at most this number of writes, and of reads.
 pub record WritesThere {D : Type 0} (S : History D) (old new : D) (v : RelFile) (number position : ℕ) (text : List ℕ)
     (most read : ℕ)
     (result : Result (Unit {0}) RelFault) : Type 0 where
@@ -119,8 +121,8 @@ pub record WritesThere {D : Type 0} (S : History D) (old new : D) (v : RelFile) 
   pub reads : S.reads new ≤ S.reads old + read
   pub failures : TellsRelFault S old new result
 
--- A text was written into a record of f, the file at place n of the layout l, which grew where it had to; w is kept of
--- it.
+-- A text was written into a record of f, the file at place n of the layout l, which grew if it had to. In memory w is
+-- kept of the file.
 pub record WritesFile {D : Type 0} (S : History D) (old new : D) (l : Layout) (n : ℕ) (f : File) (w : RelFile)
     (number position : ℕ)
     (text : List ℕ) (result : Result (Unit {0}) RelFault) : Type 0 where
@@ -135,8 +137,8 @@ pub record WritesFile {D : Type 0} (S : History D) (old new : D) (l : Layout) (n
       (IsWriting (S.image old) l n f (added (record_length f.slot) (records_had f) number) number position text)
   pub others : KeepsRelFiles (S.image old) (S.image new) l n
 
--- A text was written from a position on into a record, or growth was refused for it. Of the file v was kept, and w is
--- now.
+-- A text was written from a position on into a record, or growth was refused for it. In memory v was kept of the file,
+-- and w is now.
 pub record WritesRecord {D : Type 0} (S : History D) (old new : D) (v w : RelFile) (number position : ℕ) (text : List ℕ)
     (result : Result (Unit {0}) RelFault) : Type 0 where
   pub file : OfItsFile (S.image old) v (λ l n f. WritesFile S old new l n f w number position text result)
@@ -169,7 +171,7 @@ pub record GrowsFile {D : Type 0} (S : History D) (old new : D) (l : Layout) (n 
   pub moments : Changes S old new (growth_writes f number) (IsGrowingTo (S.image old) l n f number)
   pub others : KeepsRelFiles (S.image old) (S.image new) l n
 
--- A file grew so that a record is there, or growth was refused. Of the file v was kept, and w is now.
+-- A file grew so that a record is there, or growth was refused. In memory v was kept of the file, and w is now.
 pub record Grows {D : Type 0} (S : History D) (old new : D) (v w : RelFile) (number : ℕ)
     (result : Result (Unit {0}) RelFault) : Type 0 where
   pub file : OfItsFile (S.image old) v (λ l n f. GrowsFile S old new l n f w number result)
@@ -184,7 +186,7 @@ pub record Grows {D : Type 0} (S : History D) (old new : D) (v w : RelFile) (num
   pub entry : entry_of w ≡ entry_of v
   pub failures : TellsRelFault S old new result
 
--- What growth to so many data blocks asks: these bytes are the map, and the free sectors suffice.
+-- What growth to this number of data blocks requires: these bytes are the map, and there are enough free sectors.
 pub record MayGrow (img : Image) (v : RelFile) (bytes : Sector) (wanted : ℕ) : Type 0 where
   pub clean : IsClean img
   pub of : IsOf img v
@@ -193,14 +195,14 @@ pub record MayGrow (img : Image) (v : RelFile) (bytes : Sector) (wanted : ℕ) :
   pub few : wanted ≤ 720
   pub room : needed (blocks_of v) wanted ≤ blocks_free bytes
 
--- f, the file at place n of the layout l, got up to so many empty records behind its own; at Ok this is done of it.
+-- f, the file at place n of the layout l, got up to this number of empty records after its own; at Ok this holds of it.
 pub record GrowsBy {D : Type 0} (S : History D) (old new : D) (l : Layout) (n : ℕ) (f : File) (most more : ℕ)
     (done : Type 0)
     (result : Result (Unit {0}) DeviceFault) : Type 0 where
   pub ok : OnOk result done
   pub moments : Changes S old new most (IsGrowingBy (S.image old) l n f more)
 
--- A file of this name was made where the site has it, with its entry in the directory sector at p.
+-- A file of this name was made as the site has it, with its entry in the directory sector at p.
 pub record MakesFile {D : Type 0} (S : History D) (old new : D) (l : Layout) (name : List ℕ) (size : ℕ) (s : Site)
     (p : Place) (most : ℕ)
     (result : Result (Unit {0}) DeviceFault) : Type 0 where
@@ -230,7 +232,7 @@ pub record Chooses {D T : Type 0} (S : History D) (old new : D) (name : List ℕ
   pub quiet : WritesNothing S old new
   pub reads : OnOk result (S.reads new ≤ S.reads old + 55)
 
--- A file was created, or not, where l is the layout.
+-- A file was created, or not; l is the layout.
 pub record CreatesFile {D : Type 0} (S : History D) (old new : D) (l : Layout) (name : List ℕ) (size : ℕ)
     (result : Result RelFile RelFault) : Type 0 where
   pub ok : IfOk result (IsMade (S.image old) l name size (S.image new))
@@ -244,5 +246,5 @@ pub record Creates {D : Type 0} (S : History D) (old new : D) (name : List ℕ) 
   pub refuses : Refuses S old new name result
   -- as many as a refusal reads
   pub reads : OnOk result (S.reads new ≤ S.reads old + 55)
-  -- what is kept of any file stays of it
+  -- what is kept in memory of any file stays right
   pub others : (v : RelFile) → OfItsFile (S.image old) v (λ l n f. StaysOf (S.image old) (S.image new) f v)

@@ -20,14 +20,13 @@ pub record KeepsOthers (old new : Image) (l m : Layout) (n : ℕ) : Type 0 where
       → map (sector new) f.blocks ≡ map (sector old) f.blocks
   pub header : header_of new ≡ header_of old
 
--- a file that has these records, and was f in old, has no fewer than before, and its data blocks and side sectors are
--- those of
--- before unless it has more
+-- a file with these records, which was f in old, has no fewer than before; unless it has more, its data blocks and side
+-- sectors are the same
 abbrev pub KeepsPlaces : Image → File → File → List (List ℕ) → Type 0
 KeepsPlaces old f g rs = (length (records old f) ≤ length rs)
     × ((file_owns g ≡ file_owns f) ⊎ (length (records old f) < length rs))
 
--- new is sound, all files but the one at place n are as in old, and that one has these records
+-- new is sound, all files except the one at place n are as in old, and that one has these records
 pub record HasRecords (old new : Image) (l : Layout) (n : ℕ) (rs : List (List ℕ)) : Type 0 where
   pub layout : Layout
   pub is_layout : IsLayout new layout
@@ -37,7 +36,8 @@ pub record HasRecords (old new : Image) (l : Layout) (n : ℕ) (rs : List (List 
   pub records : records new file ≡ rs
   pub places : (f : File) → slice_get l.files n ≡ Some f → KeepsPlaces old f file rs
 
--- what a call leaves that is done: so, and new is clean, and v is of that file
+-- what a call that is done leaves: new is clean, all files except the one at place n are as in old, that one has these
+-- records, and v is of it
 pub record LeavesRecords (old new : Image) (l : Layout) (n : ℕ) (rs : List (List ℕ)) (v : RelFile) : Type 0 where
   pub layout : Layout
   pub clean : IsCleanLayout new layout
@@ -47,7 +47,7 @@ pub record LeavesRecords (old new : Image) (l : Layout) (n : ℕ) (rs : List (Li
   pub records : records new file ≡ rs
   pub places : (f : File) → slice_get l.files n ≡ Some f → KeepsPlaces old f file rs
 
--- what is kept of any file of old but the one at place n is of new as well, of the same file
+-- what is kept in memory of any file of old except the one at place n also fits that file of new
 abbrev pub KeepsRelFiles : Image → Image → Layout → ℕ → Type 0
 KeepsRelFiles old new l n = (k : ℕ) (g : File) (w : RelFile) → k ≢ n → IsFileOf old l k g w → (m : Layout)
     × IsFileOf new m k g w

@@ -40,7 +40,8 @@ use Rattle.rel_records.specs.growth.Growth.{added, records_had}
 abbrev pub written : ℕ → ℕ → List ℕ → List ℕ → List ℕ
 written L pos text old = take L (take (pos - 1) old ++ (text ++ replicate L 0))
 
--- how many bytes of record r of L bytes lie in the data block where it begins, if they are fewer than L; else L or more
+-- how many bytes of record r of L bytes are in the data block in which it begins, if they are fewer than L; otherwise L
+-- or more
 abbrev pub room_in_first : ℕ → ℕ → ℕ
 room_in_first L r = 254 - (r - 1) * L % 254
 
@@ -65,7 +66,7 @@ IsAbsent rs r = (r ≡ 0) ⊎ (length rs < r)
 abbrev pub with_written : ℕ → ℕ → ℕ → List ℕ → List (List ℕ) → List (List ℕ)
 with_written L r pos text rs = set rs (r - 1) (written L pos text (get_or rs (r - 1) []))
 
--- and with its first part alone
+-- these records, with only the first part of this text written into record r
 abbrev pub with_half : ℕ → ℕ → ℕ → List ℕ → List (List ℕ) → List (List ℕ)
 with_half L r pos text rs =
     set rs (r - 1) (half_written L r (written L pos text (get_or rs (r - 1) [])) (get_or rs (r - 1) []))
@@ -74,7 +75,7 @@ with_half L r pos text rs =
 abbrev pub touched : ℕ → ℕ → ℕ → ℕ
 touched L r pos = (r * L - 1) / 254 - ((r - 1) * L + (pos - 1)) / 254 + 1
 
--- these records with m empty ones behind them
+-- these records, and then m empty ones
 abbrev pub grown_by : ℕ → ℕ → List (List ℕ) → List (List ℕ)
 grown_by L m rs = rs ++ replicate m (empty_record L)
 
@@ -106,13 +107,13 @@ IsWriting old l n f m r pos text c =
 abbrev pub IsInOneBlock : ℕ → ℕ → Type 0
 IsInOneBlock L r = (r - 1) * L % 254 + L ≤ 254
 
--- a write is done where it answers Ok, or Overflow
+-- a write is done if it returns Ok, or Overflow
 abbrev pub IsDone : {T : Type 0} → Result T RelFault → Type 0
 IsDone (Ok _) = Unit {0}
 IsDone (Err Overflow) = Unit {0}
 IsDone (Err _) = ⊥
 
--- a block with the text over its data bytes from start to below end, and zeros where the text is shorter
+-- a block with the text over its data bytes from start to below end, and zeros if the text is shorter
 abbrev pub patched : ℕ → ℕ → List ℕ → Sector → Sector
 patched start end text bytes = take (2 + start) bytes ++ (take (end - start) (text ++ replicate (end - start) 0)
     ++ drop (2 + end) bytes)

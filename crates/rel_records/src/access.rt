@@ -1,4 +1,4 @@
-//! Sectors read and written by calls on relative files: a device's failure is told as `Device`.
+//! Sectors read and written for relative files: a device's failure is returned as `Device`.
 ghost use Rattle.std.specs.Prelude.{◌≡◌};
 ghost use Rattle.d64_image.specs.Images.{sector};
 ghost use Rattle.rel_records.specs.Calls.{PutsSector, ReadsAtMost};
@@ -23,7 +23,7 @@ pub(crate) fn read<D: Sectors>(
 }
 
 /// Writes a sector; at an error it is written or as before.
-// In line, as all on the way to a device's write is: a return right behind a call of the system is dear.
+// In line, as all on the way to a device's write is: a return right after a system call is slow.
 #[inline(always)]
 pub(crate) fn write<D: Sectors>(
     disk: &mut D,

@@ -28,7 +28,7 @@ use arrayvec::ArrayVec;
 use d64_image::Sectors;
 use disk_layout::{Bam, directory_start, padded_name, walk_chain};
 
-/// Where the directory of a sound disk has room for an entry.
+/// Finds the directory's room for an entry on a sound disk.
 fn read_room<D: Sectors>(disk: &mut D) -> Result<Room, RelFault>
     requires sound { IsSound (D.history.image disk.old) }
     ensures ok { (l : Layout) → IsLayout (D.history.image disk.old) l
@@ -49,8 +49,8 @@ fn read_room<D: Sectors>(disk: &mut D) -> Result<Room, RelFault>
     Ok(room)
 }
 
-/// Takes a new file's sectors in the map of a clean disk: two for the file, and where the directory is full a third for
-/// that. None where they aren't free.
+/// Takes a new file's sectors in the map of a clean disk: two for the file, and a third for the directory if it is
+/// full. None if they aren't free.
 fn take_site(mut map: Bam, room: Room) -> Option<Site>
     requires of { (img : Image) × (l : Layout) × IsCleanLayout img l × (map.bytes ≡ sector img map_place)
         × IsRoomOf img l room }
@@ -118,7 +118,7 @@ fn choose_site<D: Sectors>(disk: &mut D, name: &[u8]) -> Result<Site, RelFault>
     Ok(site)
 }
 
-/// The new file, as it stands at its site.
+/// The new file, as its site has it.
 fn file_at(site: &Site, size: u8) -> RelFile
     requires { IsLength size }
     ensures { IsFileAt size site.now result }
@@ -137,15 +137,16 @@ fn file_at(site: &Site, size: u8) -> RelFile
 }
 
 /// Creates a relative file of this name and record length, in bytes, with one data block of empty records. Its entry
-/// goes into the first free slot of the directory, or where all slots are used into a new directory sector, the lowest
-/// free one of track 18.
+/// goes into the first free slot of the directory. If all slots are used, the entry goes into a new directory sector,
+/// the lowest free one of track 18.
 ///
-/// `Exists` where an entry has the name, of whatever type. Else `Full` where fewer than two blocks are free, or the
-/// directory has neither a free slot nor a free sector. Both write nothing. The name isn't judged: whoever asks sees to
-/// it that it has no shifted space, and that the first closed relative file of it, if any, has another record length.
+/// `Exists` is returned if an entry has the name, of whatever type; otherwise `Full` if fewer than two blocks are free,
+/// or if the directory has neither a free slot nor a free sector. Neither writes anything. The name isn't checked: the
+/// caller ensures that it has no shifted space, and that the first closed relative file of that name, if any, has
+/// another record length.
 ///
-/// Fifty-five sectors at most are read, unless the device fails; the last write makes the file. Files that are whole stay
-/// so in each image that the disk holds on the way.
+/// At most fifty-five sectors are read, unless the device fails. The last write makes the file. Whole files stay whole
+/// in each image that the disk holds on the way.
 pub fn create<D: Sectors>(disk: &mut D, name: &[u8], size: u8) -> Result<RelFile, RelFault>
     requires clean { IsClean (D.history.image disk.old) }
     requires name { length name.now ≤ 16 }

@@ -26,7 +26,7 @@ use crate::sizes::{blocks_for, side_count};
 use d64_image::{DeviceFault, Sectors};
 use disk_layout::Bam;
 
-/// How many sectors a file of `blocks` blocks needs to have `wanted` of them, beyond those that it has.
+/// How many sectors a file of `blocks` blocks needs, beyond those that it has, to have `wanted` blocks.
 fn sectors_needed(blocks: u16, wanted: u16) -> u16
     requires blocks { blocks ≤ 720 }
     requires wanted { wanted ≤ 720 }
@@ -35,7 +35,7 @@ fn sectors_needed(blocks: u16, wanted: u16) -> u16
     (wanted + side_count(wanted)).saturating_sub(blocks + side_count(blocks))
 }
 
-/// Gives a file that is filled up blocks, one after another, until it has `wanted`.
+/// Gives blocks, one after another, to a file that is filled up, until it has `wanted`.
 fn add_blocks<D: Sectors>(disk: &mut D, parts: &mut Parts, wanted: u16) -> Result<(), DeviceFault>
     requires at { StandsFilled (D.history.image disk.old) parts.old }
     requires more { length parts.old.blocks.items ≤ wanted }
@@ -82,7 +82,7 @@ fn renew(file: &mut RelFile, parts: Parts)
     };
 }
 
-/// Fills the room in a file's last blocks, and gives it blocks until it has `wanted`.
+/// Fills the unused bytes of a file's last blocks, and gives it blocks until it has `wanted`.
 // Out of line: `grow_to` mostly finds the record there.
 #[inline(never)]
 fn grow<D: Sectors>(
@@ -107,12 +107,12 @@ fn grow<D: Sectors>(
     Ok(())
 }
 
-/// Grows the file so that record `number` is there, by empty records; where it is there, or for 0, nothing is read or
-/// written.
+/// Grows the file by empty records until it has record `number`. If the file has that record, or for 0, nothing is read
+/// or written.
 ///
-/// All whole records that fit into the file's blocks are made then. `TooLarge` where the record isn't there and would
-/// need more than 720 data blocks, or its number is past 65535; `Full` where the free blocks don't suffice. Both write
-/// nothing. Ten sectors at most are read.
+/// The file gets all whole records that fit into its blocks. If it doesn't have the record, two errors are possible.
+/// `TooLarge`: the record would need more than 720 data blocks, or its number is past 65535. `Full`: there aren't
+/// enough free blocks. Neither writes anything. At most ten sectors are read.
 pub fn grow_to<D: Sectors>(disk: &mut D, file: &mut RelFile, number: u32) -> Result<(), RelFault>
     requires clean { IsClean (D.history.image disk.old) }
     requires of { IsOf (D.history.image disk.old) file.old }

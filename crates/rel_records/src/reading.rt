@@ -1,4 +1,4 @@
-//! Records read: one side sector tells the block where a record begins.
+//! Reading records: one side sector names the block in which a record begins.
 ghost use Rattle.std.specs.Prelude.{◌+◌, ◌++◌, length, ◌≡◌, ◌<◌, ◌≤◌, IsSome, Some, drop, take};
 ghost use Rattle.d64_image.specs.Images.{sector};
 ghost use Rattle.d64_image.specs.declared.place.Place.{Place};
@@ -23,7 +23,7 @@ use arrayvec::ArrayVec;
 use d64_image::{Place, Sectors};
 use disk_layout::DATA;
 
-/// Puts two parts one behind the other in place of these bytes.
+/// Puts two parts, one after the other, in place of these bytes.
 #[inline(always)]
 fn overwrite(bytes: &mut [u8], here: &[u8], there: &[u8])
     requires { length bytes.old ≡ length here.now + length there.now }
@@ -36,7 +36,7 @@ fn overwrite(bytes: &mut [u8], here: &[u8], there: &[u8])
 
 /// Fills `text` with the record of this length that begins at data byte `start` of the first block, and goes on in the
 /// second.
-// In line: where a record lies in one block, the compiler knows there that the second part is empty.
+// In line: if a record is in one block, the compiler then knows that the second part is empty.
 #[inline(always)]
 pub(crate) fn fill_record(
     text: &mut ArrayVec<u8, DATA>,
@@ -77,7 +77,7 @@ pub(crate) fn read_block<D: Sectors>(
     read(disk, place, to)
 }
 
-/// Reads the data block behind the one that has these bytes, which name it.
+/// Reads the next data block, which the block with these bytes names.
 pub(crate) fn read_behind<D: Sectors>(
     disk: &mut D,
     bytes: &[u8; 256],
@@ -115,7 +115,7 @@ fn read_across<D: Sectors>(
 }
 
 /// Reads a record that is there.
-// In line, as `read_record` is. The file ends below byte 183,134, so 32 bits hold where a record begins.
+// In line, as `read_record` is. The file ends below byte 183,134, so 32 bits hold the position of a record.
 #[inline(always)]
 fn read_there<D: Sectors>(
     disk: &mut D,
@@ -140,8 +140,8 @@ fn read_there<D: Sectors>(
     read_across(disk, &first, start % DATA, size, text)
 }
 
-/// Reads a record into `text`, all of its bytes; `NotPresent` where the file has none of this number, counted from 1.
-/// What the text held before is gone; after a fault what it holds is open.
+/// Reads a record into `text`, all of its bytes. `NotPresent` is returned if the file has no record of this number,
+/// counted from 1. The old contents of `text` are gone. After an error `text` may hold anything.
 // In line, with all on the way of a record that lies in one block.
 #[inline(always)]
 pub fn read_record<D: Sectors>(
@@ -151,7 +151,7 @@ pub fn read_record<D: Sectors>(
     text: &mut ArrayVec<u8, DATA>,
 ) -> Result<(), RelFault>
     requires of { IsOf (D.history.image disk.old) file.now }
-    // its side sector, and the one or two blocks where it lies
+    // its side sector, and its one or two blocks
     ensures { ReadsRecord D.history disk.old disk.new file.now number text.new.items 3 result }
 {
     if number == 0 {

@@ -34,8 +34,8 @@ pub(crate) fn side_count(blocks: u16) -> u16
     (blocks + POINTERS as u16 - 1) / POINTERS as u16
 }
 
-/// The data blocks that a file with records of this length, in bytes, needs for its record `number`; None where that is
-/// past 65535 or would need more than 720, so that no file can have it.
+/// The number of data blocks that a file with records of this length, in bytes, needs for its record `number`. None if
+/// `number` is past 65535 or would need more than 720 blocks: then no file can have it.
 pub fn blocks_for(number: u32, length: u8) -> Option<u16>
     ensures { MatchOption result ((65535 < number) ⊎ (720 < growth.blocks_for length number))
         (λ n. (n ≡ growth.blocks_for length number) × (n ≤ 720) × (number ≤ 65535)) }

@@ -17,9 +17,9 @@ use crate::rel_file::RelFile;
 use d64_image::{Place, Sectors};
 use disk_layout::DATA;
 
-/// Writes the text over the data bytes from `start` to below `end` of the block at `place`, and zeros where it is
-/// shorter. The answer is the block that it links to, where it does.
-// In line: a record that lies in one block has no use for the link, and then nobody asks where it leads.
+/// Writes the text over the data bytes from `start` to below `end` of the block at `place`, and zeros if it is shorter.
+/// Returns the block that it links to, if any.
+// In line: for a record in one block the link isn't used, and then the compiler leaves it out.
 #[inline(always)]
 fn write_block<D: Sectors>(
     disk: &mut D,
@@ -41,8 +41,8 @@ fn write_block<D: Sectors>(
     Ok(Place::new(block[0], block[1]))
 }
 
-/// Writes the text into a record that is there, where its bytes from the position on lie in the block at `place`, the
-/// one with this number, from 0.
+/// Writes the text into a record that is there. Its bytes from the position on are in the block at `place`, which has
+/// this number, from 0.
 fn write_in_block<D: Sectors>(
     disk: &mut D,
     file: &RelFile,
@@ -63,8 +63,8 @@ fn write_in_block<D: Sectors>(
     Ok(())
 }
 
-/// Writes the text into a record that is there, where it goes on behind the block at `place`, the one with this number,
-/// from 0, in which the position lies: first the part in that block, then the rest.
+/// Writes the text into a record that is there and goes on in the next block. The position is in the block at `place`,
+/// which has this number, from 0. First writes the part in that block, then the rest.
 // Out of line, since few records lie in two blocks.
 #[inline(never)]
 fn write_across<D: Sectors>(
@@ -115,8 +115,7 @@ fn write_there<D: Sectors>(
     write_across(disk, file, number, position, text, block, place)
 }
 
-/// What is told of a text that was written from the position on into a record of this size: `Overflow` where it was
-/// cut.
+/// The result for a text that was written from the position on into a record of this size: `Overflow` if it was cut.
 fn told_of_text(text: &[u8], position: u8, size: u8) -> Result<(), RelFault>
     ensures ok { OnOk result (length text.now + position ≤ size + 1) }
     ensures err { IfErr result (λ fault. (fault ≡ Overflow) × (size + 1 < length text.now + position)) }
@@ -127,13 +126,13 @@ fn told_of_text(text: &[u8], position: u8, size: u8) -> Result<(), RelFault>
     Ok(())
 }
 
-/// Writes the text into a record, from the position on, counted from 1: the record's bytes before it stay, and those
-/// behind the text become zeros. No other record changes. Where the file has no such record, it grows first.
+/// Writes the text into a record, from the position on, counted from 1. The record's bytes before the position stay,
+/// and its bytes after the text become zeros. No other record changes. If the file has no such record, it grows first.
 ///
-/// `Overflow` is told where the text is longer than what is left of the record: it is written as far as it fits.
-/// `TooLarge` and `Full` are those of `grow_to`; then nothing is written.
+/// `Overflow` is returned if the text is longer than the rest of the record: as much as fits is written. `TooLarge` and
+/// `Full` are those of `grow_to`; then nothing is written.
 ///
-/// Three sectors at most are read where the record is there, else ten more.
+/// At most three sectors are read if the record is there, otherwise ten more.
 pub fn write_record<D: Sectors>(
     disk: &mut D,
     file: &mut RelFile,

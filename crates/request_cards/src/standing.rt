@@ -1,4 +1,4 @@
-//! How a request stands: what its till is told without the trade rule, or that it is new.
+//! The standing of a request: either its till gets a reply without the trade rule, or the request is new.
 
 ghost use Rattle.std.specs.Prelude.{◌≡◌, ◌==◌, ◌+◌, ◌&&◌, nat_le, option_map};
 ghost use Rattle.request_cards.specs.Ledgers.{entry_of, is_new, number_of, standing, standing_at};
@@ -9,12 +9,12 @@ use crate::answer::Answer;
 use crate::reply::Word;
 use crate::request::Request;
 
-/// How a request stands, by what is kept of its till.
+/// The standing of a request, by what is kept of its till.
 #[derive(Clone, Copy)]
 pub enum Standing {
     /// It is its till's next one: the trade rule answers it, and the answer is kept.
     New,
-    /// Its till is told this, and nothing changes.
+    /// Its till gets this word, and nothing changes.
     Settled(Word),
 }
 
@@ -26,7 +26,7 @@ pub fn same_body(a: &Request, b: &Request) -> bool
     a.kind() == b.kind() && a.item() == b.item() && a.quantity() == b.quantity() && a.to() == b.to()
 }
 
-/// What a till is told about a number that this request has.
+/// The word on a request that has the number of a kept one.
 #[inline]
 fn again(kept: (Request, Answer), request: &Request) -> Word
     ensures { result ≡ told_again (entry_of kept) request.now }
@@ -38,7 +38,7 @@ fn again(kept: (Request, Answer), request: &Request) -> Word
     }
 }
 
-/// What a till is told about a number below its last one, with this request before the last.
+/// The word on a request with a number below the till's last one, given the request before the last.
 #[inline]
 fn late(prior: Option<(Request, Answer)>, request: &Request) -> Word
     ensures { result ≡ told_late (option_map entry_of prior) request.now }
@@ -49,11 +49,15 @@ fn late(prior: Option<(Request, Answer)>, request: &Request) -> Word
     }
 }
 
-/// How a request stands where the disk has this many tills, by the last request of its till and the one
-/// before, each with its answer (None where there is none). A till past those is told `NO TILL`. A
-/// number that the last request or the one before has gets its kept answer where the same is wanted,
-/// else `CLASH`; any other number below the last is `STALE`, and one more than one past it `AHEAD`. The
-/// number one past the last, or 1 where nothing is kept, is new.
+/// The standing of a request on a disk with this many tills. It depends on the last request of its till and the one
+/// before, each with its answer (None if there is none). The first matching case applies:
+///
+/// - A till past `tills` gets `NO TILL`.
+/// - If the number is that of the last request or the one before, and the wish is the same, it gets the kept answer; if
+///   the wishes differ, `CLASH`.
+/// - Any other number below the last gets `STALE`.
+/// - The number one past the last, or 1 if nothing is kept, is new.
+/// - Any greater number gets `AHEAD`.
 #[inline]
 pub fn standing_of(
     tills: u8,

@@ -22,7 +22,7 @@ use Rattle.std.specs.Prelude.{
   option_map,
 }
 
--- the first byte c stands at this place
+-- the first byte c is at this index
 pub record IsFirst (c : ℕ) (bytes : List ℕ) (place : ℕ) : Type 0 where
   pub inside : place < length bytes
   pub here : slice_index bytes place ≡ c
@@ -42,7 +42,7 @@ split c (b ∷ bs) = if b == c then [] ∷ split c bs else onto_first b (split c
 abbrev pub without_cr : List ℕ → List ℕ
 without_cr line = if slice_index line (length line - 1) == 13 then take (length line - 1) line else line
 
--- a piece that an LF ends loses one CR; the last piece has no LF, and counts where it isn't empty
+-- a piece that an LF ends loses one CR; the last piece has no LF, and counts if it isn't empty
 abbrev pub ended : List (List ℕ) → List (List ℕ)
 ended [] = []
 ended (x ∷ []) = if length x == 0 then [] else x ∷ []
@@ -52,7 +52,7 @@ ended (x ∷ y ∷ ys) = without_cr x ∷ ended (y ∷ ys)
 abbrev pub lines : List ℕ → List (List ℕ)
 lines script = ended (split 10 script)
 
--- a line that begins with @ is no message: it tells of a reset, and can't be played without a disk
+-- a line that begins with @ is no message: it has a reset, and can't be played without a disk
 abbrev pub is_reset : List ℕ → Bool
 is_reset [] = false
 is_reset (b ∷ bs) = b == 64

@@ -1,4 +1,4 @@
-//! Lines that tell of a reset: `@k`, up to eight times `/m`, a space, and any message.
+//! Lines with a reset: `@k`, up to eight times `/m`, a space, and any message.
 ghost use Rattle.std.specs.Prelude.{◌≡◌, ◌<◌, ◌∷◌, IfSome, length, option_map};
 ghost use Rattle.request_cards.specs.Reading.{cut_at};
 ghost use Rattle.script_lines.specs.Lines.{lines, split};
@@ -9,7 +9,7 @@ use crate::script::{has_byte, next_line};
 use arrayvec::ArrayVec;
 use request_cards::number;
 
-/// What stands before the first space, and what stands after it.
+/// The bytes before the first space, and the bytes after it.
 fn at_space(bytes: &[u8]) -> Option<(&[u8], &[u8])>
     ensures { option_map (λ p. (p.0.now, p.1.now)) result ≡ cut_at 32 bytes.now }
 {
@@ -21,7 +21,7 @@ fn at_space(bytes: &[u8]) -> Option<(&[u8], &[u8])>
     None
 }
 
-/// What stands before the first slash, and what stands after it, where there is one.
+/// The bytes before the first slash, and the bytes after it, if there is one.
 fn first_field(counts: &[u8]) -> (&[u8], Option<&[u8]>)
     ensures fields { split 47 counts.now ≡ result.0.now ∷ fields_left (option_map (λ r. r.now) result.1) }
     ensures shorter { IfSome result.1 (λ r. length r.now < length counts.now) }
@@ -34,8 +34,8 @@ fn first_field(counts: &[u8]) -> (&[u8], Option<&[u8]>)
     (counts, None)
 }
 
-/// The event of a line with a reset, whose bytes after its `@` these are. None where the line is bad.
-// Out of line, so that a line without a reset, as most are, is only looked at.
+/// The event of a line with a reset, which has these bytes after its `@`. None if the line is bad.
+// Out of line: most lines have no reset, and then this isn't called.
 #[inline(never)]
 fn reset_at(bytes: &[u8]) -> Option<Event<'_>>
     ensures { option_map line_in result ≡ reset_of bytes.now }
@@ -58,8 +58,8 @@ fn reset_at(bytes: &[u8]) -> Option<Event<'_>>
     })
 }
 
-/// The event of a line, as `next_line` gives it. None where the line is bad: where it begins with `@` and hasn't the
-/// form of a reset, with numbers up to 99999 without leading zeros.
+/// The event of a line, which is as `next_line` returns it. None if the line is bad: it begins with `@` and doesn't
+/// have the form of a reset, with numbers up to 99999 without leading zeros.
 #[inline]
 pub fn event_at(line: &[u8]) -> Option<Event<'_>>
     ensures { option_map line_in result ≡ line_of line.now }
@@ -73,7 +73,7 @@ pub fn event_at(line: &[u8]) -> Option<Event<'_>>
     }
 }
 
-/// The number of the first bad line, counted from 1; None where no line is bad.
+/// The number of the first bad line, counted from 1. None if no line is bad.
 pub fn first_bad_line(script: &[u8]) -> Option<usize>
     ensures { result ≡ first_bad (lines script.now) }
 {

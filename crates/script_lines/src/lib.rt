@@ -1,4 +1,4 @@
-//! Scripts: the bytes of a file, cut into lines, and what each line tells of.
+//! Scripts: the bytes of a file, cut into lines, and the event in each line.
 #![tactic(auto)]
 
 mod event_lines;

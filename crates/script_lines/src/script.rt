@@ -18,9 +18,8 @@ fn strip(line: &[u8]) -> &[u8]
 /// How many bytes are looked at together: most lines end within them.
 const WINDOW: usize = 64;
 
-/// The place of the first LF among these bytes, or 64. It looks at all of them without a branch,
-/// many at a time: a search that stops at the LF leaves the processor to guess where, and most
-/// guesses are wrong.
+/// The index of the first LF among these bytes, or 64. Looks at all of them without a branch, many at a time: in a
+/// search that stops at the LF, the processor would have to guess the branch, and most guesses are wrong.
 fn lf_among(bytes: &[u8; WINDOW]) -> u8
     ensures { result < 64 → IsFirst 10 bytes.now result }
 {
@@ -36,7 +35,7 @@ fn lf_among(bytes: &[u8; WINDOW]) -> u8
     at
 }
 
-/// The place of the first LF.
+/// The index of the first LF.
 fn end_of_line(script: &[u8]) -> Option<usize>
     ensures { MatchOption result
         ((k : ℕ) → k < length script.now → slice_index script.now k ≢ 10)
@@ -56,8 +55,7 @@ fn end_of_line(script: &[u8]) -> Option<usize>
     None
 }
 
-/// The script's first line, without its LF and one CR before it, and what follows it. None where the
-/// script is empty.
+/// The script's first line, without its LF and one CR before it, and the bytes after it. None if the script is empty.
 pub fn next_line(script: &[u8]) -> Option<(&[u8], &[u8])>
     ensures { MatchOption result (lines script.now ≡ [])
         (λ p. (lines script.now ≡ p.0.now ∷ lines p.1.now)
@@ -77,15 +75,14 @@ fn begins_with_at(line: &[u8]) -> bool
     line.first() == Some(&b'@')
 }
 
-/// Whether the byte stands anywhere in the script. It looks at all of them without a branch, many
-/// at a time.
+/// Whether the byte is anywhere in the script. Looks at all bytes without a branch, many at a time.
 pub(crate) fn has_byte(script: &[u8], byte: u8) -> bool
     ensures { result ≡ fold (λ found b. found || b == byte) false script.now }
 {
     script.iter().fold(false, |found, b| found | (*b == byte))
 }
 
-/// The number of the first line that begins with `@`, counted from 1; None where no line does.
+/// The number of the first line that begins with `@`, counted from 1. None if no line does.
 pub fn first_reset_line(script: &[u8]) -> Option<usize>
     ensures { result ≡ first_reset (lines script.now) }
 {

@@ -1,15 +1,15 @@
--- What a file that is written over holds, and what may remain of it if power goes. Our own.
+-- What a file that is overwritten holds, and what may remain of it after a power loss. Our own.
 use Rattle.std.specs.Prelude.{◌≡◌, ◌⊎◌, ◌≤◌, ◌+◌, ◌-◌, ◌*◌, ℕ, List, ◌++◌, None, OnOk, Option, Result, Some, length, max, option_map}
 use Rattle.std.specs.Prelude.{replicate, slice_index, take}
 use Rattle.d64_image.specs.Offsets.{overwritten}
 
--- What a file says of itself.
+-- What is known of a file.
 pub record Remains (F : Type 0) : Type 1 where
   -- the bytes that it holds; None if that isn't known
   pub held : F → Option (List ℕ)
   -- the moment, as a number that doesn't fall
   pub moment : F → ℕ
-  -- if power goes now, or had gone at some moment from that one on, these bytes may remain
+  -- after a power loss now, or at a moment from that one on, these bytes may remain
   pub remain : F → ℕ → List ℕ → Type 0
   -- what may remain from a later moment on may from an earlier one on
   pub sooner : (f : F) (t u : ℕ) (s : List ℕ) → t ≤ u → remain f u s → remain f t s
@@ -23,7 +23,7 @@ unknown = record {
   sooner = λ f t u s le never. never;
 }
 
--- these bytes with zeros behind them, if they are fewer than n
+-- these bytes with zeros after them, if they are fewer than n
 abbrev pub grown : List ℕ → ℕ → List ℕ
 grown all n = all ++ replicate (n - length all) 0
 
@@ -31,12 +31,12 @@ grown all n = all ++ replicate (n - length all) 0
 abbrev pub put_in : List ℕ → ℕ → List ℕ → List ℕ
 put_in all n bytes = overwritten (grown all n) n bytes
 
--- the first n of them, or all and zeros behind them
+-- the first n of these bytes; if they are fewer, all of them with zeros after them
 abbrev pub ended_behind : List ℕ → ℕ → List ℕ
 ended_behind all n = take n (grown all n)
 
--- A change of old bytes to new ones came to the disk in part: each byte is the old one or the new one, and there are no
--- more than the longer of both has.
+-- A change of old bytes to new ones reached the disk in part: each byte is the old one or the new one, and there are at
+-- most as many as the longer of the two has.
 pub record IsInPart (old new s : List ℕ) : Type 0 where
   pub each : (i : ℕ) → (slice_index s i ≡ slice_index old i) ⊎ (slice_index s i ≡ slice_index new i)
   pub size : length s ≤ max (length old) (length new)
@@ -64,12 +64,12 @@ pub record IsPutOver {F E : Type 0} (r : Remains F) (old new : F) (bytes : List 
   pub held : OnOk result (r.held new ≡ option_map (λ all. put_in all n bytes) (r.held old))
   pub remain : Changes r old new (IsPutInPart n bytes)
 
--- a file was ended behind n bytes, or not at an error
+-- a file was ended after n bytes; at an error it may not have been
 pub record IsEndedBehind {F E : Type 0} (r : Remains F) (old new : F) (n : ℕ) (result : Result Unit E) : Type 0 where
   pub held : OnOk result (r.held new ≡ option_map (λ all. ended_behind all n) (r.held old))
   pub remain : Changes r old new (λ from s. IsInPart from (ended_behind from n) s)
 
--- all that a file holds was brought to the disk, or a part of it at an error
+-- all that a file holds was synced; at an error a part of it may have been
 pub record IsBroughtWhole {F E : Type 0} (r : Remains F) (old new : F) (result : Result Unit E) : Type 0 where
   pub same : r.held new ≡ r.held old
   pub remain : Changes r old new (λ from s. ⊥)

@@ -1,4 +1,4 @@
--- An image that is written over a file, and what remains if power goes on the way. Our own.
+-- An image that is written over a file, and what remains if power fails on the way. Our own.
 use Rattle.std.specs.Prelude.{◌≡◌, ◌⊎◌, ◌≤◌, ℕ, List, ◌++◌, OnOk, Result, Some, drop, length, slice_index, take}
 use Rattle.d64_image.specs.Memory.{sectors_in}
 use Rattle.disk_layout.specs.Layout.{IsSound}
@@ -12,22 +12,22 @@ IsNoDisk s = length s ≡ 174848 → IsSound (sectors_in s) → ⊥
 abbrev pub IsSpoiled : List ℕ → Type 0
 IsSpoiled s = slice_index s 91648 ≡ 255
 
--- so it is, if they have the size of an image
+-- if the bytes have the size of an image, byte 0 of 18/1 is 255
 abbrev pub IsSpoiledImage : List ℕ → Type 0
 IsSpoiledImage s = length s ≡ 174848 → IsSpoiled s
 
--- it is this image, with some bytes in the place of 18/1
+-- the bytes are this image, with any bytes in the place of 18/1
 pub record IsFilled (image s : List ℕ) : Type 0 where
   pub some : List ℕ
   pub size : length some ≡ 256
   pub is : s ≡ take 91648 image ++ some ++ drop 91904 image
 
 module _ {F : Type 0} (r : Remains F) where
-  -- whatever remains if power goes now is so
+  -- everything that may remain after a power loss now has P
   abbrev pub NowAll : F → (List ℕ → Type 0) → Type 0
   NowAll f P = (s : List ℕ) → r.remain f (r.moment f) s → P s
 
-  -- From old to new there remains what could remain before, or what is so.
+  -- From old to new there may remain what could remain before, or bytes with P.
   pub record Since (old new : F) (P : List ℕ → Type 0) : Type 0 where
     pub later : r.moment old ≤ r.moment new
     pub each : (t : ℕ) (s : List ℕ) → t ≤ r.moment old → r.remain new t s → r.remain old t s ⊎ P s

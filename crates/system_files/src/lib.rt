@@ -1,5 +1,5 @@
-//! What the program asks of the system's files: which may be opened, whether they are still there, and how one is written
-//! over so that power loss leaves no third disk.
+//! What the program asks of the operating system's files: which may be opened, whether they are still there, and how
+//! one is overwritten so that a power loss never leaves a third disk.
 #![tactic(auto)]
 
 mod names;

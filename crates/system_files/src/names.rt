@@ -1,4 +1,4 @@
-//! Names that may come to lead elsewhere while a file is open.
+//! Names of open files. Such a name may come to lead elsewhere.
 ghost use Rattle.std.specs.Prelude.{◌≡◌};
 
 use std::fs::{Metadata, OpenFile};
@@ -15,7 +15,7 @@ struct Identity {
 }
 
 impl Identity {
-    /// The file of which the system says this.
+    /// The file that this metadata describes.
     fn of(found: &Metadata) -> Identity {
         Identity {
             device: found.dev(),

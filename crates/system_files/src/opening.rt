@@ -6,8 +6,8 @@ use std::fs::{File, Metadata, OpenOptions};
 use std::io;
 use std::rt::Files;
 
-/// What the system says of a file. An error if it isn't a regular file but a pipe, a device or a folder: opening such a
-/// thing may wait, and writing to it may harm.
+/// Passes on the metadata of a regular file. An error if it is a pipe, a device or a folder: opening such a thing may
+/// block, and writing to it may do harm.
 pub fn regular(found: io::Result<Metadata>) -> io::Result<Metadata>
     ensures { IfOk result (λ found. IsFile (file_type found)) }
 {
@@ -19,21 +19,21 @@ pub fn regular(found: io::Result<Metadata>) -> io::Result<Metadata>
     Err(io::Error::new(io::ErrorKind::InvalidInput, said))
 }
 
-/// What the system says of the file at a path, which isn't opened. An error if it isn't a regular file, or there is none.
+/// The metadata of the file at a path, which isn't opened. An error if it isn't a regular file, or there is none.
 pub fn regular_at<R: Files>(rt: &R, path: &str) -> io::Result<Metadata>
     ensures { IfOk result (λ found. IsFile (file_type found)) }
 {
     regular(rt.metadata(path))
 }
 
-/// The regular file at a path, opened for reading. Anything else isn't opened, and an error.
+/// The regular file at a path, opened for reading. Anything else isn't opened, and returns an error.
 pub fn opened_to_read<R: Files>(rt: &R, path: &str) -> io::Result<R::File> {
     regular_at(rt, path)?;
     File::open(rt, path)
 }
 
-/// The regular file at a path, opened for reading and writing; it is neither made nor cut. Anything else isn't opened,
-/// and an error.
+/// The regular file at a path, opened for reading and writing. It is neither made nor cut. Anything else isn't opened,
+/// and returns an error.
 pub fn opened_to_change<R: Files>(rt: &R, path: &str) -> io::Result<R::File> {
     regular_at(rt, path)?;
     OpenOptions::new().read(true).write(true).open(rt, path)

@@ -2,7 +2,7 @@
 use crate::remaining::EndedFile;
 use std::io;
 
-/// Where a file is opened for writing: it isn't cut.
+/// A way to open a file for writing, without cutting it.
 pub trait OpensFile {
     /// The opened file.
     type File: EndedFile + Drop;
@@ -10,12 +10,12 @@ pub trait OpensFile {
     /// Opens the file.
     fn open(&mut self) -> io::Result<Self::File>;
 
-    /// Brings the folder to the disk in which the file stands, so that its name stays if the machine loses power.
+    /// Syncs the folder of the file, so that its name stays if the machine loses power.
     fn sync_folder(&mut self) -> io::Result<()>;
 }
 
-/// A file that is written over, and opened at the first use; nothing is touched before. Bringing it to the disk brings
-/// its folder there too.
+/// A file that is overwritten. It is opened at the first use; nothing is touched before. Syncing it also syncs its
+/// folder.
 #[derive(Drop)]
 pub struct OverwrittenFile<O: OpensFile> {
     opens: O,
@@ -23,7 +23,7 @@ pub struct OverwrittenFile<O: OpensFile> {
 }
 
 impl<O: OpensFile> OverwrittenFile<O> {
-    /// The file that is opened so, and isn't opened yet.
+    /// A file that `opens` will open. It isn't opened yet.
     pub fn new(opens: O) -> OverwrittenFile<O> {
         OverwrittenFile { opens, file: None }
     }

@@ -1,4 +1,4 @@
-//! Files that are written over, and what may remain of them if power goes.
+//! Files that are overwritten, and what may remain of them after a power loss.
 ghost use Rattle.std.specs.Prelude.{OnOk};
 ghost use Rattle.system_files.specs.Remains.{IsBroughtWhole, IsEndedBehind, IsPutOver, Remains, unknown};
 
@@ -8,11 +8,11 @@ use std::os::unix::fs::FileExt;
 
 /// A file that can be written over at any place and ended after any byte.
 pub trait EndedFile {
-    // what it says of the bytes that it holds, and of those that remain if power goes
+    // what is known of the bytes that it holds, and of those that remain after a power loss
     ghost remains: { Remains Self } = { unknown };
 
-    /// Writes all these bytes over those from that place on; zeros fill what was missing before it. At an error a part of
-    /// them was written.
+    /// Writes all these bytes over those from that place on; zeros fill what was missing before it. At an error a part
+    /// of them may be written.
     fn put_over(&mut self, bytes: &[u8], at: u64) -> io::Result<()>
         ensures { IsPutOver remains self.old self.new bytes.now at result };
 
@@ -20,7 +20,7 @@ pub trait EndedFile {
     fn end_at(&mut self, bytes: u64) -> io::Result<()>
         ensures { IsEndedBehind remains self.old self.new bytes result };
 
-    /// Brings all that it holds, and its length, to the disk.
+    /// Syncs all that it holds, and its length.
     fn sync_whole(&mut self) -> io::Result<()>
         ensures { IsBroughtWhole remains self.old self.new result };
 }

@@ -1,4 +1,4 @@
-//! An image written over a file, so that power loss leaves the old bytes, no disk, or the new one.
+//! An image written over a file, so that a power loss leaves the old bytes, no disk, or the new one.
 ghost use Rattle.std.specs.Prelude.{◌≡◌, length};
 ghost use Rattle.system_files.specs.Replacing.{AllAreFilled, AllAreSpoiled, IsFilling, IsReplaced, IsSealing, IsSpoiling};
 
@@ -8,7 +8,7 @@ use std::io;
 /// How many bytes an image has.
 const IMAGE_BYTES: u64 = 174_848;
 
-/// Where the first sector of the directory begins, 18/1, and where the one after it does.
+/// The byte at which the first sector of the directory, 18/1, begins, and the one at which the next sector does.
 const DIRECTORY: usize = 91_648;
 
 const BEHIND: usize = 91_904;
@@ -16,7 +16,7 @@ const BEHIND: usize = 91_904;
 /// A first sector of a directory that links to track 255, which no disk has.
 const SPOILED: [u8; 256] = [255; 256];
 
-/// Spoils the directory of the image that a file may hold, and brings that to the disk.
+/// Spoils the directory of the image that a file may hold, and syncs that.
 fn spoil<F: EndedFile>(file: &mut F) -> io::Result<()>
     ensures { IsSpoiling F.remains file.old file.new result }
 {
@@ -24,8 +24,8 @@ fn spoil<F: EndedFile>(file: &mut F) -> io::Result<()>
     file.sync_whole()
 }
 
-/// Writes all of an image but the first sector of its directory over a file in which that sector is spoiled, and brings
-/// that to the disk.
+/// Writes all of an image except the first sector of its directory over a file in which that sector is spoiled, and
+/// syncs that.
 fn fill<F: EndedFile>(file: &mut F, image: &[u8]) -> io::Result<()>
     requires size { length image.now ≡ 174848 }
     requires spoiled { AllAreSpoiled F.remains file.old }
@@ -37,7 +37,7 @@ fn fill<F: EndedFile>(file: &mut F, image: &[u8]) -> io::Result<()>
     file.sync_whole()
 }
 
-/// Writes the first sector of an image's directory, of which the rest is there, and brings it to the disk.
+/// Writes the first sector of an image's directory into a file that has the rest of the image, and syncs it.
 fn seal<F: EndedFile>(file: &mut F, image: &[u8]) -> io::Result<()>
     requires size { length image.now ≡ 174848 }
     requires filled { AllAreFilled F.remains file.old image.now }
@@ -47,9 +47,9 @@ fn seal<F: EndedFile>(file: &mut F, image: &[u8]) -> io::Result<()>
     file.sync_whole()
 }
 
-/// Replaces all that a file holds with an image. If power goes on the way there remains what could remain before, or bytes
-/// that aren't the image of a sound disk, or the image. At Ok the image remains. At an error any of these does: the file
-/// may be spoiled.
+/// Replaces all that a file holds with an image. If power fails on the way, there remains what could remain before, or
+/// bytes that aren't the image of a sound disk, or the image. At Ok the image remains. At an error any of the three
+/// may: the file may be spoiled.
 pub fn replace_image<F: EndedFile>(file: &mut F, image: &[u8]) -> io::Result<()>
     requires size { length image.now ≡ 174848 }
     ensures { IsReplaced F.remains file.old file.new image.now result }

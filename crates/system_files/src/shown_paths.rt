@@ -1,8 +1,8 @@
 //! Paths of files, as a person reads them.
 use std::fmt::{self, Display, Formatter, Write};
 
-/// A path without a character that a terminal obeys: each control character stands as its number in hexadecimal digits,
-/// as `\u{1b}`, and so does each that turns the direction of the text around it.
+/// A path without characters that a terminal obeys. Each control character, and each character that turns the direction
+/// of the text around it, is shown as its number in hexadecimal digits, such as `\u{1b}`.
 #[derive(Clone, Copy)]
 pub struct ShownPath<'a>(pub &'a str);
 

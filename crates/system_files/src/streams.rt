@@ -7,12 +7,12 @@ use std::io;
 use std::os::fd::AsRawFd;
 use std::rt::Files;
 
-/// What can be read and written whatever comes, and holds nothing.
+/// A file that can always be read and written, and is always empty.
 const NOTHING: &str = "/dev/null";
 
-/// The files that stand in for standard streams that were closed when the program started: reading standard input fails
-/// then, and so does writing to the outputs. Without them the next file that is opened would take a closed stream's
-/// number, and what is printed would be written to it. They are held until the program ends.
+/// The files that stand in for standard streams that were closed when the program started: reading standard input then
+/// fails, and so does writing to the outputs. Without them the next file that is opened would take a closed stream's
+/// number, and output would be written to it. The program holds them until it ends.
 #[derive(Drop)]
 pub struct ClosedStreams<F> {
     input: Option<F>,
@@ -32,8 +32,8 @@ fn if_stream<F: AsRawFd + Drop>(file: F, stream: i32) -> Option<F>
 
 impl<F: AsRawFd + Drop> ClosedStreams<F> {
     /// Opens `/dev/null` in the place of each closed stream: as standard input for writing alone, as an output for
-    /// reading alone. A system gives a file the lowest number that is free, so a file with another number than the
-    /// stream's shows that the stream is open, and is closed again. An error if `/dev/null` can't be opened.
+    /// reading alone. The system gives a file the lowest number that is free. So if the file gets another number than
+    /// the stream's, the stream is open, and the file is closed again. An error if `/dev/null` can't be opened.
     pub fn hold<R: Files<File = F>>(rt: &R) -> io::Result<ClosedStreams<F>>
         ensures { IfOk result (AreStreams F.raw_fd) }
     {

@@ -1,4 +1,4 @@
--- Where the events of a run come from. All of it is our own.
+-- The sources of a run's events. All of it is our own.
 use Rattle.std.specs.Prelude.{◌≡◌, ◌⊎◌, ℕ, true, Vec, ◌<◌, ◌≤◌, ◌-◌, ◌==◌, if◌then◌else◌, drop, slice_get, List, []}
 use Rattle.std.specs.Prelude.{◌∷◌, ◌++◌, None, Some, Option, length, map, option_map, refl}
 use Rattle.std.proofs.Common.{append-nil, sym}
@@ -20,9 +20,9 @@ use Rattle.host_session.specs.events.Instants.{Instant}
 abbrev pub messages_in : {X : Type 0} → List (Message × X) → List Message
 messages_in taken = map (λ x. x.0) taken
 
--- What a source says of the messages that it gives.
+-- What is known of the messages that a source gives.
 pub record Source (A : Type 0) : Type 1 where
-  -- from the first to the second these messages were taken, each over a disk at this instant, in this order, and
+  -- from the first to the second these messages were taken, in this order, each with a disk at this instant, and
   -- nothing else
   pub gives : A → A → List (Message × Instant) → Type 0
   -- the message that was taken last
@@ -44,7 +44,7 @@ abbrev pub TakesOne : {A : Type 0} → Source A → A → A → Instant → Type
 TakesOne {A} a old new at = (first : A) (xs : List (Message × Instant)) → a.gives first old xs
     → a.gives first new (xs ++ (a.here new, at) ∷ [])
 
--- it didn't fail between the two: where it has failed, it had before
+-- the source didn't fail between the two: if it has failed, it had before
 abbrev pub FailsNoMore : {A : Type 0} → Source A → A → A → Type 0
 FailsNoMore a old new = a.has_failed new → a.has_failed old
 
@@ -52,7 +52,8 @@ FailsNoMore a old new = a.has_failed new → a.has_failed old
 abbrev pub GivesWell : {A : Type 0} → Source A → A → A → List (Message × Instant) → Type 0
 GivesWell a old new xs = a.gives old new xs × FailsNoMore a old new
 
--- what asking for the next event came to, over a disk at this instant: it failed where that is told, and nowhere else
+-- the result of asking for the next event, with a disk at this instant: the source failed if the result says so, and
+-- only then
 abbrev pub IsNext : {A : Type 0} → Source A → A → A → Instant → Next → Type 0
 IsNext a old new at next.Event = TakesOne a old new at × (a.fuel new < a.fuel old) × FailsNoMore a old new
 IsNext a old new at next.End = TakesNone a old new × a.is_over new × FailsNoMore a old new
@@ -71,10 +72,11 @@ of_script = record {
   none = λ _ good. (good, refl);
 }
 
--- the event that was taken last, where so many were
+-- the event that was taken last, if this number were taken
 abbrev pub last_taken : ℕ → List Event → Option Event
 last_taken n events = if n == 0 then None else slice_get events (n - 1)
 
+-- the message of an event; without an event an empty one
 abbrev pub message_here : Option Event → Message
 message_here None = uncut []
 message_here (Some e) = message_of e
@@ -96,7 +98,7 @@ of_events = record {
 abbrev pub noted_in : {A : Type 0} → RecordedEvents A → List Image
 noted_in now = map (λ (v : Vec ℕ Global). sectors_in v.items) now.disks.items
 
--- the events that were taken of a source, each noted with what the disk held
+-- the events that were taken from a source, each recorded with what the disk held
 abbrev pub noted : {A : Type 0} → Source A → Source (RecordedEvents A)
 noted a = record {
   gives = λ first now xs. a.gives first.asks now.asks xs × (noted_in now ≡ noted_in first ++ map (λ x. x.1.image) xs);

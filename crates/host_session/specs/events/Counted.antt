@@ -1,5 +1,5 @@
--- Which requests of a run with resets count, and what each message is told. What counts is kept in parts, one for each
--- message: a list of none or one request. All of it is our own.
+-- Which requests of a run with resets count, and the reply to each message. The requests that count are kept in parts,
+-- one for each message: a list of one request or none. All of it is our own.
 use Rattle.std.specs.Prelude.{◌≡◌, ℕ, zero, suc, ◌&&◌, ◌⊎◌, Bool, true, false, List, [], ◌∷◌, ◌++◌, Option, Some, None}
 use Rattle.std.specs.Prelude.{IsSome, is_some, nat_lt, if◌then◌else◌, flat_map, fold, MatchBool}
 use Rattle.request_cards.specs.declared.reply.Reply.{Reply}
@@ -18,9 +18,9 @@ IsIn a counted = counted ≡ a ∷ []
 abbrev pub MayBeIn : Ask → List Ask → Type 0
 MayBeIn a counted = IsIn a counted ⊎ (counted ≡ [])
 
--- What a request counts as: it counts where it was answered; it doesn't where power went before its first write; it
--- does where power went later, but a first set may be in or out up to the last write that it can make; and where the
--- device failed in it, it may be in or out. 3619 is past all writes of a message, which writes 3618 sectors at most.
+-- What a request counts as. It counts if it was answered. It doesn't if power failed before its first write. It does if
+-- power failed later, but a first set may be in or out up to the last write that it can make. If the device failed in
+-- it, it may be in or out. 3619 is past all writes of a message, which writes at most 3618 sectors.
 abbrev pub Counts : ℕ → State → Ask → Option ℕ → Bool → List Ask → Type 0
 Counts top state a None false counted = IsIn a counted
 Counts top state a None true counted = MayBeIn a counted
@@ -34,8 +34,8 @@ abbrev pub MayCount : ℕ → State → Option Ask → Option ℕ → Bool → L
 MayCount top state None cut_after failed counted = counted ≡ []
 MayCount top state (Some a) cut_after failed counted = Counts top state a cut_after failed counted
 
--- Each of these parts is what its message may count, over the requests counted before it. Beside the parts stands for
--- each message whether the device failed in it.
+-- Each of these parts is what its message may count, after the requests counted before it. The flags say for each
+-- message whether the device failed in it.
 abbrev pub IsCounted : Start → List Ask → List Message → List Bool → List (List Ask) → Type 0
 IsCounted start before [] [] [] = Unit {0}
 IsCounted start before (m ∷ ms) (f ∷ fs) (c ∷ cs) =
@@ -51,7 +51,7 @@ all_of parts = flat_map (λ c. c) parts
 abbrev pub after_all : Start → State → List Ask → State
 after_all start state counted = fold (after start) state counted
 
--- what a message is told in this state: CUT where power went in it, MEDIA where the device failed in it
+-- the reply to a message in this state: CUT if power failed in it, MEDIA if the device failed in it
 abbrev pub answer : Start → State → Message → Bool → Reply
 answer start state m failed = if is_some m.cut_after then Cut
     else (if failed then media (request_of m.bytes) else reply_in start state (request_of m.bytes))
@@ -70,8 +70,8 @@ NoneGotMedia [] [] = Unit {0}
 NoneGotMedia (m ∷ ms) (f ∷ fs) = (m.cut_after ≡ None → f ≡ false) × NoneGotMedia ms fs
 NoneGotMedia _ _ = ⊥
 
--- In the last of these messages the device failed: it was told MEDIA, or power went in it. Each one before it without a
--- reset was answered.
+-- In the last of these messages the device failed: its reply is MEDIA, or power failed in it. Each one before it
+-- without a reset was answered.
 pub record FailsAtLast (messages : List Message) (fails : List Bool) : Type 0 where
   pub before : List Message
   pub last : Message
@@ -79,5 +79,5 @@ pub record FailsAtLast (messages : List Message) (fails : List Bool) : Type 0 wh
   pub messages_are : messages ≡ before ++ last ∷ []
   pub fails_are : fails ≡ answered ++ true ∷ []
   pub whole : NoneGotMedia before answered
-  -- MEDIA is told of a request alone
+  -- only a request has the reply MEDIA
   pub asked : last.cut_after ≡ None → IsSome (request_of last.bytes)

@@ -1,4 +1,4 @@
--- What a run is played over: messages, and where power goes in them. All of it is our own.
+-- What is played in a run: messages, and the points in them at which power fails. All of it is our own.
 use Rattle.std.specs.Prelude.{◌≢◌, ℕ, List, None, Option, Some, flat_map, option_map, option_to_list, slice_index}
 use Rattle.std.specs.List.{AllByRecursion}
 use Rattle.request_cards.specs.Reading.{request_of}
@@ -6,8 +6,8 @@ use Rattle.request_cards.specs.Requests.{Ask}
 use Rattle.script_lines.specs.Resets.{Line, line_of}
 use Rattle.script_lines.specs.declared.events.Event.{Event}
 
--- A message and, where power goes in it, the number of its sector writes after which it goes. Listed recoveries are no
--- part of it: they change neither what counts nor a reply.
+-- A message and, if power fails in it, the number of its sector writes before that. Listed recoveries are no part of
+-- it: they change neither what counts nor a reply.
 pub record Message : Type 0 where
   pub bytes : List ℕ
   pub cut_after : Option ℕ
@@ -16,7 +16,7 @@ pub record Message : Type 0 where
 abbrev pub uncut : List ℕ → Message
 uncut bytes = record { bytes = bytes; cut_after = None }
 
--- a message in which power goes
+-- a message in which power fails
 abbrev pub cut_at : List ℕ → ℕ → Message
 cut_at bytes after = record { bytes = bytes; cut_after = Some after }
 

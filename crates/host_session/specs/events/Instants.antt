@@ -3,7 +3,7 @@ use Rattle.std.specs.Prelude.{ℕ}
 use Rattle.d64_image.specs.History.{History}
 use Rattle.d64_image.specs.Images.{Image}
 
--- The moment, and what the device holds then. Where it is the same moment later, nothing else was held since.
+-- The moment, and what the device holds then. If it is the same moment later, nothing else was held since.
 pub record Instant : Type 0 where
   pub moment : ℕ
   pub image : Image

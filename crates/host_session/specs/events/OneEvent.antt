@@ -13,7 +13,7 @@ use Rattle.host_session.specs.events.Quiet.{LeavesAlone}
 use Rattle.host_session.specs.session.Handling.{after_of}
 use Rattle.host_session.specs.shop.Shop.{IsSettled, IsShop, Shop, start_of, with_state}
 
--- an image held in an event: its message doesn't count yet; or it does, and power was there for a write of it
+-- an image held in an event: its message doesn't count yet; or it does, and power lasted for a write of it
 abbrev pub IsInEvent : Shop → Message → Image → Type 0
 IsInEvent s m image = IsShop image s ⊎ ((m.cut_after ≢ Some 0) × IsShop image (after_of s m.bytes))
 
@@ -25,7 +25,7 @@ pub record IsEvent {D : Type 0} (h : History D) (s : Shop) (m : Message) (old ne
   pub is : MayCount s.top s.state (request_of m.bytes) m.cut_after failed counted
   pub blame : failed ≡ true → Failed h old new
   pub later : h.failures old ≤ h.failures new
-  -- no call failed where power stays and no failure is told
+  -- no call failed if power didn't fail and no failure is reported
   pub unfailed : m.cut_after ≡ None → failed ≡ false → h.failures new ≡ h.failures old
   pub moments : HeldOnly h old new (IsInEvent s m)
   pub quiet : LeavesAlone h s m old new
@@ -35,7 +35,7 @@ pub record IsEvent {D : Type 0} (h : History D) (s : Shop) (m : Message) (old ne
 abbrev pub Leaves : {D : Type 0} → History D → Shop → D → Bool → State → Type 0
 Leaves h s new failed state = IsShop (h.image new) (with_state s state)
 
--- The run goes on after the event: it was replied to so, and the shop is settled.
+-- The run goes on after the event: this is its reply, and the shop is settled.
 pub record GoesOn {D : Type 0} (h : History D) (s : Shop) (m : Message) (reply : Reply) (new : D)
     (failed : Bool) (state : State) : Type 0 where
   pub told : reply ≡ answer (start_of s) s.state m failed

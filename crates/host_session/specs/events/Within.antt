@@ -9,19 +9,19 @@ use Rattle.host_session.specs.session.Handling.{most_writes}
 use Rattle.host_session.specs.shop.Files.{Files, HasFiles}
 use Rattle.host_session.specs.shop.Shop.{IsSettled, Shop, shop_of}
 
--- Whatever the message, 3618 sectors were written at most, and no more than its request can need on that disk.
+-- For any message, at most 3618 sectors were written, and no more than its request can need on that disk.
 pub record IsWithin {D : Type 0} (h : History D) (m : Message) (old new : D) : Type 0 where
   pub most : h.writes new ≤ h.writes old + 3618
   pub needed : (f : Files) → (x : HasFiles (h.image old) f)
       → h.writes new ≤ h.writes old + most_writes (shop_of f) x.stock_file (request_of m.bytes)
 
--- Each of these messages in which power doesn't go wrote so many, one after another from this disk on. Beside each
--- reply stands the disk that its message left.
+-- Each of these messages in which power didn't fail wrote at most that, one after another from this disk on. Each reply
+-- is listed with the disk that its message left.
 abbrev pub AreWithin : {D : Type 0} → History D → List Message → List (Reply × D) → D → Type 0
 AreWithin h (m ∷ ms) (x ∷ xs) old = (m.cut_after ≡ None → IsWithin h m old x.1) × AreWithin h ms xs x.1
 AreWithin h _ _ old = Unit {0}
 
--- the most sectors that a run of so many messages writes: 952 as its disk is opened, and 3618 in each of them
+-- the most sectors that a run of this number of messages writes: 952 when its disk is opened, and 3618 in each of them
 abbrev pub most_of_run : ℕ → ℕ
 most_of_run n = 952 + 3618 * n
 
@@ -29,26 +29,26 @@ most_of_run n = 952 + 3618 * n
 abbrev pub IsBounded : {D : Type 0} → History D → List Message → D → D → Type 0
 IsBounded h ms old new = h.writes new ≤ h.writes old + most_of_run (length ms)
 
--- so few messages that a count that is exact below 2^64 - 1 has room for all that a run of them writes
+-- few messages: a count that is exact below 2^64 - 1 has room for all that a run of them writes
 abbrev pub AreFew : List Message → Type 0
 AreFew ms = most_of_run (length ms) < 18446744073709551615
 
--- where power goes in none of few messages, each wrote no more than it can need
+-- if power fails in none of few messages, each wrote no more than it can need
 abbrev pub AreFewWithin : {D : Type 0} → History D → List Message → List (Reply × D) → D → Type 0
 AreFewWithin h ms xs old = AreFew ms → AreUncut ms → AreWithin h ms xs old
 
--- where a message asks nothing new of the shop at rest on the disk, nothing was written, wherever power goes in it
+-- if a message asks nothing new of the shop at rest on the disk, nothing was written, even if power failed in it
 abbrev pub SparesTheDisk : {D : Type 0} → History D → Message → D → D → Type 0
 SparesTheDisk h m old new =
     (s : Shop) → IsSettled (h.image old) s → AsksNothing s m → h.writes new ≤ h.writes old
 
--- The same of each of these messages, one after another from this disk on. Beside each reply stands the disk that its
+-- The same of each of these messages, one after another from this disk on. Each reply is listed with the disk that its
 -- message left.
 abbrev pub AreSparing : {D : Type 0} → History D → List Message → List (Reply × D) → D → Type 0
 AreSparing h (m ∷ ms) (x ∷ xs) old = SparesTheDisk h m old x.1 × AreSparing h ms xs x.1
 AreSparing h _ _ old = Unit {0}
 
--- From old to new no more sectors were written than an opening writes at most, and of a disk at rest none.
+-- From old to new at most as many sectors were written as by an opening, and none on a disk at rest.
 pub record IsSpared {D : Type 0} (h : History D) (s : Shop) (old new : D) : Type 0 where
   pub opening : h.writes new ≤ h.writes old + 952
   pub rests : IsSettled (h.image old) s → h.writes new ≤ h.writes old

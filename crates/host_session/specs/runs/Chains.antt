@@ -12,7 +12,7 @@ use Rattle.host_session.specs.session.Opening.{Untouched}
 use Rattle.host_session.specs.shop.Shop.{IsSettled, IsShop, Shop, start_of, with_state}
 
 -- One event after another: each begins on the disk and the shop on which the one before it ended, and ends at rest, on
--- the disk that stands beside its reply. What was held between the two is of that event alone.
+-- the disk that is listed with its reply. What was held between the two is of that event alone.
 abbrev pub IsChain : {D : Type 0} → History D → Shop → List Message → List (Reply × D) → D → Shop → D → Type 0
 IsChain h s [] [] old t new = (t ≡ s) × (new ≡ old)
 IsChain h s (m ∷ ms) (x ∷ xs) old t new =
@@ -20,14 +20,14 @@ IsChain h s (m ∷ ms) (x ∷ xs) old t new =
     × IsChain h (with_state s (after_all (start_of s) s.state e.counted)) ms xs x.1 t new
 IsChain h s _ _ old t new = ⊥
 
--- A run up to here: the shop's disk was opened, and from there the events are a chain to this shop on this disk. Beside
--- each reply stands the disk that its event left.
+-- A run up to here: the shop's disk was opened, and from there the events are a chain to this shop on this disk. Each
+-- reply is listed with the disk that its event left.
 pub record HasRun {D : Type 0} (h : History D) (s : Shop) (ms : List Message) (turns : List (Reply × D))
     (old new : D) : Type 0 where
   -- the disk as it was opened
   pub first : D
   pub opening : Changes h old first 952 (λ i. IsShop i s)
-  -- a shop at rest was read alone
+  -- a shop at rest was only read
   pub quiet : IsSettled (h.image old) s → Untouched h old first
   -- and no call failed in it
   pub unfailed : h.failures first ≡ h.failures old
@@ -47,8 +47,8 @@ pub record HasRunToFailure {D : Type 0} (h : History D) (s : Shop) (ms : List Me
   pub run : HasRun h s before turns old at
   pub failed : IsEvent h run.now message at new (EndsFailed h run.now message last new)
 
--- Behind these messages, on the disk that stands beside the reply to the last of them, a run was at rest; and from
--- there on only images of beginnings of those behind were held, from its shop then on.
+-- After these messages, on the disk that is listed with the reply to the last of them, a run was at rest. From there on
+-- only images of prefixes of the later messages were held, counted from the shop at that point.
 pub record GrowsFrom {D : Type 0} (h : History D) (s : Shop) (ms ns : List Message) (turns : List (Reply × D))
     (old new : D) : Type 0 where
   pub at : D
@@ -60,11 +60,11 @@ pub record GrowsFrom {D : Type 0} (h : History D) (s : Shop) (ms ns : List Messa
 abbrev pub told_in : {X : Type 0} → List (Reply × X) → List Reply
 told_in turns = map (λ x. x.0) turns
 
--- Each message over the disk at the instant when it was asked for: the first as it was opened, each other as it stands
--- beside the reply to the one before it.
+-- Each message with the disk at the instant when it was asked for: the first with the disk as it was opened, every
+-- other with the disk that is listed with the reply to the message before.
 abbrev pub asked_over : {D : Type 0} → History D → D → List (Reply × D) → List Message → List (Message × Instant)
 asked_over h first turns ms = zip ms (instant_of h first ∷ map (λ x. instant_of h x.1) turns)
 
--- each reply over the disk beside it, at its instant
+-- each reply with its disk, at its instant
 abbrev pub over_instants : {D : Type 0} → History D → List (Reply × D) → List (Reply × Instant)
 over_instants h turns = map (λ x. (x.0, instant_of h x.1)) turns

@@ -1,4 +1,4 @@
--- What comes of events that are played on a disk. All of it is our own.
+-- The result of events that are played on a disk. All of it is our own.
 use Rattle.std.specs.Prelude.{◌≡◌, ◌≢◌, ◌<◌, ◌+◌, ◌++◌, ℕ, IfErr, IfOk, List, Result, length}
 use Rattle.d64_image.specs.History.{Failed, History, NeverFailed}
 use Rattle.request_cards.specs.declared.reply.Reply.{Reply}
@@ -12,10 +12,10 @@ use Rattle.host_session.specs.runs.Runs.{HeldBeginnings, IsPlayedWhole, IsRefuse
 use Rattle.host_session.specs.session.Opening.{IsAShop, disk_of}
 use Rattle.host_session.specs.shop.Shop.{IsShop, Shop}
 
--- The messages were played on a disk, and their replies put behind the old ones, in a list with room for so many.
+-- The messages were played on a disk, and their replies appended to the old ones, in a list with this room.
 pub record PlaysEvents {D : Type 0} (h : History D) (ms : List Message) (disk : D) (room : ℕ) (old new : List Reply)
     (result : Result D (PlayFault × D)) : Type 0 where
-  -- A shop alone is played.
+  -- Only a shop is played.
   pub shop : IfOk result (λ _. IsAShop (h.image disk))
   -- At Ok each message has its reply, over what counted before it, and the shop is settled.
   pub ok : (s : Shop) → IsShop (h.image disk) s → IfOk result (λ left.
@@ -23,24 +23,24 @@ pub record PlaysEvents {D : Type 0} (h : History D) (ms : List Message) (disk : 
   -- The device failed: this holds of the messages replied to, and it failed in the last of them.
   pub device : (s : Shop) → IsShop (h.image disk) s → IfErr result (λ e. e.0 ≡ faults.Device
       → (told : List Reply) × (new ≡ old ++ told) × StoppedByDevice h s ms disk e.1 told)
-  -- At each moment the shop is that of a counted list of some beginning of the messages.
+  -- At each moment the shop is that of a counted list of a prefix of the messages.
   pub moments : (s : Shop) → IsShop (h.image disk) s → HeldBeginnings h s ms disk (disk_of (λ d. d) result)
-  -- Messages that ask nothing new leave the disk alone, however it ends.
+  -- Messages that ask nothing new leave the disk alone, whatever the result.
   pub quiet : (s : Shop) → IsShop (h.image disk) s → AskNothing s ms
       → IsQuiet h s ms disk (disk_of (λ d. d) result)
-  -- And no more is written than an opening writes at most, of a disk at rest nothing, wherever power goes.
+  -- Nor is more written than by an opening, and nothing on a disk at rest, wherever power fails.
   pub spared : (s : Shop) → IsShop (h.image disk) s → AskNothing s ms → IsSpared h s disk (disk_of (λ d. d) result)
-  -- Where power goes in none of them, 952 sectors were written at most, and 3618 for each, however it ends.
+  -- If power fails in none of them, at most 952 sectors were written, and 3618 for each, whatever the result.
   pub writes : (s : Shop) → IsShop (h.image disk) s → AreUncut ms → IsBounded h ms disk (disk_of (λ d. d) result)
-  -- No call of the device failed in a run that ended well, where power goes in none of them.
+  -- If power fails in none of them and the result is Ok, no call of the device failed.
   pub unfailed : AreUncut ms → IfOk result (λ left. h.failures left ≡ h.failures disk)
   -- On a shop whose device doesn't fail it answers Ok, unless memory ran out.
   pub plays : IsAShop (h.image disk) → NeverFailed h disk (disk_of (λ d. d) result)
       → IfErr result (λ e. e.0 ≡ faults.NoMemory)
-  -- What an opening refuses is handed on; and the device is told of on a shop, where it failed.
+  -- A refusal by an opening is passed on. The device's fault is returned on a shop, if the device failed.
   pub «open» : IfErr result (λ e. (f : OpenFault) → e.0 ≡ faults.Open f → IsRefused h disk f e.1)
   pub cause : IfErr result (λ e. e.0 ≡ faults.Device → IsAShop (h.image disk) × Failed h disk e.1)
-  -- Memory runs out before anything is done, and only where the list had to grow.
+  -- Memory runs out before anything is done, and only if the list had to grow.
   pub memory : IfErr result (λ e. e.0 ≡ faults.NoMemory → (e.1 ≡ disk) × (room < length old + length ms))
-  -- Whatever stops it before the first message tells nothing.
+  -- At any fault but Device no reply is added.
   pub silent : IfErr result (λ e. e.0 ≢ faults.Device → new ≡ old)

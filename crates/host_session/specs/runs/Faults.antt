@@ -1,4 +1,4 @@
--- The faults of runs, and the numbers under which they are told. All of it is our own.
+-- The faults of runs, and the numbers by which they are reported. All of it is our own.
 use Rattle.std.specs.Prelude.{ℕ}
 use Rattle.host_session.specs.declared.runs.event_loop.LoopFault.{LoopFault}
 use Rattle.host_session.specs.declared.runs.event_loop.LoopFault.TheVariants as runs
@@ -20,7 +20,7 @@ script_number (scripts.BadLine line) = 2
 script_number scripts.Output = 3
 script_number scripts.Device = 4
 
--- what is told of events whose run this fault ended
+-- the fault that is returned for events whose run this fault ended
 abbrev pub play_fault_of : LoopFault → PlayFault
 play_fault_of (runs.Open fault) = plays.Open fault
 play_fault_of _ = plays.Device

@@ -1,10 +1,10 @@
--- What a writer that is lent says of the replies that it was told. All of it is our own.
+-- What is known of the replies that a borrowed writer was passed. All of it is our own.
 use Rattle.std.specs.Prelude.{◌≡◌, ⊤, ℕ, List, Option, refl}
 use Rattle.host_session.specs.declared.events.lines.Lines.{Lines}
 use Rattle.host_session.specs.events.Telling.{Output}
 use Rattle.host_session.specs.runs.Outputs.{written}
 
--- the same writer was told these, as any writer is
+-- the same writer was passed these, as any writer is
 abbrev pub written_to : {W : Type 0} → (W → Option (List ℕ)) → Output (Lines W)
 written_to contents = record {
   told = λ old new turns. (new.out.ghost_name ≡ old.out.ghost_name)

@@ -1,4 +1,4 @@
--- What comes of a run over a source of events and an output. All of it is our own.
+-- The result of a run over a source of events and an output. All of it is our own.
 use Rattle.std.specs.Prelude.{◌≡◌, ◌≢◌, ◌<◌, ◌≤◌, ◌+◌, ◌⊎◌, List, [], ◌∷◌, ◌++◌, IfErr, IfOk, Ok, Err}
 use Rattle.std.specs.Prelude.{Result, false, length}
 use Rattle.d64_image.specs.History.{Failed, History, NeverFailed}
@@ -20,18 +20,17 @@ use Rattle.host_session.specs.session.Opening.{IsAShop, disk_of}
 use Rattle.host_session.specs.session.Standing.{View}
 use Rattle.host_session.specs.shop.Shop.{IsShop, Shop}
 
--- These messages were run, and each reply was told over the disk that its message left, before the next one began. The
--- disk at the end is the one over which the last reply was told, so nothing else was held since; and where there is no
--- message, it is as it was opened.
+-- These messages were run, and each reply was passed with the disk that its message left, before the next message
+-- began. The disk at the end is the one that the last reply was passed with, so nothing else was held since. If there
+-- is no message, it is as it was opened.
 pub record IsToldWhole {D T : Type 0} (h : History D) (o : Output T) (s : Shop) (ms : List Message) (disk left : D)
     (old new : T) : Type 0 where
   pub turns : List (Reply × D)
   pub run : HasRun h s ms turns disk left
   pub told : o.told old new (over_instants h turns)
 
--- The same of all replies but the last, which was broken off over the disk that is left, and nothing else was told. An
--- output that has room for
--- all of them takes them.
+-- The same of all replies but the last, which was broken off with the disk that is left, and nothing else was passed.
+-- An output that has room for all of them takes them.
 pub record IsToldToOutput {D T : Type 0} (h : History D) (o : Output T) (s : Shop) (ms : List Message) (disk left : D)
     (old new : T) : Type 0 where
   pub turns : List (Reply × D)
@@ -40,8 +39,8 @@ pub record IsToldToOutput {D T : Type 0} (h : History D) (o : Output T) (s : Sho
   pub told : o.broken_off old new (over_instants h turns) (last.0, instant_of h last.1)
   pub full : o.room old < length ms
 
--- These messages were run, in the last of which the device failed. Its reply was told over what the device then held,
--- or broken off; the replies before it were told as ever, and nothing else was.
+-- These messages were run, and in the last of them the device failed. Its reply was passed with what the device then
+-- held, or broken off. The replies before it were passed as ever, and nothing else was.
 pub record IsToldToDevice {D T : Type 0} (h : History D) (o : Output T) (s : Shop) (ms : List Message) (disk left : D)
     (old new : T) : Type 0 where
   pub turns : List (Reply × D)
@@ -50,14 +49,16 @@ pub record IsToldToDevice {D T : Type 0} (h : History D) (o : Output T) (s : Sho
   pub told : o.told old new (over_instants h turns ++ (last, instant_of h left) ∷ [])
       ⊎ (o.broken_off old new (over_instants h turns) (last, instant_of h left) × (o.room old < length ms))
 
--- The same of messages that were taken so: the first while the disk was as it was opened, each other while it was as it
--- stands beside the reply that was told before; and each in which power doesn't go wrote no more than it can need.
+-- The same of messages that were taken in this way: the first while the disk was as it was opened, every other while
+-- the disk was the one that is listed with the reply passed before. Each in which power didn't fail wrote no more than
+-- it can need.
 abbrev pub IsRunWhole : {D T : Type 0} → History D → Output T → Shop → List (Message × Instant) → D → D → T → T → Type 0
 IsRunWhole h o s taken disk left old new = (x : IsToldWhole h o s (messages_in taken) disk left old new)
     × (taken ≡ asked_over h x.run.first x.turns (messages_in taken))
     × AreWithin h (messages_in taken) x.turns x.run.first
     × AreSparing h (messages_in taken) x.turns x.run.first
 
+-- The same if the output failed at the last reply.
 abbrev pub IsRunToOutput : {D T : Type 0} → History D → Output T → Shop → List (Message × Instant) → D → D → T → T
     → Type 0
 IsRunToOutput h o s taken disk left old new = (x : IsToldToOutput h o s (messages_in taken) disk left old new)
@@ -65,6 +66,7 @@ IsRunToOutput h o s taken disk left old new = (x : IsToldToOutput h o s (message
     × AreWithin h (messages_in taken) (x.turns ++ x.last ∷ []) x.run.first
     × AreSparing h (messages_in taken) (x.turns ++ x.last ∷ []) x.run.first
 
+-- The same if the device failed in the last message.
 abbrev pub IsRunToDevice : {D T : Type 0} → History D → Output T → Shop → List (Message × Instant) → D → D → T → T
     → Type 0
 IsRunToDevice h o s taken disk left old new = (x : IsToldToDevice h o s (messages_in taken) disk left old new)
@@ -79,7 +81,8 @@ pub record Origin (D A T : Type 0) : Type 0 where
   pub asks : A
   pub out : T
 
--- A run is under way: what it took of the source has P, it was run and told, and the output had room for as much.
+-- A run is under way: the messages that it took from the source have P, it ran them and passed the replies, and the
+-- output had room for as many.
 pub record IsUnderWay {D A T : Type 0} (h : History D) (o : Output T) (from : Origin D A T) (disk : D) (out : T)
     (P : List (Message × Instant) → Type 0) : Type 0 where
   pub taken : List (Message × Instant)
@@ -87,7 +90,7 @@ pub record IsUnderWay {D A T : Type 0} (h : History D) (o : Output T) (from : Or
   pub whole : IsRunWhole h o from.shop taken from.disk disk from.out out
   pub room : o.room from.out ≤ o.room out + length (messages_in taken)
 
--- all that was taken of the source was run and told, and it didn't fail
+-- all that was taken from the source was run and its replies passed, and the source didn't fail
 abbrev pub HasCome : {D A T : Type 0} → History D → Source A → Output T → Origin D A T → D → A → T → Type 0
 HasCome h a o from disk asks out = IsUnderWay h o from disk out (λ xs. GivesWell a from.asks asks xs)
 
@@ -96,7 +99,7 @@ abbrev pub HasComeBut : {D A T : Type 0} → History D → Source A → Output T
 HasComeBut h a o from disk asks out =
     IsUnderWay h o from disk out (λ xs. GivesWell a from.asks asks (xs ++ (a.here asks, instant_of h disk) ∷ []))
 
--- how a run ends that this fault ended: its source failed at that of the input alone
+-- how a run that was opened ends with this fault; at the fault Input its source failed, and at no other
 abbrev pub EndsBy : {D A T : Type 0} → History D → Source A → Output T → Origin D A T → A → T → D → LoopFault → Type 0
 EndsBy h a o from asks out left (faults.Open f) = ⊥
 EndsBy h a o from asks out left faults.Input = (taken : List (Message × Instant)) × a.gives from.asks asks taken
@@ -118,54 +121,54 @@ abbrev pub with_disk : {D : Type 0} → D → Result Unit LoopFault → Result D
 with_disk disk (Ok _) = Ok disk
 with_disk disk (Err fault) = Err (fault, disk)
 
--- what a stretch of whole messages came to
+-- the result of a stretch of whole messages
 abbrev pub IsStretch : {D A T : Type 0} → History D → Source A → Output T → Origin D A T → View D → A → T → Stopped
     → Type 0
 IsStretch h a o from session asks out stretches.Cut = (session.dead ≡ false)
     × HasComeBut h a o from session.disk asks out
 IsStretch h a o from session asks out (stretches.Ended end) = Ends h a o from asks out (with_disk session.disk end)
 
--- What comes of a run over a source and an output that were `asked` and `old`, and are `asks` and `new`.
+-- The result of a run over a source and an output that were `asked` and `old`, and are `asks` and `new`.
 pub record IsRun {D A T : Type 0} (h : History D) (a : Source A) (o : Output T) (disk : D) (asked asks : A)
     (old new : T)
     (result : Result D (LoopFault × D)) : Type 0 where
-  -- the messages that were taken of the source, each over the disk at an instant, and nothing beside them
+  -- the messages that were taken from the source, each with the disk at an instant, and no others
   pub taken : List (Message × Instant)
   pub takes : a.gives asked asks taken
-  -- A shop alone is run, and up to the end of the source.
+  -- Only a shop is run, and up to the end of the source.
   pub shop : IfOk result (λ _. IsAShop (h.image disk) × a.is_over asks)
-  -- Each event was taken when the one before it was done and told, and run, and its reply told over the disk that it
-  -- left.
+  -- Each event was taken when the one before it was done and its reply passed. It was run, and its reply passed with
+  -- the disk that it left.
   pub ok : (s : Shop) → IsShop (h.image disk) s → IfOk result (λ d. IsRunWhole h o s taken disk d old new)
   -- The input failed: the same of the events that it gave.
   pub input : (s : Shop) → IsShop (h.image disk) s → IfErr result (λ e. e.0 ≡ faults.Input
       → a.has_failed asks × IsRunWhole h o s taken disk e.1 old new)
-  -- However else it ends, the source didn't fail.
+  -- At any other result the source didn't fail.
   pub unfailed : ((left : D) → result ≢ Err (faults.Input, left)) → FailsNoMore a asked asks
-  -- The output failed: the last reply was broken off, those before it were told, and nothing else.
+  -- The output failed: the last reply was broken off, the replies before it were passed, and nothing else.
   pub output : (s : Shop) → IsShop (h.image disk) s → IfErr result (λ e. e.0 ≡ faults.Output
       → IsRunToOutput h o s taken disk e.1 old new)
-  -- The device failed in the last event that was taken. The replies before its own were told, and nothing else.
+  -- The device failed in the last event that was taken. The replies before its own were passed, and nothing else.
   pub device : (s : Shop) → IsShop (h.image disk) s → IfErr result (λ e. e.0 ≡ faults.Device
       → IsRunToDevice h o s taken disk e.1 old new)
-  -- At each moment the shop is that of a counted list of some beginning of the events.
+  -- At each moment the shop is that of a counted list of a prefix of the events.
   pub moments : (s : Shop) → IsShop (h.image disk) s
       → HeldBeginnings h s (messages_in taken) disk (disk_of (λ d. d) result)
-  -- Messages that ask nothing new leave the disk alone, however it ends.
+  -- Messages that ask nothing new leave the disk alone, whatever the result.
   pub quiet : (s : Shop) → IsShop (h.image disk) s → AskNothing s (messages_in taken)
       → IsQuiet h s (messages_in taken) disk (disk_of (λ d. d) result)
-  -- And no more is written than an opening writes at most, of a disk at rest nothing, wherever power goes.
+  -- Nor is more written than by an opening, and nothing on a disk at rest, wherever power fails.
   pub spared : (s : Shop) → IsShop (h.image disk) s → AskNothing s (messages_in taken)
       → IsSpared h s disk (disk_of (λ d. d) result)
-  -- Where power goes in none of the events, 952 sectors were written at most, and 3618 for each, however it ends.
+  -- If power fails in none of the events, at most 952 sectors were written, and 3618 for each, whatever the result.
   pub writes : (s : Shop) → IsShop (h.image disk) s → AreUncut (messages_in taken)
       → IsBounded h (messages_in taken) disk (disk_of (λ d. d) result)
   -- On a shop whose device doesn't fail it answers Ok, unless the input or the output fails.
   pub plays : IsAShop (h.image disk) → NeverFailed h disk (disk_of (λ d. d) result)
       → IfErr result (λ e. (e.0 ≡ faults.Input) ⊎ (e.0 ≡ faults.Output))
-  -- What an opening refuses is handed on, and then nothing was taken or told.
+  -- A refusal by an opening is passed on, and then nothing was taken and no reply passed.
   pub «open» : IfErr result (λ e. (f : OpenFault) → e.0 ≡ faults.Open f
       → IsRefused h disk f e.1 × (taken ≡ []) × (asks ≡ asked) × (new ≡ old))
-  -- The device is told of on a shop, where it failed; and so are the input and the output.
+  -- The device's fault is returned on a shop, if the device failed; likewise the faults of input and output.
   pub cause : IfErr result (λ e. e.0 ≡ faults.Device → IsAShop (h.image disk) × Failed h disk e.1)
   pub after : IfErr result (λ e. (e.0 ≡ faults.Input) ⊎ (e.0 ≡ faults.Output) → IsAShop (h.image disk))

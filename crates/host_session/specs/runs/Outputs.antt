@@ -1,4 +1,4 @@
--- What the outputs of this crate say of what they were told. All of it is our own.
+-- What is known of the replies that the outputs of this crate were passed. All of it is our own.
 use Rattle.std.specs.Prelude.{◌≡◌, ⊤, ℕ, ◌-◌, List, ◌++◌, Option, Vec, codes, take, vec_capacity, vec_len, map}
 use Rattle.std.proofs.KnownBytes.{Appends-nil}
 use Rattle.std.proofs.Common.{append-nil, sym}
@@ -24,12 +24,12 @@ printer_out p = p.out
 abbrev pub line_of : Reply → List ℕ
 line_of reply = reply_text reply ++ codes "\n"
 
--- a beginning of these bytes was written behind what is known, or all of them
+-- a prefix of these bytes, perhaps all, was written after what is known
 abbrev pub AppendsPart : Option (List ℕ) → Option (List ℕ) → List ℕ → Type 0
 AppendsPart old new bytes = (n : ℕ) × Appends old new (take n bytes)
 
--- Replies were written, each on a line of its own. A last one that was broken off is there up to some byte. What a
--- writer holds back no contract of it says.
+-- Replies were written, each on a line of its own. A last one that was broken off is there up to some byte. No contract
+-- of a writer says what it buffers.
 abbrev pub written : {W : Type 0} → (W → Option (List ℕ)) → Output W
 written contents = record {
   told = λ old new turns. Appends (contents old) (contents new) (report (told_in turns));
@@ -40,11 +40,11 @@ written contents = record {
   none = λ w. Appends-nil (contents w);
 }
 
--- so were those of a printer, to its writer
+-- the same for a printer, over its writer
 abbrev pub printed : {W : Type 0} → (W → Option (List ℕ)) → Output (Printer W)
 printed contents = output_in printer_out (written contents)
 
--- Replies were put in a list, behind those that it had, and nowhere else.
+-- Replies were put in a list, after those that it had, and nowhere else.
 abbrev pub listed : Output (Vec Reply Global)
 listed = record {
   told = λ old new turns. new.items ≡ old.items ++ told_in turns;
@@ -54,7 +54,7 @@ listed = record {
   none = λ v. sym (append-nil v.items);
 }
 
--- a reply that was heard, with what the disk held then
+-- a reply that was kept, with what the disk held then
 abbrev pub turn_of : RecordedReply → Reply × Image
 turn_of t = (t.reply, sectors_in t.bytes.items)
 
@@ -62,11 +62,12 @@ turn_of t = (t.reply, sectors_in t.bytes.items)
 abbrev pub held_in : List (Reply × Instant) → List (Reply × Image)
 held_in turns = map (λ x. (x.0, x.1.image)) turns
 
--- what was heard up to now
+-- the replies that were kept up to now
 abbrev pub turns_of : RecordedReplies → List (Reply × Image)
 turns_of h = map turn_of h.turns.items
 
--- Replies were kept, each with a copy of the disk, and so many of them handed on. One that isn't taken isn't kept.
+-- Replies were kept, each with a copy of the disk, and this number of them flushed. A reply that isn't taken isn't
+-- kept.
 abbrev pub heard : Output RecordedReplies
 heard = record {
   told = λ old new turns. turns_of new ≡ turns_of old ++ held_in turns;

@@ -14,17 +14,16 @@ use Rattle.host_session.specs.events.Events.{Message}
 use Rattle.host_session.specs.session.Opening.{IsAShop, Refuses, Untouched}
 use Rattle.host_session.specs.shop.Shop.{IsSettled, IsShop, Shop, start_of, with_state}
 
--- of how many messages it is said that the device failed in them
+-- the number of messages in which the device failed by these flags
 abbrev pub blamed : List Bool → ℕ
 blamed [] = 0
 blamed (f ∷ fs) = (if f then 1 else 0) + blamed fs
 
--- of no more messages than failures were counted, where the count isn't spent
+-- those are at most as many as failures were counted, if the count isn't spent
 abbrev pub IsBlamed : {D : Type 0} → History D → D → D → List Bool → Type 0
 IsBlamed h old new fails = h.failures new < h.last → h.failures old + blamed fails ≤ h.failures new
 
--- The image is the shop's after a counted list of some beginning of the messages; each of these without a reset was
--- answered.
+-- The image is the shop's after a counted list of a prefix of the messages. Each of these without a reset was answered.
 pub record IsSomeBeginning (s : Shop) (messages : List Message) (Blamed : List Bool → Type 0)
     (image : Image) : Type 0 where
   pub begun : List Message
@@ -37,7 +36,7 @@ pub record IsSomeBeginning (s : Shop) (messages : List Message) (Blamed : List B
   pub blame : Blamed fails
   pub shop : IsShop image (with_state s (plain (start_of s) (all_of counted)))
 
--- These messages were played from the shop s on and told so, and what then holds of the end.
+-- These messages were played from the shop s on and got these replies; and what holds at the end.
 pub record IsPlayed {D : Type 0} (h : History D) (s : Shop) (messages : List Message) (old new : D) (told : List Reply)
     (Whole : List Message → List Bool → Type 0) (Ends : State → Type 0) : Type 0 where
   pub fails : List Bool
@@ -55,7 +54,7 @@ abbrev pub IsPlayedWhole : {D : Type 0} → History D → Shop → List Message 
 IsPlayedWhole h s messages old new told =
     IsPlayed h s messages old new told NoneGotMedia (λ state. IsSettled (h.image new) (with_state s state))
 
--- A beginning of the messages was played, in the last of which the device failed.
+-- A prefix of the messages was played, and in the last of them the device failed.
 pub record StoppedByDevice {D : Type 0} (h : History D) (s : Shop) (messages : List Message) (old new : D)
     (told : List Reply) : Type 0 where
   pub begun : List Message
@@ -63,7 +62,7 @@ pub record StoppedByDevice {D : Type 0} (h : History D) (s : Shop) (messages : L
   pub parts : begun ++ rest ≡ messages
   pub played : IsPlayed h s begun old new told FailsAtLast (λ state. IsShop (h.image new) (with_state s state))
 
--- A beginning of the messages was played, whose last reply the output failed to take.
+-- A prefix of the messages was played, and the output failed to take the last reply.
 pub record StoppedByOutput {D : Type 0} (h : History D) (s : Shop) (messages : List Message) (old new : D)
     (told : List Reply) : Type 0 where
   pub begun : List Message
@@ -72,11 +71,11 @@ pub record StoppedByOutput {D : Type 0} (h : History D) (s : Shop) (messages : L
   pub some : begun ≢ []
   pub played : IsPlayedWhole h s begun old new told
 
--- at each moment of a run the shop is that of some beginning
+-- at each moment of a run the shop is that of a prefix
 abbrev pub HeldBeginnings : {D : Type 0} → History D → Shop → List Message → D → D → Type 0
 HeldBeginnings h s messages old new = HeldOnly h old new (IsSomeBeginning s messages (IsBlamed h old new))
 
--- The opening of a run was refused, as an opening alone is.
+-- The opening of a run was refused, in the same way as an opening alone is.
 pub record IsRefused {D : Type 0} (h : History D) (old : D) (fault : OpenFault) (new : D) : Type 0 where
   pub refused : Refuses (Failed h old new) (h.image old) fault
   -- a shop stays that shop at each moment

@@ -1,4 +1,4 @@
--- What comes of a message to a session. All of it is our own.
+-- The result of a message to a session. All of it is our own.
 use Rattle.std.specs.Prelude.{◌≡◌, ◌<◌, ◌≤◌, ◌+◌, ◌⊎◌, ℕ, List, None, false, option_to_list, true}
 use Rattle.d64_image.specs.History.{Failed, History}
 use Rattle.host_session.specs.Held.{Changes}
@@ -13,7 +13,7 @@ use Rattle.host_session.specs.session.Standing.{View}
 use Rattle.host_session.specs.shop.Files.{Files, HasFiles}
 use Rattle.host_session.specs.shop.Shop.{IsSettled, IsShop, Shop, shop_of, start_of}
 
--- A session was handed a message, and told this reply.
+-- A session was passed a message, and returned this reply.
 pub record IsHandled {D : Type 0} (h : History D) (old new : View D) (message : List ℕ) (told : Reply) : Type 0 where
   -- what lies outside the grammar changes nothing
   pub syntax : request_of message ≡ None → (told ≡ Syntax) × (new ≡ old)
@@ -33,12 +33,12 @@ pub record IsHandled {D : Type 0} (h : History D) (old new : View D) (message : 
   -- how many sectors are written at most
   pub writes : (f : Files) → (x : HasFiles (h.image old.disk) f)
       → h.writes new.disk ≤ h.writes old.disk + most_writes (shop_of f) x.stock_file (request_of message)
-  -- once a write was counted the shop is the one after, but where STOCK may have grown
+  -- as soon as a write was counted the shop is the one after, unless STOCK may have grown
   pub counted : (s : Shop) → IsShop (h.image old.disk) s → h.writes old.disk < h.writes new.disk
       → MayGrow s (request_of message) ⊎ IsShop (h.image new.disk) (after_of s message)
   -- MEDIA names the message's own request
   pub media : IsMedia told → told ≡ media (request_of message)
-  -- and comes exactly where the session is dead, or the device failed now, and then it is dead
+  -- the word MEDIA comes exactly if the session is dead, or the device failed now, and then it is dead
   pub failures : (IsMedia told × (new.dead ≡ true) × ((old.dead ≡ true) ⊎ Failed h old.disk new.disk))
       ⊎ (¬ (IsMedia told) × (h.failures new.disk ≡ h.failures old.disk))
   -- no goods appear and none are lost

@@ -16,11 +16,11 @@ use Rattle.request_cards.specs.Requests.{Ask, same_kind}
 use Rattle.request_cards.specs.Trade.{outcome}
 use Rattle.host_session.specs.shop.Shop.{IsShop, Shop, results_in, start_of, with_state}
 
--- a till is told MEDIA
+-- the word of the reply is MEDIA
 abbrev pub IsMedia : Reply → Type 0
 IsMedia r = (t : ℕ) × (n : ℕ) × (r ≡ Told t n Media)
 
--- the reply to a message where the device fails, or has failed
+-- the reply to a message if the device fails, or has failed
 abbrev pub media : Option Ask → Reply
 media None = Syntax
 media (Some a) = Told a.till a.number Media
@@ -38,7 +38,7 @@ abbrev pub is_next_request : Shop → Option Ask → Bool
 is_next_request s None = false
 is_next_request s (Some a) = next_in (start_of s) s.state a
 
--- a set of an item up to the top that has no card: it alone may grow STOCK
+-- a set of an item up to the top that has no card: only this may grow STOCK
 abbrev pub is_first_set : State → ℕ → Ask → Bool
 is_first_set state top a =
     same_kind a.body.kind Set && (nat_le a.body.item top && is_none (state.ledger.cards a.body.item))
@@ -59,12 +59,12 @@ abbrev pub kept_writes : File → ℕ → List (ℕ × ℕ) → ℕ
 kept_writes stock item [] = 1
 kept_writes stock item (q ∷ more) = growth_writes stock item + 2 + card_writes (q ∷ more)
 
--- the most sector writes of a message: none, where it isn't its till's next request
+-- the most sector writes of a message: none, if it isn't its till's next request
 abbrev pub most_writes : Shop → File → Option Ask → ℕ
 most_writes s stock None = 0
 most_writes s stock (Some a) = if next_in (start_of s) s.state a
     then kept_writes stock a.body.item (results_in a.body (outcome s.state.ledger.cards s.top a.body).0) else 0
 
--- a till's request and its answer, as they are handed out
+-- a till's request and its answer, as they are returned
 abbrev pub told_of : ℕ → Entry → Ask × Answer
 told_of till e = (record { till = till; number = e.number; body = e.body }, e.answer)

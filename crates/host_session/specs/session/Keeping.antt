@@ -22,8 +22,8 @@ shop_after s a = with_state s (applied s.top s.state a)
 abbrev pub IsEither : Shop → Ask → Image → Type 0
 IsEither s a img = IsShop img s ⊎ IsShop img (shop_after s a)
 
--- f holds a shop at rest, whose tills the request's is one of, and c is the card that the till is to have: the request
--- with its answer, an open intent where it is done, and behind it the till's last request
+-- f holds a shop at rest, and the request's till is one of its tills. c is the card that the till is to have: the
+-- request with its answer, an open intent if it is done, and after it the till's last request
 pub record IsKeeping (f : Files) (a : Ask) (c : Card) : Type 0 where
   pub records : AreLedgerRecords f.stock f.requests
   pub no_intent : intents (cards_in f.requests) ≡ []

@@ -1,4 +1,4 @@
--- What a call gives that mends a shop's disk and hands out a drive over it. All of it is our own.
+-- The result of a call that mends a shop's disk and returns a drive over it. All of it is our own.
 use Rattle.std.specs.Prelude.{ℕ, ◌≡◌, IfErr, IfOk, Result}
 use Rattle.d64_image.specs.History.{History}
 use Rattle.host_session.specs.Held.{Changes}
@@ -10,9 +10,9 @@ use Rattle.host_session.specs.session.Opening.{TellsOpening, Untouched, disk_of}
 use Rattle.host_session.specs.shop.Selecting.{IsReady}
 use Rattle.host_session.specs.shop.Shop.{IsShop, Shop}
 
--- of each x of which P holds: at Ok the disk is as `done` says, and the drive ready; the one fault is the device's,
--- told only where it failed; on the way, of at most so many writes, the disk was the same shop's; a disk that is as
--- `untouched_if` says isn't written
+-- For each x with P: at Ok the disk is as `done` says, and the drive ready. The one fault is the device's, returned
+-- only if it failed. On the way, with at most this number of writes, the disk was the same shop's. A disk that is as
+-- `untouched_if` says isn't written.
 pub record Mends {D A : Type 0} (S : History D) (old : D) (result : Result (Seen D) (OpenFault × D)) (P : A → Type 0)
     (most : ℕ) (untouched_if : Image → Type 0) (done : A → Image → Type 0) : Type 0 where
   pub ready : IfOk result (IsReady S)

@@ -1,5 +1,4 @@
--- A shop's disk that is brought to rest, beside the table of the tills' cards that opening has read. All of it is our
--- own.
+-- A shop's disk that is brought to rest, and the table of the tills' cards that opening has read. All of it is our own.
 use Rattle.std.specs.Prelude.{◌≡◌, ◌≤◌, ℕ, false, List, [], Option}
 use Rattle.d64_image.specs.Images.{Image}
 use Rattle.request_cards.specs.CardTexts.{Card}

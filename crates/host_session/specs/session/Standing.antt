@@ -13,6 +13,7 @@ pub record View (D : Type 0) : Type 0 where
   pub disk : D
   pub dead : Bool
 
+-- a view is coded as its disk and whether it is dead
 abbrev pub view_code : {D : Type 0} → Coded D → Coded (View D)
 view_code {D} code =
     code_by (D × Bool) (coded× code coded_bool) (λ v. (v.disk, v.dead)) (λ p. record { disk = p.0; dead = p.1 })
@@ -22,7 +23,7 @@ view_code {D} code =
 abbrev pub nth : {X : Type 0} → List (Option X) → ℕ → Option X
 nth xs n = if n == 0 then None else slice_index_or xs (n - 1) None
 
--- a table of n places that begins so
+-- a table of n places that begins with these
 abbrev pub padded_to : {X : Type 0} → ℕ → List (Option X) → List (Option X)
 padded_to n xs = xs ++ replicate (n - length xs) None
 
@@ -33,7 +34,8 @@ state_in cards requests = record {
   prior = λ t. option_and_then (λ c. c.second) (nth requests t);
 }
 
--- A session stands on a shop, whose limits it has; one that isn't dead on a settled one, whose state its tables hold.
+-- A session's image is that of a shop, whose limits it has. If it isn't dead, the shop is settled, and the session's
+-- tables hold its state.
 pub record IsStanding (img : Image) (dead : Bool) (top tills : ℕ) (state : State) : Type 0 where
   pub shop : Shop
   pub is_shop : IsShop img shop

@@ -1,4 +1,4 @@
--- The shop that a blank image stands for. All of it is our own.
+-- The shop of a blank image. All of it is our own.
 use Rattle.std.specs.Prelude.{ℕ, ◌≤◌, ◌*◌, List, [], ◌∷◌, ◌++◌}
 use Rattle.d64_image.specs.Images.{Image, IsImage}
 use Rattle.disk_layout.specs.Blank.{IsBlank, names_of, request_blocks}
@@ -7,7 +7,7 @@ use Rattle.disk_layout.specs.Rest.{Rest}
 use Rattle.request_cards.specs.Ledgers.{nothing}
 use Rattle.host_session.specs.shop.Shop.{IsSettled, Shop}
 
--- two tills to each block of REQUESTS: where their number is odd, one more
+-- two tills to each block of REQUESTS: if their number is odd, one more
 abbrev pub blank_tills : ℕ → ℕ
 blank_tills tills = 2 * request_blocks tills
 

@@ -8,6 +8,7 @@ use Rattle.host_session.specs.declared.shop.shop_drive.ShopFile.{ShopFile}
 use Rattle.host_session.specs.declared.shop.shop_drive.ShopFile.TheVariants.{Requests, Stock}
 use Rattle.host_session.specs.shop.Selecting.{channel_at}
 
+-- the name of the file
 abbrev pub name_of : ShopFile → List ℕ
 name_of Stock = codes "STOCK"
 name_of Requests = codes "REQUESTS"
@@ -28,6 +29,6 @@ pub record IsOn {D : Type 0} (S : History D) (d : Seen D) (file : ShopFile) : Ty
   pub first : IsFirst layout (name_of file) entry first_file
   pub at : d.channel ≡ Some (channel_at entry record_number)
 
--- so it is where a file is known, and where none is, no channel is open
+-- the drive is on the file if one is known; if none is known, no channel is open
 abbrev pub IsKnownOn : {D : Type 0} → History D → Seen D → Option ShopFile → Type 0
 IsKnownOn S d known = MatchOption known (d.channel ≡ None) (IsOn S d)

@@ -17,7 +17,7 @@ pub record HasIntent (f : Files) (till : ℕ) (c : Card) : Type 0 where
   pub reads : request_card_of was ≡ Some c
   pub is_open : c.pending ≡ true
 
--- STOCK has the cards of the intent's results; all that the files stand for is as it was
+-- STOCK has the cards of the intent's results; everything that the files stand for is as it was
 pub record HasResults (f : Files) (c : Card) (img : Image) : Type 0 where
   pub stock : List (List ℕ)
   pub blocks : ℕ
@@ -30,7 +30,7 @@ pub record HasResults (f : Files) (c : Card) (img : Image) : Type 0 where
 abbrev pub answered_card : Card → Card
 answered_card c = record c { version = 2; pending = false }
 
--- the intent is answered: no intent is open, and all that the files stand for is as it was
+-- the intent is answered: no intent is open, and everything that the files stand for is as it was
 pub record IsCompleted (f : Files) (till : ℕ) (c : Card) (img : Image) : Type 0 where
   pub stock : List (List ℕ)
   pub blocks : ℕ

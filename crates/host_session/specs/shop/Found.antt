@@ -31,7 +31,7 @@ Tells card_of long bytes held.Empty = bytes ≡ empty_record long
 Tells card_of long bytes (held.Card c) = card_of bytes ≡ Some c
 Tells card_of long bytes held.Other = (bytes ≢ empty_record long) × (card_of bytes ≡ None)
 
--- record r of these is told, and None where there is none
+-- record r of these is returned, and None if there is none
 abbrev pub TellsRecord : {C : Type 0} → (List ℕ → Option C) → ℕ → List (List ℕ) → ℕ → Option (RecordContent C) → Type 0
 TellsRecord card_of long rs r None = length rs < r
 TellsRecord card_of long rs r (Some h) = (bytes : List ℕ) × (record_at rs r ≡ Some bytes) × Tells card_of long bytes h

@@ -1,4 +1,4 @@
--- What opening reads and judges before it writes, record by record. All of it is our own.
+-- What opening reads and checks before it writes, record by record. All of it is our own.
 use Rattle.std.specs.Prelude.{◌≡◌, ◌≤◌, ◌<◌, ◌⊎◌, ℕ, true, ◌++◌, List, [], ◌∷◌, Option, None, Some, Contains, IsSome}
 use Rattle.std.specs.Prelude.{IfErr, IfOk, Result, length, replicate}
 use Rattle.d64_image.specs.History.{History, OnlyReads}
@@ -18,11 +18,12 @@ use Rattle.host_session.specs.shop.Files.{Files, record_at}
 use Rattle.host_session.specs.shop.Shop.{AreLedgerRecords, IsIntended, IsRequestRecord, IsStockRecord, card_at}
 use Rattle.host_session.specs.shop.Shop.{cards_in, intents, items, results, results_of, state_of}
 
--- the new quantities, item by item
+-- one new quantity or none, as a list
 abbrev pub pair_in : Option (ℕ × ℕ) → List (ℕ × ℕ)
 pair_in None = []
 pair_in (Some q) = q ∷ []
 
+-- the new quantities, item by item
 abbrev pub listed : NewQuantities → List (ℕ × ℕ)
 listed x = pair_in x.first ++ pair_in x.second
 
@@ -30,14 +31,14 @@ listed x = pair_in x.first ++ pair_in x.second
 abbrev pub no_cards : Cards
 no_cards item = None
 
--- an item past so many records has a new quantity
+-- an item past this number of records has a new quantity
 abbrev pub PassesRecords : NewQuantities → ℕ → Type 0
 PassesRecords x count = (item : ℕ) × Contains (items (listed x)) item × (count < item)
 
--- What a call gives that reads one record of a file and judges it, of each f of which P holds: at Ok `told` holds of
--- the answer, at an error `refused` of the fault. A block of the file is kept, or nothing; three sectors were read at
--- most, and nothing was written; the device's fault is told only where it failed, and any other answer only where no
--- failure was counted.
+-- The result of a call that reads one record of a file and checks it, for each f with P. At Ok `told` holds of the
+-- answer, at an error `refused` of the fault. A block of the file is kept, or nothing. At most three sectors were read,
+-- and nothing was written. The device's fault is returned only if it failed, and any other answer only if no failure
+-- was counted.
 pub record JudgesRecord {D T : Type 0} (S : History D) (old new : D) (file : RelFile) (last : LastBlock)
     (result : Result T OpenFault) (P : Files → Type 0) (told : Files → T → Type 0)
     (refused : Files → OpenFault → Type 0) : Type 0 where
@@ -57,7 +58,7 @@ IsJudgedTill f till (Some card) = (bytes : List ℕ) × (record_at f.requests ti
 abbrev pub HasTills : Files → List (Option Card) → Type 0
 HasTills f table = (till : ℕ) → nth table till ≡ card_at (cards_in f.requests) till
 
--- the records of the tills up to this one are read into a table, and stand
+-- the records of the tills up to this one are read into a table, and are valid
 pub record IsReadTo (f : Files) (last : ℕ) (table : List (Option Card)) : Type 0 where
   pub long : length table ≡ 64
   pub there : last ≤ length f.requests
@@ -73,7 +74,7 @@ pub record AreTills (f : Files) (many : ℕ) (cards : List (Option Card)) : Type
   pub records : (till : ℕ) (bytes : List ℕ) → till ≤ 64 → record_at f.requests till ≡ Some bytes
       → IsRequestRecord bytes × ¬ (LacksRecord f.stock (request_card_of bytes))
 
--- the only one of these open intents, which stands in a table of the tills' cards
+-- the only one of these open intents, whose card is in a table of the tills' cards
 pub record IsOnlyIntent (table : List (Option Card)) (among : List Card) (x : Intent) : Type 0 where
   pub low : 1 ≤ x.till
   pub high : x.till ≤ 64
@@ -81,7 +82,7 @@ pub record IsOnlyIntent (table : List (Option Card)) (among : List Card) (x : In
   pub pending : x.card.pending ≡ true
   pub only : among ≡ x.card ∷ []
 
--- the only one of these, or None where there is none
+-- the only one of these, or None if there is none
 abbrev pub IsIntentAmong : List (Option Card) → List Card → Option Intent → Type 0
 IsIntentAmong table among None = among ≡ []
 IsIntentAmong table among (Some x) = IsOnlyIntent table among x
@@ -95,7 +96,7 @@ abbrev pub given : Option Intent → List (ℕ × ℕ)
 given None = []
 given (Some x) = results_of x.card.newest
 
--- the tills' cards of these files are judged: no record is bad, at most one intent is open, these are its new
+-- the tills' cards of these files are checked: no record is bad, at most one intent is open, these are its new
 -- quantities, and STOCK has the records of their items
 pub record HasJudgedTills (f : Files) (x : NewQuantities) : Type 0 where
   pub no_bad_till : HasNoBadTill f
@@ -103,7 +104,7 @@ pub record HasJudgedTills (f : Files) (x : NewQuantities) : Type 0 where
   pub new : listed x ≡ results (intents (cards_in f.requests))
   pub there : (item : ℕ) → IsIntended f.requests item → IsSome (record_at f.stock item)
 
--- the item's record is empty, its card, or excused by an open intent, and so much is on hand; None: there is no such
+-- the item's record is empty, its card, or excused by an open intent, and this is on hand; None: there is no such
 -- record
 abbrev pub IsJudgedItem : Files → ℕ → Option (Option ℕ) → Type 0
 IsJudgedItem f item None = length f.stock < item
@@ -111,7 +112,7 @@ IsJudgedItem f item (Some quantity) = (bytes : List ℕ) × (record_at f.stock i
     × (quantity ≡ (state_of f.stock f.requests).ledger.cards item)
     × (IsIntended f.requests item ⊎ IsStockRecord item bytes)
 
--- the records of the items up to this one are read into a table, and stand
+-- the records of the items up to this one are read into a table, and are valid
 pub record IsCountedTo (f : Files) (last : ℕ) (table : List (Option ℕ)) : Type 0 where
   pub long : length table ≡ 10160
   pub there : last ≤ length f.stock

@@ -7,8 +7,8 @@ use Rattle.drive_channels.specs.State.{Seen}
 use Rattle.drive_channels.specs.declared.faults.Dead.{Dead}
 use Rattle.host_session.specs.shop.Selecting.{IsReady}
 
--- of each x of which P holds: at Ok the disk is as `done` says, and the drive ready; on the way, of at most so many
--- writes, it was as `held` says; the device failed where the call says so, and then the drive is dead
+-- For each x with P: at Ok the disk is as `done` says, and the drive ready. On the way, with at most this number of
+-- writes, the disk was as `held` says. At an error the device failed, and the drive is dead.
 pub record Puts {D A : Type 0} (S : History D) (old new : Seen D) (result : Result (Unit {0}) Dead) (P : A → Type 0)
     (most : (x : A) → P x → ℕ) (held done : A → Image → Type 0) : Type 0 where
   pub ready : OnOk result (IsReady S new)

@@ -24,11 +24,11 @@ pub record IsInReach (img : Image) (name : List ℕ) (r : ℕ) (l : Layout) (n :
   pub some : 1 ≤ record_length f.slot
   pub few : blocks_for (record_length f.slot) r ≤ 720
 
--- the files with these bytes in a record of STOCK, which may then have so many blocks
+-- the files with these bytes in a record of STOCK, which may then have this number of blocks
 abbrev pub with_card : Files → ℕ → List ℕ → ℕ → Files
 with_card f item bytes b = record f { stock = with_record f.stock item bytes; blocks = b }
 
--- STOCK has this card, and all else is as it was
+-- STOCK has this card, and everything else is as it was
 abbrev pub HasCard : Files → ℕ → List ℕ → Image → Type 0
 HasCard f item bytes img = (b : ℕ) × HasFiles img (with_card f item bytes b)
 
@@ -37,7 +37,7 @@ abbrev pub IsPuttingCard : Files → ℕ → List ℕ → Image → Type 0
 IsPuttingCard f item text img = ((b : ℕ) × HasFiles img (record f { blocks = b }))
     ⊎ (HasCard f item (half_written 18 item text (get_or f.stock (item - 1) [])) img ⊎ HasCard f item text img)
 
--- REQUESTS has this card of a till, and all else is as it was
+-- REQUESTS has this card of a till, and everything else is as it was
 abbrev pub HasAnswer : Files → ℕ → List ℕ → Image → Type 0
 HasAnswer f till text img = HasFiles img (record f { requests = with_record f.requests till text })
 

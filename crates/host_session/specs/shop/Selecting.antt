@@ -20,7 +20,7 @@ pub record IsAt {D : Type 0} (d : Seen D) (n r : ℕ) : Type 0 where
   pub checked : d.checked ≡ true
   pub on : d.channel ≡ Some (channel_at n r)
 
--- it isn't dead, a check has passed, and channel 2 is at the first byte of some record of this file
+-- the drive isn't dead, a check has passed, and channel 2 is at the first byte of a record of this file
 pub record IsInFile {D : Type 0} (d : Seen D) (n : ℕ) : Type 0 where
   pub alive : d.dead ≡ false
   pub checked : d.checked ≡ true

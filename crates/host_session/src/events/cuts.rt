@@ -1,4 +1,4 @@
-//! One event of a run: a message, or one in which power goes and the openings after it.
+//! One event of a run: a message, or one in which power fails and the openings after it.
 ghost use Rattle.std.specs.Prelude.{◌≡◌, ◌≤◌, ◌+◌, ◌↔◌, IfErr, IfOk, IsTrue, false};
 ghost use Rattle.host_session.specs.Held.{HeldOnly};
 ghost use Rattle.host_session.specs.events.Events.{cut_at, uncut};
@@ -13,7 +13,7 @@ use d64_image::{Fuse, Sectors};
 use request_cards::{Reply, Word};
 use script_lines::Cut;
 
-/// Hands a message to a session whose power goes after so many writes, and takes the disk back.
+/// Passes a message to a session whose power fails after this number of writes, and takes the disk back.
 fn cut_message<D: Sectors>(session: Session<D>, message: &[u8], after: u32) -> D
     ensures writes { (s : Shop) → IsSettled (D.history.image session.disk) s
         → D.history.writes result ≤ D.history.writes session.disk + after }
@@ -26,7 +26,7 @@ fn cut_message<D: Sectors>(session: Session<D>, message: &[u8], after: u32) -> D
     cut.close().into_inner()
 }
 
-/// Begins an opening whose power goes after so many writes, and takes the disk back.
+/// Begins an opening whose power fails after this number of writes, and takes the disk back.
 fn cut_opening<D: Sectors>(disk: D, writes: u32) -> D
     ensures moments { (s : Shop) → IsShop (D.history.image disk) s → HeldOnly D.history disk result (λ c. IsShop c s) }
     ensures writes { (s : Shop) → IsShop (D.history.image disk) s
@@ -53,8 +53,9 @@ fn cut_openings<D: Sectors>(disk: D, recoveries: &[u32]) -> D
     disk
 }
 
-/// A message in which power goes, the listed recoveries, and a whole one. Err has the disk where the whole one failed.
-// Out of line: a run without a reset has no use for these sessions.
+/// A message in which power fails, the listed recoveries, and a whole recovery. If the whole one failed, Err has the
+/// disk.
+// Out of line: a run without a reset doesn't use these sessions.
 #[inline(never)]
 pub(crate) fn cut_event<D: Sectors>(
     session: Session<D>,
@@ -92,7 +93,7 @@ pub(crate) fn is_media(reply: Reply) -> bool
     )
 }
 
-/// A message without a reset, handled in place: MEDIA where the device failed.
+/// A message without a reset, handled in place. The reply is MEDIA if the device failed.
 pub(crate) fn whole_message<D: Sectors>(session: &mut Session<D>, message: &[u8]) -> Reply
     ensures done { (s : Shop) → IsSettled (D.history.image session.old.disk) s → session.old.dead ≡ false
         → ¬ (IsMedia result)

@@ -1,4 +1,4 @@
-//! Replies that are written to a writer that is lent.
+//! Replies that are written to a borrowed writer.
 ghost use Rattle.std.specs.Prelude.{◌≡◌};
 ghost use Rattle.host_session.specs.runs.Lent.{written_to};
 
@@ -8,7 +8,7 @@ use d64_image::Sectors;
 use request_cards::Reply;
 use std::io::Write;
 
-/// A writer that is lent, and takes replies as that of a printer does.
+/// A borrowed writer, which takes replies as that of a printer does.
 #[derive(Drop)]
 pub(crate) struct Lines<'a, W> {
     out: &'a mut W,

@@ -30,8 +30,8 @@ impl<W> Printer<W> {
     }
 }
 
-/// Writes all of these bytes: at once, as a writer takes them, and the rest of them where it took a part. At an error,
-/// which comes where the writer failed or took none, a beginning of them was written.
+/// Writes all of these bytes, in one call if the writer takes them. If it takes only a part, the rest follows. At an
+/// error the writer failed or took no byte, and it has a prefix of the bytes.
 #[inline(always)]
 pub fn write_whole<W: Write>(out: &mut W, bytes: &[u8]) -> Result<(), NotTaken>
     ensures ok { OnOk result (Appends (W.contents out.old) (W.contents out.new) bytes.now) }
@@ -73,7 +73,7 @@ impl<D: Sectors, W: Write> ReplySink<D> for Printer<W> {
         write_line(&mut self.out, reply)
     }
 
-    // What a flush does with what the writer holds back no contract says.
+    // No contract says what a flush does with the bytes that the writer has buffered.
     fn hand_on(&mut self) -> Result<(), NotTaken> {
         match self.out.flush() {
             Ok(()) => Ok(()),

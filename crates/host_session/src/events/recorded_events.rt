@@ -1,4 +1,4 @@
-//! Events that are noted with what the disk held when they were asked for.
+//! Events that are recorded with what the disk held when they were asked for.
 ghost use Rattle.std.specs.Prelude.{◌≡◌, []};
 ghost use Rattle.host_session.specs.events.Asking.{noted, noted_in};
 
@@ -7,8 +7,8 @@ use d64_image::MemDisk;
 use script_lines::Cut;
 use std::alloc::Global;
 
-/// A source of events that keeps, of each, a copy of what the disk held when it was asked for. Where there is no memory
-/// for a copy the input fails, and no event is taken.
+/// A source of events that keeps, for each, a copy of what the disk held when the event was asked for. If there is no
+/// memory for a copy, the input fails and no event is taken.
 #[derive(Drop)]
 pub struct RecordedEvents<A> {
     asks: A,
@@ -19,7 +19,7 @@ pub struct RecordedEvents<A> {
 }
 
 impl<A> RecordedEvents<A> {
-    /// The events of this source; none is noted yet.
+    /// The events of this source; none is recorded yet.
     pub fn new(alloc: Global, asks: A) -> RecordedEvents<A>
         ensures asks { result.asks ≡ asks }
         ensures none { noted_in result ≡ [] }

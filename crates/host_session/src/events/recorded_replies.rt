@@ -7,7 +7,7 @@ use d64_image::MemDisk;
 use request_cards::Reply;
 use std::alloc::Global;
 
-/// A reply, and the bytes of the image over which it was told.
+/// A reply, and the bytes of the image at that moment.
 #[derive(Drop)]
 pub struct RecordedReply {
     /// The reply.
@@ -16,19 +16,19 @@ pub struct RecordedReply {
     pub bytes: Vec<u8>,
 }
 
-/// An output that keeps what it was told: each reply, with a copy of what the disk held then.
+/// An output that keeps each reply with a copy of what the disk held then.
 #[derive(Drop)]
 pub struct RecordedReplies {
     turns: Vec<RecordedReply>,
     /// How many replies it takes at most.
     most: usize,
-    /// How many of them were handed on.
+    /// How many of them were flushed.
     handed: usize,
     alloc: Global,
 }
 
 impl RecordedReplies {
-    /// Takes so many replies at most.
+    /// Takes at most this number of replies.
     pub fn new(alloc: Global, most: usize) -> RecordedReplies
         ensures turns { turns_of result ≡ [] }
         ensures most { result.most ≡ most }
@@ -42,14 +42,14 @@ impl RecordedReplies {
         }
     }
 
-    /// What was heard, in order.
+    /// The replies that were kept, in order.
     pub fn turns(&self) -> &[RecordedReply]
         ensures { result.now ≡ self.now.turns.items }
     {
         self.turns.as_slice()
     }
 
-    /// How many of them were handed on.
+    /// How many of them were flushed.
     pub fn handed(&self) -> usize
         ensures { result ≡ self.now.handed }
     {

@@ -5,7 +5,7 @@ use crate::events::sinks::{NotTaken, ReplySink};
 use d64_image::Sectors;
 use request_cards::Reply;
 
-/// A list takes replies as far as it has room, and no memory. It holds none back.
+/// A list takes replies until it is full. It allocates no memory and buffers nothing.
 impl<D: Sectors> ReplySink<D> for Vec<Reply> {
     ghost output = { listed };
 

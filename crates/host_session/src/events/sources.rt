@@ -1,4 +1,4 @@
-//! Where the events of a run come from.
+//! The sources of a run's events.
 ghost use Rattle.std.specs.Prelude.{◌≡◌, Some, option_map};
 ghost use Rattle.host_session.specs.events.Asking.{IsNext, Source, last_taken, of_events, of_script};
 ghost use Rattle.host_session.specs.events.Events.{message_in};
@@ -8,7 +8,7 @@ ghost use Rattle.script_lines.specs.Resets.{Line, line_of};
 use d64_image::Sectors;
 use script_lines::{Cut, Event, event_at, next_line};
 
-/// What asking for the next event comes to.
+/// The result of asking for the next event.
 #[derive(Clone, Copy, Debug, PartialEq, Eq)]
 pub enum Next {
     /// An event was taken.
@@ -19,12 +19,12 @@ pub enum Next {
     Failed,
 }
 
-/// Where the events of a run come from, one by one, each asked for over the disk that the one before it left.
+/// A source of a run's events, one by one. Each is asked for with the disk that the one before it left.
 pub trait EventSource<D: Sectors> {
-    /// What this source says of the messages that it gives.
+    /// What is known of the messages that this source gives.
     ghost source: { Source Self };
 
-    /// Takes the next event. The disk is lent as it is then.
+    /// Takes the next event. `disk` is the disk as it is then.
     fn next(&mut self, disk: &D) -> Next
         ensures { IsNext source self.old self.new (instant_of D.history disk.now) result };
 
@@ -32,7 +32,7 @@ pub trait EventSource<D: Sectors> {
     fn message(&self) -> &[u8]
         ensures { result.now ≡ (source.here self.now).bytes };
 
-    /// The reset in it, where there is one.
+    /// The reset in it, if there is one.
     fn cut(&self) -> Option<&Cut>
         ensures { option_map (λ c. c.now.after) result ≡ (source.here self.now).cut_after };
 }
@@ -87,7 +87,7 @@ impl<'a, 'b> EventList<'a, 'b> {
 }
 
 /// The event of a line that begins with @, which isn't bad.
-// Out of line, so that a line without a reset is only looked at.
+// Out of line: for a line without a reset this isn't called.
 #[inline(never)]
 fn reset_of(line: &[u8]) -> (&[u8], Option<Cut>)
     ensures { (l : Line) → line_of line.now ≡ Some l

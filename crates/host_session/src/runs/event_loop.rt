@@ -19,19 +19,19 @@ pub enum LoopFault {
     Input,
     /// The reply to the last event wasn't taken whole. The event was run.
     Output,
-    /// The device failed in the last event, which was told MEDIA, or in the whole recovery after a cut one.
+    /// The device failed in the last event, whose reply is MEDIA, or in the whole recovery after a cut one.
     Device,
 }
 
-/// Where a stretch of whole messages ended.
+/// The end of a stretch of whole messages.
 enum Stopped {
-    /// Power goes in the event that was taken last, which isn't handled yet.
+    /// Power fails in the event that was taken last, which isn't handled yet.
     Cut,
     /// The run is over.
     Ended(Result<(), LoopFault>),
 }
 
-/// Handles messages up to the next event with a reset, and tells each reply before the next event is taken.
+/// Handles messages up to the next event with a reset, and passes each reply on before the next event is taken.
 fn whole_messages<D: Sectors, A: EventSource<D>, T: ReplySink<D>>(
     session: &mut Session<D>,
     asks: &mut A,
@@ -74,7 +74,7 @@ fn ended<D>(disk: D, end: Result<(), LoopFault>) -> Result<D, (LoopFault, D)>
 }
 
 /// The run from an event with a reset on, which was taken and isn't handled yet.
-// Out of line: a run without a reset has no use for these sessions.
+// Out of line: a run without a reset doesn't use these sessions.
 #[inline(never)]
 fn run_on<D: Sectors, A: EventSource<D>, T: ReplySink<D>>(
     session: Session<D>,
@@ -91,7 +91,7 @@ fn run_on<D: Sectors, A: EventSource<D>, T: ReplySink<D>>(
         session = match cut_event(session, asks.message(), cut) {
             Ok(next) => next,
             Err(disk) => {
-                // the device failed, whatever comes of this
+                // the device failed, whether the reply is taken or not
                 let _ = out.tell(&Reply::Cut, &disk);
                 return Err((LoopFault::Device, disk));
             }
@@ -106,8 +106,8 @@ fn run_on<D: Sectors, A: EventSource<D>, T: ReplySink<D>>(
     }
 }
 
-/// Runs the events one after another on a disk that is opened first, and tells each reply before the next event is
-/// taken. What comes of it are the clauses of `IsRun`. It takes up to 430 kB of stack, with resets 940 kB, as measured.
+/// Runs the events one after another on a disk that is opened first, and passes each reply on before the next event is
+/// taken. The clauses of `IsRun` say what it does. It takes up to 430 kB of stack, with resets 940 kB, as measured.
 pub fn run<D: Sectors, A: EventSource<D>, T: ReplySink<D>>(
     disk: D,
     asks: &mut A,

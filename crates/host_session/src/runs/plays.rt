@@ -18,10 +18,10 @@ pub enum PlayFault {
     /// The disk wasn't opened, and no event was played.
     #[error("{0}")]
     Open(OpenFault),
-    /// There was no room for all replies: nothing was done.
+    /// There was no memory for all replies: nothing was done.
     #[error("NO MEMORY")]
     NoMemory,
-    /// The device failed in a message, which was told MEDIA, or in the whole recovery after a cut one.
+    /// The device failed in a message, whose reply is MEDIA, or in the whole recovery after a cut one.
     #[error("DEVICE")]
     Device,
 }
@@ -39,7 +39,7 @@ impl PlayFault {
     }
 }
 
-/// What is told of events whose run this fault ended. They are here, and so is the room for their replies.
+/// The fault that is returned for events whose run this fault ended. All events, and room for their replies, are there.
 fn fault_of(fault: LoopFault) -> PlayFault
     ensures { result ≡ play_fault_of fault }
 {
@@ -51,11 +51,12 @@ fn fault_of(fault: LoopFault) -> PlayFault
 
 /// Plays the events one after another, on a disk that is opened first.
 ///
-/// A message without a reset is handled, and its reply is the session's. In a message with one, power goes after so
-/// many of its sector writes; then each listed recovery is stopped after its writes, a whole one follows, and the reply
-/// is `Cut`. The replies go behind those that the list has. It stops after a message that was told MEDIA, and where a
-/// whole recovery failed; both have their replies in the list. It takes up to 430 kB of stack, with resets 940 kB, as
-/// measured.
+/// A message without a reset is handled, and its reply is the session's. In a message with a reset, power fails after
+/// the given number of its sector writes. Then each listed recovery is stopped after its writes, a whole one follows,
+/// and the reply is `Cut`. The replies are appended to the list.
+///
+/// `play` stops after a message with the reply MEDIA, and after a whole recovery that failed; the list has the replies
+/// to both. It takes up to 430 kB of stack, with resets 940 kB, as measured.
 pub fn play<D: Sectors>(
     disk: D,
     events: &[Event<'_>],

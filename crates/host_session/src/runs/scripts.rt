@@ -26,7 +26,7 @@ pub enum ScriptFault {
     /// The output failed to take a reply. The lines up to that one were played.
     #[error("FILE")]
     Output,
-    /// The device failed in a message, which was told MEDIA, or in the whole recovery after a cut one.
+    /// The device failed in a message, whose reply is MEDIA, or in the whole recovery after a cut one.
     #[error("DEVICE")]
     Device,
 }
@@ -45,7 +45,7 @@ impl ScriptFault {
     }
 }
 
-/// What is told of a script whose run this fault ended. Its input is here, and doesn't fail.
+/// The fault that is returned for a script whose run this fault ended. The whole input is there, so it doesn't fail.
 fn fault_of(fault: LoopFault) -> ScriptFault
     ensures { result ≡ script_fault_of fault }
 {
@@ -56,12 +56,13 @@ fn fault_of(fault: LoopFault) -> ScriptFault
     }
 }
 
-/// Plays the lines of a script one after another, as `play` plays events, and tells each reply before the next line is
-/// played. What comes of it are the clauses of `IsScriptRun`. `run_script` does the same over a writer.
+/// Plays the lines of a script one after another, as `play` plays events, and passes each reply on before the next line
+/// is played. The clauses of `IsScriptRun` say what it does. `run_script` does the same over a writer.
 ///
-/// All lines are judged before anything else is done. It takes no memory. After `Output` the lines played stand, the
-/// one whose reply wasn't taken whole among them. Where the device failed, the last reply is told before `Device` is,
-/// and whether the output took it isn't. It takes up to 430 kB of stack, with resets 940 kB, as measured.
+/// All lines are checked before anything else is done. No memory is allocated. After `Output` the lines played stand,
+/// the one whose reply wasn't fully taken among them. If the device failed, the last reply is passed on before `Device`
+/// is returned; whether the output took that reply isn't reported. It takes up to 430 kB of stack, with resets 940 kB,
+/// as measured.
 pub fn play_script<D: Sectors, T: ReplySink<D>>(
     disk: D,
     script: &[u8],
@@ -80,12 +81,16 @@ pub fn play_script<D: Sectors, T: ReplySink<D>>(
 }
 
 /// Plays the lines of a script one after another, and writes each reply, on a line that ends with LF, before the next
-/// line is played. The disk is handed back.
+/// line is played. Hands the disk back.
 ///
-/// `BadLine` of the first bad line, before anything else is done; `Open` where the disk isn't opened: neither writes
-/// anything. `Output` where the writer fails or takes no more: the lines handled so far stand. `Device` where the device
-/// failed: it stops after the first MEDIA, or after a `CUT` whose whole recovery failed, and comes before `Output`. It
-/// takes no memory, and as much stack as `play_script`.
+/// Errors:
+/// - `BadLine` of the first bad line, before anything else is done. Nothing is written.
+/// - `Open` if the disk isn't opened. Nothing is written to `out`.
+/// - `Output` if the writer fails or takes no more. The lines handled so far stand.
+/// - `Device` if the device failed, after the first MEDIA, or after a `CUT` whose whole recovery failed. It is returned
+///   even if the writer failed too.
+///
+/// No memory is allocated. It takes as much stack as `play_script`.
 pub fn run_script<D: Sectors, W: Write>(
     disk: D,
     script: &[u8],

@@ -38,7 +38,7 @@ fn put_refusal<D: Sectors>(
 }
 
 /// Writes a request's intent, and completes it. The records of its items are there.
-// In line, as all on the way to a device's write is: a return right behind a call of the system is dear.
+// In line, as all on the way to a device's write is: a return right after a system call is slow.
 #[inline(always)]
 fn put_intent<D: Sectors>(
     drive: &mut ShopDrive<D>,
@@ -85,8 +85,9 @@ fn put_first_set<D: Sectors>(
     put_intent(drive, request, card)
 }
 
-/// Keeps a till's next request with its answer: the card alone where it changes no quantity; else, after the growth of
-/// STOCK for an item that has no card, its intent, the item's card or both cards, and its answer.
+/// Keeps a till's next request with its answer. If the answer changes no quantity, only the till's card is written.
+/// Otherwise STOCK grows for an item that has no card, and then come the intent, the item's card or both cards, and the
+/// answer.
 pub(crate) fn store_answer<D: Sectors>(
     drive: &mut ShopDrive<D>,
     request: &Request,
@@ -101,7 +102,7 @@ pub(crate) fn store_answer<D: Sectors>(
         (λ f p. kept_writes p.0.stock_file request.now.body.item (results_of card.now.newest))
         (λ f. IsEither (shop_of f) request.now)
         (λ f i. IsSettled i (shop_after (shop_of f) request.now)) }
-    // but for a set of an item without a card, the shop is the one after once a write was counted
+    // except for a set of an item without a card, the shop is the one after as soon as a write was counted
     ensures counted { has_no_card ≡ false → (f : Files) → HasFiles (D.history.image drive.old.disk) f
         → IsKeeping f request.now card.now
         → IfCounted D.history drive.old.disk drive.new.disk (λ i. IsShop i (shop_after (shop_of f) request.now)) }

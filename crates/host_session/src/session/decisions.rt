@@ -1,4 +1,4 @@
-//! What the tables of a session decide of a request, and what becomes of them.
+//! Decides a request by the tables of a session, and updates the tables.
 ghost use Rattle.std.specs.Prelude.{◌≡◌, ◌≤◌, ◌+◌, IfSome, Some};
 ghost use Rattle.host_session.specs.session.Deciding.{IsInTable, card_with, newest_in, renewed, second_in, traded};
 ghost use Rattle.host_session.specs.session.Standing.{nth, state_in};
@@ -11,8 +11,8 @@ use request_cards::{
     Answer, Outcome, Request, RequestCard, Standing, decide, room_for, standing_of,
 };
 
-/// How a request stands by the tills' cards, on a disk with so many tills.
-// In line, since every message asks it.
+/// The standing of a request by the tills' cards, on a disk with this number of tills.
+// In line, since every message calls it.
 #[inline(always)]
 pub(crate) fn standing_by(
     requests: &[Option<RequestCard>; 64],
@@ -33,8 +33,7 @@ pub(crate) fn standing_by(
     }
 }
 
-/// What the trade rule makes of a request by a table of quantities, where `top` is the last item that a new card may
-/// have.
+/// The trade rule's outcome for a request by a table of quantities. `top` is the last item that a new card may have.
 pub(crate) fn decided(cards: &[Option<u32>; ITEMS], top: u16, request: &Request) -> Outcome
     requires top { top ≤ 10160 }
     ensures rule { result ≡ traded (nth cards.now) top request.now.body }
@@ -48,7 +47,8 @@ pub(crate) fn decided(cards: &[Option<u32>; ITEMS], top: u16, request: &Request)
     decide(on_hand(cards, item), on_hand(cards, to), room, request)
 }
 
-/// The card of a till's next request: an open intent where the answer is done, before it the till's last request.
+/// The card of a till's next request, an open intent if the answer is done. Its second entry is the till's last
+/// request.
 pub(crate) fn next_card(
     requests: &[Option<RequestCard>; 64],
     request: &Request,
@@ -65,7 +65,7 @@ pub(crate) fn next_card(
     }
 }
 
-/// Puts an item's new quantity into the table, where there is one.
+/// Puts an item's new quantity into the table, if there is one.
 fn renew_quantity(cards: &mut [Option<u32>; ITEMS], item: u16, quantity: Option<u32>)
     requires item { IfSome quantity (λ _. IsInTable item) }
     ensures { nth cards.new ≡ cards_after (nth cards.old) item quantity }

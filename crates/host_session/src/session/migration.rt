@@ -12,7 +12,7 @@ use d64_image::Sectors;
 use drive_channels::Dead;
 use request_cards::RequestCard;
 
-/// Writes the card of a till again, where it is of version 1.
+/// Writes the card of a till again, if it is of version 1.
 fn migrate_till<D: Sectors>(
     drive: &mut ShopDrive<D>,
     till: u8,

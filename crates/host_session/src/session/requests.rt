@@ -15,12 +15,15 @@ use request_cards::{Reply, Request, Standing, Word};
 impl<D: Sectors> Session<D> {
     /// Answers a message of a till.
     ///
-    /// What is no request is told `Syntax`. A request that isn't its till's next one is told what is kept of it, or why
-    /// it isn't taken; neither writes anything. The next request of a till is decided by the trade rule, and its answer
-    /// is kept on the disk before it is told: one write for an answer that changes no card; else, after the growth of
-    /// STOCK that a new card may take, the request's intent, its card or both cards, and its answer. Where the device
-    /// fails, now or in an earlier message, the reply is `MEDIA`, and the session is dead; the shop is then the one
-    /// before the message or the one after it.
+    /// If the message is no request, the reply is `Syntax`. A request that isn't its till's next one gets the reply
+    /// that is kept of it, or the reason why it isn't taken; neither writes anything.
+    ///
+    /// The next request of a till is decided by the trade rule, and its answer is kept on the disk before it is
+    /// returned. An answer that changes no card takes one write. Otherwise STOCK grows if a new card needs it, and then
+    /// the request's intent, its card or both cards, and its answer are written.
+    ///
+    /// If the device fails, now or in an earlier message, the word of the reply is `MEDIA`, and the session is dead.
+    /// The shop is then the one before the message or the one after it.
     pub fn handle(&mut self, message: &[u8]) -> Reply
         ensures { IsHandled D.history self.old self.new message.now result }
     {
@@ -39,7 +42,7 @@ impl<D: Sectors> Session<D> {
         }
     }
 
-    /// What a till is told of its request.
+    /// The word of the reply to a request.
     fn word_on(&mut self, request: &Request) -> Word
         requires ask { IsAsk request.now }
         requires alive { self.old.dead ≡ false }

@@ -1,4 +1,4 @@
-//! A shop's disk brought to rest: mended, without an open intent and without a card of version 1.
+//! A shop's disk brought to rest: repaired, without an open intent and without a card of version 1.
 ghost use Rattle.std.specs.Prelude.{◌≡◌, IfNone, IfOk, false};
 ghost use Rattle.host_session.specs.session.Mends.{Mends};
 ghost use Rattle.host_session.specs.session.Settling.{HasNewTable, HasTable};
@@ -38,7 +38,7 @@ fn bring_to_rest<D: Sectors>(
     migrate(drive, requests)
 }
 
-/// Mends a shop's disk that was judged, and brings it to rest. What was found is then as the disk has it at rest.
+/// Repairs a shop's disk that was checked, and brings it to rest. `found` then is as the disk has it at rest.
 // Out of line, as `judge` is.
 #[inline(never)]
 pub(crate) fn settle<D: Sectors>(

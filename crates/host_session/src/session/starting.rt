@@ -1,4 +1,4 @@
-//! A shop's disk mended, and a drive switched on over it.
+//! A shop's disk repaired, and a drive switched on over it.
 ghost use Rattle.disk_layout.specs.Clean.{IsClean};
 ghost use Rattle.disk_layout.specs.Layout.{IsSound};
 ghost use Rattle.host_session.specs.session.Mends.{Mends};
@@ -9,7 +9,7 @@ use crate::shop::shop_drive::ShopDrive;
 use d64_image::Sectors;
 use layout_check::repair;
 
-/// Mends a sound disk, and switches a drive on over it.
+/// Repairs a sound disk, and switches a drive on over it.
 pub(crate) fn start<D: Sectors>(disk: D) -> Result<ShopDrive<D>, (OpenFault, D)>
     requires sound { IsSound (D.history.image disk) }
     // at Ok what both files hold is as it was; a clean disk isn't written

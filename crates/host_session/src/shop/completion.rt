@@ -37,7 +37,7 @@ pub(crate) fn mark_answered(text: &mut [u8; REQUEST_CARD_LENGTH])
 }
 
 /// Writes the quantity on hand of an item whose record is there.
-// In line, as all on the way to a device's write is: a return right behind a call of the system is dear.
+// In line, as all on the way to a device's write is: a return right after a system call is slow.
 #[inline(always)]
 fn put_quantity<D: Sectors>(drive: &mut ShopDrive<D>, item: u16, quantity: u32) -> Result<(), Dead>
     requires ready { IsReady D.history drive.old }
@@ -67,7 +67,7 @@ fn put_results<D: Sectors>(
 {
     let new = new_quantities(till, card);
     let Some((item, quantity)) = new.first else {
-        // what isn't done is no open intent
+        // a request that wasn't done has no open intent
         return Ok(());
     };
     let Some((to, to_quantity)) = new.second else {

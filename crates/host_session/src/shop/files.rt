@@ -26,7 +26,7 @@ pub struct LedgerFiles {
     pub(crate) top: u16,
 }
 
-/// Surveys a disk: its fault is told as opening tells it.
+/// Surveys a disk. A fault is returned as one of opening.
 fn survey_disk<D: Sectors>(disk: &mut D) -> Result<Survey, OpenFault>
     ensures ok { IfOk result (λ found. (l : Layout) × IsLayout (D.history.image disk.old) l × IsSurveyOf l found) }
     ensures err { IfErr result (Refuses (Failed D.history disk.old disk.new) (D.history.image disk.old)) }
@@ -40,7 +40,7 @@ fn survey_disk<D: Sectors>(disk: &mut D) -> Result<Survey, OpenFault>
     }
 }
 
-/// The first closed relative file of a name, where it has records of its length.
+/// The first closed relative file of a name, if its records have the right length.
 fn find_shop_file<D: Sectors>(disk: &mut D, file: ShopFile) -> Result<Option<RelFile>, OpenFault>
     requires sound { IsSound (D.history.image disk.old) }
     ensures found { (l : Layout) → IsLayout (D.history.image disk.old) l
@@ -64,8 +64,8 @@ fn find_shop_file<D: Sectors>(disk: &mut D, file: ShopFile) -> Result<Option<Rel
     }
 }
 
-/// The last item that a new card in this file may have: the last one whose record lies in as many blocks as fit, with
-/// their side sectors, into the sectors outside track 18 that no other file owns. 120 blocks take one side sector.
+/// The last item that a new card in this file may have. Its record is the last one in as many blocks as fit, with their
+/// side sectors, into the sectors outside track 18 that no other file owns. 120 blocks take one side sector.
 fn top_of(found: &Survey, entry: usize) -> u16
     requires told { (l : Layout) × IsSurveyOf l found.now }
     ensures { (l : Layout) → IsSurveyOf l found.now → IsTop l entry result }

@@ -8,7 +8,7 @@ ghost use Rattle.host_session.specs.declared.faults.OpenFault.TheVariants.{TwoIn
 use crate::faults::OpenFault;
 use request_cards::{Answer, RequestCard};
 
-/// An open intent, and the till on whose card it stands.
+/// An open intent, and the till whose card it is on.
 #[derive(Clone, Copy)]
 pub struct Intent {
     pub(crate) till: u8,
@@ -63,7 +63,7 @@ pub(crate) fn given_by(intent: &Option<Intent>) -> NewQuantities
     }
 }
 
-/// Whether one of these items is past so many records.
+/// Whether one of these items is past this number of records.
 pub(crate) fn passes(new: &NewQuantities, count: u32) -> bool
     ensures { IsTrue result ↔ PassesRecords new.now count }
 {
@@ -71,7 +71,7 @@ pub(crate) fn passes(new: &NewQuantities, count: u32) -> bool
         || new.second.is_some_and(|(item, _)| u32::from(item) > count)
 }
 
-/// The new quantity of an item, where it has one.
+/// The new quantity of an item, if it has one.
 pub(crate) fn new_quantity(new: &NewQuantities, item: u16) -> Option<u32>
     ensures { result ≡ overlaid (listed new.now) no_cards item }
 {

@@ -1,4 +1,4 @@
-//! A disk read and judged before anything is written to it.
+//! A disk read and checked before anything is written to it.
 ghost use Rattle.std.specs.Prelude.{◌≡◌, ◌≤◌, ◌⊎◌, IfErr, IfOk, None, OnOk, replicate};
 ghost use Rattle.d64_image.specs.History.{Failed, OnlyReads};
 ghost use Rattle.host_session.specs.declared.faults.OpenFault.TheVariants.{BadCard, BadRequestCard, Device};
@@ -22,7 +22,7 @@ use disk_layout::DATA;
 use rel_records::{LastBlock, records};
 use request_cards::RequestCard;
 
-/// What opening reads before it writes. It is large, so that each step fills it where it stands.
+/// What opening reads before it writes. It is large, so each step fills it in place.
 #[derive(Drop)]
 pub struct LoadedShop {
     /// The last item that a new card may have.
@@ -52,7 +52,7 @@ impl LoadedShop {
     }
 }
 
-/// The card of a till whose record may stand; None past the last record.
+/// The card of a till, if its record is valid. None past the last record.
 fn judge_till<D: Sectors>(
     disk: &mut D,
     files: &LedgerFiles,
@@ -83,7 +83,7 @@ fn judge_till<D: Sectors>(
     }
 }
 
-/// Reads the cards of all tills up to 64 into a table, and tells how many there are, or the lowest bad one.
+/// Reads the cards of all tills up to 64 into a table, and returns how many there are, or the lowest bad one.
 fn read_tills<D: Sectors>(
     disk: &mut D,
     files: &LedgerFiles,
@@ -108,7 +108,7 @@ fn read_tills<D: Sectors>(
     Ok(64)
 }
 
-/// The quantity on hand of an item whose record may stand, or is to have this new quantity; None past the last record.
+/// The quantity on hand of an item whose record is valid, or is to have this new quantity. None past the last record.
 fn judge_item<D: Sectors>(
     disk: &mut D,
     files: &LedgerFiles,
@@ -143,7 +143,7 @@ fn judge_item<D: Sectors>(
     }
 }
 
-/// Reads the quantities on hand of all items into a table. The lowest bad card is told.
+/// Reads the quantities on hand of all items into a table. Returns the lowest bad card.
 fn read_stock<D: Sectors>(
     disk: &mut D,
     files: &LedgerFiles,
@@ -169,7 +169,8 @@ fn read_stock<D: Sectors>(
     Ok(())
 }
 
-/// Reads the tills' cards into a table, and tells how many there are, and the open intent among them, if there is one.
+/// Reads the tills' cards into a table, and returns how many there are, and the open intent among them, if there is
+/// one.
 fn judge_tills<D: Sectors>(
     disk: &mut D,
     files: &LedgerFiles,
@@ -188,9 +189,9 @@ fn judge_tills<D: Sectors>(
     Ok((count, intent))
 }
 
-/// Reads a disk and judges it, in the order of `OpenFault`. Nothing is written.
-// Out of line, as `settle` is: an opening is then so short that the compiler makes the tables once, where the session
-// is kept, and not a second time for a fault.
+/// Reads a disk and checks it, in the order of `OpenFault`. Nothing is written.
+// Out of line, as `settle` is: an opening is then so short that the compiler makes the tables once, in the session, and
+// not a second time for a fault.
 #[inline(never)]
 pub(crate) fn judge<D: Sectors>(disk: &mut D, found: &mut LoadedShop) -> Result<(), OpenFault>
     requires nothing { IsNothing found.old }

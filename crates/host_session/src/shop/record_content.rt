@@ -1,4 +1,4 @@
-//! The records of the two files, read and judged one by one.
+//! The records of the two files, read and checked one by one.
 ghost use Rattle.std.specs.Prelude.{◌≡◌, ◌≤◌, ◌↔◌, ℕ, IsTrue, List, Option, length, replicate};
 ghost use Rattle.disk_layout.specs.Records.{empty_record};
 ghost use Rattle.host_session.specs.declared.faults.OpenFault.TheVariants.{Device};
@@ -27,7 +27,7 @@ pub enum RecordContent<C> {
     Other,
 }
 
-/// Whether each byte is 0. All are looked at: of so few that is cheaper than a branch at each.
+/// Whether each byte is 0. Looks at all of them: for so few bytes that costs less than a branch at each.
 fn are_zeros(bytes: &[u8]) -> bool
     ensures { IsTrue result ↔ (bytes.now ≡ replicate (length bytes.now) 0) }
 {
@@ -48,7 +48,7 @@ fn is_empty(bytes: &[u8]) -> bool
     }
 }
 
-/// What bytes hold that were read as this card, or as none.
+/// The contents of bytes that were read as this card, or as none.
 fn what_is_held<C>(card: Option<C>, bytes: &[u8]) -> RecordContent<C>
     requires some { 1 ≤ length bytes.now }
     ensures { (card_of : List ℕ → Option C) → card_of bytes.now ≡ card
@@ -61,8 +61,8 @@ fn what_is_held<C>(card: Option<C>, bytes: &[u8]) -> RecordContent<C>
     }
 }
 
-/// What a till's record holds; None past the last record. Nothing is written. `last` is the block of REQUESTS that was
-/// read last, `text` is room for the record.
+/// The contents of a till's record. None past the last record. Nothing is written. `last` is the block of REQUESTS that
+/// was read last, `text` is room for the record.
 pub(crate) fn read_till<D: Sectors>(
     disk: &mut D,
     files: &LedgerFiles,
@@ -90,8 +90,8 @@ pub(crate) fn read_till<D: Sectors>(
     }
 }
 
-/// What these bytes of a record of STOCK hold.
-// In line: an opening asks it of each item.
+/// The contents of these bytes of a record of STOCK.
+// In line: an opening calls it for each item.
 #[inline(always)]
 fn item_held(bytes: &[u8]) -> RecordContent<StockCard>
     requires { length bytes.now ≡ 18 }
@@ -101,7 +101,7 @@ fn item_held(bytes: &[u8]) -> RecordContent<StockCard>
     what_is_held(StockCard::parse(bytes), bytes)
 }
 
-/// What an item's record holds, once it is read into `text`; None past the last record.
+/// The contents of an item's record, after it is read into `text`. None past the last record.
 // Out of line: most records lie whole in the block that was read last.
 #[inline(never)]
 fn read_item_next<D: Sectors>(
@@ -125,8 +125,8 @@ fn read_item_next<D: Sectors>(
     }
 }
 
-/// What an item's record holds; None past the last record. Nothing is written. `last` is the block of STOCK that was
-/// read last, where most records lie; `text` is room for one that doesn't lie whole in it.
+/// The contents of an item's record. None past the last record. Nothing is written. `last` is the block of STOCK that
+/// was read last, which has most records; `text` is room for a record that goes on in another block.
 #[inline(always)]
 pub(crate) fn read_item<D: Sectors>(
     disk: &mut D,

@@ -16,7 +16,7 @@ use d64_image::Sectors;
 use drive_channels::Dead;
 
 /// Writes a record that is there, whole.
-// In line: where the file and the length of the text are known, most of a `P` is worked out by the compiler.
+// In line: if the file and the length of the text are known, the compiler works out most of a `P`.
 #[inline(always)]
 fn put_record<D: Sectors>(
     drive: &mut ShopDrive<D>,

@@ -40,7 +40,7 @@ impl ShopFile {
         }
     }
 
-    /// The length of its records.
+    /// The length of its records, in bytes.
     pub(crate) fn record_length(self) -> u8
         ensures { result ≡ length_of self }
     {
@@ -51,8 +51,8 @@ impl ShopFile {
     }
 }
 
-/// The drive over a shop's disk, and the file that its channel 2 is open on, where one is known: a record of the same
-/// file is then reached by `P` alone.
+/// The drive over a shop's disk, and the file that its channel 2 is open on, if one is known: then `P` alone reaches a
+/// record of the same file.
 pub(crate) struct ShopDrive<D: Sectors> {
     drive: Drive<D>,
     known: Option<ShopFile>,
@@ -129,7 +129,7 @@ impl<D: Sectors> ShopDrive<D> {
         Ok(())
     }
 
-    /// Opens channel 2 on a file, where it isn't open on it.
+    /// Opens channel 2 on a file, if it isn't open on it.
     fn turn_to(&mut self, file: ShopFile) -> Result<(), Dead>
         requires ready { IsReady D.history self.old }
         requires there { (l : Layout) × (n : ℕ) × (f : File)
@@ -157,7 +157,7 @@ impl<D: Sectors> ShopDrive<D> {
         ensures at { (l : Layout) (n : ℕ) (f : File)
             → IsInReach (D.history.image self.old.disk) (name_of file) number l n f
             → OnOk result (IsAt self.new n number) }
-        // where the channel is on the file no sector is read
+        // if the channel is on the file, no sector is read
         ensures quiet { IsOn D.history self.old file → self.new.disk ≡ self.old.disk }
         ensures reads { OnlyReads D.history self.old.disk self.new.disk 2817 }
         ensures failures { TellsFailure D.history self.old.disk self.new.disk result }
@@ -168,7 +168,7 @@ impl<D: Sectors> ShopDrive<D> {
     }
 
     /// Writes at channel 2's place.
-    // In line, as all on the way to a device's write is: a return right behind a call of the system is dear.
+    // In line, as all on the way to a device's write is: a return right after a system call is slow.
     #[inline(always)]
     pub(crate) fn write(&mut self, text: &[u8]) -> Result<(), Dead>
         ensures serves { Serves D.history self.old self.new result }

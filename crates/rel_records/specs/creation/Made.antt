@@ -39,9 +39,8 @@ pub record HasFilesOf (a : Image) (l : Layout) (c : Image) : Type 0 where
   pub files : map (stays_of c) l.files ≡ map (stays_of a) l.files
   pub header : header_of c ≡ header_of a
 
--- the slot of a new file: the first free one of the directory, or where all are used the first of a sector behind them,
--- the
--- lowest free one of track 18
+-- the slot of a new file: the first free one of the directory, or, if all are used, the first of a new sector after
+-- them, the lowest free one of track 18
 abbrev pub IsNewSlot : Image → Layout → Layout → Slot → Type 0
 IsNewSlot old l m s =
     (IsFirstRoom old l.directory s.sector s.number × (m.directory ≡ l.directory))
@@ -63,13 +62,12 @@ pub record HasFileMore (a : Image) (l : Layout) (name : List ℕ) (L : ℕ) (c :
   pub one : length file.blocks ≡ 1
   pub records_are : records c file ≡ replicate (254 / L) (empty_record L)
 
--- every image held: the files of before, or one more; where all files were whole, they are
+-- every image held: it has the files of before, or one more; if all files were whole, they are
 abbrev pub IsCreating : Image → Layout → List ℕ → ℕ → Image → Type 0
 IsCreating a l name L c = (HasFilesOf a l c ⊎ HasFileMore a l name L c) × (IsWhole a → IsWhole c)
 
--- how many sectors are written: map, data block, side sector, and the one with the free slot; where all eight slots of
--- each
--- directory sector are used a new one, and the last one with its link
+-- how many sectors are written: map, data block, side sector, and the one with the free slot; if all eight slots of
+-- each directory sector are used, a new one and the last one with its link
 abbrev pub creation_writes : Layout → ℕ
 creation_writes l = if nat_lt (length l.files) (8 * length l.directory) then 4 else 5
 
@@ -82,7 +80,7 @@ abbrev pub HasNoRoom : Image → Layout → Type 0
 HasNoRoom img l = (blocks_free (sector img map_place) < 2)
     ⊎ (AreFullSectors img l.directory × IsFullTrack (sector img map_place) 18)
 
--- what a creation leaves that is done: so, and v is of the new file
+-- what a creation that is done leaves: one file more, and v is of that file
 pub record IsMade (old : Image) (l : Layout) (name : List ℕ) (L : ℕ) (new : Image) (v : RelFile) : Type 0 where
   pub more : HasFileMore old l name L new
   pub of : IsFileOf new more.layout (entry_of v) more.file v

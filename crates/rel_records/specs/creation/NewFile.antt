@@ -58,7 +58,7 @@ pub record IsLinkedTo (old new : Sector) (p : Place) : Type 0 where
   pub link : Names new 0 p
   pub rest : (i : ℕ) → 2 ≤ i → slice_index new i ≡ slice_index old i
 
--- the image at the start is clean, and two sectors that nobody owned are taken in its map
+-- the image at the start is clean, and in its map two sectors that nobody owned are taken
 pub record IsTakenFor (a : Image) (l : Layout) (new_map : Sector) (block side : Place) : Type 0 where
   pub clean : IsCleanLayout a l
   pub no_block : ¬ (Contains (map_place ∷ owners l) block)
@@ -67,7 +67,7 @@ pub record IsTakenFor (a : Image) (l : Layout) (new_map : Sector) (block side : 
   pub header : (take 4 new_map ≡ take 4 (sector a map_place)) × (drop 144 new_map ≡ drop 144 (sector a map_place))
   pub map : IsMapOf new_map (side ∷ block ∷ map_place ∷ owners l)
 
--- a third sector that nobody owned, on track 18, is taken for the directory
+-- and a third sector that nobody owned, on track 18, is taken for the directory
 pub record IsTakenForDirectory (a : Image) (l : Layout) (new_map : Sector) (block side fresh : Place) : Type 0 where
   pub clean : IsCleanLayout a l
   pub no_block : ¬ (Contains (map_place ∷ owners l) block)

@@ -27,7 +27,8 @@ pub record IsSlotSite (img : Image) (l : Layout) (s : Site) : Type 0 where
   pub room : IsFirstRoom img l.directory s.place s.number
   pub entry : s.entry ≡ 8 * length room.front + s.number
 
--- three are, and the entry goes into the third, the lowest free one of track 18, behind the directory's last
+-- three sectors are taken, and the entry goes into the third, the lowest free one of track 18, which follows the
+-- directory's last
 pub record IsSectorSite (img : Image) (l : Layout) (s : Site) (fresh : Place) : Type 0 where
   pub taken : IsTakenForDirectory img l s.map.bytes s.block s.side fresh
   pub bytes : s.bytes ≡ sector img s.place
@@ -36,6 +37,7 @@ pub record IsSectorSite (img : Image) (l : Layout) (s : Site) (fresh : Place) : 
   pub number : s.number ≡ 0
   pub entry : s.entry ≡ 8 * length l.directory
 
+-- the site is right for a new file: with a free slot, or with a new directory sector
 abbrev pub IsSite : Image → Layout → Site → Type 0
 IsSite img l s = MatchOption s.fresh (IsSlotSite img l s) (IsSectorSite img l s)
 
@@ -44,6 +46,7 @@ abbrev pub sector_or : Place → Option Place → Place
 sector_or p None = p
 sector_or p (Some fresh) = fresh
 
+-- the directory sector of the site that the entry goes into
 abbrev pub sector_of : Site → Place
 sector_of s = sector_or s.place s.fresh
 
@@ -52,7 +55,8 @@ pub record IsSlotEntry (name : List ℕ) (L : ℕ) (s : Site) (bytes : Sector) :
   pub entered : IsEntered s.bytes bytes s.number (rel_entry name s.block s.side L 2)
   pub few : length name ≤ 16
 
--- first is a directory sector with the new file's entry alone, and last the site's with a link to it
+-- first is a directory sector with the new file's entry alone, and last is the site's directory sector with a link to
+-- it
 pub record IsSectorEntry (name : List ℕ) (L : ℕ) (s : Site) (fresh : Place) (first last : Sector) : Type 0 where
   pub made : IsNewDirectory first (rel_entry name s.block s.side L 2)
   pub linked : IsLinkedTo s.bytes last fresh
@@ -67,7 +71,7 @@ pub record HasFileAt (a : Image) (l : Layout) (name : List ℕ) (L : ℕ) (s : S
   pub sides : more.file.sides ≡ s.side ∷ []
   pub last : more.file.last ≡ full L 1 * L + 1
 
--- v is what is kept of that file
+-- v is what is kept in memory of that file
 pub record IsFileAt (L : ℕ) (s : Site) (v : RelFile) : Type 0 where
   pub entry : v.entry ≡ s.entry
   pub sector : v.sector ≡ sector_of s

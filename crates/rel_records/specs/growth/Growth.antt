@@ -20,9 +20,8 @@ blocks_for L r = (r * L + 253) / 254
 abbrev pub full : ℕ → ℕ → ℕ
 full L n = 254 * n / L
 
--- how many empty records a file of c records of L bytes gets, so that record r is there: none where it is, else all
--- that
--- fit into the blocks that r records need
+-- how many empty records a file of c records of L bytes gets, so that record r is there: none if it is there already;
+-- otherwise all that fit into the blocks that r records need
 abbrev pub added : ℕ → ℕ → ℕ → ℕ
 added L c r = if nat_le r c then 0 else (full L (blocks_for L r) - c)
 
@@ -39,16 +38,15 @@ abbrev pub IsFull : Image → File → ℕ → Type 0
 IsFull img f r = (records_had f < r)
     × (blocks_free (sector img map_place) < needed (length f.blocks) (blocks_for (record_length f.slot) r))
 
--- how many blocks are written to fill the file up: none where all whole records that fit are there, two where the first
--- new
--- one begins in the block before the last
+-- how many blocks are written to fill the file up: none if all whole records that fit are there, two if the first new
+-- one begins in the block before the last, otherwise one
 abbrev pub fill_writes : File → ℕ
 fill_writes f =
     if nat_eq (records_had f) (full (record_length f.slot) (length f.blocks)) then 0 else
     (if nat_lt (records_had f * record_length f.slot) (254 * (length f.blocks - 1)) then 2 else 1)
 
 -- how many older side sectors are written while a file gets n data blocks: 1 with its second side sector, 2 with its
--- third ..
+-- third ...
 abbrev pub side_writes : ℕ → ℕ
 side_writes n = sides_for n * (sides_for n - 1) / 2
 
@@ -56,7 +54,7 @@ side_writes n = sides_for n * (sides_for n - 1) / 2
 abbrev pub run_writes : ℕ → ℕ → ℕ
 run_writes n w = 5 * (w - n) + (side_writes w - side_writes n)
 
--- how many sectors are written for growth to record r: none where it is there
+-- how many sectors are written for growth to record r: none if it is there
 abbrev pub growth_writes : File → ℕ → ℕ
 growth_writes f r = if nat_le r (records_had f) then 0 else (fill_writes f + run_writes (length f.blocks)
     (blocks_for (record_length f.slot) r))

@@ -39,7 +39,7 @@ pub record TakesBlock (p q : Parts) (fresh : Place) : Type 0 where
   pub sides : q.sides.items ≡ p.sides.items
   pub owned : (owned : List Place) → IsMapOf p.map.bytes owned → IsMapOf q.map.bytes (fresh ∷ owned)
 
--- where they are full, a second one is taken for the next side sector
+-- if they are full, a second sector is taken for the next side sector
 pub record TakesSide (p q : Parts) (fresh : Place) : Type 0 where
   pub full : length p.blocks.items % 120 ≡ 0
   pub side : Place
@@ -47,7 +47,7 @@ pub record TakesSide (p q : Parts) (fresh : Place) : Type 0 where
   pub unowned : (owned : List Place) → IsMapOf p.map.bytes owned → ¬ (Contains (fresh ∷ owned) side)
   pub owned : (owned : List Place) → IsMapOf p.map.bytes owned → IsMapOf q.map.bytes (side ∷ fresh ∷ owned)
 
--- the map and the lists of places have what the next block takes; all else is as it was
+-- the map and the lists of places have what the next block takes; everything else is as it was
 pub record TakesPlaces (p q : Parts) (fresh : Place) : Type 0 where
   pub blocks : q.blocks.items ≡ p.blocks.items ++ fresh ∷ []
   pub unowned : (owned : List Place) → IsMapOf p.map.bytes owned → ¬ (Contains owned fresh)
@@ -64,7 +64,7 @@ pub record IsFresh (n L : ℕ) (bytes : Sector) : Type 0 where
   pub index : slice_index bytes 1 + 254 * n ≡ full L (n + 1) * L + 1
   pub filled : (j : ℕ) → j < 254 → slice_index bytes (2 + j) ≡ filler L (full L (n + 1)) (254 * n + j)
 
--- the bytes of the last of n blocks link to a fresh one behind it, and begin the record that crosses into it; the whole
+-- the bytes of the last of n blocks link to a fresh one after it, and begin the record that crosses into it; the whole
 -- records that fitted stay
 pub record IsLinked (n L : ℕ) (fresh : Place) (old new : Sector) : Type 0 where
   pub link : Names new 0 fresh

@@ -1,4 +1,4 @@
--- A file takes one data block more: what is kept in memory for it, what it leaves, and what it writes. The order of the
+-- A file takes one more data block: what is kept in memory for it, what it leaves, and what it writes. The order of the
 -- writes is our own.
 use Rattle.std.specs.Prelude.{
   ℕ,
@@ -40,7 +40,8 @@ use Rattle.rel_records.specs.declared.growth.step_parts.Parts.{Parts}
 use Rattle.rel_records.specs.declared.rel_file.RelFile.{RelFile}
 use Rattle.rel_records.specs.growth.Growth.{full, records_had}
 
--- l is the layout of the image, which is clean, f its relative file at place n, and p is what is kept of them in memory
+-- l is the layout of the image, which is clean, f is its relative file at place n, and p is what is kept of them in
+-- memory
 pub record IsAt (img : Image) (l : Layout) (n : ℕ) (f : File) (p : Parts) : Type 0 where
   pub clean : IsCleanLayout img l
   pub there : slice_get l.files n ≡ Some f
@@ -57,6 +58,7 @@ pub record IsAt (img : Image) (l : Layout) (n : ℕ) (f : File) (p : Parts) : Ty
   pub last : p.last ≡ sector img last_place
   pub directory : p.directory ≡ sector img f.slot.sector
 
+-- p is what is kept in memory of a clean image and one of its relative files
 abbrev pub StandsAt : Image → Parts → Type 0
 StandsAt img p = (l : Layout) × (n : ℕ) × (f : File) × IsAt img l n f p
 
@@ -69,11 +71,11 @@ IsFilledUp f = record_count (length f.blocks) f.last (record_length f.slot) ≡ 
 abbrev pub StandsFilled : Image → Parts → Type 0
 StandsFilled img p = (l : Layout) × (n : ℕ) × (f : File) × IsAt img l n f p × IsFilledUp f
 
--- the sectors that the next block takes: two where the side sectors of n blocks are full
+-- the number of sectors that the next block takes: two if the side sectors of n blocks are full
 abbrev pub taken_next : ℕ → ℕ
 taken_next n = if nat_eq (n % 120) 0 then 2 else 1
 
--- how many sectors are written for it: five, and where a side sector is new, each older one too
+-- how many sectors are written for it: five, and if a side sector is new, each older one too
 abbrev pub step_writes : ℕ → ℕ
 step_writes n = if nat_eq (n % 120) 0 then (5 + sides_for n) else 5
 
@@ -97,7 +99,7 @@ pub record HasFilled (old new : Image) (l : Layout) (n : ℕ) (f : File) (p q : 
   pub blocks : run.file.blocks ≡ f.blocks
   pub map : q.map.bytes ≡ p.map.bytes
 
--- the file has a block more, for which the map has what it takes
+-- the file has one more block, and the map has fewer free sectors, by those that the block takes
 pub record HasBlockMore (old new : Image) (l : Layout) (n : ℕ) (f : File) (p q : Parts) : Type 0 where
   pub run : IsRunTo old new l n f (length f.blocks + 1) q
   pub free : blocks_free q.map.bytes + taken_next (length f.blocks) ≡ blocks_free p.map.bytes
@@ -107,7 +109,7 @@ abbrev pub IsSidedAt : Image → Image → List Place → List Place → ℕ →
 IsSidedAt old c blocks sides L q =
     (sector c q ≡ sector old q) ⊎ ((j : ℕ) × (slice_get sides j ≡ Some q) × (sector c q ≡ side_sector j blocks sides L))
 
--- every sector is
+-- every sector is as it was, or a side sector of this list with its exact bytes
 abbrev pub IsSided : Image → List Place → List Place → ℕ → Image → Type 0
 IsSided old blocks sides L c = (q : Place) → IsSidedAt old c blocks sides L q
 
@@ -121,7 +123,7 @@ abbrev pub IsSideOr : Image → ℕ → List Place → List Place → ℕ → Im
 IsSideOr old number blocks sides L c = (c ≡ old)
     ⊎ ((q : Place) → slice_get sides number ≡ Some q → c ≡ put old q (side_sector number blocks sides L))
 
--- every sector is so, and the last side sector is written first: nothing is written, or that one has its exact bytes
+-- The same, with the last side sector written first: either nothing is written, or that one has its exact bytes.
 pub record IsSidedInOrder (old : Image) (blocks sides : List Place) (L : ℕ) (c : Image) : Type 0 where
   pub each : IsSided old blocks sides L c
   pub first : (c ≡ old) ⊎ AreSidedFrom (length sides - 1) c blocks sides L

@@ -15,12 +15,12 @@ number_kept x = x.number
 abbrev pub IsKept : Image → RelFile → LastBlock → Type 0
 IsKept img v x = OfItsFile img v (λ l n f. IfSome x.number (λ r. IsBlock img f.blocks r x.bytes))
 
--- how many sectors are read for record r of L bytes where the block in which it begins is kept: one where it goes on
--- behind
+-- how many sectors are read for record r of L bytes if the block in which it begins is kept: one if it goes on in the
+-- next block
 abbrev pub next_reads : ℕ → ℕ → ℕ
 next_reads L r = if nat_lt 254 ((r - 1) * L % 254 + L) then 1 else 0
 
--- that many are read where that block is kept
+-- that number is read if that block is kept
 abbrev pub ReadsNear : {D : Type 0} → History D → D → D → LastBlock → RelFile → ℕ → Type 0
 ReadsNear S old new x v r = number_kept x ≡ Some ((r - 1) * length_of v / 254)
     → OnlyReads S old new (next_reads (length_of v) r)

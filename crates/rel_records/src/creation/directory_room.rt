@@ -21,8 +21,8 @@ ghost use Rattle.rel_records.specs.creation.Room.{IsFullDirectory, IsFirstRoom, 
 use d64_image::{DeviceFault, Place, Sectors};
 use disk_layout::Slot;
 
-/// Where a new entry goes: the number of the first free slot of the directory, or None where all are used; and the
-/// directory sector that is written last for it, with its bytes and how many sectors stand before it: the one of that
+/// The slot of a new entry: the number of the first free slot of the directory, or None if all are used. Also the
+/// directory sector that is written last for it, with its bytes and the number of sectors before it: the one of that
 /// slot, or the directory's last.
 #[derive(Drop)]
 pub(crate) struct Room {
@@ -44,7 +44,7 @@ fn free_slot(bytes: &[u8; 256]) -> Option<u8>
     None
 }
 
-/// The first free slot of these directory sectors, in order, of which there is one at least.
+/// The first free slot of these directory sectors, in order. There is at least one sector.
 pub(crate) fn find_room<D: Sectors>(disk: &mut D, places: &[Place]) -> Result<Room, DeviceFault>
     requires { 1 ≤ length places.now }
     ensures bytes { IfOk result (λ room. room.bytes ≡ sector (D.history.image disk.old) room.place) }

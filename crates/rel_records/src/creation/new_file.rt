@@ -23,7 +23,7 @@ use crate::growth::next_block::fresh_block;
 use d64_image::{DeviceFault, Place, Sectors};
 use disk_layout::{Bam, map_place, relative_entry, side_bytes};
 
-/// Writes what nobody owns yet: the map, the data block and the side sector.
+/// Writes the map, the data block and the side sector: so far nobody owns the two.
 fn write_sectors<D: Sectors>(
     disk: &mut D,
     map: &Bam,
@@ -42,7 +42,7 @@ fn write_sectors<D: Sectors>(
     disk.write(side, &side_bytes(0, &[block], &[side], size))
 }
 
-/// Writes a new file's sectors and a new directory sector: still what nobody owns.
+/// Writes a new file's sectors and a new directory sector: so far nobody owns them.
 fn write_with_directory<D: Sectors>(
     disk: &mut D,
     map: &Bam,
@@ -76,7 +76,7 @@ fn put_entry(bytes: &mut [u8; 256], number: u8, entry: &[u8; 30])
     bytes[at + 2..at + 32].copy_from_slice(entry);
 }
 
-/// A new directory sector behind the directory's last, with the entry in its first slot.
+/// A new directory sector after the directory's last, with the entry in its first slot.
 fn directory_with(entry: &[u8; 30]) -> [u8; 256]
     ensures { IsNewDirectory result entry.now }
 {
@@ -114,8 +114,8 @@ fn write_in_slot<D: Sectors>(
     disk.write(site.place, bytes)
 }
 
-/// Writes a new file's sectors and a new directory sector with its entry, and then the directory's last sector, which
-/// got the link to that: this last write makes the file.
+/// Writes a new file's sectors and a new directory sector with its entry. Then writes the directory's last sector with
+/// the link to the new one: this last write makes the file.
 fn write_behind<D: Sectors>(
     disk: &mut D,
     site: &Site,

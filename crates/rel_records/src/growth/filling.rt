@@ -1,4 +1,4 @@
-//! Empty records in the room that a file's last blocks have left.
+//! Empty records in the unused bytes of a file's last blocks.
 ghost use Rattle.std.specs.Prelude.{◌≡◌, ◌≤◌, ◌<◌, ◌+◌, ◌-◌, ◌*◌, ◌⊎◌, ℕ, length, nat_lt, slice_index, if◌then◌else◌};
 ghost use Rattle.d64_image.specs.History.{TellsFailure};
 ghost use Rattle.d64_image.specs.Images.{IsSector};
@@ -14,7 +14,7 @@ use crate::sizes::{BLOCK, full_records, last_index};
 use d64_image::{DeviceFault, Sectors};
 use disk_layout::fill;
 
-/// Fills a block's tail in memory: from data byte `from` of the file on, where the block begins at data byte `at`.
+/// Fills a block's tail in memory: from data byte `from` of the file on. The block begins at data byte `at`.
 fn fill_tail(bytes: &mut [u8; 256], at: u32, from: u32, length: u8, total: u32)
     requires at { at ≤ 1000000 }
     requires total { total ≤ 1000000 }
@@ -27,7 +27,7 @@ fn fill_tail(bytes: &mut [u8; 256], at: u32, from: u32, length: u8, total: u32)
     fill(bytes, at, from, length, total);
 }
 
-/// Fills the tail of the block before the last, where `from` lies there.
+/// Fills the tail of the block before the last, if `from` is in that block.
 fn fill_before<D: Sectors>(
     disk: &mut D,
     parts: &Parts,
@@ -59,7 +59,7 @@ fn fill_before<D: Sectors>(
     disk.write(place, &bytes)
 }
 
-/// Fills the last of `count` blocks up in memory, and ends it where the last whole record that fits ends.
+/// Fills the last of `count` blocks up in memory, and ends it after the last whole record that fits.
 fn fill_last(bytes: &mut [u8; 256], from: u32, count: u16, length: u8)
     requires some { 1 ≤ count }
     requires few { count ≤ 720 }
@@ -72,8 +72,8 @@ fn fill_last(bytes: &mut [u8; 256], from: u32, count: u16, length: u8)
     bytes[1] = last_index(count, length);
 }
 
-/// Fills the room that a file's last blocks have left with empty records, where a whole one fits: the block before the
-/// last first, where the first new record begins there. The file has `had` records.
+/// Fills the unused bytes of a file's last blocks with empty records, if a whole one fits. If the first new record
+/// begins in the block before the last, that block is written first. The file has `had` records.
 pub(crate) fn fill_up<D: Sectors>(
     disk: &mut D,
     parts: &mut Parts,

@@ -15,7 +15,7 @@ use arrayvec::ArrayVec;
 use d64_image::{DeviceFault, Place, Sectors};
 use disk_layout::{Bam, MOST_BLOCKS, POINTERS, SideView};
 
-/// Lists behind the others the first `count` data blocks that a side sector points to.
+/// Appends to the list the first `count` data blocks that a side sector points to.
 fn list_blocks(bytes: &[u8; 256], count: usize, blocks: &mut ArrayVec<Place, MOST_BLOCKS>)
     requires few { count ≤ 120 }
     requires room { length blocks.old.items + count ≤ 720 }
@@ -55,8 +55,8 @@ fn read_places<D: Sectors>(
     Ok(())
 }
 
-/// Reads what growth keeps in memory of a file beside the map: its side sectors, its data blocks, the bytes of the last
-/// of them, and those of its directory sector.
+/// Reads what growth keeps in memory of a file besides the map: its side sectors, its data blocks, the bytes of the
+/// last of them, and those of its directory sector.
 pub(crate) fn read_parts<D: Sectors>(
     disk: &mut D,
     file: &RelFile,

@@ -25,8 +25,8 @@ pub(crate) fn take_next(map: &mut Bam) -> Place
     place
 }
 
-/// Takes the sectors of the next block, and lists them behind the others: one for the block, and where the side sectors
-/// are full one for the next side sector. Tells the block's.
+/// Takes the sectors of the next block, and appends them to the lists: one for the block, and one for the next side
+/// sector if the side sectors are full. Returns the block's place.
 fn take_places(parts: &mut Parts) -> Place
     requires room { taken_next (length parts.old.blocks.items) ≤ blocks_free parts.old.map.bytes }
     requires map { (owned : List Place) × IsMapOf parts.old.map.bytes owned }
@@ -47,7 +47,8 @@ fn take_places(parts: &mut Parts) -> Place
     fresh
 }
 
-/// Makes these bytes those of the last block of a file with `behind` blocks before it and all whole records that fit.
+/// Makes these bytes those of the last block of a file that has `behind` blocks before it and all whole records that
+/// fit.
 fn make_fresh(bytes: &mut [u8; 256], behind: u16, length: u8)
     requires few { behind < 720 }
     requires length { IsLength length }
@@ -59,7 +60,7 @@ fn make_fresh(bytes: &mut [u8; 256], behind: u16, length: u8)
     fill(bytes, at, at, length, full_records(behind + 1, length));
 }
 
-/// The bytes of the last block of a file with `behind` blocks before it and all whole records that fit.
+/// The bytes of the last block of a file that has `behind` blocks before it and all whole records that fit.
 pub(crate) fn fresh_block(behind: u16, length: u8) -> [u8; 256]
     requires few { behind < 720 }
     requires length { IsLength length }
@@ -70,7 +71,7 @@ pub(crate) fn fresh_block(behind: u16, length: u8) -> [u8; 256]
     bytes
 }
 
-/// Links the last of `blocks` data blocks to a fresh one behind it, and begins in it the record that crosses into that.
+/// Links the last of `blocks` data blocks to a fresh one after it, and begins in it the record that crosses into that.
 fn link_block(bytes: &mut [u8; 256], fresh: Place, blocks: u16, length: u8)
     requires some { 1 ≤ blocks }
     requires few { blocks < 720 }
@@ -85,9 +86,8 @@ fn link_block(bytes: &mut [u8; 256], fresh: Place, blocks: u16, length: u8)
     bytes[1] = fresh.sector();
 }
 
-/// Makes the file's next block in memory: takes its sectors, and makes its bytes, those of the old last block, which
-/// then links to it, and those of the directory sector with the new block count. Puts the block's bytes into `block`,
-/// and tells its place.
+/// Makes the file's next block in memory. Takes its sectors, puts its bytes into `block`, and returns its place. The
+/// old last block then links to it, and the bytes of the directory sector have the new block count.
 pub(crate) fn lay_out(parts: &mut Parts, block: &mut [u8; 256]) -> Place
     requires room { taken_next (length parts.old.blocks.items) ≤ blocks_free parts.old.map.bytes }
     requires map { (owned : List Place) × IsMapOf parts.old.map.bytes owned }

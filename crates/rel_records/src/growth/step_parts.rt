@@ -5,9 +5,9 @@ use arrayvec::ArrayVec;
 use d64_image::Place;
 use disk_layout::{Bam, MOST_BLOCKS};
 
-/// What growth keeps in memory between two blocks, so that a block more needs no read: the map, and of the file its
-/// slot's place, its record length, its side sectors, its data blocks, the bytes of the last of them, and those of the
-/// directory sector with its slot.
+/// What growth keeps in memory from block to block, so that another block needs no read. It has the map and the bytes
+/// of the directory sector with the file's slot. It has the slot's place, the record length, the side sectors, the data
+/// blocks, and the bytes of the last of these.
 #[derive(Drop)]
 pub(crate) struct Parts {
     pub(crate) map: Bam,

@@ -29,7 +29,7 @@ use crate::growth::step_parts::Parts;
 use d64_image::{DeviceFault, Place, Sectors};
 use disk_layout::{POINTERS, map_place, side_bytes};
 
-/// Writes the side sector of that number with its exact bytes.
+/// Writes the side sector with this number, with its exact bytes.
 fn write_side<D: Sectors>(
     disk: &mut D,
     number: u8,
@@ -69,7 +69,7 @@ fn write_older<D: Sectors>(
     Ok(())
 }
 
-/// Writes the last side sector, and where it is new, which each of them lists, then the others, lowest first.
+/// Writes the last side sector. If it is new, writes the others too, lowest first, because each lists it.
 fn write_sides<D: Sectors>(
     disk: &mut D,
     blocks: &[Place],
@@ -125,8 +125,8 @@ fn prepare<D: Sectors>(
     )
 }
 
-/// Gives the file one more data block, and a side sector where its side sectors are full. Written are the map, the
-/// fresh block, the side sectors, then the old last block with its link, which makes the file longer, and the block
+/// Gives the file one more data block, and one more side sector if its side sectors are full. Writes the map, the fresh
+/// block and the side sectors; then the old last block with its link, which makes the file longer; and then the block
 /// count.
 pub(crate) fn add_block<D: Sectors>(disk: &mut D, parts: &mut Parts) -> Result<(), DeviceFault>
     requires at { StandsAt (D.history.image disk.old) parts.old }

@@ -124,11 +124,11 @@ fn open_entry<D: Sectors>(disk: &mut D, entry: usize, slot: &Slot) -> Result<Rel
     })
 }
 
-/// Finds the first closed relative file of this name; `NotFound` where the directory has none.
+/// Finds the first closed relative file of this name. `NotFound` is returned if the directory has none.
 ///
-/// A slot's name has sixteen bytes, shifted spaces behind the name, so a longer name is never found. The file's number
-/// of data blocks is taken from its chain, and its side sectors from the list in the first of them: a growth that was
-/// cut may have left a side sector that points past the chain's end.
+/// A slot's name has sixteen bytes, filled up with shifted spaces, so a longer name is never found. An interrupted
+/// growth may have left a side sector that points past the chain's end. So the file's number of data blocks is taken
+/// from its chain, and its side sectors from the list in the first of them.
 pub fn find<D: Sectors>(disk: &mut D, name: &[u8]) -> Result<RelFile, RelFault>
     requires sound { IsSound (D.history.image disk.old) }
     ensures { FindsFile D.history disk.old disk.new name.now result }

@@ -1,4 +1,4 @@
-//! Where a data block of a file lies: one side sector tells it.
+//! Finds a data block of a file, by reading one side sector.
 ghost use Rattle.std.specs.Prelude.{◌≡◌, ◌<◌, Some, slice_get};
 ghost use Rattle.rel_records.specs.Calls.{ReadsAtMost};
 ghost use Rattle.rel_records.specs.File.{IsOf, OfItsFile, blocks_of};

@@ -14,7 +14,7 @@ use arrayvec::ArrayVec;
 use d64_image::Sectors;
 use disk_layout::DATA;
 
-/// The data block of a file that was read last: who reads the records in order finds the next one there, or in the
+/// The data block of a file that was read last. If records are read in order, the next one begins there, or in the
 /// block that it names.
 #[derive(Drop)]
 pub struct LastBlock {
@@ -44,9 +44,8 @@ impl LastBlock {
         }
     }
 
-    /// The bytes of a record where it lies whole in the block that is kept; None where it doesn't, and where the file
-    /// has none of this number, counted from 1. Nothing is read or copied. `self` is of this file, as `read_next` has
-    /// it.
+    /// The bytes of a record, if the block that is kept has all of them. None if it doesn't, or if the file has no
+    /// record of this number, counted from 1. Nothing is read or copied. `self` is of this file, as for `read_next`.
     #[inline(always)]
     pub fn record(&self, file: &RelFile, number: u32) -> Option<&[u8]>
         ensures whole { IsSome result ↔ LiesWhole self.now file.now number }
@@ -66,7 +65,7 @@ impl LastBlock {
     }
 }
 
-/// Reads the block behind the one of this number, from 0, which is the one that is kept, and keeps that.
+/// Reads the block after the kept one, which has this number, from 0, and keeps it instead.
 // Out of line: most records lie in the block that is kept.
 #[inline(never)]
 fn go_on<D: Sectors>(
@@ -91,7 +90,7 @@ fn go_on<D: Sectors>(
     Ok(())
 }
 
-/// Reads the data block of this number, from 0, and keeps it. Where it is kept already nothing is read.
+/// Reads the data block of this number, from 0, and keeps it. If it is kept already, nothing is read.
 #[inline(always)]
 fn bring<D: Sectors>(
     disk: &mut D,
@@ -154,9 +153,9 @@ fn next_there<D: Sectors>(
     Ok(())
 }
 
-/// Reads a record as `read_record` does, for who reads one after another: where it lies in the block that was read last
-/// nothing is read, and where it goes on behind that one sector. `last` is of this file: it was `LastBlock::none`, or
-/// was given by this call, and nothing was written since.
+/// Reads a record as `read_record` does, and keeps its block for reading the next one. If the block that was read last
+/// has the record, nothing is read; if the record goes on in the next block, one sector is read. `last` is of this
+/// file: `LastBlock::none`, or what this call left in it, with nothing written since.
 // In line, with all on the way of a record in the block that is kept.
 #[inline(always)]
 pub fn read_next<D: Sectors>(
@@ -169,7 +168,7 @@ pub fn read_next<D: Sectors>(
     requires of { IsOf (D.history.image disk.old) file.now }
     requires kept { IsKept (D.history.image disk.old) file.now last.old }
     ensures text { ReadsRecord D.history disk.old disk.new file.now number text.new.items 3 result }
-    // what is kept is of the file as it was
+    // the block that is kept is one of the file, on the image before the call
     ensures kept { IsKept (D.history.image disk.old) file.now last.new }
     ensures near { ReadsNear D.history disk.old disk.new last.old file.now number }
 {

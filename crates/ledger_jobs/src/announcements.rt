@@ -1,0 +1,79 @@
+//! What a person at a terminal reads before a job is done, and after a check.
+use crate::dispatch::image_of_file;
+use crate::explanations::CUT_SHORT;
+use crate::files::STANDARD_INPUT;
+use crate::job_files::size_of;
+use crate::jobs::Job;
+use crate::losses::cut_in;
+use d64_image::Place;
+use shop_commands::Locks;
+use std::fs::OpenFile;
+use std::io::{Read, Write};
+use std::rt::Files;
+use system_files::ShownPath;
+
+/// The sector where the first file of the image at a path is cut short, as its shop is now. None also if another program
+/// has the image alone, if the image can't be read, and of standard input.
+fn cut_at<F, R>(rt: &R, path: &str) -> Option<Place>
+where
+    F: Read + Locks + OpenFile + Drop,
+    R: Files<File = F> + AllocGlobal,
+{
+    if path == STANDARD_INPUT {
+        return None;
+    }
+    let image = image_of_file(rt, path).ok()?;
+    cut_in(rt.alloc(), image.as_slice(), None).unwrap_or_default()
+}
+
+/// Prints for a person, after the verdict of a check, where the first file of the image is cut short, if one is: a line
+/// `SHORT t/s`. The image's file is opened, locked with others that read it, and read once more for it. If that can't be
+/// done, or the line not be printed, nothing is printed.
+pub fn tell_cut<F, R, E>(rt: &R, job: &Job<'_>, err: &mut E)
+where
+    F: Read + Locks + OpenFile + Drop,
+    R: Files<File = F> + AllocGlobal,
+    E: Write,
+{
+    let Job::Check { image } = job else {
+        return;
+    };
+    if let Some(place) = cut_at(rt, image) {
+        let _ = writeln!(err, "SHORT {}/{}", place.track(), place.sector());
+    }
+}
+
+/// Prints for a person where the first file of an image is cut short before it is played.
+fn warn_of_cut<F, R, E>(rt: &R, image: &str, err: &mut E)
+where
+    F: Read + Locks + OpenFile + Drop,
+    R: Files<File = F> + AllocGlobal,
+    E: Write,
+{
+    if let Some(place) = cut_at(rt, image) {
+        let (track, sector) = (place.track(), place.sector());
+        let image = ShownPath(image);
+        let _ = writeln!(err, "ledger: {image}: SHORT {track}/{sector}; {CUT_SHORT}");
+    }
+}
+
+/// Prints for a person which file a job is going to replace, or where the first file of an image that is going to be
+/// played is cut short, if there is one; that image is locked with others that read it while it is read. If a line can't
+/// be printed, there is nobody left to tell.
+pub fn announce<F, R, E>(rt: &R, job: &Job<'_>, err: &mut E)
+where
+    F: Read + Locks + OpenFile + Drop,
+    R: Files<File = F> + AllocGlobal,
+    E: Write,
+{
+    match job {
+        Job::Format { image, .. } => {
+            if let Some(bytes) = size_of(rt, image) {
+                let image = ShownPath(image);
+                let _ = writeln!(err, "ledger: replacing {image}, which has {bytes} bytes");
+            }
+        }
+        Job::Play { image, .. } | Job::PlaySynced { image, .. } => warn_of_cut(rt, image, err),
+        _ => {}
+    }
+}
