@@ -18,7 +18,7 @@ from PIL import Image
 
 import disks
 from browser import Browser, Proxy
-from comparisons import see_comparison
+from comparisons import BLACK, see_comparison
 from drawn import MAP, PLACES, Disk, sectors_on
 from palette import DARKER, LIGHT, rgb
 from pages import Page
@@ -269,7 +269,7 @@ def see_renderings(program, browser, name, path, wanted, file, folder):
 
     see_dark(name, browser, url, wanted, seen_now)
     browser.scale(1)
-    see_paper(name, browser, url, wanted, folder, LIGHT)
+    see_paper(name, browser, url, range(len(wanted.disk.entries)), folder, LIGHT)
     see_label(name, browser, url)
     see_keys(name, browser, url, wanted)
     see_poster(name, program, path, path.read_bytes(), wanted.verdict, folder, browser,
@@ -281,13 +281,18 @@ def see_comparisons(program, browser, made, pages, folder):
     by_name = dict(zip((name for name, _ in made), pages))
 
     def looks(file, page):
-        browser.scale(DOTS)
-        browser.open(file.as_uri())
-        box = browser.value("(r => ({x: Math.round(r.x), y: Math.round(r.y), width: r.width}))"
-                            "(document.querySelector('svg').getBoundingClientRect())")
-        chromium, librsvg = by_chromium(browser, box, file.with_suffix(".png")), by_librsvg(page, folder)
-        yield "Chromium", lambda place: chromium.at(middle(place))
-        yield "librsvg", lambda place: librsvg.at(middle(place))
+        librsvg = by_librsvg(page, folder)
+        yield "librsvg", lambda place: librsvg.at(middle(place)), BLACK
+        dark = [{"name": "prefers-color-scheme", "value": "dark"}]
+        for who, mark, media in (("Chromium, in the dark,", WHITE, {"features": dark}), ("Chromium, on paper,", BLACK, {"media": "print"}),
+                                 ("Chromium", BLACK, {})):
+            browser.ask("Emulation.setEmulatedMedia", **{"media": "", "features": [], **media})
+            browser.scale(DOTS)
+            browser.open(file.as_uri())
+            box = browser.value("(r => ({x: Math.round(r.x), y: Math.round(r.y), width: r.width}))"
+                                "(document.querySelector('svg').getBoundingClientRect())")
+            chromium = by_chromium(browser, box, file.with_suffix(".png"))
+            yield who, lambda place: chromium.at(middle(place)), mark
 
     pairs = [("both", "both"), ("blank", "shop"), ("shop", "full"), ("both", "loop"), ("mapwrong", "both"), ("both", "names"),
              ("cc1541", "cbmconvert"), ("every byte", "crowded")]

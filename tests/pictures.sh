@@ -18,8 +18,9 @@
 #   sector in the same colours as on the page;
 # - a contact sheet of 100 images, two of them refused, is to the byte that of pages.py, printed in less than a second; each
 #   sector of eight small drawings has its shade's colour in Chromium, and each drawing less than 12,000 bytes;
-# - eight comparisons (`picture --compare`) are to the byte those of pages.py; Chromium and librsvg show a mark on each sector that
-#   differs, and on no other; the rows in the browser are those of the files and records that changed;
+# - eight comparisons (`picture --compare`) are to the byte those of pages.py; librsvg and Chromium, in the light, in the dark and on
+#   paper, show a mark on each sector that differs, and on no other; the page fits a phone, and one sheet of paper with the colours of
+#   the files that changed; the rows in the browser are those of the files and records that changed;
 # - elements and attributes of the page in the browser are the page's own, and names are shown as they are typed, and as a C64 shows
 #   them where that differs;
 # - the page names nothing outside of itself, asks for nothing but itself (the browser's own account, and a proxy on the

@@ -67,8 +67,8 @@ def see_dark(name, browser, url, wanted, seen_at):
     browser.ask("Emulation.setEmulatedMedia", features=[])
 
 
-def see_paper(name, browser, url, wanted, folder, colours):
-    """One sheet of paper, with the colours of all files outside of the drawing too."""
+def see_paper(name, browser, url, numbers, folder, colours):
+    """One sheet of paper, with the colours of the files with these numbers outside of the drawing too."""
     browser.open(url)
     answer = browser.ask("Page.printToPDF", preferCSSPageSize=True)
     file = folder / "paper.pdf"
@@ -79,7 +79,7 @@ def see_paper(name, browser, url, wanted, folder, colours):
     paper = Image.open(folder / "paper.png").convert("RGB")
     below = paper.crop((0, paper.height * 54 // 100, paper.width, paper.height))
     found = {colour for _, colour in below.getcolors(1 << 24)}
-    for number in range(len(wanted.disk.entries)):
+    for number in numbers:
         colour = rgb(colours[number % 12])
         want(any(near(colour, one, 4) for one in found), f"{name}: on paper file {number} has no {colour} in its line")
 

@@ -26,6 +26,7 @@ pub mod PosterMarkup
 pub mod PosterTold
 pub mod Printing
 pub mod Rows
+pub mod Shaded
 pub mod Shared
 pub mod SheetMarkup
 pub mod Sides

@@ -1,5 +1,5 @@
 -- The number of each sector stands in a small drawing by number once.
-use Rattle.std.proofs.Common.{◌≡◌, ◌≢◌, ◌<◌, ◌+◌, ◌%◌, ◌++◌, ℕ, Bool, true, false, List, [], length, eq-eqb, ne_eqb, refl, subst, sym, arith}
+use Rattle.std.proofs.Common.{◌≡◌, ◌≢◌, ◌+◌, ◌++◌, ℕ, Bool, true, false, List, [], length, eq-eqb, ne_eqb, refl, subst, sym, arith}
 use Rattle.std.specs.Prelude.{Option, Some, None, if◌then◌else◌, nat_eq}
 use Rattle.d64_image.proofs.Places.{index_below, place_of}
 use Rattle.d64_image.specs.Images.{Sector}
@@ -9,38 +9,18 @@ use Rattle.disk_layout.specs.Layout.{Layout}
 use Rattle.disk_layout.specs.declared.faults.Fault.{Fault}
 use Rattle.disk_pictures.proofs.Counted.{AllBelow, all-append, all-below, as-many, below-one, times-append, times-nil}
 use Rattle.disk_pictures.proofs.CountedDrawing.{no-place, number, one-place}
-use Rattle.disk_pictures.specs.Drawings.{owner_of}
+use Rattle.disk_pictures.proofs.Shaded.{low-shade}
 use Rattle.disk_pictures.specs.Pictures.{each_place}
 use Rattle.disk_pictures.specs.Sectors.{as_printed, by_number, times}
-use Rattle.disk_pictures.specs.Sheets.{owner_shade, shade, shade_path, small_drawing}
-use Rattle.disk_pictures.specs.Texts.{at_place, is_fault_at, is_free}
+use Rattle.disk_pictures.specs.Sheets.{shade, shade_path, small_drawing}
+use Rattle.disk_pictures.specs.Texts.{at_place}
 use Rattle.disk_pictures.specs.TileSectors.{shade_by, small_by}
-use Rattle.disk_pictures.specs.declared.owners.Owner.{Owner}
-use Rattle.disk_pictures.specs.declared.owners.Owner.TheVariants as owner
 
 pub small-same : (v : Option Fault) (map : Sector) (l : Layout) → small_by as_printed v map l ≡ small_drawing v map l
 unfolding small_by small_drawing shade_by shade_path
 small-same v map l = refl
 
-free-shade : (b : Bool) → (if b then 3 else 4) < 29
-free-shade true = omega arith
-free-shade false = omega arith
-
-owner-shade : (map : Sector) (p : Place) (o : Owner) → owner_shade map p o < 29
-owner-shade map p owner.Map = omega arith
-owner-shade map p owner.Directory = omega arith
-owner-shade map p (owner.Blocks k) = omega arith
-owner-shade map p (owner.Sides k) = omega arith
-owner-shade map p owner.Nobody = free-shade (is_free map p)
-
 module _ (v : Option Fault) (map : Sector) (l : Layout) where
-  low-shade : (p : Place) → shade v map l p < 29
-  low-shade p = by (is_fault_at v p)
-    where
-      by : (b : Bool) → (if b then 0 else owner_shade map p (owner_of l p)) < 29
-      by true = omega arith
-      by false = owner-shade map p (owner_of l p)
-
   -- how often a number stands in the path of a shade
   in-shade : (m n : ℕ) → times m (shade_by by_number v map l n)
       ≡ times m (each_place (λ p. if nat_eq (shade v map l p) n then number p else []))
@@ -59,7 +39,7 @@ module _ (v : Option Fault) (map : Sector) (l : Layout) where
         in-shade (index_of p) n,
         one-place p (λ q. nat_eq (shade v map l q) n) (eq-eqb n n refl),
       ) in
-      below-one (index_of p) 29 n (shade_by by_number v map l) (low-shade p) here
+      below-one (index_of p) 29 n (shade_by by_number v map l) (low-shade v map l p) here
       (λ j ne. omega (
         arith,
         in-shade (index_of p) j,

@@ -15,6 +15,7 @@ pub mod Pictures
 pub mod Posters
 pub mod Sectors
 pub mod Sentences
+pub mod Shades
 pub mod Sharing
 pub mod Sheets
 pub mod Texts

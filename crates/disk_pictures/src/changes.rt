@@ -1,13 +1,12 @@
 //! The files that differ between two disks, a row each.
-ghost use Rattle.std.specs.Prelude.{◌≡◌, ◌≤◌, ◌+◌, ◌++◌, ◌||◌, [], codes, decimal, if◌then◌else◌, IfErr, OnOk, Some, length, map};
+ghost use Rattle.std.specs.Prelude.{◌≡◌, ◌≤◌, ◌||◌, [], if◌then◌else◌, IfErr, OnOk, Some, length, map};
 ghost use Rattle.std.specs.Io.KnownBytes.{Appends};
 ghost use Rattle.disk_pictures.specs.ComparedOutcomes.{disk_in};
 ghost use Rattle.disk_pictures.specs.ComparedPages.{changed_row, changes_text, difference_row, entry_head, entry_row};
 ghost use Rattle.disk_pictures.specs.ComparedPages.{former_row, gone_row};
-ghost use Rattle.disk_pictures.specs.ComparedPages.{new_row, parts_text, record_text, records_cell};
+ghost use Rattle.disk_pictures.specs.ComparedPages.{new_row, parts_text};
 ghost use Rattle.disk_pictures.specs.Comparisons.{are_bytes_changed, are_sectors_changed as sectors_changed};
-ghost use Rattle.disk_pictures.specs.Comparisons.{is_entry_changed as entry_changed, is_record_changed as record_changed};
-ghost use Rattle.disk_pictures.specs.Comparisons.{is_record_changed_before};
+ghost use Rattle.disk_pictures.specs.Comparisons.{is_entry_changed as entry_changed};
 ghost use Rattle.disk_pictures.specs.Drawings.{file_in};
 ghost use Rattle.disk_pictures.specs.Html.{html_of};
 ghost use Rattle.disk_pictures.specs.Petscii.{petscii_of};
@@ -15,6 +14,7 @@ ghost use Rattle.disk_pictures.specs.Texts.{numbered};
 ghost use Rattle.disk_pictures.specs.declared.faults.PictureFault.TheVariants as faults;
 
 use crate::arcs::Look;
+use crate::changed_records::put_records;
 use crate::compared::Compared;
 use crate::counterparts::counterpart;
 use crate::differences::are_changed;
@@ -130,87 +130,6 @@ impl Display for EntryHead<'_> {
             self.parts
         )
     }
-}
-
-/// A number after a mark.
-#[derive(Clone, Copy)]
-struct Marked {
-    mark: &'static str,
-    number: usize,
-}
-
-impl Display for Marked {
-    ghost output = { λ it. Some (it.mark.now ++ decimal it.number) };
-
-    fn fmt<W: fmt::Write>(&self, f: &mut Formatter<W>) -> fmt::Result {
-        write!(f, "{}{}", self.mark, self.number)
-    }
-}
-
-/// Prints record `index`, from 0, which differs as the one before it does, if it is the last one of its run.
-fn put_last<W: Write>(out: &mut W, file: &Versions<'_>, index: usize) -> Result<(), PictureFault>
-    requires { index ≤ 190000 }
-    ensures ok { OnOk result (Appends (W.contents out.old) (W.contents out.new)
-        (if record_changed file.now.before.now.sectors.now file.now.after.now.sectors.now (file_in file.now.former.now)
-        (file_in file.now.file.now) (index + 1) then [] else codes "-" ++ decimal (index + 1))) }
-    ensures err { IfErr result (λ fault. fault ≡ faults.File) }
-{
-    let number = index + 1;
-    if file.is_record_changed(number) {
-        Ok(())
-    } else {
-        put(out, Marked { mark: "-", number })
-    }
-}
-
-/// Prints record `index`, from 0, which differs: the first one of a run, or the last one.
-fn put_end<W: Write>(out: &mut W, file: &Versions<'_>, index: usize) -> Result<(), PictureFault>
-    requires { index ≤ 190000 }
-    ensures ok { OnOk result (Appends (W.contents out.old) (W.contents out.new)
-        (if is_record_changed_before file.now.before.now.sectors.now file.now.after.now.sectors.now
-        (file_in file.now.former.now) (file_in file.now.file.now) index
-        then (if record_changed file.now.before.now.sectors.now file.now.after.now.sectors.now (file_in file.now.former.now)
-        (file_in file.now.file.now) (index + 1) then [] else codes "-" ++ decimal (index + 1))
-        else codes " " ++ decimal (index + 1))) }
-    ensures err { IfErr result (λ fault. fault ≡ faults.File) }
-{
-    if file.is_record_changed_before(index) {
-        put_last(out, file, index)
-    } else {
-        let number = index + 1;
-        put(out, Marked { mark: " ", number })
-    }
-}
-
-/// Prints record `index`, from 0, if it differs and is the first or the last one of its run.
-fn put_record<W: Write>(out: &mut W, file: &Versions<'_>, index: usize) -> Result<(), PictureFault>
-    requires { index ≤ 190000 }
-    ensures ok { OnOk result (Appends (W.contents out.old) (W.contents out.new)
-        (record_text file.now.before.now.sectors.now file.now.after.now.sectors.now (file_in file.now.former.now)
-        (file_in file.now.file.now) index)) }
-    ensures err { IfErr result (λ fault. fault ≡ faults.File) }
-{
-    if file.is_record_changed(index) {
-        put_end(out, file, index)
-    } else {
-        Ok(())
-    }
-}
-
-/// Prints the numbers of the records that differ.
-fn put_records<W: Write>(out: &mut W, file: &Versions<'_>) -> Result<(), PictureFault>
-    ensures ok { OnOk result (Appends (W.contents out.old) (W.contents out.new)
-        (records_cell file.now.before.now.sectors.now file.now.after.now.sectors.now (file_in file.now.former.now)
-        (file_in file.now.file.now))) }
-    ensures err { IfErr result (λ fault. fault ≡ faults.File) }
-{
-    let Some(count) = file.records() else {
-        return Ok(());
-    };
-    for number in 0..count {
-        put_record(out, file, number)?;
-    }
-    Ok(())
 }
 
 /// Prints the row of an entry that isn't on the first disk.

@@ -3,6 +3,7 @@
 
 mod arcs;
 mod byte_lines;
+mod changed_records;
 mod changes;
 mod compared;
 mod comparing;
@@ -33,6 +34,7 @@ mod reading;
 mod reading_errors;
 mod sector_printing;
 mod sentences;
+mod shades;
 mod sharing;
 mod sheet_printing;
 mod signs;

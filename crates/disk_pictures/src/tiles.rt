@@ -1,11 +1,12 @@
 //! A tile of a contact sheet: a small drawing of a disk, and what is told of it.
-ghost use Rattle.std.specs.Prelude.{◌≡◌, IfErr, OnOk, Some};
+ghost use Rattle.std.specs.Prelude.{◌≡◌, ◌<◌, ◌+◌, IfErr, OnOk, Some};
 ghost use Rattle.std.specs.Io.KnownBytes.{Appends};
 ghost use Rattle.d64_image.specs.Places.{place_at};
 ghost use Rattle.disk_pictures.specs.Held.{drawn_in};
 ghost use Rattle.disk_pictures.specs.Html.{html_of};
 ghost use Rattle.disk_pictures.specs.Petscii.{petscii_of};
 ghost use Rattle.disk_pictures.specs.Sheets.{caption, own_stroke, shade as shade_of, shade_head, shade_path};
+ghost use Rattle.disk_pictures.specs.Shades.{HasEach};
 ghost use Rattle.disk_pictures.specs.Sheets.{small_drawing, stroke, tile_head, tile_text};
 ghost use Rattle.disk_pictures.specs.Texts.{at_place, each_below};
 ghost use Rattle.disk_pictures.specs.declared.faults.PictureFault.TheVariants as faults;
@@ -16,39 +17,14 @@ use crate::html::Html;
 use crate::names::header_name;
 use crate::others::{SECTORS, TRACKS};
 use crate::output::put;
-use crate::owners::Owner;
 use crate::page::class_of;
 use crate::petscii::Petscii;
-use crate::texts::{VerdictText, is_fault_at};
+use crate::shades::{SHADES, Shades, shade};
+use crate::texts::VerdictText;
 use d64_image::Place;
 use disk_layout::{BamView, Fault};
 use std::fmt::{self, Display, Formatter};
 use std::io::Write;
-
-/// How many shades there are.
-const SHADES: usize = 29;
-
-/// The shade of a sector, below 29.
-fn shade(drawing: &Drawing, found: Option<Fault>, place: Place) -> usize
-    ensures { result ≡ shade_of found drawing.now.map (drawn_in drawing.now) place }
-{
-    if is_fault_at(found, place) {
-        return 0;
-    }
-    match drawing.owner(place) {
-        Owner::Map => 1,
-        Owner::Directory => 2,
-        Owner::Blocks(number) => 5 + number % 12,
-        Owner::Sides(number) => 17 + number % 12,
-        Owner::Nobody => {
-            if BamView::new(&drawing.map).is_free(place) {
-                3
-            } else {
-                4
-            }
-        }
-    }
-}
 
 /// A sector of a small drawing.
 #[derive(Clone, Copy)]
@@ -113,20 +89,46 @@ fn put_strokes_on<W: Write>(
     Ok(())
 }
 
+/// Prints the sectors of the shade on the track with so many tracks before it, if it has one there.
+fn put_track<W: Write>(
+    out: &mut W,
+    found: Option<Fault>,
+    drawing: &Drawing,
+    shades: &Shades,
+    number: usize,
+    below: u8,
+) -> Result<(), PictureFault>
+    requires small { number < 29 }
+    requires track { below < 35 }
+    requires each { HasEach shades.now (shade_of found drawing.now.map (drawn_in drawing.now)) }
+    ensures ok { OnOk result (Appends (W.contents out.old) (W.contents out.new) (each_below 21 (λ sector.
+        at_place (own_stroke found drawing.now.map (drawn_in drawing.now) number) (place_at (below + 1) sector)))) }
+    ensures err { IfErr result (λ fault. fault ≡ faults.File) }
+{
+    if shades.has(below, number) {
+        put_strokes_on(out, found, drawing, number, below + 1)
+    } else {
+        Ok(())
+    }
+}
+
 /// Prints the sectors of the shade, track by track.
 fn put_shade<W: Write>(
     out: &mut W,
     found: Option<Fault>,
     drawing: &Drawing,
+    shades: &Shades,
     number: usize,
 ) -> Result<(), PictureFault>
+    requires small { number < 29 }
+    requires each { HasEach shades.now (shade_of found drawing.now.map (drawn_in drawing.now)) }
     ensures ok { OnOk result (Appends (W.contents out.old) (W.contents out.new)
         (shade_path found drawing.now.map (drawn_in drawing.now) number)) }
     ensures err { IfErr result (λ fault. fault ≡ faults.File) }
 {
     put(out, ShadeHead(number))?;
     for below in 0..TRACKS {
-        put_strokes_on(out, found, drawing, number, below + 1)?;
+        put_track(out, found, drawing, shades, number, below)?;
     }
     put(out, "\"/>")
 }
@@ -141,8 +143,9 @@ fn put_small<W: Write>(
         (small_drawing found drawing.now.map (drawn_in drawing.now))) }
     ensures err { IfErr result (λ fault. fault ≡ faults.File) }
 {
+    let shades = Shades::of(drawing, found);
     for number in 0..SHADES {
-        put_shade(out, found, drawing, number)?;
+        put_shade(out, found, drawing, &shades, number)?;
     }
     Ok(())
 }

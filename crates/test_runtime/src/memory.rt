@@ -12,7 +12,7 @@ pub struct Memory {
     pub image: Stored,
     /// What stands at `s.txt`.
     pub script: Stored,
-    /// The folder of both.
+    /// The folder of the image: `.`, or `in` or `/` if the image is named there.
     pub folder: Stored,
     /// Two places for the image's log and for one in the making, and whether the second is the log.
     pub first: Stored,

@@ -30,6 +30,33 @@ impl Runtime<'_> {
         false
     }
 
+    /// The folder of the image: that of the path by which a word names it.
+    fn folder(&self) -> &'static str {
+        if self.names("in/a.d64") {
+            "in"
+        } else if self.names("/a.d64") {
+            "/"
+        } else {
+            "."
+        }
+    }
+
+    /// A path as it reads from the image's folder: that of the folder itself is `.`.
+    fn within<'p>(&self, path: &'p str) -> &'p str {
+        let folder = self.folder();
+        if folder == "." || path == "/dev/stdin" {
+            return path;
+        }
+        if path == folder {
+            return ".";
+        }
+        match path.strip_prefix(folder) {
+            Some(rest) => rest.strip_prefix("/").unwrap_or(rest),
+            None if path == "." => "",
+            None => path,
+        }
+    }
+
     /// Makes the folder `out`, if a word names it and nothing stands there.
     fn makes_folder(&self, path: &str) -> io::Result<()> {
         if !self.names(path) {
@@ -94,7 +121,7 @@ impl<'a> Files for Runtime<'a> {
     type Dir = Opened<'a>;
 
     fn open_file(&self, how: &OpenOptions, path: &str) -> io::Result<Opened<'a>> {
-        match path {
+        match self.within(path) {
             "a.d64" => open_stored(&self.memory.image, how),
             "s.txt" => open_stored(&self.memory.script, how),
             "." => open_stored(&self.memory.folder, how),
@@ -120,7 +147,7 @@ impl<'a> Files for Runtime<'a> {
     }
 
     fn metadata(&self, path: &str) -> io::Result<Metadata> {
-        match path {
+        match self.within(path) {
             "a.d64" => self.memory.image.looked_at(),
             "s.txt" => self.memory.script.looked_at(),
             "." => self.memory.folder.found(),
@@ -139,14 +166,14 @@ impl<'a> Files for Runtime<'a> {
     }
 
     fn rename(&self, from: &str, to: &str) -> io::Result<()> {
-        match (from, to) {
+        match (self.within(from), self.within(to)) {
             ("a.d64-log.new", "a.d64-log") => self.memory.name_log(),
             _ => self.meddles(),
         }
     }
 
     fn remove_file(&self, path: &str) -> io::Result<()> {
-        match path {
+        match self.within(path) {
             "a.d64-log" => self.memory.remove(self.memory.log()),
             "a.d64-log.new" => self.memory.remove(self.memory.making()),
             _ => self.meddles(),

@@ -2,6 +2,8 @@
 #![tactic(auto)]
 
 #[cfg(test)]
+mod command_rows;
+#[cfg(test)]
 mod comparing;
 #[cfg(test)]
 mod deleting_rows;

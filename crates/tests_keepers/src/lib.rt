@@ -18,6 +18,8 @@ mod fault_rows;
 #[cfg(test)]
 mod field_rows;
 #[cfg(test)]
+mod hole_rows;
+#[cfg(test)]
 mod line_rows;
 mod listed_rows;
 #[cfg(test)]

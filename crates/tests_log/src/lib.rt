@@ -5,6 +5,8 @@
 #[cfg(test)]
 mod comparing;
 #[cfg(test)]
+mod hole_rows;
+#[cfg(test)]
 mod life_rows;
 #[cfg(test)]
 mod log_rows;

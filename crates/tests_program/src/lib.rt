@@ -18,6 +18,8 @@ mod failing_rows;
 #[cfg(test)]
 mod file_rows;
 #[cfg(test)]
+mod hole_rows;
+#[cfg(test)]
 mod hurts;
 #[cfg(test)]
 mod input_rows;

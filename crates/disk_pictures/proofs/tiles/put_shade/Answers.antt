@@ -17,7 +17,7 @@ loop-below-preserved g c =
     let d = c.args.drawing.now in
     begun-more _ _ _ (shade_head c.args.number) c.loop-below.below
     (λ b. each_below 21 (λ s. at_place (own_stroke c.args.found d.map (drawn_in d) c.args.number) (place_at (b + 1) s)))
-    c.loop-below.invariant c.in_ok-put_strokes_on.ensures.ok
+    c.loop-below.invariant c.in_ok-put_track.ensures.ok
 
 pub returns-clause-ok : goal.returns-clause-ok
 unfolding shade_path each_place

@@ -3,7 +3,7 @@ use Rattle.disk_pictures.specs.ComparedPages.{record_text}
 use Rattle.disk_pictures.specs.Drawings.{file_in}
 use Rattle.disk_pictures.specs.Texts.{each_below}
 use Rattle.std.specs.Io.KnownBytes.{Appends}
-use Rattle.disk_pictures.proofs.changes.put_records.Given as goal
+use Rattle.disk_pictures.proofs.changed_records.put_records.Given as goal
 
 abbrev pub invariant-loop-number : goal.invariant-loop-number
 invariant-loop-number g l = Appends (g.W.Write.contents l.fn.out) (g.W.Write.contents l.out)

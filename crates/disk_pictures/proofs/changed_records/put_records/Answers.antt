@@ -6,7 +6,7 @@ use Rattle.disk_pictures.proofs.ChangedRows.{all-records, no-records}
 use Rattle.disk_pictures.proofs.Printing.{all-below, below-more, none-below}
 use Rattle.disk_pictures.specs.ComparedPages.{record_text}
 use Rattle.disk_pictures.specs.Drawings.{file_in}
-use Rattle.disk_pictures.proofs.changes.put_records.Goals as goal
+use Rattle.disk_pictures.proofs.changed_records.put_records.Goals as goal
 
 pub returns-in_default-clause-ok : goal.returns-in_default-clause-ok
 returns-in_default-clause-ok g c =

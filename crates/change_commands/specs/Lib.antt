@@ -1,0 +1,4 @@
+-- The definitions of this crate.
+pub mod Deletes
+pub mod Faults
+pub mod Renames

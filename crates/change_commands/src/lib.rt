@@ -1,0 +1,12 @@
+//! Changes to the files of an image, as commands: judged, made, and printed.
+#![tactic(auto)]
+
+mod deleting;
+mod faults;
+mod judging;
+mod output;
+mod renaming;
+
+pub use deleting::delete_image;
+pub use faults::EditFault;
+pub use renaming::rename_image;

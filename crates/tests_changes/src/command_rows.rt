@@ -1,0 +1,120 @@
+//! Changes of an image as commands: what they print, and what they refuse.
+use crate::comparing::{differs_in, same_at};
+use crate::disks::{blank, with_type};
+use change_commands::{EditFault, delete_image, rename_image};
+use d64_image::MemDisk;
+use std::process::Abort;
+
+/// Renames an entry of a disk in memory that holds this image: how that ends, what is printed, and the disk.
+fn renamed(
+    rt: &(impl Abort + AllocGlobal),
+    before: &MemDisk,
+    from: &[u8],
+    to: &[u8],
+) -> (Result<(), EditFault>, Vec<u8>, MemDisk) {
+    assert!(rt; to.len() <= 16, "no entry has such a name");
+    let mut out = Vec::new(rt.alloc());
+    match MemDisk::load(rt.alloc(), before.bytes()) {
+        Ok(disk) => {
+            let mut disk = disk;
+            let ended = rename_image(rt.alloc(), before.bytes(), from, to, &mut disk, &mut out);
+            (ended, out, disk)
+        }
+        Err(fault) => panic!(rt; "the image isn't taken: {fault:?}"),
+    }
+}
+
+/// Deletes a file of a disk in memory that holds this image: how that ends, what is printed, and the disk.
+fn deleted(
+    rt: &(impl Abort + AllocGlobal),
+    before: &MemDisk,
+    name: &[u8],
+) -> (Result<(), EditFault>, Vec<u8>, MemDisk) {
+    let mut out = Vec::new(rt.alloc());
+    match MemDisk::load(rt.alloc(), before.bytes()) {
+        Ok(disk) => {
+            let mut disk = disk;
+            let ended = delete_image(rt.alloc(), before.bytes(), name, &mut disk, &mut out);
+            (ended, out, disk)
+        }
+        Err(fault) => panic!(rt; "the image isn't taken: {fault:?}"),
+    }
+}
+
+#[test]
+fn changes_are_printed(rt: HostRuntime) {
+    let before = blank(&rt);
+    let (ended, out, disk) = renamed(&rt, &before, b"STOCK", b"OLD");
+    same_at(&rt, ended, Ok(()), "renamed");
+    same_at(&rt, out.as_slice(), b"RENAMED\n", "printed");
+    differs_in(
+        &rt,
+        disk.bytes(),
+        before.bytes(),
+        &[(
+            91_653,
+            b"OLD\xA0\xA0\xA0\xA0\xA0\xA0\xA0\xA0\xA0\xA0\xA0\xA0\xA0",
+        )],
+    );
+    let (ended, out, disk) = deleted(&rt, &before, b"STOCK");
+    same_at(&rt, ended, Ok(()), "deleted");
+    same_at(&rt, out.as_slice(), b"DELETED\n", "printed");
+    differs_in(
+        &rt,
+        disk.bytes(),
+        before.bytes(),
+        &[(91_650, b"\0"), (91_460, b"\x13\xF3\xFF\x1F")],
+    );
+}
+
+/// Sees that a change was refused for this fault, with this status, and that nothing was printed or written.
+fn is_refused(
+    rt: &(impl Abort + AllocGlobal),
+    before: &MemDisk,
+    got: (Result<(), EditFault>, Vec<u8>, MemDisk),
+    fault: EditFault,
+    status: u8,
+) {
+    let (ended, out, disk) = got;
+    same_at(rt, ended, Err(fault), status);
+    same_at(rt, fault.status(), status, fault);
+    same_at(rt, out.as_slice(), b"", fault);
+    differs_in(rt, disk.bytes(), before.bytes(), &[]);
+}
+
+// An entry of the type 04 isn't closed, so its disk isn't sound; a name of seventeen bytes is in no entry.
+#[test]
+fn changes_are_refused(rt: HostRuntime) {
+    let good = blank(&rt);
+    let long = b"SEVENTEEN LETTERS";
+    is_refused(
+        &rt,
+        &good,
+        renamed(&rt, &good, long, b"OLD"),
+        EditFault::NoFile,
+        1,
+    );
+    is_refused(
+        &rt,
+        &good,
+        renamed(&rt, &good, b"STOCK", b"REQUESTS"),
+        EditFault::FileExists,
+        1,
+    );
+    is_refused(&rt, &good, deleted(&rt, &good, long), EditFault::NoFile, 1);
+    let locked = with_type(&rt, 0xC4);
+    is_refused(
+        &rt,
+        &locked,
+        deleted(&rt, &locked, b"STOCK"),
+        EditFault::Locked,
+        1,
+    );
+    let unclosed = with_type(&rt, 0x04);
+    let (ended, _, disk) = renamed(&rt, &unclosed, b"STOCK", b"OLD");
+    same_at(&rt, ended.is_err(), true, "unclosed");
+    differs_in(&rt, disk.bytes(), unclosed.bytes(), &[]);
+    let (ended, _, disk) = deleted(&rt, &unclosed, b"REQUESTS");
+    same_at(&rt, ended.is_err(), true, "unclosed");
+    differs_in(&rt, disk.bytes(), unclosed.bytes(), &[]);
+}

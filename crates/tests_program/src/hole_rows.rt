@@ -1,0 +1,193 @@
+//! Scripts of megabytes, records of each kind of length, images in other folders, outputs that falter once, and refusals
+//! whose explanation leaves a file as it is.
+use crate::comparing::same_at;
+use crate::scenes::{Scene, each, first_scene};
+use ledger_jobs::{Job, do_job, end};
+use std::io::{self, ErrorKind, Write};
+use test_runtime::Runtime;
+
+/// A script of 3,300,000 bytes, of which the first line alone is new: without a disk, on one, and with each sector brought
+/// to the disk.
+const DRY: &[u8] = b"
+script 330000*1,1,S,1,5|
+$ ledger_cli dry s.txt
+prints 330000*1,1,DONE,5|
+";
+
+const PLAYED: &[u8] = b"
+script 330000*1,1,S,1,5|
+$ ledger_cli play a.d64 s.txt
+prints 330000*1,1,DONE,5|
+written
+syncs 1
+";
+
+const SYNCED: &[u8] = b"
+script 330000*1,1,S,1,5|
+$ ledger_cli play --sync a.d64 s.txt
+prints 330000*1,1,DONE,5|
+written
+synced
+";
+
+#[test]
+fn a_script_of_megabytes_is_run_dry(rt: HostRuntime) {
+    each(&rt, DRY);
+}
+
+#[test]
+fn a_script_of_megabytes_is_played(rt: HostRuntime) {
+    each(&rt, PLAYED);
+}
+
+#[test]
+fn a_script_of_megabytes_is_synced(rt: HostRuntime) {
+    each(&rt, SYNCED);
+}
+
+/// A block has 254 bytes.
+const LENGTHS: &[u8] = b"
+$ ledger_cli make a.d64 CARDS --length 127
+prints MADE|
+written
+$ ledger_cli map a.d64
+prints ..LENGTH 127 RECORDS 2|OK|..
+
+$ ledger_cli make a.d64 CARDS --length 253
+prints MADE|
+written
+$ ledger_cli map a.d64
+prints ..LENGTH 253 RECORDS 1|OK|..
+";
+
+#[test]
+fn long_records_have_their_length(rt: HostRuntime) {
+    each(&rt, LENGTHS);
+}
+
+/// The folder of an image is brought to the disk behind each of its three syncs, and once more behind the log's removal.
+const ELSEWHERE: &[u8] = b"
+no image
+$ ledger_cli format in/a.d64 --tills 2
+prints FORMATTED|
+written
+syncs 3
+folder-syncs 4
+
+$ ledger_cli play in/a.d64 s.txt
+prints 1,1,DONE,5|
+written
+";
+
+/// The same at the root.
+const AT_THE_ROOT: &[u8] = b"
+no image
+$ ledger_cli format /a.d64 --tills 2
+prints FORMATTED|
+written
+syncs 3
+folder-syncs 4
+";
+
+#[test]
+fn the_folder_of_an_image_is_synced(rt: HostRuntime) {
+    each(&rt, ELSEWHERE);
+}
+
+#[test]
+fn the_root_of_an_image_is_synced(rt: HostRuntime) {
+    each(&rt, AT_THE_ROOT);
+}
+
+/// Refusals that a person reads more of: each file stays as it was, and none is made.
+const EXPLAINED: &[u8] = b"
+others alone
+person ledger_cli format a.d64 --tills 2
+tells ledger: replacing a.d64, which has 174848 bytes|IN USE|ledger: a.d64: another program has it; end that one first|
+ends 3
+
+unreadable
+person ledger_cli play a.d64 s.txt
+tells FILE|ledger: a.d64: other error|
+ends 3
+
+no image
+log junk
+person ledger_cli format --new a.d64 --tills 2
+tells FILE EXISTS|ledger: a.d64: it or its log is there already; `format` without `--new` replaces it|
+ends 1
+logged
+";
+
+#[test]
+fn explained_refusals_change_no_file(rt: HostRuntime) {
+    each(&rt, EXPLAINED);
+}
+
+/// What an output does at its first call.
+#[derive(Clone, Copy)]
+enum First {
+    TakesAll,
+    TakesNothing,
+    Fails(ErrorKind),
+}
+
+/// An output that takes all from its second call on.
+#[derive(Drop)]
+struct Faltering {
+    first: First,
+    calls: usize,
+}
+
+impl Write for Faltering {
+    fn write(&mut self, buf: &[u8]) -> io::Result<usize> {
+        self.calls = self.calls.saturating_add(1);
+        match self.first {
+            First::TakesNothing if self.calls == 1 => Ok(0),
+            First::Fails(kind) if self.calls == 1 => Err(io::Error::from(kind)),
+            _ => Ok(buf.len()),
+        }
+    }
+
+    fn flush(&mut self) -> io::Result<()> {
+        Ok(())
+    }
+}
+
+const PLAY: Job<'static> = Job::Play {
+    image: "a.d64",
+    script: "s.txt",
+};
+
+/// The status of a play of one line over an output that does so at first, and how often the output is called.
+fn played(scene: &Scene, first: First) -> (u8, usize) {
+    let runtime = Runtime {
+        memory: &scene.memory,
+        words: b"",
+        input: b"",
+    };
+    let mut out = Faltering { first, calls: 0 };
+    let ended = do_job(&runtime, &PLAY, &mut out);
+    let mut told = Vec::new(scene.memory.alloc);
+    (end(ended, &mut told).status, out.calls)
+}
+
+// An output that fails, or takes nothing, isn't asked again; only an interrupted call is made again. A reply is one write.
+#[test]
+fn a_faltering_output_is_not_asked_again(rt: HostRuntime) {
+    let scene = first_scene(&rt);
+    same_at(&rt, played(&scene, First::TakesAll), (0, 1), "all");
+    same_at(&rt, played(&scene, First::TakesNothing), (3, 1), "nothing");
+    same_at(
+        &rt,
+        played(&scene, First::Fails(ErrorKind::Other)),
+        (3, 1),
+        "failed",
+    );
+    same_at(
+        &rt,
+        played(&scene, First::Fails(ErrorKind::Interrupted)),
+        (0, 2),
+        "interrupted",
+    );
+}
