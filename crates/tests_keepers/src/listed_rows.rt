@@ -39,10 +39,10 @@ const ROWS: [Row; 8] = [
         &[(18, 1, 0, &[18, 1]), (18, 1, 2, &[0x04])],
         "LOOP 18/1\nUNCLOSED 18/1 \"STOCK\"\n",
     ),
-    // both entries have a bad record length: one line of both
+    // both entries have a bad record length, and their side sectors have the old ones: one line of both entries
     (
         &[(18, 1, 23, &[0]), (18, 1, 55, &[255])],
-        "BADLENGTH 18/1 \"STOCK\" \"REQUESTS\"\n",
+        "BADLENGTH 18/1 \"STOCK\" \"REQUESTS\"\nBADSIDE 17/1 \"STOCK\"\nBADSIDE 17/3 \"REQUESTS\"\n",
     ),
 ];
 
