@@ -21,6 +21,7 @@ mod field_rows;
 mod hole_rows;
 #[cfg(test)]
 mod line_rows;
+#[cfg(test)]
 mod listed_rows;
 #[cfg(test)]
 mod making_rows;
