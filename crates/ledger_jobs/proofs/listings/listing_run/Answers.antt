@@ -22,7 +22,7 @@ returns-in_err-flush g c =
 
 pub returns : goal.returns
 returns g c = record {
-  ok = listed-kept g.W.Write.contents c.args.image.now c.args.out.now c.list_faults-found.new.out c.flush.new.out
+  ok = listed-kept g.W.Write.contents c.args.image.now c.args.out.now c.list_faults.new.out c.flush.new.out
       c.in_ok-found.found c.in_ok-found.ensures.ok c.in_ok-flush.ensures.kept;
   err = tt;
   untouched = tt;
