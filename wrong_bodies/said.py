@@ -2,20 +2,22 @@
 
 import re
 
+# A file is named below the crate's folder, or below `../CRATE/`.
+
 # what antt says of a goal that it found values for: they were checked, so that no answer closes it
 FALSE = "allow values at which this goal is false"
-GOAL = re.compile(r"(?:note: |error: )?(?:\./)?(src/\S+?):(\d+):\d+: (?:it is not proved that (.*?)|`search` found no proof)"
+GOAL = re.compile(r"(?:note: |error: )?(?:\./|\.\./\w+/)?(src/\S+?):(\d+):\d+: (?:it is not proved that (.*?)|`search` found no proof)"
                   r" \(`([^`]+)`\)(.*)")
-ANSWER = re.compile(r"(?:so far: )?(?:error: )?(?:\./)?(proofs/\S+\.antt):\d+:\d+: error: (?:`([^`]+)`: )?(.*)")
+ANSWER = re.compile(r"(?:so far: )?(?:error: )?(?:\./|\.\./\w+/)?(proofs/\S+\.antt):\d+:\d+: error: (?:`([^`]+)`: )?(.*)")
 # what says that a function waits for one that it calls
-UNREAD = re.compile(r"(?:note: )?(?:\./)?(proofs/\S+\.antt) is not checked until what its function calls")
+UNREAD = re.compile(r"(?:note: )?(?:\./|\.\./\w+/)?(proofs/\S+\.antt) is not checked until what its function calls")
 UNTRIED = re.compile(r"note: `search` has not tried the goals of `([^`]+)`, which wait for a callee's proof")
 # what says that a proof names something that is no longer there
 LOST_NAME = re.compile(r"has no field|is not in scope|has no `|was not admitted")
 # what says that the checker has no proof rules for the form of a body, whatever it means
 FORM = re.compile(r"\[(?:borrow-|unsupported-|linear-)|not covered|not supported")
-UNCOVERED = re.compile(r"fn (\S+?): no proof: .*the borrow checker does not cover this function yet: (src/\S+?):(\d+)")
-SOURCE = re.compile(r"(?:error: )?(?:\./)?(?:src|specs)/\S+?:\d+:\d+: error")
+UNCOVERED = re.compile(r"fn (\S+?): no proof: .*the borrow checker does not cover this function yet: (?:\./|\.\./\w+/)?(src/\S+?):(\d+)")
+SOURCE = re.compile(r"(?:error: )?(?:\./|\.\./\w+/)?(?:src|specs)/\S+?:\d+:\d+: error")
 DIFFERENCE = re.compile(r"one has `(.*?)`\s*\(expected\).*?the other has `(.*?)`\s*\(found\)", re.S)
 
 
@@ -118,7 +120,7 @@ def without(text, names):
 
 def is_unread(said):
     """Why the check came to no goal: the word for it, None where it did."""
-    if any(line.startswith("logic=") for line in said):
+    if any(line.startswith(("logic=", "only=")) for line in said):
         return None
     errors = [line for line in said if SOURCE.match(line)]
     if errors and all(FORM.search(line) for line in errors):
