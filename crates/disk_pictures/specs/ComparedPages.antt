@@ -1,6 +1,6 @@
--- The comparison of two disks, before and after: an HTML page with the drawing of the second one, in which sectors that
--- differ are marked, and a list of the files that changed. All of it is our own. Bytes of the disks stand in it as `show`
--- shows them, and names also as `signs` does, and in no other way.
+-- The comparison of two disks, before and after. It is an HTML page with the drawing of the second one, in which sectors
+-- that differ are marked, and a list of the files that changed. All of it is our own. Bytes of the disks stand in it as
+-- `show` shows them, and names also as `signs` does, and in no other way.
 use Rattle.std.specs.Prelude.{ℕ, ◌+◌, ◌||◌, Bool, false, List, [], ◌++◌, Option, Some, None, if◌then◌else◌, codes, decimal, length}
 use Rattle.d64_image.specs.Images.{Image}
 use Rattle.d64_image.specs.declared.place.Place.{Place}
@@ -109,10 +109,12 @@ gone_row show signs name =
     codes "<tr><td></td><td>gone</td><td>" ++ (show name ++ (codes "<bdi>" ++ (signs name
     ++ codes "</bdi></td><td></td><td></td></tr>\n")))
 
+-- the row of an entry of the first disk: none if it has a counterpart
 abbrev pub gone_by : Show → Show → File → Option File → List ℕ
 gone_by show signs g None = gone_row show signs (name_of g.slot)
 gone_by show signs g (Some f) = []
 
+-- the row of entry k of the first disk
 unfoldable pub former_row : Show → Show → Disk → Disk → ℕ → File → List ℕ
 former_row show signs a b k g = gone_by show signs g (counterpart b.layout.files a.layout.files k g)
 

@@ -44,11 +44,12 @@ fn write_over<F: Write + Seek>(file: &mut F, image: &[u8]) -> Result<(), RunFaul
     hand_over(file, &image[DIRECTORY..BEHIND], DIRECTORY as u64)
 }
 
-/// Makes the image of an empty shop with 1 to 64 tills (an odd number gives one more), writes its 174,848 bytes over what
-/// the file holds, and prints so on `out`. A longer file keeps what it held after them: a file can't be cut by writing.
+/// Makes the image of an empty shop with 1 to 64 tills (an odd number gives one more). It writes the 174,848 bytes over
+/// what the file holds, and prints that on `out`. A longer file keeps what it held after them: writing doesn't cut a
+/// file.
 ///
-/// `NoMemory` before anything is written; `File` if the file failed, which then has a beginning of the writes and nothing
-/// is printed, or `out`, which then has a beginning of what is printed.
+/// `NoMemory` before anything is written. `File` if the file failed: then it has the first of the writes, and nothing is
+/// printed. `File` also if `out` failed, which then has a first part of what is printed.
 pub(crate) fn make_image<F: Write + Seek, W: Write>(
     alloc: Global,
     tills: u8,

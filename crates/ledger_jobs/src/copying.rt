@@ -42,7 +42,7 @@ fn copied(ended: Result<(), RunFault>) -> Result<Option<Fault>, RunFault> {
     }
 }
 
-/// Copies the image at a path, as its shop is now, to a file at another, where none may stand.
+/// Copies the image at a path, as its shop is now, to a file at another path, at which there must be none.
 pub(crate) fn do_copying<F, R, W>(
     rt: &R,
     path: &str,

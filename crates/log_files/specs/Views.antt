@@ -14,7 +14,7 @@ pub record Seen : Type 0 where
 abbrev pub HasMark : Seen → Type 0
 HasMark s = (f : List ℕ) × (s.log ≡ Some f) × (is_marked f ≡ true)
 
--- What a writer may do beside a reader.
+-- What a writer may do while a reader looks.
 pub record Goes (s t : Seen) : Type 0 where
   -- with no log nothing: who begins to write has the lock for itself
   pub none : s.log ≡ None → t ≡ s

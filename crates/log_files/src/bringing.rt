@@ -1,4 +1,4 @@
-//! An image that is brought to IMAGE, and a log that is taken away.
+//! An image that is copied into IMAGE, and a log that is removed.
 ghost use Rattle.std.specs.Prelude.{◌≡◌, ◌<◌, [], List, OnErr, OnOk, Some, ℕ, length, slice_index_or, true};
 ghost use Rattle.d64_image.specs.Images.{Image};
 ghost use Rattle.log_files.specs.Bringing.{HasLog, IsAlone, IsBrought, RestsAlone};

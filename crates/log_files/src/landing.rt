@@ -1,4 +1,4 @@
-//! A log that is brought to its image, and removed.
+//! A log whose image is copied into IMAGE, and which is then removed.
 ghost use Rattle.std.specs.Prelude.{◌≡◌, ◌⊎◌, IfErr, IfOk, List, OnErr, OnOk, Some, ℕ, length, option_map, true};
 ghost use Rattle.d64_image.specs.Images.{Image};
 ghost use Rattle.log_files.specs.Bringing.{IsFound, IsSettledAs, RestsAlone};
@@ -119,8 +119,8 @@ fn land_log<F: LogFile, D: LogFolder<F>>(
     Ok(())
 }
 
-/// Lands a log that is there: the folder is settled, the log is judged, and the image that it gives is brought to IMAGE;
-/// then the log is removed. `shop` is that image, or IMAGE's own if there is no log. A power loss at any moment, and an
+/// Lands a log that is there: the folder is settled, the log is checked, the image that it gives is copied into IMAGE,
+/// and the log is removed. `shop` is that image, or IMAGE's own if there is no log. A power loss at any moment, and an
 /// error, leave a folder from which the next opening finds an image that it might have found before. If the log gives no
 /// image, nothing was changed.
 pub fn land<F: LogFile, D: LogFolder<F>>(

@@ -18,7 +18,7 @@ fn bring(kept: &mut [[u8; 256]], now: &[[u8; 256]], marked: &[bool; 683]) -> [bo
     // if every sector that changed is marked, every one is returned, and the image is as it is now
     ensures covers { Covers marked.now kept.old now.now → Covers result kept.old now.now }
     ensures brought { Covers marked.now kept.old now.now → kept.new ≡ now.now }
-    // no sector is returned that is the same
+    // if the disk is unchanged, no sector is returned
     ensures same { kept.old ≡ now.now → NoneTouched result }
 {
     let mut touched = [false; SECTORS];

@@ -1,4 +1,4 @@
-//! Files that are written at places, and brought to the disk.
+//! Files that are written at places, and synced.
 ghost use Rattle.std.specs.Prelude.{◌≡◌, Bool, List, None, OnErr, OnOk, Option, ℕ, true, ⊤};
 ghost use Rattle.shop_commands.specs.Durable.{IsSynced, LastsSo, WritesOver};
 ghost use Rattle.shop_commands.specs.Lasting.{IsSectorIn, Lasting, TakesSector, Whole, unknown_lasting};
@@ -13,10 +13,10 @@ pub trait WritesAt {
     ghost use Rattle.shop_commands.specs.Durable.{AllStays, WritesOver};
     ghost use Rattle.shop_commands.specs.Lasting.{IsSectorIn, LacksASector, StaysOr, TakesSector, overwritten_in};
 
-    // the bytes that it holds, where they are known
+    // the bytes that it holds, if they are known
     ghost held: { Self → Option (List ℕ) } = { λ _. None };
 
-    // the bytes that stay where the machine loses power, where they are known
+    // the bytes that stay if the machine loses power, if they are known
     ghost lasting: { Lasting Self } = { unknown_lasting };
 
     // the bytes that it holds, if it is known that a write that fails stands there whole or not at all
@@ -71,7 +71,7 @@ impl WritesAt for File {
     }
 }
 
-/// When what is written to a file is brought to the disk, where it stays though the machine loses power.
+/// When what is written to a file is synced, so that it stays though the machine loses power.
 #[derive(Clone, Copy, Debug, PartialEq, Eq)]
 pub enum Durability {
     /// Each sector before anything else is done.
@@ -80,7 +80,7 @@ pub enum Durability {
     AtEnd,
 }
 
-/// Writes the bytes of a sector from a place on, and brings them to the disk where each one is.
+/// Writes the bytes of a sector from a place on, and syncs them if each sector is synced.
 #[inline(always)]
 pub(crate) fn write_sector<F: WritesAt>(
     file: &mut F,

@@ -97,7 +97,7 @@ fn put_line_of<W: Write>(
     put_line(out, AnswerText(answer))
 }
 
-/// The same, if there is a request.
+/// Prints the line of a request, if there is one.
 fn put_told<W: Write>(
     out: &mut W,
     word: &[u8],

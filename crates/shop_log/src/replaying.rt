@@ -140,7 +140,7 @@ pub fn read_base(file: &[u8], image: &mut [[u8; 256]]) -> bool
     end > 0
 }
 
-/// Whether the image is being brought to its own file: the byte behind the blocks isn't 0.
+/// Whether the image is being copied into its own file: the byte after the blocks isn't 0.
 pub fn is_marked(file: &[u8]) -> bool
     ensures { result ≡ marked file.now }
 {

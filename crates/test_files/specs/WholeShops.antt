@@ -22,7 +22,7 @@ pub record HoldsAShop (ms : List Message) (old new : WholeFile) : Type 0 where
   -- and so it has at the end
   pub now : (s : Shop) → IsShop (sectors_in (whole_held old)) s → IsAfterSome s ms (whole_held new)
 
--- A script without a reset was played: each line has its reply over the lines before it, in order, each counts, and at
+-- A script without a reset was played. Each line has its reply over the lines before it, in order, and each counts. At
 -- the end the disk has the shop after all of them, at rest.
 pub record IsPlayedInFile {T : Type 0} (o : Output T) (script : List ℕ) (old new : WholeFile) (out new_out : T)
     : Type 0 where

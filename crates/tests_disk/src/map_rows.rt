@@ -25,7 +25,7 @@ const TRACKS: [u8; 34] = [
     31, 4, 32, 3, 33, 2, 34, 1, 35,
 ];
 
-/// Sees that the sectors of a track are picked in their order, and takes them.
+/// Checks that the sectors of a track are picked in their order, and takes them.
 fn is_picked(rt: &impl Abort, map: &mut Bam, track: u8) {
     for sector in 0..21u8 {
         if let Some(place) = Place::new(track, sector) {
@@ -104,7 +104,7 @@ const FOURS: [Four; 5] = [
     ),
 ];
 
-/// Sees that each sector is taken and given back so.
+/// Checks that each sector is taken and given back so.
 fn are_taken(rt: &impl Abort, rows: &[Four]) {
     for &(name, (track, sector), before, taken, given) in rows {
         let place = at(track, sector);

@@ -121,7 +121,7 @@ fn wanted(end: End) -> Reach {
     }
 }
 
-/// Sees that these blocks are reached, and what ends them.
+/// Checks that these blocks are reached, and what ends them.
 fn are_reached(rt: &(impl Abort + AllocGlobal), rows: &[Row]) {
     for &(links, (kind, track, sector), blocks, end) in rows {
         let mut disk = linked(rt, links);
