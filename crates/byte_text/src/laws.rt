@@ -10,7 +10,7 @@ pub fn texts_differ()
     ensures { (xs ys : List ℕ) → AreBytes xs → AreBytes ys → text_of xs ≡ text_of ys → xs ≡ ys }
 {}
 
-/// The line that is written for a record is, without its LF, a line of that record alone. The bytes in it, with zeros
+/// The line that is written for a record is, without its LF, a line only of that record. The bytes in it, with zeros
 /// up to the record's length, are the record.
 pub fn lines_give_records()
     ensures line { (n : ℕ) (r : List ℕ) → (line : List ℕ) → line ++ (10 ∷ []) ≡ record_line n r

@@ -114,7 +114,7 @@ loss_in rows = if is_given (codes "accept-loss") rows then losses.Accepted else 
 abbrev pub unowned_in : List Row → Unowned
 unowned_in rows = if is_given (codes "free") rows then unowneds.Freed else unowneds.Kept
 
--- whether it writes the image: it does, but with --dry-run it prints alone
+-- whether it writes the image: it does, but with --dry-run it only prints
 abbrev pub effect_in : List Row → Effect
 effect_in rows = if is_given (codes "dry-run") rows then effects.Printed else effects.Written
 
@@ -275,7 +275,7 @@ IsTakingJob rows what image (Ok _) = ⊥
 IsTakingJob rows what image (Err faults.Name) = HasNoName rows
 IsTakingJob rows what image (Err _) = ⊥
 
--- the same of the one that makes a relative file
+-- the words ask for this job that makes a relative file, or are at fault
 abbrev pub IsMakingJob : List Row → Text → Result Job JobFault → Type 0
 IsMakingJob rows image (Ok (jobs.Make path name length loss)) =
     (path.now ≡ image) × IsNameOf (value (codes "NAME") rows) (name_bytes name) × (length_in rows ≡ Some length)

@@ -93,7 +93,7 @@ fn add_if(
     Ok(())
 }
 
-/// The same of several faults.
+/// Appends those of several faults that hold and aren't the first one.
 fn add_those(
     links: &Links,
     first: Fault,
@@ -110,7 +110,7 @@ fn add_those(
     Ok(())
 }
 
-/// The same of a sector, if there is such a one.
+/// Appends those that a sector has, if there is such a one.
 fn add_sector(
     links: &Links,
     first: Fault,
@@ -129,7 +129,7 @@ fn add_sector(
     }
 }
 
-/// The same of a track.
+/// Appends those that the sectors of a track have.
 fn add_track(
     links: &Links,
     first: Fault,

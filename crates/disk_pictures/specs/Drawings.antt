@@ -1,4 +1,4 @@
--- What is drawn of a disk, sound or hurt: its directory, and of each entry what its links come to. Our own.
+-- What is drawn of a disk, sound or damaged: its directory, and of each entry what its links come to. Our own.
 use Rattle.std.specs.Prelude.{◌≡◌, ◌≢◌, ◌⊎◌, ℕ, Contains, Some, slice_get, ◌+◌, ◌<◌, ◌≤◌, Bool, ◌&&◌, List, [], ◌∷◌}
 use Rattle.std.specs.Prelude.{map, length, take, if◌then◌else◌, nat_eq, IsTrue, IsFalse}
 use Rattle.std.specs.List.{AllByRecursion, list_any}

@@ -33,7 +33,7 @@ pub record IsDrawnAndJudged (image : List ℕ) (l : Layout) (found : Option Faul
   pub verdict : IsVerdict (sectors_in image) found
   pub few : length l.files ≤ 144
 
--- the same of a drawing as the code holds it
+-- this holds of a drawing as the code holds it
 pub record IsJudged (image : List ℕ) (drawing : Drawing) (found : Option Fault) : Type 0 where
   pub judged : IsDrawnAndJudged image (drawn_in drawing) found
   pub map : drawing.map ≡ map_in image

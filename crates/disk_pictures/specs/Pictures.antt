@@ -42,7 +42,7 @@ ring_text r p =
     ++ (decimal r ++ (codes "\" stroke-dashoffset=\"-" ++ (decimal (p.sector * arc r (sectors_on p.track)) ++ codes
     "\"")))
 
--- the same on the sector's own track, whose dash is among `dashes`
+-- the ring on the sector's own track, whose dash is among `dashes`
 abbrev pub ring_of : Place → List ℕ
 ring_of p = ring_text (radius p.track) p
 
@@ -96,7 +96,7 @@ abbrev pub own_block : Show → Layout → ℕ → File → ℕ → Place → Li
 own_block show l k f n p = if is_blocks k (owner_of l p) then block_arc show (name_of f.slot) (n + 1) (length f.blocks)
     p else []
 
--- the same of a side sector
+-- a side sector of an entry is drawn with it if it is drawn as the entry's
 abbrev pub own_side : Show → Layout → ℕ → File → ℕ → Place → List ℕ
 own_side show l k f n p = if is_sides k (owner_of l p) then side_arc show (name_of f.slot) n p else []
 

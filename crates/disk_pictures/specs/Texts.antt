@@ -17,7 +17,7 @@ unfoldable pub each_below : ℕ → (ℕ → List ℕ) → List ℕ
 each_below zero line = []
 each_below (suc n) line = each_below n line ++ line n
 
--- one of 0, 1 and so on below n is so
+-- one of 0, 1 and so on below n passes the test
 unfoldable pub any_below : ℕ → (ℕ → Bool) → Bool
 any_below zero test = false
 any_below (suc n) test = any_below n test || test n

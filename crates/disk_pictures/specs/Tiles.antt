@@ -34,7 +34,7 @@ pub record IsFaultTile {W : Type 0} (contents : W → Option (List ℕ)) (path i
   pub printed : Appends (contents old) (contents new) (refused_tile html_of path (picture_text fault))
   pub status_is : status ≡ picture_status fault
 
--- the tile of an image was printed, with the exit status that its picture alone would have
+-- the tile of an image was printed, with the exit status that `picture` has for this image
 abbrev pub IsTilePrinted : {W : Type 0} → (W → Option (List ℕ)) → List ℕ → List ℕ → W → W → ℕ → Type 0
 IsTilePrinted contents path image old new status =
     IsDrawnTile contents path image old new status ⊎ IsFaultTile contents path image old new status

@@ -1,4 +1,5 @@
--- What is printed of an image that may have more tracks, or error bytes. Our own, but the error bytes (the D64 layout).
+-- What is printed of an image that may have more tracks, or error bytes. Our own, except the error bytes (the D64
+-- layout).
 use Rattle.std.specs.Prelude.{◌≡◌, ◌⊎◌, ◌↔◌, ℕ, ◌+◌, ◌-◌, ◌*◌, ◌&&◌, Bool, false, IsTrue, List, [], ◌++◌, None, Option, Some}
 use Rattle.std.specs.Prelude.{codes, decimal, flat_map, if◌then◌else◌, length, nat_eq, nat_le, slice_get, slice_index, take}
 use Rattle.std.specs.Io.KnownBytes.{Appends}
@@ -46,11 +47,11 @@ past_from image s i (Some p) = if is_past (slice_index image (256 * index_of p))
 abbrev pub end_of : List Place → Option Place
 end_of ps = slice_get ps (length ps - 1)
 
--- where the blocks of what is drawn of an entry go on past track 35, and where its side sectors do
+-- where the blocks of what is drawn of an entry go on past track 35
 abbrev pub blocks_past : List ℕ → File → Option Place
 blocks_past image f = past_from image f.slot 3 (end_of f.blocks)
 
--- the same of its side sectors
+-- where its side sectors do
 abbrev pub sides_past : List ℕ → File → Option Place
 sides_past image f = if is_rel f.slot then past_from image f.slot 21 (end_of f.sides) else None
 

@@ -21,7 +21,7 @@ pub(crate) enum Owner {
     Nobody,
 }
 
-/// An owner for each place of the disk, so that asking takes the same time for each.
+/// An owner for each place of the disk, so that each is found in equal time.
 #[derive(Drop)]
 pub(crate) struct Owners {
     owners: [Owner; 683],

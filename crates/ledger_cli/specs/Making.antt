@@ -24,7 +24,7 @@ image_writes image =
     ∷ []
 
 module _ {F : Type 0} (position : F → Option ℕ) (bytes contents : F → Option (List ℕ)) where
-  -- a file was sought to n and handed a beginning of these bytes, or all; or the seek failed, and it stayed
+  -- a file was sought to n and handed a prefix of these bytes, or all; or the seek failed, and it stayed
   abbrev pub IsHandedPart : F → F → ℕ → List ℕ → Type 0
   IsHandedPart old new n handed =
       (StaysAt (position old) (position new) × Keeps (bytes old) (bytes new))
@@ -62,7 +62,7 @@ module _ {F : Type 0} (position : F → Option ℕ) (bytes contents : F → Opti
     pub holds : (held : F → Option (List ℕ)) → SaysWhatItHolds held → (all : List ℕ) → held old ≡ Some all
         → held new ≡ Some (image ++ drop 174848 all)
 
-  -- a beginning of its writes was done
+  -- a prefix of its writes was done
   pub record IsImageBegun (tills : ℕ) (old new : F) : Type 0 where
     pub image : List ℕ
     pub fresh : AreFreshBytes tills image

@@ -51,7 +51,7 @@ fn play_lines<D: Sectors, W: Write>(disk: D, script: &[u8], out: &mut W) -> Resu
     }
 }
 
-/// The same on the shop of an image, over the file that keeps the image, which is handed back.
+/// Plays the script on the shop of an image, over the file that keeps the image, which is handed back.
 fn play_over<F: SectorFile, W: Write>(
     alloc: Global,
     image: &[u8],

@@ -40,7 +40,7 @@ pub record IsDurableRun {F : Type 0} {G : Ghosts F} (durability : Durability) (i
   pub left : ImageFile F G
   pub last : ImageFile F G
   pub taken : IsTakenUp durability image file first
-  -- how the run alone ended
+  -- how the run itself ended
   pub end : Ended
   pub run : IsRun first left end
   pub finished : IsFinished end left last ended

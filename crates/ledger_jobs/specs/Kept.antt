@@ -99,7 +99,7 @@ pub record IsStoringRun {D : Type 0} (S : History D) (name text : List ℕ) (old
   pub all : List NewRecord
   pub are_lines : AreLinesOf (record_length file.slot) (records_had file) (lines text) all
   pub held : HeldOnly S old new (IsStoring (S.image old) layout number file all)
-  -- files that are whole are so in each image held; only if a shop's REQUESTS is to grow nothing is said
+  -- files that are whole are whole in each image held; nothing is said of this only if a shop's REQUESTS is to grow
   pub whole : (NeverGrows (HasStock layout) file.slot → greatest all ≤ records_had file) → HoldsWhole S old new
 
 -- And there was room, all of them are stored, and the disk is clean. The output has, in order, the lines of the records

@@ -44,7 +44,7 @@ pub record IsFormatRun {F W : Type 0} (into : Remains F) (contents : W → Optio
       → IsHandedOver into tills file new_file × Appends (contents old) (contents new) (codes "FORMATTED\n")
   -- nothing is said before
   pub first : (new ≡ old) ⊎ IsHandedOver into tills file new_file
-  -- 3: the file or the output failed, and then they have a beginning of what they were to be handed; or there was no
+  -- 3: the file or the output failed, and then they have a prefix of what they were to be handed; or there was no
   -- memory, and then nothing was touched
   pub statuses : (exit_status ended ≡ 0) ⊎ (exit_status ended ≡ 3)
   pub fault : IfErr ended IsFormatFault

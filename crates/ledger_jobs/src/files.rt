@@ -94,7 +94,7 @@ impl<'a, R> AtPath<'a, R> {
 }
 
 impl<R: Files + AllocGlobal> AtPath<'_, R> {
-    /// The file, opened, or made. None is made beside a log alone, which may be all that is left of a shop.
+    /// The file, opened, or made. If only a log is there, none is made: the log may be all that is left of a shop.
     fn made(&mut self) -> io::Result<R::File> {
         let mut how = OpenOptions::new();
         how.write(true);

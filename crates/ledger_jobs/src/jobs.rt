@@ -107,7 +107,7 @@ pub enum Unowned {
 pub enum Effect {
     /// It writes them.
     Written,
-    /// It prints them alone, and the image stays as it is.
+    /// Only the lines are printed, and the image stays as it is.
     Printed,
 }
 

@@ -60,7 +60,7 @@ where
     ended
 }
 
-/// Repairs the image at a path, over its file, or a copy of it in memory alone.
+/// Repairs the image at a path, over its file, or only a copy of it in memory.
 pub(crate) fn do_repair<F, R, W>(
     rt: &R,
     path: &str,

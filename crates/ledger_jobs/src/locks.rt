@@ -1,4 +1,4 @@
-//! Image files that a job locks, reads, writes and brings to the disk.
+//! Image files that a job locks, reads, writes and syncs.
 ghost use Rattle.std.specs.Prelude.{◌≡◌, IfOk, IfSome, OnOk, take, vec_items};
 ghost use Rattle.shop_commands.specs.Durable.{IsSynced};
 ghost use Rattle.ledger_jobs.specs.DurableRuns.{IsFinished};

@@ -71,7 +71,7 @@ fn put_tile_of<W: Write>(
     }
 }
 
-/// Reads the image at a path, prints its tile, and returns the exit status that its picture alone would have.
+/// Reads the image at a path, prints its tile, and returns the exit status that `picture` has for it.
 fn put_tile_at<S: ImageSource, W: Write>(
     alloc: Global,
     source: &S,

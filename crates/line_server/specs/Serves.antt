@@ -97,7 +97,7 @@ pub record IsServed {D R T : Type 0} (h : History D) (i : Input R) (a : Answerin
   pub whole : AreWhole handled
   pub lacks : LacksLf rest
   pub read : Consumes (i.remaining old_in) (i.remaining new_in) (handled ++ rest)
-  -- A shop alone is served, and up to the end of the input.
+  -- Only a shop is served, and up to the end of the input.
   pub shop : IfOk result (λ _. IsAShop (h.image disk))
   pub end : IfOk result (λ _. OnSome (i.remaining old_in) (IsAtEnd (i.remaining new_in)))
   -- At Ok each line was served.
@@ -106,21 +106,21 @@ pub record IsServed {D R T : Type 0} (h : History D) (i : Input R) (a : Answerin
   -- The input failed: so was each line that it gave.
   pub input : (s : Shop) → IsShop (h.image disk) s → IfErr result (λ e. e.0 ≡ faults.Input
       → AreServed h i a s handled disk e.1 old_in new_in old new)
-  -- The output failed: each line was handled, and all replies but the last were handed on.
+  -- The output failed: each line was handled, and all replies except the last were handed on.
   pub output : (s : Shop) → IsShop (h.image disk) s → IfErr result (λ e. e.0 ≡ faults.Output
       → AreServedToOutput h i a s handled disk e.1 old_in new_in old new)
   -- The device failed, in the last line.
   pub device : (s : Shop) → IsShop (h.image disk) s → IfErr result (λ e. e.0 ≡ faults.Device
       → AreServedToDevice h i a s handled disk e.1 old_in new_in old new)
-  -- At each moment the shop is that of a counted list of some beginning of the lines.
+  -- At each moment the shop is that of a counted list of some prefix of the lines.
   pub moments : (s : Shop) → IsShop (h.image disk) s
       → HeldBeginnings h s (line_messages handled) disk (disk_of (λ d. d) result)
   -- If the lines ask nothing new, no more was written than an opening writes at most, however serving ends. If the disk
   -- was at rest too, nothing was written.
   pub quiet : (s : Shop) → IsShop (h.image disk) s → AskNothing s (line_messages handled)
       → IsUnwritten h s disk (disk_of (λ d. d) result)
-  -- 952 sectors were written at most, and 3618 for each line, however it ends. They are few, since the count of a
-  -- mirror, and so of a file, is exact below 2^64 - 1 alone.
+  -- At most 952 sectors were written, and 3618 for each line, however it ends. The lines are few, since the count of a
+  -- mirror, and so of a file, is exact only below 2^64 - 1.
   pub writes : (s : Shop) → IsShop (h.image disk) s → AreFew (line_messages handled)
       → IsBounded h (line_messages handled) disk (disk_of (λ d. d) result)
   -- On a shop whose device doesn't fail it answers Ok, unless the input or the output fails.

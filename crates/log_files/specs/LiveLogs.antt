@@ -79,7 +79,7 @@ module _ {F D : Type 0} {G : Ghosts F} (h : FolderHistory D) where
   is_shut (Some log) = log.closed
   is_shut None = true
 
-  -- the files of a folder were left alone, but that its log was closed
+  -- the files of a folder were left alone, except that its log was closed
   abbrev pub IsLeftAlone : D → Option (Log F G) → D → Type 0
   IsLeftAlone d (Some log) new = IsClosedAlone h G.history d (log_file log) new
   IsLeftAlone d None new = new ≡ d

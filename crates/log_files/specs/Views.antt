@@ -5,7 +5,7 @@ use Rattle.shop_log.specs.Recovered.{is_marked}
 use Rattle.log_files.specs.Bringing.{marked_log}
 use Rattle.log_files.specs.Shops.{given_by}
 
--- What stands there. Once the log was opened it is what the open file has, whatever its name leads to by then.
+-- What stands there. After the log was opened, it is what the open file has, whatever its name leads to by then.
 pub record Seen : Type 0 where
   pub log : Option (List ℕ)
   pub image : Image

@@ -56,7 +56,7 @@ pub(crate) fn bring<F: LogFile, D: LogFolder<F>>(
     folder.sync_image()
 }
 
-/// Takes the log's name away, and brings the names to the disk. IMAGE must be what the log gives.
+/// Removes the log's name, and syncs the names. IMAGE must be what the log gives.
 pub(crate) fn unlog<F: LogFile, D: LogFolder<F>>(folder: &mut D) -> io::Result<()>
     ensures any_moment { (shop : Image) → AllLeft D.history folder.old (IsBrought shop)
         → LeavesFolders D.history folder.old folder.new (IsBrought shop) }

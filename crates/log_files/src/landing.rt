@@ -42,7 +42,7 @@ impl From<io::Error> for LogFault {
     }
 }
 
-/// Brings IMAGE and the names to the disk: whoever came before may have been killed.
+/// Syncs IMAGE and the names: a program that came before may have been killed.
 fn settle<F: LogFile, D: LogFolder<F>>(folder: &mut D) -> io::Result<()>
     ensures held { D.history.held folder.new ≡ D.history.held folder.old }
     ensures outcomes { (s : Folder) → D.history.may_leave folder.new s → D.history.may_leave folder.old s }
@@ -75,7 +75,8 @@ fn find<F: LogFile, D: LogFolder<F>>(
     folder.read_log()
 }
 
-/// Brings the image that a log gives to IMAGE, and removes the log: the mark, IMAGE, the name, each synced before the next.
+/// Copies the image that a log gives into IMAGE, and removes the log: the mark, IMAGE, the name, each synced before the
+/// next.
 fn land_found<F: LogFile, D: LogFolder<F>>(
     folder: &mut D,
     now: &[[u8; 256]],

@@ -25,7 +25,7 @@ pub trait LogFolder<F: LogFile> {
         requires within { index < 683 }
         ensures { Acts history self.old self.new (with_sector index sector.now) IsImageWritten result };
 
-    /// Brings IMAGE to the disk.
+    /// Syncs IMAGE.
     fn sync_image(&mut self) -> io::Result<()>
         ensures { Brings history self.old self.new HasImage result };
 
@@ -67,7 +67,7 @@ pub trait LogFolder<F: LogFile> {
     fn remove_log(&mut self) -> io::Result<()>
         ensures { Acts history self.old self.new unlogged IsRemoving result };
 
-    /// Brings the names to the disk.
+    /// Syncs the names.
     fn sync_folder(&mut self) -> io::Result<()>
         ensures { Brings history self.old self.new HasNames result };
 }

@@ -82,12 +82,12 @@ pub fn forget_making<R: Files>(rt: &R, names: &LogNames) -> io::Result<bool> {
     remove_if_there(rt, names.making())
 }
 
-/// Brings the names in the folder of an image to the disk.
+/// Syncs the names in the folder of an image.
 pub(crate) fn sync_names<R: Files>(rt: &R, names: &LogNames) -> io::Result<()> {
     File::open(rt, names.folder())?.sync_all()
 }
 
-/// Removes a log and a log in the making, for an image that is to be replaced, and brings that to the disk. Whether a
+/// Removes a log and a log in the making, for an image that is to be replaced, and syncs that. Returns whether a
 /// log was there. At an error the log may be there, or not.
 pub fn forget_log<R: Files>(rt: &R, names: &LogNames) -> io::Result<bool> {
     forget_making(rt, names)?;

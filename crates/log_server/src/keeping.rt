@@ -10,7 +10,8 @@ use std::io;
 /// How many sectors a disk has.
 const SECTORS: usize = 683;
 
-/// Brings the image that was committed last to what it is now, and returns which of the marked sectors that changed.
+/// Makes the kept image, which is the one committed last, equal to the image of now. Returns which of the marked sectors
+/// changed.
 fn bring(kept: &mut [[u8; 256]], now: &[[u8; 256]], marked: &[bool; 683]) -> [bool; 683]
     requires kept { length kept.old ≡ 683 }
     requires now { length now.now ≡ 683 }

@@ -19,7 +19,7 @@ abbrev pub IsOverwritten : (old new : Option (List ℕ)) → ℕ → List ℕ �
 IsOverwritten None new n bytes = new ≡ None
 IsOverwritten (Some all) new n bytes = n + length bytes ≤ length all → new ≡ Some (overwritten all n bytes)
 
--- at an error a beginning of them stands there
+-- at an error a prefix of them stands there
 abbrev pub WritesOver : {E : Type 0} → (old new : Option (List ℕ)) → ℕ → List ℕ → Result Unit E → Type 0
 WritesOver old new n bytes (Ok _) = IsOverwritten old new n bytes
 WritesOver old new n bytes (Err _) = (count : ℕ) × IsOverwritten old new n (take count bytes)

@@ -33,7 +33,7 @@ abbrev pub FreshIsAShop : Type 0
 FreshIsAShop = (tills : ℕ) (img : Image) → 1 ≤ tills → tills ≤ 64 → IsFreshDisk img tills
     → IsSettled img (fresh_shop tills)
 
--- what is shown of a fresh disk is its top alone: no card, and no request of any till
+-- what is shown of a fresh disk is only its top: no card, and no request of any till
 abbrev pub FreshShowsItsTop : Type 0
 FreshShowsItsTop = (tills : ℕ) (img : Image) (s : Shop) → 1 ≤ tills → tills ≤ 64 → IsFreshDisk img tills
     → IsShop img s → shown_shop s.top s.state ≡ top_line (blank_top tills)

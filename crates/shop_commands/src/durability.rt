@@ -30,8 +30,8 @@ pub trait WritesAt {
     // whether one of its calls may have failed
     ghost has_failed: { Self → Bool } = { λ _. true };
 
-    /// Writes all these bytes over those from that place on, in bytes from the file's start. At an error a beginning of
-    /// them was written. All of a sector comes to the disk or nothing, if all the rest is there already.
+    /// Writes all these bytes over those from that place on, in bytes from the file's start. At an error a prefix of them
+    /// was written. If all the rest is on the disk already, all of a sector comes there or nothing.
     fn write_all_at(&mut self, bytes: &[u8], at: u64) -> io::Result<()>
         ensures written { WritesOver (held self.old) (held self.new) at bytes.now result }
         ensures stays { AllStays held lasting self.old → IsSectorIn (lasting.bytes self.old) at bytes.now
@@ -41,8 +41,8 @@ pub trait WritesAt {
         ensures failed { OnErr result (has_failed self.new ≡ true) }
         ensures passed { OnOk result (has_failed self.new ≡ has_failed self.old) };
 
-    /// Brings what it holds to the disk, whoever wrote it. At an error any of what wasn't there may be, or not, and
-    /// asking again says nothing: the caller doesn't go on.
+    /// Syncs what it holds, whichever program wrote it. At an error any of what wasn't there may be, or not, and a
+    /// further sync says nothing: the caller doesn't go on.
     fn sync(&mut self) -> io::Result<()>
         ensures same { held self.new ≡ held self.old }
         ensures lasting { OnOk result (AllStays held lasting self.new) }

@@ -101,8 +101,8 @@ impl<F: WritesAt> ImageFile<F> {
         file
     }
 
-    /// Brings all that was written to the disk, if that wasn't done after each sector. A file that failed to bring
-    /// a sector there isn't asked again. If each is there, and none failed, there is nothing to bring, and no error.
+    /// Syncs all that was written, if that wasn't done after each sector. A file whose sync failed isn't asked again. If
+    /// each sector was synced, and none failed, there is nothing to sync, and no error.
     pub fn finish(&mut self) -> io::Result<()>
         ensures { BringsAll self.old self.new result }
     {

@@ -112,7 +112,7 @@ pub(crate) fn put_shop<D: Sectors, W: Write>(
 pub fn show_image<W: Write>(alloc: Global, image: &[u8], out: &mut W) -> Result<(), RunFault>
     // What is shown is the shop that the image is, at rest.
     ensures ok { OnOk result (IsShown W.contents image.now out.old out.new) }
-    // What is reported holds, and a shop is refused for memory or the output alone.
+    // What is reported holds, and a shop is refused only for memory or the output.
     ensures err { IfErr result (IsShowFault image.now) }
     // At a refusal something was printed only if the output failed.
     ensures untouched { IfErr result (λ fault. (fault ≢ faults.File) → out.new ≡ out.old) }

@@ -58,7 +58,7 @@ impl<F: LogFile> Log<F> {
         requires sized { length image.now ≡ 683 }
         requires empty { (f : List ℕ) → F.history.held file ≡ Some f → f ≡ [] }
         ensures ok { IfOk result (λ log. F.history.held file ≡ Some [] → StandsFor log image.now image.now) }
-        // it takes a commit, whatever that has
+        // it takes a commit, whatever sectors that has
         ensures room { IfOk result (λ log. takes_none log ≡ false) }
         // an error is returned only after a failure of the file
         ensures cause { IfErr result (λ e. F.history.has_failed e.1 ≡ true) }
@@ -94,7 +94,7 @@ impl<F: LogFile> Log<F> {
         }
     }
 
-    /// Whether it is too full for one more commit, whatever that has.
+    /// Whether it is too full for one more commit, whatever sectors that has.
     pub fn is_full(&self) -> bool
         ensures { result ≡ false ↔ log_end self.now + 46 ≤ 1024 }
     {
@@ -148,7 +148,7 @@ impl<F: LogFile> Log<F> {
     pub fn mark(&mut self) -> io::Result<()>
         ensures marked { OnOk result ((start now : Image) → StandsFor self.old start now
             → (c : List ℕ) → F.history.may_leave (log_file self.new) c → is_marked c ≡ true) }
-        // a power loss at any moment leaves the same image and base
+        // a power loss at any moment leaves this image and this base
         ensures any_moment { (start now : Image) → StandsFor self.old start now
             → LeavesOnly F.history (log_file self.old) (log_file self.new) (IsLeft start now now) }
         ensures closed { is_closed self.new }

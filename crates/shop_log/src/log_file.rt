@@ -15,8 +15,8 @@ pub trait LogFile: Drop {
     fn write_at(&mut self, at: usize, bytes: &[u8]) -> io::Result<()>
         ensures { WritesBytes history self.old self.new at bytes.now result };
 
-    /// Brings the file to the disk, so that a power loss leaves what a read returns. At an error any of what wasn't
-    /// there may be, or not, and a further sync says nothing: the caller stops.
+    /// Syncs the file: after that a power loss leaves what a read returns. At an error any of what wasn't there may be,
+    /// or not, and a further sync says nothing: the caller stops.
     fn sync(&mut self) -> io::Result<()>
         ensures { SyncsBytes history self.old self.new result };
 }

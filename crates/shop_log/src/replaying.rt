@@ -97,7 +97,7 @@ fn wipe(image: &mut [[u8; 256]])
     }
 }
 
-/// Brings the sectors of the file's first n blocks into an image of zeros.
+/// Puts the sectors of the file's first n blocks into an image of zeros.
 fn replay(file: &[u8], n: usize, image: &mut [[u8; 256]])
     requires within { 4096 * n ≤ length file.now }
     requires sized { length image.old ≡ 683 }

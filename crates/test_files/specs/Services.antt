@@ -60,7 +60,7 @@ pub record IsServedToDisk {R T : Type 0} (i : Input R) (a : Answering T) (old ne
   pub whole : AreWhole handled
   pub lacks : LacksLf rest
   pub read : Consumes (i.remaining old_in) (i.remaining new_in) (handled ++ rest)
-  -- wherever power was lost, the disk has the shop after a beginning of these lines
+  -- wherever power was lost, the disk has the shop after a prefix of these lines
   pub stays : StaysAShop (line_messages handled) old new
   -- done, the input is at its end, and each line was served
   pub end : OnOk ended (OnSome (i.remaining old_in) (IsAtEnd (i.remaining new_in)))

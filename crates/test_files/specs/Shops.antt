@@ -24,7 +24,7 @@ WereThere old new all = file_lasting.stayed new (file_lasting.moment old) all
 abbrev pub IsAfterSome : Shop → List Message → List ℕ → Type 0
 IsAfterSome s ms all = (length all ≡ 174848) × IsSomeBeginning s ms (λ _. Unit {0}) (sectors_in all)
 
--- Whenever power was lost from `old` to `new`, the disk has the shop after a beginning of the messages.
+-- Whenever power was lost from `old` to `new`, the disk has the shop after a prefix of the messages.
 pub record StaysAShop (ms : List Message) (old new : DiskFile) : Type 0 where
   pub each : (s : Shop) → IsShop (sectors_in (bytes_there old)) s → (all : List ℕ) → WereThere old new all
       → IsAfterSome s ms all

@@ -43,7 +43,7 @@ pub struct DiskFile {
     calls: u64,
     /// How many bytes a write that fails has written.
     part: usize,
-    /// Whether a failing call that brings it to the disk does so.
+    /// Whether a failing sync still brings it to the disk.
     done: bool,
     /// Whether one of its calls failed.
     failed: bool,
@@ -164,7 +164,7 @@ impl DiskFile {
         Ok(())
     }
 
-    /// Brings all that it holds to the disk. A call that fails does so or not.
+    /// Syncs all that it holds. A call that fails does that or not.
     fn bring_all(&mut self) -> io::Result<()>
         ensures held { self.new.held ≡ self.old.held }
         ensures part { self.new.part ≡ self.old.part }

@@ -21,7 +21,7 @@ use shop_commands::{Durability, ImageFile, RunFault};
 use std::alloc::Global;
 
 /// Plays a script on the shop of the image that the file holds: the file then, and how that ended. Wherever power is
-/// lost in it, the disk has the shop after a beginning of the lines.
+/// lost in it, the disk has the shop after a prefix of the lines.
 pub fn play_on_disk<T: ReplySink<KeptMirror<ImageFile<DiskFile>>>>(
     alloc: Global,
     image: &[u8],
@@ -42,8 +42,8 @@ pub fn play_on_disk<T: ReplySink<KeptMirror<ImageFile<DiskFile>>>>(
     play_durably(alloc, image, script, file, Durability::EachSector, out)
 }
 
-/// Plays a script on the shop of the image that the file holds, and brings it to the disk at the end: the file then,
-/// and how that ended. Wherever the program dies in it, the file has the shop after a beginning of the lines.
+/// Plays a script on the shop of the image that the file holds, and syncs it at the end: the file then, and how that
+/// ended. If the program dies at any point of it, the file has the shop after a prefix of the lines.
 pub fn play_in_file<T: ReplySink<KeptMirror<ImageFile<WholeFile>>>>(
     alloc: Global,
     image: &[u8],

@@ -150,7 +150,7 @@ impl Stored {
         }
     }
 
-    /// Brings it to the disk.
+    /// Syncs it.
     pub(crate) fn sync(&self) -> io::Result<()> {
         self.syncs.set(self.syncs.get().saturating_add(1));
         if self.syncs.get() == self.bad_sync.get() {

@@ -12,7 +12,7 @@ static RECORDS: [(&[u8], bool); 12] = [
         A,000000006,I,00042,000000121,1,000000120,00000,000000000\r",
         true,
     ),
-    // Zeros alone, number 0, item 0, item 65536, a colon for a digit, an end with LF.
+    // Only zeros, number 0, item 0, item 65536, a colon for a digit, an end with LF.
     (b"", false),
     (b"A,000000000,S,00015,000000005,0,000000005\r", false),
     (b"A,000000001,S,00000,000000005,0,000000005\r", false),

@@ -237,7 +237,7 @@ fn is_bad(rt: &(impl AllocGlobal + Abort), link: &'static [u8], text: &str) {
     holds(rt, out.is_empty(), text);
 }
 
-/// The same of each of these links.
+/// Checks the refusal of each of these links.
 fn are_bad(rt: &(impl AllocGlobal + Abort), links: &[(&'static [u8], &str)]) {
     for (link, text) in links {
         is_bad(rt, *link, text);

@@ -70,7 +70,7 @@ impl Machine {
             .set((from.min(at), to.max(at.saturating_add(bytes.len()))));
     }
 
-    /// Brings what was written to the disk.
+    /// Syncs what was written.
     fn bring(&self) {
         let (from, to) = self.waiting.get();
         if let (Ok(held), Ok(mut there)) = (self.held.try_borrow(), self.there.try_borrow_mut()) {

@@ -15,7 +15,7 @@ const ROWS: [(u8, u8, usize); 6] = [
     (1, 1, 256),
 ];
 
-/// Checks that a file of zeros that keeps these sectors, each filled with its track, has them there alone.
+/// Checks that a file of zeros that keeps these sectors, each filled with its track, has them there and nothing more.
 fn are_placed(rt: &(impl AllocGlobal + Abort), rows: &[(u8, u8, usize)]) {
     let zeros = filled(rt, 0, 174_848);
     let mut file = ImageFile::new(new_tape(rt, zeros.as_slice(), usize::MAX));

@@ -87,7 +87,7 @@ static SERVICES: [Service; 7] = [
     (&[Failed], false, b"", b"TOP 9256\n"),
 ];
 
-/// Checks that each of these is so served.
+/// Checks how each of these is served.
 fn are_served(rt: &(impl AllocGlobal + Abort), image: &[u8], services: &[Service]) {
     for (pieces, whole, replies, shown) in services {
         let mut out = blank_paper(rt);

@@ -132,7 +132,7 @@ fn counted(map: &[u8; 256], directory: &[u8; 256]) -> (u16, u16) {
     (BamView::new(map).blocks_free(), entry.block_count())
 }
 
-/// Checks that a blank disk is so.
+/// Checks that a blank disk has these values.
 fn is_blank(
     rt: &impl Abort,
     disk: Meter<MemDisk>,
@@ -150,7 +150,7 @@ fn is_blank(
     same_at(rt, [first[0], first[1], side[1]], block, tills);
 }
 
-/// Checks that each blank disk is so.
+/// Checks each blank disk.
 fn are_blank(rt: &(impl Abort + AllocGlobal), rows: &[Tills]) {
     for row in rows {
         let tills = row.0;

@@ -31,7 +31,7 @@ fn second_side() -> [u8; 256] {
     side
 }
 
-/// The directory with the long file alone.
+/// The directory with only the long file.
 fn long_directory() -> [u8; 256] {
     let mut directory = [0; 256];
     directory[0..5].copy_from_slice(&[0, 0xFF, 0x84, 1, 0]);

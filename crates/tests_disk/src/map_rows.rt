@@ -5,7 +5,7 @@ use d64_image::Place;
 use disk_layout::Bam;
 use std::process::Abort;
 
-/// A map with a name, on which every sector is free but the two that the map and the directory have.
+/// A map with a name, on which every sector is free except the two that the map and the directory have.
 fn fresh() -> Bam {
     let mut bytes = empty_map();
     bytes[0x90..0x94].copy_from_slice(b"NAME");
@@ -35,7 +35,7 @@ fn is_picked(rt: &impl Abort, map: &mut Bam, track: u8) {
     }
 }
 
-/// The same of these tracks, one after another.
+/// Checks that these tracks are picked, one after another.
 fn are_picked(rt: &impl Abort, map: &mut Bam, tracks: &[u8]) {
     for &track in tracks {
         is_picked(rt, map, track);

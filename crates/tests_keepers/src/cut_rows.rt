@@ -21,7 +21,7 @@ const BLOCK: Change = (17, 4, 0, &[0, 5, 1, 8, 0, 0]);
 /// The map with 17/4 and 17/5 taken: 11 F0 FF 1F before.
 const TAKEN: Change = (18, 0, 68, &[0x0F, 0xC0]);
 
-/// The map with 17/4 taken alone.
+/// The map with only 17/4 taken.
 const OWNED: Change = (18, 0, 68, &[0x10, 0xE0]);
 
 /// Changes, and where the first file is cut short. STOCK has the block 17/0 and the side sector 17/1, REQUESTS 17/2 and

@@ -18,11 +18,11 @@ struct Row {
     told: &'static str,
     /// The length of the map, and its Adler-32.
     map: (usize, u32),
-    /// The same of the page.
+    /// The length of the page, and its Adler-32.
     picture: (usize, u32),
-    /// The same of the poster.
+    /// The length of the poster, and its Adler-32.
     poster: (usize, u32),
-    /// The same of the tile of `a.d64`.
+    /// The length of the tile of `a.d64`, and its Adler-32.
     tile: (usize, u32),
 }
 

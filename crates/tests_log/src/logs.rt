@@ -90,7 +90,7 @@ pub(crate) fn stands_for(rt: &(impl Abort + AllocGlobal), file: &[u8]) -> (bool,
     (based, sum(image.as_slice().as_flattened(), 0, 174_848))
 }
 
-/// The same of the image that it began with.
+/// Whether the file has a base, and the sum of the image that it began with.
 pub(crate) fn began_with(rt: &(impl Abort + AllocGlobal), file: &[u8]) -> (bool, [u8; 4]) {
     let mut image = blank(rt);
     let based = image.len() == 683 && read_base(file, image.as_mut_slice());

@@ -78,7 +78,7 @@ prints 1,1,DONE,5|
 written
 ";
 
-/// The same at the root.
+/// An image at the root is synced so too.
 const AT_THE_ROOT: &[u8] = b"
 no image
 $ ledger_cli format /a.d64 --tills 2

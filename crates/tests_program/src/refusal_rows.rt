@@ -41,7 +41,7 @@ tells IMAGE SIZE|
 ends 1
 ";
 
-/// The same of other jobs.
+/// Refusals of other jobs.
 const OF_OTHERS: &[u8] = b"
 image short
 others reading

@@ -95,7 +95,7 @@ fn images_are_described(rt: HostRuntime) {
     each(&rt, DESCRIBED);
 }
 
-/// The jobs that words with several images ask for; `run` has the bytes of one alone.
+/// The jobs that words with several images ask for; `run` has the bytes of only one.
 const ASKED: &[u8] = b"
 job ledger check a.d64 b.d64
 prints check several, a.d64, b.d64, 2

@@ -102,7 +102,7 @@ fn entry(kind: u8, track: u8, sector: u8) -> Slot {
     }
 }
 
-/// The same as it is returned.
+/// This end as it is returned.
 fn wanted(end: End) -> Reach {
     match end {
         End::At(last) => Reach { last, fault: None },

@@ -93,7 +93,7 @@ fn as_script(
     (told, meter)
 }
 
-/// The same as events.
+/// Plays the lines as events on a copy of the disk.
 fn as_events(
     rt: &(impl Abort + AllocGlobal),
     disk: &MemDisk,

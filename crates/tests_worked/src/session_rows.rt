@@ -4,7 +4,7 @@ use crate::days::{Line, is_played};
 use crate::disks::fresh;
 use std::process::Abort;
 
-/// A set takes two blocks of growth, intent, card and answer; a refusal its answer alone; a repeat nothing.
+/// A set takes two blocks of growth, intent, card and answer; a refusal takes only its answer; a repeat takes nothing.
 const REPEATS: [Line<'static>; 5] = [
     (b"1,1,S,42,120", b"1,1,DONE,120", 13),
     (b"1,1,S,42,120", b"1,1,DONE,120", 0),

@@ -64,7 +64,7 @@ const STOPPED: [Stopped; 4] = [
             (b"1,2,I,42,121", b"", 0),
         ],
     ),
-    // In the whole recovery: nothing passes in it, or the card alone.
+    // In the whole recovery: nothing passes in it, or only the card.
     (1, 1, &[(b"@1 1,1,S,1,5", b"CUT", 0), (b"x", b"", 0)]),
     (2, 1, &[(b"@1/0 1,1,S,1,5", b"CUT", 0), (b"x", b"", 0)]),
 ];
@@ -100,7 +100,7 @@ fn events_stop(
     fuse.into_inner()
 }
 
-/// Checks that each row's lines are stopped so on a blank disk, and leave the same as a script and as events.
+/// Checks that each row's lines are stopped at this point on a blank disk, and leave one disk as a script and as events.
 fn are_stopped(rt: &(impl Abort + AllocGlobal), rows: &[Stopped]) {
     for &(power, count, lines) in rows {
         let wanted = replies_of(rt, lines.get(..count).unwrap_or(lines));
