@@ -185,12 +185,12 @@ module _ {F : Type 0} (position : F → Option ℕ) (bytes contents : F → Opti
   IsJobRun told (jobs.Extract path folder) image script file after old new end =
       (after ≡ file) × (new ≡ old) × (end ≡ Err (refusals.Run run.File))
 
--- what is told of a job's end: nothing where it is done; and else its line, or a beginning of it
+-- what is reported of a job's end: nothing if it is done; otherwise its line, or a first part of that
 abbrev pub IsEndTold : {E : Type 0} → (E → Option (List ℕ)) → E → E → JobEnd → Type 0
 IsEndTold contents old new (Ok _) = new ≡ old
 IsEndTold contents old new (Err refusal) = AppendsPart (contents old) (contents new) (refusal_line refusal)
 
--- a job was run over this file: it ended so, with this status, and that was told
+-- a job was run over this file: it ended so, with this status, and that was reported
 pub record IsRun {F W E : Type 0} (position : F → Option ℕ) (bytes contents : F → Option (List ℕ))
     (printed : W → Option (List ℕ)) (told : E → Option (List ℕ)) (job : Job) (image script : List ℕ)
     (file after : Option F) (old new : W) (err new_err : E) (status : ℕ) : Type 0 where

@@ -8,8 +8,8 @@ use Rattle.ledger_jobs.specs.declared.jobs.Reading.{Reading}
 use Rattle.ledger_jobs.specs.declared.jobs.Reading.TheVariants as readings
 use Rattle.rel_records.specs.File.{IsLength}
 
--- the numbers of a job are in their ranges: tills 1 to 64, and of a file that is made the bytes of a record 1 to 254;
--- and a new file can have its name
+-- the numbers of a job are in their ranges: tills 1 to 64, and the bytes of a record of a file that is made 1 to 254. A
+-- new file can have its name
 abbrev pub IsFit : Job → Type 0
 IsFit (jobs.Format image tills) = (1 ≤ tills) × (tills ≤ 64)
 IsFit (jobs.FormatNew image tills) = (1 ≤ tills) × (tills ≤ 64)

@@ -64,7 +64,7 @@ pub fn play_run<F: SectorFile, T: ReplySink<KeptMirror<F>>>(
     file: F,
     out: &mut T,
 ) -> (F, Result<Option<Fault>, RunFault>)
-    // where it is known what the file keeps, it is this image
+    // if it is known what the file keeps, it is this image
     requires agrees { Agrees (F.keeps.kept file) (sectors_in image.now) }
     ensures run { IsPlayRun F.keeps T.output image.now script.now file result.0 out.old out.new result.1 }
 {
