@@ -38,20 +38,20 @@ pub find-had : (img : Image) (kind : Kind) (name : List ℕ) (directory : List P
     → fault ≡ option_or (option_or ended broken) (shared_fault shared) → IsHad img kind name s blocks last fault
 find-had img kind name directory entries ended read slots listed n first s is now same blocks broken last reached after
     stays sectors are all owned shared several fault found = record {
-  directory = directory;
-  entries = slots;
-  ended = ended;
-  read = subst (λ (ss : List Slot). IsReadSoFar img directory ss ended) (sym listed) read;
-  number = n;
-  first = first;
-  entry = slot-is slots kind name n s first is;
-  broken = broken;
-  reached = subst (λ (i : Image). IsReached i s blocks broken last) same reached;
-  all = all;
-  owned = subst (λ (i : Image). IsOwned i directory slots all) stays
-      (subst (λ (ps : List Place). IsOwned after ps slots all) are owned);
-  fault_is = found ∙ ap (λ (o : Option Place). option_or (option_or ended broken) (shared_fault o)) several;
-}
+      directory = directory;
+      entries = slots;
+      ended = ended;
+      read = subst (λ (ss : List Slot). IsReadSoFar img directory ss ended) (sym listed) read;
+      number = n;
+      first = first;
+      entry = slot-is slots kind name n s first is;
+      broken = broken;
+      reached = subst (λ (i : Image). IsReached i s blocks broken last) same reached;
+      all = all;
+      owned = subst (λ (i : Image). IsOwned i directory slots all) stays
+          (subst (λ (ps : List Place). IsOwned after ps slots all) are owned);
+      fault_is = found ∙ ap (λ (o : Option Place). option_or (option_or ended broken) (shared_fault o)) several;
+    }
 
 -- where an entry stands among the others in memory
 pub slot-offset : (n count : ℕ) → n < count → count ≤ 144 → n * 35 < 2 ^ 64

@@ -41,18 +41,8 @@ const WHOLE: [Row; 8] = [
         &[(b"AB", 252)],
         "",
     ),
-    (
-        &[(18, 1, 66, GAME), (17, 6, 0, b"\0\x01AB")],
-        NAME,
-        &[],
-        "",
-    ),
-    (
-        &[(18, 1, 66, GAME), (17, 6, 0, b"\0\0AB")],
-        NAME,
-        &[],
-        "",
-    ),
+    (&[(18, 1, 66, GAME), (17, 6, 0, b"\0\x01AB")], NAME, &[], ""),
+    (&[(18, 1, 66, GAME), (17, 6, 0, b"\0\0AB")], NAME, &[], ""),
     // deleted, kept, and without a block
     (
         &[(
@@ -95,12 +85,7 @@ const WHOLE: [Row; 8] = [
         "",
     ),
     // a relative file of one record
-    (
-        &[(17, 0, 1, b"\x13CARD")],
-        b"STOCK",
-        &[(b"CARD", 14)],
-        "",
-    ),
+    (&[(17, 0, 1, b"\x13CARD")], b"STOCK", &[(b"CARD", 14)], ""),
 ];
 
 const HURT: [Row; 9] = [
