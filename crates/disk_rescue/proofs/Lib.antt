@@ -1,2 +1,4 @@
-pub mod Walked
+pub mod Counts
+pub mod EntryBlocks
 pub mod Sized
+pub mod Walked

@@ -1,2 +1,4 @@
+pub mod Owned
 pub mod Reached
+pub mod Sharing
 pub mod Sizes

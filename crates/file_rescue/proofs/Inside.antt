@@ -19,7 +19,8 @@ use Rattle.petscii_text.specs.declared.file_names.Ending.TheVariants.{Del, Seq, 
 use Rattle.disk_entries.proofs.Lengths.{name-short}
 use Rattle.file_rescue.specs.Folders.{NewFile, StaysInside, new_file}
 use Rattle.disk_entries.specs.Names.{name_of}
-use Rattle.file_rescue.specs.Rescues.{all_files, bytes_in, entry_file, files_from, files_of, index_of_files, line_files, records_length}
+use Rattle.keeper_commands.specs.Found.{records_length}
+use Rattle.file_rescue.specs.Rescues.{all_files, bytes_in, entry_file, files_from, files_of, index_of_files, line_files}
 use Rattle.file_rescue.specs.declared.rescuing.Rescued.{Rescued}
 
 abbrev name : NewFile → List ℕ

@@ -13,7 +13,8 @@ use Rattle.std.specs.Prelude.{codes}
 use Rattle.file_rescue.specs.Folders.{AddsFiles, AddsPart, NewFile, new_file}
 use Rattle.file_rescue.specs.Index.{heading, row_text}
 use Rattle.file_rescue.specs.Sharing.{owned}
-use Rattle.file_rescue.specs.Rescues.{all_files, bytes_in, entry_file, fault_of, files_from, files_of, first_fault, index_of_files, line_files, records_length, row_of, rows_from}
+use Rattle.keeper_commands.specs.Found.{records_length}
+use Rattle.file_rescue.specs.Rescues.{all_files, bytes_in, entry_file, fault_of, files_from, files_of, first_fault, index_of_files, line_files, row_of, rows_from}
 use Rattle.file_rescue.specs.declared.rescuing.Rescued.{Rescued}
 
 -- the file with its bytes, as it is made

@@ -1,6 +1,5 @@
 pub mod Folders
 pub mod Index
 pub mod Memory
-pub mod Owned
 pub mod Rescues
 pub mod Sharing

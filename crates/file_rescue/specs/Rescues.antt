@@ -10,10 +10,12 @@ use Rattle.disk_layout.specs.Directory.{type_byte}
 use Rattle.disk_layout.specs.Layout.{record_length}
 use Rattle.disk_layout.specs.Records.{pieces}
 use Rattle.disk_layout.specs.declared.faults.Fault.{Fault}
-use Rattle.disk_layout.specs.declared.faults.Fault.TheVariants.{OwnedTwice, Unclosed}
+use Rattle.disk_layout.specs.declared.faults.Fault.TheVariants.{Unclosed}
 use Rattle.disk_layout.specs.declared.slot.Slot.{Slot}
 use Rattle.disk_rescue.specs.Reached.{IsReached}
+use Rattle.disk_rescue.specs.Sharing.{first_shared, shared_fault}
 use Rattle.keeper_commands.specs.Bytes.{file_bytes}
+use Rattle.keeper_commands.specs.Found.{records_length}
 use Rattle.keeper_commands.specs.Records.{records_text}
 use Rattle.keeper_commands.specs.declared.faults.KeepFault.{KeepFault}
 use Rattle.keeper_commands.specs.declared.faults.KeepFault.TheVariants as keep
@@ -24,7 +26,7 @@ use Rattle.disk_entries.specs.Directories.{IsReadSoFar}
 use Rattle.file_rescue.specs.Folders.{AddsFiles, AddsPart, NewFile, new_file}
 use Rattle.file_rescue.specs.Index.{heading, row_text}
 use Rattle.disk_entries.specs.Names.{name_of}
-use Rattle.file_rescue.specs.Sharing.{first_shared, owned}
+use Rattle.file_rescue.specs.Sharing.{owned}
 use Rattle.file_rescue.specs.declared.rescuing.Rescued.{Rescued}
 use Rattle.file_rescue.specs.declared.rows.Row.{Row}
 
@@ -42,17 +44,9 @@ pub record AreRescued (img : Image) (slots : List Slot) (files : List Rescued) :
 abbrev pub bytes_in : Image → Rescued → List ℕ
 bytes_in img f = file_bytes img f.blocks.items f.last
 
--- the file has records: it is relative, closed or not, and their length is one that there is
-abbrev pub has_records : Slot → Bool
-has_records s = nat_eq (type_byte s % 16) 4 && (nat_le 1 (record_length s) && nat_le (record_length s) 254)
-
 -- the whole records of L bytes among these bytes, record 1 first
 abbrev pub records_of : ℕ → List ℕ → List (List ℕ)
 records_of L bytes = pieces L (length bytes / L) bytes
-
--- the length of the records of a file that has some
-abbrev pub records_length : Slot → Option ℕ
-records_length s = if has_records s then Some (record_length s) else None
 
 -- The files that are made of entry n: one with its bytes, as 03-MEMBERS.rel; and if it has records, one with their lines,
 -- as 03-MEMBERS.csv. The side sectors aren't needed for these.
@@ -101,10 +95,6 @@ all_files img directory files = files_from img 1 files ++ index_of_files img dir
 -- why a file isn't whole: its chain has a fault; or it has a block that others have too; or it isn't closed
 abbrev pub unclosed : Slot → Option Fault
 unclosed s = if nat_lt (type_byte s) 128 then Some (Unclosed s.sector) else None
-
-abbrev pub shared_fault : Option Place → Option Fault
-shared_fault None = None
-shared_fault (Some p) = Some (OwnedTwice p)
 
 abbrev pub fault_of : Row → Option Fault
 fault_of r = option_or r.fault (option_or (shared_fault r.shared) (unclosed r.slot))

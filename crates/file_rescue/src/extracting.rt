@@ -5,7 +5,7 @@ ghost use Rattle.d64_image.specs.Memory.{disk_image};
 ghost use Rattle.d64_image.specs.declared.place.Place.{Place};
 ghost use Rattle.file_rescue.specs.Folders.{AddsFiles, AddsPart};
 ghost use Rattle.file_rescue.specs.Index.{row_text};
-ghost use Rattle.file_rescue.specs.Owned.{CountsAll};
+ghost use Rattle.disk_rescue.specs.Owned.{CountsAll};
 ghost use Rattle.file_rescue.specs.Rescues.{AreRescued, IsExtractFault, IsExtracted, IsMakeFault, IsRescued, all_files};
 ghost use Rattle.file_rescue.specs.Rescues.{files_from, files_of, first_fault, row_of, rows_from};
 ghost use Rattle.file_rescue.specs.Sharing.{owned};
@@ -15,11 +15,12 @@ use crate::making::{make, make_files};
 use crate::output::put;
 use crate::rescuing::{Rescued, rescue_all};
 use crate::rows::Row;
-use crate::sharing::Owners;
+use crate::sharing::owners_of;
 use arrayvec::ArrayVec;
 use d64_image::{MemDisk, Place};
 use disk_entries::read_so_far;
 use disk_layout::Fault;
+use disk_rescue::Owners;
 use keeper_commands::{KeepFault, load};
 use std::alloc::Global;
 
@@ -113,7 +114,7 @@ fn extract_files<F: NewFolder>(
     ensures err { IfErr result (λ fault. IsMakeFault fault
         × AddsPart (F.files folder.old) (F.files folder.new) (all_files (disk_image disk.old) sectors.now files.now)) }
 {
-    let owners = Owners::of(sectors, files);
+    let owners = owners_of(sectors, files);
     let mut index = Vec::new(alloc);
     put(&mut index, HEADING)?;
     let fault = extract_entries(alloc, disk, folder, &owners, files, &mut index, found)?;

@@ -3,7 +3,7 @@ ghost use Rattle.std.specs.Prelude.{◌≡◌, ◌≤◌, IfErr, IfOk, OnOk, [],
 ghost use Rattle.d64_image.specs.Memory.{disk_image};
 ghost use Rattle.file_rescue.specs.Folders.{AddsFiles, AddsPart, StaysInside, new_file};
 ghost use Rattle.file_rescue.specs.Rescues.{IsMakeFault, IsRescued, bytes_in, entry_file, files_of, line_files};
-ghost use Rattle.file_rescue.specs.Rescues.{records_length};
+ghost use Rattle.keeper_commands.specs.Found.{records_length};
 ghost use Rattle.keeper_commands.specs.declared.faults.KeepFault.TheVariants as faults;
 
 use crate::folders::NewFolder;
@@ -11,8 +11,7 @@ use crate::record_lines::put_records;
 use crate::rescuing::Rescued;
 use d64_image::MemDisk;
 use disk_entries::entry_name;
-use disk_layout::EntryView;
-use keeper_commands::{ByteForm, KeepFault, put_file};
+use keeper_commands::{ByteForm, KeepFault, length_of_records, put_file};
 use petscii_text::{Ending, file_name};
 use std::alloc::Global;
 
@@ -70,19 +69,6 @@ fn bytes_of(alloc: Global, disk: &mut MemDisk, file: &Rescued) -> Result<Vec<u8>
     }
 }
 
-/// The length of the file's records, if it is relative, closed or not, and the length is one that there is.
-fn length_of_records(file: &Rescued) -> Option<u8>
-    ensures { result ≡ records_length file.now.slot }
-{
-    let entry = EntryView::new(&file.slot.bytes);
-    let length = entry.record_length();
-    if entry.type_byte() % 16 == 4 && 1 <= length && length <= 254 {
-        Some(length)
-    } else {
-        None
-    }
-}
-
 /// Makes the file with the lines of the records among these bytes, if entry `number` has records. `File` if the folder
 /// failed, or `NoMemory`.
 fn make_records<F: NewFolder>(
@@ -99,7 +85,7 @@ fn make_records<F: NewFolder>(
         × AddsPart (F.files folder.old) (F.files folder.new)
         (line_files number file.now bytes.now (records_length file.now.slot))) }
 {
-    let Some(length) = length_of_records(file) else {
+    let Some(length) = length_of_records(&file.slot) else {
         return Ok(());
     };
     let mut lines = Vec::new(alloc);

@@ -1,8 +1,9 @@
 -- What is told of a job that isn't done, and its exit status. Our own.
-use Rattle.std.specs.Prelude.{◌≡◌, ◌≢◌, ℕ, ◌++◌, List, codes, decimal, length}
+use Rattle.std.specs.Prelude.{◌≡◌, ◌≢◌, ℕ, ◌++◌, Err, List, None, Ok, Option, Result, Some, codes, decimal, length}
 use Rattle.d64_image.specs.Memory.{sectors_in}
 use Rattle.disk_layout.specs.Fault.{HoldsOfClean, nowhere}
 use Rattle.disk_layout.specs.Texts.{fault_text}
+use Rattle.disk_layout.specs.declared.faults.Fault.{Fault}
 use Rattle.rel_records.specs.declared.faults.RelFault.{RelFault}
 use Rattle.rel_records.specs.declared.faults.RelFault.TheVariants.{Exists, Full, NotFound}
 use Rattle.keeper_commands.specs.declared.faults.KeepFault.{KeepFault}
@@ -42,6 +43,16 @@ keep_fault NotFound = keep.NoFile
 keep_fault Exists = keep.FileExists
 keep_fault Full = keep.DiskFull
 keep_fault fault = keep.Device
+
+-- how a job over a file ends that has this fault, or none
+abbrev pub keep_ended : Option Fault → Result Unit KeepFault
+keep_ended None = Ok tt
+keep_ended (Some fault) = Err (keep.Layout fault)
+
+-- why there is no file, in a directory that ends early with this fault, or doesn't
+abbrev pub keep_none : Option Fault → KeepFault
+keep_none None = keep.NoFile
+keep_none (Some fault) = keep.Layout fault
 
 -- why an image isn't taken into memory
 abbrev pub IsLoadFault : List ℕ → KeepFault → Type 0

@@ -2,6 +2,7 @@ pub mod Bytes
 pub mod ColumnLines
 pub mod Faults
 pub mod Forms
+pub mod Found
 pub mod Kinds
 pub mod Makes
 pub mod Printed

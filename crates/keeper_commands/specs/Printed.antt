@@ -1,15 +1,16 @@
 -- What was printed of a file of an image. All of it is our own.
-use Rattle.std.specs.Prelude.{◌≡◌, ◌-◌, ℕ, List, [], IfErr, OnOk, Option, Result, get_or}
+use Rattle.std.specs.Prelude.{◌≡◌, ◌≢◌, ◌⊎◌, ◌-◌, ℕ, List, [], IfErr, None, OnOk, Option, Result, Some, get_or, length}
 use Rattle.std.specs.Io.KnownBytes.{Appends}
 use Rattle.d64_image.specs.Images.{Image}
 use Rattle.d64_image.specs.Memory.{sectors_in}
 use Rattle.disk_layout.specs.Layout.{File}
 use Rattle.disk_layout.specs.Records.{records}
+use Rattle.disk_layout.specs.declared.faults.Fault.{Fault}
 use Rattle.rel_records.specs.File.{OfItsFile}
 use Rattle.rel_records.specs.declared.rel_file.RelFile.{RelFile}
 use Rattle.rel_records.specs.declared.reading.record_order.LastBlock.{LastBlock}
 use Rattle.rel_records.specs.reading.Kept.{IsKept}
-use Rattle.keeper_commands.specs.Bytes.{HasFile, file_bytes}
+use Rattle.keeper_commands.specs.Bytes.{HasFile, HasNoFile, file_bytes}
 use Rattle.keeper_commands.specs.Forms.{bytes_as, form_line, records_as}
 use Rattle.keeper_commands.specs.Records.{IsRecordFile}
 use Rattle.keeper_commands.specs.declared.faults.KeepFault.{KeepFault}
@@ -25,12 +26,25 @@ pub record AreRecordsPrinted {W : Type 0} (contents : W → Option (List ℕ)) (
   pub is_file : IsRecordFile image name file
   pub printed : Appends (contents old) (contents new) (records_as form (records (sectors_in image) file))
 
--- the bytes of the first closed file of that name, and nothing else, were
+-- the bytes that can be reached of the first closed file of that name, and nothing else, were; and this fault is in the
+-- way of more, or none is
 pub record AreBytesPrinted {W : Type 0} (contents : W → Option (List ℕ)) (form : ByteForm) (image name : List ℕ)
-    (old new : W) : Type 0 where
-  pub file : HasFile image name
+    (fault : Option Fault) (old new : W) : Type 0 where
+  pub file : HasFile image name fault
   pub printed : Appends (contents old) (contents new)
       (bytes_as form (file_bytes (sectors_in image) file.blocks file.last))
+
+-- Why not all bytes of a file are printed. With a fault of the layout those that can be reached are. Where the output
+-- failed, there is such a file
+abbrev pub IsBytesFault : {W : Type 0} → (W → Option (List ℕ)) → ByteForm → (image name : List ℕ) → W → W → KeepFault
+    → Type 0
+IsBytesFault contents form image name old new keep.ImageSize = (length image ≢ 174848) × (new ≡ old)
+IsBytesFault contents form image name old new keep.NoMemory = (length image ≡ 174848) × (new ≡ old)
+IsBytesFault contents form image name old new (keep.Layout fault) =
+    (HasNoFile image name (Some fault) × (new ≡ old)) ⊎ AreBytesPrinted contents form image name (Some fault) old new
+IsBytesFault contents form image name old new keep.NoFile = HasNoFile image name None × (new ≡ old)
+IsBytesFault contents form image name old new keep.File = (fault : Option Fault) × HasFile image name fault
+IsBytesFault contents form image name old new _ = ⊥
 
 -- The line of one record of a file was handed to an output that held `before` and holds `after`. The image that the disk
 -- holds stays.

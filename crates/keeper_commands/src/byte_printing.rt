@@ -1,28 +1,50 @@
 //! The bytes of a file of any type, as they are printed.
-ghost use Rattle.std.specs.Prelude.{◌≡◌, ◌≢◌, IfErr, OnOk};
-ghost use Rattle.keeper_commands.specs.Bytes.{IsBytesFault};
-ghost use Rattle.keeper_commands.specs.Printed.{AreBytesPrinted};
-ghost use Rattle.keeper_commands.specs.declared.faults.KeepFault.TheVariants as faults;
+ghost use Rattle.std.specs.Prelude.{◌≡◌, IfErr, None, OnOk};
+ghost use Rattle.keeper_commands.specs.Faults.{keep_ended, keep_none};
+ghost use Rattle.keeper_commands.specs.Printed.{AreBytesPrinted, IsBytesFault};
 
-use crate::chains::{put_file, walk_file};
+use crate::chains::put_file;
 use crate::faults::KeepFault;
+use crate::finding::{Kind, find_file};
 use crate::forms::ByteForm;
 use crate::loading::load;
-use crate::naming::first_closed;
 use crate::output::flush;
 use arrayvec::ArrayVec;
-use disk_layout::read_directory;
+use disk_layout::Fault;
 use std::alloc::Global;
 use std::io::Write;
+
+/// How a job over a file ends that has this fault, or none.
+fn ended(fault: Option<Fault>) -> Result<(), KeepFault>
+    ensures { result ≡ keep_ended fault }
+{
+    match fault {
+        Some(fault) => Err(KeepFault::Layout(fault)),
+        None => Ok(()),
+    }
+}
+
+/// Why there is no file, in a directory that ends early with this fault, or doesn't.
+fn no_file(ended: Option<Fault>) -> KeepFault
+    ensures { result ≡ keep_none ended }
+{
+    match ended {
+        Some(fault) => KeepFault::Layout(fault),
+        None => KeepFault::NoFile,
+    }
+}
 
 /// Prints the bytes of the first closed entry of this name, whatever its type is, in this form: 254 of each of its
 /// blocks, and of the last one those up to its last index. `name` has no shifted spaces at its end; one of more than
 /// sixteen bytes is never found.
 ///
-/// Nothing but the directory and the file's own chain is judged, so that a file can be taken from a disk that is hurt
-/// elsewhere. `ImageSize`; `NoMemory`; `Layout` where the directory's sectors aren't a chain on track 18, or the
-/// entry's blocks aren't one; `NoFile` where no closed entry has the name. Nothing was printed then. `File` where the
-/// output failed, which may then have a part.
+/// On a damaged disk it prints what can be reached. The directory is read as far as its links lead, and so are the file's
+/// blocks. Then the error is `Layout` with the first of these faults: `BadLink` or `Loop` in the directory; `BadLink` or
+/// `Loop` in the file's chain; `OwnedTwice` at the file's first block that the map, the directory or another entry has
+/// too. Nothing else is judged.
+///
+/// Nothing was printed after `ImageSize`, `NoMemory`, and `NoFile` if no closed entry has the name; nor after `Layout`
+/// if none has it in a directory that ends early. After `File` the output failed, which may have a part.
 pub fn bytes_image<W: Write>(
     alloc: Global,
     image: &[u8],
@@ -30,24 +52,16 @@ pub fn bytes_image<W: Write>(
     form: ByteForm,
     out: &mut W,
 ) -> Result<(), KeepFault>
-    ensures ok { OnOk result (AreBytesPrinted W.contents form image.now name.now out.old out.new) }
-    ensures err { IfErr result (IsBytesFault image.now name.now) }
-    ensures untouched { IfErr result (λ fault. (fault ≢ faults.File) → out.new ≡ out.old) }
+    ensures ok { OnOk result (AreBytesPrinted W.contents form image.now name.now None out.old out.new) }
+    ensures err { IfErr result (IsBytesFault W.contents form image.now name.now out.old out.new) }
 {
     let mut disk = load(alloc, image)?;
-    let mut entries = ArrayVec::new();
-    if let Err(fault) = read_directory(&mut disk, &mut entries) {
-        return Err(KeepFault::Layout(fault));
-    }
-    let slots = entries.as_slice();
-    let Some(number) = first_closed(slots, name) else {
-        return Err(KeepFault::NoFile);
-    };
     let mut blocks = ArrayVec::new();
-    let last = match walk_file(&mut disk, &slots[number], &mut blocks) {
-        Ok(last) => last,
-        Err(fault) => return Err(KeepFault::Layout(fault)),
+    let file = match find_file(&mut disk, Kind::Any, name, &mut blocks) {
+        Ok(file) => file,
+        Err(ended) => return Err(no_file(ended)),
     };
-    put_file(out, &mut disk, blocks.as_slice(), last, form)?;
-    flush(out)
+    put_file(out, &mut disk, blocks.as_slice(), file.last, form)?;
+    flush(out)?;
+    ended(file.fault)
 }

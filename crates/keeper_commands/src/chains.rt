@@ -1,10 +1,10 @@
 //! The blocks of a file, and their bytes as they are printed.
-ghost use Rattle.std.specs.Prelude.{◌≡◌, ◌↔◌, ◌-◌, IfErr, IfOk, IsTrue, OnOk, drop, max, take};
+ghost use Rattle.std.specs.Prelude.{◌≡◌, ◌-◌, IfErr, OnOk, drop, max, take};
 ghost use Rattle.std.specs.Io.KnownBytes.{Appends};
 ghost use Rattle.d64_image.specs.Images.{sector};
 ghost use Rattle.d64_image.specs.Memory.{disk_image};
 ghost use Rattle.disk_layout.specs.Records.{joined};
-ghost use Rattle.keeper_commands.specs.Bytes.{HasFileBlocks, HoldsOfFile, NamesNoBlock, file_bytes};
+ghost use Rattle.keeper_commands.specs.Bytes.{file_bytes};
 ghost use Rattle.keeper_commands.specs.Forms.{bytes_as};
 ghost use Rattle.keeper_commands.specs.declared.faults.KeepFault.TheVariants as faults;
 ghost use Rattle.keeper_commands.specs.declared.forms.ByteForm.TheVariants as forms;
@@ -12,40 +12,9 @@ ghost use Rattle.keeper_commands.specs.declared.forms.ByteForm.TheVariants as fo
 use crate::faults::KeepFault;
 use crate::forms::ByteForm;
 use crate::output::put;
-use arrayvec::ArrayVec;
 use d64_image::{MemDisk, Place, Sectors};
-use disk_layout::{EntryView, Fault, MOST_BLOCKS, Slot, walk_chain};
 use petscii_text::{CharacterSet, Readable};
 use std::io::Write;
-
-/// Whether the entry names no block and may do so: its file has no bytes then.
-fn names_no_block(slot: &Slot) -> bool
-    ensures { IsTrue result ↔ NamesNoBlock slot.now }
-{
-    let entry = EntryView::new(&slot.bytes);
-    !entry.is_relative() && !entry.has_first_block()
-}
-
-/// Fills `blocks` with the blocks of the entry's file in order. The answer is the index of the last used byte in the
-/// last one.
-pub(crate) fn walk_file(
-    disk: &mut MemDisk,
-    slot: &Slot,
-    blocks: &mut ArrayVec<Place, MOST_BLOCKS>,
-) -> Result<u8, Fault>
-    ensures ok { IfOk result (HasFileBlocks (disk_image disk.old) slot.now blocks.new.items) }
-    ensures err { IfErr result (HoldsOfFile (disk_image disk.old) slot.now) }
-    ensures same { disk_image disk.new ≡ disk_image disk.old }
-{
-    if names_no_block(slot) {
-        blocks.clear();
-        return Ok(0);
-    }
-    let Some(first) = EntryView::new(&slot.bytes).first_block() else {
-        return Err(Fault::BadLink(slot.sector));
-    };
-    walk_chain(disk, first, blocks)
-}
 
 /// Prints bytes as text that people read. `File` where the output failed.
 fn put_text<W: Write>(out: &mut W, set: CharacterSet, bytes: &[u8]) -> Result<(), KeepFault>

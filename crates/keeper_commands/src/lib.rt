@@ -6,6 +6,7 @@ mod byte_printing;
 mod chains;
 mod column_lines;
 mod faults;
+mod finding;
 mod forms;
 mod judging;
 mod kinds;
@@ -15,7 +16,6 @@ mod line_printing;
 mod loading;
 mod making;
 mod mending;
-mod naming;
 mod output;
 mod record_printing;
 mod record_storing;
@@ -25,6 +25,7 @@ pub use byte_printing::bytes_image;
 pub use chains::put_file;
 pub use column_lines::plain_lines;
 pub use faults::KeepFault;
+pub use finding::length_of_records;
 pub use forms::{ByteForm, RecordForm};
 pub use laws::{
     fields_come_back, last_lines_count, printed_records_are_stored, records_come_back,

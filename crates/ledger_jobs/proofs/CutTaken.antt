@@ -14,7 +14,7 @@ pub taking-ended : {W : Type 0} (contents : W → Option (List ℕ)) (what : Tak
 taking-ended contents what image name old new (Ok u) (Some p) run seen = (run, seen.1)
 taking-ended contents what image name old new (Ok u) None run seen = elim (cases_eq (length image) 174848) [
   | inl size ↦ (run, seen size)
-  | inr other ↦ let none : ◌≡◌ {A = ℕ} 0 1 = run.size other in cc
+  | inr other ↦ let none : ◌≡◌ {A = ℕ} 0 1 = (run.size other).0 in cc
 ]
 taking-ended contents what image name old new (Err fault) (Some p) run seen = run
 taking-ended contents what image name old new (Err fault) None run seen = run

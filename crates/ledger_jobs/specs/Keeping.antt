@@ -1,5 +1,5 @@
 -- What comes of what a keeper asks of an image, over its bytes and its file. All of it is our own.
-use Rattle.std.specs.Prelude.{◌≡◌, ◌≢◌, ◌⊎◌, ℕ, Bool, if◌then◌else◌, List, Option, Result, Ok, Err, IfErr, IfOk}
+use Rattle.std.specs.Prelude.{◌≡◌, ◌≢◌, ◌⊎◌, ℕ, Bool, if◌then◌else◌, List, None, Option, Result, Ok, Err, IfErr, IfOk}
 use Rattle.std.specs.Prelude.{length, nat_eq}
 use Rattle.d64_image.specs.FileDisks.{in_run}
 use Rattle.d64_image.specs.Keeps.{FileFailed, Keeps}
@@ -9,9 +9,8 @@ use Rattle.d64_image.specs.declared.mem_disk.MemDisk.{MemDisk}
 use Rattle.disk_layout.specs.Directory.{map_place}
 use Rattle.disk_layout.specs.Fault.{Holds, nowhere}
 use Rattle.disk_layout.specs.Layout.{IsSound}
-use Rattle.keeper_commands.specs.Bytes.{IsBytesFault}
 use Rattle.keeper_commands.specs.Faults.{keep_status}
-use Rattle.keeper_commands.specs.Printed.{AreBytesPrinted, AreRecordsPrinted}
+use Rattle.keeper_commands.specs.Printed.{AreBytesPrinted, AreRecordsPrinted, IsBytesFault}
 use Rattle.keeper_commands.specs.Records.{IsRecordsFault}
 use Rattle.keeper_commands.specs.Kinds.{HasFormatByte, HasGeosSign, IsPlainDisk}
 use Rattle.keeper_commands.specs.Repairs.{IsMendedDisk, IsRepairDone, IsRepairFault, IsRepairRun}
@@ -29,23 +28,26 @@ keep_end (Err fault) = keep_status fault
 -- what was asked for of the file of this name was printed
 abbrev pub IsTaken : {W : Type 0} → (W → Option (List ℕ)) → Taking → (image name : List ℕ) → W → W → Type 0
 IsTaken contents (takings.Records form) image name old new = AreRecordsPrinted contents form image name old new
-IsTaken contents (takings.Bytes form) image name old new = AreBytesPrinted contents form image name old new
+IsTaken contents (takings.Bytes form) image name old new = AreBytesPrinted contents form image name None old new
 
--- why it wasn't
-abbrev pub IsTakingFault : Taking → (image name : List ℕ) → KeepFault → Type 0
-IsTakingFault (takings.Records form) image name fault = IsRecordsFault image name fault
-IsTakingFault (takings.Bytes form) image name fault = IsBytesFault image name fault
+-- Why it wasn't, or not all of it. Nothing was printed of records that are refused. Of bytes those were that can be
+-- reached
+abbrev pub IsTakingFault : {W : Type 0} → (W → Option (List ℕ)) → Taking → (image name : List ℕ) → W → W → KeepFault
+    → Type 0
+IsTakingFault contents (takings.Records form) image name old new fault =
+    IsRecordsFault image name fault × (keep_status fault ≡ 1 → new ≡ old)
+IsTakingFault contents (takings.Bytes form) image name old new fault =
+    IsBytesFault contents form image name old new fault
 
 -- what was asked for of the file of a name ended so
 pub record IsTakingRun {W : Type 0} (contents : W → Option (List ℕ)) (what : Taking) (image name : List ℕ) (old new : W)
     (ended : Result Unit KeepFault) : Type 0 where
   -- 0: it was printed
   pub done : keep_end ended ≡ 0 → IsTaken contents what image name old new
-  -- otherwise the reported fault holds
-  pub fault : IfErr ended (IsTakingFault what image name)
-  -- 1: the image has another size, its layout is in the way, or there is no such file; nothing was printed
-  pub size : length image ≢ 174848 → keep_end ended ≡ 1
-  pub untouched : keep_end ended ≡ 1 → new ≡ old
+  -- otherwise the reported fault holds: 1 if the image has another size, its layout is in the way, or there is no such
+  -- file
+  pub fault : IfErr ended (IsTakingFault contents what image name old new)
+  pub size : length image ≢ 174848 → (keep_end ended ≡ 1) × (new ≡ old)
   -- 3: the output failed, or there was no memory
   pub statuses : (keep_end ended ≡ 0) ⊎ ((keep_end ended ≡ 1) ⊎ (keep_end ended ≡ 3))
 

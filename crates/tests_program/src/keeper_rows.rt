@@ -142,8 +142,10 @@ tells LAYOUT BADLINK 18/1|
 ends 1
 syncs 0
 
+# Of a damaged disk what can be reached is printed.
 hurt NO DIRECTORY
 $ ledger_cli bytes a.d64 REQUESTS
+prints \xff\0..
 tells LAYOUT BADLINK 18/1|
 ends 1
 syncs 0
@@ -167,6 +169,7 @@ syncs 0
 
 hurt LOOP
 $ ledger_cli bytes a.d64 STOCK
+prints \xff\0..
 tells LAYOUT LOOP 17/0|
 ends 1
 syncs 0

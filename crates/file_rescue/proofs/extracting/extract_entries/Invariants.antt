@@ -3,7 +3,7 @@ use Rattle.std.proofs.Common.{◌≡◌, ◌++◌, List, take}
 use Rattle.d64_image.specs.Memory.{disk_image}
 use Rattle.d64_image.specs.declared.place.Place.{Place}
 use Rattle.file_rescue.specs.Folders.{AddsFiles}
-use Rattle.file_rescue.specs.Owned.{CountsAll}
+use Rattle.disk_rescue.specs.Owned.{CountsAll}
 use Rattle.file_rescue.specs.Rescues.{files_from, first_fault, rows_from}
 use Rattle.file_rescue.proofs.extracting.extract_entries.Given as goal
 

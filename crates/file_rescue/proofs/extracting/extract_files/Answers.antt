@@ -19,14 +19,14 @@ returns-in_err-make-clause-err g c =
       inl c.in_err-make.ensures.err.0,
       all-part _ _ _ (disk_image c.args.disk.now) c.args.sectors.now c.args.files.now _ _ _ _ c.new-index.ensures.items
           c.in_ok-put.ensures.ok
-          (c.in_ok-fault.ensures.rows (owned c.args.sectors.now c.args.files.now) c.of-owners.ensures)
+          (c.in_ok-fault.ensures.rows (owned c.args.sectors.now c.args.files.now) c.owners_of-owners.ensures)
           c.as_slice.ensures.value c.in_ok-fault.ensures.made c.in_err-make.ensures.err.1,
     )
 
 pub returns-clause-ok : goal.returns-clause-ok
 returns-clause-ok g c = (
   all-made _ _ _ (disk_image c.args.disk.now) c.args.sectors.now c.args.files.now _ _ _ _ c.new-index.ensures.items
-      c.in_ok-put.ensures.ok (c.in_ok-fault.ensures.rows (owned c.args.sectors.now c.args.files.now) c.of-owners.ensures)
+      c.in_ok-put.ensures.ok (c.in_ok-fault.ensures.rows (owned c.args.sectors.now c.args.files.now) c.owners_of-owners.ensures)
       c.as_slice.ensures.value c.in_ok-fault.ensures.made c.in_ok-make.ensures.ok,
-  c.in_ok-fault.ensures.told (owned c.args.sectors.now c.args.files.now) c.of-owners.ensures,
+  c.in_ok-fault.ensures.told (owned c.args.sectors.now c.args.files.now) c.owners_of-owners.ensures,
 )

@@ -15,5 +15,5 @@ returns-in-Bytes g c = record {
   run = rw c.in-Bytes.is
       (bytes-run g.W.Write.contents c.args.image.now c.args.name.now c.args.out.now c.bytes_image.new.out
       _ c.bytes_image.result
-      c.bytes_image.ensures.ok c.bytes_image.ensures.err c.bytes_image.ensures.untouched);
+      c.bytes_image.ensures.ok c.bytes_image.ensures.err);
 }

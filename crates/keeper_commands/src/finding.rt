@@ -1,0 +1,129 @@
+//! The file that is asked for, on a disk that may be hurt.
+ghost use Rattle.std.specs.Prelude.{◌≡◌, ◌↔◌, IfErr, IfOk, IsTrue, MatchOption, slice_range};
+ghost use Rattle.d64_image.specs.Memory.{disk_image};
+ghost use Rattle.disk_rescue.specs.Sharing as sharing;
+ghost use Rattle.keeper_commands.specs.Found as found;
+ghost use Rattle.keeper_commands.specs.Found.{HasNone, HasNoneAsked, IsAsked, IsClosedNamed, IsFirstAsked, IsHad};
+
+use arrayvec::ArrayVec;
+use d64_image::{MemDisk, Place};
+use disk_entries::read_so_far;
+use disk_layout::{EntryView, Fault, MOST_BLOCKS, Slot, padded_name};
+use disk_rescue::{owners_of, reach_file};
+
+/// Which entries of a name are asked for.
+#[derive(Clone, Copy, Debug, PartialEq, Eq)]
+pub enum Kind {
+    /// Those of any type.
+    Any,
+    /// Relative ones whose records have a length that there is.
+    Records,
+}
+
+/// The file of an entry as far as it can be reached.
+#[derive(Clone, Copy)]
+pub(crate) struct FoundFile {
+    /// The entry.
+    pub(crate) slot: Slot,
+    /// The index of the last byte of the last block that is the file's: 0 or 1 if it has none there.
+    pub(crate) last: u8,
+    /// Why this may not be the whole file.
+    pub(crate) fault: Option<Fault>,
+}
+
+/// Whether the entry has the name.
+fn has_padded_name(slot: &Slot, padded: &[u8; 16]) -> bool
+    ensures { IsTrue result ↔ (slice_range slot.now.bytes 5 21 ≡ padded.now) }
+{
+    &slot.bytes[5..21] == &padded[..]
+}
+
+/// Whether the entry is closed, of whatever type, and has this name.
+fn is_named(slot: &Slot, name: &[u8]) -> bool
+    ensures { IsTrue result ↔ IsClosedNamed name.now slot.now }
+{
+    if name.len() > 16 || slot.bytes[2] < 128 {
+        return false;
+    }
+    has_padded_name(slot, &padded_name(name))
+}
+
+/// The length of the entry's records in bytes, 1 to 254, if it is relative, closed or not, and has such a length.
+pub fn length_of_records(slot: &Slot) -> Option<u8>
+    ensures { result ≡ found.records_length slot.now }
+{
+    let entry = EntryView::new(&slot.bytes);
+    let length = entry.record_length();
+    if entry.type_byte() % 16 == 4 && 1 <= length && length <= 254 {
+        Some(length)
+    } else {
+        None
+    }
+}
+
+/// Whether the entry is asked for: it is closed, has this name, and is of this kind.
+fn is_asked(slot: &Slot, kind: Kind, name: &[u8]) -> bool
+    ensures { IsTrue result ↔ IsAsked kind name.now slot.now }
+{
+    match kind {
+        Kind::Any => is_named(slot, name),
+        Kind::Records => is_named(slot, name) && length_of_records(slot).is_some(),
+    }
+}
+
+/// The number, from 0, of the first of these entries that is asked for.
+fn first_asked(slots: &[Slot], kind: Kind, name: &[u8]) -> Option<usize>
+    ensures { MatchOption result (HasNoneAsked slots.now kind name.now) (IsFirstAsked slots.now kind name.now) }
+{
+    for (number, slot) in slots.iter().enumerate() {
+        if is_asked(slot, kind, name) {
+            return Some(number);
+        }
+    }
+    None
+}
+
+/// The fault of a file whose first shared block is this one.
+fn shared_fault(shared: Option<Place>) -> Option<Fault>
+    ensures { result ≡ sharing.shared_fault shared }
+{
+    match shared {
+        Some(place) => Some(Fault::OwnedTwice(place)),
+        None => None,
+    }
+}
+
+/// Fills `blocks` with those that can be reached of the first closed entry of this name and kind, in a directory that is
+/// read as far as its links lead.
+///
+/// Its fault is the first of these: what ends the directory early; what ends the file's chain early; `OwnedTwice` at its
+/// first block that the map, the directory or another entry has too. Without such an entry the error is what ends the
+/// directory early, or none.
+pub(crate) fn find_file(
+    disk: &mut MemDisk,
+    kind: Kind,
+    name: &[u8],
+    blocks: &mut ArrayVec<Place, MOST_BLOCKS>,
+) -> Result<FoundFile, Option<Fault>>
+    ensures ok { IfOk result (λ file.
+        IsHad (disk_image disk.old) kind name.now file.slot blocks.new.items file.last file.fault) }
+    ensures err { IfErr result (HasNone (disk_image disk.old) kind name.now) }
+    ensures same { disk_image disk.new ≡ disk_image disk.old }
+{
+    let mut sectors = ArrayVec::new();
+    let mut entries = ArrayVec::new();
+    let ended = read_so_far(disk, &mut sectors, &mut entries);
+    let slots = entries.as_slice();
+    let Some(number) = first_asked(slots, kind, name) else {
+        return Err(ended);
+    };
+    let slot = slots[number];
+    let reach = reach_file(disk, &slot, blocks);
+    let owners = owners_of(disk, sectors.as_slice(), slots);
+    let shared = owners.first_shared(blocks.as_slice());
+    Ok(FoundFile {
+        slot,
+        last: reach.last,
+        fault: ended.or(reach.fault).or(shared_fault(shared)),
+    })
+}
