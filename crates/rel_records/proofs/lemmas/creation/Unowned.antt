@@ -98,8 +98,7 @@ two-unowned l k block side owns no_block no_side apart =
     let P : List Place → Type 0 = EachOnce in record {
       once = subst P (sym owns) (
         λ c. elim (Contains-cases block side [] c) [ inl e ↦ apart e | inr d ↦ Contains-nil block d ],
-        Contains-nil side,
-        tt,
+        (Contains-nil side, tt),
       );
       none = λ q c own. (let Q : List Place → Type 0 = λ ps. Contains ps q in
           let R : Place → Type 0 = λ x. Contains (map_place ∷ owners l) x in

@@ -54,10 +54,10 @@ module _ (old new : Sector) (n : ℕ) (name : List ℕ) (block side : Place) (L 
       ∙ get_or_append_left (slot_name name) (rest_of side L) 0 k (omega (arith, lt, long))
 
   counted : slice_range (slice_range new (32 * n) (32 * n + 32)) 30 32 ≡ 2 ∷ 0 ∷ []
+  unfolding rel_entry
   counted = entry-counted old new n (rel_entry name block side L 2) low h (2 ∷ 0 ∷ []) refl byte
     where
       byte : (k : ℕ) → k < 2 → slice_index (rel_entry name block side L 2) (28 + k) ≡ get_or (2 ∷ 0 ∷ []) k 0
-      unfolding rel_entry
       byte zero lt = past-name 9
       byte (suc zero) lt = past-name 10
       byte (suc (suc k)) lt = absurd (omega (arith, lt))

@@ -1,0 +1,91 @@
+-- What a new file takes, as it is chosen before anything is written, and the sectors that are written for it. Our own.
+use Rattle.std.specs.Prelude.{◌≡◌, ◌⊎◌, ℕ, ◌+◌, ◌-◌, ◌*◌, ◌<◌, ◌≤◌, ◌++◌, ◌∷◌, List, Contains, MatchOption, OnOk, Result}
+use Rattle.std.specs.Prelude.{drop, length, take}
+use Rattle.d64_image.specs.History.{Changes, History}
+use Rattle.d64_image.specs.Images.{Image, Sector, sector}
+use Rattle.d64_image.specs.declared.faults.DeviceFault.{DeviceFault}
+use Rattle.d64_image.specs.declared.place.Place.{Place}
+use Rattle.disk_layout.specs.Chain.{EachOnce}
+use Rattle.disk_layout.specs.Clean.{IsCleanLayout}
+use Rattle.disk_layout.specs.Directory.{map_place}
+use Rattle.disk_layout.specs.Layout.{Layout, owners}
+use Rattle.disk_layout.specs.Map.{IsFirstOn, IsMapOf}
+use Rattle.file_changes.specs.Puts.{HasPut, HoldsChain, IsPutting, plain_entry}
+use Rattle.file_changes.specs.declared.putting.FileType.{FileType}
+use Rattle.file_changes.specs.declared.put_site.PutSite.{PutSite}
+use Rattle.rel_records.specs.creation.NewFile.{IsEntered, IsLinkedTo, IsNewDirectory}
+use Rattle.rel_records.specs.creation.Room.{IsFirstRoom, IsFullDirectory}
+
+-- these sectors were free, each is there once and not on track 18, and the map has them taken
+pub record TakesSectors (old new : Sector) (ps : List Place) : Type 0 where
+  pub once : EachOnce ps
+  pub off : (p : Place) → Contains ps p → ¬ (p.track ≡ 18)
+  pub unowned : (owned : List Place) → IsMapOf old owned → (p : Place) → Contains ps p → ¬ (Contains owned p)
+  pub owned : (owned : List Place) → IsMapOf old owned → IsMapOf new (ps ++ owned)
+  pub header : (take 4 new ≡ take 4 old) × (drop 144 new ≡ drop 144 old)
+
+-- n bytes need exactly so many sectors
+pub record Fills (n count : ℕ) : Type 0 where
+  pub low : 254 * (count - 1) < n
+  pub high : n ≤ 254 * count
+
+-- the image is clean, and the site has sectors of it that nobody owned, for n bytes
+pub record IsTaking (a : Image) (l : Layout) (n : ℕ) (s : PutSite) : Type 0 where
+  pub clean : IsCleanLayout a l
+  pub count : Fills n (length s.blocks.items)
+  pub once : EachOnce s.blocks.items
+  pub unowned : (p : Place) → Contains s.blocks.items p → ¬ (Contains (map_place ∷ owners l) p)
+  pub header : (take 4 s.map.bytes ≡ take 4 (sector a map_place)) × (drop 144 s.map.bytes ≡ drop 144 (sector a map_place))
+  pub bytes : s.bytes ≡ sector a s.place
+
+-- the entry goes into the first free slot
+pub record IsPutSlot (a : Image) (l : Layout) (n : ℕ) (s : PutSite) : Type 0 where
+  pub taking : IsTaking a l n s
+  pub map : IsMapOf s.map.bytes (s.blocks.items ++ map_place ∷ owners l)
+  pub room : IsFirstRoom a l.directory s.place s.number
+
+-- the entry goes into the lowest free sector of track 18, which follows the directory's last
+pub record IsPutSector (a : Image) (l : Layout) (n : ℕ) (s : PutSite) (fresh : Place) : Type 0 where
+  pub taking : IsTaking a l n s
+  pub map : IsMapOf s.map.bytes (fresh ∷ s.blocks.items ++ map_place ∷ owners l)
+  pub full : IsFullDirectory a l.directory s.place
+  pub lowest : IsFirstOn (sector a map_place) 18 fresh
+  pub on_18 : fresh.track ≡ 18
+  pub no_fresh : ¬ (Contains (map_place ∷ owners l) fresh)
+  pub apart : ¬ (Contains s.blocks.items fresh)
+
+-- the site is right for a new file of n bytes: with a free slot, or with a new directory sector
+abbrev pub IsPutSite : Image → Layout → ℕ → PutSite → Type 0
+IsPutSite a l n s = MatchOption s.fresh (IsPutSlot a l n s) (IsPutSector a l n s)
+
+-- the map is the new one, and these sectors hold these bytes
+pub record HasBlocks (new_map : Sector) (ps : List Place) (bytes : List ℕ) (c : Image) : Type 0 where
+  pub map : sector c map_place ≡ new_map
+  pub chain : HoldsChain c ps bytes
+
+-- the sectors that aren't among these are as they were
+abbrev pub SameBeside : Image → List Place → Image → Type 0
+SameBeside a ps c = (q : Place) → ¬ (Contains ps q) → sector c q ≡ sector a q
+
+-- `bytes` is the site's directory sector with the new file's entry in its slot
+pub record IsPutEntry (kind : FileType) (name : List ℕ) (s : PutSite) (bytes : Sector) : Type 0 where
+  pub first : Place
+  pub begins : (rest : List Place) × (s.blocks.items ≡ first ∷ rest)
+  pub entered : IsEntered s.bytes bytes s.number (plain_entry kind name first (length s.blocks.items))
+  pub few : length name ≤ 16
+
+-- `first_bytes` is a directory sector with the new file's entry alone, and `last` is the site's directory sector with a
+-- link to it
+pub record IsPutDirectory (kind : FileType) (name : List ℕ) (s : PutSite) (fresh : Place) (first_bytes last : Sector)
+    : Type 0 where
+  pub first : Place
+  pub begins : (rest : List Place) × (s.blocks.items ≡ first ∷ rest)
+  pub made : IsNewDirectory first_bytes (plain_entry kind name first (length s.blocks.items))
+  pub linked : IsLinkedTo s.bytes last fresh
+  pub few : length name ≤ 16
+
+-- A file was put on the disk, or the device failed.
+pub record PutsFile {D : Type 0} (S : History D) (old new : D) (l : Layout) (name : List ℕ) (kind : FileType)
+    (bytes : List ℕ) (most : ℕ) (result : Result (Unit {0}) DeviceFault) : Type 0 where
+  pub ok : OnOk result (HasPut (S.image old) l name kind bytes (S.image new))
+  pub moments : Changes S old new most (IsPutting (S.image old) l name kind bytes)
