@@ -1,17 +1,20 @@
 -- What a new file takes, as it is chosen before anything is written, and the sectors that are written for it. Our own.
 use Rattle.std.specs.Prelude.{◌≡◌, ◌⊎◌, ℕ, ◌+◌, ◌-◌, ◌*◌, ◌<◌, ◌≤◌, ◌++◌, ◌∷◌, List, Contains, MatchOption, OnOk, Result}
-use Rattle.std.specs.Prelude.{drop, length, take}
-use Rattle.d64_image.specs.History.{Changes, History}
-use Rattle.d64_image.specs.Images.{Image, Sector, sector}
+use Rattle.std.specs.Prelude.{IfErr, IfOk, Some, ◌≢◌, drop, length, slice_get, take}
+use Rattle.d64_image.specs.History.{Changes, History, OldOr, OnlyReads, TellsFailure, WritesNothing}
+use Rattle.d64_image.specs.Images.{Image, Sector, put, sector}
 use Rattle.d64_image.specs.declared.faults.DeviceFault.{DeviceFault}
 use Rattle.d64_image.specs.declared.place.Place.{Place}
 use Rattle.disk_layout.specs.Chain.{EachOnce}
 use Rattle.disk_layout.specs.Clean.{IsCleanLayout}
 use Rattle.disk_layout.specs.Directory.{map_place}
-use Rattle.disk_layout.specs.Layout.{Layout, owners}
+use Rattle.disk_layout.specs.Layout.{IsLayout, Layout, owners}
 use Rattle.disk_layout.specs.Map.{IsFirstOn, IsMapOf}
-use Rattle.file_changes.specs.Puts.{HasPut, HoldsChain, IsPutting, plain_entry}
-use Rattle.file_changes.specs.declared.putting.FileType.{FileType}
+use Rattle.file_changes.specs.Faults.{TellsChange}
+use Rattle.file_changes.specs.Puts.{HasPut, HoldsChain, IsPutting, RefusesPut, chain_sector, plain_entry}
+use Rattle.file_changes.specs.declared.faults.ChangeFault.{ChangeFault}
+use Rattle.file_changes.specs.declared.faults.ChangeFault.TheVariants.{Device, Exists, Full}
+use Rattle.file_changes.specs.declared.file_type.FileType.{FileType}
 use Rattle.file_changes.specs.declared.put_site.PutSite.{PutSite}
 use Rattle.rel_records.specs.creation.NewFile.{IsEntered, IsLinkedTo, IsNewDirectory}
 use Rattle.rel_records.specs.creation.Room.{IsFirstRoom, IsFullDirectory}
@@ -62,6 +65,28 @@ IsPutSite a l n s = MatchOption s.fresh (IsPutSlot a l n s) (IsPutSector a l n s
 pub record HasBlocks (new_map : Sector) (ps : List Place) (bytes : List ℕ) (c : Image) : Type 0 where
   pub map : sector c map_place ≡ new_map
   pub chain : HoldsChain c ps bytes
+
+-- Sector `block` of the chain of these sectors was written, or the device failed.
+pub record PutsBlock {D : Type 0} (S : History D) (old new : D) (ps : List Place) (block : ℕ) (bytes : List ℕ)
+    (result : Result (Unit {0}) DeviceFault) : Type 0 where
+  pub ok : (p : Place) → slice_get ps block ≡ Some p → OnOk result (S.image new ≡ put (S.image old) p
+      (chain_sector (slice_get ps (block + 1)) (take 254 (drop (254 * block) bytes))))
+  pub moments : (p : Place) → slice_get ps block ≡ Some p → Changes S old new 1 (OldOr (S.image old)
+      (put (S.image old) p (chain_sector (slice_get ps (block + 1)) (take 254 (drop (254 * block) bytes)))))
+  pub reads : S.reads new ≤ S.reads old
+  pub failures : TellsFailure S old new result
+
+-- What a new file takes was chosen, or it was refused; nothing was written.
+pub record ChoosesSite {D : Type 0} (S : History D) (old new : D) (name : List ℕ) (count : ℕ)
+    (result : Result PutSite ChangeFault) : Type 0 where
+  pub ok : (l : Layout) (n : ℕ) → IsLayout (S.image old) l → Fills n count
+      → IfOk result (λ s. IsPutSite (S.image old) l n s × (length s.blocks.items ≡ count))
+  pub refuses : (l : Layout) → IsLayout (S.image old) l → RefusesPut (S.image old) l name count result
+  pub told : IfErr result (λ e. (e ≡ Exists) ⊎ ((e ≡ Full) ⊎ (e ≡ Device)))
+  pub refused : IfErr result (λ e. e ≢ Device → OnlyReads S old new 55)
+  pub quiet : WritesNothing S old new
+  pub reads : OnOk result (S.reads new ≤ S.reads old + 55)
+  pub failures : TellsChange S old new result
 
 -- the sectors that aren't among these are as they were
 abbrev pub SameBeside : Image → List Place → Image → Type 0

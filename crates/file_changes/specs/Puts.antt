@@ -44,8 +44,8 @@ use Rattle.file_changes.specs.Entries.{IsFreeName, entries_of}
 use Rattle.file_changes.specs.Faults.{TellsChange}
 use Rattle.file_changes.specs.declared.faults.ChangeFault.{ChangeFault}
 use Rattle.file_changes.specs.declared.faults.ChangeFault.TheVariants.{Device, Exists, Full}
-use Rattle.file_changes.specs.declared.putting.FileType.{FileType}
-use Rattle.file_changes.specs.declared.putting.FileType.TheVariants.{Prg, Seq, Usr}
+use Rattle.file_changes.specs.declared.file_type.FileType.{FileType}
+use Rattle.file_changes.specs.declared.file_type.FileType.TheVariants.{Prg, Seq, Usr}
 use Rattle.rel_records.specs.creation.Made.{HasFilesOf, IsNewSlot}
 use Rattle.rel_records.specs.creation.Room.{AreFullSectors}
 

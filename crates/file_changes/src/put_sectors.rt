@@ -1,32 +1,11 @@
-//! The sectors of a new file: its chain, and its entry.
-ghost use Rattle.std.specs.Prelude.{◌≡◌, ◌≤◌, ◌<◌, ◌+◌, ◌*◌, ◌∷◌, Contains, List, Option, drop, length, slice_get, take};
-ghost use Rattle.d64_image.specs.History.{TellsFailure};
-ghost use Rattle.d64_image.specs.Images.{put, sector};
-ghost use Rattle.d64_image.specs.declared.place.Place.{Place};
+//! The chain of a new file: its sectors, each with the link to the next.
+ghost use Rattle.std.specs.Prelude.{◌≡◌, ◌≤◌, ◌<◌, ◌*◌, length, take};
 ghost use Rattle.disk_layout.specs.Chain.{EachOnce};
-ghost use Rattle.disk_layout.specs.Directory.{map_place};
-ghost use Rattle.disk_layout.specs.Layout.{Layout};
-ghost use Rattle.file_changes.specs.PutSites.{
-  Fills,
-  HasBlocks,
-  IsPutDirectory,
-  IsPutEntry,
-  IsPutSector,
-  IsPutSite,
-  IsPutSlot,
-  PutsFile,
-  SameBeside,
-};
-ghost use Rattle.file_changes.specs.Puts.{HoldsChain, chain_sector, plain_entry};
-ghost use Rattle.rel_records.specs.Calls.{PutsSector, WritesAtMost};
-ghost use Rattle.rel_records.specs.creation.NewFile.{ChangesOnly};
+ghost use Rattle.file_changes.specs.PutSites.{Fills, PutsBlock, SameBeside};
+ghost use Rattle.file_changes.specs.Puts.{HoldsChain, chain_sector};
+ghost use Rattle.rel_records.specs.Calls.{WritesAtMost};
 
-use crate::put_site::PutSite;
-use crate::putting::FileType;
-use byteorder::{ByteOrder, LittleEndian};
 use d64_image::{DeviceFault, Place, Sectors};
-use disk_layout::{Bam, map_place, padded_name};
-use rel_records::{directory_with, link_to, put_entry};
 
 /// The number of data bytes in a sector.
 const DATA: usize = 254;
@@ -38,14 +17,12 @@ fn chain_bytes(next: Option<Place>, data: &[u8]) -> [u8; 256]
 {
     let used = data.len().min(DATA);
     let mut bytes = [0; 256];
-    bytes[2..2 + used].copy_from_slice(&data[..used]);
-    match next {
-        Some(place) => {
-            bytes[0] = place.track();
-            bytes[1] = place.sector();
-        }
-        None => bytes[1] = used as u8 + 1,
+    bytes[1] = used as u8 + 1;
+    if let Some(place) = next {
+        bytes[0] = place.track();
+        bytes[1] = place.sector();
     }
+    bytes[2..2 + used].copy_from_slice(&data[..used]);
     bytes
 }
 
@@ -58,14 +35,18 @@ fn write_block<D: Sectors>(
 ) -> Result<(), DeviceFault>
     requires block { block < length places.now }
     requires data { 254 * block ≤ length data.now }
-    ensures { WritesBlock D.history disk.old disk.new places.now block data.now result }
+    ensures { PutsBlock D.history disk.old disk.new places.now block data.now result }
 {
     let bytes = chain_bytes(places.get(block + 1).copied(), &data[DATA * block..]);
     disk.write(places[block], &bytes)
 }
 
 /// Writes these data into the chain of these sectors, the last one first: so each links to one that is written.
-fn write_blocks<D: Sectors>(disk: &mut D, places: &[Place], data: &[u8]) -> Result<(), DeviceFault>
+pub(crate) fn write_blocks<D: Sectors>(
+    disk: &mut D,
+    places: &[Place],
+    data: &[u8],
+) -> Result<(), DeviceFault>
     requires once { EachOnce places.now }
     requires count { Fills (length data.now) (length places.now) }
     ensures { WritesAtMost D.history disk.old disk.new (length places.now) 0
