@@ -1,4 +1,5 @@
 -- The lemmas of this crate.
+pub mod Chained
 pub mod DeleteCalls
 pub mod Formatted
 pub mod Mapped
@@ -8,5 +9,6 @@ pub mod RenameCalls
 pub mod Renamed
 pub mod RenamedWhole
 pub mod Reslotted
+pub mod TakenSectors
 pub mod Unlisted
 pub mod UnlistedWhole

@@ -99,7 +99,7 @@ pub record HasPut (a : Image) (l : Layout) (name : List ℕ) (kind : FileType) (
     pub named : slice_range file.slot.bytes 5 21 ≡ slot_name name
     pub blocks : length file.blocks ≡ sectors_for (length (stored bytes))
     pub counted : count_field file.slot ≡ length file.blocks
-    pub data : data_of c file ≡ stored bytes
+    pub holds : data_of c file ≡ stored bytes
 
 -- every image held: it has the files of before, or one more
 abbrev pub IsPutting : Image → Layout → List ℕ → FileType → List ℕ → Image → Type 0

@@ -1,5 +1,6 @@
 //! The chain of a new file: its sectors, each with the link to the next.
-ghost use Rattle.std.specs.Prelude.{◌≡◌, ◌≤◌, ◌<◌, ◌*◌, length, take};
+ghost use Rattle.std.specs.Prelude.{◌≡◌, ◌≤◌, ◌<◌, ◌*◌, ◌+◌, ◌∷◌, [], length, slice_get, take};
+ghost use Rattle.disk_layout.specs.Side.{link_bytes, padded};
 ghost use Rattle.disk_layout.specs.Chain.{EachOnce};
 ghost use Rattle.file_changes.specs.PutSites.{Fills, PutsBlock, SameBeside};
 ghost use Rattle.file_changes.specs.Puts.{HoldsChain, chain_sector};
@@ -10,20 +11,49 @@ use d64_image::{DeviceFault, Place, Sectors};
 /// The number of data bytes in a sector.
 const DATA: usize = 254;
 
+/// Bytes 0-1 of a sector of a chain that holds `used` bytes.
+fn link(next: Option<Place>, used: u8) -> (u8, u8)
+    requires { used ≤ 254 }
+    ensures { result.0 ∷ result.1 ∷ [] ≡ link_bytes next (used + 1) }
+{
+    match next {
+        Some(place) => (place.track(), place.sector()),
+        None => (0, used + 1),
+    }
+}
+
+/// The first 254 of these bytes, or all of them and then zeros.
+fn padded_data(data: &[u8]) -> [u8; 254]
+    ensures { result ≡ padded 254 (take 254 data.now) }
+{
+    let used = data.len().min(DATA);
+    let mut bytes = [0; DATA];
+    bytes[..used].copy_from_slice(&data[..used]);
+    bytes
+}
+
 /// A sector of a chain: the first 254 of these bytes, and the link to the next sector or, without one, 0 and the index of
 /// the last used byte.
 fn chain_bytes(next: Option<Place>, data: &[u8]) -> [u8; 256]
     ensures { result ≡ chain_sector next (take 254 data.now) }
 {
-    let used = data.len().min(DATA);
+    let (track, sector) = link(next, data.len().min(DATA) as u8);
     let mut bytes = [0; 256];
-    bytes[1] = used as u8 + 1;
-    if let Some(place) = next {
-        bytes[0] = place.track();
-        bytes[1] = place.sector();
-    }
-    bytes[2..2 + used].copy_from_slice(&data[..used]);
+    bytes[0] = track;
+    bytes[1] = sector;
+    bytes[2..].copy_from_slice(&padded_data(data));
     bytes
+}
+
+/// The sector after the one with this number, if it isn't the last.
+fn next_of(places: &[Place], block: usize) -> Option<Place>
+    requires { block < length places.now }
+    ensures { result ≡ slice_get places.now (block + 1) }
+{
+    match places.get(block + 1) {
+        Some(next) => Some(*next),
+        None => None,
+    }
 }
 
 /// Writes the sector with this number of the chain of these sectors, which holds these data.
@@ -37,7 +67,7 @@ fn write_block<D: Sectors>(
     requires data { 254 * block ≤ length data.now }
     ensures { PutsBlock D.history disk.old disk.new places.now block data.now result }
 {
-    let bytes = chain_bytes(places.get(block + 1).copied(), &data[DATA * block..]);
+    let bytes = chain_bytes(next_of(places, block), &data[DATA * block..]);
     disk.write(places[block], &bytes)
 }
 
