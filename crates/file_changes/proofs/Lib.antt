@@ -1,11 +1,16 @@
 -- The lemmas of this crate.
+pub mod ChainFiles
 pub mod Chained
 pub mod DeleteCalls
 pub mod Formatted
 pub mod Mapped
 pub mod Overwritten
+pub mod NewChains
 pub mod Patched
 pub mod RenameCalls
+pub mod PlainEntries
+pub mod PutInSector
+pub mod PutInSlot
 pub mod Renamed
 pub mod RenamedWhole
 pub mod Reslotted

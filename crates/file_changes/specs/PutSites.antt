@@ -32,24 +32,25 @@ pub record Fills (n count : ℕ) : Type 0 where
   pub low : 254 * (count - 1) < n
   pub high : n ≤ 254 * count
 
--- the image is clean, and the site has sectors of it that nobody owned, for n bytes
-pub record IsTaking (a : Image) (l : Layout) (n : ℕ) (s : PutSite) : Type 0 where
+-- the image is clean; ps are sectors of it for n bytes that nobody owned, and the new map has the old one's header
+pub record IsTaking (a : Image) (l : Layout) (n : ℕ) (new_map : Sector) (ps : List Place) : Type 0 where
   pub clean : IsCleanLayout a l
-  pub count : Fills n (length s.blocks.items)
-  pub once : EachOnce s.blocks.items
-  pub unowned : (p : Place) → Contains s.blocks.items p → ¬ (Contains (map_place ∷ owners l) p)
-  pub header : (take 4 s.map.bytes ≡ take 4 (sector a map_place)) × (drop 144 s.map.bytes ≡ drop 144 (sector a map_place))
-  pub bytes : s.bytes ≡ sector a s.place
+  pub count : Fills n (length ps)
+  pub once : EachOnce ps
+  pub unowned : (p : Place) → Contains ps p → ¬ (Contains (map_place ∷ owners l) p)
+  pub header : (take 4 new_map ≡ take 4 (sector a map_place)) × (drop 144 new_map ≡ drop 144 (sector a map_place))
 
 -- the entry goes into the first free slot
 pub record IsPutSlot (a : Image) (l : Layout) (n : ℕ) (s : PutSite) : Type 0 where
-  pub taking : IsTaking a l n s
+  pub taking : IsTaking a l n s.map.bytes s.blocks.items
+  pub bytes : s.bytes ≡ sector a s.place
   pub map : IsMapOf s.map.bytes (s.blocks.items ++ map_place ∷ owners l)
   pub room : IsFirstRoom a l.directory s.place s.number
 
 -- the entry goes into the lowest free sector of track 18, which follows the directory's last
 pub record IsPutSector (a : Image) (l : Layout) (n : ℕ) (s : PutSite) (fresh : Place) : Type 0 where
-  pub taking : IsTaking a l n s
+  pub taking : IsTaking a l n s.map.bytes s.blocks.items
+  pub bytes : s.bytes ≡ sector a s.place
   pub map : IsMapOf s.map.bytes (fresh ∷ s.blocks.items ++ map_place ∷ owners l)
   pub full : IsFullDirectory a l.directory s.place
   pub lowest : IsFirstOn (sector a map_place) 18 fresh

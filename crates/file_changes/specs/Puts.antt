@@ -97,9 +97,9 @@ pub record HasPut (a : Image) (l : Layout) (name : List ℕ) (kind : FileType) (
     pub slot : IsNewSlot a l layout file.slot
     pub kind_is : type_byte file.slot ≡ type_number kind
     pub named : slice_range file.slot.bytes 5 21 ≡ slot_name name
-    pub blocks : length file.blocks ≡ sectors_for (length (stored bytes))
+    pub blocks : length file.blocks ≡ sectors_for (length bytes)
     pub counted : count_field file.slot ≡ length file.blocks
-    pub holds : data_of c file ≡ stored bytes
+    pub holds : data_of c file ≡ bytes
 
 -- every image held: it has the files of before, or one more
 abbrev pub IsPutting : Image → Layout → List ℕ → FileType → List ℕ → Image → Type 0
@@ -124,11 +124,11 @@ pub record RefusesPut {T : Type 0} (img : Image) (l : Layout) (name : List ℕ) 
 -- A file was put on the disk, or not, where l is the layout.
 pub record PutsIn {D : Type 0} (S : History D) (old new : D) (l : Layout) (name : List ℕ) (kind : FileType)
     (bytes : List ℕ) (result : Result (Unit {0}) ChangeFault) : Type 0 where
-  pub ok : OnOk result (HasPut (S.image old) l name kind bytes (S.image new))
+  pub ok : OnOk result (HasPut (S.image old) l name kind (stored bytes) (S.image new))
   pub refuses : RefusesPut (S.image old) l name (sectors_for (length (stored bytes))) result
   -- every image held, and the writes: the map, the file's sectors, and one or two of the directory
   pub moments : Changes S old new (sectors_for (length (stored bytes)) + 3)
-      (IsPutting (S.image old) l name kind bytes)
+      (IsPutting (S.image old) l name kind (stored bytes))
 
 -- A file was put on a disk, or that was refused.
 pub record Puts {D : Type 0} (S : History D) (old new : D) (name : List ℕ) (kind : FileType) (bytes : List ℕ)

@@ -24,24 +24,24 @@ loop-written-init g c =
     }
 
 pub write_block-requires-clause-block : goal.write_block-requires-clause-block
-write_block-requires-clause-block g c = omega (arith, c.loop-written-test.true, c.len-count.ensures.value)
+write_block-requires-clause-block g c = omega (arith, c.loop-written-test.true)
 
 pub write_block-requires-clause-data : goal.write_block-requires-clause-data
 write_block-requires-clause-data g c =
-    omega (arith, c.loop-written-test.true, c.len-count.ensures.value, c.requires.count.low)
+    omega (arith, c.loop-written-test.true, c.requires.count.low)
 
 pub returns-in_err-write_block : goal.returns-in_err-write_block
 returns-in_err-write_block g c =
     let S = g.D.Sectors.history in
     let old = c.loop-written.invariant in
-    let k : ℕ = c.len-count.result - 1 - c.loop-written.written in
-    let low : k < length c.args.places.now = omega (arith, c.loop-written-test.true, c.len-count.ensures.value) in
+    let k : ℕ = length c.args.places.now - 1 - c.loop-written.written in
+    let low : k < length c.args.places.now = omega (arith, c.loop-written-test.true) in
     let (p, at) = get-there c.args.places.now k low in
     record {
       ok = not-done c.from_residual.result _ c.from_residual.ensures.1 _;
       moments = beside-more S c.args.disk.now c.loop-written.disk c.write_block.new.disk c.args.places.now p _
           c.loop-written.written (length c.args.places.now)
-          (omega (arith, c.loop-written-test.true, c.len-count.ensures.value))
+          (omega (arith, c.loop-written-test.true))
           (get-contains c.args.places.now k p at) old.changes (c.in_err-write_block.ensures.moments p at);
       reads = omega (arith, c.in_err-write_block.ensures.reads, old.reads);
       failures = tells-failed S _ _ _ old.failures c.from_residual.result _ c.from_residual.ensures.1
@@ -53,13 +53,13 @@ loop-written-preserved g c =
     let S = g.D.Sectors.history in
     let a = S.image c.args.disk.now in
     let old = c.loop-written.invariant in
-    let k : ℕ = c.len-count.result - 1 - c.loop-written.written in
-    let low : k < length c.args.places.now = omega (arith, c.loop-written-test.true, c.len-count.ensures.value) in
+    let k : ℕ = length c.args.places.now - 1 - c.loop-written.written in
+    let low : k < length c.args.places.now = omega (arith, c.loop-written-test.true) in
     let (p, at) = get-there c.args.places.now k low in
     let before : length c.args.places.now - c.loop-written.written ≡ k + 1 =
-    omega (arith, c.loop-written-test.true, c.len-count.ensures.value) in
+    omega (arith, c.loop-written-test.true) in
     let after : k ≡ length c.args.places.now - (c.loop-written.written + 1) =
-    omega (arith, c.loop-written-test.true, c.len-count.ensures.value) in
+    omega (arith, c.loop-written-test.true) in
     let P : ℕ → Type 0 = IsWrittenFrom a (S.image c.loop-written.disk) c.args.places.now c.args.data.now in
     let Q : Image → Type 0 = λ i. IsWrittenFrom a i c.args.places.now c.args.data.now k in
     let R : ℕ → Type 0 = IsWrittenFrom a (S.image c.write_block.new.disk) c.args.places.now c.args.data.now in
@@ -79,7 +79,7 @@ returns g c =
     let S = g.D.Sectors.history in
     let a = S.image c.args.disk.now in
     let all : c.loop-written.written ≡ length c.args.places.now =
-    omega (arith, c.loop-written-test.false, c.loop-written.auto, c.len-count.ensures.value) in
+    omega (arith, c.loop-written-test.false, c.loop-written.auto) in
     let none : length c.args.places.now - c.loop-written.written ≡ 0 = omega (arith, all) in
     let P : ℕ → Type 0 = IsWrittenFrom a (S.image c.loop-written.disk) c.args.places.now c.args.data.now in
     let done : IsWrittenFrom a (S.image c.loop-written.disk) c.args.places.now c.args.data.now 0 =
