@@ -44,7 +44,7 @@ leads-to img p (q ∷ qs) bytes h low high =
       front = p ∷ more.front;
       last = more.last;
       split = ap (λ xs. p ∷ xs) more.split;
-      leads = (q, (refl, ((ap (λ s. slice_index s 0) h.0, ap (λ s. slice_index s 1) h.0), more.leads)));
+      leads = (q, refl, (ap (λ s. slice_index s 0) h.0, ap (λ s. slice_index s 1) h.0), more.leads);
       ends = subst P (omega (arith, low, length-drop 254 bytes)) more.ends;
     }
 

@@ -11,6 +11,7 @@ pub mod RenameCalls
 pub mod PlainEntries
 pub mod PutInSector
 pub mod PutInSlot
+pub mod PutMoments
 pub mod Renamed
 pub mod RenamedWhole
 pub mod Reslotted

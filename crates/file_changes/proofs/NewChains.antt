@@ -22,13 +22,13 @@ module _ (a b : Image) (map : Sector) (ps : List Place) (full : length a ≡ 683
   }
 
 -- the new directory sector leaves them
-pub blocks-still : (c d : Image) (map bytes : Sector) (ps : List Place) (data : List ℕ) (fresh : Place) → length c ≡ 683
-    → fresh ≢ map_place → ¬ (Contains ps fresh) → d ≡ put c fresh bytes → HasBlocks map ps data c
-    → HasBlocks map ps data d × (sector d fresh ≡ bytes)
-blocks-still c d map bytes ps data fresh full no_map apart e has = (
+pub blocks-still : (c d : Image) (map bytes : Sector) (ps : List Place) (ds : List ℕ) (fresh : Place) → length c ≡ 683
+    → fresh ≢ map_place → ¬ (Contains ps fresh) → d ≡ put c fresh bytes → HasBlocks map ps ds c
+    → HasBlocks map ps ds d × (sector d fresh ≡ bytes)
+blocks-still c d map bytes ps ds fresh full no_map apart e has = (
   record {
     map = ap (λ i. sector i map_place) e ∙ sector-put_other c fresh map_place bytes no_map ∙ has.map;
-    chain = holds-frame c d ps data
+    chain = holds-frame c d ps ds
         (λ q on. ap (λ i. sector i q) e ∙ sector-put_other c fresh q bytes (λ s. apart (let P : Place
         → Type 0 = Contains ps in subst P (sym s) on))) has.chain;
   },

@@ -66,15 +66,15 @@ beside-unowned l ps fresh none no_fresh q c own = elim (Contains-cases q fresh p
   | inr d ↦ none q d (Contains-there q map_place (owners l) own)
 ]
 
-module _ (a c : Image) (l : Layout) (map : Sector) (first : Place) (rest : List Place) (data : List ℕ) (kind : FileType)
+module _ (a c : Image) (l : Layout) (map : Sector) (first : Place) (rest : List Place) (ds : List ℕ) (kind : FileType)
     (name : List ℕ) (p fresh : Place) (first_bytes bytes : Sector)
-    (taking : IsTaking a l (length data) map (first ∷ rest))
+    (taking : IsTaking a l (length ds) map (first ∷ rest))
     (right : IsMapOf map (fresh ∷ ((first ∷ rest) ++ map_place ∷ owners l)))
     (full : IsFullDirectory a l.directory p) (lowest : IsFirstOn (sector a map_place) 18 fresh)
     (on_18 : fresh.track ≡ 18) (no_fresh : ¬ (Contains (map_place ∷ owners l) fresh))
     (apart : ¬ (Contains (first ∷ rest) fresh))
     (changes : ChangesOnly a map (fresh ∷ first ∷ rest) c)
-    (has : HasBlocks map (first ∷ rest) data c) (there : sector c fresh ≡ first_bytes) (wc : IsImage c)
+    (has : HasBlocks map (first ∷ rest) ds c) (there : sector c fresh ≡ first_bytes) (wc : IsImage c)
     (linked : IsLinkedTo (sector a p) bytes fresh)
     (made : IsNewDirectory first_bytes (plain_entry kind name first (length (first ∷ rest))))
     (few : length name ≤ 16) where
@@ -115,8 +115,8 @@ module _ (a c : Image) (l : Layout) (map : Sector) (first : Place) (rest : List 
   is_last = snoc-last was.layout.directory.chain.front full.front was.layout.directory.chain.last p
       (sym was.layout.directory.chain.places ∙ full.split)
 
-  chain-still : HoldsChain (put c p bytes) (first ∷ rest) data
-  chain-still = holds-frame c b ps data (λ q d. sector-put_other c p q bytes (λ e. taking.unowned q d (let P : Place
+  chain-still : HoldsChain (put c p bytes) (first ∷ rest) ds
+  chain-still = holds-frame c b ps ds (λ q d. sector-put_other c p q bytes (λ e. taking.unowned q d (let P : Place
       → Type 0 = Contains (map_place ∷ owners l) in subst P e (Contains-there p map_place (owners l) owned)))) has.chain
 
   entry : IsPlainEntry (slot_in fresh (sector c fresh) 0) kind name first (length (first ∷ rest))
@@ -138,12 +138,12 @@ module _ (a c : Image) (l : Layout) (map : Sector) (first : Place) (rest : List 
       (slot-byte first_bytes n 2 (omega arith) ∙ made.free (32 * n + 2) (omega (arith, pos)) (omega (arith, lt)))
 
   abbrev k : File
-  k = plain_file (slot_in fresh (sector c fresh) 0) (first ∷ rest) (last_index (length data) (length (first ∷ rest)))
+  k = plain_file (slot_in fresh (sector c fresh) 0) (first ∷ rest) (last_index (length ds) (length (first ∷ rest)))
 
   file : IsFile (put c p bytes) k
   file = plain-is_file b (slot_in fresh (sector c fresh) 0) kind name first (length (first ∷ rest)) ps
-      (last_index (length data) (length (first ∷ rest))) entry
-      (is-chain b first rest data chain-still taking.count taking.once)
+      (last_index (length ds) (length (first ∷ rest))) entry
+      (is-chain b first rest ds chain-still taking.count taking.once)
 
   once : EachOnce (map_place ∷ owners
       (record { directory = l.directory ++ fresh ∷ []; files = with_new (put c p bytes) l.files [] k }))
@@ -165,20 +165,20 @@ module _ (a c : Image) (l : Layout) (map : Sector) (first : Place) (rest : List 
   ends = ap (λ x. slice_index x 0) there ∙ made.ends
 
   -- the image has the files of before and the new one, and is clean
-  pub sector-put : HasPut a l name kind data (put c p bytes)
+  pub sector-put : HasPut a l name kind ds (put c p bytes)
   sector-put = record {
     layout = record { directory = l.directory ++ fresh ∷ []; files = with_new (put c p bytes) l.files [] k };
     clean = linked-clean c l p bytes wc.size relinked a was.layout was is_last fresh k refl linked.link ends on_18
         no_fresh used free file once taking.clean same
         (plain-exact b (slot_in fresh (sector c fresh) 0) kind name first (length ps) ps
-        (last_index (length data) (length ps)) entry) right-there;
+        (last_index (length ds) (length ps)) entry) right-there;
     file = k;
     adds = linked-adds c l p bytes wc.size relinked a was.layout was is_last fresh k refl linked.link ends on_18 no_fresh
         used free file once;
     slot = inr (full.full, (lowest, (refl, refl)));
     kind_is = entry.kind_is;
     named = entry.named;
-    blocks = count-of (length data) (length ps) taking.count.low taking.count.high;
+    blocks = count-of (length ds) (length ps) taking.count.low taking.count.high;
     counted = entry.count;
-    holds = chain-data b first rest data chain-still taking.count;
+    holds = chain-data b first rest ds chain-still taking.count;
   }

@@ -44,12 +44,12 @@ chain-unowned l k ps blocks sides once none =
 pub count-of : (n count : ℕ) → 254 * (count - 1) < n → n ≤ 254 * count → count ≡ sectors_for n
 count-of n count low high = omega (arith, low, high)
 
-module _ (a c : Image) (l : Layout) (map : Sector) (first : Place) (rest : List Place) (data : List ℕ) (kind : FileType)
+module _ (a c : Image) (l : Layout) (map : Sector) (first : Place) (rest : List Place) (ds : List ℕ) (kind : FileType)
     (name : List ℕ) (p : Place) (n : ℕ) (bytes : Sector)
-    (taking : IsTaking a l (length data) map (first ∷ rest))
+    (taking : IsTaking a l (length ds) map (first ∷ rest))
     (right : IsMapOf map ((first ∷ rest) ++ map_place ∷ owners l))
     (room : IsFirstRoom a l.directory p n) (changes : ChangesOnly a map (first ∷ rest) c)
-    (has : HasBlocks map (first ∷ rest) data c) (wc : IsImage c)
+    (has : HasBlocks map (first ∷ rest) ds c) (wc : IsImage c)
     (entered : IsEntered (sector a p) bytes n (plain_entry kind name first (length (first ∷ rest))))
     (few : length name ≤ 16) where
   abbrev ps : List Place
@@ -80,8 +80,8 @@ module _ (a c : Image) (l : Layout) (map : Sector) (first : Place) (rest : List 
   put-in = let P : Sector → Type 0 = λ x. IsEntered x bytes n (plain_entry kind name first (length (first ∷ rest))) in
       subst P (sym here) entered
 
-  chain-still : HoldsChain (put c p bytes) (first ∷ rest) data
-  chain-still = holds-frame c b ps data (λ q d. sector-put_other c p q bytes (λ e. unowned q d (let P : Place
+  chain-still : HoldsChain (put c p bytes) (first ∷ rest) ds
+  chain-still = holds-frame c b ps ds (λ q d. sector-put_other c p q bytes (λ e. unowned q d (let P : Place
       → Type 0 = Contains (owners l) in subst P e owned))) has.chain
 
   entry : IsPlainEntry (slot_in p bytes n) kind name first (length (first ∷ rest))
@@ -89,12 +89,12 @@ module _ (a c : Image) (l : Layout) (map : Sector) (first : Place) (rest : List 
       (omega (arith, places-few (first ∷ rest) taking.once)) put-in p
 
   abbrev k : File
-  k = plain_file (slot_in p bytes n) (first ∷ rest) (last_index (length data) (length (first ∷ rest)))
+  k = plain_file (slot_in p bytes n) (first ∷ rest) (last_index (length ds) (length (first ∷ rest)))
 
   file : IsFile (put c p bytes) k
   file = plain-is_file b (slot_in p bytes n) kind name first (length (first ∷ rest)) ps
-      (last_index (length data) (length (first ∷ rest))) entry
-      (is-chain b first rest data chain-still taking.count taking.once)
+      (last_index (length ds) (length (first ∷ rest))) entry
+      (is-chain b first rest ds chain-still taking.count taking.once)
 
   takes : TakesSlot a c l room.front room.back p n bytes k
   takes = record {
@@ -125,18 +125,18 @@ module _ (a c : Image) (l : Layout) (map : Sector) (first : Place) (rest : List 
       (map_place ∷ (xs ++ (file_owns k ++ ys))) (among (map_place ∷ xs) ys (first ∷ rest)) (subst P e right))
 
   -- the image has the files of before and the new one, and is clean
-  pub slot-put : HasPut a l name kind data (put c p bytes)
+  pub slot-put : HasPut a l name kind ds (put c p bytes)
   slot-put = record {
     layout = record { directory = l.directory; files = _ };
     clean = made-clean takes taking.clean same
-        (plain-exact b (slot_in p bytes n) kind name first (length ps) ps (last_index (length data) (length ps)) entry)
+        (plain-exact b (slot_in p bytes n) kind name first (length ps) ps (last_index (length ds) (length ps)) entry)
         right-there it;
     file = k;
     adds = it.adds;
     slot = inl (room, refl);
     kind_is = entry.kind_is;
     named = entry.named;
-    blocks = count-of (length data) (length ps) taking.count.low taking.count.high;
+    blocks = count-of (length ds) (length ps) taking.count.low taking.count.high;
     counted = entry.count;
-    holds = chain-data b first rest data chain-still taking.count;
+    holds = chain-data b first rest ds chain-still taking.count;
   }
