@@ -11,7 +11,7 @@ use Rattle.disk_layout.specs.Directory.{map_place}
 use Rattle.disk_layout.specs.Layout.{IsLayout, Layout, owners}
 use Rattle.disk_layout.specs.Map.{IsFirstOn, IsMapOf}
 use Rattle.file_changes.specs.Faults.{TellsChange}
-use Rattle.file_changes.specs.Puts.{HasPut, HoldsChain, IsPutting, RefusesPut, chain_sector, plain_entry}
+use Rattle.file_changes.specs.Puts.{HasPut, HoldsChain, IsNewName, IsPutting, RefusesPut, chain_sector, plain_entry}
 use Rattle.file_changes.specs.declared.faults.ChangeFault.{ChangeFault}
 use Rattle.file_changes.specs.declared.faults.ChangeFault.TheVariants.{Device, Exists, Full}
 use Rattle.file_changes.specs.declared.file_type.FileType.{FileType}
@@ -77,12 +77,22 @@ pub record PutsBlock {D : Type 0} (S : History D) (old new : D) (ps : List Place
   pub reads : S.reads new ≤ S.reads old
   pub failures : TellsFailure S old new result
 
+-- No entry has this name, or that was refused; nothing was written.
+pub record ChecksName {D : Type 0} (S : History D) (old new : D) (name : List ℕ)
+    (result : Result (Unit {0}) ChangeFault) : Type 0 where
+  pub ok : (l : Layout) → IsLayout (S.image old) l → OnOk result (IsNewName l name)
+  pub exists : (l : Layout) → IsLayout (S.image old) l → IfErr result (λ e. e ≡ Exists → ¬ (IsNewName l name))
+  pub told : IfErr result (λ e. (e ≡ Exists) ⊎ (e ≡ Device))
+  pub reads : OnlyReads S old new 18
+  pub failures : TellsChange S old new result
+
 -- What a new file takes was chosen, or it was refused; nothing was written.
 pub record ChoosesSite {D : Type 0} (S : History D) (old new : D) (name : List ℕ) (count : ℕ)
     (result : Result PutSite ChangeFault) : Type 0 where
   pub ok : (l : Layout) (n : ℕ) → IsLayout (S.image old) l → Fills n count
-      → IfOk result (λ s. IsPutSite (S.image old) l n s × (length s.blocks.items ≡ count))
-  pub refuses : (l : Layout) → IsLayout (S.image old) l → RefusesPut (S.image old) l name count result
+      → IfOk result (IsPutSite (S.image old) l n)
+  pub refuses : (l : Layout) (n : ℕ) → IsLayout (S.image old) l → Fills n count
+      → RefusesPut (S.image old) l name count result
   pub told : IfErr result (λ e. (e ≡ Exists) ⊎ ((e ≡ Full) ⊎ (e ≡ Device)))
   pub refused : IfErr result (λ e. e ≢ Device → OnlyReads S old new 55)
   pub quiet : WritesNothing S old new

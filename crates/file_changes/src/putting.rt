@@ -1,10 +1,12 @@
 //! A file put on a disk.
-ghost use Rattle.std.specs.Prelude.{◌≡◌, ◌≢◌, ◌≤◌, ◌⊎◌, IfErr, IfOk, OnOk, length};
-ghost use Rattle.d64_image.specs.History.{OnlyReads, WritesNothing};
+ghost use Rattle.std.specs.Prelude.{◌≡◌, ◌≤◌, IfErr, OnOk, length};
 ghost use Rattle.disk_layout.specs.Clean.{IsClean};
-ghost use Rattle.disk_layout.specs.Layout.{IsLayout, Layout};
-ghost use Rattle.file_changes.specs.PutSites.{ChoosesSite, Fills, IsPutSite};
-ghost use Rattle.file_changes.specs.Puts.{Puts, stored, sectors_for};
+ghost use Rattle.disk_layout.specs.Layout.{IsSound};
+ghost use Rattle.file_changes.specs.Entries.{IsFreeName};
+ghost use Rattle.file_changes.specs.PutSites.{ChecksName, ChoosesSite};
+ghost use Rattle.file_changes.specs.Puts as specs;
+ghost use Rattle.file_changes.specs.Puts.{Puts};
+ghost use Rattle.file_changes.specs.declared.faults.ChangeFault.TheVariants.{Exists};
 
 use crate::entries::{first_named, list_entries};
 use crate::faults::ChangeFault;
@@ -13,11 +15,33 @@ use crate::put_site::{PutSite, take_site};
 use crate::put_writes::write_file;
 use arrayvec::ArrayVec;
 use d64_image::Sectors;
-use disk_layout::{Bam, padded_name};
+use disk_layout::{Bam, Slot, padded_name};
 use rel_records::read_room;
 
 /// What an empty file gets: a carriage return.
 const EMPTY: [u8; 1] = [0x0D];
+
+/// Refuses a name that one of these entries has.
+fn refuse_taken(entries: &[Slot], padded: &[u8; 16]) -> Result<(), ChangeFault>
+    ensures ok { OnOk result (IsFreeName entries.now padded.now) }
+    ensures err { IfErr result (λ e. (e ≡ Exists) × ¬ (IsFreeName entries.now padded.now)) }
+{
+    if first_named(entries, padded).is_some() {
+        return Err(ChangeFault::Exists);
+    }
+    Ok(())
+}
+
+/// Sees that no entry has this name; nothing is written.
+fn check_name<D: Sectors>(disk: &mut D, name: &[u8]) -> Result<(), ChangeFault>
+    requires sound { IsSound (D.history.image disk.old) }
+    requires name { length name.now ≤ 16 }
+    ensures { ChecksName D.history disk.old disk.new name.now result }
+{
+    let mut entries = ArrayVec::new();
+    list_entries(disk, &mut entries)?;
+    refuse_taken(entries.as_slice(), &padded_name(name))
+}
 
 /// Chooses what a new file of this name and number of sectors takes, or refuses it; nothing is written.
 fn choose_site<D: Sectors>(disk: &mut D, name: &[u8], count: usize) -> Result<PutSite, ChangeFault>
@@ -25,11 +49,7 @@ fn choose_site<D: Sectors>(disk: &mut D, name: &[u8], count: usize) -> Result<Pu
     requires name { length name.now ≤ 16 }
     ensures { ChoosesSite D.history disk.old disk.new name.now count result }
 {
-    let mut entries = ArrayVec::new();
-    list_entries(disk, &mut entries)?;
-    if first_named(entries.as_slice(), &padded_name(name)).is_some() {
-        return Err(ChangeFault::Exists);
-    }
+    check_name(disk, name)?;
     let Ok(room) = read_room(disk) else {
         return Err(ChangeFault::Device);
     };
@@ -40,6 +60,13 @@ fn choose_site<D: Sectors>(disk: &mut D, name: &[u8], count: usize) -> Result<Pu
         return Err(ChangeFault::Full);
     };
     Ok(site)
+}
+
+/// The data that a new file gets.
+fn stored(data: &[u8]) -> &[u8]
+    ensures { result.now ≡ specs.stored data.now }
+{
+    if data.is_empty() { &EMPTY } else { data }
 }
 
 /// Puts a new file of this name, type and data on a clean disk. The data lie in a chain of sectors, 254 bytes in each,
@@ -65,9 +92,9 @@ pub fn put_file<D: Sectors>(
     requires name { length name.now ≤ 16 }
     ensures { Puts D.history disk.old disk.new name.now kind data.now result }
 {
-    let stored = if data.is_empty() { &EMPTY } else { data };
-    let site = choose_site(disk, name, stored.len().div_ceil(254))?;
-    match write_file(disk, &site, name, kind, stored) {
+    let data = stored(data);
+    let site = choose_site(disk, name, (data.len() + 253) / 254)?;
+    match write_file(disk, &site, name, kind, data) {
         Ok(()) => Ok(()),
         Err(_) => Err(ChangeFault::Device),
     }

@@ -6,23 +6,33 @@ use Rattle.d64_image.proofs.Moments.{at_end}
 use Rattle.d64_image.specs.Images.{Image}
 use Rattle.d64_image.specs.declared.place.Place.{Place}
 use Rattle.disk_layout.proofs.lemmas.lists.Once.{Contains-here, Contains-there}
+use Rattle.disk_layout.specs.Chain.{EachOnce}
 use Rattle.disk_layout.specs.Directory.{map_place}
 use Rattle.disk_layout.specs.Layout.{owners}
 use Rattle.file_changes.proofs.PutMoments.{putting-before, putting-done, slot-put-at}
+use Rattle.file_changes.specs.PutSites.{Fills}
 use Rattle.file_changes.specs.Puts.{HasPut}
 use Rattle.rel_records.proofs.lemmas.Told.{not-done, tells-after, tells-failed}
 use Rattle.rel_records.proofs.lemmas.steps.Sided.{counted_once}
 use Rattle.file_changes.proofs.put_writes.write_in_slot.Goals as goal
 
 pub write_sectors-requires-clause-once : goal.write_sectors-requires-clause-once
-write_sectors-requires-clause-once g c = let (l, site) = c.requires.site in site.taking.once
+write_sectors-requires-clause-once g c =
+    let (l, site) = c.requires.site in
+    let P : List Place → Type 0 = EachOnce in
+    subst P (sym c.as_slice.ensures.value) site.taking.once
 
 pub write_sectors-requires-clause-count : goal.write_sectors-requires-clause-count
-write_sectors-requires-clause-count g c = let (l, site) = c.requires.site in site.taking.count
+write_sectors-requires-clause-count g c =
+    let (l, site) = c.requires.site in
+    let P : List Place → Type 0 = λ ps. Fills (length c.args.data.now) (length ps) in
+    subst P (sym c.as_slice.ensures.value) site.taking.count
 
 pub write_sectors-requires-clause-apart : goal.write_sectors-requires-clause-apart
 write_sectors-requires-clause-apart g c =
-    let (l, site) = c.requires.site in λ d. site.taking.unowned map_place d (Contains-here map_place (owners l))
+    let (l, site) = c.requires.site in
+    let P : List Place → Type 0 = λ ps. Contains ps map_place in
+    λ d. site.taking.unowned map_place (subst P c.as_slice.ensures.value d) (Contains-here map_place (owners l))
 
 pub returns-in_err-write_sectors-clause-file : goal.returns-in_err-write_sectors-clause-file
 returns-in_err-write_sectors-clause-file g c l name kind site is_for =
@@ -32,7 +42,7 @@ returns-in_err-write_sectors-clause-file g c l name kind site is_for =
       moments = putting-before g.D.Sectors.history c.args.disk.now c.write_sectors.new.disk l st.map.bytes st.blocks.items
           name kind c.args.data.now site.taking.clean.layout
           (λ q d own. site.taking.unowned q d (Contains-there q map_place (owners l) own)) site.taking.header
-          (length st.blocks.items + 1) c.in_err-write_sectors.ensures.moments (length st.blocks.items + 2) (omega arith);
+          (length st.blocks.items + 1) (rw (c.as_slice.ensures.value) at c.in_err-write_sectors.ensures.moments) (length st.blocks.items + 2) (omega arith);
     }
 
 pub returns-clause-file : goal.returns-clause-file
@@ -40,9 +50,10 @@ returns-clause-file g c l name kind site is_for =
     let S = g.D.Sectors.history in
     let a = S.image c.args.disk.now in
     let st = c.args.site.now in
-    let prepared = c.in_ok-write_sectors.ensures.moments in
+    let prepared = rw (c.as_slice.ensures.value) at c.in_ok-write_sectors.ensures.moments in
+    let written = rw (c.as_slice.ensures.value) at c.in_ok-write_sectors.ensures.ok in
     let made = slot-put-at a (S.image c.write_sectors.new.disk) l st c.args.data.now kind name c.args.bytes.now site is_for
-    (at_end S _ _ _ prepared.held) c.in_ok-write_sectors.ensures.ok (S.whole c.write_sectors.new.disk) in
+    (at_end S _ _ _ prepared.held) written (S.whole c.write_sectors.new.disk) in
     let P : Image → Type 0 = HasPut a l name kind c.args.data.now in
     record {
       ok = on_ok_weaker c.write.result (λ done. subst P (sym done) made) c.write.ensures.ok;
