@@ -1,16 +1,17 @@
 -- A site is chosen, and then the file is written; or neither.
 use Rattle.std.proofs.Common.{◌≡◌, ◌⊎◌, ◌≤◌, ◌<◌, ◌+◌, ◌*◌, ◌-◌, ℕ, List, [], ◌∷◌, Err, Ok, OnOk, Result, ap, arith, inl, inr}
 use Rattle.std.proofs.Common.{length, refl, subst, sym, ◌∙◌}
-use Rattle.std.specs.Prelude.{IfErr}
+use Rattle.std.specs.Prelude.{MatchOption, None, Option, Some}
 use Rattle.std.specs.Result.{IsErrAnd}
 use Rattle.d64_image.proofs.Moments.{failed_later, then, weaker}
 use Rattle.d64_image.specs.History.{Changes, Failed, HeldOnly, History, WritesNothing}
 use Rattle.d64_image.specs.Images.{Image}
 use Rattle.d64_image.specs.declared.faults.DeviceFault.{DeviceFault}
+use Rattle.d64_image.specs.declared.place.Place.{Place}
 use Rattle.disk_layout.specs.Layout.{IsLayout, Layout}
 use Rattle.file_changes.proofs.PutInSlot.{count-of}
 use Rattle.file_changes.proofs.PutNames.{device-not-exists, device-not-full}
-use Rattle.file_changes.specs.PutSites.{ChoosesSite, Fills, IsPutSite, PutsFile}
+use Rattle.file_changes.specs.PutSites.{ChoosesSite, Fills, IsPutSector, IsPutSite, IsPutSlot, PutsFile}
 use Rattle.file_changes.specs.Puts.{HasPut, IsPutting, Puts, PutsIn, sectors_for, stored}
 use Rattle.file_changes.specs.declared.faults.ChangeFault.{ChangeFault}
 use Rattle.file_changes.specs.declared.faults.ChangeFault.TheVariants.{Device, Exists, Full}
@@ -22,6 +23,16 @@ use Rattle.rel_records.proofs.lemmas.creation.Creating.{creating-before}
 pub fills-stored : (bytes : List ℕ) → Fills (length (stored bytes)) (sectors_for (length (stored bytes)))
 fills-stored [] = record { low = omega arith; high = omega arith }
 fills-stored (x ∷ xs) = record { low = omega arith; high = omega arith }
+
+-- and the site has so many
+count-in : (img : Image) (l : Layout) (n : ℕ) (s : PutSite) (o : Option Place)
+    → MatchOption o (IsPutSlot img l n s) (IsPutSector img l n s) → length s.blocks.items ≡ sectors_for n
+count-in img l n s None h = count-of n (length s.blocks.items) h.taking.count.low h.taking.count.high
+count-in img l n s (Some fresh) h = count-of n (length s.blocks.items) h.taking.count.low h.taking.count.high
+
+site-count : (img : Image) (l : Layout) (n : ℕ) (s : PutSite) → IsPutSite img l n s
+    → length s.blocks.items ≡ sectors_for n
+site-count img l n s h = count-in img l n s s.fresh h
 
 module _ {D : Type 0} (S : History D) (a b : D) (name : List ℕ) (kind : FileType) (bytes : List ℕ)
     (quiet : WritesNothing S a b) where
@@ -55,9 +66,7 @@ module _ {D : Type 0} (S : History D) (a b : D) (name : List ℕ) (kind : FileTy
   module _ (site : PutSite) (c : D) (chooses : ChoosesSite S a b name (sectors_for (length (stored bytes))) (Ok site))
       (r : Result (Unit {0}) DeviceFault)
       (writes : (l : Layout) → IsPutSite (S.image b) l (length (stored bytes)) site
-      → PutsFile S b c l name kind (stored bytes) (length site.blocks.items + 3) r)
-      (count : (l : Layout) → IsPutSite (S.image b) l (length (stored bytes)) site
-      → length site.blocks.items ≡ sectors_for (length (stored bytes))) where
+      → PutsFile S b c l name kind (stored bytes) (length site.blocks.items + 3) r) where
     site-at : (l : Layout) → IsLayout (S.image a) l → IsPutSite (S.image b) l (length (stored bytes)) site
     site-at l h =
         let P : Image → Type 0 = λ i. IsPutSite i l (length (stored bytes)) site in
@@ -70,7 +79,7 @@ module _ {D : Type 0} (S : History D) (a b : D) (name : List ℕ) (kind : FileTy
         let puts = writes l (site-at l h) in
         record {
           held = then S a b c _ (held-before l h) (subst P quiet.image puts.moments.held);
-          writes = omega (arith, puts.moments.writes, quiet.writes, count l (site-at l h));
+          writes = omega (arith, puts.moments.writes, quiet.writes, site-count (S.image b) l (length (stored bytes)) site (site-at l h));
         }
 
     pub put-failed : (e : DeviceFault) → r ≡ Err e → Failed S b c → Puts S a c name kind bytes (Err Device)

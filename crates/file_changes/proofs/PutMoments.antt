@@ -1,6 +1,6 @@
 -- What the disk holds while a file is put on it: the files of before, or one more, from the last write on.
-use Rattle.std.proofs.Common.{◌≡◌, ◌≤◌, ◌+◌, ℕ, inl, inr, List, ◌∷◌, ◌++◌, arith, drop, length, subst, sym, take, ◌∙◌}
-use Rattle.std.specs.Prelude.{Contains}
+use Rattle.std.proofs.Common.{◌≡◌, ◌≤◌, ◌<◌, ◌+◌, ℕ, inl, inr, List, [], ◌∷◌, ◌++◌, ap, arith, drop, length, subst, sym, take, ◌∙◌}
+use Rattle.std.specs.Prelude.{Contains, MatchOption, None, Option, Some, slice_get}
 use Rattle.d64_image.proofs.Moments.{at_end, changes_weaker, one_write_more}
 use Rattle.d64_image.specs.History.{Changes, HeldOnly, History, OldOr}
 use Rattle.d64_image.specs.Images.{Image, IsImage, Sector, put, sector}
@@ -10,7 +10,8 @@ use Rattle.disk_layout.specs.Layout.{IsLayout, Layout, owners}
 use Rattle.disk_layout.specs.Map.{IsMapOf}
 use Rattle.file_changes.proofs.PutInSector.{sector-put}
 use Rattle.file_changes.proofs.PutInSlot.{slot-put}
-use Rattle.file_changes.specs.PutSites.{HasBlocks, IsPutDirectory, IsPutEntry, IsPutSector, IsPutSlot, IsTaking}
+use Rattle.file_changes.specs.PutSites.{Fills, HasBlocks, IsPutDirectory, IsPutEntry, IsPutSector, IsPutSite, IsPutSlot}
+use Rattle.file_changes.specs.PutSites.{IsTaking}
 use Rattle.file_changes.specs.Puts.{HasPut, IsPutting, plain_entry}
 use Rattle.file_changes.specs.declared.file_type.FileType.{FileType}
 use Rattle.file_changes.specs.declared.put_site.PutSite.{PutSite}
@@ -73,3 +74,20 @@ sector-put-at a c l st fresh ds kind name first last h is_for changes has there 
     sector-put a c l st.map.bytes is_for.first rest ds kind name st.place fresh first last (subst A is h.taking)
     (subst B is h.map) h.full h.lowest h.on_18 h.no_fresh (subst H is h.apart) (subst C is changes) (subst E is has) there
     whole (subst G h.bytes is_for.linked) (subst F is is_for.made) is_for.few
+
+-- a list that has a first element begins with it
+pub begins-with : (ps : List Place) (p : Place) → slice_get ps 0 ≡ Some p → (rest : List Place) × (ps ≡ p ∷ rest)
+begins-with [] p at = cc
+begins-with (q ∷ qs) p at = let e : q ≡ p = cc in (qs, ap (λ x. x ∷ qs) e)
+
+-- the site has a first sector
+fill-some : (n count : ℕ) → Fills n count → 0 < count
+fill-some n count h = omega (arith, h.low, h.high)
+
+some-in : (img : Image) (l : Layout) (n : ℕ) (s : PutSite) (o : Option Place)
+    → MatchOption o (IsPutSlot img l n s) (IsPutSector img l n s) → 0 < length s.blocks.items
+some-in img l n s None h = fill-some n (length s.blocks.items) h.taking.count
+some-in img l n s (Some fresh) h = fill-some n (length s.blocks.items) h.taking.count
+
+pub some-blocks : (img : Image) (l : Layout) (n : ℕ) (s : PutSite) → IsPutSite img l n s → 0 < length s.blocks.items
+some-blocks img l n s h = some-in img l n s s.fresh h
