@@ -1,6 +1,6 @@
 -- A chain of sectors that holds some bytes is a chain of the disk, and these are its data.
-use Rattle.std.proofs.Common.{◌≡◌, ◌≤◌, ◌<◌, ◌+◌, ◌*◌, ◌-◌, ℕ, List, [], ◌∷◌, ◌++◌, None, Some, ap, append-nil, arith, drop}
-use Rattle.std.proofs.Common.{length, length-drop, length-take, max, refl, replicate, slice_index, subst, sym, take, ◌∙◌}
+use Rattle.std.proofs.Common.{◌≡◌, ◌≤◌, ◌<◌, ◌+◌, ◌*◌, ◌-◌, ℕ, List, [], ◌∷◌, ◌++◌, ap, append-nil, arith, drop}
+use Rattle.std.proofs.Common.{length, length-drop, length-take, max, refl, replicate, slice_index, subst, take, ◌∙◌}
 use Rattle.std.proofs.lemmas.List.{take-append-drop, take_all}
 use Rattle.std.proofs.Math.Seq.{take-append-add, take-append_seam}
 use Rattle.d64_image.specs.Images.{Image, sector}
@@ -10,7 +10,7 @@ use Rattle.disk_layout.specs.Chain.{EachOnce, EndsAt, IsChain, Leads}
 use Rattle.disk_layout.specs.Records.{joined}
 use Rattle.disk_layout.specs.Side.{padded}
 use Rattle.file_changes.specs.PutSites.{Fills}
-use Rattle.file_changes.specs.Puts.{HoldsChain, chain_sector}
+use Rattle.file_changes.specs.Puts.{HoldsChain}
 
 -- the index of the last used byte of n bytes in so many sectors
 abbrev pub last_index : ℕ → ℕ → ℕ

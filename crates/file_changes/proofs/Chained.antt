@@ -1,5 +1,5 @@
 -- Bytes are written into a chain of sectors, the last sector first.
-use Rattle.std.proofs.Common.{◌≡◌, ◌≤◌, ◌<◌, ◌+◌, ◌*◌, ◌-◌, ℕ, zero, suc, inl, inr, List, [], ◌∷◌, ◌++◌, ap, arith, drop}
+use Rattle.std.proofs.Common.{◌≡◌, ◌≤◌, ◌+◌, ◌*◌, ℕ, zero, suc, inl, inr, List, [], ◌∷◌, ap, arith, drop}
 use Rattle.std.proofs.Common.{length, refl, Some, subst, sym, take, ◌∙◌}
 use Rattle.std.proofs.lemmas.List.{drop-drop}
 use Rattle.std.proofs.Math.Seq.{drop-length}
@@ -14,7 +14,7 @@ use Rattle.disk_layout.proofs.lemmas.layouts.Layouts.{get-contains}
 use Rattle.disk_layout.proofs.lemmas.lists.Lists.{get-drop}
 use Rattle.disk_layout.proofs.lemmas.lists.Once.{Contains-here, Contains-there, EachOnce-right}
 use Rattle.disk_layout.specs.Chain.{EachOnce}
-use Rattle.file_changes.specs.PutSites.{PutsBlock, SameBeside}
+use Rattle.file_changes.specs.PutSites.{SameBeside}
 use Rattle.file_changes.specs.Puts.{HoldsChain, chain_sector}
 
 -- these sectors hold what they held

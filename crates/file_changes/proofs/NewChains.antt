@@ -1,5 +1,5 @@
 -- The map and the chain of a new file are written, and then a new directory sector: nobody owns them so far.
-use Rattle.std.proofs.Common.{◌≡◌, ◌≢◌, ℕ, inl, inr, List, [], ◌∷◌, ◌++◌, ap, append-nil, length, subst, sym, ◌∙◌}
+use Rattle.std.proofs.Common.{◌≡◌, ◌≢◌, ℕ, inl, inr, List, [], ◌++◌, ap, append-nil, length, subst, sym, ◌∙◌}
 use Rattle.std.specs.Prelude.{Contains, ◌↔◌}
 use Rattle.std.proofs.lemmas.List.Elements.{Contains-append_cases, Contains-append_left, Contains-append_right}
 use Rattle.d64_image.proofs.Images.{sector-put_other, sector-put_same}

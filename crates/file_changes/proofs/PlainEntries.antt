@@ -1,6 +1,6 @@
 -- The entry of a new file that isn't relative, as it stands in its slot, and the file with it.
-use Rattle.std.proofs.Common.{◌≡◌, ◌≢◌, ◌≤◌, ◌<◌, ◌+◌, ◌*◌, ◌-◌, ◌/◌, ◌%◌, ℕ, zero, suc, inl, inr, false, true, List, [], ◌∷◌}
-use Rattle.std.proofs.Common.{◌++◌, IsFalse, IsTrue, ap, arith, get_or, length, refl, replicate, slice_index, subst, sym, ◌∙◌}
+use Rattle.std.proofs.Common.{◌≡◌, ◌≢◌, ◌≤◌, ◌<◌, ◌+◌, ◌*◌, ◌-◌, ℕ, zero, suc, inl, false, true, List, [], ◌∷◌}
+use Rattle.std.proofs.Common.{◌++◌, IsTrue, ap, arith, get_or, length, refl, replicate, slice_index, subst, sym, ◌∙◌}
 use Rattle.std.proofs.lemmas.List.{get_or-append_right, get_or_append_left}
 use Rattle.std.specs.Prelude.{slice_range}
 use Rattle.byteorder.specs.Endian.{little_bytes, little_number}

@@ -1,5 +1,5 @@
 -- A site is chosen, and then the file is written; or neither.
-use Rattle.std.proofs.Common.{◌≡◌, ◌⊎◌, ◌≤◌, ◌<◌, ◌+◌, ◌*◌, ◌-◌, ℕ, List, [], ◌∷◌, Err, Ok, OnOk, Result, ap, arith, inl, inr}
+use Rattle.std.proofs.Common.{◌≡◌, ◌≤◌, ◌+◌, ℕ, List, [], ◌∷◌, Err, Ok, OnOk, Result, arith, inl, inr}
 use Rattle.std.proofs.Common.{length, refl, subst, sym, ◌∙◌}
 use Rattle.std.specs.Prelude.{MatchOption, None, Option, Some}
 use Rattle.std.specs.Result.{IsErrAnd}
@@ -12,9 +12,9 @@ use Rattle.disk_layout.specs.Layout.{IsLayout, Layout}
 use Rattle.file_changes.proofs.PutInSlot.{count-of}
 use Rattle.file_changes.proofs.PutNames.{device-not-exists, device-not-full}
 use Rattle.file_changes.specs.PutSites.{ChoosesSite, Fills, IsPutSector, IsPutSite, IsPutSlot, PutsFile}
-use Rattle.file_changes.specs.Puts.{HasPut, IsPutting, Puts, PutsIn, sectors_for, stored}
+use Rattle.file_changes.specs.Puts.{HasPut, IsPutting, Puts, sectors_for, stored}
 use Rattle.file_changes.specs.declared.faults.ChangeFault.{ChangeFault}
-use Rattle.file_changes.specs.declared.faults.ChangeFault.TheVariants.{Device, Exists, Full}
+use Rattle.file_changes.specs.declared.faults.ChangeFault.TheVariants.{Device}
 use Rattle.file_changes.specs.declared.file_type.FileType.{FileType}
 use Rattle.file_changes.specs.declared.put_site.PutSite.{PutSite}
 use Rattle.rel_records.proofs.lemmas.creation.Creating.{creating-before}

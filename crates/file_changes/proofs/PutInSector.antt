@@ -1,5 +1,5 @@
 -- A new file whose entry goes into a new directory sector: its sectors and that one are written, then the link to it.
-use Rattle.std.proofs.Common.{◌≡◌, ◌≢◌, ◌+◌, ◌*◌, ◌-◌, ◌<◌, ◌≤◌, ℕ, inl, inr, false, true, List, [], ◌∷◌, ◌++◌, IsTrue, ap}
+use Rattle.std.proofs.Common.{◌≡◌, ◌+◌, ◌*◌, ◌<◌, ◌≤◌, ℕ, inl, inr, false, true, List, [], ◌∷◌, ◌++◌, ap}
 use Rattle.std.proofs.Common.{append-nil, append_assoc, arith, length, refl, slice_index, subst, sym, ◌∙◌}
 use Rattle.std.specs.Prelude.{Contains, flat_map, nat_eq, not, ◌↔◌}
 use Rattle.std.proofs.lemmas.List.Elements.{Contains-append_left, Contains-append_right}
@@ -13,7 +13,6 @@ use Rattle.disk_layout.proofs.lemmas.lists.Count.{places-few}
 use Rattle.disk_layout.proofs.lemmas.lists.Lists.{snoc-last}
 use Rattle.disk_layout.proofs.lemmas.lists.Once.{Contains-cases, Contains-here, Contains-there, insert-in, insert-out}
 use Rattle.disk_layout.specs.Chain.{EachOnce}
-use Rattle.disk_layout.specs.Clean.{IsCleanLayout}
 use Rattle.disk_layout.specs.Directory.{is_used, map_place, slot_in}
 use Rattle.disk_layout.specs.Layout.{File, IsFile, Layout, file_owns, owners}
 use Rattle.disk_layout.specs.Map.{IsFirstOn, IsMapOf}

@@ -1,6 +1,6 @@
 -- A new file whose entry goes into a free slot: its sectors are written, then the entry, by one write.
-use Rattle.std.proofs.Common.{◌≡◌, ◌-◌, ◌+◌, ◌*◌, ◌/◌, ◌<◌, ◌≤◌, ℕ, inl, inr, false, true, List, [], ◌∷◌, ◌++◌, IsTrue, ap}
-use Rattle.std.proofs.Common.{append-nil, arith, length, refl, slice_index, subst, sym, ◌∙◌}
+use Rattle.std.proofs.Common.{◌≡◌, ◌-◌, ◌*◌, ◌<◌, ◌≤◌, ℕ, inl, List, [], ◌∷◌, ◌++◌, ap}
+use Rattle.std.proofs.Common.{append-nil, arith, length, refl, subst, sym, ◌∙◌}
 use Rattle.std.specs.Prelude.{Contains, flat_map}
 use Rattle.std.proofs.lemmas.List.Elements.{Contains-append_left, Contains-append_right}
 use Rattle.d64_image.proofs.Images.{sector-put_other}
@@ -9,7 +9,7 @@ use Rattle.d64_image.specs.declared.place.Place.{Place}
 use Rattle.disk_layout.proofs.lemmas.chains.Chains.{AgreeAt}
 use Rattle.disk_layout.proofs.lemmas.lists.Count.{places-few}
 use Rattle.disk_layout.proofs.lemmas.lists.Once.{Contains-here, Contains-there}
-use Rattle.disk_layout.specs.Chain.{EachOnce, IsChain}
+use Rattle.disk_layout.specs.Chain.{EachOnce}
 use Rattle.disk_layout.specs.Directory.{is_used, map_place, slot_in}
 use Rattle.disk_layout.specs.Layout.{File, IsFile, Layout, file_owns, owners}
 use Rattle.disk_layout.specs.Map.{IsMapOf}

@@ -1,5 +1,5 @@
 -- What the disk holds while a file is put on it: the files of before, or one more, from the last write on.
-use Rattle.std.proofs.Common.{◌≡◌, ◌≤◌, ◌<◌, ◌+◌, ℕ, inl, inr, List, [], ◌∷◌, ◌++◌, ap, arith, drop, length, subst, sym, take, ◌∙◌}
+use Rattle.std.proofs.Common.{◌≡◌, ◌≤◌, ◌<◌, ◌+◌, ℕ, inl, inr, List, [], ◌∷◌, ◌++◌, ap, arith, drop, length, subst, take}
 use Rattle.std.specs.Prelude.{Contains, MatchOption, None, Option, Some, slice_get}
 use Rattle.d64_image.proofs.Moments.{at_end, changes_weaker, one_write_more}
 use Rattle.d64_image.specs.History.{Changes, HeldOnly, History, OldOr}

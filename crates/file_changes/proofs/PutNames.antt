@@ -1,6 +1,6 @@
 -- A name that no entry has, and what a new file of it takes.
-use Rattle.std.proofs.Common.{◌≡◌, ◌≢◌, ◌⊎◌, ◌≤◌, ◌+◌, ℕ, List, Err, Ok, OnOk, Result, ap, arith, inl, inr, refl, subst, sym, ◌∙◌}
-use Rattle.std.specs.Prelude.{IfErr, MatchOption}
+use Rattle.std.proofs.Common.{◌≡◌, ℕ, List, Err, Ok, OnOk, Result, ap, arith, inl, inr, refl, subst, sym, ◌∙◌}
+use Rattle.std.specs.Prelude.{IfErr}
 use Rattle.d64_image.proofs.Moments.{failed_later, no_write_then, reads_no_write, reads_then}
 use Rattle.d64_image.specs.History.{Failed, History, OnlyReads, WritesNothing}
 use Rattle.d64_image.specs.Images.{Image, Sector, sector}

@@ -19,9 +19,9 @@ ghost use Rattle.file_changes.specs.Puts.{plain_entry};
 ghost use Rattle.rel_records.specs.Calls.{WritesAtMost};
 ghost use Rattle.rel_records.specs.creation.NewFile.{ChangesOnly};
 
+use crate::file_type::FileType;
 use crate::put_sectors::write_blocks;
 use crate::put_site::PutSite;
-use crate::file_type::FileType;
 use byteorder::{ByteOrder, LittleEndian};
 use d64_image::{DeviceFault, Place, Sectors};
 use disk_layout::{Bam, map_place, padded_name};

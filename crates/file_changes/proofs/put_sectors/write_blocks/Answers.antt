@@ -1,5 +1,5 @@
 -- Sector by sector, the last one first.
-use Rattle.std.proofs.Common.{arith, refl, sym, subst, ◌≡◌, ◌∙◌, ◌+◌, ◌-◌, ◌*◌, ◌<◌, ℕ, ap, length}
+use Rattle.std.proofs.Common.{arith, refl, sym, subst, ◌≡◌, ◌∙◌, ◌+◌, ◌-◌, ◌<◌, ℕ, length}
 use Rattle.d64_image.proofs.Moments.{no_change}
 use Rattle.d64_image.specs.History.{Changes}
 use Rattle.d64_image.specs.Images.{Image}

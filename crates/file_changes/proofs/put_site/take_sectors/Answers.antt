@@ -1,7 +1,7 @@
 -- One sector after another.
-use Rattle.std.proofs.Common.{◌≡◌, ◌∙◌, List, arith, length-append, lit<, refl, sym, subst, ap, length, ◌∷◌, []}
+use Rattle.std.proofs.Common.{◌∙◌, List, arith, length-append, lit<, sym, subst, ap, length, ◌∷◌, []}
 use Rattle.d64_image.specs.declared.place.Place.{Place}
-use Rattle.file_changes.proofs.TakenSectors.{still-few, takes-more, takes-none}
+use Rattle.file_changes.proofs.TakenSectors.{still-few, takes-more}
 use Rattle.file_changes.specs.PutSites.{TakesSectors}
 use Rattle.file_changes.proofs.put_site.take_sectors.Goals as goal
 

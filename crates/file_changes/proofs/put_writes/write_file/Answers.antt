@@ -1,5 +1,5 @@
 -- Into a free slot, or into a new directory sector.
-use Rattle.std.proofs.Common.{arith, List, ℕ, Option, Some, ◌≡◌, ◌∷◌, ◌∙◌, ◌+◌, ◌<◌, ap, length, refl, subst, sym}
+use Rattle.std.proofs.Common.{arith, List, ℕ, Option, Some, ◌≡◌, ◌∙◌, ◌+◌, ◌<◌, ap, length, subst}
 use Rattle.std.specs.Prelude.{MatchOption, slice_get}
 use Rattle.d64_image.proofs.Moments.{changes_weaker}
 use Rattle.d64_image.specs.declared.place.Place.{Place}

@@ -1,5 +1,5 @@
 -- The sectors, then the entry.
-use Rattle.std.proofs.Common.{arith, length, refl, sym, subst, ◌∷◌, ◌+◌, List}
+use Rattle.std.proofs.Common.{arith, length, refl, sym, subst, ◌+◌, List}
 use Rattle.std.specs.Prelude.{Contains}
 use Rattle.std.proofs.lemmas.Result.{on_ok_weaker}
 use Rattle.d64_image.proofs.Moments.{at_end}

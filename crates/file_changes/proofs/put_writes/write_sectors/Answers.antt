@@ -1,5 +1,5 @@
 -- The map, and then the chain.
-use Rattle.std.proofs.Common.{arith, length, refl, subst, sym, ◌≡◌, ◌∙◌, ◌+◌, ap}
+use Rattle.std.proofs.Common.{arith, length, refl, ◌≡◌, ◌∙◌, ◌+◌, ap}
 use Rattle.std.proofs.lemmas.Result.{on_ok_weaker}
 use Rattle.d64_image.proofs.Moments.{changes_then, changes_weaker}
 use Rattle.d64_image.specs.Images.{put}
