@@ -46,6 +46,9 @@ module _ {D : Type 0} (S : History D) (image name : List ℕ) (a b : D) (size : 
         → ⊥
     no-exists told = ⊎_elim (λ e. cc) (⊎_elim (λ e. cc) (λ e. cc)) told
 
+    no-full : (change.Full ≡ change.NotFound) ⊎ ((change.Full ≡ change.Locked) ⊎ (change.Full ≡ change.Device)) → ⊥
+    no-full told = ⊎_elim (λ e. cc) (⊎_elim (λ e. cc) (λ e. cc)) told
+
     pub delete-refused : (fault : ChangeFault) → Deletes S a b name (Err fault)
         → IsDeleteFault S image name a b w w (edit_fault fault)
     delete-refused change.NotFound c = left change.NotFound _ (λ e. cc)
@@ -53,6 +56,7 @@ module _ {D : Type 0} (S : History D) (image name : List ℕ) (a b : D) (size : 
     delete-refused change.Locked c = left change.Locked _ (λ e. cc) ((c.layout clean.0 clean.1.layout).locked refl) c
     delete-refused change.Device c = (delete-run (Err change.Device) c, c.failures, refl)
     delete-refused change.Exists c = absurd (no-exists c.told)
+    delete-refused change.Full c = absurd (no-full c.told)
 
 -- the name is too long for an entry
 pub delete-long : {D W : Type 0} (S : History D) (image name : List ℕ) (a : D) (w : W) → length image ≡ 174848
@@ -74,6 +78,7 @@ delete-unclean S image name a w edit.NoMemory told = (told, refl, refl)
 delete-unclean S image name a w (edit.Layout fault) told = (told, refl, refl)
 delete-unclean S image name a w edit.NoFile told = absurd told
 delete-unclean S image name a w edit.FileExists told = absurd told
+delete-unclean S image name a w edit.DiskFull told = absurd told
 delete-unclean S image name a w edit.Locked told = absurd told
 delete-unclean S image name a w edit.File told = absurd told
 delete-unclean S image name a w edit.Device told = absurd told

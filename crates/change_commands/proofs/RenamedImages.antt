@@ -45,6 +45,9 @@ module _ {D : Type 0} (S : History D) (image from to : List ℕ) (a b : D) (size
         → ⊥
     no-locked told = ⊎_elim (λ e. cc) (⊎_elim (λ e. cc) (λ e. cc)) told
 
+    no-full : (change.Full ≡ change.NotFound) ⊎ ((change.Full ≡ change.Exists) ⊎ (change.Full ≡ change.Device)) → ⊥
+    no-full told = ⊎_elim (λ e. cc) (⊎_elim (λ e. cc) (λ e. cc)) told
+
     pub rename-refused : (fault : ChangeFault) → Renames S a b from to (Err fault)
         → IsRenameFault S image from to a b w w (edit_fault fault)
     rename-refused change.NotFound c = left change.NotFound _ (λ e. cc)
@@ -52,6 +55,7 @@ module _ {D : Type 0} (S : History D) (image from to : List ℕ) (a b : D) (size
     rename-refused change.Exists c = left change.Exists _ (λ e. cc) ((c.layout sound.0 sound.1).exists refl) c
     rename-refused change.Device c = (rename-run (Err change.Device) c, c.failures, refl)
     rename-refused change.Locked c = absurd (no-locked c.told)
+    rename-refused change.Full c = absurd (no-full c.told)
 
 -- the name is too long for an entry
 pub rename-long : {D W : Type 0} (S : History D) (image from to : List ℕ) (a : D) (w : W) → length image ≡ 174848
@@ -73,6 +77,7 @@ rename-unsound S image from to a w edit.NoMemory told = (told, refl, refl)
 rename-unsound S image from to a w (edit.Layout fault) told = (told, refl, refl)
 rename-unsound S image from to a w edit.NoFile told = absurd told
 rename-unsound S image from to a w edit.FileExists told = absurd told
+rename-unsound S image from to a w edit.DiskFull told = absurd told
 rename-unsound S image from to a w edit.Locked told = absurd told
 rename-unsound S image from to a w edit.File told = absurd told
 rename-unsound S image from to a w edit.Device told = absurd told

@@ -4,7 +4,7 @@ use Rattle.d64_image.specs.Memory.{sectors_in}
 use Rattle.disk_layout.specs.Fault.{Holds, HoldsOfClean, nowhere}
 use Rattle.disk_layout.specs.Texts.{fault_text}
 use Rattle.file_changes.specs.declared.faults.ChangeFault.{ChangeFault}
-use Rattle.file_changes.specs.declared.faults.ChangeFault.TheVariants.{Device, Exists, Locked, NotFound}
+use Rattle.file_changes.specs.declared.faults.ChangeFault.TheVariants.{Device, Exists, Full, Locked, NotFound}
 use Rattle.change_commands.specs.declared.faults.EditFault.{EditFault}
 use Rattle.change_commands.specs.declared.faults.EditFault.TheVariants as edit
 
@@ -14,6 +14,7 @@ edit_status edit.ImageSize = 1
 edit_status (edit.Layout fault) = 1
 edit_status edit.NoFile = 1
 edit_status edit.FileExists = 1
+edit_status edit.DiskFull = 1
 edit_status edit.Locked = 1
 edit_status edit.File = 3
 edit_status edit.NoMemory = 3
@@ -25,6 +26,7 @@ edit_text edit.ImageSize = codes "IMAGE SIZE"
 edit_text (edit.Layout fault) = codes "LAYOUT " ++ fault_text fault
 edit_text edit.NoFile = codes "NO FILE"
 edit_text edit.FileExists = codes "FILE EXISTS"
+edit_text edit.DiskFull = codes "DISK FULL"
 edit_text edit.Locked = codes "LOCKED"
 edit_text edit.File = codes "FILE"
 edit_text edit.NoMemory = codes "NO MEMORY"
@@ -34,6 +36,7 @@ edit_text edit.Device = codes "DEVICE"
 abbrev pub edit_fault : ChangeFault → EditFault
 edit_fault NotFound = edit.NoFile
 edit_fault Exists = edit.FileExists
+edit_fault Full = edit.DiskFull
 edit_fault Locked = edit.Locked
 edit_fault Device = edit.Device
 

@@ -1,4 +1,5 @@
 -- The definitions of this crate.
 pub mod Deletes
 pub mod Faults
+pub mod Puts
 pub mod Renames

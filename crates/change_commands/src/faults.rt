@@ -18,6 +18,8 @@ pub enum EditFault {
     NoFile,
     /// An entry of the directory has the new name already.
     FileExists,
+    /// The disk has not enough free blocks, or no room in its directory.
+    DiskFull,
     /// The file is locked.
     Locked,
     /// The output couldn't be written.
@@ -35,7 +37,7 @@ impl EditFault {
     {
         match self {
             EditFault::ImageSize | EditFault::Layout(_) | EditFault::NoFile => 1,
-            EditFault::FileExists | EditFault::Locked => 1,
+            EditFault::FileExists | EditFault::DiskFull | EditFault::Locked => 1,
             EditFault::File | EditFault::NoMemory | EditFault::Device => 3,
         }
     }
@@ -50,6 +52,7 @@ impl Display for EditFault {
             EditFault::Layout(fault) => write!(f, "LAYOUT {fault}"),
             EditFault::NoFile => f.write_str("NO FILE"),
             EditFault::FileExists => f.write_str("FILE EXISTS"),
+            EditFault::DiskFull => f.write_str("DISK FULL"),
             EditFault::Locked => f.write_str("LOCKED"),
             EditFault::File => f.write_str("FILE"),
             EditFault::NoMemory => f.write_str("NO MEMORY"),
@@ -67,6 +70,7 @@ pub(crate) fn refusal(fault: ChangeFault) -> EditFault
     match fault {
         ChangeFault::NotFound => EditFault::NoFile,
         ChangeFault::Exists => EditFault::FileExists,
+        ChangeFault::Full => EditFault::DiskFull,
         ChangeFault::Locked => EditFault::Locked,
         ChangeFault::Device => EditFault::Device,
     }

@@ -5,8 +5,10 @@ mod deleting;
 mod faults;
 mod judging;
 mod output;
+mod putting;
 mod renaming;
 
 pub use deleting::delete_image;
 pub use faults::EditFault;
+pub use putting::put_image;
 pub use renaming::rename_image;

@@ -23,7 +23,7 @@ use Rattle.file_changes.specs.Deletes.{Deletes, FindsDeletable, HasLost, IsDelet
 use Rattle.file_changes.specs.Entries.{IsFirstNamed, IsFreeName, entries_of, without_file}
 use Rattle.file_changes.specs.Patches.{PatchesSector, patched}
 use Rattle.file_changes.specs.declared.faults.ChangeFault.{ChangeFault}
-use Rattle.file_changes.specs.declared.faults.ChangeFault.TheVariants.{Device, Exists, Locked, NotFound}
+use Rattle.file_changes.specs.declared.faults.ChangeFault.TheVariants.{Device, Exists, Full, Locked, NotFound}
 
 -- no third fault
 no-device : (Device ≡ NotFound) ⊎ (Device ≡ Locked) → ⊥
@@ -31,6 +31,9 @@ no-device told = ⊎_elim (λ e. cc) (λ e. cc) told
 
 no-exists : (Exists ≡ NotFound) ⊎ (Exists ≡ Locked) → ⊥
 no-exists told = ⊎_elim (λ e. cc) (λ e. cc) told
+
+no-full : (Full ≡ NotFound) ⊎ (Full ≡ Locked) → ⊥
+no-full told = ⊎_elim (λ e. cc) (λ e. cc) told
 
 not-locked : NotFound ≡ Locked → ⊥
 not-locked e = cc
@@ -100,6 +103,7 @@ module _ {D : Type 0} (S : History D) (a b : D) (name : List ℕ) (slots : List 
   }
   found-deletable (Err Device) first missing locked told = absurd (no-device told)
   found-deletable (Err Exists) first missing locked told = absurd (no-exists told)
+  found-deletable (Err Full) first missing locked told = absurd (no-full told)
 
 -- the entry's number
 pub deletable-low : (img : Image) (l : Layout) (s : Slot) (name : List ℕ) → IsLayout img l

@@ -1,12 +1,23 @@
 -- The lemmas of this crate.
+pub mod ChainFiles
+pub mod Chained
+pub mod ChosenSites
 pub mod DeleteCalls
 pub mod Formatted
 pub mod Mapped
 pub mod Overwritten
+pub mod NewChains
 pub mod Patched
 pub mod RenameCalls
+pub mod PlainEntries
+pub mod PutCalls
+pub mod PutInSector
+pub mod PutInSlot
+pub mod PutMoments
+pub mod PutNames
 pub mod Renamed
 pub mod RenamedWhole
 pub mod Reslotted
+pub mod TakenSectors
 pub mod Unlisted
 pub mod UnlistedWhole

@@ -16,7 +16,7 @@ use Rattle.file_changes.specs.Entries.{IsFirstNamed, IsFreeName, entries_of}
 use Rattle.file_changes.specs.Patches.{PatchesSector, patched}
 use Rattle.file_changes.specs.Renames.{FindsRenamable, HasNewName, IsRenamable, IsRenamed, Renames}
 use Rattle.file_changes.specs.declared.faults.ChangeFault.{ChangeFault}
-use Rattle.file_changes.specs.declared.faults.ChangeFault.TheVariants.{Device, Exists, Locked, NotFound}
+use Rattle.file_changes.specs.declared.faults.ChangeFault.TheVariants.{Device, Exists, Full, Locked, NotFound}
 
 -- no third fault
 no-device : (Device ≡ NotFound) ⊎ (Device ≡ Exists) → ⊥
@@ -24,6 +24,9 @@ no-device told = ⊎_elim (λ e. cc) (λ e. cc) told
 
 no-locked : (Locked ≡ NotFound) ⊎ (Locked ≡ Exists) → ⊥
 no-locked told = ⊎_elim (λ e. cc) (λ e. cc) told
+
+no-full : (Full ≡ NotFound) ⊎ (Full ≡ Exists) → ⊥
+no-full told = ⊎_elim (λ e. cc) (λ e. cc) told
 
 not-exists : NotFound ≡ Exists → ⊥
 not-exists e = cc
@@ -90,6 +93,7 @@ module _ {D : Type 0} (S : History D) (a b : D) (from to : List ℕ) (slots : Li
   }
   found (Err Device) first missing exists told = absurd (no-device told)
   found (Err Locked) first missing exists told = absurd (no-locked told)
+  found (Err Full) first missing exists told = absurd (no-full told)
 
 -- the entry's number
 pub entry-low : (img : Image) (l : Layout) (s : Slot) (from to : List ℕ) → IsLayout img l

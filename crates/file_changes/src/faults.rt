@@ -15,6 +15,9 @@ pub enum ChangeFault {
     /// The entry is locked.
     #[error("FILE LOCKED")]
     Locked,
+    /// The disk has not enough free blocks, or no room in its directory.
+    #[error("DISK FULL")]
+    Full,
     /// The device failed.
     #[error("DEVICE")]
     Device,

@@ -1,14 +1,22 @@
-//! Changes to the files of a 1541 disk: an entry gets another name, a file is deleted; and empty disks.
+//! Changes to the files of a 1541 disk: an entry gets another name, a file is deleted or put there;
+//! and empty disks.
 #![tactic(auto)]
 
 mod deleting;
 mod entries;
 mod faults;
+mod file_type;
 mod formatting;
 mod patching;
+mod put_sectors;
+mod put_site;
+mod put_writes;
+mod putting;
 mod renaming;
 
 pub use deleting::delete;
 pub use faults::ChangeFault;
+pub use file_type::FileType;
 pub use formatting::{format_disk, new_disk};
+pub use putting::put_file;
 pub use renaming::rename;

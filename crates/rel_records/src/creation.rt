@@ -13,7 +13,7 @@ ghost use Rattle.rel_records.specs.creation.Site.{IsFileAt, IsRoomOf, IsSite};
 ghost use Rattle.rel_records.specs.declared.faults.RelFault.TheVariants.{Device};
 
 pub(crate) mod directory_room;
-mod new_file;
+pub(crate) mod new_file;
 mod site;
 
 use crate::creation::directory_room::{Room, find_room, has_name};
@@ -28,8 +28,9 @@ use arrayvec::ArrayVec;
 use d64_image::Sectors;
 use disk_layout::{Bam, directory_start, padded_name, walk_chain};
 
-/// Finds the directory's room for an entry on a sound disk.
-fn read_room<D: Sectors>(disk: &mut D) -> Result<Room, RelFault>
+/// Finds the directory's room for an entry on a sound disk. `Device` if the device failed, the only error. Nothing is
+/// written.
+pub fn read_room<D: Sectors>(disk: &mut D) -> Result<Room, RelFault>
     requires sound { IsSound (D.history.image disk.old) }
     ensures ok { (l : Layout) → IsLayout (D.history.image disk.old) l
         → IfOk result (IsRoomOf (D.history.image disk.old) l) }

@@ -1,8 +1,9 @@
 //! Changes of an image as commands: what they print, and what they refuse.
 use crate::comparing::{differs_in, same_at};
 use crate::disks::{blank, with_type};
-use change_commands::{EditFault, delete_image, rename_image};
+use change_commands::{EditFault, delete_image, put_image, rename_image};
 use d64_image::MemDisk;
+use file_changes::FileType;
 use std::process::Abort;
 
 /// Renames an entry of a disk in memory that holds this image: how that ends, what is printed, and the disk.
@@ -41,6 +42,32 @@ fn deleted(
     }
 }
 
+/// Puts a file of one byte on a disk in memory that holds this image: how that ends, what is printed, and the disk.
+fn put(
+    rt: &(impl Abort + AllocGlobal),
+    before: &MemDisk,
+    name: &[u8],
+) -> (Result<(), EditFault>, Vec<u8>, MemDisk) {
+    assert!(rt; name.len() <= 16, "no entry has such a name");
+    let mut out = Vec::new(rt.alloc());
+    match MemDisk::load(rt.alloc(), before.bytes()) {
+        Ok(disk) => {
+            let mut disk = disk;
+            let ended = put_image(
+                rt.alloc(),
+                before.bytes(),
+                name,
+                FileType::Prg,
+                b"A",
+                &mut disk,
+                &mut out,
+            );
+            (ended, out, disk)
+        }
+        Err(fault) => panic!(rt; "the image isn't taken: {fault:?}"),
+    }
+}
+
 #[test]
 fn changes_are_printed(rt: HostRuntime) {
     let before = blank(&rt);
@@ -64,6 +91,20 @@ fn changes_are_printed(rt: HostRuntime) {
         disk.bytes(),
         before.bytes(),
         &[(91_650, b"\0"), (91_460, b"\x13\xF3\xFF\x1F")],
+    );
+    let (ended, out, disk) = put(&rt, &before, b"SIXTEEN LETTERS.");
+    same_at(&rt, ended, Ok(()), "put");
+    same_at(&rt, out.as_slice(), b"PUT\n", "printed");
+    differs_in(
+        &rt,
+        disk.bytes(),
+        before.bytes(),
+        &[
+            (87_040, b"\0\x02A"),
+            (91_460, b"\x10\xE0\xFF\x1F"),
+            (91_714, b"\x82\x11\x04SIXTEEN LETTERS."),
+            (91_742, b"\x01"),
+        ],
     );
 }
 
@@ -102,6 +143,13 @@ fn changes_are_refused(rt: HostRuntime) {
         1,
     );
     is_refused(&rt, &good, deleted(&rt, &good, long), EditFault::NoFile, 1);
+    is_refused(
+        &rt,
+        &good,
+        put(&rt, &good, b"STOCK"),
+        EditFault::FileExists,
+        1,
+    );
     let locked = with_type(&rt, 0xC4);
     is_refused(
         &rt,

@@ -12,4 +12,6 @@ mod disks;
 #[cfg(test)]
 mod formatting_rows;
 #[cfg(test)]
+mod putting_rows;
+#[cfg(test)]
 mod renaming_rows;

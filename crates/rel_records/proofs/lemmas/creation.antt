@@ -8,7 +8,7 @@ pub mod Made
 pub mod NewClean
 pub mod NewFiles
 pub mod NewWrites
-pub mod OnceLinked
 pub mod Sites
 pub mod StillClean
 pub mod TakenNames
+pub mod Unowned

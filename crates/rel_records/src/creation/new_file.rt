@@ -63,8 +63,9 @@ fn write_with_directory<D: Sectors>(
     disk.write(fresh, bytes)
 }
 
-/// Puts the entry into a slot of a directory sector; the first slot keeps the sector's link.
-fn put_entry(bytes: &mut [u8; 256], number: u8, entry: &[u8; 30])
+/// Puts the entry, bytes 2 to 31 of a slot, into the slot with this number of a directory sector. The first slot keeps the
+/// sector's link. In the others bytes 0 and 1 become 0.
+pub fn put_entry(bytes: &mut [u8; 256], number: u8, entry: &[u8; 30])
     requires { number < 8 }
     ensures { IsEntered bytes.old bytes.new number entry.now }
 {
@@ -76,8 +77,8 @@ fn put_entry(bytes: &mut [u8; 256], number: u8, entry: &[u8; 30])
     bytes[at + 2..at + 32].copy_from_slice(entry);
 }
 
-/// A new directory sector after the directory's last, with the entry in its first slot.
-fn directory_with(entry: &[u8; 30]) -> [u8; 256]
+/// A new directory sector after the directory's last, with the entry, bytes 2 to 31 of a slot, in its first slot.
+pub fn directory_with(entry: &[u8; 30]) -> [u8; 256]
     ensures { IsNewDirectory result entry.now }
 {
     let mut bytes = [0; 256];
@@ -86,8 +87,8 @@ fn directory_with(entry: &[u8; 30]) -> [u8; 256]
     bytes
 }
 
-/// Links a directory sector to another.
-fn link_to(bytes: &mut [u8; 256], place: Place)
+/// Links a directory sector to another. Its other bytes stay.
+pub fn link_to(bytes: &mut [u8; 256], place: Place)
     ensures { IsLinkedTo bytes.old bytes.new place }
 {
     bytes[0] = place.track();

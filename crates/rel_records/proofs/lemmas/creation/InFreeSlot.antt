@@ -1,6 +1,6 @@
 -- A new file whose entry goes into a free slot: its sectors are written, then the entry, by one write.
 use Rattle.std.proofs.Common.{◌≡◌, ◌≢◌, ℕ, ◌+◌, ◌<◌, ◌≤◌, inl, inr, false, true, List, [], ◌∷◌, ◌++◌, ap, arith, length}
-use Rattle.std.proofs.Common.{map, refl, slice_index, subst, sym, ◌∙◌}
+use Rattle.std.proofs.Common.{map, refl, slice_index, subst, sym, ◌∙◌, IsTrue}
 use Rattle.std.specs.Prelude.{Contains, Some, flat_map, slice_get}
 use Rattle.std.proofs.lemmas.List.{length-map}
 use Rattle.std.proofs.lemmas.List.Elements.{Contains-append_left, Contains-append_right}
@@ -15,18 +15,21 @@ use Rattle.disk_layout.proofs.lemmas.growth.GrowthRecords.{get-seam}
 use Rattle.disk_layout.proofs.lemmas.lists.Once.{Contains-cases, Contains-here, Contains-nil, Contains-there}
 use Rattle.disk_layout.specs.Entries.{rel_entry}
 use Rattle.disk_layout.specs.Directory.{is_used, map_place, slot_in, type_byte}
-use Rattle.disk_layout.specs.Layout.{File, Layout, count_field, file_owns, owners}
+use Rattle.disk_layout.specs.Clean.{IsExactFile}
+use Rattle.disk_layout.specs.Layout.{File, Layout, count_field, file_owns, is_rel, owners}
 use Rattle.disk_layout.specs.Map.{IsMapOf}
 use Rattle.disk_layout.specs.Side.{side_sector}
 use Rattle.disk_layout.specs.Whole.{IsWhole}
-use Rattle.rel_records.proofs.lemmas.directory.Entered.{IsEntry, entry-apart, entry-links, entry-used, is-entry}
+use Rattle.rel_records.proofs.lemmas.directory.AnyEntry.{entry-apart, entry-links, entry-used}
+use Rattle.rel_records.proofs.lemmas.directory.Entered.{IsEntry, is-entry, rel-used}
 use Rattle.rel_records.proofs.lemmas.creation.Creating.{with_new}
 use Rattle.rel_records.proofs.lemmas.directory.FullSlots.{slots-before}
 use Rattle.rel_records.proofs.lemmas.creation.InSlot.{Made, TakesSlot, made, not_file, slot-stays}
 use Rattle.rel_records.proofs.lemmas.creation.NewClean.{file-more, is-new, map-same, two-among}
-use Rattle.rel_records.proofs.lemmas.creation.NewFiles.{IsNewFile, new_file}
+use Rattle.rel_records.proofs.lemmas.creation.NewFiles.{IsNewFile, new-exact, new-is_file, new_file}
 use Rattle.rel_records.proofs.lemmas.creation.NewWrites.{before-same, files-before}
 use Rattle.rel_records.proofs.lemmas.creation.StillClean.{made-clean}
+use Rattle.rel_records.proofs.lemmas.creation.Unowned.{two-unowned}
 use Rattle.rel_records.proofs.lemmas.whole.Created.{before-whole, more-whole}
 use Rattle.rel_records.specs.creation.Made.{HasFilesOf, IsCreating}
 use Rattle.rel_records.specs.creation.NewFile.{ChangesOnly, HasNewSectors, IsEntered, IsTakenFor}
@@ -128,16 +131,17 @@ module _ (a c : Image) (l : Layout) (st : Site) (bytes : Sector) (name : List �
   free = ap (λ x. is_used (slot_in st.place x st.number)) here ∙ h.room.slot.free
 
   apart : (k : ℕ) → k < 8 → k ≢ st.number → slot_in st.place (sector c st.place) k ≡ slot_in st.place bytes k
-  apart = entry-apart (sector c st.place) bytes st.number name st.block st.side L low-slot few put-in st.place
+  apart = entry-apart (sector c st.place) bytes st.number (rel_entry name st.block st.side L 2) low-slot put-in st.place
 
   same-link : (slice_index (sector c st.place) 0 ≡ slice_index bytes 0)
       × (slice_index (sector c st.place) 1 ≡ slice_index bytes 1)
-  same-link = entry-links (sector c st.place) bytes st.number name st.block st.side L low-slot few put-in
+  same-link = entry-links (sector c st.place) bytes st.number (rel_entry name st.block st.side L 2) low-slot put-in
 
   used : is_used (slot_in st.place bytes st.number) ≡ true
-  used = entry-used (sector c st.place) bytes st.number name st.block st.side L low-slot few put-in st.place
+  used = entry-used (sector c st.place) bytes st.number (rel_entry name st.block st.side L 2) low-slot put-in
+      (rel-used name st.block st.side L) st.place
 
-  takes : TakesSlot a c l h.room.front h.room.back p n bytes block side u
+  takes : TakesSlot a c l h.room.front h.room.back p n bytes (new_file (slot_in p bytes n) block side u)
   takes = record {
     full = wc.size;
     layout = was.layout;
@@ -148,14 +152,18 @@ module _ (a c : Image) (l : Layout) (st : Site) (bytes : Sector) (name : List �
     links = same-link;
     free = free;
     used = used;
-    no_block = h.taken.no_block;
-    no_side = h.taken.no_side;
-    not_block = h.taken.apart;
-    new = new;
+    slot = refl;
+    unowned = two-unowned l (new_file (slot_in p bytes n) block side u) block side refl h.taken.no_block h.taken.no_side
+        h.taken.apart;
+    new = new-is_file (put c p bytes) (slot_in p bytes n) block side u new;
   }
 
-  it : Made a c l h.room.front p n bytes block side u
+  it : Made a c l h.room.front p n bytes (new_file (slot_in p bytes n) block side u)
   it = made takes
+
+  exact : IsTrue (is_rel (slot_in p bytes n))
+      → IsExactFile (put c p bytes) (new_file (slot_in p bytes n) block side u)
+  exact t = new-exact (put c p bytes) (slot_in p bytes n) block side u new entry.count
 
   right : (xs ys : List Place) → owners l ≡ xs ++ ys
       → IsMapOf (sector c map_place) (map_place ∷ (xs ++ st.block ∷ (st.side ∷ ys)))
@@ -187,13 +195,13 @@ module _ (a c : Image) (l : Layout) (st : Site) (bytes : Sector) (name : List �
   -- the image has the files of before and the new one, and is clean
   pub slot-more : HasFileAt a l name L st st.place (put c st.place bytes)
   slot-more = file-more (put c st.place bytes) (slot_in st.place bytes st.number) name st.block st.side L entry fresh
-      links low high a l _ st st.place wb (made-clean takes h.taken.clean same entry.count right it) it.adds
+      links low high a l _ st st.place wb (made-clean takes h.taken.clean same exact right it) it.adds
       (inl (h.room, refl)) at-entry refl refl refl
 
   -- whole files stay whole
   pub slot-whole : IsWhole a → IsWhole (put c st.place bytes)
   slot-whole = more-whole a c st.place bytes l _ it.before it.after (slot_in st.place bytes st.number) st.block st.side u
-      L h.taken.clean.layout it.split refl (made-clean takes h.taken.clean same entry.count right it) same
+      L h.taken.clean.layout it.split refl (made-clean takes h.taken.clean same exact right it) same
       (not_file takes)
       (λ f d. let still = slot-stays takes f.slot (slot-of c l f was.layout d) in
       (ap count_field still, sym (ap type_byte still)))

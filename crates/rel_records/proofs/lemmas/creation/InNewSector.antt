@@ -1,6 +1,6 @@
 -- A new file whose entry goes into a new directory sector: its sectors and that one are written, then the link to it.
 use Rattle.std.proofs.Common.{◌≡◌, ◌≢◌, ℕ, ◌+◌, ◌<◌, ◌≤◌, inl, inr, true, false, List, [], ◌∷◌, ◌++◌, ap, append_assoc}
-use Rattle.std.proofs.Common.{append-nil, arith, length, map, refl, slice_index, subst, sym, ◌∙◌, ◌*◌}
+use Rattle.std.proofs.Common.{append-nil, arith, length, map, refl, slice_index, subst, sym, ◌∙◌, ◌*◌, IsTrue}
 use Rattle.std.specs.Prelude.{Contains, Some, flat_map, nat_eq, not, slice_get}
 use Rattle.std.proofs.lemmas.List.{length-map}
 use Rattle.std.proofs.lemmas.List.Elements.{Contains-append_left, Contains-append_right}
@@ -17,21 +17,22 @@ use Rattle.disk_layout.proofs.lemmas.growth.LongerDirectory.{IsRelinked}
 use Rattle.disk_layout.proofs.lemmas.lists.Lists.{snoc-last}
 use Rattle.disk_layout.proofs.lemmas.lists.Once.{Contains-cases, Contains-here, Contains-nil, Contains-there}
 use Rattle.disk_layout.proofs.lemmas.lists.Once.{EachOnce-apart}
-use Rattle.disk_layout.specs.Clean.{IsCleanLayout}
+use Rattle.disk_layout.specs.Clean.{IsCleanLayout, IsExactFile}
 use Rattle.disk_layout.specs.Entries.{rel_entry}
 use Rattle.disk_layout.specs.Chain.{EachOnce}
 use Rattle.disk_layout.specs.Directory.{is_used, map_place, slot_in}
-use Rattle.disk_layout.specs.Layout.{File, Layout, file_owns, owners}
+use Rattle.disk_layout.specs.Layout.{File, IsFile, Layout, file_owns, is_rel, owners}
 use Rattle.disk_layout.specs.Map.{IsMapOf}
 use Rattle.disk_layout.specs.Side.{side_sector}
 use Rattle.disk_layout.specs.Whole.{IsWhole}
-use Rattle.rel_records.proofs.lemmas.directory.Entered.{IsEntry, entry-used, is-entry}
+use Rattle.rel_records.proofs.lemmas.directory.AnyEntry.{entry-used}
+use Rattle.rel_records.proofs.lemmas.directory.Entered.{IsEntry, is-entry, rel-used}
 use Rattle.rel_records.proofs.lemmas.creation.Creating.{with_new}
 use Rattle.rel_records.proofs.lemmas.directory.FullSlots.{files-full}
 use Rattle.rel_records.proofs.lemmas.creation.InSector.{linked-adds, linked-clean}
-use Rattle.rel_records.proofs.lemmas.creation.OnceLinked.{once-linked}
+use Rattle.rel_records.proofs.lemmas.creation.Unowned.{once-linked, two-unowned}
 use Rattle.rel_records.proofs.lemmas.creation.NewClean.{file-more, is-new, map-same, three-among}
-use Rattle.rel_records.proofs.lemmas.creation.NewFiles.{IsNewFile, new_file, owners-new}
+use Rattle.rel_records.proofs.lemmas.creation.NewFiles.{IsNewFile, new-exact, new-is_file, new_file, owners-new}
 use Rattle.rel_records.proofs.lemmas.creation.NewWrites.{before-same, files-before}
 use Rattle.rel_records.proofs.lemmas.whole.Created.{before-whole, linked-stays, more-whole}
 use Rattle.rel_records.specs.creation.Made.{HasFilesOf, IsCreating}
@@ -116,8 +117,8 @@ module _ (a c : Image) (l : Layout) (st : Site) (fresh : Place) (first_bytes byt
   used : is_used (slot_in fresh (sector c fresh) 0) ≡ true
   used =
       let (old, entered) = made.entered in
-      ap (λ x. is_used (slot_in fresh x 0)) there ∙ entry-used old first_bytes 0 name st.block st.side L (omega arith)
-      few entered fresh
+      ap (λ x. is_used (slot_in fresh x 0)) there ∙ entry-used old first_bytes 0 (rel_entry name st.block st.side L 2)
+      (omega arith) entered (rel-used name st.block st.side L) fresh
 
   free : (n : ℕ) → 0 < n → n < 8 → is_used (slot_in fresh (sector c fresh) n) ≡ false
   free n pos lt = ap (λ x. is_used (slot_in fresh x n)) there
@@ -144,9 +145,15 @@ module _ (a c : Image) (l : Layout) (st : Site) (fresh : Place) (first_bytes byt
   once : EachOnce
       (map_place ∷ owners
       (record { directory = l.directory ++ fresh ∷ []; files = with_new (put c st.place bytes) l.files [] k }))
-  once = once-linked (put c st.place bytes) l fresh st.block st.side (slot_in fresh (sector c fresh) 0) u
-      was.layout.once h.taken.no_fresh h.taken.no_block h.taken.no_side h.taken.apart_block h.taken.apart_side
-      h.taken.apart
+  once = once-linked (put c st.place bytes) l fresh k was.layout.once h.taken.no_fresh
+      (two-unowned l k st.block st.side refl h.taken.no_block h.taken.no_side h.taken.apart)
+      (λ d. elim (Contains-cases fresh st.block (st.side ∷ []) d) [
+        | inl e ↦ h.taken.apart_block (sym e)
+        | inr s ↦ elim (Contains-cases fresh st.side [] s) [
+          | inl e ↦ h.taken.apart_side (sym e)
+          | inr none ↦ Contains-nil fresh none
+        ]
+      ])
 
   right : IsMapOf (sector c map_place)
       (map_place ∷ owners
@@ -170,11 +177,17 @@ module _ (a c : Image) (l : Layout) (st : Site) (fresh : Place) (first_bytes byt
       ap (slice_get (with_new (put c st.place bytes) l.files [] k)) (sym long)
       ∙ get-seam (map (reread (put c st.place bytes)) l.files) [] k
 
+  now-file : IsFile (put c st.place bytes) k
+  now-file = new-is_file (put c st.place bytes) (slot_in fresh (sector c fresh) 0) st.block st.side u new
+
+  exact : IsTrue (is_rel k.slot) → IsExactFile (put c st.place bytes) k
+  exact t = new-exact (put c st.place bytes) (slot_in fresh (sector c fresh) 0) st.block st.side u new entry.count
+
   now-clean : IsCleanLayout (put c st.place bytes)
       (record { directory = l.directory ++ fresh ∷ []; files = with_new (put c st.place bytes) l.files [] k })
-  now-clean = linked-clean c l st.place bytes wc.size relinked a was.layout was is_last fresh st.block st.side u
-      linked.link (ap (λ x. slice_index x 0) there ∙ made.ends) h.taken.on_18 h.taken.no_fresh used free new once
-      h.taken.clean same entry.count right
+  now-clean = linked-clean c l st.place bytes wc.size relinked a was.layout was is_last fresh k refl
+      linked.link (ap (λ x. slice_index x 0) there ∙ made.ends) h.taken.on_18 h.taken.no_fresh used free now-file once
+      h.taken.clean same exact right
 
   -- whole files stay whole
   pub sector-whole : IsWhole a → IsWhole (put c st.place bytes)
@@ -187,8 +200,8 @@ module _ (a c : Image) (l : Layout) (st : Site) (fresh : Place) (first_bytes byt
   sector-more = file-more (put c st.place bytes) (slot_in fresh (sector c fresh) 0) name st.block st.side L entry blocks
       links low high a l _ st fresh wb
       now-clean
-      (linked-adds c l st.place bytes wc.size relinked a was.layout was is_last fresh st.block st.side u linked.link
-      (ap (λ x. slice_index x 0) there ∙ made.ends) h.taken.on_18 h.taken.no_fresh used free new once)
+      (linked-adds c l st.place bytes wc.size relinked a was.layout was is_last fresh k refl linked.link
+      (ap (λ x. slice_index x 0) there ∙ made.ends) h.taken.on_18 h.taken.no_fresh used free now-file once)
       (inr (h.full.full, (h.lowest, (refl, refl)))) at-entry refl (sym h.number) refl
 
 module _ {D : Type 0} (S : History D) (d e : D) (l : Layout) (st : Site) (fresh : Place) (first_bytes bytes : Sector)

@@ -28,13 +28,12 @@ use Rattle.disk_layout.proofs.lemmas.counts.Recounts.{map-map, reread, reslot, s
 use Rattle.disk_layout.specs.Chain.{EachOnce, IsChain, Names}
 use Rattle.disk_layout.specs.Directory.{IsDirectory, directory_start, is_used, map_place, slot_in, slots_in}
 use Rattle.disk_layout.specs.Directory.{used_slots}
-use Rattle.disk_layout.specs.Layout.{File, IsLayout, Layout, count_field, file_owns, is_rel, is_rel_type}
+use Rattle.disk_layout.specs.Layout.{File, IsFile, IsLayout, Layout, count_field, file_owns, is_rel, is_rel_type}
 use Rattle.disk_layout.specs.Layout.{owners}
 use Rattle.disk_layout.specs.Layout.{record_length}
 use Rattle.disk_layout.specs.Same.{AddsFile}
 use Rattle.disk_layout.specs.declared.slot.Slot.{Slot}
 use Rattle.rel_records.proofs.lemmas.creation.Creating.{SameEntry, created-adds, created-layout, with_new}
-use Rattle.rel_records.proofs.lemmas.creation.NewFiles.{IsNewFile, new-exact, new-is_file, new_file}
 use Rattle.rel_records.proofs.lemmas.directory.NewSlots.{used_slots-sector}
 use Rattle.rel_records.specs.creation.Made.{HasFilesOf}
 
@@ -75,20 +74,17 @@ module _ (c : Image) (l : Layout) (p : Place) (bytes : Sector) (full : length c 
 
   -- the new sector stands behind the old last one, and holds the entry in its first slot
   module _ (a : Image) (h : IsLayout c l) (was : HasFilesOf a l c) (is_last : h.directory.chain.last ≡ p)
-      (fresh block side : Place) (u : ℕ)
+      (fresh : Place) (k : File) (slot : k.slot ≡ slot_in fresh (sector c fresh) 0)
       (link : Names bytes 0 fresh) (ends : slice_index (sector c fresh) 0 ≡ 0) (on_18 : fresh.track ≡ 18)
       (no_fresh : ¬ (Contains (map_place ∷ owners l) fresh))
       (used : is_used (slot_in fresh (sector c fresh) 0) ≡ true) (free : (n : ℕ) → 0 < n → n < 8
       → is_used (slot_in fresh (sector c fresh) n) ≡ false)
-      (new : IsNewFile (put c p bytes) (slot_in fresh (sector c fresh) 0) block side u)
+      (new : IsFile (put c p bytes) k)
       (once : EachOnce (map_place ∷ owners (record {
         directory = l.directory ++ fresh ∷ [];
-        files = with_new (put c p bytes) l.files [] (new_file (slot_in fresh (sector c fresh) 0) block side u);
+        files = with_new (put c p bytes) l.files [] k;
       })))
     where
-      abbrev k : File
-      k = new_file (slot_in fresh (sector c fresh) 0) block side u
-
       on : Contains l.directory p
       on = let P : Place → Type 0 = Contains l.directory in
           subst P is_last (chain-last c directory_start l.directory h.directory.last h.directory.chain)
@@ -130,7 +126,7 @@ module _ (c : Image) (l : Layout) (p : Place) (bytes : Sector) (full : length c 
 
       all-slots : (xs : List File) → map (λ f. f.slot) (xs ++ k ∷ []) ≡ map (λ f. f.slot) xs ++ slot_in fresh
           (sector c fresh) 0 ∷ []
-      all-slots [] = refl
+      all-slots [] = ap (λ s. s ∷ []) slot
       all-slots (x ∷ xs) = ap (λ s. x.slot ∷ s) (all-slots xs)
 
       slots : map (λ f. f.slot) (with_new (put c p bytes) l.files [] k) ≡ used_slots (put c p bytes)
@@ -168,20 +164,19 @@ module _ (c : Image) (l : Layout) (p : Place) (bytes : Sector) (full : length c 
 
       pub linked-layout : IsLayout (put c p bytes) (record {
         directory = l.directory ++ fresh ∷ [];
-        files = with_new (put c p bytes) l.files [] (new_file (slot_in fresh (sector c fresh) 0) block side u);
+        files = with_new (put c p bytes) l.files [] k;
       })
       linked-layout = created-layout c (put c p bytes) l l.files [] k (l.directory ++ fresh ∷ []) h
-          (sym (append-nil l.files)) keeps entries directory
-          (new-is_file (put c p bytes) (slot_in fresh (sector c fresh) 0) block side u new) once
+          (sym (append-nil l.files)) keeps entries directory new once
 
       pub linked-adds : AddsFile a (put c p bytes) l (record {
         directory = l.directory ++ fresh ∷ [];
-        files = with_new (put c p bytes) l.files [] (new_file (slot_in fresh (sector c fresh) 0) block side u);
+        files = with_new (put c p bytes) l.files [] k;
       })
-          (new_file (slot_in fresh (sector c fresh) 0) block side u)
+          k
       linked-adds = created-adds c (put c p bytes) l l.files [] k (l.directory ++ fresh ∷ []) h
           (sym (append-nil l.files))
-          keeps entries directory (new-is_file (put c p bytes) (slot_in fresh (sector c fresh) 0) block side u new) a
+          keeps entries directory new a
           was
           (λ f d q e. unless-same c p q bytes (λ one. not_file (let P : Place
           → Type 0 = Contains (flat_map file_owns l.files) in
@@ -192,18 +187,18 @@ module _ (c : Image) (l : Layout) (p : Place) (bytes : Sector) (full : length c 
 
       -- and where the image at the start was clean, and the map is that of the new owners, it is clean
       module _ (clean : IsCleanLayout a l) (same : AgreeAt a c (owners l))
-          (two : count_field (slot_in fresh (sector c fresh) 0) ≡ 2)
+          (exact : IsTrue (is_rel k.slot) → IsExactFile (put c p bytes) k)
           (right : IsMapOf (sector c map_place) (map_place ∷ owners (record {
             directory = l.directory ++ fresh ∷ [];
-            files = with_new (put c p bytes) l.files [] (new_file (slot_in fresh (sector c fresh) 0) block side u);
+            files = with_new (put c p bytes) l.files [] k;
           })))
         where
           exact-still : (f : File) → Contains l.files f → (IsTrue (is_rel f.slot) → IsExactFile a f)
               → IsTrue (is_rel (reslot (put c p bytes) f.slot)) → IsExactFile (put c p bytes) (reread (put c p bytes) f)
-          exact-still f d exact t =
+          exact-still f d had t =
               let kind = (entries f d).face.kind in
               let was_rel : IsTrue (is_rel f.slot) = ap is_rel_type kind ∙ t in
-              let old = exact was_rel in
+              let old = had was_rel in
               let size : record_length (reslot (put c p bytes) f.slot) ≡ record_length f.slot =
               sym (entries f d).face.length in
               record {
@@ -230,14 +225,14 @@ module _ (c : Image) (l : Layout) (p : Place) (bytes : Sector) (full : length c 
 
           pub linked-clean : IsCleanLayout (put c p bytes) (record {
             directory = l.directory ++ fresh ∷ [];
-            files = with_new (put c p bytes) l.files [] (new_file (slot_in fresh (sector c fresh) 0) block side u);
+            files = with_new (put c p bytes) l.files [] k;
           })
           linked-clean = record {
             layout = linked-layout;
             files = all-join (λ f. IsTrue (is_rel f.slot) → IsExactFile (put c p bytes) f)
                 (map (reread (put c p bytes)) l.files) (k ∷ [])
                 (exact-all l.files (λ f d. d) clean.files)
-                (λ t. new-exact (put c p bytes) (slot_in fresh (sector c fresh) 0) block side u new two, tt);
+                (exact, tt);
             map =
                 let P : Sector → Type 0 =
                 λ x. IsMapOf x (map_place ∷ owners (record {

@@ -1,8 +1,7 @@
 -- The entry is written into a free slot of the directory: one write makes the file.
 use Rattle.std.proofs.Common.{◌≡◌, ◌≢◌, ℕ, ◌<◌, inl, inr, true, false, List, [], ◌∷◌, ◌++◌, map, length, refl, sym, ◌∙◌}
-use Rattle.std.proofs.Common.{ap, subst, slice_index, append_assoc}
+use Rattle.std.proofs.Common.{ap, subst, slice_index}
 use Rattle.std.specs.Prelude.{Contains, drop, flat_map, slice_range, take}
-use Rattle.std.proofs.lemmas.Grind.{flat_map-append}
 use Rattle.std.proofs.lemmas.List.{length-map}
 use Rattle.std.proofs.lemmas.List.Elements.{Contains-append_left, Contains-append_right}
 use Rattle.d64_image.proofs.Images.{sector-put_other, sector-put_same}
@@ -18,11 +17,11 @@ use Rattle.disk_layout.proofs.lemmas.counts.Recount.{slot-there}
 use Rattle.disk_layout.proofs.lemmas.counts.Recounts.{map-map, map-same_on, reread, reslot, slot-of}
 use Rattle.disk_layout.specs.Chain.{EachOnce}
 use Rattle.disk_layout.specs.Directory.{IsDirectory, directory_start, is_used, map_place, slot_in, used_slots}
-use Rattle.disk_layout.specs.Layout.{File, IsLayout, Layout, file_owns, owners}
+use Rattle.disk_layout.specs.Layout.{File, IsFile, IsLayout, Layout, file_owns, owners}
 use Rattle.disk_layout.specs.Same.{AddsFile}
 use Rattle.disk_layout.specs.declared.slot.Slot.{Slot}
 use Rattle.rel_records.proofs.lemmas.creation.Creating.{SameEntry, created-adds, created-layout, map-split, with_new}
-use Rattle.rel_records.proofs.lemmas.creation.NewFiles.{IsNewFile, new-is_file, new_file, once-new, owners-new}
+use Rattle.rel_records.proofs.lemmas.creation.Unowned.{IsUnowned, once-with, owners-around, owners-with}
 use Rattle.rel_records.proofs.lemmas.directory.NewSlots.{used_before, used_behind, used_slots-free, used_slots-new}
 use Rattle.rel_records.specs.creation.Made.{HasFilesOf}
 
@@ -42,10 +41,9 @@ same-entry s t e = record {
 }
 
 -- one write puts an entry into slot n, which was free, and changes no other slot: c is the image before it, a the one
--- at the start, p the directory sector, and `bytes` what it gets. The file of the entry has the one block `block`, used
--- up to index u, and the side sector `side`
+-- at the start, p the directory sector, and `bytes` what it gets. k is the file of the entry, of whatever type
 pub record TakesSlot (a c : Image) (l : Layout) (front back : List Place) (p : Place) (n : ℕ) (bytes : Sector)
-    (block side : Place) (u : ℕ) : Type 0 where
+    (k : File) : Type 0 where
   pub full : length c ≡ 683
   pub layout : IsLayout c l
   pub was : HasFilesOf a l c
@@ -55,10 +53,9 @@ pub record TakesSlot (a c : Image) (l : Layout) (front back : List Place) (p : P
   pub links : (slice_index (sector c p) 0 ≡ slice_index bytes 0) × (slice_index (sector c p) 1 ≡ slice_index bytes 1)
   pub free : is_used (slot_in p (sector c p) n) ≡ false
   pub used : is_used (slot_in p bytes n) ≡ true
-  pub no_block : ¬ (Contains (map_place ∷ owners l) block)
-  pub no_side : ¬ (Contains (map_place ∷ owners l) side)
-  pub not_block : side ≢ block
-  pub new : IsNewFile (put c p bytes) (slot_in p bytes n) block side u
+  pub slot : k.slot ≡ slot_in p bytes n
+  pub unowned : IsUnowned l k
+  pub new : IsFile (put c p bytes) k
 
 -- the layout with the new file between these others
 abbrev pub with_file : Image → Layout → List File → List File → File → Layout
@@ -66,23 +63,20 @@ with_file b l before after k = record { directory = l.directory; files = with_ne
 
 -- what it makes: a layout with the new file, in which all others stay
 pub record Made (a c : Image) (l : Layout) (front : List Place) (p : Place) (n : ℕ) (bytes : Sector)
-    (block side : Place) (u : ℕ) : Type 0 where
+    (k : File) : Type 0 where
   pub before : List File
   pub after : List File
   pub split : l.files ≡ before ++ after
   pub count : length before ≡ length (used_before c front p n)
-  pub layout : IsLayout (put c p bytes)
-      (with_file (put c p bytes) l before after (new_file (slot_in p bytes n) block side u))
-  pub adds : AddsFile a (put c p bytes) l
-      (with_file (put c p bytes) l before after (new_file (slot_in p bytes n) block side u))
-      (new_file (slot_in p bytes n) block side u)
+  pub layout : IsLayout (put c p bytes) (with_file (put c p bytes) l before after k)
+  pub adds : AddsFile a (put c p bytes) l (with_file (put c p bytes) l before after k) k
   pub had : owners l ≡ (l.directory ++ flat_map file_owns before) ++ flat_map file_owns after
-  pub has : owners (with_file (put c p bytes) l before after (new_file (slot_in p bytes n) block side u))
-      ≡ (l.directory ++ flat_map file_owns before) ++ block ∷ (side ∷ flat_map file_owns after)
+  pub has : owners (with_file (put c p bytes) l before after k)
+      ≡ (l.directory ++ flat_map file_owns before) ++ (file_owns k ++ flat_map file_owns after)
 
 module _ {a c : Image} {l : Layout} {front back : List Place} {p : Place} {n : ℕ} {bytes : Sector}
-    {block side : Place} {u : ℕ} (takes : TakesSlot a c l front back p n bytes block side u) where
-  open takes use {full, layout, was, sectors, low, apart, links, free, used, no_block, no_side, not_block, new}
+    {k : File} (takes : TakesSlot a c l front back p n bytes k) where
+  open takes use {full, layout, was, sectors, low, apart, links, free, used, slot, unowned, new}
 
   pub on : Contains l.directory p
   on = let P : List Place → Type 0 = λ ps. Contains ps p in
@@ -134,25 +128,21 @@ module _ {a c : Image} {l : Layout} {front back : List Place} {p : Place} {n : �
 
   made-of : (fs gs : List File) → l.files ≡ fs ++ gs → length fs ≡ length (used_before c front p n)
       → map (λ f. f.slot) fs ++ slot_in p bytes n ∷ map (λ f. f.slot) gs ≡ used_slots (put c p bytes) l.directory
-      → Made a c l front p n bytes block side u
-  unfolding owners
+      → Made a c l front p n bytes k
   made-of fs gs split count slots = record {
     before = fs;
     after = gs;
     split = split;
     count = count;
     layout = created-layout c (put c p bytes) l fs gs k l.directory layout split keeps entry-stays directory
-        (new-is_file (put c p bytes) (slot_in p bytes n) block side u new) once;
+        new (once-with (put c p bytes) l fs gs k split layout.once unowned);
     adds = created-adds c (put c p bytes) l fs gs k l.directory layout split keeps entry-stays directory
-        (new-is_file (put c p bytes) (slot_in p bytes n) block side u new) a was blocks-stay header;
-    had = old-owners;
-    has = owners-new (put c p bytes) l.directory fs gs (slot_in p bytes n) block side u
-        (l.directory ++ flat_map file_owns fs) (flat_map file_owns gs) refl refl;
+        new a was blocks-stay header;
+    had = owners-around l fs gs split;
+    has = owners-with (put c p bytes) l.directory fs gs k (l.directory ++ flat_map file_owns fs)
+        (flat_map file_owns gs) refl refl;
   }
     where
-      k : File
-      k = new_file (slot_in p bytes n) block side u
-
       keeps : KeepsFiles c (put c p bytes) l.files
       keeps = keeps-other c p bytes l.files not_file
 
@@ -164,7 +154,7 @@ module _ {a c : Image} {l : Layout} {front back : List Place} {p : Place} {n : �
 
       all-slots : (xs ys : List File) → map (λ f. f.slot) (xs ++ k ∷ ys) ≡ map (λ f. f.slot) xs ++ slot_in p bytes n ∷
           map (λ f. f.slot) ys
-      all-slots [] ys = refl
+      all-slots [] ys = ap (λ s. s ∷ map (λ f. f.slot) ys) slot
       all-slots (x ∷ xs) ys = ap (λ s. x.slot ∷ s) (all-slots xs ys)
 
       directory : IsDirectory (put c p bytes) l.directory (map (λ f. f.slot) (with_new (put c p bytes) fs gs k))
@@ -178,28 +168,6 @@ module _ {a c : Image} {l : Layout} {front back : List Place} {p : Place} {n : �
             ∙ cc (slots-reread fs left, slots-reread gs right) ∙ slots;
       }
 
-      xs : List Place
-      xs = l.directory ++ flat_map file_owns fs
-
-      old-owners : owners l ≡ (l.directory ++ flat_map file_owns fs) ++ flat_map file_owns gs
-      old-owners = ap (λ ys. l.directory ++ flat_map file_owns ys) split
-          ∙ ap (λ ps. l.directory ++ ps) (flat_map-append file_owns fs gs)
-          ∙ shape l.directory (flat_map file_owns fs) (flat_map file_owns gs)
-        where
-          shape : (d f g : List Place) → d ++ (f ++ g) ≡ (d ++ f) ++ g
-          shape d f g = simp append_assoc
-
-      once : EachOnce (map_place ∷ owners (with_file (put c p bytes) l fs gs
-          (new_file (slot_in p bytes n) block side u)))
-      once =
-          let P : List Place → Type 0 = λ ps. EachOnce (map_place ∷ ps) in
-          let Q : List Place → Type 0 = λ ps. ¬ (Contains (map_place ∷ ps) block) in
-          let R : List Place → Type 0 = λ ps. ¬ (Contains (map_place ∷ ps) side) in
-          subst P (sym (owners-new (put c p bytes) l.directory fs gs (slot_in p bytes n) block side u
-          (l.directory ++ flat_map file_owns fs) (flat_map file_owns gs) refl refl))
-          (once-new (l.directory ++ flat_map file_owns fs) (flat_map file_owns gs) block side
-          (subst P old-owners layout.once) (subst Q old-owners no_block) (subst R old-owners no_side) not_block)
-
       blocks-stay : (f : File) → Contains l.files f → AgreeAt c (put c p bytes) f.blocks
       blocks-stay f d q e =
           unless-same c p q bytes (λ one. not_file (let P : Place
@@ -211,7 +179,7 @@ module _ {a c : Image} {l : Layout} {front back : List Place} {p : Place} {n : �
           (sector-put_other c p map_place bytes (λ e. layout.directory.not_map (let P : Place
           → Type 0 = Contains l.directory in subst P e on)))
 
-  pub made : Made a c l front p n bytes block side u
+  pub made : Made a c l front p n bytes k
   made =
       let P : List Place → Type 0 = EachOnce in
       let old = ap (used_slots c) sectors ∙ used_slots-free c front back p n low free in

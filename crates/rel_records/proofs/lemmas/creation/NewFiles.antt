@@ -1,7 +1,6 @@
 -- The new file itself: one block, one side sector, empty records; and who owns what then.
 use Rattle.std.proofs.Common.{
   ◌≡◌,
-  ◌≢◌,
   ℕ,
   zero,
   suc,
@@ -10,42 +9,38 @@ use Rattle.std.proofs.Common.{
   ◌<◌,
   ◌≤◌,
   inl,
-  inr,
   true,
   false,
   List,
   [],
   ◌∷◌,
   ◌++◌,
-  map,
   refl,
   sym,
   ◌∙◌,
   ap,
   arith,
   subst,
-  append_assoc,
   slice_index,
   get_or,
   IsFalse,
 }
-use Rattle.std.specs.Prelude.{Contains, Some, flat_map, replicate, slice_get}
-use Rattle.std.proofs.lemmas.Grind.{flat_map-append}
+use Rattle.std.specs.Prelude.{Some, flat_map, replicate, slice_get}
 use Rattle.d64_image.specs.Images.{Image, IsImage, sector}
 use Rattle.d64_image.specs.declared.place.Place.{Place}
-use Rattle.disk_layout.proofs.lemmas.counts.Recounts.{reread, reread-owns}
 use Rattle.disk_layout.proofs.lemmas.layouts.Exact.{exact-side}
-use Rattle.disk_layout.proofs.lemmas.lists.Once.{Contains-nil, EachOnce-insert, insert-out}
+use Rattle.disk_layout.proofs.lemmas.lists.Once.{Contains-nil}
 use Rattle.disk_layout.proofs.lemmas.records.Fillers.{pieces-fill}
 use Rattle.disk_layout.proofs.lemmas.records.Joined.{joined-at, length-joined}
-use Rattle.disk_layout.specs.Chain.{EachOnce, Names}
+use Rattle.disk_layout.specs.Chain.{Names}
 use Rattle.disk_layout.specs.Clean.{IsExactFile}
-use Rattle.disk_layout.specs.Directory.{map_place, type_byte}
+use Rattle.disk_layout.specs.Directory.{type_byte}
 use Rattle.disk_layout.specs.Layout.{File, IsFile, IsRelFile, count_field, file_owns, is_rel, owners, record_length}
 use Rattle.disk_layout.specs.Records.{empty_record, filler, joined, pieces, record_count, records}
 use Rattle.disk_layout.specs.Side.{side_sector}
 use Rattle.disk_layout.specs.declared.slot.Slot.{Slot}
 use Rattle.rel_records.proofs.lemmas.creation.Creating.{with_new}
+use Rattle.rel_records.proofs.lemmas.creation.Unowned.{owners-with}
 
 -- the file of a slot that names these two sectors
 abbrev pub new_file : Slot → Place → Place → ℕ → File
@@ -146,21 +141,4 @@ pub owners-new : (b : Image) (dir : List Place) (fs gs : List File) (s : Slot) (
     → (xs ys : List Place) → xs ≡ dir ++ flat_map file_owns fs → ys ≡ flat_map file_owns gs
     → owners (record { directory = dir; files = with_new b fs gs (new_file s block side u) }) ≡ xs
     ++ block ∷ (side ∷ ys)
-unfolding owners
-owners-new b dir fs gs s block side u xs ys ex ey =
-    ap (λ ps. dir ++ ps) (flat_map-append file_owns (map (reread b) fs) (new_file s block side u ∷ map (reread b) gs)
-    ∙ cc (reread-owns b fs, reread-owns b gs))
-    ∙ shape dir (flat_map file_owns fs) (flat_map file_owns gs)
-    ∙ cc (ex, ey)
-  where
-    shape : (d f g : List Place) → d ++ (f ++ (block ∷ (side ∷ g))) ≡ (d ++ f) ++ (block ∷ (side ∷ g))
-    shape d f g = simp append_assoc
-
--- two places that nobody owned
-pub once-new : (xs ys : List Place) (block side : Place) → EachOnce (map_place ∷ (xs ++ ys))
-    → ¬ (Contains (map_place ∷ (xs ++ ys)) block) → ¬ (Contains (map_place ∷ (xs ++ ys)) side) → side ≢ block
-    → EachOnce (map_place ∷ (xs ++ block ∷ (side ∷ ys)))
-once-new xs ys block side once no_block no_side ne =
-    let one = EachOnce-insert (map_place ∷ xs) ys side once no_side in
-    EachOnce-insert (map_place ∷ xs) (side ∷ ys) block one (λ c. elim (insert-out (map_place ∷ xs) ys side block c)
-    [ inl e ↦ ne e | inr d ↦ no_block d ])
+owners-new b dir fs gs s block side u xs ys ex ey = owners-with b dir fs gs (new_file s block side u) xs ys ex ey

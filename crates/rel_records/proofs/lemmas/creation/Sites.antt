@@ -37,7 +37,7 @@ pub room-slot : (img : Image) (l : Layout) (r : Room) (n : ℕ) → IsRoomOf img
 room-slot img l r n room is = let P : Option ℕ → Type 0 = λ o. MatchOption o (IsFullDirectory img l.directory r.place)
     (IsFirstRoom img l.directory r.place) in subst P is room.slot
 
-room-none : (img : Image) (l : Layout) (r : Room) → IsRoomOf img l r → r.number ≡ None
+pub room-none : (img : Image) (l : Layout) (r : Room) → IsRoomOf img l r → r.number ≡ None
     → IsFullDirectory img l.directory r.place
 room-none img l r room is = let P : Option ℕ → Type 0 = λ o. MatchOption o (IsFullDirectory img l.directory r.place)
     (IsFirstRoom img l.directory r.place) in subst P is room.slot
@@ -50,7 +50,7 @@ before-is img l r front back h room split =
     (ap (λ ps. slice_get ps (length front)) split ∙ get-seam front back r.place)
 
 -- a directory isn't full, and has a free slot
-not-full : (img : Image) (l : Layout) (p : Place) (n : ℕ) → IsFirstRoom img l.directory p n
+pub not-full : (img : Image) (l : Layout) (p : Place) (n : ℕ) → IsFirstRoom img l.directory p n
     → ¬ (AreFullSectors img l.directory)
 not-full img l p n room full =
     let on : Contains l.directory p = (let P : List Place → Type 0 = λ ps. Contains ps p in

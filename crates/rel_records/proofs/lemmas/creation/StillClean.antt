@@ -15,22 +15,22 @@ use Rattle.disk_layout.proofs.lemmas.counts.Recounts.{reread, reslot, slot-of}
 use Rattle.disk_layout.specs.Clean.{IsCleanLayout, IsExactFile}
 use Rattle.disk_layout.specs.Map.{IsMapOf}
 use Rattle.std.specs.List.{AllByRecursion}
-use Rattle.disk_layout.specs.Directory.{map_place, slot_in}
-use Rattle.disk_layout.specs.Layout.{File, Layout, count_field, file_owns, is_rel, owners}
+use Rattle.disk_layout.specs.Directory.{map_place}
+use Rattle.disk_layout.specs.Layout.{File, Layout, file_owns, is_rel, owners}
 use Rattle.disk_layout.specs.declared.slot.Slot.{Slot}
-use Rattle.rel_records.proofs.lemmas.creation.NewFiles.{new-exact, new_file}
 use Rattle.rel_records.proofs.lemmas.creation.InSlot.{Made, TakesSlot, not_file, on, slot-stays, with_file}
 
 module _ {a c : Image} {l : Layout} {front back : List Place} {p : Place} {n : ℕ} {bytes : Sector}
-    {block side : Place} {u : ℕ} (takes : TakesSlot a c l front back p n bytes block side u)
-    (clean : IsCleanLayout a l) (same : AgreeAt a c (owners l)) (two : count_field (slot_in p bytes n) ≡ 2)
+    {k : File} (takes : TakesSlot a c l front back p n bytes k)
+    (clean : IsCleanLayout a l) (same : AgreeAt a c (owners l))
+    (exact : IsTrue (is_rel k.slot) → IsExactFile (put c p bytes) k)
     (right : (xs ys : List Place) → owners l ≡ xs ++ ys
-    → IsMapOf (sector c map_place) (map_place ∷ (xs ++ block ∷ (side ∷ ys)))) where
-  open takes use {layout, new}
+    → IsMapOf (sector c map_place) (map_place ∷ (xs ++ (file_owns k ++ ys)))) where
+  open takes use {layout}
 
   exact-still : (f : File) → Contains l.files f → (IsTrue (is_rel f.slot) → IsExactFile a f)
       → IsTrue (is_rel (reslot (put c p bytes) f.slot)) → IsExactFile (put c p bytes) (reread (put c p bytes) f)
-  exact-still f d exact =
+  exact-still f d was =
       let P : Slot → Type 0 = λ s. IsTrue (is_rel s) → IsExactFile (put c p bytes) (with_slot f s) in
       subst P (sym (slot-stays takes f.slot (slot-of c l f layout d))) (λ t. record {
         sides = λ j q at.
@@ -38,8 +38,8 @@ module _ {a c : Image} {l : Layout} {front back : List Place} {p : Place} {n : �
             let there = flat_map-in file_owns l.files f q d (Contains-append_right f.blocks f.sides q own) in
             let Q : Place → Type 0 = Contains (flat_map file_owns l.files) in
             let apart-p : p ≢ q = λ one. not_file takes (subst Q (sym one) there) in
-            sector-put_other c p q bytes apart-p ∙ sym (same q (owned-side l f q d own)) ∙ (exact t).sides j q at;
-        count = (exact t).count;
+            sector-put_other c p q bytes apart-p ∙ sym (same q (owned-side l f q d own)) ∙ (was t).sides j q at;
+        count = (was t).count;
       })
 
   exact-all : (fs : List File) → ((f : File) → Contains fs f → Contains l.files f)
@@ -51,8 +51,8 @@ module _ {a c : Image} {l : Layout} {front back : List Place} {p : Place} {n : �
     exact-all fs (λ g e. sub g (Contains-there g f fs e)) all.1,
   )
 
-  pub made-clean : (m : Made a c l front p n bytes block side u) → IsCleanLayout (put c p bytes)
-      (with_file (put c p bytes) l m.before m.after (new_file (slot_in p bytes n) block side u))
+  pub made-clean : (m : Made a c l front p n bytes k) → IsCleanLayout (put c p bytes)
+      (with_file (put c p bytes) l m.before m.after k)
   made-clean m =
       let Q : File → Type 0 = λ f. IsTrue (is_rel f.slot) → IsExactFile a f in
       let old : AllByRecursion Q (m.before ++ m.after) = let P : List File → Type 0 = AllByRecursion Q in
@@ -63,11 +63,10 @@ module _ {a c : Image} {l : Layout} {front back : List Place} {p : Place} {n : �
       record {
         layout = m.layout;
         files = all-join (λ f. IsTrue (is_rel f.slot) → IsExactFile (put c p bytes) f)
-            (map (reread (put c p bytes)) m.before) (new_file (slot_in p bytes n) block side u ∷ map
-            (reread (put c p bytes)) m.after)
+            (map (reread (put c p bytes)) m.before) (k ∷ map (reread (put c p bytes)) m.after)
             (exact-all m.before (λ f d. rw m.split (Contains-append_left m.before m.after f d))
             (all-left Q m.before m.after old)) (
-              λ t. new-exact (put c p bytes) (slot_in p bytes n) block side u new two,
+              exact,
               exact-all m.after (λ f d. rw m.split (Contains-append_right m.before m.after f d))
                   (all-right Q m.before m.after old),
             );

@@ -19,6 +19,7 @@ use Rattle.disk_layout.specs.Layout.{count_field, record_length}
 use Rattle.disk_layout.specs.Rest.{slot_name}
 use Rattle.disk_layout.specs.Side.{place_bytes}
 use Rattle.disk_layout.specs.declared.slot.Slot.{Slot}
+use Rattle.rel_records.proofs.lemmas.directory.AnyEntry.{entry-byte, entry-counted, entry-named, name-long}
 use Rattle.rel_records.specs.creation.NewFile.{IsEntered}
 
 -- the slot of a relative file of this name and record length, which owns these two sectors
@@ -30,26 +31,12 @@ pub record IsEntry (s : Slot) (name : List ℕ) (block side : Place) (L : ℕ) :
   pub count : count_field s ≡ 2
   pub named : slice_range s.bytes 5 21 ≡ slot_name name
 
-name-long : (name : List ℕ) → length name ≤ 16 → length (slot_name name) ≡ 16
-name-long name le = omega
-    (arith, le, length-append name (replicate (16 - length name) 160), length-replicate {A = ℕ} (16 - length name) 160)
-
 -- what follows the name of an entry
 abbrev rest_of : Place → ℕ → List ℕ
 rest_of side L = place_bytes side ++ ((L ∷ replicate 6 0) ++ little_bytes 2 2)
 
 module _ (old new : Sector) (n : ℕ) (name : List ℕ) (block side : Place) (L : ℕ) (low : n < 8) (few : length name ≤ 16)
     (h : IsEntered old new n (rel_entry name block side L 2)) where
-  -- byte j of the entry is byte 2 + j of the slot
-  entry-byte : (j : ℕ) → j < 30
-      → slice_index (slice_range new (32 * n) (32 * n + 32)) (2 + j) ≡ slice_index (rel_entry name block side L 2) j
-  entry-byte j lt =
-      let at : 32 * n + (2 + j) ≡ 32 * n + 2 + j = omega arith in
-      slot-byte new n (2 + j) (omega (arith, lt)) ∙ ap (slice_index new) at
-      ∙ sym (get_or-take (32 * n + 32 - (32 * n + 2)) (drop (32 * n + 2) new) j 0 (omega (arith, lt))
-      ∙ get_or-drop (32 * n + 2) new j 0)
-      ∙ ap (λ (xs : List ℕ). slice_index xs j) h.here
-
   past-name : (k : ℕ) → get_or (slot_name name ++ rest_of side L) (16 + k) 0 ≡ get_or (rest_of side L) k 0
   past-name k =
       let long = name-long name few in
@@ -66,63 +53,34 @@ module _ (old new : Sector) (n : ℕ) (name : List ℕ) (block side : Place) (L 
       ∙ ap (λ m. get_or (slot_name name ++ rest_of side L) m 0) at
       ∙ get_or_append_left (slot_name name) (rest_of side L) 0 k (omega (arith, lt, long))
 
-  slot-long : length (slice_range new (32 * n) (32 * n + 32)) ≡ 32
-  slot-long = ap length (range-piece new n) ∙ length-piece 32 n new (omega (arith, h.long, low))
-
-  named-so : slice_range (slice_range new (32 * n) (32 * n + 32)) 5 21 ≡ slot_name name
-  named-so =
-      let s : List ℕ = slice_range new (32 * n) (32 * n + 32) in
-      let long = name-long name few in
-      let sixteen : length (slice_range s 5 21) ≡ 16 = omega
-      (arith, length-take 16 (drop 5 s), length-drop 5 s, slot-long) in
-      same_number_lists (slice_range s 5 21) (slot_name name) (sixteen ∙ sym long) (λ k lt.
-      let small : k < 16 = omega (arith, lt, sixteen) in
-      let at : 5 + k ≡ 2 + (3 + k) = omega arith in
-      get_or-take 16 (drop 5 s) k 0 small ∙ get_or-drop 5 s k 0 ∙ ap (slice_index s) at
-      ∙ entry-byte (3 + k) (omega (arith, small)) ∙ name-byte k small)
-
   counted : slice_range (slice_range new (32 * n) (32 * n + 32)) 30 32 ≡ 2 ∷ 0 ∷ []
   unfolding rel_entry
-  counted =
-      let s : List ℕ = slice_range new (32 * n) (32 * n + 32) in
-      let two : length (slice_range s 30 32) ≡ 2 = omega (arith, length-take 2 (drop 30 s), length-drop 30 s, slot-long)
-      in
-      same_number_lists (slice_range s 30 32) (2 ∷ 0 ∷ []) two
-      (λ k lt. get_or-take 2 (drop 30 s) k 0 (omega (arith, lt, two)) ∙ get_or-drop 30 s k 0
-      ∙ byte k (omega (arith, lt, two)))
+  counted = entry-counted old new n (rel_entry name block side L 2) low h (2 ∷ 0 ∷ []) refl byte
     where
-      byte : (k : ℕ) → k < 2 → slice_index (slice_range new (32 * n) (32 * n + 32)) (30 + k) ≡ get_or (2 ∷ 0 ∷ []) k 0
-      byte zero lt = entry-byte 28 (omega arith) ∙ past-name 9
-      byte (suc zero) lt = entry-byte 29 (omega arith) ∙ past-name 10
+      byte : (k : ℕ) → k < 2 → slice_index (rel_entry name block side L 2) (28 + k) ≡ get_or (2 ∷ 0 ∷ []) k 0
+      byte zero lt = past-name 9
+      byte (suc zero) lt = past-name 10
       byte (suc (suc k)) lt = absurd (omega (arith, lt))
+
+  abbrev byte-of : (j : ℕ) → j < 30
+      → slice_index (slice_range new (32 * n) (32 * n + 32)) (2 + j) ≡ slice_index (rel_entry name block side L 2) j
+  byte-of j lt = entry-byte old new n (rel_entry name block side L 2) low h j lt
 
   pub is-entry : (p : Place) → IsEntry (slot_in p new n) name block side L
   unfolding rel_entry
   is-entry p = record {
-    kind = entry-byte 0 (omega arith);
-    first = (entry-byte 1 (omega arith), entry-byte 2 (omega arith));
-    first_side = (entry-byte 19 (omega arith) ∙ past-name 0, entry-byte 20 (omega arith) ∙ past-name 1);
-    size = entry-byte 21 (omega arith) ∙ past-name 2;
+    kind = byte-of 0 (omega arith);
+    first = (byte-of 1 (omega arith), byte-of 2 (omega arith));
+    first_side = (byte-of 19 (omega arith) ∙ past-name 0, byte-of 20 (omega arith) ∙ past-name 1);
+    size = byte-of 21 (omega arith) ∙ past-name 2;
     count = ap (little_number 2) counted;
-    named = named-so;
+    named = entry-named old new n (rel_entry name block side L 2) low h name few name-byte;
   }
 
-  pub entry-used : (p : Place) → is_used (slot_in p new n) ≡ true
-  unfolding rel_entry
-  entry-used p = ap (λ k. not (nat_eq k 0)) (entry-byte 0 (omega arith))
-
-  -- the other slots stay
-  pub entry-apart : (p : Place) (k : ℕ) → k < 8 → k ≢ n → slot_in p old k ≡ slot_in p new k
-  entry-apart p k lt ne = ap (λ (bs : List ℕ). record { sector = p; number = k; bytes = bs })
-      (range-piece old k ∙ piece-same 32 k old new (omega (arith, h.old_long, lt)) (omega (arith, h.long, lt))
-      (λ i a b. sym (h.rest i (outside i a b))) ∙ sym (range-piece new k))
-    where
-      outside : (i : ℕ) → k * 32 ≤ i → i < k * 32 + 32 → (i < 32 * n) ⊎ (32 * n + 32 ≤ i)
-      outside i a b = elim (cases_lt k n)
-          [ inl less ↦ inl (omega (arith, a, b, less)) | inr more ↦ inr (omega (arith, a, b, more, ne)) ]
-
-  pub entry-links : (slice_index old 0 ≡ slice_index new 0) × (slice_index old 1 ≡ slice_index new 1)
-  entry-links = (sym (h.link 0 (omega arith)), sym (h.link 1 (omega arith)))
+-- its type isn't 0
+pub rel-used : (name : List ℕ) (block side : Place) (L : ℕ) → slice_index (rel_entry name block side L 2) 0 ≢ 0
+unfolding rel_entry
+rel-used name block side L z = cc
 
 -- a new sector has zeros behind its first slot
 pub new-zeros : (new : Sector) (entry : List ℕ) → IsEntered (set (replicate 256 0) 1 255) new 0 entry

@@ -1,0 +1,101 @@
+//! A file put on a disk.
+ghost use Rattle.std.specs.Prelude.{◌≡◌, ◌≤◌, IfErr, OnOk, length};
+ghost use Rattle.disk_layout.specs.Clean.{IsClean};
+ghost use Rattle.disk_layout.specs.Layout.{IsSound};
+ghost use Rattle.file_changes.specs.Entries.{IsFreeName};
+ghost use Rattle.file_changes.specs.PutSites.{ChecksName, ChoosesSite};
+ghost use Rattle.file_changes.specs.Puts as specs;
+ghost use Rattle.file_changes.specs.Puts.{Puts};
+ghost use Rattle.file_changes.specs.declared.faults.ChangeFault.TheVariants.{Exists};
+
+use crate::entries::{first_named, list_entries};
+use crate::faults::ChangeFault;
+use crate::file_type::FileType;
+use crate::put_site::{PutSite, take_site};
+use crate::put_writes::write_file;
+use arrayvec::ArrayVec;
+use d64_image::Sectors;
+use disk_layout::{Bam, Slot, padded_name};
+use rel_records::read_room;
+
+/// What an empty file gets: a carriage return.
+const EMPTY: [u8; 1] = [0x0D];
+
+/// Refuses a name that one of these entries has.
+fn refuse_taken(entries: &[Slot], padded: &[u8; 16]) -> Result<(), ChangeFault>
+    ensures ok { OnOk result (IsFreeName entries.now padded.now) }
+    ensures err { IfErr result (λ e. (e ≡ Exists) × ¬ (IsFreeName entries.now padded.now)) }
+{
+    if first_named(entries, padded).is_some() {
+        return Err(ChangeFault::Exists);
+    }
+    Ok(())
+}
+
+/// Sees that no entry has this name; nothing is written.
+fn check_name<D: Sectors>(disk: &mut D, name: &[u8]) -> Result<(), ChangeFault>
+    requires sound { IsSound (D.history.image disk.old) }
+    requires name { length name.now ≤ 16 }
+    ensures { ChecksName D.history disk.old disk.new name.now result }
+{
+    let mut entries = ArrayVec::new();
+    list_entries(disk, &mut entries)?;
+    refuse_taken(entries.as_slice(), &padded_name(name))
+}
+
+/// Chooses what a new file of this name and number of sectors takes, or refuses it; nothing is written.
+fn choose_site<D: Sectors>(disk: &mut D, name: &[u8], count: usize) -> Result<PutSite, ChangeFault>
+    requires clean { IsClean (D.history.image disk.old) }
+    requires name { length name.now ≤ 16 }
+    ensures { ChoosesSite D.history disk.old disk.new name.now count result }
+{
+    check_name(disk, name)?;
+    let Ok(room) = read_room(disk) else {
+        return Err(ChangeFault::Device);
+    };
+    let Ok(map) = Bam::read(disk) else {
+        return Err(ChangeFault::Device);
+    };
+    let Some(site) = take_site(map, room, count) else {
+        return Err(ChangeFault::Full);
+    };
+    Ok(site)
+}
+
+/// The data that a new file gets.
+fn stored(data: &[u8]) -> &[u8]
+    ensures { result.now ≡ specs.stored data.now }
+{
+    if data.is_empty() { &EMPTY } else { data }
+}
+
+/// Puts a new file of this name, type and data on a clean disk. The data lie in a chain of sectors, 254 bytes in each,
+/// the rest of the last one 0. The sectors are those that `Bam::pick` names, one after another. The entry goes into the
+/// first free slot of the directory or, if all are used, into a new directory sector, the lowest free one of track 18.
+/// If there are no data, the file gets a carriage return, as the drive gives one to an empty file when it closes it.
+///
+/// `Exists` if an entry has the name, of whatever type; otherwise `Full` if the disk has fewer free blocks than the file
+/// takes, or the directory neither a free slot nor a free sector. Both write nothing. The name isn't judged: whoever
+/// asks sees to it that it doesn't end in a shifted space. `Device` if the device failed: the file is there, whole, or
+/// it isn't. If not, the map perhaps calls sectors taken that nobody owns, which `layout_check::repair` mends.
+///
+/// At most fifty-five sectors are read, unless the device fails. The map is written first, then the chain, then the
+/// directory; the last write makes the file. In each image that the disk holds on the way all other files are as they
+/// were.
+pub fn put_file<D: Sectors>(
+    disk: &mut D,
+    name: &[u8],
+    kind: FileType,
+    data: &[u8],
+) -> Result<(), ChangeFault>
+    requires clean { IsClean (D.history.image disk.old) }
+    requires name { length name.now ≤ 16 }
+    ensures { Puts D.history disk.old disk.new name.now kind data.now result }
+{
+    let data = stored(data);
+    let site = choose_site(disk, name, (data.len() + 253) / 254)?;
+    match write_file(disk, &site, name, kind, data) {
+        Ok(()) => Ok(()),
+        Err(_) => Err(ChangeFault::Device),
+    }
+}

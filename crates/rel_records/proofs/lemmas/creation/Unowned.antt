@@ -1,0 +1,112 @@
+-- A new file that owns what nobody owned: each place still has one owner.
+use Rattle.std.proofs.Common.{◌≡◌, ◌≢◌, ℕ, inl, inr, List, [], ◌∷◌, ◌++◌, map, ap, refl, sym, ◌∙◌, subst, append_assoc}
+use Rattle.std.proofs.Common.{append-nil}
+use Rattle.std.specs.Prelude.{Contains, flat_map}
+use Rattle.std.proofs.lemmas.Grind.{flat_map-append}
+use Rattle.std.proofs.lemmas.List.Elements.{Contains-append_cases, Contains-append_left, Contains-append_right}
+use Rattle.d64_image.specs.Images.{Image}
+use Rattle.d64_image.specs.declared.place.Place.{Place}
+use Rattle.disk_layout.proofs.lemmas.counts.Recounts.{reread, reread-owns}
+use Rattle.disk_layout.proofs.lemmas.lists.Once.{Contains-cases, Contains-nil, EachOnce-apart, EachOnce-insert}
+use Rattle.disk_layout.proofs.lemmas.lists.Once.{EachOnce-join, EachOnce-left, EachOnce-right, insert-out}
+use Rattle.disk_layout.specs.Chain.{EachOnce}
+use Rattle.disk_layout.specs.Directory.{map_place}
+use Rattle.disk_layout.specs.Layout.{File, Layout, file_owns, owners}
+use Rattle.rel_records.proofs.lemmas.creation.Creating.{with_new}
+
+-- each place that the file owns comes once, and nobody owned it
+pub record IsUnowned (l : Layout) (k : File) : Type 0 where
+  pub once : EachOnce (file_owns k)
+  pub none : (q : Place) → Contains (file_owns k) q → ¬ (Contains (map_place ∷ owners l) q)
+
+-- places that weren't there, among others
+pub once-among : {X : Type 0} (xs ys zs : List X) → EachOnce (xs ++ ys) → EachOnce zs
+    → ((x : X) → Contains zs x → ¬ (Contains (xs ++ ys) x)) → EachOnce (xs ++ (zs ++ ys))
+once-among xs ys zs once new none =
+    EachOnce-join xs (zs ++ ys) (EachOnce-left xs ys once)
+    (EachOnce-join zs ys new (EachOnce-right xs ys once) (λ x c d. none x c (Contains-append_right xs ys x d)))
+    (λ x c d. elim (Contains-append_cases zs ys x d) [
+      | inl e ↦ none x e (Contains-append_left xs ys x c)
+      | inr e ↦ EachOnce-apart xs ys once x c e
+    ])
+
+-- the owners of the layout with one more file: those of the old one, and what the file owns among them
+pub owners-with : (b : Image) (dir : List Place) (fs gs : List File) (k : File) (xs ys : List Place)
+    → xs ≡ dir ++ flat_map file_owns fs → ys ≡ flat_map file_owns gs
+    → owners (record { directory = dir; files = with_new b fs gs k }) ≡ xs ++ (file_owns k ++ ys)
+unfolding owners
+owners-with b dir fs gs k xs ys ex ey =
+    ap (λ ps. dir ++ ps) (flat_map-append file_owns (map (reread b) fs) (k ∷ map (reread b) gs)
+    ∙ cc (reread-owns b fs, reread-owns b gs))
+    ∙ shape dir (flat_map file_owns fs) (file_owns k) (flat_map file_owns gs)
+    ∙ cc (ex, ey)
+  where
+    shape : (d f o g : List Place) → d ++ (f ++ (o ++ g)) ≡ (d ++ f) ++ (o ++ g)
+    shape d f o g = simp append_assoc
+
+-- the owners of the old layout, around the place of the new file
+pub owners-around : (l : Layout) (fs gs : List File) → l.files ≡ fs ++ gs
+    → owners l ≡ (l.directory ++ flat_map file_owns fs) ++ flat_map file_owns gs
+unfolding owners
+owners-around l fs gs split =
+    ap (λ ys. l.directory ++ flat_map file_owns ys) split
+    ∙ ap (λ ps. l.directory ++ ps) (flat_map-append file_owns fs gs)
+    ∙ shape l.directory (flat_map file_owns fs) (flat_map file_owns gs)
+  where
+    shape : (d f g : List Place) → d ++ (f ++ g) ≡ (d ++ f) ++ g
+    shape d f g = simp append_assoc
+
+-- each place still has one owner
+pub once-with : (b : Image) (l : Layout) (fs gs : List File) (k : File) → l.files ≡ fs ++ gs
+    → EachOnce (map_place ∷ owners l) → IsUnowned l k
+    → EachOnce (map_place ∷ owners (record { directory = l.directory; files = with_new b fs gs k }))
+once-with b l fs gs k split once new =
+    let P : List Place → Type 0 = λ ps. EachOnce (map_place ∷ ps) in
+    let xs : List Place = l.directory ++ flat_map file_owns fs in
+    let ys : List Place = flat_map file_owns gs in
+    let old = owners-around l fs gs split in
+    subst P (sym (owners-with b l.directory fs gs k xs ys refl refl))
+    (once-among (map_place ∷ xs) ys (file_owns k) (subst P old once) new.once
+    (λ q c own. new.none q c (let Q : List Place → Type 0 = λ ps. Contains (map_place ∷ ps) q in subst Q (sym old) own)))
+
+-- and with a new directory sector, which nobody owned either
+pub once-linked : (b : Image) (l : Layout) (fresh : Place) (k : File) → EachOnce (map_place ∷ owners l)
+    → ¬ (Contains (map_place ∷ owners l) fresh) → IsUnowned l k → ¬ (Contains (file_owns k) fresh)
+    → EachOnce (map_place ∷ owners (record {
+      directory = l.directory ++ fresh ∷ [];
+      files = with_new b l.files [] k;
+    }))
+unfolding owners
+once-linked b l fresh k once no_fresh new apart =
+    let F = flat_map file_owns l.files in
+    let shape : l.directory ++ fresh ∷ F ≡ ((l.directory ++ fresh ∷ []) ++ F) ++ [] = simp (append_assoc, append-nil) in
+    let one = EachOnce-insert (map_place ∷ l.directory) F fresh once no_fresh in
+    let P : List Place → Type 0 = λ ps. EachOnce (map_place ∷ ps) in
+    subst P (sym (owners-with b (l.directory ++ fresh ∷ []) l.files [] k ((l.directory ++ fresh ∷ []) ++ F) [] refl refl))
+    (once-among (map_place ∷ ((l.directory ++ fresh ∷ []) ++ F)) [] (file_owns k) (subst P shape one) new.once
+    (λ q c own. (let Q : List Place → Type 0 = λ ps. Contains (map_place ∷ ps) q in
+    elim (insert-out (map_place ∷ l.directory) F fresh q (subst Q (sym shape) own)) [
+      | inl e ↦ apart (let R : Place → Type 0 = Contains (file_owns k) in subst R (sym e) c)
+      | inr e ↦ new.none q c e
+    ])))
+
+-- a file of two places that nobody owned
+pub two-unowned : (l : Layout) (k : File) (block side : Place) → file_owns k ≡ block ∷ side ∷ []
+    → ¬ (Contains (map_place ∷ owners l) block) → ¬ (Contains (map_place ∷ owners l) side) → side ≢ block
+    → IsUnowned l k
+two-unowned l k block side owns no_block no_side apart =
+    let P : List Place → Type 0 = EachOnce in record {
+      once = subst P (sym owns) (
+        λ c. elim (Contains-cases block side [] c) [ inl e ↦ apart e | inr d ↦ Contains-nil block d ],
+        (Contains-nil side, tt),
+      );
+      none = λ q c own. (let Q : List Place → Type 0 = λ ps. Contains ps q in
+          let R : Place → Type 0 = λ x. Contains (map_place ∷ owners l) x in
+          elim (Contains-cases q block (side ∷ []) (subst Q owns c)) [
+            | inl e ↦ no_block (subst R (sym e) own)
+            | inr d ↦ elim (Contains-cases q side [] d) [
+              | inl e ↦ no_side (subst R (sym e) own)
+              | inr n ↦ Contains-nil q n
+            ]
+          ]);
+    }
