@@ -13,8 +13,8 @@ use Rattle.keeper_commands.specs.declared.finding.Kind.TheVariants.{Any}
 unfoldable pub file_bytes : Image → List Place → ℕ → List ℕ
 file_bytes img blocks u = take (254 * (length blocks - 1) + max u 1 - 1) (joined img blocks)
 
--- these blocks can be reached of the image's first closed file of that name, up to the index `last` of the last one; and
--- this fault is in the way of more, or none is
+-- these blocks can be reached of the image's first closed file of that name, up to the index `last` of the last one. This
+-- fault is in the way of more, or none is
 pub record HasFile (image name : List ℕ) (fault : Option Fault) : Type 0 where
   pub size : length image ≡ 174848
   pub slot : Slot

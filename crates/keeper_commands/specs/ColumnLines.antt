@@ -3,11 +3,11 @@ use Rattle.std.specs.Prelude.{ℕ, List, [], ◌∷◌, ◌++◌, flat_map, if�
 use Rattle.record_columns.specs.Columns.{columns_text}
 use Rattle.script_lines.specs.Lines.{lines}
 
--- behind the number: one column between quotation marks
+-- after the number: one column between quotation marks
 abbrev pub one_column : List ℕ → List ℕ
 one_column columns = 44 ∷ 34 ∷ (columns_text columns ++ 34 ∷ [])
 
--- a line without its end; the first comma stands behind the number. 3,KING,LEEDS is 3,"KING\0dLEEDS\0d"
+-- a line without its end; the first comma stands after the number. 3,KING,LEEDS is 3,"KING\0dLEEDS\0d"
 unfoldable pub plain_line : List ℕ → List ℕ
 plain_line [] = []
 plain_line (b ∷ rest) = if nat_eq b 44 then one_column rest else b ∷ plain_line rest

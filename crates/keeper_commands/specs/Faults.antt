@@ -1,4 +1,4 @@
--- What is told of a job that isn't done, and its exit status. Our own.
+-- What is reported of a job that isn't done, and its exit status. Our own.
 use Rattle.std.specs.Prelude.{◌≡◌, ◌≢◌, ℕ, ◌++◌, Err, List, None, Ok, Option, Result, Some, codes, decimal, length}
 use Rattle.d64_image.specs.Memory.{sectors_in}
 use Rattle.disk_layout.specs.Fault.{HoldsOfClean, nowhere}
@@ -23,7 +23,7 @@ keep_status keep.Device = 3
 keep_status keep.Geos = 1
 keep_status keep.Format = 1
 
--- what is told
+-- what is reported
 abbrev pub keep_text : KeepFault → List ℕ
 keep_text keep.ImageSize = codes "IMAGE SIZE"
 keep_text (keep.Layout fault) = codes "LAYOUT " ++ fault_text fault
@@ -37,7 +37,7 @@ keep_text keep.Device = codes "DEVICE"
 keep_text keep.Geos = codes "GEOS"
 keep_text keep.Format = codes "FORMAT"
 
--- what is told where a call on a relative file isn't done for this fault
+-- what is reported if a call on a relative file isn't done for this fault
 abbrev pub keep_fault : RelFault → KeepFault
 keep_fault NotFound = keep.NoFile
 keep_fault Exists = keep.FileExists

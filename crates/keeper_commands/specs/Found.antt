@@ -28,7 +28,7 @@ has_records s = nat_eq (type_byte s % 16) 4 && (nat_le 1 (record_length s) && na
 abbrev pub records_length : Slot → Option ℕ
 records_length s = if has_records s then Some (record_length s) else None
 
--- the entry is asked for: it is closed and has the name; and it has records where these are asked for
+-- the entry is asked for: it is closed and has the name; and it has records if these are asked for
 abbrev pub IsAsked : Kind → List ℕ → Slot → Type 0
 IsAsked kinds.Any name s = IsClosedNamed name s
 IsAsked kinds.Records name s = IsClosedNamed name s × IsTrue (has_records s)
@@ -51,9 +51,9 @@ pub record HasNone (img : Image) (kind : Kind) (name : List ℕ) (ended : Option
   pub read : IsReadSoFar img directory entries ended
   pub none : HasNoneAsked entries kind name
 
--- Of the file of the first entry that is asked for these blocks can be reached, up to the index `last` of the last one.
--- The fault is the first of these: what ends the directory early, what ends the file's chain early, and its first block
--- that is also the map's, the directory's or another entry's.
+-- The first entry that is asked for has a file, of which these blocks can be reached, up to the index `last` of the last
+-- one. The fault is the first of these: what ends the directory early, what ends the file's chain early, and its first
+-- block that is also the map's, the directory's or another entry's.
 pub record IsHad (img : Image) (kind : Kind) (name : List ℕ) (s : Slot) (blocks : List Place) (last : ℕ)
     (fault : Option Fault) : Type 0 where
   pub directory : List Place

@@ -1,5 +1,5 @@
--- Which disks are no 1541 disk of files alone, by 18/0 (GEOS: the disk's signature, in its own ASCII, behind the directory
--- header; the 1541's format byte: Inside Commodore DOS).
+-- Which disks are no 1541 disk with nothing but files, by 18/0. For GEOS: the disk's signature, in its own ASCII, after
+-- the directory header. For the 1541: its format byte (Inside Commodore DOS).
 use Rattle.std.specs.Prelude.{◌≡◌, ◌≢◌, codes, slice_index, slice_range}
 use Rattle.d64_image.specs.Images.{Sector}
 use Rattle.keeper_commands.specs.declared.faults.KeepFault.{KeepFault}

@@ -38,7 +38,7 @@ pub record IsMakeDone {D W : Type 0} (S : History D) (contents : W → Option (L
   pub disk : IsMadeDisk S image name L old new
   pub printed : Appends (contents before) (contents after) (codes "MADE\n")
 
--- why a file isn't made, or that not told. Only where the output failed something may have been printed
+-- why a file isn't made, or that isn't printed. At a refusal something was printed only if the output failed
 abbrev pub IsMakeFault : {D W : Type 0} → History D → List ℕ → List ℕ → ℕ → D → D → W → W → KeepFault → Type 0
 IsMakeFault S image name L old new before after keep.ImageSize =
     (length image ≢ 174848) × (new ≡ old) × (after ≡ before)

@@ -34,7 +34,7 @@ pub record AreBytesPrinted {W : Type 0} (contents : W → Option (List ℕ)) (fo
   pub printed : Appends (contents old) (contents new)
       (bytes_as form (file_bytes (sectors_in image) file.blocks file.last))
 
--- Why not all bytes of a file are printed. With a fault of the layout those that can be reached are. Where the output
+-- Why not all bytes of a file are printed. With a fault of the layout those that can be reached are. If the output
 -- failed, there is such a file
 abbrev pub IsBytesFault : {W : Type 0} → (W → Option (List ℕ)) → ByteForm → (image name : List ℕ) → W → W → KeepFault
     → Type 0

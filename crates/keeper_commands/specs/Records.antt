@@ -25,8 +25,8 @@ lines_to rs (suc n) = lines_to rs n ++ record_line (n + 1) (get_or rs n [])
 abbrev pub HandsOn : Option (List ℕ) → Option (List ℕ) → List ℕ → List ℕ → Type 0
 HandsOn old new held kept = (front : List ℕ) × Appends old new front × (held ≡ front ++ kept)
 
--- The line of a record of an image's file was put into a room of 4,096 bytes behind the first `start`, up to where is
--- answered. A disk in memory isn't changed by that, nor does it fail.
+-- The line of a record of an image's file was put into a room of 4,096 bytes after the first `start`. The result is where
+-- it ends. A disk in memory isn't changed by that, nor does it fail.
 pub record IsGathered (old new : Image) (file : RelFile) (last : LastBlock) (number start : ℕ) (before after : List ℕ)
     (result : Result ℕ KeepFault) : Type 0 where
   pub ok : OfItsFile old file (λ l n f. IfOk result (λ end. take end after
@@ -56,7 +56,7 @@ pub record HasNoRecordFile (image name : List ℕ) : Type 0 where
   pub is_layout : IsLayout (sectors_in image) layout
   pub none : (k : ℕ) (f : File) → slice_get layout.files k ≡ Some f → ¬ (IsNamed name f)
 
--- why records aren't printed. Where the output failed, there is such a file
+-- why records aren't printed. If the output failed, there is such a file
 abbrev pub IsRecordsFault : List ℕ → List ℕ → KeepFault → Type 0
 IsRecordsFault image name keep.ImageSize = length image ≢ 174848
 IsRecordsFault image name keep.NoMemory = length image ≡ 174848

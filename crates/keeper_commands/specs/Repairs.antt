@@ -46,7 +46,7 @@ mended_at old new had has (Some p) = if bytes_eq (sector old p) (sector new p) t
 abbrev pub mended_on : Image → Image → Sector → Sector → ℕ → List ℕ
 mended_on old new had has track = up_to 21 (λ n. mended_at old new had has (place_at track (n - 1)))
 
--- how it ends: OK, or KEPT 3 where so many sectors stay taken that nobody owns
+-- how it ends: OK, or KEPT 3 if so many sectors stay taken that nobody owns
 abbrev pub kept_text : ℕ → List ℕ
 kept_text n = if nat_eq n 0 then codes "OK\n" else codes "KEPT " ++ decimal n ++ codes "\n"
 
@@ -55,28 +55,28 @@ kept_text n = if nat_eq n 0 then codes "OK\n" else codes "KEPT " ++ decimal n ++
 unfoldable pub mended_text : Image → Image → ℕ → List ℕ
 mended_text old new n = up_to 35 (mended_on old new (sector old map_place) (sector new map_place)) ++ kept_text n
 
--- the output alone is told as File, and a failure of the device alone as Device
+-- only the output is reported as File, and only a failure of the device as Device
 abbrev pub TellsKeep : {D T : Type 0} → History D → D → D → Result T KeepFault → Type 0
 TellsKeep S old new (Ok _) = S.failures new ≡ S.failures old
 TellsKeep S old new (Err keep.File) = S.failures new ≡ S.failures old
 TellsKeep S old new (Err keep.Device) = Failed S old new
 TellsKeep S old new (Err _) = ⊥
 
--- what is told where a repair ends with this fault
+-- what is reported if a repair ends with this fault
 abbrev pub repair_fault : Fault → KeepFault
 repair_fault (Device p) = keep.Device
 repair_fault fault = keep.Layout fault
 
--- the sectors that stay taken though nobody owns them: none where these are freed, and otherwise all that there are
+-- the sectors that stay taken though nobody owns them: none if these are freed, and otherwise all that there are
 abbrev pub AreLeft : (free : Bool) → Image → Layout → List Place → Type 0
 AreLeft true img l strays = strays ≡ []
 AreLeft false img l strays = AreStray img l strays
 
--- no image held calls a sector free that wasn't, where none is to be freed
+-- no image held calls a sector free that wasn't, if none is to be freed
 abbrev pub FreesAsAsked : {D : Type 0} → (free : Bool) → History D → D → D → Type 0
 FreesAsAsked free S old new = free ≡ false → Changes S old new 883 (FreesNothing (S.image old))
 
--- the new image has the files of the old one; it is clean but for the n sectors that are left
+-- the new image has the files of the old one; it is clean except for the n sectors that are left
 pub record IsMendedAs (free : Bool) (old new : Image) (n : ℕ) : Type 0 where
   pub before : Layout
   pub after : Layout
@@ -106,8 +106,9 @@ pub record MendsAs {D : Type 0} (free : Bool) (S : History D) (old new : D) (res
   pub unsound : (IsSound (S.image old) → ⊥) → OnlyReads S old new 2114
   pub failures : TellsFault S old new result
 
--- Whatever the disk held on the way is sound and has the same files, no right sector was written, the others once at
--- most, in the order of a repair, and no sector became free that wasn't to. A disk that isn't sound was left as it is.
+-- Whatever the disk held on the way is sound and has the files of the first image. No right sector was written, and the
+-- others were written once at most, in the order of a repair. No sector became free that wasn't to. A disk that isn't
+-- sound was left as it is.
 pub record IsRepairRun {D : Type 0} (free : Bool) (S : History D) (image : List ℕ) (old new : D) : Type 0 where
   pub size : length image ≡ 174848
   pub plain : IsPlainDisk (sector (S.image old) map_place)
@@ -118,7 +119,7 @@ pub record IsRepairRun {D : Type 0} (free : Bool) (S : History D) (image : List 
   pub order : GoesInOrder free S old new
   pub unsound : ¬ (IsSound (S.image old)) → Changes S old new 0 (λ c. c ≡ S.image old)
 
--- And the disk is clean but for the n sectors that are left, with the same files.
+-- And the disk is clean except for the n sectors that are left, with its files.
 pub record IsMendedDisk {D : Type 0} (free : Bool) (S : History D) (image : List ℕ) (old new : D) (n : ℕ) : Type 0 where
   pub run : IsRepairRun free S image old new
   pub mended : IsMendedAs free (S.image old) (S.image new) n
@@ -130,8 +131,8 @@ pub record IsRepairDone {D W : Type 0} (free : Bool) (S : History D) (contents :
   pub mended : IsMendedDisk free S image old new n
   pub printed : Appends (contents before) (contents after) (mended_text (S.image old) (S.image new) n)
 
--- why a disk isn't repaired, or that not told. Only where the output or the device failed something may have been
--- printed
+-- why a disk isn't repaired, or that isn't printed. At a refusal something was printed only if the output or the device
+-- failed
 abbrev pub IsRepairFault : {D W : Type 0} → Bool → History D → List ℕ → D → D → W → W → KeepFault → Type 0
 IsRepairFault free S image old new before after keep.ImageSize =
     (length image ≢ 174848) × (new ≡ old) × (after ≡ before)

@@ -60,17 +60,17 @@ abbrev pub last_ones : List NewRecord → List NewRecord
 last_ones [] = []
 last_ones (x ∷ xs) = if is_among x.number xs then last_ones xs else x ∷ last_ones xs
 
--- the place of the last one of record n, counted from 1; 0 where there is none
+-- the place of the last one of record n, counted from 1; 0 if there is none
 abbrev pub last_place : ℕ → List NewRecord → ℕ
 last_place n [] = 0
 last_place n (x ∷ xs) =
     if is_among n xs then suc (last_place n xs) else if nat_eq x.number n then 1 else 0
 
--- the table tells of each record that a line can be of which of these is its last one
+-- the table says for each record that a line can be of which of these is its last one
 abbrev pub TellsLast : List ℕ → List NewRecord → Type 0
 TellsLast table xs = (n : ℕ) → n ≤ 182880 → slice_index table n ≡ last_place n xs
 
--- the record at this place, where it is the last one of its number
+-- the record at this place, if it is the last one of its number
 abbrev pub if_last : List ℕ → ℕ → NewRecord → List NewRecord
 if_last table place x = if nat_eq (slice_index table x.number) place then x ∷ [] else []
 
@@ -97,7 +97,7 @@ abbrev pub stored : ℕ → List NewRecord → List (List ℕ) → List (List �
 stored L [] rs = rs
 stored L (x ∷ xs) rs = stored L xs (with_stored L x rs)
 
--- ts is what a beginning of these leaves of rs, or that and the first part of the next record
+-- ts is what a prefix of these leaves of rs, or that and the first part of the next record
 abbrev pub IsPartStored : ℕ → List NewRecord → List (List ℕ) → List (List ℕ) → Type 0
 IsPartStored L [] rs ts = ts ≡ rs
 IsPartStored L (x ∷ xs) rs ts =
@@ -115,7 +115,7 @@ AreSo L rs xs = AllByRecursion (IsSo L rs) xs
 abbrev pub is_changed : ℕ → NewRecord → List (List ℕ) → Bool
 is_changed L x rs = not (bytes_eq (get_or rs (x.number - 1) []) (padded L x.bytes))
 
--- what is printed of a record: its line, where it was otherwise before
+-- what is printed of a record: its line, if it changed
 abbrev pub changed_line : ℕ → NewRecord → List (List ℕ) → List ℕ
 changed_line L x rs = if is_changed L x rs then record_line x.number x.bytes else []
 

@@ -1,4 +1,4 @@
--- What a disk holds while records are stored from their lines, and what is left and told in the end. Our own.
+-- What a disk holds while records are stored from their lines, and what is left and reported in the end. Our own.
 use Rattle.std.specs.Prelude.{◌≡◌, ◌≢◌, ◌⊎◌, ◌≤◌, Bool, ℕ, ◌+◌, ◌*◌, List, [], ◌∷◌, ◌++◌, Option, Result, Some, IfErr, IfOk}
 use Rattle.std.specs.Prelude.{OnOk, drop, length, slice_get}
 use Rattle.std.specs.Io.KnownBytes.{Appends}
@@ -25,13 +25,13 @@ use Rattle.keeper_commands.specs.Stores.{greatest, is_changed, last_ones, stored
 use Rattle.keeper_commands.specs.declared.faults.KeepFault.{KeepFault}
 use Rattle.keeper_commands.specs.declared.faults.KeepFault.TheVariants as keep
 
--- an image held while these are stored over rs, the records of the file at place n: a beginning of them is, and perhaps
--- the first part of the next
+-- an image held while these are stored over rs, the records of the file at place n: a prefix of them is stored, and
+-- perhaps the first part of the next
 abbrev pub IsStoringOver : Image → Layout → ℕ → ℕ → List NewRecord → List (List ℕ) → Image → Type 0
 IsStoringOver old l n L xs rs c = (ts : List (List ℕ)) × IsPartStored L xs rs ts × HasRecords old c l n ts
 
--- One record of f, the file at place n of the layout l, was stored, where it wasn't so; the answer tells whether it was
--- otherwise. Of the file v was kept, and w is now.
+-- One record of f, the file at place n of the layout l, was stored, if it differed; the answer is whether it did. The
+-- caller's view of the file was v, and is w now.
 pub record StoresOne {D : Type 0} (S : History D) (old new : D) (l : Layout) (n : ℕ) (f : File) (v w : RelFile)
     (x : NewRecord) (result : Result Bool KeepFault) : Type 0 where
   pub ok : IfOk result (λ changed.
@@ -44,8 +44,8 @@ pub record StoresOne {D : Type 0} (S : History D) (old new : D) (l : Layout) (n 
   pub err : IfErr result (λ fault. fault ≡ keep.Device)
   pub told : TellsKeep S old new result
 
--- Records of f were stored, one after another, and the lines of those that were otherwise were printed. Of the file v
--- was kept, and w is now.
+-- Records of f were stored, one after another, and the lines of those that changed were printed. The caller's view of the
+-- file was v, and is w now.
 pub record StoresLines {D W : Type 0} (S : History D) (contents : W → Option (List ℕ)) (old new : D) (before after : W)
     (l : Layout) (n : ℕ) (f : File) (v w : RelFile) (xs : List NewRecord) (result : Result (Unit {0}) KeepFault) : Type
     0
@@ -58,11 +58,11 @@ pub record StoresLines {D W : Type 0} (S : History D) (contents : W → Option (
         (IsStoringOver (S.image old) l n (record_length f.slot) xs (records (S.image old) f))
     pub whole : HoldsWhole S old new
     pub quiet : AreSo (record_length f.slot) (records (S.image old) f) xs → WritesNothing S old new
-    -- where the output failed the disk is clean
+    -- if the output failed, the disk is clean
     pub clean : IfErr result (λ fault. fault ≡ keep.File → IsClean (S.image new))
     pub told : TellsKeep S old new result
 
--- these records over those of the file, which has grown to them where it had fewer: what is behind them stays
+-- these records over those of the file, which has grown to them if it had fewer: what is after them stays
 abbrev pub put_over : List (List ℕ) → Image → File → List (List ℕ)
 put_over rs img f = rs ++ drop (length rs) (grown_to img f (length rs))
 
@@ -72,8 +72,8 @@ IsStoring old l n f xs c =
     IsGrowingTo old l n f (greatest xs) c
     ⊎ IsStoringOver old l n (record_length f.slot) (last_ones xs) (grown_to old f (greatest xs)) c
 
--- The disk is clean, `file` is the first closed relative file of the name, the text's lines are of these records, which
--- it has or can have, and whatever the disk held on the way is sound, with a beginning of those that count.
+-- The disk is clean, `file` is the first closed relative file of the name, and the text's lines are of these records,
+-- which it has or can have. Whatever the disk held on the way is sound, with a prefix of those that count.
 pub record IsStoreRun {D : Type 0} (S : History D) (image name text : List ℕ) (old new : D) : Type 0 where
   pub size : length image ≡ 174848
   pub layout : Layout
@@ -89,7 +89,7 @@ pub record IsStoreRun {D : Type 0} (S : History D) (image name text : List ℕ) 
   -- files that are whole are so in each image held; only if a shop's REQUESTS is to grow nothing is said
   pub whole : (NeverGrows (HasStock layout) file.slot → greatest all ≤ records_had file) → HoldsWhole S old new
 
--- And there was room, all of them are stored, and the disk is clean; where those that count were so already nothing was
+-- And there was room, all of them are stored, and the disk is clean. If those that count were there already, nothing was
 -- written.
 pub record IsStoredDisk {D : Type 0} (S : History D) (image name text : List ℕ) (old new : D) : Type 0 where
   pub run : IsStoreRun S image name text old new
@@ -100,7 +100,7 @@ pub record IsStoredDisk {D : Type 0} (S : History D) (image name text : List ℕ
   pub quiet : AreSo (record_length run.file.slot) (records (S.image old) run.file) (last_ones run.all)
       → WritesNothing S old new
 
--- and the lines of those that count and were otherwise, and nothing else, were printed, in order
+-- and the lines of those that count and changed, and nothing else, were printed, in order
 pub record IsStoreDone {D W : Type 0} (S : History D) (contents : W → Option (List ℕ)) (image name text : List ℕ)
     (old new : D) (before after : W) : Type 0 where
   pub disk : IsStoredDisk S image name text old new
@@ -118,8 +118,8 @@ abbrev pub HasNoStoreRoom : Image → List ℕ → List ℕ → Layout → Type 
 HasNoStoreRoom img name text l = (n : ℕ) × (f : File) × (xs : List NewRecord) × IsFirst l name n f
     × AreLinesOf (record_length f.slot) (records_had f) (lines text) xs × IsFull img f (greatest xs)
 
--- why records aren't stored, or that not told. Only where the output or the device failed something may have been
--- printed
+-- why records aren't stored, or that isn't printed. At a refusal something was printed only if the output or the device
+-- failed
 abbrev pub IsStoreFault : {D W : Type 0} → History D → List ℕ → List ℕ → List ℕ → D → D → W → W → KeepFault → Type 0
 IsStoreFault S image name text old new before after keep.ImageSize =
     (length image ≢ 174848) × (new ≡ old) × (after ≡ before)
@@ -136,7 +136,7 @@ IsStoreFault S image name text old new before after keep.DiskFull =
 -- the output failed: what was stored until then stays, and the disk is clean
 IsStoreFault S image name text old new before after keep.File =
     IsStoreRun S image name text old new × IsClean (S.image new)
--- the device failed, when the file was looked for or behind that
+-- the device failed, when the file was looked for or after that
 IsStoreFault S image name text old new before after keep.Device =
     Failed S old new
     × (IsLeft S image old new before after (λ l. Unit {0}) ⊎ IsStoreRun S image name text old new)

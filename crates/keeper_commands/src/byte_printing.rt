@@ -34,14 +34,14 @@ fn no_file(ended: Option<Fault>) -> KeepFault
     }
 }
 
-/// Prints the bytes of the first closed entry of this name, whatever its type is, in this form: 254 of each of its
-/// blocks, and of the last one those up to its last index. `name` has no shifted spaces at its end; one of more than
+/// Prints the bytes of the first closed entry of this name, whatever its type is, in this form. There are 254 of each of
+/// its blocks, and of the last one those up to its last index. `name` has no shifted spaces at its end; one of more than
 /// sixteen bytes is never found.
 ///
 /// On a damaged disk it prints what can be reached. The directory is read as far as its links lead, and so are the file's
 /// blocks. Then the error is `Layout` with the first of these faults: `BadLink` or `Loop` in the directory; `BadLink` or
 /// `Loop` in the file's chain; `OwnedTwice` at the file's first block that the map, the directory or another entry has
-/// too. Nothing else is judged.
+/// too. Nothing else is checked.
 ///
 /// Nothing was printed after `ImageSize`, `NoMemory`, and `NoFile` if no closed entry has the name; nor after `Layout`
 /// if none has it in a directory that ends early. After `File` the output failed, which may have a part.

@@ -16,7 +16,7 @@ use d64_image::{MemDisk, Place, Sectors};
 use petscii_text::{CharacterSet, Readable};
 use std::io::Write;
 
-/// Prints bytes as text that people read. `File` where the output failed.
+/// Prints bytes as text that people read. `File` if the output failed.
 fn put_text<W: Write>(out: &mut W, set: CharacterSet, bytes: &[u8]) -> Result<(), KeepFault>
     ensures ok { OnOk result (Appends (W.contents out.old) (W.contents out.new) (bytes_as (forms.Text set) bytes.now)) }
     ensures err { IfErr result (λ fault. fault ≡ faults.File) }
@@ -27,7 +27,7 @@ fn put_text<W: Write>(out: &mut W, set: CharacterSet, bytes: &[u8]) -> Result<()
     Ok(())
 }
 
-/// Prints bytes in this form. `File` where the output failed.
+/// Prints bytes in this form. `File` if the output failed.
 fn put_as<W: Write>(out: &mut W, form: ByteForm, bytes: &[u8]) -> Result<(), KeepFault>
     ensures ok { OnOk result (Appends (W.contents out.old) (W.contents out.new) (bytes_as form bytes.now)) }
     ensures err { IfErr result (λ fault. fault ≡ faults.File) }

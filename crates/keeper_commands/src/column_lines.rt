@@ -6,7 +6,7 @@ use record_columns::push_columns;
 use script_lines::next_line;
 use std::alloc::{AllocError, Global};
 
-/// Appends what stands behind the number of a line: one column for these.
+/// Appends what stands after the number of a line: one column for these.
 fn push_column(columns: &[u8], text: &mut Vec<u8>) -> Result<(), AllocError>
     ensures { OnOk result (vec_items text.new ≡ vec_items text.old ++ one_column columns.now) }
 {
@@ -15,7 +15,7 @@ fn push_column(columns: &[u8], text: &mut Vec<u8>) -> Result<(), AllocError>
     text.extend_from_slice(b"\"")
 }
 
-/// Appends a line with one column for those behind its number.
+/// Appends a line with one column for those after its number.
 fn push_line(line: &[u8], text: &mut Vec<u8>) -> Result<(), AllocError>
     ensures { OnOk result (vec_items text.new ≡ vec_items text.old ++ plain_line line.now) }
 {
@@ -31,8 +31,8 @@ fn push_line(line: &[u8], text: &mut Vec<u8>) -> Result<(), AllocError>
 }
 
 /// The lines of a text with a column for each field (`RecordForm::Fields`), or as a spreadsheet saves them, as lines that
-/// `store_image` reads: each of the same record, with all its fields in one column. A line that has no such columns gives
-/// one that `store_image` refuses, so it is refused with the same number.
+/// `store_image` reads. Each is of the record that the line is of, with all its fields in one column. A line that has no
+/// such columns gives one that `store_image` refuses, so that it is refused with its number.
 pub fn plain_lines(alloc: Global, text: &[u8]) -> Result<Vec<u8>, AllocError>
     ensures { IfOk result (λ plain. vec_items plain ≡ plain_text text.now) }
 {

@@ -7,7 +7,7 @@ use rel_records::RelFault;
 use std::error::Error;
 use std::fmt::{self, Display, Formatter};
 
-/// Why a job over the files of an image isn't done, as it is told on standard error.
+/// Why a job over the files of an image isn't done, as it is reported on standard error.
 #[derive(Clone, Copy, Debug, PartialEq, Eq)]
 pub enum KeepFault {
     /// The image hasn't the 174,848 bytes of a disk of 35 tracks.
@@ -70,7 +70,7 @@ impl Display for KeepFault {
 
 impl Error for KeepFault {}
 
-/// What is told where a call on a relative file isn't done for this fault.
+/// What is reported if a call on a relative file isn't done for this fault.
 pub(crate) fn refusal(fault: RelFault) -> KeepFault
     ensures { result ≡ keep_fault fault }
 {

@@ -1,4 +1,4 @@
-//! Lines of records judged before any is stored.
+//! Lines of records, checked before any is stored.
 ghost use Rattle.std.specs.Prelude.{◌≡◌, ◌↔◌, ◌≤◌, length, [], ℕ, List, IfErr, IfOk, IfSome, IsNone, IsTrue};
 ghost use Rattle.byte_text.specs.Lines.{IsLineOf};
 ghost use Rattle.byte_text.specs.Texts.{AreBytes};
@@ -31,8 +31,8 @@ fn has_room(file: &RelFile, bytes: &[u8]) -> bool
     bytes.len() <= file.length() as usize
 }
 
-/// The number of the record that the line is of, where the file has this record or can have it, and its bytes fit.
-/// `bytes` is room for them.
+/// The number of the record that the line is of, if the file has this record or can have it, and its bytes fit. `bytes`
+/// is room for them.
 fn number_of(line: &[u8], file: &RelFile, bytes: &mut ArrayVec<u8, DATA>) -> Option<u32>
     ensures found { IfSome result (λ number. (bs : List ℕ) × IsLineOf line.now number bs
         × CanStore (length_of file.now) (records_in file.now) (new_record number bs)) }
@@ -49,9 +49,9 @@ fn number_of(line: &[u8], file: &RelFile, bytes: &mut ArrayVec<u8, DATA>) -> Opt
     Some(number)
 }
 
-/// Judges the lines of the text, and tells the greatest of their numbers, 0 where there is no line; of each record the
-/// last line is counted in `last`, where none was before. `BadLine` for the first that is of no record that the file
-/// has or can have.
+/// Checks the lines of the text, and returns the greatest of their numbers, 0 if there is no line. For each record the
+/// last line is counted in `last`, in which there was none before. `BadLine` for the first line that is of no record that
+/// the file has or can have.
 pub(crate) fn judge(text: &[u8], file: &RelFile, last: &mut LastLines) -> Result<u32, KeepFault>
     requires { TellsLast last.old.places.items [] }
     ensures ok { IfOk result (λ most. (xs : List NewRecord)

@@ -19,7 +19,7 @@ fn has_geos_sign(bytes: &[u8; 256]) -> bool
     &bytes[173..186] == &GEOS_SIGN[..]
 }
 
-/// Judges by 18/0 whether the disk is one of the 1541, and none of GEOS: `Geos` or `Format` where it isn't.
+/// Checks by 18/0 whether the disk is one of the 1541, and none of GEOS: `Geos` or `Format` if it isn't.
 pub(crate) fn judge_kind(disk: &mut MemDisk) -> Result<(), KeepFault>
     ensures plain { OnOk result (IsPlainDisk (sector (disk_image disk.old) map_place)) }
     ensures other { IfErr result (IsKindFault (sector (disk_image disk.old) map_place)) }

@@ -10,7 +10,7 @@ use std::alloc::Global;
 /// One more than the greatest number that a line can have.
 const NUMBERS: usize = 182_881;
 
-/// The last line of each record that a line can be of, among those that were counted, from 1 on; 0 where none is of it.
+/// The last line of each record that a line can be of, among those that were counted, from 1 on; 0 if none is of it.
 #[derive(Drop)]
 pub(crate) struct LastLines {
     /// By the record's number, up to the greatest that was counted: memory that isn't touched costs no time.
@@ -19,7 +19,7 @@ pub(crate) struct LastLines {
 }
 
 impl LastLines {
-    /// No line is counted yet. `NoMemory` where there is none for the table.
+    /// No line is counted yet. `NoMemory` if there is none for the table.
     pub(crate) fn none(alloc: Global) -> Result<LastLines, KeepFault>
         ensures ok { IfOk result (λ last. TellsLast last.places.items []) }
         ensures err { IfErr result (λ fault. fault ≡ faults.NoMemory) }

@@ -34,8 +34,8 @@ ghost use Rattle.script_lines.specs.Lines.{lines};
 use d64_image::Sectors;
 use std::io::Write;
 
-/// Of two lines of one record the last counts: no two of those that count are of one record, all lines count where no
-/// two of them are, and stored alone they leave what all leave.
+/// If two lines are of one record, the last counts. No two of the lines that count are of one record. All lines count if
+/// no two of them are of one record. Stored without the others, the lines that count leave what all leave.
 pub fn last_lines_count()
     ensures apart { (xs : List NewRecord) → AreApart (last_ones xs) }
     ensures all { (xs : List NewRecord) → AreApart xs → last_ones xs ≡ xs }
@@ -43,7 +43,8 @@ pub fn last_lines_count()
         → AreLinesOf L had lines xs → stored L (last_ones xs) rs ≡ stored L xs rs }
 {}
 
-/// Records that were stored are so: of each the last line that it has. Of records that are so nothing is printed.
+/// Each record that was stored has what the last line that is of it says. Nothing is printed for a record that has that
+/// already.
 pub fn stored_records_are_so()
     ensures so { (L had : ℕ) (lines : List (List ℕ)) (xs : List NewRecord) (rs : List (List ℕ))
         → AreLinesOf L had lines xs
@@ -51,10 +52,10 @@ pub fn stored_records_are_so()
     ensures unprinted { (L : ℕ) (xs : List NewRecord) (rs : List (List ℕ)) → AreSo L rs xs → changed_text L xs rs ≡ [] }
 {}
 
-/// What `records_image` prints of a file is stored as that file's records. Its lines are of them, by their numbers from
-/// 1 on, in any file of the record length that has or can have the last of them, and of no others; no two are of one
-/// record. And these, stored over as many records or more of the same length, are the first ones then: those behind
-/// them stay.
+/// What `records_image` prints of a file is stored as that file's records. Its lines are of them, by their numbers from 1
+/// on, and of no others; no two are of one record. This holds in any file of the record length that has or can have the
+/// last of them. Stored over as many records or more of this length, they are the first ones then, and those after them
+/// stay.
 pub fn printed_records_are_stored()
     ensures lines { (L had : ℕ) (rs : List (List ℕ)) → AreRecords L rs → length rs ≤ 182880 → CanHave L had (length rs)
         → AreLinesOf L had (lines (records_text rs)) (numbered 1 rs) }
@@ -66,10 +67,9 @@ pub fn printed_records_are_stored()
         → stored L (numbered 1 rs) ts ≡ rs ++ drop (length rs) ts }
 {}
 
-/// What `records_image` prints of one image's file, `store_image` puts into any file of the same record length: that
-/// file has these records first then, and behind them those that it had there. `records_image` prints the same text of
-/// it first, and nothing else where it has no more: where it had as many, or fewer and these fill the blocks that they
-/// need.
+/// What `records_image` prints of one image's file, `store_image` puts into any file of that record length. Then that
+/// file has these records first, and after them those that it had there. `records_image` prints that text of it first,
+/// and nothing else if it has no more: if it had as many, or fewer and these fill the blocks that they need.
 pub fn records_come_back<D: Sectors, W: Write>()
     ensures stored { (source from image to : List ℕ) (file : File) (old new : D) → AreBytes source
         → IsRecordFile source from file
@@ -92,13 +92,13 @@ pub fn records_come_back<D: Sectors, W: Write>()
         → put_over rs (D.history.image d) f ≡ rs }
 {}
 
-/// What `records_image` prints of a file with a column for each field, `plain_lines` makes what it prints of that file with
-/// one column for each record: so `store_image` stores the one as the other (`records_come_back`).
+/// `plain_lines` turns what `records_image` prints of a file with a column for each field into what it prints of that
+/// file with one column for each record. So `store_image` stores the one as the other (`records_come_back`).
 pub fn fields_come_back()
     ensures { (rs : List (List ℕ)) → length rs ≤ 182880 → plain_text (records_as Fields rs) ≡ records_text rs }
 {}
 
-/// Two repairs of one image print the same, and leave as many sectors: what a repair of a copy prints, one of the disk
+/// Two repairs of one image print one text, and leave as many sectors: what a repair of a copy prints, one of the disk
 /// prints.
 pub fn repairs_print_the_same()
     ensures text { (free : Bool) (image one other : Image) (m n : ℕ) → IsMendedAs free image one m

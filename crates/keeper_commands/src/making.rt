@@ -21,14 +21,14 @@ pub fn is_new_name(name: &[u8]) -> bool
 }
 
 /// Makes a relative file of this name on a clean disk, with records of `length` bytes, and prints `MADE`. It has one
-/// block of empty records. `image` is what the disk holds: its 174,848 bytes. The name is judged by `is_new_name`
+/// block of empty records. `image` is what the disk holds: its 174,848 bytes. The name was checked by `is_new_name`
 /// before. Every image that the disk holds on the way is sound and has the other files as they are. Files that are whole
 /// stay so in each of these images: no cut of power leaves one cut short.
 ///
-/// `ImageSize`, `NoMemory`, `Layout` where the disk isn't clean, for a fault that holds; `FileExists` where an entry
-/// of the directory has the name, of whatever type; `DiskFull` where fewer than two blocks are free, or the directory
-/// has no room: nothing was written or printed then. `Device` where the device failed: the file is made or isn't, and
-/// nothing was printed. `File` where the output failed: the file is made.
+/// `ImageSize`, `NoMemory`, `Layout` if the disk isn't clean, for a fault that holds; `FileExists` if an entry of the
+/// directory has the name, of whatever type; `DiskFull` if fewer than two blocks are free, or the directory has no room:
+/// nothing was written or printed then. `Device` if the device failed: the file is made or isn't, and nothing was
+/// printed. `File` if the output failed: the file is made.
 pub fn make_image<D: Sectors, W: Write>(
     alloc: Global,
     image: &[u8],

@@ -34,7 +34,7 @@ struct Maps {
     has: [u8; 256],
 }
 
-/// The maps of the two disks. `Device` where the second couldn't be read.
+/// The maps of the two disks. `Device` if the second couldn't be read.
 fn maps_of<D: Sectors>(before: &mut MemDisk, after: &mut D) -> Result<Maps, KeepFault>
     ensures ok { IfOk result (λ maps. (maps.had ≡ sector (disk_image before.old) map_place)
         × (maps.has ≡ sector (D.history.image after.old) map_place)) }
@@ -57,7 +57,7 @@ fn is_freed(maps: &Maps, place: Place) -> bool
     !BamView::new(&maps.had).is_free(place) && BamView::new(&maps.has).is_free(place)
 }
 
-/// Prints the line of a sector that became free, where it did.
+/// Prints the line of a sector that became free, if it did.
 fn put_freed<W: Write>(out: &mut W, maps: &Maps, place: Place) -> Result<(), KeepFault>
     ensures ok { OnOk result (Appends (W.contents out.old) (W.contents out.new)
         (freed_at maps.now.had maps.now.has place)) }
@@ -72,7 +72,7 @@ fn put_freed<W: Write>(out: &mut W, maps: &Maps, place: Place) -> Result<(), Kee
     Ok(())
 }
 
-/// Prints the line of a sector, where the two disks have it otherwise, or where it became free.
+/// Prints the line of a sector, if the two disks differ in it, or if it became free.
 fn put_place<D: Sectors, W: Write>(
     out: &mut W,
     before: &mut MemDisk,
@@ -100,7 +100,7 @@ fn put_place<D: Sectors, W: Write>(
     Ok(())
 }
 
-/// The same where there is such a sector.
+/// Prints the line of a sector, if there is such a sector.
 fn put_sector<D: Sectors, W: Write>(
     out: &mut W,
     before: &mut MemDisk,
@@ -161,7 +161,7 @@ fn put_tracks<D: Sectors, W: Write>(
     Ok(())
 }
 
-/// Prints how a repair ends: `OK`, or `KEPT` and how many sectors stay taken that nobody owns. `File` where it failed.
+/// Prints how a repair ends: `OK`, or `KEPT` and how many sectors stay taken that nobody owns. `File` if it failed.
 fn put_kept<W: Write>(out: &mut W, kept: u16) -> Result<(), KeepFault>
     ensures ok { OnOk result (Appends (W.contents out.old) (W.contents out.new) (kept_text kept)) }
     ensures err { IfErr result (λ fault. fault ≡ faults.File) }
@@ -193,7 +193,7 @@ fn put_mended<D: Sectors, W: Write>(
     flush(out)
 }
 
-/// What is told where a repair ends with this fault.
+/// What is reported if a repair ends with this fault.
 fn refusal(fault: Fault) -> KeepFault
     ensures { result ≡ repair_fault fault }
 {
@@ -219,9 +219,9 @@ fn mended<D: Sectors>(disk: &mut D, free: bool) -> Result<u16, Fault>
 /// is what the disk holds: its 174,848 bytes.
 ///
 /// If `free` is false no sector becomes free: those that the map calls taken and no file owns are left. If it is true
-/// these become free, and none is left. But for what is left a sound disk is made clean, with the same files: each
-/// sector that isn't right is written once, and every image that the disk holds on the way is sound and has the same
-/// files. Files that are whole stay so in each of these images: no cut of power leaves one cut short.
+/// these become free, and none is left. Except for what is left, a sound disk is made clean, with its files. Each sector
+/// that isn't right is written once, and every image that the disk holds on the way is sound and has these files. Files
+/// that are whole stay so in each of these images: no cut of power leaves one cut short.
 ///
 /// `ImageSize`, `NoMemory`, `Geos` if 18/0 has GEOS's signature, `Format` if its format byte isn't $41, and `Layout` if
 /// the disk isn't sound, for a fault that holds: then nothing was written or printed. `Device` if the device failed; what

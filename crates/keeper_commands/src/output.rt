@@ -6,7 +6,7 @@ ghost use Rattle.keeper_commands.specs.declared.faults.KeepFault.TheVariants as 
 use crate::faults::KeepFault;
 use std::io::Write;
 
-/// Hands all of these bytes to the writer. `File` where it failed.
+/// Passes all of these bytes to the writer. `File` if it failed.
 pub(crate) fn put<W: Write>(out: &mut W, bytes: &[u8]) -> Result<(), KeepFault>
     ensures ok { OnOk result (Appends (W.contents out.old) (W.contents out.new) bytes.now) }
     ensures err { IfErr result (λ fault. fault ≡ faults.File) }
@@ -17,7 +17,7 @@ pub(crate) fn put<W: Write>(out: &mut W, bytes: &[u8]) -> Result<(), KeepFault>
     Ok(())
 }
 
-/// Hands on what the writer still holds back. `File` where it failed.
+/// Flushes the writer. `File` if it failed.
 pub(crate) fn flush<W: Write>(out: &mut W) -> Result<(), KeepFault>
     ensures kept { Keeps (W.contents out.old) (W.contents out.new) }
     ensures err { IfErr result (λ fault. fault ≡ faults.File) }

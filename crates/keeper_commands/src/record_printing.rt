@@ -26,7 +26,7 @@ use std::io::Write;
 /// The room where lines are gathered, so that many are handed on at once.
 const ROOM: usize = 4096;
 
-/// Puts the line of a record that is there behind the first `start` bytes of the room, and tells where it ends. `last`
+/// Puts the line of a record that is there after the first `start` bytes of the room, and returns where it ends. `last`
 /// is the block that was read last, and `bytes` is room for the record. A disk in memory gives each record.
 #[inline(always)]
 fn gather_line(
@@ -50,8 +50,8 @@ fn gather_line(
     put_line(number, bytes, room, start)
 }
 
-/// Hands the first `used` bytes of the room on, where the longest line may find no room behind them. Tells how many of
-/// its bytes still count.
+/// Passes the first `used` bytes of the room on, if the longest line may find no room after them. Returns how many of its
+/// bytes still count.
 fn hand_on<W: Write>(out: &mut W, room: &[u8; ROOM], used: usize) -> Result<usize, KeepFault>
     requires { used ≤ 4096 }
     ensures room { IfOk result (λ start. start + 776 ≤ 4096) }
@@ -113,9 +113,9 @@ fn put_records_as<W: Write>(
     }
 }
 
-/// Prints the records of the first closed relative file of this name, one a line, record 1 first: its number, a
-/// comma, and its bytes up to the last one that isn't 0, in this form. `ImageSize`, `NoMemory`; `Layout` where the
-/// image isn't sound; `NoFile`; `File` where the output failed, which may then have a part.
+/// Prints the records of the first closed relative file of this name, one a line, record 1 first. A line is its number, a
+/// comma, and its bytes up to the last one that isn't 0, in this form. `ImageSize`, `NoMemory`; `Layout` if the image
+/// isn't sound; `NoFile`; `File` if the output failed, which may then have a part.
 pub fn records_image<W: Write>(
     alloc: Global,
     image: &[u8],

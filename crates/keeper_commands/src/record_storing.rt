@@ -15,21 +15,22 @@ use std::alloc::Global;
 use std::io::Write;
 
 /// Stores records in the first closed relative file of this name of a clean disk, and prints the lines of those that
-/// were otherwise, as `records_image` prints them. `image` is what the disk holds: its 174,848 bytes. Each line of the
-/// text is one that `read_line` reads, of any record that the file has or can have, in any order; of two lines of one
-/// record the last counts, and the others are judged alone. The file grows first, once, to the greatest record; then
-/// the lines that count are stored in order, each record that is otherwise with the line's bytes and zeros behind them.
-/// Records of which there is no line stay. Files that are whole stay so at each moment, unless a shop's `REQUESTS` grows:
-/// power that goes then leaves it with one block more listed than its chain has. Every image that the disk holds on the way is sound, has the other files as
-/// they are, and a beginning of the lines that count stored, where of the next record the first part may be new. So the
-/// same text, stored again, writes and prints nothing.
+/// changed, as `records_image` prints them. `image` is what the disk holds: its 174,848 bytes. Each line of the text is
+/// one that `read_line` reads, of any record that the file has or can have, in any order. If two lines are of one record,
+/// the last counts, and the others are only checked. The file grows first, once, to the greatest record. Then the lines
+/// that count are stored in order: each record that differs gets the line's bytes and zeros after them. Records without a
+/// line stay.
 ///
-/// `ImageSize`, `NoMemory`; `Layout` where the disk isn't clean, for a fault that holds; `NoFile`; `BadLine` for the
-/// first line that is no record's, has more bytes than a record, or a number that the file can't have: one past 65535
-/// that it hasn't, or that would need more than 720 blocks; `DiskFull` where the free sectors don't suffice for the
-/// greatest record: nothing was written or printed then. `Device` where the device failed, and `File` where the output
-/// did: what was stored until then stays. Memory is taken for a copy of the image, and then for a number of each record
-/// that a line can be of.
+/// Files that are whole stay so at each moment, unless a shop's `REQUESTS` grows: power that goes then leaves it with one
+/// block more listed than its chain has. Every image that the disk holds on the way is sound, has the other files as they
+/// are, and a prefix of the lines that count stored; of the next record the first part may be new. So this text, stored
+/// again, writes and prints nothing.
+///
+/// `ImageSize`, `NoMemory`; `Layout` if the disk isn't clean, for a fault that holds; `NoFile`; `BadLine` for the first
+/// line that is no record's, has more bytes than a record, or a number that the file can't have: one past 65535 that it
+/// hasn't, or that would need more than 720 blocks; `DiskFull` if the free sectors don't suffice for the greatest record.
+/// Nothing was written or printed then. `Device` if the device failed, and `File` if the output did: what was stored
+/// until then stays. Memory is taken for a copy of the image, and then for a number of each record that a line can be of.
 pub fn store_image<D: Sectors, W: Write>(
     alloc: Global,
     image: &[u8],

@@ -26,8 +26,7 @@ use rel_records::{RelFile, read_record, write_record};
 use script_lines::next_line;
 use std::io::Write;
 
-/// Stores a record that is there, where it isn't so yet: the bytes, and zeros behind them. Tells whether it was
-/// otherwise.
+/// Stores a record that is there, if it differs: the bytes, and zeros after them. Returns whether it differed.
 fn store_record<D: Sectors>(
     disk: &mut D,
     file: &mut RelFile,
@@ -55,8 +54,8 @@ fn store_record<D: Sectors>(
     Ok(true)
 }
 
-/// The number of the record that the line at this place is of, and in `bytes` its bytes, where it is the last line of
-/// that record.
+/// The number of the record that the line at this place is of, and in `bytes` its bytes, if it is the last line of that
+/// record.
 fn read_last(
     line: &[u8],
     place: usize,
@@ -76,8 +75,8 @@ fn read_last(
     Some(number)
 }
 
-/// Stores the record that the line at this place is of, which is there, where it is the last line of that record, and
-/// prints its line where it was otherwise. `bytes` is room for it.
+/// Stores the record that the line at this place is of, which is there, if it is the last line of that record. Prints its
+/// line if the record changed. `bytes` is room for it.
 fn store_line<D: Sectors, W: Write>(
     disk: &mut D,
     file: &mut RelFile,

@@ -30,8 +30,8 @@ abbrev pub IsTaken : {W : Type 0} → (W → Option (List ℕ)) → Taking → (
 IsTaken contents (takings.Records form) image name old new = AreRecordsPrinted contents form image name old new
 IsTaken contents (takings.Bytes form) image name old new = AreBytesPrinted contents form image name None old new
 
--- Why it wasn't, or not all of it. Nothing was printed of records that are refused. Of bytes those were that can be
--- reached
+-- Why it wasn't, or not all of it. If records are refused, nothing was printed. If bytes are, those that can be reached
+-- were printed
 abbrev pub IsTakingFault : {W : Type 0} → (W → Option (List ℕ)) → Taking → (image name : List ℕ) → W → W → KeepFault
     → Type 0
 IsTakingFault contents (takings.Records form) image name old new fault =
