@@ -1,5 +1,5 @@
 -- A new file whose entry goes into a new directory sector: its sectors and that one are written, then the link to it.
-use Rattle.std.proofs.Common.{◌≡◌, ◌≢◌, ℕ, ◌+◌, ◌<◌, ◌≤◌, inl, inr, true, false, List, [], ◌∷◌, ◌++◌, ap, append_assoc}
+use Rattle.std.proofs.Common.{◌≡◌, ◌≢◌, ℕ, ◌+◌, ◌<◌, ◌≤◌, inl, inr, true, false, List, [], ◌∷◌, ◌++◌, ap}
 use Rattle.std.proofs.Common.{append-nil, arith, length, map, refl, slice_index, subst, sym, ◌∙◌, ◌*◌, IsTrue}
 use Rattle.std.specs.Prelude.{Contains, Some, flat_map, nat_eq, not, slice_get}
 use Rattle.std.proofs.lemmas.List.{length-map}

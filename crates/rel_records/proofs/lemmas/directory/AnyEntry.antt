@@ -4,7 +4,7 @@ use Rattle.std.proofs.Common.{length, replicate, sym, slice_index, ◌∙◌}
 use Rattle.std.proofs.lemmas.Bool.{cases_lt, ne_eqb}
 use Rattle.std.proofs.lemmas.Grind.{same_number_lists}
 use Rattle.std.proofs.lemmas.List.{get_or-drop, get_or-take, length-append, length-drop, length-replicate, length-take}
-use Rattle.std.specs.Prelude.{not, nat_eq, slice_range}
+use Rattle.std.specs.Prelude.{not, slice_range}
 use Rattle.d64_image.specs.Images.{Sector}
 use Rattle.d64_image.specs.declared.place.Place.{Place}
 use Rattle.disk_layout.proofs.lemmas.counts.Counts.{range-piece}

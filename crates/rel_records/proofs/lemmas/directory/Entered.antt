@@ -1,20 +1,15 @@
 -- An entry that was put into a slot of a directory sector: what the slot says, and that all others stay.
-use Rattle.std.proofs.Common.{ℕ, zero, suc, ◌≡◌, ◌≢◌, ◌<◌, ◌≤◌, ◌+◌, ◌-◌, ◌*◌, ◌⊎◌, inl, inr, true, List, [], ◌∷◌, ◌++◌}
-use Rattle.std.proofs.Common.{ap, arith, drop, get_or, length, refl, replicate, sym, slice_index, ◌∙◌, set}
-use Rattle.std.proofs.lemmas.Bool.{cases_lt}
-use Rattle.std.proofs.lemmas.Grind.{same_number_lists}
-use Rattle.std.proofs.lemmas.List.{get_or-append_right, get_or-drop, get_or-replicate, get_or-set_other, get_or-take}
-use Rattle.std.proofs.lemmas.List.{length-append, length-drop, length-replicate, length-take, get_or_append_left}
-use Rattle.std.specs.Prelude.{not, nat_eq, slice_range}
+use Rattle.std.proofs.Common.{ℕ, zero, suc, ◌≡◌, ◌≢◌, ◌<◌, ◌≤◌, ◌+◌, ◌-◌, ◌*◌, inr, List, [], ◌∷◌, ◌++◌}
+use Rattle.std.proofs.Common.{ap, arith, get_or, length, refl, replicate, slice_index, ◌∙◌, set}
+use Rattle.std.proofs.lemmas.List.{get_or-append_right, get_or-replicate, get_or-set_other}
+use Rattle.std.proofs.lemmas.List.{get_or_append_left}
+use Rattle.std.specs.Prelude.{slice_range}
 use Rattle.byteorder.specs.Endian.{little_bytes, little_number}
 use Rattle.d64_image.specs.Images.{Sector}
 use Rattle.d64_image.specs.declared.place.Place.{Place}
-use Rattle.disk_layout.proofs.lemmas.counts.Counts.{range-piece}
-use Rattle.disk_layout.proofs.lemmas.counts.CountWrites.{slot-byte}
-use Rattle.disk_layout.proofs.lemmas.records.Pieces.{length-piece, piece-same}
 use Rattle.disk_layout.specs.Entries.{rel_entry}
 use Rattle.disk_layout.specs.Chain.{Names}
-use Rattle.disk_layout.specs.Directory.{is_used, slot_in, type_byte}
+use Rattle.disk_layout.specs.Directory.{slot_in, type_byte}
 use Rattle.disk_layout.specs.Layout.{count_field, record_length}
 use Rattle.disk_layout.specs.Rest.{slot_name}
 use Rattle.disk_layout.specs.Side.{place_bytes}

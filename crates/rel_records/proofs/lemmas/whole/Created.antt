@@ -1,5 +1,5 @@
 -- A creation keeps files whole: before the entry is written, and after.
-use Rattle.std.proofs.Common.{◌≡◌, ◌≢◌, ℕ, ◌-◌, ◌≤◌, inl, inr, List, [], ◌∷◌, ◌++◌, map, length, sym, ◌∙◌, ap, ap₂, arith}
+use Rattle.std.proofs.Common.{◌≡◌, ◌≢◌, ℕ, ◌≤◌, inl, inr, List, ◌++◌, map, length, sym, ◌∙◌, ap, ap₂, arith}
 use Rattle.std.proofs.Common.{subst, slice_index, IsTrue}
 use Rattle.std.proofs.lemmas.List.Elements.{Contains-append_cases, Contains-append_left, Contains-append_right}
 use Rattle.std.specs.Prelude.{Contains, Some, flat_map, nat_le, slice_get, ◌&&◌, ◌||◌}
