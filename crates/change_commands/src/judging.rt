@@ -1,4 +1,4 @@
-//! Images judged in memory before the disk that holds them is changed.
+//! Images checked in memory before the disk that holds them is changed.
 ghost use Rattle.std.specs.Prelude.{◌≡◌, IfErr, IfOk, OnOk, length};
 ghost use Rattle.d64_image.specs.Memory.{disk_image, sectors_in};
 ghost use Rattle.disk_layout.specs.Clean.{IsClean};

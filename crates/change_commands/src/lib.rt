@@ -1,4 +1,4 @@
-//! Changes to the files of an image, as commands: judged, made, and printed.
+//! Changes to the files of an image, as commands: checked, made, and printed.
 #![tactic(auto)]
 
 mod deleting;

@@ -11,9 +11,9 @@ use file_changes::rename;
 use std::alloc::Global;
 use std::io::Write;
 
-/// Renames the first entry of a sound disk that has the name `from`, and prints `RENAMED`. `image` is what the disk holds:
-/// its 174,848 bytes. The new name, of at most sixteen bytes, was judged before. In each image that the disk holds on the
-/// way the entry has one of the two names, and all else is as it was.
+/// Renames the first entry of a sound disk that has the name `from`, and prints `RENAMED`. `image` is what the disk
+/// holds: its 174,848 bytes. The new name, of at most sixteen bytes, was checked before. In each image that the disk
+/// holds on the way the entry has one of the two names, and everything else is as it was.
 ///
 /// `ImageSize`, `NoMemory`, `Layout` if the disk isn't sound, for a fault that holds; `NoFile` if no entry has the first
 /// name; `FileExists` if one has the second: nothing was written or printed then. `Device` if the device failed: the

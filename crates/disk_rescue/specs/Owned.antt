@@ -5,10 +5,10 @@ use Rattle.d64_image.specs.declared.place.Place.{Place}
 use Rattle.disk_rescue.specs.Sharing.{count_at}
 use Rattle.disk_rescue.specs.declared.sharing.Owners.{Owners}
 
--- the number that the table has for the sector with this index; from 2 on it isn't told how many
+-- the number that the table has for the sector with this index; from 2 on it isn't said how many
 abbrev pub owners_at : Owners → ℕ → ℕ
 owners_at o i = slice_index o.counts i
 
--- the table tells of each sector whether it is among these not at all, once, or several times
+-- the table says of each sector whether it is among these not at all, once, or several times
 abbrev pub CountsAll : Owners → List Place → Type 0
 CountsAll o all = (p : Place) → min 2 (owners_at o (index_of p)) ≡ min 2 (count_at (index_of p) all)

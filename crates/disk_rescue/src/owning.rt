@@ -1,4 +1,4 @@
-//! Who has the sectors of a disk.
+//! The owners of the sectors of a disk.
 ghost use Rattle.std.specs.Prelude.{◌≡◌, List};
 ghost use Rattle.d64_image.specs.Memory.{disk_image};
 ghost use Rattle.d64_image.specs.declared.place.Place.{Place};

@@ -46,7 +46,7 @@ pub record HasFreed (a : Image) (l : Layout) (name : List ℕ) (c : Image) : Typ
   pub lost : HasLost a l name c
   pub clean : IsCleanLayout c (without_file l lost.number)
 
--- A file was deleted, or not, where l is the layout.
+-- A file was deleted, or not, on a disk with the layout l.
 pub record DeletesIn {D : Type 0} (S : History D) (old new : D) (l : Layout) (name : List ℕ)
     (result : Result (Unit {0}) ChangeFault) : Type 0 where
   pub ok : OnOk result (HasFreed (S.image old) l name (S.image new))

@@ -9,6 +9,6 @@ abbrev pub of_device : ChangeFault → Bool
 of_device Device = true
 of_device _ = false
 
--- Device is told only where the device failed, and any other answer only where no failure was counted
+-- Device is returned only if the device failed, and any other result only if no failure was counted
 abbrev pub TellsChange : {D T : Type 0} → History D → D → D → Result T ChangeFault → Type 0
 TellsChange S old new result = TellsOf of_device S old new result

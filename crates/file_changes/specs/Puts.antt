@@ -121,7 +121,7 @@ pub record RefusesPut {T : Type 0} (img : Image) (l : Layout) (name : List ℕ) 
   pub full : IfErr result (λ e. e ≡ Full → HasNoRoomFor img l n × IsNewName l name)
   pub fits : OnOk result (¬ (HasNoRoomFor img l n) × IsNewName l name)
 
--- A file was put on the disk, or not, where l is the layout.
+-- A file was put on the disk, or not; the disk has the layout l.
 pub record PutsIn {D : Type 0} (S : History D) (old new : D) (l : Layout) (name : List ℕ) (kind : FileType)
     (bytes : List ℕ) (result : Result (Unit {0}) ChangeFault) : Type 0 where
   pub ok : OnOk result (HasPut (S.image old) l name kind (stored bytes) (S.image new))

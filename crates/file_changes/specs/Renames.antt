@@ -36,7 +36,7 @@ pub record HasNewName (a : Image) (l : Layout) (from to : List ℕ) (c : Image) 
   pub of : IsRenamable l from to number file
   pub done : IsRenamed a l number file to c
 
--- An entry got another name, or not, where l is the layout.
+-- An entry got another name, or not, on a disk with the layout l.
 pub record RenamesIn {D : Type 0} (S : History D) (old new : D) (l : Layout) (from to : List ℕ)
     (result : Result (Unit {0}) ChangeFault) : Type 0 where
   pub ok : OnOk result (HasNewName (S.image old) l from to (S.image new))

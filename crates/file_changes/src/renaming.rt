@@ -16,7 +16,7 @@ use disk_layout::{Slot, padded_name};
 /// The byte of a slot with which its name begins.
 const NAME_AT: usize = 5;
 
-/// The first of these entries that has the one name, where none has the other.
+/// The first of these entries that has the one name, if none has the other.
 fn choose(entries: &[Slot], from: &[u8; 16], to: &[u8; 16]) -> Result<Slot, ChangeFault>
     ensures ok { IfOk result (λ s. (n : ℕ) × IsFirstNamed entries.now from.now n s × IsFreeName entries.now to.now) }
     ensures not_found { IfErr result (λ e. e ≡ NotFound → IsFreeName entries.now from.now) }
