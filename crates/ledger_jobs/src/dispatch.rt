@@ -11,6 +11,7 @@ use crate::copying::do_copying;
 use crate::descriptions::do_describing;
 use crate::drawing::drawing_run;
 use crate::durable_runs::play_durably;
+use crate::editing::{do_delete, do_rename};
 use crate::extracting::do_extracting;
 use crate::files::{AtPath, Older, STANDARD_INPUT, room_for, script_at};
 use crate::image_logs::{logged_image, opened_and_landed};
@@ -20,6 +21,7 @@ use crate::listings::do_listing;
 use crate::locks::{lock_shared, own_image, read_shared};
 use crate::losses::take_told;
 use crate::names::Name;
+use crate::new_disks::do_new;
 use crate::overviews::do_several;
 use crate::refusals::Refusal;
 use crate::serving_images::do_serving;
@@ -316,9 +318,10 @@ where
 /// locked before anything of it is read or changed: alone where it is written. If a log stands beside it, it is landed
 /// before the image is written, and read in the place of the image otherwise. `InUse` where another program has it; `Log`
 /// if its log gives no image; `File` where a file couldn't be opened or read, and the faults of `reading_run`,
-/// `format_run`, `play_durably`, `serve_guarded`, `serve_logged_guarded`, `copy_run`, `repair_guarded`, `make_guarded`,
-/// `store_guarded`, `take_told`, `extract_run`, `listing_run`, `drawing_run`, `comparing_run` and `view_run`. `Trim` ends with `File`, since it reports on
-/// standard error: call `do_trim`. What is wrong with one of several images is printed, and only an
+/// `format_run`, `new_run`, `play_durably`, `serve_guarded`, `serve_logged_guarded`, `copy_run`, `repair_guarded`,
+/// `make_guarded`, `rename_guarded`, `delete_guarded`, `store_guarded`, `take_told`, `extract_run`, `listing_run`,
+/// `drawing_run`, `comparing_run` and `view_run`. `Trim` ends with `File`, since it reports on standard error: call
+/// `do_trim`. What is wrong with one of several images is printed, and only an
 /// output that failed ends the job before the last of them.
 pub fn do_job<F, R, W>(rt: &R, job: &Job<'_>, out: &mut W) -> Result<Option<Fault>, Refusal>
 where
@@ -330,6 +333,11 @@ where
     match *job {
         Job::Format { image, tills } => do_format(rt, image, tills, Older::Replaced, out),
         Job::FormatNew { image, tills } => do_format(rt, image, tills, Older::Kept, out),
+        Job::New {
+            image,
+            ref name,
+            id,
+        } => do_new(rt, image, name, id, out),
         Job::List { form, image } => do_reading(rt, Reading::List(form), image, out),
         Job::Check { findings, image } => match findings {
             Findings::First => do_reading(rt, Reading::Check, image, out),
@@ -341,6 +349,8 @@ where
         Job::PlaySynced { image, script } => {
             do_playing(rt, image, script, Durability::EachSector, out)
         }
+        // no word asks for it yet
+        Job::PlayLogged { .. } => Err(Refusal::Run(RunFault::File)),
         Job::Serve {
             image,
             way,
@@ -364,6 +374,12 @@ where
             length,
             loss,
         } => do_make(rt, image, name, length, loss, out),
+        Job::Rename {
+            image,
+            ref from,
+            ref to,
+        } => do_rename(rt, image, from, to, out),
+        Job::Delete { image, ref name } => do_delete(rt, image, name, out),
         Job::Store {
             image,
             ref name,

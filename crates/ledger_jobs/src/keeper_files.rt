@@ -28,7 +28,7 @@ use std::rt::Files;
 
 /// The file at a path that a keeper's job writes, and its bytes: it is this program's alone, and what it holds is on
 /// the disk. Each sector is brought to the disk before the next is written.
-fn image_to_keep<F, R>(rt: &R, path: &str) -> Result<(Vec<u8>, ImageFile<F>), Refusal>
+pub(crate) fn image_to_keep<F, R>(rt: &R, path: &str) -> Result<(Vec<u8>, ImageFile<F>), Refusal>
 where
     F: EndedFile + Locks + OpenFile + Drop,
     R: Files<File = F> + AllocGlobal,

@@ -16,7 +16,8 @@ const NO_SUCH_FILE: &str = "it has no such file; `ledger list` shows what it has
 /// The name of the file that it asks for.
 fn name_of<'j>(job: &'j Job<'_>) -> Option<&'j Name> {
     match job {
-        Job::Take { name, .. } | Job::Store { name, .. } => Some(name),
+        Job::Take { name, .. } | Job::Store { name, .. } | Job::Delete { name, .. } => Some(name),
+        Job::Rename { from, .. } => Some(from),
         _ => None,
     }
 }

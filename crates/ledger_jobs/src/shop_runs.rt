@@ -17,7 +17,7 @@ use std::alloc::Global;
 use std::io::Write;
 
 /// The end of a job that prints no fault.
-fn ended(end: Result<(), RunFault>) -> Result<Option<Fault>, RunFault>
+pub(crate) fn ended(end: Result<(), RunFault>) -> Result<Option<Fault>, RunFault>
     ensures { result ≡ end_of end }
 {
     match end {
