@@ -19,7 +19,7 @@ use Rattle.petscii_text.specs.declared.characters.CharacterSet.TheVariants.{Grap
 use Rattle.shop_commands.specs.declared.texts.NameForm.{NameForm}
 use Rattle.shop_commands.specs.declared.texts.NameForm.TheVariants as names
 
--- the set of the text that is asked for: with --mixed the one with small letters, with --text alone the other
+-- the set of the text that is asked for: with --mixed the one with small letters, with only --text the other
 abbrev pub set_in : List Row → Option CharacterSet
 set_in rows =
     if is_given (codes "mixed") rows then Some Mixed
@@ -30,12 +30,12 @@ abbrev pub record_form : Option CharacterSet → RecordForm
 record_form None = records.Lines
 record_form (Some set) = records.Text set
 
--- the same of bytes
+-- the form of bytes with this text, or the one that is printed without
 abbrev pub byte_form : Option CharacterSet → ByteForm
 byte_form None = bytes.Plain
 byte_form (Some set) = bytes.Text set
 
--- the same of names
+-- the form of names with this text, or the one that is printed without
 abbrev pub name_form : Option CharacterSet → NameForm
 name_form None = names.Ascii
 name_form (Some set) = names.Text set

@@ -63,7 +63,7 @@ tills_in rows = number_in 1 64 (value (codes "T") rows)
 abbrev pub length_in : List Row → Option ℕ
 length_in rows = number_in 1 254 (value (codes "L") rows)
 
--- the sector of a track with these numbers, where both are given and the disk has it
+-- the sector of a track with these numbers, if both are given and the disk has it
 abbrev pub place_if_both : Option ℕ → Option ℕ → Option Place
 place_if_both (Some t) (Some s) = place_at t s
 place_if_both _ _ = None
@@ -77,12 +77,12 @@ spelled_place text =
 abbrev pub place_in : List Row → Option Place
 place_in rows = spelled_place (value (codes "T/S") rows)
 
--- the subcommand that prints this of an image that isn't judged
+-- the subcommand that prints this of an image that isn't checked
 abbrev pub word_of_view : View → Text
 word_of_view views.Free = codes "free"
 word_of_view (views.Sector place) = codes "sector"
 
--- and the sector, where it is one, is that which the words give
+-- and the sector, if there is one, is that which the words give
 abbrev pub IsViewIn : List Row → View → Type 0
 IsViewIn rows views.Free = Unit {0}
 IsViewIn rows (views.Sector place) = place_in rows ≡ Some place
@@ -102,11 +102,11 @@ word_of_drawing drawings.Poster = codes "picture"
 abbrev pub way_in : List Row → Way
 way_in rows = if is_given (codes "in-place") rows then ways.InPlace else ways.OverLog
 
--- when what is served is brought to the disk: before each reply, but with --unsynced when the system likes
+-- when what is served is synced: before each reply, or with --unsynced when the operating system does it
 abbrev pub serve_durability : List Row → Durability
 serve_durability rows = if is_given (codes "unsynced") rows then durabilities.AtEnd else durabilities.EachSector
 
--- what is done where a disk has lost a part of a file: the job is refused, but with --accept-loss it goes on
+-- what is done if a disk has lost a part of a file: the job is refused, but with --accept-loss it goes on
 abbrev pub loss_in : List Row → Loss
 loss_in rows = if is_given (codes "accept-loss") rows then losses.Accepted else losses.Refused
 
@@ -114,16 +114,16 @@ loss_in rows = if is_given (codes "accept-loss") rows then losses.Accepted else 
 abbrev pub unowned_in : List Row → Unowned
 unowned_in rows = if is_given (codes "free") rows then unowneds.Freed else unowneds.Kept
 
--- whether it writes the image: it does, but with --dry-run it prints alone
+-- whether it writes the image: it does, but with --dry-run it only prints
 abbrev pub effect_in : List Row → Effect
 effect_in rows = if is_given (codes "dry-run") rows then effects.Printed else effects.Written
 
--- the job that makes the image of a shop: with --new it is refused where the image is there
+-- the job that makes the image of a shop: with --new it is refused if the image is there
 abbrev pub format_job : List Row → Bor Text → ℕ → Job
 format_job rows image tills =
     if is_given (codes "new") rows then jobs.FormatNew image tills else jobs.Format image tills
 
--- the job that plays a script: with --sync each sector is brought to the disk before the next is written
+-- the job that plays a script: with --sync each sector is synced before the next is written
 abbrev pub play_job : List Row → Bor Text → Bor Text → Job
 play_job rows image script =
     if is_given (codes "sync") rows then jobs.PlaySynced image script else jobs.Play image script
@@ -154,7 +154,7 @@ abbrev pub AreOnSheet : List Row → List (Bor Text) → Type 0
 AreOnSheet rows images = (has_two_forms rows ≡ false) × (is_given (codes "sheet") rows ≡ true)
     × (map (λ image. image.now) images ≡ values (codes "IMAGE") rows) × (length images ≤ 400)
 
--- there are several images and neither a sheet nor a comparison is asked for, or more than a sheet has room for, or not
+-- there are several images and neither a sheet nor a comparison is asked for; or more than a sheet has room for, or not
 -- two to be compared; or two forms are asked for
 abbrev pub IsNoPicture : List Row → Type 0
 IsNoPicture rows =
@@ -170,12 +170,12 @@ IsDrawnBy drawings.Map rows = length (values (codes "IMAGE") rows) < 2
 IsDrawnBy drawings.Picture rows = (is_given (codes "svg") rows ≡ false) × IsForOne rows
 IsDrawnBy drawings.Poster rows = (is_given (codes "svg") rows ≡ true) × IsForOne rows
 
--- the words ask for more of what isn't done, before the subcommand or behind it
+-- the words ask for more lines if the job isn't done, before the subcommand or after it
 abbrev pub is_explained : List Row → Option (Text × List Row) → Bool
 is_explained top found =
     is_given (codes "explain") top || option_map_or (λ f. is_given (codes "explain") f.1) found false
 
--- that they ask for it was heard; where they are refused it is passed over
+-- the request for more lines was heard; if the words are refused, it is ignored
 abbrev pub IsHeard : Result Job JobFault → (asked heard : Bool) → Type 0
 IsHeard (Err (faults.Words e)) asked heard = heard ≡ true → asked ≡ true
 IsHeard _ asked heard = heard ≡ asked
@@ -275,7 +275,7 @@ IsTakingJob rows what image (Ok _) = ⊥
 IsTakingJob rows what image (Err faults.Name) = HasNoName rows
 IsTakingJob rows what image (Err _) = ⊥
 
--- the same of the one that makes a relative file
+-- the words ask for this job that makes a relative file, or are at fault
 abbrev pub IsMakingJob : List Row → Text → Result Job JobFault → Type 0
 IsMakingJob rows image (Ok (jobs.Make path name length loss)) =
     (path.now ≡ image) × IsNameOf (value (codes "NAME") rows) (name_bytes name) × (length_in rows ≡ Some length)
@@ -351,8 +351,8 @@ IsRefusedName found =
     ((what : Taking) × Has found (word_of_taking what) HasNoName)
     ⊎ (Has found (codes "store") HasNoName ⊎ Has found (codes "make") HasNoNewName)
 
--- why there is none: the words are refused for one of these kinds, or memory ran out; or the number of tills is none,
--- or the name of a file, or the length of a record, or the sector
+-- why there is none: the words are refused for one of these kinds, or memory ran out. Or the number of tills, the name of
+-- a file, the length of a record, or the sector isn't valid
 abbrev pub IsNoJob : Kinds → Option (Text × List Row) → JobFault → Type 0
 IsNoJob kinds found (faults.Words e) = HasKind kinds e
 IsNoJob kinds found faults.Tills = (kinds ≡ []) × Has found (codes "format") (λ rows. tills_in rows ≡ None)

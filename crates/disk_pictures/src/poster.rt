@@ -78,7 +78,7 @@ impl Display for Head<'_> {
     }
 }
 
-/// What follows it, from what is drawn and what a check told, up to the first group of sectors.
+/// What follows it, from what is drawn and the result of a check, up to the first group of sectors.
 #[derive(Clone, Copy)]
 pub(crate) struct Heading<'a> {
     /// What is drawn.

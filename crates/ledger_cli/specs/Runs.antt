@@ -34,7 +34,7 @@ use Rattle.ledger_jobs.specs.declared.jobs.Reading.{Reading}
 use Rattle.ledger_jobs.specs.declared.jobs.Reading.TheVariants as readings
 use Rattle.ledger_jobs.specs.declared.refusals.Refusal.TheVariants as refusals
 
--- the run ended so, and this is how its job is told to have ended
+-- the run ended so, and this is the end that is reported of its job
 abbrev pub EndsAs : {A : Type 0} → (A → JobEnd) → JobEnd → (A → Type 0) → Type 0
 EndsAs {A} told end P = (ended : A) × (end ≡ told ended) × P ended
 
@@ -70,8 +70,8 @@ abbrev pub IsOverFile : {F W : Type 0} → List ℕ → Option F → Option F �
     → (DeviceAsFile (Mirror F) → DeviceAsFile (Mirror F) → Type 0) → Type 0
 IsOverFile image file after old new end P = IsUnbegun image file after old new end ⊎ IsRunOver image file after P
 
--- A service ended with 1 exactly if the image is no shop's, and then nothing was printed; with 3 if the file or the
--- output failed, or there was no memory.
+-- How a service ended. Its status is 1 exactly if the image is no shop's, and then nothing was printed; it is 3 if the
+-- file or the output failed, or there was no memory.
 pub record IsServiceEnd {F W : Type 0} (image : List ℕ) (file after : F) (old new : W) (ended : Ended) : Type 0 where
   pub size : length image ≢ 174848 → exit_status ended ≡ 1
   pub refused : exit_status ended ≡ 1 → (length image ≢ 174848) ⊎ IsNoShop image
@@ -185,12 +185,12 @@ module _ {F : Type 0} (position : F → Option ℕ) (bytes contents : F → Opti
   IsJobRun told (jobs.Extract path folder) image script file after old new end =
       (after ≡ file) × (new ≡ old) × (end ≡ Err (refusals.Run run.File))
 
--- what is told of a job's end: nothing where it is done; and else its line, or a beginning of it
+-- what is reported of a job's end: nothing if it is done; otherwise its line, or a first part of that
 abbrev pub IsEndTold : {E : Type 0} → (E → Option (List ℕ)) → E → E → JobEnd → Type 0
 IsEndTold contents old new (Ok _) = new ≡ old
 IsEndTold contents old new (Err refusal) = AppendsPart (contents old) (contents new) (refusal_line refusal)
 
--- a job was run over this file: it ended so, with this status, and that was told
+-- a job was run over this file: it ended so, with this status, and that was reported
 pub record IsRun {F W E : Type 0} (position : F → Option ℕ) (bytes contents : F → Option (List ℕ))
     (printed : W → Option (List ℕ)) (told : E → Option (List ℕ)) (job : Job) (image script : List ℕ)
     (file after : Option F) (old new : W) (err new_err : E) (status : ℕ) : Type 0 where

@@ -39,7 +39,7 @@ refusal_status refusals.ShopFile = 1
 refusal_status refusals.Trimmed = 1
 refusal_status (refusals.Several greatest) = greatest
 
--- what is told of it
+-- what is reported of it
 abbrev pub refusal_text : Refusal → List ℕ
 refusal_text (refusals.Run fault) = run_text fault
 refusal_text (refusals.Keep fault) = keep_text fault
@@ -54,7 +54,7 @@ refusal_text refusals.ShopFile = codes "SHOP FILE"
 refusal_text refusals.Trimmed = codes "TRIMMED"
 refusal_text (refusals.Several greatest) = codes "STATUS " ++ decimal greatest
 
--- it is told on standard error: all but what was told before
+-- it is reported on standard error, unless the output has reported it
 abbrev pub is_told : Refusal → Bool
 is_told (refusals.Run fault) = true
 is_told (refusals.Keep fault) = true
@@ -69,25 +69,25 @@ is_told refusals.ShopFile = true
 is_told refusals.Trimmed = false
 is_told (refusals.Several greatest) = false
 
--- the line in which it is told
+-- the line in which it is reported
 abbrev pub refusal_line : Refusal → List ℕ
 refusal_line refusal = if is_told refusal then refusal_text refusal ++ codes "\n" else []
 
--- what is told where a file isn't locked
+-- what is reported if a file isn't locked
 abbrev pub lock_refusal : TryLockError → Refusal
 lock_refusal locks.WouldBlock = refusals.InUse
 lock_refusal (locks.Error error) = refusals.Run (io_fault (error_kind error))
 
--- what is told of a log that a folder has
+-- what is reported of a log that a folder has
 abbrev pub log_refusal : LogFault → Refusal
 log_refusal (logs.Unfit why) = refusals.Log
 log_refusal (logs.File error) = refusals.Run (io_fault (error_kind error))
 
--- a job is done, with the fault of the layout that it printed, where it printed one; or it isn't, for this reason
+-- a job is done, with the fault of the layout that it printed, if it printed one; or it isn't, for this reason
 abbrev pub JobEnd : Type 0
 JobEnd = Result (Option Fault) Refusal
 
--- what is told of a log that can't be landed for this reason
+-- what is reported of a log that can't be landed for this reason
 abbrev pub landing_fault : Refusal → Refusal
 landing_fault (refusals.Run run.NoMemory) = refusals.Run run.NoMemory
 landing_fault _ = refusals.Run run.Device
@@ -98,23 +98,23 @@ unlanded (Ok _) fault = Err (landing_fault (log_refusal fault))
 unlanded (Err (refusals.Run run.File)) fault = Err (landing_fault (log_refusal fault))
 unlanded (Err refusal) fault = Err refusal
 
--- the exit status: 1 also where a fault was printed
+-- the exit status: 1 also if a fault was printed
 abbrev pub end_status : JobEnd → ℕ
 end_status (Ok None) = 0
 end_status (Ok (Some _)) = 1
 end_status (Err refusal) = refusal_status refusal
 
--- what is told of it on standard error
+-- what is reported of it on standard error
 abbrev pub end_line : JobEnd → List ℕ
 end_line (Ok _) = []
 end_line (Err refusal) = refusal_line refusal
 
--- a run over the bytes of a job's files is done, with the fault of the layout that it printed, where it printed one;
--- or it isn't, for a fault
+-- a run over the bytes of a job's files is done, with the fault of the layout that it printed, if it printed one; or it
+-- isn't, for a fault
 abbrev pub Ended : Type 0
 Ended = Result (Option Fault) RunFault
 
--- the exit status: 1 also where a fault was printed
+-- the exit status: 1 also if a fault was printed
 abbrev pub exit_status : Ended → ℕ
 exit_status (Ok None) = 0
 exit_status (Ok (Some _)) = 1
@@ -131,7 +131,7 @@ dry_end (Ok _) = Ok None
 dry_end (Err (dry.BadLine line)) = Err (run.BadLine line)
 dry_end (Err dry.Output) = Err run.File
 
--- what came of asking the system, as it is told
+-- what came of asking the system, as it is reported
 abbrev pub told_of : {T : Type 0} → Result T Error → Result T Refusal
 told_of (Ok it) = Ok it
 told_of (Err error) = Err (refusals.Run (io_fault (error_kind error)))

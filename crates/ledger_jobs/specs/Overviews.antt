@@ -28,7 +28,7 @@ IsOverview contents (overviews.Check findings.All) image old new end =
 IsOverview contents overviews.Map image old new end =
     EndsAs as_drawn end (IsDrawingRun contents drawings.Map image old new)
 
--- a text, and the line that tells of this end, were printed with a name before each line; the end's status is this
+-- a text, and the line that reports this end, were printed with a name before each line; the end's status is this
 pub record IsToldAs {W : Type 0} (contents : W → Option (List ℕ)) (name text : List ℕ) (end : JobEnd) (old new : W)
     (status : ℕ) : Type 0 where
   pub told : Appends (contents old) (contents new) (named name (text ++ end_line end))

@@ -30,7 +30,7 @@ pub record IsDryRun {W : Type 0} (contents : W → Option (List ℕ)) (script : 
   where
     -- 0: each line has its reply over the lines before it, and all of them were handed over
     pub done : status ≡ 0 → Appends (contents old) (contents new) (dry_report script)
-    -- 1: exactly where a line is bad, and then nothing was written
+    -- 1: exactly if a line is bad, and then nothing was written
     pub bad_line : (status ≡ 1) ↔ IsSome (first_reset (lines script))
     pub untouched : status ≡ 1 → new ≡ old
     -- 3: the output failed
@@ -44,7 +44,7 @@ pub record IsFormatRun {F W : Type 0} (into : Remains F) (contents : W → Optio
       → IsHandedOver into tills file new_file × Appends (contents old) (contents new) (codes "FORMATTED\n")
   -- nothing is said before
   pub first : (new ≡ old) ⊎ IsHandedOver into tills file new_file
-  -- 3: the file or the output failed, and then they have a beginning of what they were to be handed; or there was no
+  -- 3: the file or the output failed, and then they have a prefix of what they were to be handed; or there was no
   -- memory, and then nothing was touched
   pub statuses : (exit_status ended ≡ 0) ⊎ (exit_status ended ≡ 3)
   pub fault : IfErr ended IsFormatFault
@@ -65,13 +65,13 @@ pub record IsListRun {W : Type 0} (contents : W → Option (List ℕ)) (form : N
     -- 3: the output failed, or there was no memory
     pub statuses : (status ≡ 0) ⊎ ((status ≡ 1) ⊎ (status ≡ 3))
 
--- a fault that holds of the image was told on the output
+-- a fault that holds of the image was printed on the output
 pub record TellsOfImage {W : Type 0} (contents : W → Option (List ℕ)) (image : List ℕ) (old new : W) : Type 0 where
   pub fault : Fault
   pub holds : HoldsOfClean nowhere (sectors_in image) fault
   pub told : Appends (contents old) (contents new) (verdict_text (Some fault))
 
--- a run that judges an image
+-- a run that checks an image
 pub record IsCheckRun {W : Type 0} (contents : W → Option (List ℕ)) (image : List ℕ) (old new : W) (status : ℕ) : Type 0
   where
     -- 0: the image is clean, and that was handed over
@@ -108,9 +108,9 @@ pub record IsShowRun {W : Type 0} (contents : W → Option (List ℕ)) (image : 
 pub record IsPlayRun {F T : Type 0} (K : Keeps F) (o : Output T) (image script : List ℕ) (file new_file : F)
     (old new : T)
     (ended : Ended) : Type 0 where
-  -- 0: no line is bad, each was played on the disk of the file, told, and handed on
+  -- 0: no line is bad, and each was played on the disk of the file, its reply passed and handed on
   pub done : exit_status ended ≡ 0 → IsPlayedFile K o image script file new_file old new
-  -- else what is told is so
+  -- otherwise the reported fault holds
   pub fault : IfErr ended (IsFileFault K o image script file new_file old new)
   -- 1: the image has another size, or a line is bad, or a fault of opening holds; neither file nor output was touched
   pub size : length image ≢ 174848 → exit_status ended ≡ 1
@@ -121,7 +121,7 @@ pub record IsPlayRun {F T : Type 0} (K : Keeps F) (o : Output T) (image script :
   pub untouched : exit_status ended ≡ 1 → IsUntouched file new_file old new
   -- 3: the file or the output failed, or there was no memory
   pub statuses : (exit_status ended ≡ 0) ⊎ ((exit_status ended ≡ 1) ⊎ (exit_status ended ≡ 3))
-  -- else a fault is told: a play prints none of a layout's
+  -- otherwise a fault is reported: a play prints none of a layout's
   pub quiet : IsOk ended → exit_status ended ≡ 0
 
 -- what comes of what is asked of the bytes of a file
@@ -137,27 +137,26 @@ IsDryRefusal script (refusals.BadLine line) = first_reset (lines script) ≡ Som
 IsDryRefusal script refusals.File = first_reset (lines script) ≡ None
 IsDryRefusal script _ = ⊥
 
--- why what is asked of these bytes isn't done: what is told holds of them
+-- why what is asked of these bytes isn't done: the reported fault holds of them
 abbrev pub HoldsOfBytes : Reading → List ℕ → RunFault → Type 0
 HoldsOfBytes (readings.List form) bytes fault = IsListFault bytes fault
 HoldsOfBytes readings.Check bytes fault = IsCheckFault bytes fault
 HoldsOfBytes readings.Show bytes fault = IsShowFault bytes fault
 HoldsOfBytes readings.Dry bytes fault = IsDryRefusal bytes fault
 
--- where nothing is told on standard error: at status 0, and where what is wrong with a disk's layout is what was asked
--- for
+-- if nothing is reported on standard error: at status 0, and if what is wrong with a disk's layout is what was asked for
 abbrev pub IsUntold : Reading → (bytes : List ℕ) → Ended → Type 0
 IsUntold readings.Check bytes ended = length bytes ≡ 174848 → exit_status ended ≢ 3 → IsOk ended
 IsUntold _ bytes ended = IsOk ended ↔ (exit_status ended ≡ 0)
 
--- What was asked of these bytes ended so: with its status and what it printed, and what is told of it holds.
+-- What was asked of these bytes ended so: with its status and what it printed, and what is reported of it holds.
 pub record IsReadingEnd {W : Type 0} (contents : W → Option (List ℕ)) (what : Reading) (bytes : List ℕ) (old new : W)
     (ended : Ended) : Type 0 where
   pub run : IsReadingRun contents what bytes old new (exit_status ended)
   pub fault : IfErr ended (HoldsOfBytes what bytes)
   pub quiet : IsUntold what bytes ended
 
--- what comes of what is asked of a file that has these bytes: they were read; or `File` or `NoMemory` was told, and
+-- what comes of what is asked of a file that has these bytes: they were read; or `File` or `NoMemory` was reported, and
 -- nothing was written
 abbrev pub IsReadingOf : {W : Type 0} → (W → Option (List ℕ)) → Reading → (bytes : List ℕ) → W → W → Ended → Type 0
 IsReadingOf contents what bytes old new ended =

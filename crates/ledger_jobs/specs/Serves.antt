@@ -14,7 +14,7 @@ pub record IsServeRun {F R T : Type 0} (K : Keeps F) (i : Input R) (a : Answerin
     (file new_file : F) (old_in new_in : R) (old new : T) (ended : Ended) : Type 0 where
   -- 0: each line of the input was served on the disk of the file, up to the input's end
   pub done : exit_status ended ≡ 0 → IsServedFile K i a image file new_file old_in new_in old new
-  -- else what is told is so
+  -- otherwise the reported fault holds
   pub fault : IfErr ended (IsServeFault K i a image file new_file old_in new_in old new)
   -- 1: the image has another size, or a fault of opening holds; nothing was touched or read
   pub size : length image ≢ 174848 → exit_status ended ≡ 1
@@ -24,5 +24,5 @@ pub record IsServeRun {F R T : Type 0} (K : Keeps F) (i : Input R) (a : Answerin
   pub untouched : exit_status ended ≡ 1 → IsUnserved file new_file old_in new_in old new
   -- 3: the file, the input or the output failed, or there was no memory
   pub statuses : (exit_status ended ≡ 0) ⊎ ((exit_status ended ≡ 1) ⊎ (exit_status ended ≡ 3))
-  -- a fault is told but at 0: a service prints none of a layout's
+  -- a fault is reported, except at 0: a service prints none of a layout's
   pub quiet : IsOk ended → exit_status ended ≡ 0

@@ -38,7 +38,7 @@ fn dry_ended(end: Result<(), DryFault>) -> Result<Option<Fault>, RunFault>
 }
 
 /// Does what is asked of these bytes, those of an image or, for a dry run, of a script. What is printed goes to `out`,
-/// which is flushed at the end. A check answers the fault that it printed, where it printed one.
+/// which is flushed at the end. A check returns the fault that it printed, if it printed one.
 pub fn reading_run<W: Write>(
     alloc: Global,
     what: Reading,
@@ -46,7 +46,7 @@ pub fn reading_run<W: Write>(
     out: &mut W,
 ) -> Result<Option<Fault>, RunFault>
     ensures run { IsReadingRun W.contents what bytes.now out.old out.new (exit_status result) }
-    // What is told holds of the bytes.
+    // What is reported holds of the bytes.
     ensures fault { IfErr result (HoldsOfBytes what bytes.now) }
     // What is wrong with a layout is what a check is asked for, and no fault of the run.
     ensures quiet { IsUntold what bytes.now result }
@@ -59,7 +59,7 @@ pub fn reading_run<W: Write>(
     }
 }
 
-/// Makes the file the image of an empty shop with so many tills, and says so on `out`. `File` where the file or the
+/// Makes the file the image of an empty shop with so many tills, and prints that on `out`. `File` if the file or the
 /// output failed, `NoMemory` before anything is written.
 pub fn format_run<F: EndedFile, W: Write>(
     alloc: Global,
@@ -74,8 +74,8 @@ pub fn format_run<F: EndedFile, W: Write>(
     ended(format_image(alloc, tills, file, out))
 }
 
-/// Plays the script on the shop of the image that the file keeps, and hands the file back. `Device` where the file
-/// failed, `File` where the output did.
+/// Plays the script on the shop of the image that the file keeps, and hands the file back. `Device` if the file failed,
+/// `File` if the output did.
 // Out of line: a session is large, and a frame that has its room touches each page of it.
 #[inline(never)]
 pub fn play_run<F: SectorFile, T: ReplySink<KeptMirror<F>>>(
@@ -85,7 +85,7 @@ pub fn play_run<F: SectorFile, T: ReplySink<KeptMirror<F>>>(
     file: F,
     out: &mut T,
 ) -> (F, Result<Option<Fault>, RunFault>)
-    // where it is known what the file keeps, it is this image
+    // if it is known what the file keeps, it is this image
     requires agrees { Agrees (F.keeps.kept file) (sectors_in image.now) }
     ensures run { IsPlayRun F.keeps T.output image.now script.now file result.0 out.old out.new result.1 }
 {

@@ -53,7 +53,7 @@ pub fn check_image<W: Write>(
     ensures printed { IfOk result
         (λ found. Appends (W.contents out.old) (W.contents out.new) (verdict_text found)) }
     ensures err { IfErr result (IsCheckFault image.now) }
-    // Only where the output failed something may have been printed at a refusal.
+    // At a refusal something was printed only if the output failed.
     ensures untouched { IfErr result (λ fault. (fault ≢ faults.File) → out.new ≡ out.old) }
 {
     let mut disk = load(alloc, image)?;

@@ -14,17 +14,17 @@ pub fn fresh_is_a_shop()
     ensures shown { FreshShowsItsTop }
 {}
 
-/// On a fresh disk with 64 tills a list of requests begins where the dry run's does. So the replies to a script's lines
-/// there, each over the lines before it, are those that `dry` prints. `dry` refuses exactly the scripts that aren't
-/// played so: those with a line that begins with `@`.
+/// On a fresh disk with 64 tills a list of requests begins in the state in which the dry run's begins. So the replies to
+/// a script's lines there, each over the lines before it, are those that `dry` prints. `dry` refuses exactly the scripts
+/// that aren't played so: those with a line that begins with `@`.
 pub fn dry_is_play()
     ensures start { DryBeginsFresh }
     ensures replies { DryTellsReplies }
     ensures scripts { SamePlainScripts }
 {}
 
-/// Wherever a script that `dry` doesn't refuse is played to its end on a fresh disk with 64 tills, on whatever device,
-/// what was printed is what `dry` prints of it.
+/// If a script that `dry` doesn't refuse is played to its end on a fresh disk with 64 tills, what was printed is what
+/// `dry` prints of it. This holds on any device.
 pub fn run_tells_dry<D: Sectors>()
     ensures { RunTellsDry D.history }
 {}

@@ -28,8 +28,8 @@ fn tills_are_one_to_sixty_four(rt: HostRuntime) {
     each(&rt, NO_TILLS);
 }
 
-/// Capital digits, a plain byte in digits, a quotation mark, a digit too few, a shifted space at the end, seventeen bytes, no
-/// plain text. The name is judged before the length.
+/// Capital digits, a plain byte in digits, a quotation mark, a digit too few, a shifted space at the end, seventeen
+/// bytes, no plain text. The name is checked before the length.
 const NO_NAMES: &[u8] = b"
 job ledger records a.d64 \\C1
 prints fault 3, status 2
