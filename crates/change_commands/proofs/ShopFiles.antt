@@ -43,8 +43,7 @@ pub shop-file-read : (image name : List ℕ) (now : Image) (ps : List Place) (es
     → IsTrue has ↔ HasShopFile image name
 shop-file-read image name now ps es slots has size same all d is =
     let P : Image → Type 0 = λ i. IsDirectory i ps es in
-    let of-image = subst P same d in
-    (
+    let of-image = subst P same d in (
       λ t. let (k, s, at, shop) = is.0 t in record {
         size = size;
         sectors = ps;
@@ -71,5 +70,5 @@ pub shop-file-unread : (image name : List ℕ) (now : Image) (fault : Fault) →
 shop-file-unread image name now fault same holds = (
   λ t. absurd (false≢true t),
   λ h. absurd (no-directory (sectors_in image) fault h.sectors h.entries
-  (subst (λ i. HoldsOfDirectory nowhere i fault) same holds) h.directory),
+      (subst (λ i. HoldsOfDirectory nowhere i fault) same holds) h.directory),
 )

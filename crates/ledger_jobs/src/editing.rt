@@ -1,12 +1,11 @@
 //! A file of an image renamed or deleted, unless the disk would lose more than that.
-ghost use Rattle.std.specs.Prelude.{◌≡◌, ◌≤◌, length};
+ghost use Rattle.std.specs.Prelude.{◌≤◌, length};
 ghost use Rattle.d64_image.specs.Keeps.{Agrees};
 ghost use Rattle.d64_image.specs.Memory.{sectors_in};
 ghost use Rattle.shop_commands.specs.Plays.{IsUntouched};
 ghost use Rattle.keeper_commands.specs.Makes.{IsNewName};
 ghost use Rattle.ledger_jobs.specs.Edited.{IsDeleteOver, IsRenameOver};
 ghost use Rattle.ledger_jobs.specs.EditRefusals.{IsEditEnd, IsEditJudged};
-ghost use Rattle.ledger_jobs.specs.Ends.{as_edited};
 ghost use Rattle.ledger_jobs.specs.Names.{name_bytes};
 
 use crate::edit_runs::{delete_run, rename_run};
@@ -14,8 +13,9 @@ use crate::jobs::Loss;
 use crate::keeper_files::image_to_keep;
 use crate::losses::loss_refusal;
 use crate::names::Name;
+use crate::outcomes::edited_end;
 use crate::refusals::Refusal;
-use change_commands::{EditFault, has_shop_file};
+use change_commands::has_shop_file;
 use d64_image::SectorFile;
 use disk_layout::Fault;
 use shop_commands::{EndedFile, Locks};
@@ -36,16 +36,6 @@ fn edit_refusal(alloc: Global, image: &[u8], name: &[u8]) -> Option<Refusal>
         Ok(false) => None,
         Ok(true) => Some(Refusal::ShopFile),
         Err(fault) => Some(Refusal::Edit(fault)),
-    }
-}
-
-/// What came of a change to the files of an image, as a job's end.
-fn edited_end(ended: Result<(), EditFault>) -> Result<Option<Fault>, Refusal>
-    ensures { result ≡ as_edited ended }
-{
-    match ended {
-        Ok(()) => Ok(None),
-        Err(fault) => Err(Refusal::Edit(fault)),
     }
 }
 

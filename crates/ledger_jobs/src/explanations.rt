@@ -61,7 +61,8 @@ const NAMED: &str = "a file has this name; `ledger list` shows them";
 
 const LOCKED: &str = "the file is locked: `ledger list` prints `<` after its type";
 
-const SHOP_FILE: &str = "the file is one of the two that a shop is kept in; without it the shop is lost";
+const SHOP_FILE: &str =
+    "the file is one of the two that a shop is kept in; without it the shop is lost";
 
 const BAD_LINE: &str = "nothing was done; mend the line, and run it again";
 
@@ -265,7 +266,11 @@ fn tell_made<E: Write>(job: &Job<'_>, err: &mut E) {
             tell_of(err, folder, "it is there already; choose another name");
         }
         Job::New { image, .. } => {
-            tell_of(err, image, "it or its log is there already; choose another name");
+            tell_of(
+                err,
+                image,
+                "it or its log is there already; choose another name",
+            );
         }
         _ => tell_of(
             err,

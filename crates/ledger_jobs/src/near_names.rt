@@ -1,8 +1,8 @@
 //! What is printed for a person if an image has no file of a name: which names are near.
-use crate::dispatch::image_of_file;
 use crate::files::STANDARD_INPUT;
 use crate::jobs::Job;
 use crate::names::Name;
+use crate::readings::image_of_file;
 use disk_faults::print_near_names;
 use shop_commands::Locks;
 use std::fs::OpenFile;

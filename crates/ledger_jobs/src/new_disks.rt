@@ -6,9 +6,9 @@ ghost use Rattle.shop_commands.specs.declared.faults.RunFault.TheVariants as fau
 ghost use Rattle.ledger_jobs.specs.Names.{name_bytes};
 ghost use Rattle.ledger_jobs.specs.NewDisks.{IsNewMade};
 
-use crate::dispatch::job_end;
 use crate::files::{AtPath, Older};
 use crate::names::Name;
+use crate::outcomes::job_end;
 use crate::refusals::Refusal;
 use crate::shop_runs::ended;
 use d64_image::MemDisk;

@@ -28,7 +28,9 @@ fn row_of<'a>(job: &Job<'a>) -> Row<'a> {
         Job::Format { image, tills } => ("format", image, "", tills),
         Job::FormatNew { image, tills } => ("format new", image, "", tills),
         Job::New {
-            image, ref name, ..
+            image,
+            ref name,
+            ..
         } => ("new", image, "", bytes_of(name)),
         Job::List { image, .. } => ("list", image, "", 0),
         Job::Check { findings, image } => match findings {
@@ -56,7 +58,9 @@ fn row_of<'a>(job: &Job<'a>) -> Row<'a> {
         } => ("bytes", image, "", bytes_of(name)),
         Job::Make { image, length, .. } => ("make", image, "", length),
         Job::Rename {
-            image, ref from, ..
+            image,
+            ref from,
+            ..
         } => ("rename", image, "", bytes_of(from)),
         Job::Delete { image, ref name } => ("delete", image, "", bytes_of(name)),
         Job::Store {

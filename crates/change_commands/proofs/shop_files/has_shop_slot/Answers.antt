@@ -35,5 +35,5 @@ pub returns : goal.returns
 returns c = (
   λ h. absurd (false≢true h),
   λ (k, s, at, shop). absurd (c.loop-slot.invariant.none k
-  (omega (arith, c.loop-slot-test.false, slice_get_within c.args.slots.now k s at)) s at shop),
+      (omega (arith, c.loop-slot-test.false, slice_get_within c.args.slots.now k s at)) s at shop),
 )

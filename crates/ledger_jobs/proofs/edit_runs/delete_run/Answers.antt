@@ -6,8 +6,8 @@ use Rattle.d64_image.specs.KeptMirrors.{mirror_image}
 use Rattle.ledger_jobs.proofs.DeletedOver.{delete-ended, delete-not-loaded}
 use Rattle.ledger_jobs.proofs.edit_runs.delete_run.Goals as goal
 
-pub delete_image-ended-requires-clause-holds : goal.delete_image-ended-requires-clause-holds
-delete_image-ended-requires-clause-holds g c =
+pub delete_image-ended-requires : goal.delete_image-ended-requires
+delete_image-ended-requires g c =
     ap₂ (λ f d. kept_or (g.F.SectorFile.keeps.kept f) d) c.new-mirror.ensures.file
     (ap disk_image c.new-mirror.ensures.disk ∙ c.in-Ok.ensures.ok.1)
     ∙ c.requires.agrees
