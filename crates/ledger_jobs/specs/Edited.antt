@@ -28,7 +28,7 @@ pub record IsEditOver {F W : Type 0} (image : List ℕ) (file new_file : F) (old
     (Fault : EditFault → Type 0) (ended : Result Unit EditFault) : Type 0 where
   -- 0: it is done, and that was printed
   pub done : edit_end ended ≡ 0 → Done
-  -- otherwise the fault that is reported holds
+  -- otherwise the reported fault holds
   pub fault : IfErr ended Fault
   -- 1: the image, or what was asked for, is in the way; neither file nor output was touched
   pub size : length image ≢ 174848 → edit_end ended ≡ 1
@@ -57,8 +57,8 @@ IsRenamedFile K contents image from to file after old new =
     IsUnfailed K file after
     × IsTakenUp K image file after (λ disk left. IsRenameDone (in_run K file) contents image from to disk left old new)
 
--- Why no file is renamed, or that not printed: what the image holds is in the way, and then nothing was done; or the
--- output failed, and then it is renamed; or the file did, and then it has one of the two names, and nothing was printed.
+-- Why no file is renamed, or that isn't printed. What the image holds is in the way: then nothing was done. Or the output
+-- failed: then it is renamed. Or the file failed: then the entry has one of the two names, and nothing was printed.
 abbrev pub IsRenamedFault : {F W : Type 0} → Keeps F → (image from to : List ℕ) → F → F → W → W → EditFault → Type 0
 IsRenamedFault K image from to file after old new edit.ImageSize =
     (length image ≢ 174848) × IsUntouched file after old new
@@ -93,8 +93,8 @@ IsDeletedFile K contents image name file after old new =
     IsUnfailed K file after
     × IsTakenUp K image file after (λ disk left. IsDeleteDone (in_run K file) contents image name disk left old new)
 
--- Why no file is deleted, or that not printed: what the image holds is in the way, and then nothing was done; or the
--- output failed, and then it is deleted; or the file did, and then it is there or not, and nothing was printed.
+-- Why no file is deleted, or that isn't printed. What the image holds is in the way: then nothing was done. Or the output
+-- failed: then it is deleted. Or the file failed: then the entry is there or not, and nothing was printed.
 abbrev pub IsDeletedFault : {F W : Type 0} → Keeps F → (image name : List ℕ) → F → F → W → W → EditFault → Type 0
 IsDeletedFault K image name file after old new edit.ImageSize =
     (length image ≢ 174848) × IsUntouched file after old new

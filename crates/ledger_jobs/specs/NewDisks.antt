@@ -15,8 +15,8 @@ pub record IsNewImage (name id bytes : List ℕ) : Type 0 where
   pub size : length bytes ≡ 174848
   pub new : IsNewDisk name id (sectors_in bytes)
 
--- What making such an image and saying so came to: all of it was written, and that was said; or the file failed, and
--- nothing was said, or the output did; or there was no memory, and nothing was done.
+-- What making such an image and printing that came to. All of it was written, and that was printed. Or the file failed,
+-- and nothing was printed; or the output failed. Or there was no memory, and nothing was done.
 abbrev pub IsNewMade : {F W : Type 0} → Remains F → (W → Option (List ℕ)) → (name id : List ℕ) → F → F → W → W
     → Result Unit RunFault → Type 0
 IsNewMade r contents name id file after old new (Ok _) = (image : List ℕ) × IsNewImage name id image

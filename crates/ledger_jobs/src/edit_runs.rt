@@ -11,8 +11,10 @@ use std::alloc::Global;
 use std::io::Write;
 
 /// Renames the first entry that has the name `from` on the sound disk of the image that the file keeps, prints `RENAMED`,
-/// and hands the file back. `NoFile`, `FileExists` and what is wrong with the image leave file and output as they were.
-/// `Device` if the file failed: the entry has one of the two names. `File` if the output did: it is renamed.
+/// and hands the file back. `to` has at most sixteen bytes.
+///
+/// `NoFile`, `FileExists` and what is wrong with the image leave file and output as they were. `Device` if the file
+/// failed: the entry has one of the two names. `File` if the output failed: it is renamed.
 pub fn rename_run<F: SectorFile, W: Write>(
     alloc: Global,
     image: &[u8],
@@ -22,7 +24,7 @@ pub fn rename_run<F: SectorFile, W: Write>(
     out: &mut W,
 ) -> (F, Result<(), EditFault>)
     requires to { length to.now ≤ 16 }
-    // where it is known what the file keeps, it is this image
+    // if it is known what the file keeps, it is this image
     requires agrees { Agrees (F.keeps.kept file) (sectors_in image.now) }
     ensures run { IsRenameOver F.keeps W.contents image.now from.now to.now file result.0 out.old out.new result.1 }
 {
@@ -36,9 +38,10 @@ pub fn rename_run<F: SectorFile, W: Write>(
 }
 
 /// Deletes the first file that has the name on the clean disk of the image that the file keeps, prints `DELETED`, and hands
-/// the file back. Each sector is handed to the file before memory takes it. `NoFile`, `Locked` and what is wrong with the
-/// image leave file and output as they were. `Device` if the file failed: the deleted file is there or not. `File` if the
-/// output did: it is deleted.
+/// the file back. Each sector is handed to the file before memory takes it.
+///
+/// `NoFile`, `Locked` and what is wrong with the image leave file and output as they were. `Device` if the file failed:
+/// the entry is there or not. `File` if the output failed: the entry is deleted.
 pub fn delete_run<F: SectorFile, W: Write>(
     alloc: Global,
     image: &[u8],
@@ -46,7 +49,7 @@ pub fn delete_run<F: SectorFile, W: Write>(
     file: F,
     out: &mut W,
 ) -> (F, Result<(), EditFault>)
-    // where it is known what the file keeps, it is this image
+    // if it is known what the file keeps, it is this image
     requires agrees { Agrees (F.keeps.kept file) (sectors_in image.now) }
     ensures run { IsDeleteOver F.keeps W.contents image.now name.now file result.0 out.old out.new result.1 }
 {

@@ -1,4 +1,4 @@
-//! A file of an image renamed or deleted, unless the disk would lose more than that.
+//! A file of an image renamed or deleted, unless a file is cut short or that one is a shop's.
 ghost use Rattle.std.specs.Prelude.{◌≤◌, length};
 ghost use Rattle.d64_image.specs.Keeps.{Agrees};
 ghost use Rattle.d64_image.specs.Memory.{sectors_in};
@@ -25,7 +25,7 @@ use std::io::Write;
 use std::rt::Files;
 
 /// Why the entry of this name isn't changed: `Short` if a file of the image is cut short, `ShopFile` if the file of the name
-/// is one of a shop's two. Or there was no memory to see that, or the image has another size.
+/// is one of a shop's two. It is also a refusal that there was no memory to see that, or that the image has another size.
 fn edit_refusal(alloc: Global, image: &[u8], name: &[u8]) -> Option<Refusal>
     ensures { IsEditJudged image.now name.now result }
 {
@@ -39,8 +39,9 @@ fn edit_refusal(alloc: Global, image: &[u8], name: &[u8]) -> Option<Refusal>
     }
 }
 
-/// Renames a file on the disk of the image that the file keeps, as `rename_run` does, unless a file of it is cut short
-/// (`Short`) or the file to be renamed is one of a shop's two (`ShopFile`): nothing was printed or changed then.
+/// Renames a file on the disk of the image that the file keeps, as `rename_run` does. It is refused if a file of the disk
+/// is cut short (`Short`) or the file to be renamed is one of a shop's two (`ShopFile`): then nothing was printed or
+/// changed.
 pub fn rename_guarded<F: SectorFile, W: Write>(
     alloc: Global,
     image: &[u8],
@@ -50,7 +51,7 @@ pub fn rename_guarded<F: SectorFile, W: Write>(
     out: &mut W,
 ) -> (F, Result<Option<Fault>, Refusal>)
     requires to { length to.now ≤ 16 }
-    // where it is known what the file keeps, it is this image
+    // if it is known what the file keeps, it is this image
     requires agrees { Agrees (F.keeps.kept file) (sectors_in image.now) }
     ensures { IsEditEnd image.now from.now (IsUntouched file result.0 out.old out.new)
         (IsRenameOver F.keeps W.contents image.now from.now to.now file result.0 out.old out.new) result.1 }
@@ -62,8 +63,9 @@ pub fn rename_guarded<F: SectorFile, W: Write>(
     (left, edited_end(ended))
 }
 
-/// Deletes a file on the disk of the image that the file keeps, as `delete_run` does, unless a file of it is cut short
-/// (`Short`) or the file to be deleted is one of a shop's two (`ShopFile`): nothing was printed or changed then.
+/// Deletes a file on the disk of the image that the file keeps, as `delete_run` does. It is refused if a file of the disk
+/// is cut short (`Short`) or the file to be deleted is one of a shop's two (`ShopFile`): then nothing was printed or
+/// changed.
 pub fn delete_guarded<F: SectorFile, W: Write>(
     alloc: Global,
     image: &[u8],
@@ -71,7 +73,7 @@ pub fn delete_guarded<F: SectorFile, W: Write>(
     file: F,
     out: &mut W,
 ) -> (F, Result<Option<Fault>, Refusal>)
-    // where it is known what the file keeps, it is this image
+    // if it is known what the file keeps, it is this image
     requires agrees { Agrees (F.keeps.kept file) (sectors_in image.now) }
     ensures { IsEditEnd image.now name.now (IsUntouched file result.0 out.old out.new)
         (IsDeleteOver F.keeps W.contents image.now name.now file result.0 out.old out.new) result.1 }

@@ -33,12 +33,12 @@ fn made_disk(alloc: Global, name: &[u8], id: [u8; 2]) -> Result<MemDisk, RunFaul
     }
 }
 
-/// Writes the image of an empty disk, of this name of at most sixteen bytes and of this id, over all that a file holds,
-/// brings it to the disk, and prints `FORMATTED`. If power goes on the way, the file has what it could have before, or is
-/// no sound disk's, or has the image.
+/// Writes the image of an empty disk over all that a file holds, syncs it, and prints `FORMATTED`. The disk has this name,
+/// of at most sixteen bytes, and this id. If power goes on the way, the file has what it could have before, or isn't the
+/// image of a sound disk, or has the image.
 ///
-/// `NoMemory`: nothing was done. `File` if the file failed, which then has a part of the image and nothing is printed, or
-/// if `out` failed, which then has a beginning of what is printed.
+/// `NoMemory`: nothing was done. `File` if the file failed: it has a part of the image, and nothing is printed. `File`
+/// also if `out` failed: it has a beginning of what is printed.
 pub fn new_run<F: EndedFile, W: Write>(
     alloc: Global,
     name: &[u8],
@@ -56,7 +56,7 @@ pub fn new_run<F: EndedFile, W: Write>(
     }
 }
 
-/// Makes the image of an empty disk at a path, where no file may stand.
+/// Makes the image of an empty disk at a path. No file may stand there.
 pub(crate) fn do_new<F, R, W>(
     rt: &R,
     path: &str,

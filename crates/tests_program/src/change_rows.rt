@@ -107,7 +107,7 @@ fn files_are_deleted(rt: HostRuntime) {
     each(&rt, DELETED);
 }
 
-/// The two files of a shop stay, whatever else is wrong with it: `REQUESTS` that is no shop's, by its name, is renamed.
+/// The two files of a shop stay, also if a card of it is wrong. A file of another name is deleted.
 const SHOPS: &[u8] = b"
 person ledger_cli delete a.d64 STOCK
 tells SHOP FILE|ledger: a.d64: the file is one of the two that a shop is kept in; without it the shop is lost|

@@ -1,4 +1,4 @@
--- How the file was renamed is told by how that over the mirror of the image's file ended, and whether that file failed.
+-- What comes of the file follows from the end of the run over its mirror, and from whether the file failed.
 use Rattle.std.proofs.Common.{◌≡◌, ◌∙◌, ap, ap₂}
 use Rattle.d64_image.specs.Keeps.{kept_or}
 use Rattle.d64_image.specs.Memory.{disk_image, sectors_in}
