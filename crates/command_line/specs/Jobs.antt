@@ -98,7 +98,7 @@ word_of_drawing drawings.Map = codes "map"
 word_of_drawing drawings.Picture = codes "picture"
 word_of_drawing drawings.Poster = codes "picture"
 
--- where the requests of a shop that is served come to the disk first: in a log, but with --in-place in the image itself
+-- to which file the requests of a shop that is served are synced first: to a log, but with --in-place to the image itself
 abbrev pub way_in : List Row → Way
 way_in rows = if is_given (codes "in-place") rows then ways.InPlace else ways.OverLog
 
@@ -275,7 +275,7 @@ IsTakingJob rows what image (Ok _) = ⊥
 IsTakingJob rows what image (Err faults.Name) = HasNoName rows
 IsTakingJob rows what image (Err _) = ⊥
 
--- the words ask for this job that makes a relative file, or are at fault
+-- the job, or why there is none, of the subcommand that makes a relative file
 abbrev pub IsMakingJob : List Row → Text → Result Job JobFault → Type 0
 IsMakingJob rows image (Ok (jobs.Make path name length loss)) =
     (path.now ≡ image) × IsNameOf (value (codes "NAME") rows) (name_bytes name) × (length_in rows ≡ Some length)
@@ -285,7 +285,7 @@ IsMakingJob rows image (Err faults.Name) = HasNoNewName rows
 IsMakingJob rows image (Err faults.Length) = HasNewName rows × (length_in rows ≡ None)
 IsMakingJob rows image (Err _) = ⊥
 
--- and of the one that stores records in one
+-- the job, or why there is none, of the subcommand that stores records in one
 abbrev pub IsStoringJob : List Row → Text → Result Job JobFault → Type 0
 IsStoringJob rows image (Ok (jobs.Store path name records columns loss)) =
     (path.now ≡ image) × IsNameOf (value (codes "NAME") rows) (name_bytes name)
@@ -300,7 +300,7 @@ IsSeveral what images result =
     ((all : Vec (Bor Text) Global) × (result ≡ Ok (jobs.Several what all)) × (vec_items all ≡ images))
     ⊎ ((e : Error) × (result ≡ Err (faults.Words e)) × HasKind [] e)
 
--- and of one that prints this of one image, or of several
+-- the job, or why there is none, of a subcommand that prints this of one image, or of several
 abbrev pub IsOverviewJob : List Row → Overview → Result Job JobFault → Type 0
 IsOverviewJob rows what result =
     ((image : Bor Text) × (result ≡ Ok (job_of_one what image)) × IsOnlyImage rows image.now)
@@ -313,7 +313,7 @@ IsDescribing images result =
     ((all : Vec (Bor Text) Global) × (result ≡ Ok (jobs.Describe all)) × (vec_items all ≡ images))
     ⊎ ((e : Error) × (result ≡ Err (faults.Words e)) × HasKind [] e)
 
--- and of one that checks images, or describes each
+-- the job, or why there is none, of the subcommand that checks images, or describes each
 abbrev pub IsCheckJob : List Row → Result Job JobFault → Type 0
 IsCheckJob rows result =
     ((is_given (codes "json") rows ≡ false) × IsOverviewJob rows (overviews.Check (findings_in rows)) result)
@@ -334,7 +334,7 @@ IsComparing images result =
     × (images ≡ before ∷ after ∷ []))
     ⊎ ((result ≡ Err faults.Images) × (length images ≢ 2))
 
--- and of one that draws one image, or images on a sheet, or two compared
+-- the job, or why there is none, of the subcommand that draws one image, or images on a sheet, or two compared
 abbrev pub IsPictureJob : List Row → Result Job JobFault → Type 0
 IsPictureJob rows result =
     ((image : Bor Text) × (result ≡ Ok (picture_job rows image)) × (image.now ≡ value (codes "IMAGE") rows)

@@ -27,7 +27,7 @@ const OUTPUT_ROOM: usize = 32768;
 pub enum Audience {
     /// A program, or a file: each refusal is one line.
     Program,
-    /// A person at a terminal, or who asked for it by --explain: a second line says which file, or what to do.
+    /// A person at a terminal, or one who asked for it by --explain: a second line says which file, or what to do.
     Person,
     /// A person at a terminal who doesn't see the output: long work says how far it is, too.
     Waiting,
@@ -92,7 +92,7 @@ fn refuse_words<R: Print + Eprint, E: Write>(
 ) -> u8 {
     let status = fault.status();
     let ended = match fault {
-        // For want of memory there may be no text.
+        // If memory ran out, there may be no text.
         JobFault::Words(_) if status == RunFault::NoMemory.status() => {
             return end(Err(Refusal::Run(RunFault::NoMemory)), err).status;
         }
@@ -206,7 +206,7 @@ fn texts_of<'a>(alloc: Global, words: &'a [String]) -> Result<Vec<&'a str>, Allo
     Ok(texts)
 }
 
-/// Does what these words ask for, and answers the exit status.
+/// Does what these words ask for, and returns the exit status.
 fn obey<F, R, E>(rt: &R, words: &[String], told: Audience, err: &mut E) -> u8
 where
     F: EndedFile + Read + Locks + OpenFile + Drop,

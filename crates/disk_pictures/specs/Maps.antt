@@ -84,7 +84,7 @@ records_text f =
     ++ (decimal (record_length f.slot) ++ (codes " RECORDS " ++ decimal (records_in f)))
     else []
 
--- the same with more than 26 entries
+-- the line of a track on a map with more than 26 entries
 unfoldable pub wide_line : Option Fault → Sector → Layout → ℕ → List ℕ
 wide_line v map l t =
     track_number t ++ (each_below 21 (λ s. at_place (cell_text v map l) (place_at t s)) ++ codes "\n")
@@ -103,15 +103,15 @@ entry_line wide k f =
 abbrev pub map_head : List ℕ
 map_head = codes "   0         1         2\n   012345678901234567890\n"
 
--- the same with two characters for each sector
+-- the numbers of the sectors above tracks with two characters for each sector
 abbrev pub wide_head : List ℕ
 wide_head = codes "   00 01 02 03 04 05 06 07 08 09 10 11 12 13 14 15 16 17 18 19 20\n"
 
--- tracks 1 to 35 under these numbers, with a character for each sector, and with two
+-- tracks 1 to 35 under these numbers, with a character for each sector
 unfoldable pub narrow_tracks : Option Fault → Sector → Layout → List ℕ
 narrow_tracks v map l = map_head ++ each_below 35 (λ b. track_line v map l (b + 1))
 
--- the same with two characters for each sector
+-- tracks 1 to 35 under their numbers, with two characters for each sector
 unfoldable pub wide_tracks : Option Fault → Sector → Layout → List ℕ
 wide_tracks v map l = wide_head ++ each_below 35 (λ b. wide_line v map l (b + 1))
 

@@ -1,4 +1,4 @@
-//! What stands round the drawing on a picture's page.
+//! What stands around the drawing on a picture's page.
 ghost use Rattle.std.specs.Prelude.{◌≡◌, Some};
 ghost use Rattle.disk_pictures.specs.Drawings.{file_in};
 ghost use Rattle.disk_pictures.specs.Held.{drawn_in};

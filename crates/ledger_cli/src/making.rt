@@ -45,11 +45,11 @@ fn write_over<F: Write + Seek>(file: &mut F, image: &[u8]) -> Result<(), RunFaul
 }
 
 /// Makes the image of an empty shop with 1 to 64 tills (an odd number gives one more). It writes the 174,848 bytes over
-/// what the file holds, and prints that on `out`. A longer file keeps what it held after them: writing doesn't cut a
-/// file.
+/// what the file holds, and prints `FORMATTED` on `out`. A longer file keeps what it held after them: writing doesn't cut
+/// a file.
 ///
-/// `NoMemory` before anything is written. `File` if the file failed: then it has the first of the writes, and nothing is
-/// printed. `File` also if `out` failed, which then has a first part of what is printed.
+/// `NoMemory` before anything is written. `File` if the file failed: then it has a prefix of the writes, and nothing is
+/// printed. `File` also if `out` failed, which then has a prefix of what is printed.
 pub(crate) fn make_image<F: Write + Seek, W: Write>(
     alloc: Global,
     tills: u8,
@@ -66,10 +66,11 @@ pub(crate) fn make_image<F: Write + Seek, W: Write>(
     put_whole(out, b"FORMATTED\n")
 }
 
-/// Writes an image over what the file holds, and prints so on `out`. A longer file keeps what it held after the image.
+/// Writes an image over what the file holds, and prints `COPIED` on `out`. A longer file keeps what it held after the
+/// image.
 ///
-/// `ImageSize`: nothing was done. `File` if the file failed, which then has a prefix of the writes and nothing is
-/// printed, or `out`, which then has a prefix of what is printed.
+/// `ImageSize`: nothing was done. `File` if the file failed: then it has a prefix of the writes, and nothing is printed.
+/// `File` also if `out` failed, which then has a prefix of what is printed.
 pub(crate) fn copy_image<F: Write + Seek, W: Write>(
     image: &[u8],
     file: &mut F,

@@ -16,7 +16,7 @@ use shop_commands::{RunFault, file_of, load};
 use std::alloc::Global;
 use std::io::{self, Write};
 
-/// Hands on what a writer holds back. Its replies stay written.
+/// Flushes a writer. Its replies stay written.
 fn hand_on<W: Write>(out: &mut W) -> io::Result<()>
     ensures { TellsNone (written W.contents) out.old out.new }
 {

@@ -1,5 +1,5 @@
 -- How a job ends, and the program's exit status then. All of it is our own.
-use Rattle.std.specs.Prelude.{ℕ, Bool, true, false, if◌then◌else◌, List, [], ◌++◌, Option, Some, None}
+use Rattle.std.specs.Prelude.{◌≡◌, ℕ, Bool, true, false, if◌then◌else◌, List, [], ◌++◌, Option, Some, None}
 use Rattle.std.specs.Prelude.{Result, Ok, Err, codes, decimal, nat_eq}
 use Rattle.std.specs.IoError.{error_kind}
 use Rattle.std.specs.declared.fs.locks.TryLockError.{TryLockError}
@@ -114,12 +114,6 @@ end_line (Err refusal) = refusal_line refusal
 abbrev pub Ended : Type 0
 Ended = Result (Option Fault) RunFault
 
--- the exit status: 1 also if a fault was printed
-abbrev pub exit_status : Ended → ℕ
-exit_status (Ok None) = 0
-exit_status (Ok (Some _)) = 1
-exit_status (Err fault) = run_status fault
-
 -- the end of a job that prints no fault
 abbrev pub end_of : Result Unit RunFault → Ended
 end_of (Ok _) = Ok None
@@ -160,3 +154,7 @@ as_repaired (Err fault) = Err (refusals.Keep fault)
 abbrev pub as_drawn : Result (Option Fault) PictureFault → JobEnd
 as_drawn (Ok printed) = Ok printed
 as_drawn (Err fault) = Err (refusals.Draw fault)
+
+-- a run ended so, and this is how its job ended
+abbrev pub EndsAs : {A : Type 0} → (A → JobEnd) → JobEnd → (A → Type 0) → Type 0
+EndsAs {A} told end P = (ended : A) × (end ≡ told ended) × P ended

@@ -3,7 +3,7 @@ use Rattle.std.specs.Prelude.{◌≡◌, ◌++◌, ℕ, List, [], Option, Some, 
 use Rattle.std.specs.declared.alloc.Global.{Global}
 use Rattle.std.specs.Io.KnownBytes.{Appends}
 use Rattle.ledger_jobs.specs.Drawings.{IsDrawingRun}
-use Rattle.ledger_jobs.specs.Ends.{JobEnd, as_drawn, as_job, end_line, end_status}
+use Rattle.ledger_jobs.specs.Ends.{EndsAs, JobEnd, as_drawn, as_job, end_line, end_status}
 use Rattle.ledger_jobs.specs.Listings.{IsListingRun, as_listed}
 use Rattle.ledger_jobs.specs.Runs.{IsReadingEnd}
 use Rattle.ledger_jobs.specs.declared.jobs.Drawing.TheVariants as drawings
@@ -12,10 +12,6 @@ use Rattle.ledger_jobs.specs.declared.jobs.Overview.{Overview}
 use Rattle.ledger_jobs.specs.declared.jobs.Overview.TheVariants as overviews
 use Rattle.ledger_jobs.specs.declared.jobs.Reading.TheVariants as readings
 use Rattle.named_lines.specs.Named.{named}
-
--- a run ended so, and this is how its job ended
-abbrev pub EndsAs : {A : Type 0} → (A → JobEnd) → JobEnd → (A → Type 0) → Type 0
-EndsAs {A} told end P = (ended : A) × (end ≡ told ended) × P ended
 
 -- what is asked of an image that is alone ended so
 abbrev pub IsOverview : {W : Type 0} → (W → Option (List ℕ)) → Overview → (image : List ℕ) → W → W → JobEnd → Type 0

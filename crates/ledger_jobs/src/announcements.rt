@@ -13,7 +13,7 @@ use std::rt::Files;
 use system_files::ShownPath;
 
 /// The sector where the first file of the image at a path is cut short, as its shop is now. None also if another program
-/// has the image alone, if the image can't be read, and of standard input.
+/// has the image alone, if the image can't be read, and for standard input.
 fn cut_at<F, R>(rt: &R, path: &str) -> Option<Place>
 where
     F: Read + Locks + OpenFile + Drop,

@@ -25,11 +25,11 @@ use crate::refusals::Refusal;
 use crate::serving_images::do_serving;
 use crate::serving_logs::do_logged_serving;
 use crate::sheets::do_sheet;
-use crate::shop_runs::format_run;
+use crate::shop_runs::ended;
 use crate::viewing::do_viewing;
 use disk_layout::Fault;
 use host_session::Printer;
-use shop_commands::{Durability, EndedFile, Locks, OverwrittenFile, RunFault};
+use shop_commands::{Durability, EndedFile, Locks, OverwrittenFile, RunFault, format_image};
 use std::fs::OpenFile;
 use std::io::{Read, Write};
 use std::rt::Files;
@@ -50,10 +50,10 @@ where
     requires few { tills ≤ 64 }
 {
     let mut file = OverwrittenFile::new(AtPath::new(rt, path, older));
-    let ended = format_run(rt.alloc(), tills, &mut file, out);
+    let made = format_image(rt.alloc(), tills, &mut file, out);
     match file.opener().refused() {
         Some(refusal) => Err(refusal),
-        None => job_end(ended),
+        None => job_end(ended(made)),
     }
 }
 
@@ -123,7 +123,7 @@ where
 /// it, the log is landed before the image is written; otherwise it is read in the place of the image.
 ///
 /// `InUse` if another program has the image; `Log` if its log gives no image; `File` if a file couldn't be opened or
-/// read. The other faults are those of `reading_run`, `format_run`, `new_run`, `play_durably`, `serve_guarded`,
+/// read. The other faults are those of `reading_run`, `format_image`, `new_run`, `play_durably`, `serve_guarded`,
 /// `serve_logged_guarded`, `copy_run`, `repair_guarded`, `make_guarded`, `rename_guarded`, `delete_guarded`,
 /// `store_guarded`, `take_told`, `extract_run`, `listing_run`, `drawing_run`, `comparing_run` and `view_run`. `Trim` ends
 /// with `File`, since it reports on standard error: call `do_trim`. What is wrong with one of several images is printed;

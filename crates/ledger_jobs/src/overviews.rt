@@ -2,8 +2,8 @@
 ghost use Rattle.std.specs.Prelude.{◌≡◌, IfErr, IfOk, OnOk, Some, vec_items};
 ghost use Rattle.std.specs.Io.KnownBytes.{Appends};
 ghost use Rattle.shop_commands.specs.declared.faults.RunFault.TheVariants as faults;
-ghost use Rattle.ledger_jobs.specs.Ends.{as_job};
-ghost use Rattle.ledger_jobs.specs.Overviews.{EndsAs, IsOneOfSeveral, IsOverview, IsToldAs};
+ghost use Rattle.ledger_jobs.specs.Ends.{EndsAs, as_job};
+ghost use Rattle.ledger_jobs.specs.Overviews.{IsOneOfSeveral, IsOverview, IsToldAs};
 ghost use Rattle.ledger_jobs.specs.Runs.{IsReadingEnd};
 ghost use Rattle.named_lines.specs.Named.{named};
 

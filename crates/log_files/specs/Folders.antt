@@ -143,8 +143,8 @@ module _ {D F : Type 0} (h : FolderHistory D) (g : FileHistory F) where
     pub held : (s : Folder) (f : List ℕ) → h.held d ≡ Some s → s.log ≡ Some f → g.held file ≡ Some f
     pub left : (c : List ℕ) → g.may_leave file c → (s : Folder) × h.may_leave d s × (s.log ≡ Some c)
 
-  -- What a power loss might have left while this file is the log. If t is a moment before the file was lent, the folder
-  -- might have left it from t on. The file might have left it from its moment k on.
+  -- What a power loss might have left while this file is the log. Either the folder might have left it since t, and t is
+  -- before the file was lent; or it has as its log what the file might have left since its moment k.
   abbrev pub LeftOpen : D → F → ℕ → ℕ → Folder → Type 0
   LeftOpen d file t k s = ((t ≤ h.moment d) × h.left_since d t s)
       ⊎ ((from : Folder) × h.may_leave d from × (c : List ℕ) × g.left_since file k c × (s ≡ with_log c from))

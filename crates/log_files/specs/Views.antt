@@ -16,7 +16,7 @@ HasMark s = (f : List ℕ) × (s.log ≡ Some f) × (is_marked f ≡ true)
 
 -- What a writer may do while a reader looks.
 pub record Goes (s t : Seen) : Type 0 where
-  -- with no log nothing: who begins to write has the lock for itself
+  -- with no log nothing: a writer that begins has the lock for itself
   pub none : s.log ≡ None → t ≡ s
   -- a mark stays
   pub mark : HasMark s → HasMark t

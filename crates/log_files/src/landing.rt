@@ -97,7 +97,7 @@ fn land_found<F: LogFile, D: LogFolder<F>>(
     unlog(folder)
 }
 
-/// Judges the log that was found, and lands it if it gives an image.
+/// Checks the log that was found, and lands it if it gives an image.
 fn land_log<F: LogFile, D: LogFolder<F>>(
     folder: &mut D,
     log: &[u8],

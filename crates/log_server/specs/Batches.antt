@@ -88,7 +88,7 @@ pub record IsUnderWay {L R T : Type 0} (h : LogHistory L) (i : BatchInput R) (o 
   pub quiet : (s : Shop) → IsSettled (disk_image disk) s → AskNone s (lines handled)
       → (now ≡ old) × (disk_image disk ≡ image_of session.disk)
 
--- so it was served over each disk that holds what the session's does
+-- each disk that holds what the session's disk does was served so
 abbrev pub IsServedSo : {L R T : Type 0} → LogHistory L → BatchInput R → LogOutput L T → MemDisk → L → L → R → R → T → T
     → View Memory → Result Unit LoopFault → Type 0
 IsServedSo h i o disk old new old_in new_in old_out new_out session result =

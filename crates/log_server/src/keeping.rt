@@ -10,8 +10,8 @@ use std::io;
 /// How many sectors a disk has.
 const SECTORS: usize = 683;
 
-/// Makes the kept image, which is the one committed last, equal to the image of now. Returns which of the marked sectors
-/// changed.
+/// Copies each marked sector of the image of now into the kept image, which is the one committed last. Returns which of
+/// them changed.
 fn bring(kept: &mut [[u8; 256]], now: &[[u8; 256]], marked: &[bool; 683]) -> [bool; 683]
     requires kept { length kept.old ≡ 683 }
     requires now { length now.now ≡ 683 }

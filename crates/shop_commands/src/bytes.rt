@@ -27,7 +27,7 @@ pub fn load(alloc: Global, image: &[u8]) -> Result<MemDisk, RunFault>
     }
 }
 
-/// Hands all of these bytes to the writer. `File` if it failed.
+/// Passes all of these bytes to the writer. `File` if it failed.
 pub fn put<W: Write>(out: &mut W, bytes: &[u8]) -> Result<(), RunFault>
     ensures ok { OnOk result (Appends (W.contents out.old) (W.contents out.new) bytes.now) }
     ensures err { IfErr result (λ fault. fault ≡ faults.File) }
@@ -38,7 +38,7 @@ pub fn put<W: Write>(out: &mut W, bytes: &[u8]) -> Result<(), RunFault>
     Ok(())
 }
 
-/// Hands on what the writer still holds back. `File` if it failed.
+/// Flushes the writer. `File` if it failed.
 pub fn flush<W: Write>(out: &mut W) -> Result<(), RunFault>
     ensures kept { Keeps (W.contents out.old) (W.contents out.new) }
     ensures err { IfErr result (λ fault. fault ≡ faults.File) }

@@ -73,7 +73,7 @@ fn play<W: Write>(script: &[u8], table: &mut Table, out: &mut W) -> Result<(), D
     Ok(())
 }
 
-/// Hands on what the writer still holds back.
+/// Flushes the writer.
 fn hand_on<W: Write>(out: &mut W) -> Result<(), DryFault>
     ensures kept { Keeps (W.contents out.old) (W.contents out.new) }
     ensures err { IfErr result (λ e. e ≡ DryFault.Output) }

@@ -78,7 +78,7 @@ impl<F: WritesAt> ImageFile<F> {
         }
     }
 
-    /// Whether it failed to bring a sector to the disk: it isn't asked again then.
+    /// Whether a sync failed: then no sync is tried again.
     #[inline(always)]
     fn is_stopped(&self) -> bool
         ensures { result ≡ true ↔ (is_synced self.now × (1 ≤ placed.failures self.now)) }

@@ -38,9 +38,9 @@ fn put_verdict<W: Write>(out: &mut W, found: Option<Fault>) -> Result<(), RunFau
     flush(out)
 }
 
-/// Checks the layout of the image, and prints `OK` if it is clean, otherwise a fault and its place,
-/// which it also answers: which of several is open. `ImageSize` if the image hasn't the size of a
-/// disk, `NoMemory` if there was none for the disk, `File` if the output failed.
+/// Checks the layout of the image, and prints `OK` if it is clean, otherwise a fault and its place. Returns that fault.
+/// If several hold, it may be any of them. `ImageSize` if the image hasn't the size of a disk, `NoMemory` if there was
+/// none for the disk, `File` if the output failed.
 pub fn check_image<W: Write>(
     alloc: Global,
     image: &[u8],

@@ -4,10 +4,9 @@ ghost use Rattle.shop_commands.specs.FreshShops.{FreshIsAShop, FreshShowsItsTop,
 
 use d64_image::Sectors;
 
-/// The bytes of a fresh disk, those that `format` writes, are a whole image. A fresh disk for 1 to 64 tills is a
-/// shop's, at rest. The shop has no cards, nothing kept of any till, and so many tills (one more if their number is
-/// odd). It has room for new cards up to the blank image's top (8819 for 64 tills), and no other file. `show` prints
-/// that top alone.
+/// The bytes of a fresh disk, those that `format` writes, are a whole image. A fresh disk for 1 to 64 tills is a shop's,
+/// at rest. The shop has no cards, nothing kept of any till, and so many tills (one more if their number is odd). It has
+/// room for new cards up to the blank image's top (8819 for 64 tills), and no other file. `show` prints only that top.
 pub fn fresh_is_a_shop()
     ensures bytes { FreshBytesAreADisk }
     ensures shop { FreshIsAShop }
