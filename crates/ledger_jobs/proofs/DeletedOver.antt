@@ -13,26 +13,19 @@ use Rattle.d64_image.specs.Memory.{sectors_in}
 use Rattle.d64_image.specs.KeptMirrors.{is_broken, mirror, mirror_image}
 use Rattle.d64_image.specs.declared.kept_mirror.KeptMirror.{KeptMirror}
 use Rattle.d64_image.specs.declared.sector_file.SectorFile.{Ghosts}
-use Rattle.disk_layout.specs.Fault.{HoldsOfClean, nowhere}
 use Rattle.disk_layout.specs.Layout.{Layout}
-use Rattle.disk_layout.specs.declared.faults.Fault.{Fault}
 use Rattle.file_changes.specs.Deletes.{HasLost}
-use Rattle.ledger_jobs.proofs.EditOver.{clean-refused, edit-done, edit-refused, edit-stopped}
+use Rattle.ledger_jobs.proofs.EditOver.{clean-refused}
 use Rattle.ledger_jobs.proofs.OverFiles.{broken_file, changes_of_file, handed-back, not_broken, not_failed}
 use Rattle.ledger_jobs.proofs.OverFiles.{same_failures, taken_up, whole_file}
-use Rattle.ledger_jobs.specs.Edited.{IsDeleteOver, IsDeletedFile, IsDeletedFault}
-use Rattle.shop_commands.specs.Plays.{IsUntouched}
+use Rattle.ledger_jobs.specs.Edited.{IsDeleteOver}
 
 module _ {F W : Type 0} (K : Keeps F) (contents : W → Option (List ℕ)) (image name : List ℕ) where
   -- the image wasn't taken into memory
   pub delete-not-loaded : (file : F) (old : W) (fault : EditFault) → IsLoadFault image fault
       → IsDeleteOver K contents image name file file old old (Err fault)
-  delete-not-loaded file old edit.ImageSize told =
-      edit-refused image file file old old _ (IsDeletedFault K image name file file old old) edit.ImageSize refl
-      (told, (refl, refl)) (refl, refl)
-  delete-not-loaded file old edit.NoMemory told =
-      edit-stopped image file file old old _ (IsDeletedFault K image name file file old old) edit.NoMemory refl told
-      (told, (refl, refl))
+  delete-not-loaded file old edit.ImageSize told = (told, (refl, refl))
+  delete-not-loaded file old edit.NoMemory told = (told, (refl, refl))
   delete-not-loaded file old (edit.Layout fault) told = absurd told
   delete-not-loaded file old edit.NoFile told = absurd told
   delete-not-loaded file old edit.FileExists told = absurd told
@@ -63,18 +56,12 @@ module _ {F : Type 0} {G : Ghosts F} (start : KeptMirror F G) (sound : is_broken
   module _ {W : Type 0} (contents : W → Option (List ℕ)) (size : length image ≡ 174848)
       (holds : mirror_image start ≡ sectors_in image)
       (old new : W) where
-    abbrev Made : Type 0
-    Made = IsDeletedFile G.keeps contents image name start.file b.file old new
-
-    abbrev Wrong : EditFault → Type 0
-    Wrong = IsDeletedFault G.keeps image name start.file b.file old new
-
     -- the file didn't fail
     whole-ended : (is_broken b → ⊥) → (r : Result Unit EditFault)
         → OnOk r (IsDeleteDone mirror contents image name start b old new)
         → IfErr r (IsDeleteFault mirror image name start b old new)
         → IsDeleteOver G.keeps contents image name start.file b.file old new r
-    whole-ended whole (Ok x) ok err = edit-done image start.file b.file old new Made Wrong size (
+    whole-ended whole (Ok x) ok err = (
       whole_file start sound untaken b ok.disk.run.moments.held whole,
       taken_up start sound untaken b image size holds (record {
         disk = done_of_file whole ok.disk;
@@ -82,19 +69,15 @@ module _ {F : Type 0} {G : Ghosts F} (start : KeptMirror F G) (sound : is_broken
       }),
     )
     whole-ended whole (Err edit.ImageSize) ok err = absurd (err.0 size)
-    whole-ended whole (Err edit.NoMemory) ok err = edit-stopped image start.file b.file old new Made Wrong edit.NoMemory
-        refl size (size, (ap (λ (m : KeptMirror F G). m.file) err.1, err.2))
+    whole-ended whole (Err edit.NoMemory) ok err = (size, (ap (λ (m : KeptMirror F G). m.file) err.1, err.2))
     whole-ended whole (Err (edit.Layout fault)) ok err =
-        let same : IsUntouched start.file b.file old new = (ap (λ (m : KeptMirror F G). m.file) err.1, err.2) in
-        edit-refused image start.file b.file old new Made Wrong (edit.Layout fault) refl (err.0.0, err.0.1, same) same
+        (err.0.0, err.0.1, (ap (λ (m : KeptMirror F G). m.file) err.1, err.2))
     whole-ended whole (Err edit.NoFile) ok err =
-        let x = clean-refused start sound untaken b image holds old new whole _ err in
-        edit-refused image start.file b.file old new Made Wrong edit.NoFile refl x x.untouched
+        clean-refused start sound untaken b image holds old new whole _ err
     whole-ended whole (Err edit.Locked) ok err =
-        let x = clean-refused start sound untaken b image holds old new whole _ err in
-        edit-refused image start.file b.file old new Made Wrong edit.Locked refl x x.untouched
+        clean-refused start sound untaken b image holds old new whole _ err
     whole-ended whole (Err edit.FileExists) ok err = absurd err
-    whole-ended whole (Err edit.File) ok err = edit-stopped image start.file b.file old new Made Wrong edit.File refl size (
+    whole-ended whole (Err edit.File) ok err = (
       whole_file start sound untaken b err.run.moments.held whole,
       taken_up start sound untaken b image size holds (done_of_file whole err),
     )
@@ -132,8 +115,7 @@ module _ {F : Type 0} {G : Ghosts F} (start : KeptMirror F G) (sound : is_broken
         → IfErr r (IsDeleteFault mirror image name start b old new)
         → IsDeleteOver G.keeps contents image name start.file b.file old new (Err edit.Device)
     broken-ended broken r ok err =
-        let run = run-of broken r ok err in
-        edit-stopped image start.file b.file old new Made Wrong edit.Device refl size (
+        let run = run-of broken r ok err in (
           broken_file start sound untaken b run.0.moments.held broken,
           taken_up start sound untaken b image size holds (run_of_file run.0),
           run.1,

@@ -1,8 +1,7 @@
 -- What comes of a file that is renamed or deleted on the disk of an image, over the image's bytes and its file. All of it
 -- is our own.
-use Rattle.std.specs.Prelude.{◌≡◌, ◌≢◌, ◌⊎◌, ℕ, List, Option, Result, Ok, Err, IfErr, length}
+use Rattle.std.specs.Prelude.{◌≡◌, ◌≢◌, ℕ, List, Option, Result, Ok, Err, length}
 use Rattle.change_commands.specs.Deletes.{IsDeleteDone, IsDeleteRun, IsDeletedDisk, IsLockedName}
-use Rattle.change_commands.specs.Faults.{edit_status}
 use Rattle.change_commands.specs.Renames.{IsNoName, IsRenameDone, IsRenameRun, IsRenamedDisk}
 use Rattle.change_commands.specs.declared.faults.EditFault.{EditFault}
 use Rattle.change_commands.specs.declared.faults.EditFault.TheVariants as edit
@@ -17,24 +16,6 @@ use Rattle.disk_layout.specs.Rest.{slot_name}
 use Rattle.disk_layout.specs.declared.faults.Fault.{Fault}
 use Rattle.file_changes.specs.Entries.{IsFreeName, entries_of}
 use Rattle.shop_commands.specs.Plays.{IsTakenUp, IsUnfailed, IsUntouched}
-
--- the exit status
-abbrev pub edit_end : Result Unit EditFault → ℕ
-edit_end (Ok _) = 0
-edit_end (Err fault) = edit_status fault
-
--- What changes the files of an image, over the file that was handed in and is handed back, ended so.
-pub record IsEditOver {F W : Type 0} (image : List ℕ) (file new_file : F) (old new : W) (Done : Type 0)
-    (Fault : EditFault → Type 0) (ended : Result Unit EditFault) : Type 0 where
-  -- 0: it is done, and that was printed
-  pub done : edit_end ended ≡ 0 → Done
-  -- otherwise the reported fault holds
-  pub fault : IfErr ended Fault
-  -- 1: the image, or what was asked for, is in the way; neither file nor output was touched
-  pub size : length image ≢ 174848 → edit_end ended ≡ 1
-  pub untouched : edit_end ended ≡ 1 → IsUntouched file new_file old new
-  -- 3: the file or the output failed, or there was no memory
-  pub statuses : (edit_end ended ≡ 0) ⊎ ((edit_end ended ≡ 1) ⊎ (edit_end ended ≡ 3))
 
 -- The image has this layout, of which this holds, and neither file nor output was touched.
 pub record IsRefusedBy {F W : Type 0} (Has : Image → Layout → Type 0) (image : List ℕ) (file after : F) (old new : W)
@@ -82,9 +63,10 @@ IsRenamedFault K image from to file after old new edit.Locked = ⊥
 -- the renaming of a file on the disk of an image, over its file, ended so
 abbrev pub IsRenameOver : {F W : Type 0} → Keeps F → (W → Option (List ℕ)) → (image from to : List ℕ) → F → F → W → W
     → Result Unit EditFault → Type 0
-IsRenameOver K contents image from to file after old new ended =
-    IsEditOver image file after old new (IsRenamedFile K contents image from to file after old new)
-    (IsRenamedFault K image from to file after old new) ended
+IsRenameOver K contents image from to file after old new (Ok _) =
+    IsRenamedFile K contents image from to file after old new
+IsRenameOver K contents image from to file after old new (Err fault) =
+    IsRenamedFault K image from to file after old new fault
 
 -- a file was deleted on the disk of the file, and that was printed
 abbrev pub IsDeletedFile : {F W : Type 0} → Keeps F → (W → Option (List ℕ)) → (image name : List ℕ) → F → F → W → W
@@ -117,6 +99,6 @@ IsDeletedFault K image name file after old new edit.FileExists = ⊥
 -- the deletion of a file on the disk of an image, over its file, ended so
 abbrev pub IsDeleteOver : {F W : Type 0} → Keeps F → (W → Option (List ℕ)) → (image name : List ℕ) → F → F → W → W
     → Result Unit EditFault → Type 0
-IsDeleteOver K contents image name file after old new ended =
-    IsEditOver image file after old new (IsDeletedFile K contents image name file after old new)
-    (IsDeletedFault K image name file after old new) ended
+IsDeleteOver K contents image name file after old new (Ok _) = IsDeletedFile K contents image name file after old new
+IsDeleteOver K contents image name file after old new (Err fault) =
+    IsDeletedFault K image name file after old new fault
