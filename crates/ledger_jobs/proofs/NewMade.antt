@@ -1,13 +1,24 @@
 -- An image of an empty disk, by how its two steps ended.
-use Rattle.std.proofs.Common.{◌≡◌, ℕ, List, Option, Result, Ok, Err, inl, inr, refl, subst, sym}
+use Rattle.std.proofs.Common.{◌≡◌, ℕ, List, Option, Result, Ok, Err, inr, length, refl, subst, sym}
 use Rattle.std.specs.Prelude.{IfErr, OnOk, codes}
 use Rattle.std.specs.Io.KnownBytes.{Appends}
+use Rattle.d64_image.specs.Images.{Image}
+use Rattle.d64_image.specs.Memory.{sectors_in}
+use Rattle.file_changes.specs.Formats.{IsNewDisk}
 use Rattle.host_session.specs.runs.Outputs.{AppendsPart}
 use Rattle.shop_commands.specs.declared.faults.RunFault.{RunFault}
 use Rattle.shop_commands.specs.declared.faults.RunFault.TheVariants as run
 use Rattle.system_files.specs.Remains.{Remains}
 use Rattle.ledger_jobs.specs.Copies.{IsCopiedOver}
 use Rattle.ledger_jobs.specs.NewDisks.{IsNewImage, IsNewMade}
+
+-- the bytes of a disk in memory are the image of one
+pub new-image : (name id bytes : List ℕ) (img : Image) → length bytes ≡ 174848 → sectors_in bytes ≡ img
+    → IsNewDisk name id img → IsNewImage name id bytes
+new-image name id bytes img size same is = record {
+  size = size;
+  new = subst (λ i. IsNewDisk name id i) (sym same) is;
+}
 
 module _ {F W : Type 0} (r : Remains F) (contents : W → Option (List ℕ)) (name id : List ℕ) (file after : F)
     (old new : W) where

@@ -47,8 +47,8 @@ $ ledger_cli rename a.d64 CARDS STOCK
 tells FILE EXISTS|
 ends 1
 
-person ledger_cli rename a.d64 CARD OTHER
-tells NO FILE|ledger: a.d64: it has no such file, but \"CARDS\"|
+person ledger_cli rename a.d64 cards OTHER
+tells NO FILE|ledger: a.d64: it has no such file, but \"CARDS\" REL|
 ends 1
 ";
 

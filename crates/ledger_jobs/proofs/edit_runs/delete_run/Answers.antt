@@ -7,10 +7,11 @@ use Rattle.ledger_jobs.proofs.DeletedOver.{delete-ended, delete-not-loaded}
 use Rattle.ledger_jobs.proofs.edit_runs.delete_run.Goals as goal
 
 pub delete_image-ended-requires : goal.delete_image-ended-requires
-delete_image-ended-requires g c =
-    ap₂ (λ f d. kept_or (g.F.SectorFile.keeps.kept f) d) c.new-mirror.ensures.file
-    (ap disk_image c.new-mirror.ensures.disk ∙ c.in-Ok.ensures.ok.1)
-    ∙ c.requires.agrees
+delete_image-ended-requires g c = record {
+  holds = ap₂ (λ f d. kept_or (g.F.SectorFile.keeps.kept f) d) c.new-mirror.ensures.file
+      (ap disk_image c.new-mirror.ensures.disk ∙ c.in-Ok.ensures.ok.1)
+      ∙ c.requires.agrees;
+}
 
 pub returns-in-Err : goal.returns-in-Err
 returns-in-Err g c = record {
