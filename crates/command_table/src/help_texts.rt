@@ -2,9 +2,9 @@
 
 /// The exit statuses, and where more is.
 pub(crate) const MORE: &str = "\
-The first six commands look at disks. The next five, from records to trim, rescue
-what is on them. The five from new to delete change them, and the last six run a
-shop.
+The commands from list to sector look at disks. Those from records to trim
+rescue what is on them, those from new to delete change them, and those from
+format to copy run a shop.
 
 Exit status:
   0  success

@@ -68,7 +68,7 @@ pub(crate) const EXPLAIN: Value = Value {
     name: "explain",
     word: Some("explain"),
     count: Count::Flag,
-    help: "Says more on standard error if the command fails",
+    help: "Prints a second line on standard error if the command fails",
 };
 
 /// The flag of those that print records or store them.
