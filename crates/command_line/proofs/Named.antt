@@ -44,9 +44,9 @@ making-met found rows image r is by-image (inl (name, size, same, at, new, by-si
 making-met found rows image r is by-image (inr (inl (same, missing))) =
     let P : Result Job JobFault → Type 0 = λ j. MatchResult j (IsJob found) (IsNoJob [] found) × IfOk j IsFit in
     subst P (sym same) ((refl, inr (inr (inl (record { rows = rows; is = is; holds = missing })))), tt)
-making-met found rows image r is by-image (inr (inr (same, missing))) =
+making-met found rows image r is by-image (inr (inr (same, name, missing))) =
     let P : Result Job JobFault → Type 0 = λ j. MatchResult j (IsJob found) (IsNoJob [] found) × IfOk j IsFit in
-    subst P (sym same) ((refl, record { rows = rows; is = is; holds = missing }), tt)
+    subst P (sym same) ((refl, record { rows = rows; is = is; holds = (name, missing) }), tt)
 
 -- what gives a file another name is that of `rename`, or one of the two is none
 pub renaming-met : (found : Option (Text × List Row)) (rows : List Row) (image : Bor Text) (r : Result Job JobFault)
@@ -69,6 +69,6 @@ new-met found rows image r is by-image (inl (name, id, same, at, two)) =
 new-met found rows image r is by-image (inr (inl (same, missing))) =
     let P : Result Job JobFault → Type 0 = λ j. MatchResult j (IsJob found) (IsNoJob [] found) × IfOk j IsFit in
     subst P (sym same) ((refl, inr (inr (inr (inr (inr (record { rows = rows; is = is; holds = missing })))))), tt)
-new-met found rows image r is by-image (inr (inr (same, missing))) =
+new-met found rows image r is by-image (inr (inr (same, name, missing))) =
     let P : Result Job JobFault → Type 0 = λ j. MatchResult j (IsJob found) (IsNoJob [] found) × IfOk j IsFit in
-    subst P (sym same) ((refl, record { rows = rows; is = is; holds = missing }), tt)
+    subst P (sym same) ((refl, record { rows = rows; is = is; holds = (name, missing) }), tt)
