@@ -17,6 +17,7 @@ request has to get its kept answer once more. Of some states the calls of the re
 Then the same with `--unsynced`, which has to fail: otherwise nothing was tried. The status is 1 at the first state that is wrong, and
 if `--unsynced` holds. The last line says how much was tried."""
 
+import functools
 import itertools
 import random
 import re
@@ -42,6 +43,7 @@ CALL = re.compile(r"(?:\d+ +)?(\w+)\((.*)\) += (-?\d+)")
 TEXT = re.compile(r'"((?:\\x[0-9a-f]{2})*)"')
 
 
+@functools.lru_cache(maxsize=10_000)
 def bytes_of(text):
     """The bytes of a text as `strace -xx` prints it."""
     return bytes.fromhex(TEXT.search(text)[1].replace("\\x", ""))

@@ -246,6 +246,8 @@ def aged(copies, port):
     found = figures(port)
     age = found["ledger_backup_age_seconds"]
     check(found["ledger_backup_timestamp_seconds"] == 0 and age != age, f"without a backup the age is {age}")
+    (copies / "shop2-000009.d64").write_bytes(b"")
+    check(figures(port)["ledger_backup_timestamp_seconds"] == 0, "another shop's copy counts")
     copy = copies / "shop1-000001.d64"
     copy.write_bytes(b"")
     os.utime(copy, (time.time() - 5000,) * 2)

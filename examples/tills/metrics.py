@@ -3,6 +3,7 @@
 `/metrics` has them in Prometheus' form. `/health` answers 200 with `serving` or `stands by: WHY`, and 503 if the bridge
 hasn't stirred for 30 s. docs/OPERATIONS.md says which figure means what."""
 
+import glob
 import sys
 import threading
 import time
@@ -50,9 +51,11 @@ def word_of(reply):
     return word if word in WORDS else "other"
 
 
-def last_backup(folder):
-    """When the last copy in a folder of backup.py was made, by its number and not by its time; None if there is none."""
-    copies = sorted(Path(folder).glob("*-[0-9][0-9][0-9][0-9][0-9][0-9].d64")) if folder else []
+def last_backup(folder, name):
+    """When the last copy of the shop of this name in a folder of backup.py was made, by its number and not by its time;
+    None if there is none."""
+    form = f"{glob.escape(name)}-[0-9][0-9][0-9][0-9][0-9][0-9].d64"
+    copies = sorted(Path(folder).glob(form)) if folder else []
     return max(copies, key=lambda path: path.stem[-6:]).stat().st_mtime if copies else None
 
 
@@ -61,10 +64,10 @@ class Figures(Nothing):
 
     topics = (STORED, RETAINED)
 
-    def __init__(self, client, backups):
+    def __init__(self, client, backups, name):
         self.registry = client.CollectorRegistry()
         here = {"registry": self.registry}
-        self.backups, self.state, self.ticked = backups, "starts", time.monotonic()
+        self.backups, self.name, self.state, self.ticked = backups, name, "starts", time.monotonic()
         self.lines = client.Counter("ledger_lines", "Messages that the bridge took", **here)
         self.replies = client.Counter("ledger_replies", "Replies, by their word", ["word"], **here)
         edges = (0.001, 0.003, 0.01, 0.03, 0.1, 0.3, 1, 3, 10)
@@ -112,7 +115,7 @@ class Figures(Nothing):
     def refresh(self):
         """Looks for the last backup, whenever the figures are asked for."""
         try:
-            made = last_backup(self.backups)
+            made = last_backup(self.backups, self.name)
         except OSError:
             made = None
         self.backup.set(made or 0)
@@ -131,8 +134,8 @@ class Silent(WSGIRequestHandler):
         pass
 
 
-def figures_of(port, backups):
-    """The figures, which are served on the loopback if a port is given. Ends the bridge if that can't be."""
+def figures_of(port, backups, image):
+    """The figures of the shop of an image, which are served on the loopback if a port is given. Ends the bridge if that can't be."""
     if not port:
         return Nothing()
     try:
@@ -140,7 +143,7 @@ def figures_of(port, backups):
     except ImportError:
         shop.say("bridge: --metrics wants Debian's python3-prometheus-client")
         sys.exit(shop.NO_SHOP)
-    figures = Figures(prometheus_client, backups)
+    figures = Figures(prometheus_client, backups, Path(image).stem)
     whole = prometheus_client.make_wsgi_app(figures.registry)
 
     def answer(environment, start):

@@ -154,5 +154,5 @@ def kind_of(given):
         return Unwatched
     import metrics
 
-    figures = metrics.figures_of(given.metrics, given.backups)
+    figures = metrics.figures_of(given.metrics, given.backups, given.image)
     return lambda *words: Watched(figures, given.screen, *words)

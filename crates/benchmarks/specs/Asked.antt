@@ -4,7 +4,7 @@ use Rattle.d64_image.specs.History.{History, NeverFailed}
 use Rattle.host_session.specs.session.Opening.{IsAShop}
 use Rattle.host_session.specs.session.Standing.{View}
 
--- the disk is a shop's still, and the session dies only where the device failed
+-- the disk is still a shop's, and the session dies only if the device failed
 pub record StaysOpen {D : Type 0} (S : History D) (old new : View D) : Type 0 where
   pub shop : IsAShop (S.image new.disk)
   pub later : S.failures old.disk ≤ S.failures new.disk

@@ -7,7 +7,7 @@ ghost use Rattle.benchmarks.specs.Tallies.{IsTally};
 use d64_image::Sectors;
 use layout_check::check;
 
-/// Whether a check finds the disk clean. Where the device fails it may be told unclean.
+/// Whether a check finds the disk clean. If the device fails, a clean disk may be reported as unclean.
 fn is_clean<D: Sectors>(disk: &mut D) -> bool
     ensures found { IsTrue result → IsClean (D.history.image disk.old) }
     ensures clean { NeverFailed D.history disk.old disk.new → IsClean (D.history.image disk.old) → IsTrue result }

@@ -1,6 +1,6 @@
-//! Does the same work so many times over, so that it can be timed: `benchmarks WORD ROUNDS IMAGE`. Each word
-//! prints one number, from which no round can be left out. Where there is no word, each benchmark is run for a few
-//! rounds. One word times nothing: `benchmarks records IMAGE NAME` prints the records of a relative file.
+//! Does one work so many times over, so that it can be timed: `benchmarks WORD ROUNDS IMAGE`. Each word prints one
+//! number, from which no round can be left out. If there is no word, each benchmark is run for a few rounds. One word
+//! times nothing: `benchmarks records IMAGE NAME` prints the records of a relative file.
 #![tactic(auto)]
 
 ghost use Rattle.std.specs.Prelude.{◌≤◌};
@@ -21,7 +21,7 @@ use std::io::{BufWriter, Write};
 use std::process::ExitCode;
 use std::{env, fs, io};
 
-/// How many rounds there are where no word says it.
+/// How many rounds there are if no word says it.
 const ROUNDS: u64 = 1000;
 
 /// The words of all benchmarks.
@@ -35,7 +35,7 @@ const OUTPUT_ROOM: usize = 65536;
 /// Rounds of a benchmark and the number that they give. Err is a text that says what failed.
 type Done = Result<u64, &'static str>;
 
-/// The rounds that a word asks for; None where it is no number of at most 64 bits.
+/// The rounds that a word asks for; None if it is no number of at most 64 bits.
 fn asked_rounds(word: Option<String>) -> Option<u64> {
     match word {
         Some(word) => word.as_str().parse().ok(),
@@ -43,7 +43,7 @@ fn asked_rounds(word: Option<String>) -> Option<u64> {
     }
 }
 
-/// What was tried to be had; where it isn't there, this text.
+/// The value of what was tried; if there is none, this text.
 fn or_say<T, E: Drop>(tried: Result<T, E>, what: &'static str) -> Result<T, &'static str> {
     match tried {
         Ok(it) => Ok(it),
@@ -79,7 +79,7 @@ fn disk_of(rt: &HostRuntime, path: &str) -> Result<MemDisk, &'static str> {
     }
 }
 
-/// The disk of the image file that is named; where none is, the blank disk for two tills.
+/// The disk of the image file that is named; if none is, the blank disk for two tills.
 fn asked_disk(rt: &HostRuntime, path: Option<String>) -> Result<MemDisk, &'static str> {
     match path {
         Some(path) => disk_of(rt, path.as_str()),
@@ -117,7 +117,8 @@ fn time_growth(disk: &mut MemDisk, rounds: u64) -> Done {
     Ok(checksum(disk.bytes()))
 }
 
-/// `reads`: so many records of a full disk are read, where each holds what was written; gives a checksum of bytes read.
+/// `reads`: so many records of a full disk are read, each of which holds what was written; returns a checksum of the
+/// bytes.
 fn time_reads(disk: &mut MemDisk, rounds: u64) -> Done {
     or_say(records::read_full(disk, rounds), "the records aren't read")
 }
@@ -161,8 +162,8 @@ fn asked_shop(rt: &HostRuntime, rounds: u64) -> Result<(u64, MemDisk), &'static 
     )
 }
 
-/// `requests`: so many messages of 64 tills are handled, half of them repeats, by a session on a disk that was blank;
-/// gives a checksum of the replies and of the image.
+/// `requests`: so many messages of 64 tills are handled, half of them repeats, by a session on a disk that was blank.
+/// Returns a checksum of the replies and of the image.
 fn time_requests(rt: &HostRuntime, rounds: u64) -> Done {
     let (replies, disk) = asked_shop(rt, rounds)?;
     Ok(
@@ -179,7 +180,7 @@ fn time_openings(rt: &HostRuntime, rounds: u64) -> Done {
     Ok(checksum(disk.bytes()))
 }
 
-/// The benchmark of a word that works on a disk in memory. Err also where there is no such word.
+/// The benchmark of a word that works on a disk in memory. Err also if there is no such word.
 fn timed_on(disk: &mut MemDisk, word: &str, rounds: u64) -> Done {
     match word {
         "sectors" => time_sectors(disk, rounds),
@@ -190,7 +191,7 @@ fn timed_on(disk: &mut MemDisk, word: &str, rounds: u64) -> Done {
     }
 }
 
-/// The benchmark of a word. Err also where there is no such word.
+/// The benchmark of a word. Err also if there is no such word.
 fn timed(rt: &HostRuntime, word: &str, rounds: u64, path: Option<String>) -> Done {
     match word {
         "check" => time_checks(rt, rounds, path),
@@ -224,19 +225,19 @@ fn print_records(
     }
 }
 
-/// Tells what failed, and gives the exit status for it.
+/// Reports what failed, and returns the exit status for it.
 fn refuse(rt: &HostRuntime, what: &str) -> io::Result<ExitCode> {
     eprintln!(rt; "benchmarks: {what}")?;
     Ok(ExitCode::FAILURE)
 }
 
-/// Tells that the second word is no number, and gives the exit status for it.
+/// Reports that the second word is no number, and returns the exit status for it.
 fn refuse_rounds(rt: &HostRuntime) -> io::Result<ExitCode> {
     eprintln!(rt; "benchmarks: ROUNDS is a number")?;
     Ok(ExitCode::from(2))
 }
 
-/// Tells what came of the benchmark that was asked for, and gives the exit status for it.
+/// Prints the result of the benchmark that was asked for, and returns the exit status for it.
 fn tell(rt: &HostRuntime, done: Done) -> io::Result<ExitCode> {
     match done {
         Ok(number) => {
@@ -247,7 +248,7 @@ fn tell(rt: &HostRuntime, done: Done) -> io::Result<ExitCode> {
     }
 }
 
-/// Tells what came of one of several benchmarks, behind its word.
+/// Prints the result of one of several benchmarks, after its word.
 fn tell_one(rt: &HostRuntime, word: &str, done: Done) -> io::Result<()> {
     match done {
         Ok(number) => println!(rt; "{word} {number}"),
@@ -263,7 +264,7 @@ fn run_all(rt: &HostRuntime, words: &[&str]) -> io::Result<ExitCode> {
     Ok(ExitCode::SUCCESS)
 }
 
-/// Does what a word and the two behind it ask for, and gives the exit status.
+/// Does what a word and the two after it ask for, and returns the exit status.
 fn run_word(
     rt: &HostRuntime,
     word: &str,

@@ -36,8 +36,8 @@ pub fn next_number(number: u32) -> u32
     (number + 3570) % RECORDS + 1
 }
 
-/// Reads so many records, and sums up the first and the last byte of each, each sum 31 times the one before and the two
-/// bytes, without what is above 64 bits.
+/// Reads so many records, and sums up the first and the last byte of each. Each sum is 31 times the one before and the
+/// two bytes, without what is above 64 bits.
 fn read_spread<D: Sectors>(disk: &mut D, file: &RelFile, rounds: u64) -> Result<u64, RelFault>
     requires of { IsOf (D.history.image disk.old) file.now }
     ensures reads { OnlyReads D.history disk.old disk.new (3 * rounds) }

@@ -12,7 +12,7 @@ use std::alloc::{AllocError, Global};
 /// How many tills ask.
 pub const TILLS: u8 = 64;
 
-/// What a till wishes in this round, spread over the items and kinds; None where it would move an item to itself.
+/// What a till wishes in this round, spread over the items and kinds; None if it would move an item to itself.
 fn wish_of(round: u64) -> Option<Wish> {
     let mix = (round.wrapping_add(1).wrapping_mul(0x9E37_79B9_7F4A_7C15) >> 32) as u32;
     let most = if mix & 8 == 0 { 300 } else { 8819 };
@@ -27,7 +27,7 @@ fn wish_of(round: u64) -> Option<Wish> {
     }
 }
 
-/// A number for what a till is told.
+/// A number for the reply to a till.
 fn reply_number(reply: &Reply) -> u64 {
     let Reply::Told { word, .. } = *reply else {
         return 1;
@@ -50,7 +50,7 @@ fn reply_number(reply: &Reply) -> u64 {
     }
 }
 
-/// Hands the message of the till's open wish to the session, where there is one; the number of the reply.
+/// Passes the message of the till's open wish to the session, if there is one. Returns the number of the reply.
 fn ask<D: Sectors>(session: &mut Session<D>, till: &mut Till, is_heard: bool) -> u64
     requires shop { IsAShop (D.history.image session.old.disk) }
     ensures stays { StaysOpen D.history session.old session.new }

@@ -41,7 +41,7 @@ fn raise<D: Sectors>(disk: &mut D, place: Place, at: u8) -> Result<u8, DeviceFau
     Ok(byte)
 }
 
-/// Raises the first byte of so many sectors, one after another over the disk, and sums up the bytes, each sum 31 times
+/// Raises the first byte of so many sectors, one after another over the disk, and sums up the bytes. Each sum is 31 times
 /// the one before and the byte, without what is above 64 bits.
 pub fn run<D: Sectors>(disk: &mut D, rounds: u64) -> Result<u64, DeviceFault>
     ensures reads { D.history.reads disk.new ≤ D.history.reads disk.old + rounds }

@@ -4,13 +4,13 @@ ghost use Rattle.std.specs.Prelude.{◌≡◌, ◌≤◌, ◌++◌, ◌∷◌, [
 ghost use Rattle.byte_text.specs.Lines.{IsLineOf, padded};
 ghost use Rattle.byte_text.specs.Texts.{AreBytes, record_line, text_of, trimmed};
 
-/// Bytes that have the same text are the same. `read_text` finds the bytes that have the given text, if there are any.
-/// So it finds the bytes that were written as a text, and it finds them in no other text.
+/// Bytes that have one text are one list of bytes. `read_text` finds the bytes that have the given text, if there are
+/// any. So it finds the bytes that were written as a text, and it finds them in no other text.
 pub fn texts_differ()
     ensures { (xs ys : List ℕ) → AreBytes xs → AreBytes ys → text_of xs ≡ text_of ys → xs ≡ ys }
 {}
 
-/// The line that is written for a record is, without its LF, a line of that record alone. The bytes in it, with zeros
+/// The line that is written for a record is, without its LF, a line only of that record. The bytes in it, with zeros
 /// up to the record's length, are the record.
 pub fn lines_give_records()
     ensures line { (n : ℕ) (r : List ℕ) → (line : List ℕ) → line ++ (10 ∷ []) ≡ record_line n r

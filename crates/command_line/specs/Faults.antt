@@ -17,7 +17,7 @@ job_number jobs.Sector = 6
 job_number jobs.Id = 7
 job_number jobs.Flags = 8
 
--- the exit status for words that give no job: 3 for want of memory, 0 where help or the version is asked for
+-- the exit status for words that give no job: 3 if memory ran out, 0 if help or the version is asked for
 abbrev pub words_status : ErrorKind → ℕ
 words_status kinds.OutOfMemory = 3
 words_status kinds.DisplayHelp = 0

@@ -29,7 +29,7 @@ use Rattle.ledger_jobs.specs.declared.jobs.Columns.TheVariants as columns
 use Rattle.ledger_jobs.specs.declared.jobs.Findings.TheVariants as findings
 use Rattle.shop_commands.specs.declared.texts.NameForm.TheVariants as names
 
--- the set of the text that is asked for: with --mixed the one with small letters, with --text alone the other
+-- the set of the text that is asked for: with --mixed the one with small letters, with only --text the other
 abbrev pub set_in : List Row → Option CharacterSet
 set_in rows =
     if is_given (codes "mixed") rows then Some Mixed
@@ -40,12 +40,12 @@ abbrev pub record_form : Option CharacterSet → RecordForm
 record_form None = records.Lines
 record_form (Some set) = records.Text set
 
--- the same of bytes
+-- the form of bytes with this text, or the one that is printed without
 abbrev pub byte_form : Option CharacterSet → ByteForm
 byte_form None = bytes.Plain
 byte_form (Some set) = bytes.Text set
 
--- the same of names
+-- the form of names with this text, or the one that is printed without
 abbrev pub name_form : Option CharacterSet → NameForm
 name_form None = names.Ascii
 name_form (Some set) = names.Text set
@@ -70,15 +70,15 @@ name_form_in rows = name_form (set_in rows)
 abbrev pub findings_in : List Row → Findings
 findings_in rows = if is_given (codes "all") rows then findings.All else findings.First
 
--- where the requests of a shop that is served come to the disk first: in a log, but with --in-place in the image itself
+-- to which file the requests of a shop that is served are synced first: to a log, but with --in-place to the image itself
 abbrev pub way_in : List Row → Way
 way_in rows = if is_given (codes "in-place") rows then ways.InPlace else ways.OverLog
 
--- when what is served is brought to the disk: before each reply, but with --unsynced when the system likes
+-- when what is served is synced: before each reply, or with --unsynced when the operating system does it
 abbrev pub serve_durability : List Row → Durability
 serve_durability rows = if is_given (codes "unsynced") rows then durabilities.AtEnd else durabilities.EachSector
 
--- what is done where a disk has lost a part of a file: the job is refused, but with --accept-loss it goes on
+-- what is done if a disk has lost a part of a file: the job is refused, but with --accept-loss it goes on
 abbrev pub loss_in : List Row → Loss
 loss_in rows = if is_given (codes "accept-loss") rows then losses.Accepted else losses.Refused
 
@@ -86,7 +86,7 @@ loss_in rows = if is_given (codes "accept-loss") rows then losses.Accepted else 
 abbrev pub unowned_in : List Row → Unowned
 unowned_in rows = if is_given (codes "free") rows then unowneds.Freed else unowneds.Kept
 
--- whether it writes the image: it does, but with --dry-run it prints alone
+-- whether it writes the image: it does, but with --dry-run it only prints
 abbrev pub effect_in : List Row → Effect
 effect_in rows = if is_given (codes "dry-run") rows then effects.Printed else effects.Written
 

@@ -49,7 +49,7 @@ abbrev pub AreOnSheet : List Row → List (Bor Text) → Type 0
 AreOnSheet rows images = (has_two_forms rows ≡ false) × (is_given (codes "sheet") rows ≡ true)
     × (map (λ image. image.now) images ≡ values (codes "IMAGE") rows) × (length images ≤ 400)
 
--- there are several images and neither a sheet nor a comparison is asked for, or more than a sheet has room for, or not
+-- there are several images and neither a sheet nor a comparison is asked for; or more than a sheet has room for, or not
 -- two to be compared; or two forms are asked for
 abbrev pub IsNoPicture : List Row → Type 0
 IsNoPicture rows =
@@ -96,7 +96,7 @@ IsSeveral what images result =
     ((all : Vec (Bor Text) Global) × (result ≡ Ok (jobs.Several what all)) × (vec_items all ≡ images))
     ⊎ ((e : Error) × (result ≡ Err (faults.Words e)) × HasKind [] e)
 
--- and of one that prints this of one image, or of several
+-- the job, or why there is none, of a subcommand that prints this of one image, or of several
 abbrev pub IsOverviewJob : List Row → Overview → Result Job JobFault → Type 0
 IsOverviewJob rows what result =
     ((image : Bor Text) × (result ≡ Ok (job_of_one what image)) × IsOnlyImage rows image.now)
@@ -109,7 +109,7 @@ IsDescribing images result =
     ((all : Vec (Bor Text) Global) × (result ≡ Ok (jobs.Describe all)) × (vec_items all ≡ images))
     ⊎ ((e : Error) × (result ≡ Err (faults.Words e)) × HasKind [] e)
 
--- and of one that checks images, or describes each
+-- the job, or why there is none, of the subcommand that checks images, or describes each
 abbrev pub IsCheckJob : List Row → Result Job JobFault → Type 0
 IsCheckJob rows result =
     ((is_given (codes "json") rows ≡ false) × IsOverviewJob rows (overviews.Check (findings_in rows)) result)
@@ -130,7 +130,7 @@ IsComparing images result =
     × (images ≡ before ∷ after ∷ []))
     ⊎ ((result ≡ Err faults.Images) × (length images ≢ 2))
 
--- and of one that draws one image, or images on a sheet, or two compared
+-- the job, or why there is none, of the subcommand that draws one image, or images on a sheet, or two compared
 abbrev pub IsPictureJob : List Row → Result Job JobFault → Type 0
 IsPictureJob rows result =
     ((image : Bor Text) × (result ≡ Ok (picture_job rows image)) × (image.now ≡ value (codes "IMAGE") rows)

@@ -37,12 +37,12 @@ pub record IsParse (kinds : Kinds) (top : List Row) (found : Option (Text × Lis
     pub before : rows_of (found_of matches) ≡ top
     pub is : subcommand_rows_of matches ≡ found
 
--- the subcommand that prints this of an image that isn't judged
+-- the subcommand that prints this of an image that isn't checked
 abbrev pub word_of_view : View → Text
 word_of_view views.Free = codes "free"
 word_of_view (views.Sector place) = codes "sector"
 
--- and the sector, where it is one, is that which the words give
+-- and the sector, if there is one, is that which the words give
 abbrev pub IsViewIn : List Row → View → Type 0
 IsViewIn rows views.Free = Unit {0}
 IsViewIn rows (views.Sector place) = place_in rows ≡ Some place
@@ -52,12 +52,12 @@ abbrev pub word_of_taking : Taking → Text
 word_of_taking (takings.Records form) = codes "records"
 word_of_taking (takings.Bytes form) = codes "bytes"
 
--- the words ask for more of what isn't done, before the subcommand or behind it
+-- the words ask for more lines if the job isn't done, before the subcommand or after it
 abbrev pub is_explained : List Row → Option (Text × List Row) → Bool
 is_explained top found =
     is_given (codes "explain") top || option_map_or (λ f. is_given (codes "explain") f.1) found false
 
--- that they ask for it was heard; where they are refused it is passed over
+-- the request for more lines was heard; if the words are refused, it is ignored
 abbrev pub IsHeard : Result Job JobFault → (asked heard : Bool) → Type 0
 IsHeard (Err (faults.Words e)) asked heard = heard ≡ true → asked ≡ true
 IsHeard _ asked heard = heard ≡ asked
@@ -131,8 +131,8 @@ IsRefusedName found =
     ⊎ (Has found (codes "delete") (HasNoName (codes "NAME")) ⊎ (Has found (codes "rename") HasNoRenaming
     ⊎ Has found (codes "new") (HasNoName (codes "N"))))))
 
--- why there is none: the words are refused for one of these kinds, or memory ran out; or the number of tills is none,
--- or a name, or the length of a record, or the sector, or the ID of a disk; or two flags exclude each other
+-- why there is none: the words are refused for one of these kinds, or memory ran out. Or the number of tills, a name, the
+-- length of a record, the sector or the ID of a disk isn't valid, or two flags exclude each other
 abbrev pub IsNoJob : Kinds → Option (Text × List Row) → JobFault → Type 0
 IsNoJob kinds found (faults.Words e) = HasKind kinds e
 IsNoJob kinds found faults.Tills = (kinds ≡ []) × Has found (codes "format") (λ rows. tills_in rows ≡ None)

@@ -19,15 +19,15 @@ use Rattle.command_line.specs.declared.faults.JobFault.TheVariants as faults
 abbrev pub HasNoName : Text → List Row → Type 0
 HasNoName id rows = (bytes : List ℕ) → AreBytes bytes → ¬ (IsNameOf (value id rows) bytes)
 
--- nor one that a new file can have
+-- the text of this value is no name that a new file can have
 abbrev pub HasNoNewName : Text → List Row → Type 0
 HasNoNewName id rows = (bytes : List ℕ) → AreBytes bytes → IsNameOf (value id rows) bytes → ¬ (IsNewName bytes)
 
--- it is a name
+-- the text of this value is a name
 abbrev pub HasName : Text → List Row → Type 0
 HasName id rows = (bytes : List ℕ) × IsNameOf (value id rows) bytes
 
--- it is one that a new file can have
+-- the text of this value is a name that a new file can have
 abbrev pub HasNewName : Text → List Row → Type 0
 HasNewName id rows = (bytes : List ℕ) × IsNameOf (value id rows) bytes × IsNewName bytes
 

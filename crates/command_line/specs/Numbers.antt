@@ -15,7 +15,7 @@ tills_in rows = number_in 1 64 (value (codes "T") rows)
 abbrev pub length_in : List Row → Option ℕ
 length_in rows = number_in 1 254 (value (codes "L") rows)
 
--- the sector of a track with these numbers, where both are given and the disk has it
+-- the sector of a track with these numbers, if both are given and the disk has it
 abbrev pub place_if_both : Option ℕ → Option ℕ → Option Place
 place_if_both (Some t) (Some s) = place_at t s
 place_if_both _ _ = None

@@ -14,15 +14,15 @@ pub enum JobFault {
     /// The number of tills isn't one of 1 to 64, in decimal digits without leading zeros.
     #[error("TILLS")]
     Tills,
-    /// The name of a file or a disk isn't the text of at most sixteen bytes, of which the last isn't a shifted space. Or
-    /// it is the text of no bytes, if a file gets it.
+    /// The name isn't one that a file or a disk can have: a text of at most sixteen bytes, the last of which isn't a shifted
+    /// space. The name that a file gets has one byte at least.
     #[error("NAME")]
     Name,
     /// The length of a record isn't one of 1 to 254, in decimal digits without leading zeros.
     #[error("LENGTH")]
     Length,
-    /// There are several images to be drawn, but neither on a sheet nor to be compared; or more than a sheet has room for, or
-    /// not two to be compared; or two forms of a picture are asked for: a poster, a sheet, a comparison.
+    /// There are several images to be drawn, but neither on a sheet nor to be compared. Or there are more than a sheet
+    /// has room for, or not two to be compared. Or two forms of a picture are asked for: a poster, a sheet, a comparison.
     #[error("IMAGES")]
     Images,
     /// The text of a sector isn't that of one of the disk: its track, a slash and its number, such as 17/4.
@@ -54,7 +54,7 @@ impl JobFault {
         }
     }
 
-    /// The exit status: 3 for want of memory, 0 where help or the version is asked for, else 2.
+    /// The exit status: 3 if memory ran out, 0 if help or the version is asked for, otherwise 2.
     pub fn status(&self) -> u8
         ensures { result ≡ job_status self.now }
     {

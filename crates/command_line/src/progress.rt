@@ -2,7 +2,7 @@
 use ledger_jobs::Job;
 use std::io::{self, Write};
 
-/// After how many lines more it is told.
+/// After how many more lines the count is printed again.
 const STEP: u64 = 100;
 
 /// Whether a job may go on for so long that a person wonders.
@@ -25,7 +25,7 @@ fn counted(lines: u64, bytes: &[u8]) -> u64 {
     lines
 }
 
-/// An output of which is told how many lines it took, in one line that is written over.
+/// An output with a count of the lines that it took. The count is printed in one line that is written over.
 #[derive(Drop)]
 pub(crate) struct Watched<'a, W: Write, E: Write> {
     out: &'a mut W,
@@ -34,12 +34,12 @@ pub(crate) struct Watched<'a, W: Write, E: Write> {
 }
 
 impl<'a, W: Write, E: Write> Watched<'a, W, E> {
-    /// The output `out`; what is told goes to `err`.
+    /// The output `out`; the count goes to `err`.
     pub(crate) fn new(out: &'a mut W, err: &'a mut E) -> Watched<'a, W, E> {
         Watched { out, err, lines: 0 }
     }
 
-    /// Takes away what was told.
+    /// Clears the count.
     pub(crate) fn clear(&mut self) {
         if self.lines >= STEP {
             let _ = self

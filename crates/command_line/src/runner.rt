@@ -22,19 +22,20 @@ const WORDS: u8 = 2;
 /// How many bytes of output are gathered before they are written.
 const OUTPUT_ROOM: usize = 32768;
 
-/// Who reads what is told on standard error.
+/// The reader of what is printed on standard error.
 #[derive(Clone, Copy, Debug, PartialEq, Eq)]
 pub enum Audience {
     /// A program, or a file: each refusal is one line.
     Program,
-    /// A person at a terminal, or who asked for it by --explain: a second line says which file, or what to do.
+    /// A person at a terminal, or one who asked for it by --explain: a second line says which file, or what to do.
     Person,
     /// A person at a terminal who doesn't see the output: long work says how far it is, too.
     Waiting,
 }
 
 impl Audience {
-    /// Who reads standard error: a person where it is a terminal, who sees the output where that is one too.
+    /// The reader of standard error: a person if standard error is a terminal. This person sees the output if that is a
+    /// terminal too.
     pub fn of(err_is_terminal: bool, out_is_terminal: bool) -> Audience
         ensures { result ≡ (if err_is_terminal then (if out_is_terminal then Person else Waiting) else Program) }
     {
@@ -45,7 +46,7 @@ impl Audience {
         }
     }
 
-    /// The same reader, where the words ask for a second line.
+    /// This reader, who also reads a second line if the words ask for one.
     fn explained(self) -> Audience
         ensures { result ≢ Program }
     {
@@ -56,12 +57,12 @@ impl Audience {
     }
 }
 
-/// Tells a failure of the system, and answers its exit status.
+/// Reports a failure of the system, and returns its exit status.
 fn refuse<E: Write>(err: &mut E, error: &io::Error) -> u8 {
     end(Err(Refusal::Run(RunFault::of_io(error))), err).status
 }
 
-/// Tells a person what the words may be. What `clap` refuses it explains itself.
+/// Prints for a person what the words may be. What `clap` refuses it explains itself.
 fn explain_words<E: Write>(fault: &JobFault, err: &mut E) {
     let _ = match fault {
         JobFault::Words(_) => Ok(()),
@@ -87,7 +88,7 @@ fn explain_words<E: Write>(fault: &JobFault, err: &mut E) {
     };
 }
 
-/// Tells why the words ask for nothing, or gives the help that they ask for, and answers the exit status.
+/// Reports why the words ask for nothing, or prints the help that they ask for, and returns the exit status.
 fn refuse_words<R: Print + Eprint, E: Write>(
     rt: &R,
     fault: &JobFault,
@@ -96,7 +97,7 @@ fn refuse_words<R: Print + Eprint, E: Write>(
 ) -> u8 {
     let status = fault.status();
     let ended = match fault {
-        // For want of memory there may be no text.
+        // If memory ran out, there may be no text.
         JobFault::Words(_) if status == RunFault::NoMemory.status() => {
             return end(Err(Refusal::Run(RunFault::NoMemory)), err).status;
         }
@@ -113,7 +114,8 @@ fn refuse_words<R: Print + Eprint, E: Write>(
     }
 }
 
-/// Does a job over an output, and over standard error where it reports there. A person who waits for long work is told how far it is.
+/// Does a job over an output, and over standard error if it reports there. A person who waits for long work sees how far
+/// it is.
 fn do_watched<F, R, W, E>(
     rt: &R,
     job: &Job<'_>,
@@ -162,7 +164,8 @@ where
     }
 }
 
-/// Does a job over an output that is gathered, and answers the exit status. A person is told more of what isn't done.
+/// Does a job over an output that is gathered, and returns the exit status. If the job isn't done, a person reads more
+/// about why.
 fn obey_job<F, R, E>(rt: &R, job: &Job<'_>, told: Audience, err: &mut E) -> u8
 where
     F: EndedFile + Read + Locks + OpenFile + Drop,
@@ -208,7 +211,7 @@ fn texts_of<'a>(alloc: Global, words: &'a [String]) -> Result<Vec<&'a str>, Allo
     Ok(texts)
 }
 
-/// Does what these words ask for, and answers the exit status.
+/// Does what these words ask for, and returns the exit status.
 fn obey<F, R, E>(rt: &R, words: &[String], told: Audience, err: &mut E) -> u8
 where
     F: EndedFile + Read + Locks + OpenFile + Drop,
@@ -231,7 +234,7 @@ where
     }
 }
 
-/// The words of the command line, or the exit status where they can't be had, which is told.
+/// The words of the command line. If they can't be had, that is reported, and the exit status is returned.
 fn words_of<R: Env + AllocGlobal, E: Write>(rt: &R, err: &mut E) -> Result<Vec<String>, u8> {
     let collected = match env::args(rt) {
         Ok(words) => words.collect(rt.alloc()),
@@ -250,9 +253,9 @@ fn words_of<R: Env + AllocGlobal, E: Write>(rt: &R, err: &mut E) -> Result<Vec<S
     }
 }
 
-/// The whole program: does what the words of its command line ask for, and answers its exit status. What it prints goes
-/// to the runtime's output; what it tells goes to `err`, which is the runtime's standard error, where what refused
-/// words are told goes at any rate, and which `told` reads.
+/// The whole program: does what the words of its command line ask for, and returns its exit status. What it prints goes
+/// to the runtime's output. What it reports goes to `err`, which is the runtime's standard error. Refused words are
+/// reported there in any case. `told` says who reads it.
 pub fn program<F, R, E>(rt: &R, told: Audience, err: &mut E) -> u8
 where
     F: EndedFile + Read + Locks + OpenFile + Drop,

@@ -10,7 +10,7 @@ use Rattle.disk_layout.specs.declared.faults.Fault.TheVariants.{BadLink, Loop}
 use Rattle.disk_layout.specs.declared.slot.Slot.{Slot}
 
 -- What ends the directory's sectors at the last one: it ends the chain; or it links to no sector that a directory may
--- have, or back to one of these, as the fault tells
+-- have, or back to one of these, as the fault says
 abbrev pub DirectoryEnds : Image → List Place → Place → Option Fault → Type 0
 DirectoryEnds img ps last None = byte img last 0 ≡ 0
 DirectoryEnds img ps last (Some (BadLink p)) =

@@ -65,9 +65,9 @@ IsWrongBit bytes p n = (IsFree bytes p × (1 ≤ n)) ⊎ (¬ (IsFree bytes p) ×
 abbrev pub IsWrongAt : Sector → Place → ℕ → Type 0
 IsWrongAt bytes p n = IsWrongBit bytes p n ⊎ ((p ≡ map_place) × HasWrongCount bytes)
 
--- the fault holds of a disk whose links come to these: BADLINK and LOOP end the directory, or are shown by an entry, as
--- are the faults of entries and side sectors; OWNEDTWICE is at a sector of two; and MAPWRONG holds if the disk is sound
--- but for its map, since only then it is known what is owned
+-- the fault holds of a disk whose links come to these. BADLINK and LOOP end the directory, or are shown by an entry, as
+-- are the faults of entries and side sectors. OWNEDTWICE is at a sector of two. MAPWRONG holds if the disk is sound apart
+-- from its map, since only then it is known what is owned
 abbrev pub HoldsAmong : Links → Fault → Type 0
 HoldsAmong l (faults.BadLink p) =
     (l.end ≡ Some (faults.BadLink p)) ⊎ IsShownBy l.trails.items (faults.BadLink p)
@@ -87,6 +87,7 @@ faults_at p =
     faults.BadLink p ∷ faults.Loop p ∷ faults.OwnedTwice p ∷ faults.BadType p ∷ faults.Unclosed p ∷ faults.BadLength p
     ∷ faults.BadSide p ∷ faults.CountWrong p ∷ faults.MapWrong p ∷ []
 
+-- those of a place, if there is one
 abbrev pub faults_if : Option Place → List Fault
 faults_if None = []
 faults_if (Some p) = faults_at p
@@ -101,7 +102,7 @@ unfoldable pub faults_below : ℕ → List Fault
 faults_below zero = []
 faults_below (suc n) = faults_below n ++ faults_to (suc n) 21
 
--- of these the ones that have P, in their order, as `pick` gives them
+-- those of the first list that have P, in their order, as `pick` gives them
 abbrev pub AreThose : {X Y : Type 0} → (X → Type 0) → (X → Y) → List X → List Y → Type 0
 AreThose P pick [] [] = Unit {0}
 AreThose P pick [] (y ∷ ys) = ⊥
@@ -113,7 +114,7 @@ AreThose P pick (x ∷ xs) (y ∷ ys) =
 abbrev pub AreShown : List Trail → Fault → List Slot → Type 0
 AreShown trails fault files = AreThose (λ t. Shows t fault) (λ t. t.slot) trails files
 
--- a name between quotation marks, as it can be typed, behind a space
+-- after a space a name between quotation marks, as it can be typed
 abbrev pub spaced_name : Slot → List ℕ
 spaced_name s = codes " \"" ++ (text_of (name_of s) ++ codes "\"")
 

@@ -3,8 +3,8 @@ use Rattle.std.specs.Prelude.{◌≡◌, ◌≢◌, ◌⊎◌, ℕ, ◌+◌, ◌
 use Rattle.std.specs.Prelude.{if◌then◌else◌, nat_eq, nat_lt}
 use Rattle.byte_text.specs.Texts.{digit}
 
--- a byte of a string: the quotation mark and the backslash after a backslash; a control character as \u and four
--- hexadecimal digits; and the others as they are, as 7A
+-- a byte of a string: the quotation mark and the backslash stand after a backslash, a control character is \u and four
+-- hexadecimal digits, such as \u001b, and every other byte is as it is
 unfoldable pub json_char : ℕ → List ℕ
 json_char b =
     if nat_eq b 34 || nat_eq b 92 then 92 ∷ b ∷ []
@@ -14,8 +14,8 @@ json_char b =
 abbrev pub json_string : List ℕ → List ℕ
 json_string bytes = codes "\"" ++ (flat_map json_char bytes ++ codes "\"")
 
--- the text between the quotation marks of a string is read as these bytes: each stands for itself, but the quotation
--- mark, the backslash and those below 32; or is named by an escape
+-- the text between the quotation marks of a string is read as these bytes. Each stands for itself, except the quotation
+-- mark, the backslash and those below 32; or it is named by an escape
 pub data Spells : List ℕ → List ℕ → Type 0 where
   none : Spells [] []
   itself : (b : ℕ) (text bytes : List ℕ) → 32 ≤ b → b ≢ 34 → b ≢ 92 → Spells text bytes

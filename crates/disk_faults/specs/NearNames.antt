@@ -15,12 +15,12 @@ use Rattle.disk_faults.specs.AllFaults.{spaced_name}
 abbrev pub shown_type : ℕ → List ℕ
 shown_type t = (if nat_lt t 128 then codes "*" else []) ++ type_name (t % 16)
 
--- a name between quotation marks, as it can be typed, and its type, behind a space: "LETTER 02" *PRG
+-- after a space a name between quotation marks, as it can be typed, and its type: "LETTER 02" *PRG
 abbrev pub near_name : Slot → List ℕ
 near_name s = spaced_name s ++ (codes " " ++ shown_type (type_byte s))
 
--- of the entries that can be read of the image's directory the first three whose names are near to this one were printed,
--- in their order, on an output that held `old` and holds `new`
+-- the first three names near to this one were printed, in their order, on an output that held `old` and holds `new`. They
+-- are of the entries that can be read of the image's directory
 pub record AreNearPrinted {W : Type 0} (contents : W → Option (List ℕ)) (image name : List ℕ) (old new : W) : Type 0
   where
     pub size : length image ≡ 174848

@@ -49,7 +49,7 @@ abbrev pub disk_name_text : Sector → List ℕ
 disk_name_text map =
     codes ",\"free\":" ++ (decimal (blocks_free map) ++ codes ",\"disk\":") ++ typed (disk_name map)
 
--- the same, its id, and the end of the object
+-- the disk's name, its id, and the end of the object
 abbrev pub disk_text : Sector → List ℕ
 disk_text map = disk_name_text map ++ (codes ",\"id\":" ++ (typed (slice_range map 162 164) ++ codes "}\n"))
 

@@ -32,7 +32,7 @@ abbrev pub HasWholeChain : Slot → Option Fault → Type 0
 HasWholeChain s end = IsTrue (is_rel s) × (end ≡ None)
 
 -- the side sectors of an entry with these blocks: those that the links come to from the first one, no more than the
--- blocks need; none if the entry isn't relative, its chain isn't whole, or it names no first side sector
+-- blocks need. There are none if the entry isn't relative, its chain isn't whole, or it names no first side sector
 abbrev pub AreSides : Image → Slot → List Place → Option Fault → List Place → Type 0
 AreSides img s blocks end sides =
     (HasWholeChain s end × ((q : Place) × Names s.bytes 21 q × AreLinked img q (sides_for (length blocks)) sides))
@@ -69,9 +69,9 @@ LacksSide s p = (p ≡ s.sector) × IsTrue (is_rel s) × NamesNone s.bytes 21
 abbrev pub HasWrongSide : Trail → Place → Type 0
 HasWrongSide t p = Contains t.wrong.items p ⊎ LacksSide t.slot p
 
--- the entry shows the fault, or has the sector at which it is: BADLINK and LOOP end its chain; BADTYPE, UNCLOSED and
--- BADLENGTH are in its slot; BADSIDE is at a side sector of it, or at its directory sector if it is to name one and
--- doesn't; COUNTWRONG is at its directory sector; and the sector of OWNEDTWICE or MAPWRONG is a block or a side sector
+-- the entry shows the fault, or has the sector at which it is. BADLINK and LOOP end its chain. BADTYPE, UNCLOSED and
+-- BADLENGTH are in its slot. BADSIDE is at a side sector of it, or at its directory sector if it is to name one and
+-- doesn't. COUNTWRONG is at its directory sector. The sector of OWNEDTWICE or MAPWRONG is a block or a side sector
 abbrev pub Shows : Trail → Fault → Type 0
 Shows t (faults.BadLink p) = t.end ≡ Some (faults.BadLink p)
 Shows t (faults.Loop p) = t.end ≡ Some (faults.Loop p)

@@ -52,9 +52,10 @@ pub(crate) fn read_map(disk: &mut MemDisk) -> [u8; 256]
     map
 }
 
-/// Prints an object of JSON, in a line of its own, that describes the image: its name and size, what a check finds as
-/// `check` prints it, with the track and the sector of a fault as numbers, the names of the files that the fault
-/// concerns as they can be typed, the free blocks as the map counts them, and the disk's name and id. Returns the fault.
+/// Prints an object of JSON, in a line of its own, that describes the image: its name and size, and what a check finds,
+/// as `check` prints it. Then follow the track and the sector of a fault, as numbers, and the names of the files that the
+/// fault concerns, as they can be typed. Last are the free blocks as the map counts them, and the disk's name and id.
+/// Returns the fault.
 ///
 /// `ImageSize`; `NoMemory`: nothing was printed then. `File` if the output failed, which may then have a part.
 pub fn describe_image<W: Write>(
@@ -79,8 +80,9 @@ pub fn describe_image<W: Write>(
     }
 }
 
-/// Prints an object of JSON, in a line of its own, of an image that is refused for this reason: its name, the size of its
-/// file in bytes, if it is known, and the reason. `File` if the output failed, which may then have a part.
+/// Prints an object of JSON, in a line of its own, of an image that is refused for this reason. It has the image's name,
+/// the size of its file in bytes, if it is known, and the reason. `File` if the output failed, which may then have a
+/// part.
 pub fn describe_refusal<W: Write>(
     name: &[u8],
     size: Option<u64>,

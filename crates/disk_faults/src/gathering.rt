@@ -73,7 +73,7 @@ fn holds_too(links: &Links, first: Fault, fault: Fault) -> bool
     holds(links, fault)
 }
 
-/// Appends the fault if it holds and isn't the first one. `NoMemory` alone is told.
+/// Appends the fault if it holds and isn't the first one. The only error is `NoMemory`.
 fn add_if(
     links: &Links,
     first: Fault,
@@ -93,7 +93,7 @@ fn add_if(
     Ok(())
 }
 
-/// The same of several faults.
+/// Appends those of several faults that hold and aren't the first one.
 fn add_those(
     links: &Links,
     first: Fault,
@@ -110,7 +110,7 @@ fn add_those(
     Ok(())
 }
 
-/// The same of a sector, if there is such a one.
+/// Appends those that a sector has, if there is such a one.
 fn add_sector(
     links: &Links,
     first: Fault,
@@ -129,7 +129,7 @@ fn add_sector(
     }
 }
 
-/// The same of a track.
+/// Appends those that the sectors of a track have.
 fn add_track(
     links: &Links,
     first: Fault,
@@ -146,7 +146,7 @@ fn add_track(
     Ok(())
 }
 
-/// All other faults than the first one that hold, in the order of the disk. `NoMemory` alone is told.
+/// All faults that hold except the first one, in the order of the disk. The only error is `NoMemory`.
 pub(crate) fn find_others(
     alloc: Global,
     links: &Links,

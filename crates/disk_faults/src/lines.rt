@@ -26,7 +26,7 @@ fn keep_shown(trails: &[Trail], fault: Fault, files: &mut Slots)
     }
 }
 
-/// Writes the name of an entry between quotation marks, behind a space.
+/// Writes a space and the name of an entry between quotation marks.
 pub(crate) fn put_name<W: Write>(out: &mut W, slot: &Slot) -> io::Result<()>
     ensures { OnOk result (Appends (W.contents out.old) (W.contents out.new) (spaced_name slot.now)) }
 {

@@ -39,7 +39,7 @@ fn is_sound(disk: &mut MemDisk) -> bool
     !survey(disk).is_err()
 }
 
-/// What the links of these entries come to. `NoMemory` alone is told.
+/// What the links of these entries come to. The only error is `NoMemory`.
 fn follow_entries(
     alloc: Global,
     disk: &mut MemDisk,
@@ -60,7 +60,7 @@ fn follow_entries(
     Ok(trails)
 }
 
-/// What the links of the disk come to. `NoMemory` alone is told.
+/// What the links of the disk come to. The only error is `NoMemory`.
 pub(crate) fn follow_all(alloc: Global, disk: &mut MemDisk) -> Result<Links, DescribeFault>
     ensures ok { IfOk result (AreLinks (disk_image disk.old)) }
     ensures err { IfErr result (λ fault. fault ≡ faults.NoMemory) }

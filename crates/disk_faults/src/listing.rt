@@ -71,12 +71,12 @@ fn put_found<W: Write>(
 }
 
 /// Prints every fault of an image that holds, a line each: first the one that a check finds, and then all others in the
-/// order of the disk, by track and sector. Behind each stand the names of the files that it concerns, between quotation
-/// marks and as they can be typed: `OWNEDTWICE 6/17 "LETTER 02" "LETTER 04"`. Prints `OK` if the image is clean. Returns the
-/// first fault.
+/// order of the disk, by track and sector. After each stand the names of the files that it concerns, between quotation
+/// marks and as they can be typed: `OWNEDTWICE 6/17 "LETTER 02" "LETTER 04"`. Prints `OK` if the image is clean. Returns
+/// the first fault.
 ///
-/// Each entry is followed for itself, and a damaged directory is read as far as it goes. What the map has wrong is only
-/// known, and `MapWrong` listed, of a disk that has no other fault that a survey finds.
+/// Each entry is followed for itself, and a damaged directory is read as far as it goes. `MapWrong` is listed only if the
+/// disk has no other fault that a survey finds: only then it is known what the map has wrong.
 ///
 /// `ImageSize`; `NoMemory`: nothing was printed then. `File` if the output failed, which may then have a part.
 pub fn list_faults<W: Write>(

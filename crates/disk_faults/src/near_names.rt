@@ -25,7 +25,7 @@ fn put_type<W: Write>(out: &mut W, type_byte: u8) -> io::Result<()>
     write!(out, "{mark}{}", type_name(type_byte % 16))
 }
 
-/// Writes the name and the type of an entry, behind a space.
+/// Writes a space, and the name and the type of an entry.
 fn put_near<W: Write>(out: &mut W, slot: &Slot) -> io::Result<()>
     ensures { OnOk result (Appends (W.contents out.old) (W.contents out.new) (near_name slot.now)) }
 {
@@ -51,10 +51,10 @@ fn first_three(slots: &[Slot]) -> &[Slot]
     &slots[..slots.len().min(MOST_NAMES)]
 }
 
-/// Prints the first three names of an image's directory that are near to this one, each between quotation marks and as it
-/// can be typed, with its type, behind a space: ` "LETTER 02" *PRG`. A name is near if it differs at most in the case of
-/// letters, in shifted spaces, and in spaces at its end; the entry may have any type. Prints nothing if no name is near. A
-/// damaged directory is read as far as it goes.
+/// Prints the first three names of an image's directory that are near to this one. After a space each stands between
+/// quotation marks, as it can be typed, with its type: ` "LETTER 02" *PRG`. A name is near if it differs at most in the
+/// case of letters, in shifted spaces, and in spaces at its end. The entry may have any type. Prints nothing if no name
+/// is near. A damaged directory is read as far as it goes.
 ///
 /// `ImageSize`; `NoMemory`: nothing was printed then. `File` if the output failed, which may then have a part.
 pub fn print_near_names<W: Write>(

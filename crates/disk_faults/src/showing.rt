@@ -164,7 +164,7 @@ fn is_miscounted(trail: &Trail) -> bool
     entry.block_count() as usize != blocks + blocks.div_ceil(POINTERS)
 }
 
-/// The same at this directory sector.
+/// Whether this is the case, and the entry is at this directory sector.
 fn is_miscounted_at(trail: &Trail, place: Place) -> bool
     ensures { IsTrue result ↔ ((place ≡ trail.now.slot.sector) × IsMiscounted trail.now) }
 {

@@ -20,8 +20,8 @@ pub record IsDiskOf (image : List ℕ) (d : Disk) : Type 0 where
 abbrev pub disk_in : Compared → Disk
 disk_in d = record { image = d.sectors.now; map = d.drawing.map; layout = drawn_in d.drawing; found = d.found }
 
--- the comparison of two images, and nothing else, was handed to an output that held `old` and holds `new`; of the second
--- one a check reports this
+-- the comparison of two images, and nothing else, was passed to an output that held `old` and holds `new`; a check of the
+-- second one reports this
 pub record IsComparisonPrinted {W : Type 0} (contents : W → Option (List ℕ)) (before after : List ℕ) (old new : W)
     (found : Option Fault) : Type 0 where
   pub first : Disk

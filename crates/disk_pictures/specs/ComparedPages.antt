@@ -1,6 +1,6 @@
--- The comparison of two disks, before and after: an HTML page with the drawing of the second one, in which sectors that
--- differ are marked, and a list of the files that changed. All of it is our own. Bytes of the disks stand in it as `show`
--- shows them, and names also as `signs` does, and in no other way.
+-- The comparison of two disks, before and after. It is an HTML page with the drawing of the second one, in which sectors
+-- that differ are marked, and a list of the files that changed. All of it is our own. Bytes of the disks stand in it as
+-- `show` shows them, and names also as `signs` does, and in no other way.
 use Rattle.std.specs.Prelude.{ℕ, ◌+◌, ◌||◌, Bool, false, List, [], ◌++◌, Option, Some, None, if◌then◌else◌, codes, decimal, length}
 use Rattle.d64_image.specs.Images.{Image}
 use Rattle.d64_image.specs.declared.place.Place.{Place}
@@ -18,7 +18,7 @@ use Rattle.disk_pictures.specs.Texts.{each_below, numbered, verdict_text}
 unfoldable pub mark_arc : Place → List ℕ
 mark_arc p = ring_of p ++ codes "/>\n"
 
--- the style of what a comparison has beyond a page: all but the marks is pale
+-- the style of what a comparison has beyond a page: everything except the marks is pale
 unfoldable pub marks_head : List ℕ
 marks_head = codes
     "<style>svg>g>g:not(#f):not(.differs){opacity:.4}svg>g>g:target:not(#f){opacity:1}.differs circle{stroke:#000;stroke-width:320;pointer-events:none}.differs i{color:#000;padding:4px 0}td:nth-child(5){text-align:left;white-space:normal}@media screen and (prefers-color-scheme:dark){.differs circle{stroke:#fff}.differs i{color:#fff}}</style>\n<g class=\"differs\">\n"
@@ -109,10 +109,12 @@ gone_row show signs name =
     codes "<tr><td></td><td>gone</td><td>" ++ (show name ++ (codes "<bdi>" ++ (signs name
     ++ codes "</bdi></td><td></td><td></td></tr>\n")))
 
+-- the row of an entry of the first disk: none if it has a counterpart
 abbrev pub gone_by : Show → Show → File → Option File → List ℕ
 gone_by show signs g None = gone_row show signs (name_of g.slot)
 gone_by show signs g (Some f) = []
 
+-- the row of entry k of the first disk
 unfoldable pub former_row : Show → Show → Disk → Disk → ℕ → File → List ℕ
 former_row show signs a b k g = gone_by show signs g (counterpart b.layout.files a.layout.files k g)
 

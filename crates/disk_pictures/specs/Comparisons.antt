@@ -79,7 +79,7 @@ are_bytes_changed a b g f = is_changed_within a b g f 0 (max (file_length g) (fi
 abbrev pub is_record_changed : Image → Image → File → File → ℕ → Bool
 is_record_changed a b g f n = is_changed_within a b g f (n * record_length f.slot) (record_length f.slot)
 
--- the same of the record before it, where there is one
+-- whether the record before it changed, if there is one
 abbrev pub is_record_changed_before : Image → Image → File → File → ℕ → Bool
 is_record_changed_before a b g f n = if nat_eq n 0 then false else is_record_changed a b g f (n - 1)
 

@@ -1,4 +1,4 @@
--- What is drawn of a disk, sound or hurt: its directory, and of each entry what its links come to. Our own.
+-- What is drawn of a disk, sound or damaged: its directory, and of each entry what its links come to. Our own.
 use Rattle.std.specs.Prelude.{◌≡◌, ◌≢◌, ◌⊎◌, ℕ, Contains, Some, slice_get, ◌+◌, ◌<◌, ◌≤◌, Bool, ◌&&◌, List, [], ◌∷◌}
 use Rattle.std.specs.Prelude.{map, length, take, if◌then◌else◌, nat_eq, IsTrue, IsFalse}
 use Rattle.std.specs.List.{AllByRecursion, list_any}
@@ -13,7 +13,7 @@ use Rattle.disk_pictures.specs.declared.drawn_file.DrawnFile.{DrawnFile}
 use Rattle.disk_pictures.specs.declared.owners.Owner.{Owner}
 use Rattle.disk_pictures.specs.declared.owners.Owner.TheVariants as owner
 
--- ps are the sectors that the links come to from the place that the bytes at i name; none where they name no place
+-- ps are the sectors that the links come to from the place that the bytes at i name; none if they name no place
 abbrev pub GoesFrom : Image → Sector → ℕ → List Place → ℕ → Type 0
 GoesFrom img bytes i ps u =
     ((p : Place) × Names bytes i p × IsWalk img p ps u)
@@ -71,7 +71,7 @@ file_in f = record { slot = f.slot; blocks = f.blocks.items; last = f.last; side
 abbrev pub drawn_of : List Place → List DrawnFile → Layout
 drawn_of directory files = record { directory = directory; files = map file_in files }
 
--- the sector is drawn with this owner, and once: no owner has it twice; and as of nobody where nothing drawn has it
+-- the sector is drawn with this owner, and once: no owner has it twice; it is drawn as nobody's if nothing drawn has it
 abbrev pub IsDrawnOnce : Layout → Place → Owner → Type 0
 IsDrawnOnce l p owner.Map = p ≡ map_place
 IsDrawnOnce l p owner.Directory = Contains l.directory p × EachOnce l.directory
@@ -81,8 +81,8 @@ IsDrawnOnce l p owner.Nobody =
     (p ≢ map_place) × ¬ (Contains l.directory p)
     × ((f : File) → Contains l.files f → ¬ (Contains f.blocks p) × ¬ (Contains f.sides p))
 
--- whose the sector is in a layout: the map's, the directory's, this entry's as a block or as a side sector, or
--- nobody's, where none of these has it
+-- whose the sector is in a layout: the map's, the directory's, or this entry's as a block or as a side sector; or
+-- nobody's, if none of these has it
 abbrev pub IsOwnedBy : Layout → Place → Owner → Type 0
 IsOwnedBy l p owner.Map = p ≡ map_place
 IsOwnedBy l p owner.Directory = Contains l.directory p

@@ -1,4 +1,4 @@
--- What is told of a disk that isn't drawn, and its exit status. Our own.
+-- What is reported of a disk that isn't drawn, and its exit status. Our own.
 use Rattle.std.specs.Prelude.{◌≡◌, ◌≢◌, ℕ, ◌++◌, List, None, Option, Some, codes, length}
 use Rattle.d64_image.specs.Images.{Image}
 use Rattle.disk_layout.specs.Fault.{HoldsOfDirectory, nowhere}
@@ -15,7 +15,7 @@ picture_status faults.File = 3
 picture_status faults.NoMemory = 3
 picture_status faults.Device = 3
 
--- what is told
+-- what is reported
 abbrev pub picture_text : PictureFault → List ℕ
 picture_text faults.ImageSize = codes "IMAGE SIZE"
 picture_text (faults.Layout fault) = codes "LAYOUT " ++ fault_text fault
@@ -29,7 +29,7 @@ IsLoadFault image faults.ImageSize = length image ≢ 174848
 IsLoadFault image faults.NoMemory = length image ≡ 174848
 IsLoadFault image _ = ⊥
 
--- no memory was had, and nothing else is told
+-- no memory was had, and nothing else is reported
 abbrev pub IsMemoryFault : PictureFault → Type 0
 IsMemoryFault fault = fault ≡ faults.NoMemory
 
@@ -38,7 +38,7 @@ abbrev pub IsDrawFault : Image → PictureFault → Type 0
 IsDrawFault img (faults.Layout fault) = HoldsOfDirectory nowhere img fault
 IsDrawFault img fault = IsMemoryFault fault
 
--- what the directory has wrong, where that is why nothing is drawn
+-- what the directory has wrong, if that is why nothing is drawn
 abbrev pub layout_fault_of : PictureFault → Option Fault
 layout_fault_of (faults.Layout fault) = Some fault
 layout_fault_of _ = None

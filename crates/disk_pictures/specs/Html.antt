@@ -28,8 +28,8 @@ plain_byte b =
 abbrev pub is_long : List ℕ → Bool
 is_long bytes = nat_lt 48 (length (flat_map html_byte bytes))
 
--- bytes of the disk in HTML, where that takes more than 48 bytes without escapes: so a name of 16 takes at most 48.
--- <SCRIPT>, FF is &lt;SCRIPT&gt;\ff
+-- bytes of the disk in HTML; without escapes if they would make it longer than 48 bytes, so that a name of 16 takes at
+-- most 48. <SCRIPT>, FF is &lt;SCRIPT&gt;\ff
 unfoldable pub html_of : List ℕ → List ℕ
 html_of bytes =
     if is_long bytes then flat_map plain_byte bytes else flat_map html_byte bytes

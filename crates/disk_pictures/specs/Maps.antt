@@ -23,12 +23,12 @@ letter first k = first + k % 26
 abbrev pub digit : ℕ → ℕ
 digit k = 48 + k / 26 % 10
 
--- there are more than 26 entries, so that letters alone don't tell them apart
+-- there are more than 26 entries, so that a letter doesn't distinguish them
 abbrev pub is_wide : Layout → Bool
 is_wide l = nat_lt 26 (length l.files)
 
--- the mark of a sector: * map, = directory, a letter for a block of an entry and a capital for a side sector, . free,
--- ? taken in the map and of no entry
+-- the mark of a sector: * map, = directory, a letter for a block of an entry, its capital for a side sector, . free; ?
+-- taken in the map and of no entry
 abbrev pub owner_mark : Sector → Place → Owner → ℕ
 owner_mark map p owner.Map = 42
 owner_mark map p owner.Directory = 61
@@ -36,7 +36,7 @@ owner_mark map p (owner.Blocks k) = letter 97 k
 owner_mark map p (owner.Sides k) = letter 65 k
 owner_mark map p owner.Nobody = if is_free map p then 46 else 63
 
--- and ! where the fault is
+-- and ! for the sector of the fault
 abbrev pub mark_of : Option Fault → Sector → Layout → Place → ℕ
 mark_of v map l p = if is_fault_at v p then 33 else owner_mark map p (owner_of l p)
 
@@ -77,14 +77,14 @@ unfoldable pub track_line : Option Fault → Sector → Layout → ℕ → List 
 track_line v map l t =
     track_text t ++ (each_below 21 (λ s. at_place (λ p. mark_of v map l p ∷ []) (place_at t s)) ++ codes "\n")
 
--- record length and number of records, where they are told
+-- record length and number of records, if they are printed
 abbrev pub records_text : File → List ℕ
 records_text f =
     if has_records f then codes " LENGTH "
     ++ (decimal (record_length f.slot) ++ (codes " RECORDS " ++ decimal (records_in f)))
     else []
 
--- the same with more than 26 entries
+-- the line of a track on a map with more than 26 entries
 unfoldable pub wide_line : Option Fault → Sector → Layout → ℕ → List ℕ
 wide_line v map l t =
     track_number t ++ (each_below 21 (λ s. at_place (cell_text v map l) (place_at t s)) ++ codes "\n")
@@ -103,15 +103,15 @@ entry_line wide k f =
 abbrev pub map_head : List ℕ
 map_head = codes "   0         1         2\n   012345678901234567890\n"
 
--- the same with two characters for each sector
+-- the numbers of the sectors above tracks with two characters for each sector
 abbrev pub wide_head : List ℕ
 wide_head = codes "   00 01 02 03 04 05 06 07 08 09 10 11 12 13 14 15 16 17 18 19 20\n"
 
--- tracks 1 to 35 under these numbers, with a character for each sector, and with two
+-- tracks 1 to 35 under these numbers, with a character for each sector
 unfoldable pub narrow_tracks : Option Fault → Sector → Layout → List ℕ
 narrow_tracks v map l = map_head ++ each_below 35 (λ b. track_line v map l (b + 1))
 
--- the same with two characters for each sector
+-- tracks 1 to 35 under their numbers, with two characters for each sector
 unfoldable pub wide_tracks : Option Fault → Sector → Layout → List ℕ
 wide_tracks v map l = wide_head ++ each_below 35 (λ b. wide_line v map l (b + 1))
 
@@ -119,7 +119,7 @@ wide_tracks v map l = wide_head ++ each_below 35 (λ b. wide_line v map l (b + 1
 abbrev pub tracks_text : Bool → Option Fault → Sector → Layout → List ℕ
 tracks_text wide v map l = if wide then wide_tracks v map l else narrow_tracks v map l
 
--- the map: the tracks, the entries, and what a check told
+-- the map: the tracks, the entries, and the result of a check
 unfoldable pub map_text : Option Fault → Sector → Layout → List ℕ
 map_text v map l =
     tracks_text (is_wide l) v map l ++ (numbered (entry_line (is_wide l)) 0 l.files ++ (verdict_text v ++ codes "\n"))

@@ -17,7 +17,7 @@ use Rattle.disk_pictures.specs.declared.drawing.Drawing.{Drawing}
 use Rattle.disk_pictures.specs.declared.faults.PictureFault.{PictureFault}
 use Rattle.disk_pictures.specs.declared.faults.PictureFault.TheVariants as faults
 
--- what a check of the image tells: a fault that holds, or none of a clean image
+-- what a check of the image reports: a fault that holds, or none if the image is clean
 abbrev pub IsVerdict : Image → Option Fault → Type 0
 IsVerdict img None = IsClean img
 IsVerdict img (Some fault) = HoldsOfClean nowhere img fault
@@ -26,33 +26,33 @@ IsVerdict img (Some fault) = HoldsOfClean nowhere img fault
 abbrev pub map_in : List ℕ → Sector
 map_in image = sector (sectors_in image) map_place
 
--- the image has the size of a disk and a directory; this is drawn of it, and this a check tells
+-- the image has the size of a disk and a directory; this is drawn of it, and a check reports this
 pub record IsDrawnAndJudged (image : List ℕ) (l : Layout) (found : Option Fault) : Type 0 where
   pub size : length image ≡ 174848
   pub drawn : IsDrawn (sectors_in image) l
   pub verdict : IsVerdict (sectors_in image) found
   pub few : length l.files ≤ 144
 
--- the same of a drawing as the code holds it
+-- this holds of a drawing as the code holds it
 pub record IsJudged (image : List ℕ) (drawing : Drawing) (found : Option Fault) : Type 0 where
   pub judged : IsDrawnAndJudged image (drawn_in drawing) found
   pub map : drawing.map ≡ map_in image
 
--- the map of the image, and nothing else, was handed to an output that held `old` and holds `new`
+-- the map of the image, and nothing else, was passed to an output that held `old` and holds `new`
 pub record IsMapPrinted {W : Type 0} (contents : W → Option (List ℕ)) (image : List ℕ) (old new : W)
     (found : Option Fault) : Type 0 where
   pub layout : Layout
   pub judged : IsDrawnAndJudged image layout found
   pub printed : Appends (contents old) (contents new) (map_text found (map_in image) layout)
 
--- the picture of the image, and nothing else, was handed to an output that held `old` and holds `new`
+-- the picture of the image, and nothing else, was passed to an output that held `old` and holds `new`
 pub record IsPicturePrinted {W : Type 0} (contents : W → Option (List ℕ)) (image : List ℕ) (old new : W)
     (found : Option Fault) : Type 0 where
   pub layout : Layout
   pub judged : IsDrawnAndJudged image layout found
   pub printed : Appends (contents old) (contents new) (picture_page found (map_in image) layout)
 
--- the poster of the image, and nothing else, was handed to an output that held `old` and holds `new`
+-- the poster of the image, and nothing else, was passed to an output that held `old` and holds `new`
 pub record IsPosterPrinted {W : Type 0} (contents : W → Option (List ℕ)) (image : List ℕ) (old new : W)
     (found : Option Fault) : Type 0 where
   pub layout : Layout
@@ -63,7 +63,7 @@ pub record IsPosterPrinted {W : Type 0} (contents : W → Option (List ℕ)) (im
 abbrev pub IsDrawable : List ℕ → Type 0
 IsDrawable image = (l : Layout) × (found : Option Fault) × IsDrawnAndJudged image l found
 
--- why an image isn't drawn; where the output failed, it could be
+-- why an image isn't drawn; if the output failed, it could be drawn
 abbrev pub IsPictureFault : List ℕ → PictureFault → Type 0
 IsPictureFault image faults.ImageSize = length image ≢ 174848
 IsPictureFault image faults.NoMemory = length image ≡ 174848

@@ -42,7 +42,7 @@ ring_text r p =
     ++ (decimal r ++ (codes "\" stroke-dashoffset=\"-" ++ (decimal (p.sector * arc r (sectors_on p.track)) ++ codes
     "\"")))
 
--- the same on the sector's own track, whose dash is among `dashes`
+-- the ring on the sector's own track, whose dash is among `dashes`
 abbrev pub ring_of : Place → List ℕ
 ring_of p = ring_text (radius p.track) p
 
@@ -91,12 +91,12 @@ abbrev pub is_nobody : Owner → Bool
 is_nobody owner.Nobody = true
 is_nobody o = false
 
--- a sector of an entry is drawn with it where it is drawn as the entry's
+-- a sector of an entry is drawn with it if it is drawn as the entry's
 abbrev pub own_block : Show → Layout → ℕ → File → ℕ → Place → List ℕ
 own_block show l k f n p = if is_blocks k (owner_of l p) then block_arc show (name_of f.slot) (n + 1) (length f.blocks)
     p else []
 
--- the same of a side sector
+-- a side sector of an entry is drawn with it if it is drawn as the entry's
 abbrev pub own_side : Show → Layout → ℕ → File → ℕ → Place → List ℕ
 own_side show l k f n p = if is_sides k (owner_of l p) then side_arc show (name_of f.slot) n p else []
 
@@ -173,7 +173,7 @@ fault_sector f =
     ++ (codes "</title></circle>\n" ++ (ring_of (place_of f) ++ (codes " class=\"fault\"><title>" ++ (fault_text f
     ++ (codes "</title></circle>\n" ++ (rim_mark (place_of f) ++ codes "</g>\n")))))))))
 
--- where one was told
+-- if one was found
 abbrev pub fault_group : Option Fault → List ℕ
 fault_group None = []
 fault_group (Some f) = fault_sector f
@@ -188,7 +188,7 @@ unfoldable pub dashes : List ℕ
 dashes = codes
     "[r=\"34600\"]{stroke-dasharray:10152 300000}[r=\"33800\"]{stroke-dasharray:9912 300000}[r=\"33000\"]{stroke-dasharray:9673 300000}[r=\"32200\"]{stroke-dasharray:9434 300000}[r=\"31400\"]{stroke-dasharray:9194 300000}[r=\"30600\"]{stroke-dasharray:8955 300000}[r=\"29800\"]{stroke-dasharray:8716 300000}[r=\"29000\"]{stroke-dasharray:8476 300000}[r=\"28200\"]{stroke-dasharray:8237 300000}[r=\"27400\"]{stroke-dasharray:7998 300000}[r=\"26600\"]{stroke-dasharray:7758 300000}[r=\"25800\"]{stroke-dasharray:7519 300000}[r=\"25000\"]{stroke-dasharray:7279 300000}[r=\"24200\"]{stroke-dasharray:7040 300000}[r=\"23400\"]{stroke-dasharray:6801 300000}[r=\"22600\"]{stroke-dasharray:6561 300000}[r=\"21800\"]{stroke-dasharray:6322 300000}[r=\"21000\"]{stroke-dasharray:6744 300000}[r=\"20200\"]{stroke-dasharray:6480 300000}[r=\"19400\"]{stroke-dasharray:6215 300000}[r=\"18600\"]{stroke-dasharray:5950 300000}[r=\"17800\"]{stroke-dasharray:5686 300000}[r=\"17000\"]{stroke-dasharray:5421 300000}[r=\"16200\"]{stroke-dasharray:5157 300000}[r=\"15400\"]{stroke-dasharray:5175 300000}[r=\"14600\"]{stroke-dasharray:4896 300000}[r=\"13800\"]{stroke-dasharray:4617 300000}[r=\"13000\"]{stroke-dasharray:4337 300000}[r=\"12200\"]{stroke-dasharray:4058 300000}[r=\"11400\"]{stroke-dasharray:3779 300000}[r=\"10600\"]{stroke-dasharray:3717 300000}[r=\"9800\"]{stroke-dasharray:3422 300000}[r=\"9000\"]{stroke-dasharray:3126 300000}[r=\"8200\"]{stroke-dasharray:2830 300000}[r=\"7400\"]{stroke-dasharray:2535 300000}.w3 [r=\"34600\"]{stroke-dasharray:0 2538 5076 300000}.w3 [r=\"33800\"]{stroke-dasharray:0 2478 4956 300000}.w3 [r=\"33000\"]{stroke-dasharray:0 2418 4836 300000}.w3 [r=\"32200\"]{stroke-dasharray:0 2358 4717 300000}.w3 [r=\"31400\"]{stroke-dasharray:0 2298 4597 300000}.w3 [r=\"30600\"]{stroke-dasharray:0 2238 4477 300000}.w3 [r=\"29800\"]{stroke-dasharray:0 2179 4358 300000}.w3 [r=\"29000\"]{stroke-dasharray:0 2119 4238 300000}.w3 [r=\"28200\"]{stroke-dasharray:0 2059 4118 300000}.w3 [r=\"27400\"]{stroke-dasharray:0 1999 3999 300000}.w3 [r=\"26600\"]{stroke-dasharray:0 1939 3879 300000}.w3 [r=\"25800\"]{stroke-dasharray:0 1879 3759 300000}.w3 [r=\"25000\"]{stroke-dasharray:0 1819 3639 300000}.w3 [r=\"24200\"]{stroke-dasharray:0 1760 3520 300000}.w3 [r=\"23400\"]{stroke-dasharray:0 1700 3400 300000}.w3 [r=\"22600\"]{stroke-dasharray:0 1640 3280 300000}.w3 [r=\"21800\"]{stroke-dasharray:0 1580 3161 300000}.w3 [r=\"21000\"]{stroke-dasharray:0 1686 3372 300000}.w3 [r=\"20200\"]{stroke-dasharray:0 1620 3240 300000}.w3 [r=\"19400\"]{stroke-dasharray:0 1553 3107 300000}.w3 [r=\"18600\"]{stroke-dasharray:0 1487 2975 300000}.w3 [r=\"17800\"]{stroke-dasharray:0 1421 2843 300000}.w3 [r=\"17000\"]{stroke-dasharray:0 1355 2710 300000}.w3 [r=\"16200\"]{stroke-dasharray:0 1289 2578 300000}.w3 [r=\"15400\"]{stroke-dasharray:0 1293 2587 300000}.w3 [r=\"14600\"]{stroke-dasharray:0 1224 2448 300000}.w3 [r=\"13800\"]{stroke-dasharray:0 1154 2308 300000}.w3 [r=\"13000\"]{stroke-dasharray:0 1084 2168 300000}.w3 [r=\"12200\"]{stroke-dasharray:0 1014 2029 300000}.w3 [r=\"11400\"]{stroke-dasharray:0 944 1889 300000}.w3 [r=\"10600\"]{stroke-dasharray:0 929 1858 300000}.w3 [r=\"9800\"]{stroke-dasharray:0 855 1711 300000}.w3 [r=\"9000\"]{stroke-dasharray:0 781 1563 300000}.w3 [r=\"8200\"]{stroke-dasharray:0 707 1415 300000}.w3 [r=\"7400\"]{stroke-dasharray:0 633 1267 300000}"
 
--- how what a check told is styled
+-- how the result of a check is styled
 abbrev pub verdict_class : Option Fault → List ℕ
 verdict_class None = codes "good"
 verdict_class (Some f) = codes "bad"
@@ -201,8 +201,8 @@ title_text show signs map =
     ++ (style ++ (dashes ++ (codes "</style>\n<h1>" ++ (show (disk_name map) ++ (codes "<bdi>" ++ (signs (disk_name map)
     ++ codes "</bdi></h1>\n<p>1541 disk, id "))))))))
 
--- what follows: id and version; the verdict and what it says, the number of files, and free blocks as the map counts
--- them; and the beginning of the drawing, with the disk's name in the middle
+-- what follows: id and version; the verdict and what it says; the number of files, and free blocks as the map counts
+-- them. Then the beginning of the drawing, with the disk's name in the middle
 unfoldable pub told_text : Show → Option Fault → Sector → Layout → List ℕ
 told_text show v map l =
     show (slice_range map 162 164)
@@ -217,7 +217,7 @@ unfoldable pub legend_text : List ℕ
 legend_text = codes
     "</g>\n<g class=\"n\">\n<text y=\"-34220\">1</text>\n<text y=\"-31020\">5</text>\n<text y=\"-27020\">10</text>\n<text y=\"-23020\">15</text>\n<text y=\"-20620\">18</text>\n<text y=\"-19020\">20</text>\n<text y=\"-15020\">25</text>\n<text y=\"-11020\">30</text>\n<text y=\"-7020\">35</text>\n<path d=\"M300-36250h3000l-600-250m600 250l-600 250\"/>\n</g>\n</svg>\n<div>\n<ul>\n<li class=\"map\"><i></i>map of free sectors</li>\n<li class=\"dir\"><i></i>directory</li>\n<li class=\"free\"><i></i>free</li>\n<li class=\"lost\"><i></i>taken in the map, in no file</li>\n<li class=\"side\"><i></i>side sector, in another shade of its file (right)</li>\n<li class=\"open\"><i></i>in use, but free in the map</li>\n<li class=\"fault\"><i></i>the fault, with a mark at the rim</li>\n</ul>\n<table>\n<tr><th></th><th>blocks</th><th>name</th><th>type</th><th>length</th><th>records</th></tr>\n"
 
--- record length and number of records in two cells, where they are told
+-- record length and number of records in two cells, if they are printed
 abbrev pub cells_text : File → List ℕ
 cells_text f =
     if has_records f then decimal (record_length f.slot) ++ (codes "</td><td>" ++ decimal (records_in f))

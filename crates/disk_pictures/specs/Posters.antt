@@ -27,8 +27,8 @@ poster_head show signs map =
     ++ (codes "</text>\n<text class=\"told\" x=\"148.5\" y=\"33\"><tspan>" ++ (signs (disk_name map)
     ++ codes "</tspan> 1541 disk, id "))))))))
 
--- what follows: id and version, what a check told as a sentence, and the beginning of the drawing, with the disk's name in
--- the middle
+-- what follows: id and version, the result of a check as a sentence, and the beginning of the drawing, with the disk's
+-- name in the middle
 unfoldable pub poster_told : Show → Option Fault → Sector → Layout → List ℕ
 poster_told show v map l =
     show (slice_range map 162 164) ++ (codes " " ++ (show (slice_range map 165 167)

@@ -14,7 +14,7 @@ use Rattle.disk_pictures.specs.Pictures.{block_arc, directory_arc, each_place, f
 use Rattle.disk_pictures.specs.Pictures.{is_blocks, is_nobody, is_sides, lost_arc, map_arc, open_group, side_arc}
 use Rattle.disk_pictures.specs.Texts.{is_free, numbered}
 
--- how a sector's arc is written, from the sector and its text, and how all else
+-- how a sector's arc is written, from the sector and its text, and how everything between arcs is
 pub record Pen : Type 0 where
   pub sector : Place → List ℕ → List ℕ
   pub rest : List ℕ → List ℕ
@@ -50,7 +50,7 @@ drawing_by pen show v map l =
 abbrev pub as_printed : Pen
 as_printed = record { sector = λ p arc. arc; rest = λ text. text }
 
--- of each arc the number of its sector alone, from 0, and nothing of all else
+-- for each arc only the number of its sector, from 0, and nothing for what is between arcs
 abbrev pub by_number : Pen
 by_number = record { sector = λ p arc. index_of p ∷ []; rest = λ text. [] }
 

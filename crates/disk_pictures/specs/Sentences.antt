@@ -16,7 +16,7 @@ use Rattle.disk_pictures.specs.Texts.{place_of}
 use Rattle.disk_pictures.specs.declared.owners.Owner.{Owner}
 use Rattle.disk_pictures.specs.declared.owners.Owner.TheVariants as owner
 
--- the owner alone, if it has the sector
+-- only the owner, if it has the sector
 abbrev pub own_if : Bool → Owner → List Owner
 own_if b o = if b then o ∷ [] else []
 

@@ -14,8 +14,8 @@ use Rattle.disk_pictures.specs.Texts.{each_below, is_fault_at, is_free, verdict_
 use Rattle.disk_pictures.specs.declared.owners.Owner.{Owner}
 use Rattle.disk_pictures.specs.declared.owners.Owner.TheVariants as owner
 
--- the shade of a sector, 0 to 28: 1 the map's, 2 the directory's, 3 free, 4 taken and of nobody; 5 to 16 a block of an
--- entry, 17 to 28 a side sector, by the entry's number
+-- the shade of a sector, 0 to 28: 1 the map's, 2 the directory's, 3 free, 4 taken and nobody's. A block of an entry has 5
+-- to 16 and a side sector 17 to 28, by the entry's number
 abbrev pub owner_shade : Sector → Place → Owner → ℕ
 owner_shade map p owner.Map = 1
 owner_shade map p owner.Directory = 2
@@ -23,7 +23,7 @@ owner_shade map p (owner.Blocks k) = 5 + k % 12
 owner_shade map p (owner.Sides k) = 17 + k % 12
 owner_shade map p owner.Nobody = if is_free map p then 3 else 4
 
--- and 0 where the fault is
+-- and 0 for the sector of the fault
 abbrev pub shade : Option Fault → Sector → Layout → Place → ℕ
 shade v map l p = if is_fault_at v p then 0 else owner_shade map p (owner_of l p)
 
@@ -51,8 +51,8 @@ small_drawing v map l = each_below 29 (shade_path v map l)
 unfoldable pub tile_head : Option Fault → List ℕ
 tile_head v = codes "<figure class=\"" ++ (verdict_class v ++ codes "\"><svg viewBox=\"0 -1 37 23\" aria-hidden=\"true\">")
 
--- what is told of it: its path, its name, as it is typed and as a C64 shows it, what a check told, and how many blocks
--- the map calls free
+-- what is printed of it: its path; its name, as it is typed and as a C64 shows it; what a check reports; and how many
+-- blocks the map calls free
 unfoldable pub caption : Show → Show → List ℕ → Option Fault → Sector → List ℕ
 caption show signs path v map =
     codes "</svg><figcaption><code>" ++ (show path ++ (codes "</code> <span>" ++ (show (disk_name map)
@@ -67,7 +67,7 @@ tile_text show signs path v map l = tile_head v ++ (small_drawing v map l ++ cap
 unfoldable pub refused_head : Show → List ℕ → List ℕ
 refused_head show path = codes "<figure class=\"bad\"><figcaption><code>" ++ (show path ++ codes "</code> <b>")
 
--- the tile of an image that isn't drawn, with what is told of it
+-- the tile of an image that isn't drawn, with the reason that is printed
 unfoldable pub refused_tile : Show → List ℕ → List ℕ → List ℕ
 refused_tile show path told = refused_head show path ++ (told ++ codes "</b></figcaption></figure>\n")
 

@@ -17,7 +17,7 @@ unfoldable pub each_below : ℕ → (ℕ → List ℕ) → List ℕ
 each_below zero line = []
 each_below (suc n) line = each_below n line ++ line n
 
--- one of 0, 1 and so on below n is so
+-- one of 0, 1 and so on below n passes the test
 unfoldable pub any_below : ℕ → (ℕ → Bool) → Bool
 any_below zero test = false
 any_below (suc n) test = any_below n test || test n
@@ -27,12 +27,12 @@ unfoldable pub numbered : {X : Type 0} → (ℕ → X → List ℕ) → ℕ → 
 numbered line k [] = []
 numbered line k (x ∷ xs) = line k x ++ numbered line (k + 1) xs
 
--- the line of a place, where there is one
+-- the line of a place, if there is one
 abbrev pub at_place : (Place → List ℕ) → Option Place → List ℕ
 at_place line None = []
 at_place line (Some p) = line p
 
--- the place is so, where there is one
+-- the place is so, if there is one
 abbrev pub is_at_place : (Place → Bool) → Option Place → Bool
 is_at_place test None = false
 is_at_place test (Some p) = test p
@@ -54,12 +54,12 @@ place_of (fault.CountWrong p) = p
 place_of (fault.MapWrong p) = p
 place_of (fault.Device p) = p
 
--- the fault that was told is at this place
+-- the fault that was found is at this place
 abbrev pub is_fault_at : Option Fault → Place → Bool
 is_fault_at None p = false
 is_fault_at (Some f) p = is_place (place_of f) p
 
--- what a check told: OK where nothing is wrong
+-- the result of a check: OK if nothing is wrong
 abbrev pub verdict_text : Option Fault → List ℕ
 verdict_text None = codes "OK"
 verdict_text (Some f) = fault_text f
@@ -74,14 +74,14 @@ type_name kind =
     else (if nat_eq kind 4 then codes "REL"
     else codes "???"))))
 
--- a type: a star stands before it where the file isn't closed, and this mark behind it where it is locked
+-- a type: a star stands before it if the file isn't closed, and this mark after it if it is locked
 abbrev pub type_text : List ℕ → ℕ → List ℕ
 type_text mark byte =
     (if nat_lt byte 128 then codes "*" else [])
     ++ (type_name (byte % 64)
     ++ (if nat_eq (bit_at byte 6) 1 then mark else []))
 
--- record length and records are told: of a relative entry that has both a length and a block
+-- record length and records are printed: the entry is relative and has both a length and a block
 abbrev pub has_records : File → Bool
 has_records f = is_rel f.slot && (not (nat_eq (length f.blocks) 0) && not (nat_eq (record_length f.slot) 0))
 

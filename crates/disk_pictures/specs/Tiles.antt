@@ -11,12 +11,12 @@ use Rattle.disk_pictures.specs.Sheets.{refused_tile, tile_text}
 use Rattle.disk_pictures.specs.declared.faults.PictureFault.{PictureFault}
 use Rattle.disk_pictures.specs.declared.faults.PictureFault.TheVariants as faults
 
--- the exit status of a disk of which a check told this
+-- the exit status for this result of a check
 abbrev pub found_status : Option Fault → ℕ
 found_status None = 0
 found_status (Some fault) = 1
 
--- the image has a directory, and its tile, and nothing else, was handed to an output that held `old` and holds `new`
+-- the image has a directory, and its tile, and nothing else, was passed to an output that held `old` and holds `new`
 pub record IsDrawnTile {W : Type 0} (contents : W → Option (List ℕ)) (path image : List ℕ) (old new : W) (status : ℕ) :
     Type 0 where
   pub layout : Layout
@@ -25,7 +25,7 @@ pub record IsDrawnTile {W : Type 0} (contents : W → Option (List ℕ)) (path i
   pub printed : Appends (contents old) (contents new) (tile_text html_of petscii_of path found (map_in image) layout)
   pub status_is : status ≡ found_status found
 
--- the image can't be drawn, for a reason that holds, and its tile, which tells that, was handed to the output
+-- the image can't be drawn, for a reason that holds, and its tile, which has that reason, was passed to the output
 pub record IsFaultTile {W : Type 0} (contents : W → Option (List ℕ)) (path image : List ℕ) (old new : W) (status : ℕ) :
     Type 0 where
   pub fault : PictureFault
@@ -34,7 +34,7 @@ pub record IsFaultTile {W : Type 0} (contents : W → Option (List ℕ)) (path i
   pub printed : Appends (contents old) (contents new) (refused_tile html_of path (picture_text fault))
   pub status_is : status ≡ picture_status fault
 
--- the tile of an image was printed, with the exit status that its picture alone would have
+-- the tile of an image was printed, with the exit status that `picture` has for this image
 abbrev pub IsTilePrinted : {W : Type 0} → (W → Option (List ℕ)) → List ℕ → List ℕ → W → W → ℕ → Type 0
 IsTilePrinted contents path image old new status =
     IsDrawnTile contents path image old new status ⊎ IsFaultTile contents path image old new status

@@ -1,4 +1,5 @@
--- What is printed of an image that may have more tracks, or error bytes. Our own, but the error bytes (the D64 layout).
+-- What is printed of an image that may have more tracks, or error bytes. Our own, except the error bytes (the D64
+-- layout).
 use Rattle.std.specs.Prelude.{◌≡◌, ◌⊎◌, ◌↔◌, ℕ, ◌+◌, ◌-◌, ◌*◌, ◌&&◌, Bool, false, IsTrue, List, [], ◌++◌, None, Option, Some}
 use Rattle.std.specs.Prelude.{codes, decimal, flat_map, if◌then◌else◌, length, nat_eq, nat_le, slice_get, slice_index, take}
 use Rattle.std.specs.Io.KnownBytes.{Appends}
@@ -46,11 +47,11 @@ past_from image s i (Some p) = if is_past (slice_index image (256 * index_of p))
 abbrev pub end_of : List Place → Option Place
 end_of ps = slice_get ps (length ps - 1)
 
--- where the blocks of what is drawn of an entry do, and where its side sectors do
+-- where the blocks of what is drawn of an entry go on past track 35
 abbrev pub blocks_past : List ℕ → File → Option Place
 blocks_past image f = past_from image f.slot 3 (end_of f.blocks)
 
--- the same of its side sectors
+-- where its side sectors do
 abbrev pub sides_past : List ℕ → File → Option Place
 sides_past image f = if is_rel f.slot then past_from image f.slot 21 (end_of f.sides) else None
 
@@ -64,7 +65,7 @@ past_line s (Some p) =
 abbrev pub file_text : List ℕ → File → List ℕ
 file_text image f = past_line f.slot (blocks_past image f) ++ past_line f.slot (sides_past image f)
 
--- what is told of an image with this drawn: its sectors that weren't read, and its files that go on past track 35
+-- what is printed of an image with this drawn: its sectors that weren't read, and its files that go on past track 35
 unfoldable pub trim_text : List ℕ → Layout → List ℕ
 trim_text image l = errors_text image ++ flat_map (file_text image) l.files
 
@@ -80,12 +81,12 @@ IsFileWhole image f = (blocks_past image f ≡ None) × (sides_past image f ≡ 
 abbrev pub AreFilesWhole : List ℕ → List File → Type 0
 AreFilesWhole image fs = (k : ℕ) (f : File) → slice_get fs k ≡ Some f → IsFileWhole image f
 
--- all that the image tells of its sectors and files is there
+-- everything that the image says of its sectors and files is there
 pub record IsAllThere (image : List ℕ) (l : Layout) : Type 0 where
   pub read : (p : Place) → error_of image p ≡ None
   pub files : AreFilesWhole image l.files
 
--- what was told: the sectors and files, or why the directory can't be read
+-- what was printed: the sectors and files, or why the directory can't be read
 abbrev pub IsTrimTold : {E : Type 0} → (E → Option (List ℕ)) → List ℕ → E → E → Bool → Type 0
 IsTrimTold told image err new_err whole =
     ((l : Layout) × IsDrawn (sectors_in (take 174848 image)) l
@@ -93,7 +94,7 @@ IsTrimTold told image err new_err whole =
     ⊎ ((fault : Fault) × HoldsOfDirectory nowhere (sectors_in (take 174848 image)) fault
     × Appends (told err) (told new_err) (errors_text image ++ layout_line fault) × (whole ≡ false))
 
--- tracks 1 to 35 of the image were printed, and what isn't there was told
+-- tracks 1 to 35 of the image were printed, and what isn't there was listed
 pub record IsTrimmed {W E : Type 0} (contents : W → Option (List ℕ)) (told : E → Option (List ℕ)) (image : List ℕ)
     (old new : W) (err new_err : E) (whole : Bool) : Type 0 where
   pub size : IsImageSize (length image)

@@ -1,4 +1,4 @@
--- What is printed of a disk that isn't judged: its free blocks, and a sector with its owner. Our own.
+-- What is printed of a disk that isn't checked: its free blocks, and a sector with its owner. Our own.
 use Rattle.std.specs.Prelude.{◌≡◌, ◌≢◌, ◌⊎◌, Bool, ℕ, ◌+◌, ◌*◌, ◌/◌, ◌%◌, List, [], ◌∷◌, ◌++◌, None, Option, Some, codes, decimal}
 use Rattle.std.specs.Prelude.{flat_map, if◌then◌else◌, length, nat_eq, slice_get, slice_index, slice_range}
 use Rattle.std.specs.Char.{encode_utf8}
@@ -58,7 +58,7 @@ bytes_line n bytes =
 unfoldable pub bytes_text : Sector → List ℕ
 bytes_text bytes = each_below 16 (λ n. bytes_line n (slice_range bytes (16 * n) (16 * n + 16)))
 
--- the line of an entry, where there is one
+-- the line of an entry, if there is one
 abbrev pub line_if : Bool → ℕ → Option File → List ℕ
 line_if wide k None = codes "\n"
 line_if wide k (Some f) = entry_line wide k f

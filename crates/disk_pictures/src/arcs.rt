@@ -17,7 +17,7 @@ use std::fmt::{self, Display, Formatter};
 /// The radius of the mark at the rim.
 const RIM: u16 = 35_700;
 
-/// How many sectors a track has, and 0 where there is no such track.
+/// How many sectors a track has; 0 if there is no such track.
 fn sectors(track: u8) -> u8
     ensures { result ≡ sectors_on track }
 {
@@ -110,7 +110,7 @@ pub(crate) struct PlainArc {
     pub place: Place,
     /// The class of its circle.
     pub class: &'static str,
-    /// Whose it is, as it is told.
+    /// Whose it is, as it is printed.
     pub owner: &'static str,
 }
 

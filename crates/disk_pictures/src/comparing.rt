@@ -74,13 +74,14 @@ fn put_comparison<W: Write>(
     flush(out)
 }
 
-/// Prints two disks, before and after, as one HTML page: the drawing of the second one as `picture_image` has it, a mark on
-/// each sector in which they differ, with what the first one is and how many sectors differ, and a row for each file that
-/// changed. An entry has its counterpart in the other disk's entry of the same name that has as many of that name before it.
-/// A file without one is `new`, or `gone`; another is `changed` if its entry or one of its sectors differs, and if both are
-/// relative files with records of one length, the numbers of the records that differ follow, from 1. The page has no script and
-/// loads nothing, and names of the disks stand in it as text alone. What a check of the second disk reports is returned. A
-/// disk that is damaged is drawn and compared as far as its links go.
+/// Prints two disks, before and after, as one HTML page: the drawing of the second one as `picture_image` has it, with a
+/// mark on each sector in which they differ. It says what the first one is and how many sectors differ, and has a row for
+/// each file that changed. The page has no script and loads nothing, and names of the disks stand in it only as text. The
+/// result is what a check of the second disk reports. A damaged disk is drawn and compared as far as its links go.
+///
+/// An entry's counterpart is the other disk's entry of its name that has as many entries of that name before it. A file
+/// without one is `new`, or `gone`. Another file is `changed` if its entry or one of its sectors differs. If both are
+/// relative files with records of one length, the numbers of the records that differ follow, from 1.
 ///
 /// `ImageSize`; `NoMemory`; `Layout` if the directory's sectors aren't a chain on track 18, of either image: nothing was
 /// printed then. `File` if the output failed, which may then have a part.

@@ -10,8 +10,8 @@ ghost use Rattle.disk_pictures.specs.Markup.{markup_of};
 ghost use Rattle.disk_pictures.specs.Sectors.{times};
 
 /// The sectors that a comparison marks are those in which the two disks differ, each once, and no other. A disk compared
-/// with itself has no mark and no row. And bytes of the disks bring no markup into the page: its markup is that of the one in
-/// which none of them is shown.
+/// with itself has no mark and no row. Bytes of the disks bring no markup into the page: its markup is that of the page
+/// that shows none of them.
 pub fn comparisons_show_what_differs()
     ensures marked { (a b : Image) (p : Place) → sector a p ≢ sector b p
         → times (index_of p) (each_difference number_of a b) ≡ 1 }

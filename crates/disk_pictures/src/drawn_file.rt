@@ -11,7 +11,7 @@ pub(crate) struct DrawnFile {
     pub(crate) slot: Slot,
     /// The blocks that its links come to, in order and each once.
     pub(crate) blocks: Vec<Place>,
-    /// The index of the last used byte in the last block, and 0 where no block ends the chain.
+    /// The index of the last used byte in the last block; 0 if no block ends the chain.
     pub(crate) last: u8,
     /// The side sectors of a relative entry, in order: no more than its blocks need.
     pub(crate) sides: Vec<Place>,

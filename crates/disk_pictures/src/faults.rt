@@ -6,7 +6,7 @@ use disk_layout::Fault;
 use std::error::Error;
 use std::fmt::{self, Display, Formatter};
 
-/// Why a disk isn't drawn, as it is told on standard error.
+/// Why a disk isn't drawn, as it is reported on standard error.
 #[derive(Clone, Copy, Debug, PartialEq, Eq)]
 pub enum PictureFault {
     /// The image hasn't the 174,848 bytes of a disk of 35 tracks.

@@ -27,8 +27,8 @@ pub(crate) fn list_of(alloc: Global, places: &[Place]) -> Result<Vec<Place>, Pic
     }
 }
 
-/// Fills `places` with the sectors that the links come to from `first`, and answers the last index, as `walk_as_far`
-/// does; with none where there is no first one. A disk in memory gives every sector.
+/// Fills `places` with the sectors that the links come to from `first`, and returns the last index, as `walk_as_far`
+/// does. If there is no first one, there are none. A disk in memory gives every sector.
 pub(crate) fn walk(disk: &mut MemDisk, first: Option<Place>, places: &mut Places) -> u8
     ensures ok { MatchOption first ((places.new.items ≡ []) × (result ≡ 0))
         (λ place. IsWalk (disk_image disk.old) place places.new.items result) }
@@ -67,7 +67,7 @@ fn draw_sides(
     list_of(alloc, &found[..needed.min(found.len())])
 }
 
-/// What is drawn of an entry, with room for the sectors of a walk. `NoMemory` alone is told.
+/// What is drawn of an entry, with room for the sectors of a walk. The only fault is `NoMemory`.
 pub(crate) fn draw_file(
     alloc: Global,
     disk: &mut MemDisk,

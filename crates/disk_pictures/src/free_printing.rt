@@ -73,11 +73,11 @@ fn put_free<W: Write>(out: &mut W, map: &[u8; 256]) -> Result<(), PictureFault>
     flush(out)
 }
 
-/// Prints how many sectors of each track are free, as the map in 18/0 counts them, whether that is right or not: a line
-/// `TRACK n FREE k` for each of 35 tracks, and at last how many blocks are free for files, which track 18 doesn't count
-/// for. Nothing else of the image is judged.
+/// Prints how many sectors of each track are free, as the map in 18/0 counts them, whether that is right or not. There is
+/// a line `TRACK n FREE k` for each of the 35 tracks. The last line says how many blocks are free for files; track 18
+/// doesn't count for it. The rest of the image isn't checked.
 ///
-/// `ImageSize` and `NoMemory`: nothing was printed. `File` where the output failed, which may then have a part.
+/// `ImageSize` and `NoMemory`: nothing was printed. `File` if the output failed, which may then have a part.
 pub fn free_image<W: Write>(alloc: Global, image: &[u8], out: &mut W) -> Result<(), PictureFault>
     ensures ok { OnOk result (AreFreePrinted W.contents image.now out.old out.new) }
     ensures err { IfErr result (IsViewFault image.now) }

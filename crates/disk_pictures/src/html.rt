@@ -5,8 +5,8 @@ ghost use Rattle.disk_pictures.specs.Html.{html_byte, html_of, is_long as long, 
 use byte_text::Text;
 use std::fmt::{self, Display, Formatter};
 
-/// Bytes of the disk as they are shown in HTML: their text, with `&`, `<` and `>` escaped, or without escapes where
-/// that text would be long. Such a text has no quotation mark.
+/// Bytes of the disk as they are shown in HTML: their text, with `&`, `<` and `>` escaped, or without escapes if that
+/// text would be long. Such a text has no quotation mark.
 #[derive(Clone, Copy)]
 pub(crate) struct Html<'a>(pub &'a [u8]);
 

@@ -21,10 +21,10 @@ ghost use Rattle.disk_pictures.specs.TileSectors.{small_by};
 ghost use Rattle.disk_pictures.specs.declared.owners.Owner.{Owner};
 ghost use Rattle.disk_pictures.specs.declared.owners.Owner.TheVariants as kinds;
 
-/// Bytes of a disk have no quotation mark, no `<` and no `>` where they are shown in a page, as typed or as a C64 shows
-/// them, and each `&` of theirs begins an escape; a name of at most 16 bytes takes at most 48 as it is typed. So the markup of the page, the poster or the tile of an image,
-/// whatever its bytes are, is that of the one in which none of them is shown: names, id and version of a disk bring in nothing but
-/// text.
+/// Names, id and version of a disk bring nothing but text into a page, a poster or a tile. As they are shown there, typed
+/// or as a C64 shows them, bytes of a disk have no quotation mark, no `<` and no `>`, and each `&` of theirs begins an
+/// escape. A name of at most 16 bytes takes at most 48 as it is typed. So whatever the bytes of the image are, the markup
+/// is that of the page that shows none of them.
 pub fn names_bring_no_markup()
     ensures none { (bytes : List ℕ) → markup_of (html_of bytes) ≡ [] }
     ensures escaped { (bytes : List ℕ) → IsEscaped (html_of bytes) }
@@ -40,16 +40,16 @@ pub fn names_bring_no_markup()
         → markup_of (refused_tile html_of path told) ≡ markup_of (refused_tile (λ _. []) path told) }
 {}
 
-/// Of what is drawn of an image each sector of the disk has the one owner that it is drawn as, which has it; and
-/// neither the directory nor an entry's blocks nor its side sectors have a sector twice. A sector that is drawn as of
-/// nobody is in none of these.
+/// Each sector of the disk has one owner, as which it is drawn. In the drawing of an image that owner has it. Neither the
+/// directory nor an entry's blocks nor its side sectors have a sector twice. A sector that is drawn as nobody's is in
+/// none of these.
 pub fn sectors_are_drawn_once()
     ensures { (img : Image) (l : Layout) → IsDrawn img l → (p : Place) → IsDrawnOnce l p (owner_of l p) }
 {}
 
-/// The drawing of a page, of whatever image, has 683 sectors, each once: written with the number of its sector in place
-/// of each arc, and with nothing of all else, it has 683 numbers, and that of each sector once. With each arc and all
-/// else as they are it is the drawing that is printed.
+/// The drawing of a page has 683 sectors, each once, whatever the image is. To see that, the drawing is written once
+/// more, with the number of its sector for each arc and nothing for the rest. Then it has 683 numbers, and that of each
+/// sector once. With each arc and the rest as they are, it is the drawing that is printed.
 pub fn pages_have_683_sectors()
     ensures printed { (show : Show) (v : Option Fault) (map : Sector) (l : Layout)
         → drawing_by as_printed show v map l ≡ drawing_text show v map l }
@@ -59,9 +59,9 @@ pub fn pages_have_683_sectors()
         (p : Place) → times (index_of p) (drawing_by by_number show v map l) ≡ 1 }
 {}
 
-/// The small drawing of a tile has 683 sectors, each once: written with the number of its sector in place of each stroke, and
-/// with nothing of all else, it has 683 numbers, and that of each sector once. With each stroke and all else as they are it
-/// is the drawing that is printed.
+/// The small drawing of a tile has 683 sectors, each once. To see that, the drawing is written once more, with the number
+/// of its sector for each stroke and nothing for the rest. Then it has 683 numbers, and that of each sector once. With
+/// each stroke and the rest as they are, it is the drawing that is printed.
 pub fn tiles_have_683_sectors()
     ensures printed { (v : Option Fault) (map : Sector) (l : Layout)
         → small_by as_printed v map l ≡ small_drawing v map l }
@@ -70,9 +70,9 @@ pub fn tiles_have_683_sectors()
         → times (index_of p) (small_by by_number v map l) ≡ 1 }
 {}
 
-/// What is drawn of an image with a layout is that layout and nothing else: the directory's sectors, and of each entry
-/// its own blocks and side sectors, in order. No sector stands in it twice, and each sector of the disk is drawn with
-/// the owner that it has in the layout, or as of nobody where it has none.
+/// What is drawn of an image with a layout is exactly that layout: the directory's sectors, and of each entry its own
+/// blocks and side sectors, in order. No sector stands in it twice. Each sector of the disk is drawn with the owner that
+/// it has in the layout; if it has none, as nobody's.
 pub fn sound_disks_are_drawn_as_laid_out()
     ensures drawn { (img : Image) (l drawn : Layout) → IsLayout img l → IsDrawn img drawn → drawn ≡ l }
     ensures once { (img : Image) (l drawn : Layout) → IsLayout img l → IsDrawn img drawn
@@ -81,9 +81,9 @@ pub fn sound_disks_are_drawn_as_laid_out()
         → (p : Place) (o : Owner) → IsOwnedBy l p o → owner_of drawn p ≡ o }
 {}
 
-/// The marks of a map tell entries apart, on every disk: a directory has 144 entries at most. A sector of an entry has the
-/// mark of another sector exactly if the same entry has both, both as blocks or both as side sectors; and the line of the
-/// entry begins with the mark of its blocks. The sector of a fault has a mark of its own.
+/// The marks of a map distinguish entries, on every disk: a directory has 144 entries at most. Two sectors of entries
+/// have one mark exactly if they belong to one entry, both as blocks or both as side sectors. The line of the entry
+/// begins with the mark of its blocks. The sector of a fault has a mark of its own.
 pub fn marks_tell_entries_apart()
     ensures apart { (l : Layout) → length l.files ≤ 144 → (v : Option Fault) (map : Sector) (p q : Place)
         → IsFalse (is_fault_at v p) → IsFalse (is_fault_at v q) → IsEntrys (owner_of l p)

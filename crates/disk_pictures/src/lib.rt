@@ -1,4 +1,4 @@
-//! Pictures of a disk: which sector is whose, as a map for a terminal and as a page with a drawing. Hurt disks too.
+//! Pictures of a disk: which sector is whose, as a map for a terminal and as a page with a drawing. Damaged disks too.
 #![tactic(auto)]
 
 mod arcs;

@@ -35,7 +35,7 @@ pub(crate) fn is_wide(drawing: &Drawing) -> bool
     drawing.files.as_slice().len() > LETTERS
 }
 
-/// Record length and number of records, where they are told.
+/// Record length and number of records, if they are printed.
 #[derive(Clone, Copy)]
 struct RecordsText<'a>(&'a DrawnFile);
 
@@ -114,17 +114,17 @@ fn put_map<W: Write>(
     flush(out)
 }
 
-/// Prints which sector is whose, for a terminal: a line for each track, with a mark for each of its sectors; a line for
-/// each entry; and what a check of the disk tells, which is answered too. A disk that is hurt is drawn as far as its
-/// links go; of a sound one it is the map of its layout.
+/// Prints which sector is whose, for a terminal: a line for each track, with a mark for each of its sectors, and a line
+/// for each entry. At last stands what a check of the disk reports, which is also the result. A damaged disk is drawn as
+/// far as its links go. The map of a sound disk is that of its layout.
 ///
-/// `*` is the map, `=` the directory, a letter a block of the entry whose line begins with it, and the capital one of
-/// its side sectors; `.` is free, `?` taken in the map and of no entry, `!` where the fault is. With more than 26 entries
-/// a digit stands after each letter, the other marks are doubled, and a blank parts them: `a0` is the first entry, `a1`
-/// the 27th.
+/// `*` is the map, and `=` the directory. A letter is a block of the entry whose line begins with it, and the capital one
+/// of its side sectors. `.` is free, `?` is taken in the map and of no entry, and `!` is the sector of the fault. With
+/// more than 26 entries a digit stands after each letter, the other marks are doubled, and a blank parts them: `a0` is
+/// the first entry, `a1` the 27th.
 ///
-/// `ImageSize`; `NoMemory`; `Layout` where the directory's sectors aren't a chain on track 18: nothing was printed
-/// then. `File` where the output failed, which may then have a part.
+/// `ImageSize`; `NoMemory`; `Layout` if the directory's sectors aren't a chain on track 18: nothing was printed then.
+/// `File` if the output failed, which may then have a part.
 pub fn map_image<W: Write>(
     alloc: Global,
     image: &[u8],

@@ -24,7 +24,7 @@ const SECTORS: u8 = 21;
 /// What stands above the tracks: the numbers of the sectors.
 const HEAD: &str = "   0         1         2\n   012345678901234567890\n";
 
-/// The same above tracks with two characters for each sector.
+/// What stands above tracks with two characters for each sector.
 const WIDE_HEAD: &str = "   00 01 02 03 04 05 06 07 08 09 10 11 12 13 14 15 16 17 18 19 20\n";
 
 /// Prints the line of a track, with the marks of the sectors that it has.

@@ -25,7 +25,7 @@ pub(crate) const SECTORS: u8 = 21;
 /// The end of a group.
 pub(crate) const GROUP_END: &str = "</g>\n";
 
-/// Prints a sector, where it is of nobody.
+/// Prints a sector, if it is nobody's.
 fn put_other<W: Write>(out: &mut W, drawing: &Drawing, place: Place) -> Result<(), PictureFault>
     ensures ok { OnOk result (Appends (W.contents out.old) (W.contents out.new)
         (other_arc drawing.now.map (drawn_in drawing.now) place)) }

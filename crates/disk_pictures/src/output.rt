@@ -7,7 +7,7 @@ use crate::faults::PictureFault;
 use std::fmt::Display;
 use std::io::Write;
 
-/// Hands this text to the writer. `File` where it failed.
+/// Passes this text to the writer. `File` if it failed.
 pub(crate) fn put<W: Write, T: Display + Drop>(out: &mut W, text: T) -> Result<(), PictureFault>
     ensures ok { OnOk result (IfSome (T.output text)
         (λ text. Appends (W.contents out.old) (W.contents out.new) text)) }
@@ -19,7 +19,7 @@ pub(crate) fn put<W: Write, T: Display + Drop>(out: &mut W, text: T) -> Result<(
     Ok(())
 }
 
-/// Hands on what the writer still holds back. `File` where it failed.
+/// Flushes the writer. `File` if it failed.
 pub(crate) fn flush<W: Write>(out: &mut W) -> Result<(), PictureFault>
     ensures kept { Keeps (W.contents out.old) (W.contents out.new) }
     ensures err { IfErr result (λ fault. fault ≡ faults.File) }

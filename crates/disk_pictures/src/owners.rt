@@ -5,8 +5,8 @@ use crate::drawn_file::DrawnFile;
 use d64_image::Place;
 use disk_layout::map_place;
 
-/// Whose a sector is: of several that have it the first in the order of these, and of several entries the first in the
-/// directory, by its blocks before its side sectors.
+/// Whose a sector is. If several have it, it is the first one's, in the order of these. If several entries have it, it is
+/// that of the first one in the directory, and its block before its side sector.
 #[derive(Clone, Copy)]
 pub(crate) enum Owner {
     /// The map: 18/0.
@@ -21,7 +21,7 @@ pub(crate) enum Owner {
     Nobody,
 }
 
-/// An owner for each place of the disk, so that asking takes the same time for each.
+/// An owner for each place of the disk, so that each is found in equal time.
 #[derive(Drop)]
 pub(crate) struct Owners {
     owners: [Owner; 683],

@@ -1,4 +1,4 @@
-//! What stands round the drawing on a picture's page.
+//! What stands around the drawing on a picture's page.
 ghost use Rattle.std.specs.Prelude.{◌≡◌, Some};
 ghost use Rattle.disk_pictures.specs.Drawings.{file_in};
 ghost use Rattle.disk_pictures.specs.Held.{drawn_in};
@@ -125,7 +125,7 @@ pub(crate) const END: &str = "</table>\n<p class=\"all\"><a href=\"#all\">Show a
     <p class=\"hint\">Point at a sector for its place, file and block. Click a name to see its file alone.</p>\n\
     </div>\n</main>\n";
 
-/// How what a check told is styled.
+/// How the result of a check is styled.
 pub(crate) fn class_of(found: Option<Fault>) -> &'static str
     ensures { result.now ≡ verdict_class found }
 {
@@ -154,7 +154,7 @@ impl Display for Title<'_> {
     }
 }
 
-/// What follows it, from what is drawn and what a check told, up to the first group of sectors.
+/// What follows it, from what is drawn and the result of a check, up to the first group of sectors.
 #[derive(Clone, Copy)]
 pub(crate) struct Told<'a> {
     /// What is drawn.
@@ -189,7 +189,7 @@ impl Display for Told<'_> {
     }
 }
 
-/// Record length and number of records in two cells, where they are told.
+/// Record length and number of records in two cells, if they are printed.
 #[derive(Clone, Copy)]
 struct Cells<'a>(&'a DrawnFile);
 

@@ -17,7 +17,7 @@ use disk_layout::{EntryView, Slot};
 use std::fmt::{self, Display, Formatter};
 use std::io::Write;
 
-/// Whether a track is one of those that the 1541 can reach behind the 35 that it uses.
+/// Whether a track is one of those that the 1541 can reach after the 35 that it uses.
 fn is_past(track: u8) -> bool
     ensures { result ≡ past track }
 {
@@ -31,8 +31,8 @@ fn if_past(track: u8, place: Place) -> Option<Place>
     if is_past(track) { Some(place) } else { None }
 }
 
-/// Where a chain goes on past track 35: at `last`, its last sector in the image, or, if it has none, at its entry, whose
-/// byte of this index is to have the first track.
+/// Where a chain goes on past track 35: at `last`, its last sector in the image. If it has none, it is at its entry,
+/// whose byte of this index is to have the first track.
 fn chain_past(image: &[u8], slot: &Slot, at: usize, last: Option<Place>) -> Option<Place>
     requires size { 174848 ≤ length image.now }
     requires at { at < 32 }
@@ -44,7 +44,7 @@ fn chain_past(image: &[u8], slot: &Slot, at: usize, last: Option<Place>) -> Opti
     }
 }
 
-/// Where the blocks of a file do.
+/// Where the blocks of a file go on past track 35.
 fn blocks_past(image: &[u8], file: &DrawnFile) -> Option<Place>
     requires { 174848 ≤ length image.now }
     ensures { result ≡ blocks_past_of image.now (file_in file.now) }
@@ -52,7 +52,7 @@ fn blocks_past(image: &[u8], file: &DrawnFile) -> Option<Place>
     chain_past(image, &file.slot, 3, file.blocks.as_slice().last().copied())
 }
 
-/// Where the side sectors of a relative file do.
+/// Where the side sectors of a relative file go on past track 35.
 fn sides_past(image: &[u8], file: &DrawnFile) -> Option<Place>
     requires { 174848 ≤ length image.now }
     ensures { result ≡ sides_past_of image.now (file_in file.now) }

@@ -52,7 +52,7 @@ fn put_system<W: Write>(out: &mut W, drawing: &Drawing) -> Result<(), PictureFau
     put(out, GROUP_END)
 }
 
-/// Prints block `index` of an entry, where the sector is drawn as the entry's.
+/// Prints block `index` of an entry, if the sector is drawn as the entry's.
 fn put_block<W: Write>(
     out: &mut W,
     drawing: &Drawing,
@@ -98,7 +98,7 @@ fn put_blocks<W: Write>(
     Ok(())
 }
 
-/// Prints side sector `index` of an entry, where the sector is drawn as the entry's.
+/// Prints side sector `index` of an entry, if the sector is drawn as the entry's.
 fn put_side<W: Write>(
     out: &mut W,
     drawing: &Drawing,
@@ -197,7 +197,7 @@ fn put_rows<W: Write>(out: &mut W, files: &[DrawnFile]) -> Result<(), PictureFau
     Ok(())
 }
 
-/// Prints the group of the fault, where one was told.
+/// Prints the group of the fault, if one was found.
 fn put_fault<W: Write>(out: &mut W, found: Option<Fault>) -> Result<(), PictureFault>
     ensures ok { OnOk result (Appends (W.contents out.old) (W.contents out.new) (fault_group found)) }
     ensures err { IfErr result (λ fault. fault ≡ faults.File) }
@@ -244,14 +244,15 @@ fn put_page<W: Write>(
     flush(out)
 }
 
-/// Prints the disk as one HTML page with an SVG drawing: 35 rings, an arc for each sector, a colour and a width for each
-/// entry, its side sectors in another shade, the fault in red. If you point at a sector, it shows its place and its
-/// owner; a click on a name shows that entry alone. The page has no script and loads nothing, and names of the disk stand in it
-/// as text alone, as they are typed and as a C64 shows them. What a check of the disk tells stands in it, and is answered too. A disk that is hurt is drawn as far
-/// as its links go; of a sound one it is the page of its layout.
+/// Prints the disk as one HTML page with an SVG drawing: 35 rings, and an arc for each sector. Each entry has a colour
+/// and a width, its side sectors have another shade, and the fault is red. If you point at a sector, it shows its place
+/// and its owner. A click on a name shows only that entry. The page has no script and loads nothing. Names of the disk
+/// stand in it only as text, as they are typed and as a C64 shows them. What a check of the disk reports stands in it,
+/// and is also the result. A damaged disk is drawn as far as its links go. The page of a sound disk is that of its
+/// layout.
 ///
-/// `ImageSize`; `NoMemory`; `Layout` where the directory's sectors aren't a chain on track 18: nothing was printed
-/// then. `File` where the output failed, which may then have a part.
+/// `ImageSize`; `NoMemory`; `Layout` if the directory's sectors aren't a chain on track 18: nothing was printed then.
+/// `File` if the output failed, which may then have a part.
 pub fn picture_image<W: Write>(
     alloc: Global,
     image: &[u8],

@@ -1,4 +1,4 @@
-//! What stands round the drawing on a poster.
+//! What stands around the drawing on a poster.
 ghost use Rattle.std.specs.Prelude.{◌≡◌, Some};
 ghost use Rattle.disk_pictures.specs.Drawings.{file_in};
 ghost use Rattle.disk_pictures.specs.Held.{drawn_in};
@@ -78,7 +78,7 @@ impl Display for Head<'_> {
     }
 }
 
-/// What follows it, from what is drawn and what a check told, up to the first group of sectors.
+/// What follows it, from what is drawn and the result of a check, up to the first group of sectors.
 #[derive(Clone, Copy)]
 pub(crate) struct Heading<'a> {
     /// What is drawn.

@@ -54,14 +54,14 @@ fn put_poster<W: Write>(
     flush(out)
 }
 
-/// Prints the disk as a poster: an SVG file of its own, 297 by 420 units, with the drawing of `picture_image`, the disk's
-/// name, what a check tells as a sentence, the meaning of the colours, and the directory in four columns. It has no script
-/// and loads nothing, and names of the disk stand in it as text alone; a name longer than its column is cut by the column's
-/// edge. What a check of the disk tells is answered too. A disk that is hurt is drawn as far as its links go; of a sound
-/// one it is the poster of its layout.
+/// Prints the disk as a poster: an SVG file of its own, 297 by 420 units. It has the drawing of `picture_image`, the
+/// disk's name, what a check reports as a sentence, the meaning of the colours, and the directory in four columns. It has
+/// no script and loads nothing, and names of the disk stand in it only as text. A name longer than its column is cut by
+/// the column's edge. What a check of the disk reports is also the result. A damaged disk is drawn as far as its links
+/// go. The poster of a sound disk is that of its layout.
 ///
-/// `ImageSize`; `NoMemory`; `Layout` where the directory's sectors aren't a chain on track 18: nothing was printed
-/// then. `File` where the output failed, which may then have a part.
+/// `ImageSize`; `NoMemory`; `Layout` if the directory's sectors aren't a chain on track 18: nothing was printed then.
+/// `File` if the output failed, which may then have a part.
 pub fn poster_image<W: Write>(
     alloc: Global,
     image: &[u8],

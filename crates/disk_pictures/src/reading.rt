@@ -51,7 +51,7 @@ fn draw_files(
     Ok(files)
 }
 
-/// What is drawn of the disk. `Layout` where the directory's sectors aren't a chain on track 18, or `NoMemory`.
+/// What is drawn of the disk. `Layout` if the directory's sectors aren't a chain on track 18, or `NoMemory`.
 pub(crate) fn draw(alloc: Global, disk: &mut MemDisk) -> Result<Drawing, PictureFault>
     ensures ok { IfOk result (λ drawing. IsDrawn (disk_image disk.old) (drawn_in drawing)) }
     ensures map { IfOk result (λ drawing. drawing.map ≡ sector (disk_image disk.old) map_at) }
@@ -70,7 +70,7 @@ pub(crate) fn draw(alloc: Global, disk: &mut MemDisk) -> Result<Drawing, Picture
     Ok(Drawing::new(map, directory, files))
 }
 
-/// What the directory has wrong, where that is why nothing is drawn.
+/// What the directory has wrong, if that is why nothing is drawn.
 fn layout_fault(why: PictureFault) -> Option<Fault>
     ensures { result ≡ layout_fault_of why }
 {

@@ -32,7 +32,7 @@ impl Display for ErrorNumber {
     }
 }
 
-/// The line of a sector, where it wasn't read.
+/// The line of a sector, if it wasn't read.
 #[derive(Clone, Copy)]
 struct ErrorLine {
     place: Place,

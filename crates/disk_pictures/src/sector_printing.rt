@@ -106,7 +106,7 @@ impl Display for UnknownOwner {
     }
 }
 
-/// Prints where the sector's link leads, after all else.
+/// Prints where the sector's link leads, after everything else.
 fn put_link<W: Write>(out: &mut W, bytes: &[u8; 256]) -> Result<(), PictureFault>
     ensures ok { OnOk result (Appends (W.contents out.old) (W.contents out.new)
         (link_text (slice_index bytes.now 0) (slice_index bytes.now 1))) }
@@ -160,12 +160,12 @@ fn read_sector(disk: &mut MemDisk, place: Place) -> [u8; 256]
 }
 
 /// Prints a sector of the image: its bytes in hexadecimal digits, sixteen in a line, with the characters that a C64 shows
-/// for them after it was switched on; then whose it is, with the line of its entry as `map_image` prints it; and where
-/// its link leads.
+/// for them after it was switched on. Then follow its owner, with the line of its entry as `map_image` prints it, and the
+/// place to which its link leads.
 ///
-/// The disk may be hurt: an entry has the sectors that its links come to. If the directory's sectors aren't a chain on
-/// track 18, the owner is unknown, and the line says why. `ImageSize` and `NoMemory`: nothing was printed. `File` where
-/// the output failed, which may then have a part.
+/// The disk may be damaged: an entry has the sectors that its links come to. If the directory's sectors aren't a chain on
+/// track 18, the owner is unknown, and the line says why. `ImageSize` and `NoMemory`: nothing was printed. `File` if the
+/// output failed, which may then have a part.
 pub fn sector_image<W: Write>(
     alloc: Global,
     image: &[u8],

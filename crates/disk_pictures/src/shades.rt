@@ -39,7 +39,7 @@ pub(crate) fn shade(drawing: &Drawing, found: Option<Fault>, place: Place) -> us
     }
 }
 
-/// Which shades the sectors of each track have, so that a shade's path looks at its own tracks alone.
+/// Which shades the sectors of each track have, so that a shade's path looks only at its own tracks.
 #[derive(Drop)]
 pub(crate) struct Shades {
     marks: [bool; MARKS],

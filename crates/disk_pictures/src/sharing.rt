@@ -1,4 +1,4 @@
-//! Who has a sector that several have.
+//! The owner of a sector that several have.
 ghost use Rattle.std.specs.Prelude.{◌≡◌, ◌++◌, ◌↔◌, Contains, IsTrue, List, slice_get};
 ghost use Rattle.disk_pictures.specs.Drawings.{file_in, has};
 ghost use Rattle.disk_pictures.specs.Held.{drawn_in};

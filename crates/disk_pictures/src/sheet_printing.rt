@@ -106,7 +106,7 @@ fn put_refused<W: Write>(out: &mut W, path: &str, fault: PictureFault) -> Result
     put(out, REFUSED_END)
 }
 
-/// The exit status of a disk of which a check told this.
+/// The exit status for this result of a check.
 fn found_status(found: Option<Fault>) -> u8
     ensures { result ≡ status_of found }
 {
@@ -116,7 +116,7 @@ fn found_status(found: Option<Fault>) -> u8
     }
 }
 
-/// Prints the beginning of a contact sheet of so many disks: an HTML page. `File` where the output failed.
+/// Prints the beginning of a contact sheet of so many disks: an HTML page. `File` if the output failed.
 pub fn sheet_begin<W: Write>(out: &mut W, count: usize) -> Result<(), PictureFault>
     ensures ok { OnOk result (Appends (W.contents out.old) (W.contents out.new) (sheet_head count)) }
     ensures err { IfErr result (λ fault. fault ≡ faults.File) }
@@ -124,16 +124,16 @@ pub fn sheet_begin<W: Write>(out: &mut W, count: usize) -> Result<(), PictureFau
     put(out, Head(count))
 }
 
-/// Prints the next tile of a contact sheet, that of an image, and answers the exit status of its picture alone: 0 of a
-/// clean disk, 1 of a hurt one, and that of the fault of an image that can't be drawn.
+/// Prints the next tile of a contact sheet, that of an image, and returns the exit status that `picture` has for this
+/// image. It is 0 if the disk is clean, 1 if it is damaged, and that of the fault if it can't be drawn.
 ///
 /// It has a small drawing: tracks from left to right, each sector once in the shade of its owner, the fault in red. Below
-/// stand the path, the disk's name as it is typed and as a C64 shows it, what a check tells, and how many blocks the map
-/// calls free. A disk that is hurt is drawn as far as its links go. An image that can't be drawn (`ImageSize`, `Layout`,
-/// `NoMemory`) has a tile with its path and why. Paths and names stand there as text alone, and a path's bytes as those of
-/// names: $20 to $7E but `"` and `\` as they are, each other as `\` and two digits.
+/// stand the path, the disk's name as it is typed and as a C64 shows it, what a check reports, and how many blocks the
+/// map calls free. A damaged disk is drawn as far as its links go. An image that can't be drawn (`ImageSize`, `Layout`,
+/// `NoMemory`) has a tile with its path and the reason. Paths and names stand there only as text. A path's bytes are
+/// shown as those of names: $20 to $7E except `"` and `\` as they are, every other one as `\` and two digits.
 ///
-/// `File` where the output failed, which may then have a part.
+/// `File` if the output failed, which may then have a part.
 pub fn sheet_tile<W: Write>(
     alloc: Global,
     path: &str,
@@ -155,8 +155,8 @@ pub fn sheet_tile<W: Write>(
     }
 }
 
-/// Prints the next tile of a contact sheet, that of an image which couldn't be read, with the words that say why. `File` where
-/// the output failed.
+/// Prints the next tile of a contact sheet, that of an image which couldn't be read, with the words that say why. `File`
+/// if the output failed.
 pub fn sheet_refusal<W: Write>(path: &str, told: &str, out: &mut W) -> Result<(), PictureFault>
     ensures ok { OnOk result (Appends (W.contents out.old) (W.contents out.new)
         (refused_tile html_of path.now (html_of told.now))) }
@@ -167,7 +167,7 @@ pub fn sheet_refusal<W: Write>(path: &str, told: &str, out: &mut W) -> Result<()
     put(out, REFUSED_END)
 }
 
-/// Prints the end of a contact sheet, with the meaning of the colours, and flushes the output. `File` where it failed.
+/// Prints the end of a contact sheet, with the meaning of the colours, and flushes the output. `File` if it failed.
 pub fn sheet_finish<W: Write>(out: &mut W) -> Result<(), PictureFault>
     ensures ok { OnOk result (Appends (W.contents out.old) (W.contents out.new) sheet_end) }
     ensures err { IfErr result (λ fault. fault ≡ faults.File) }

@@ -28,7 +28,7 @@ pub(crate) fn fault_place(fault: Fault) -> Place
     }
 }
 
-/// Whether the fault that was told is at this place.
+/// Whether the fault that was found is at this place.
 pub(crate) fn is_fault_at(found: Option<Fault>, place: Place) -> bool
     ensures { result ≡ fault_at found place }
 {
@@ -38,7 +38,7 @@ pub(crate) fn is_fault_at(found: Option<Fault>, place: Place) -> bool
     }
 }
 
-/// What a check told, as it is printed.
+/// The result of a check, as it is printed.
 #[derive(Clone, Copy)]
 pub(crate) struct VerdictText(pub Option<Fault>);
 
@@ -67,8 +67,8 @@ fn type_name(kind: u8) -> &'static str
     }
 }
 
-/// A type byte as it is printed: a star before the type's name where the file isn't closed (bit 7 is 0), and a mark
-/// behind it where the file is locked (bit 6 is 1).
+/// A type byte as it is printed. A star stands before the type's name if the file isn't closed (bit 7 is 0). A mark
+/// stands after it if the file is locked (bit 6 is 1).
 #[derive(Clone, Copy)]
 pub(crate) struct TypeText {
     /// The type byte.
@@ -92,7 +92,7 @@ impl Display for TypeText {
 }
 
 impl DrawnFile {
-    /// Whether its record length and its number of records are told: it is relative, and has a length and a block.
+    /// Whether its record length and its number of records are printed: it is relative, and has a length and a block.
     fn has_records(&self) -> bool
         ensures { result ≡ has_records (file_in self.now) }
     {
@@ -100,7 +100,7 @@ impl DrawnFile {
         entry.is_relative() && !self.blocks.is_empty() && entry.record_length() != 0
     }
 
-    /// Its record length and how many whole records its blocks have, where these are told.
+    /// Its record length and how many whole records its blocks have, if these are printed.
     pub(crate) fn records(&self) -> Option<(u8, usize)>
         ensures value { result ≡ (if has_records (file_in self.now)
             then Some (record_length self.now.slot, records_in (file_in self.now)) else None) }

@@ -1,4 +1,4 @@
-//! A tile of a contact sheet: a small drawing of a disk, and what is told of it.
+//! A tile of a contact sheet: a small drawing of a disk, and what is printed of it.
 ghost use Rattle.std.specs.Prelude.{◌≡◌, ◌<◌, ◌+◌, IfErr, OnOk, Some};
 ghost use Rattle.std.specs.Io.KnownBytes.{Appends};
 ghost use Rattle.d64_image.specs.Places.{place_at};
@@ -50,7 +50,7 @@ impl Display for ShadeHead {
     }
 }
 
-/// Prints a sector, where it has the shade.
+/// Prints a sector, if it has the shade.
 fn put_stroke<W: Write>(
     out: &mut W,
     found: Option<Fault>,
@@ -166,7 +166,7 @@ impl Display for TileHead {
     }
 }
 
-/// What is told of a disk below its drawing.
+/// What is printed of a disk below its drawing.
 #[derive(Clone, Copy)]
 struct Caption<'a> {
     path: &'a str,

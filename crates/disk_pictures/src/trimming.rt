@@ -85,12 +85,12 @@ fn report_unread<E: Write>(err: &mut E, image: &[u8], fault: Fault) -> Result<bo
     Ok(false)
 }
 
-/// Prints the 174,848 bytes of tracks 1 to 35 of an image of 35 tracks or 40, with or without error bytes, on `out`; and
-/// on `err` a line for each of their sectors that wasn't read when the image was made, and for each file that goes on
-/// past track 35. Returns whether there is no such line.
+/// Prints, on `out`, the 174,848 bytes of tracks 1 to 35 of an image of 35 tracks or 40, with or without error bytes. On
+/// `err` it prints a line for each of their sectors that wasn't read when the image was made, and for each file that goes
+/// on past track 35. Returns whether there is no such line.
 ///
-/// If the directory's sectors aren't a chain on track 18, a line says why, and of the files nothing is known.
-/// `ImageSize` and `NoMemory`: nothing was printed. `File` where an output failed; both may then have a part.
+/// If the directory's sectors aren't a chain on track 18, a line says why, and nothing is known of the files. `ImageSize`
+/// and `NoMemory`: nothing was printed. `File` if an output failed; both may then have a part.
 pub fn trim_image<W: Write, E: Write>(
     alloc: Global,
     image: &[u8],

@@ -1,4 +1,4 @@
-//! An image taken into memory, drawn and judged.
+//! An image taken into memory, drawn and checked.
 ghost use Rattle.std.specs.Prelude.{◌≢◌, IfErr, IfOk};
 ghost use Rattle.d64_image.specs.Memory.{disk_image};
 ghost use Rattle.disk_pictures.specs.Outcomes.{IsJudged, IsPictureFault, IsVerdict};
@@ -13,7 +13,7 @@ use disk_layout::Fault;
 use layout_check::check;
 use std::alloc::Global;
 
-/// What a check of the disk tells; None where it is clean. Its survey isn't kept.
+/// What a check of the disk reports; None if it is clean. Its survey isn't kept.
 fn verdict(disk: &mut MemDisk) -> Option<Fault>
     ensures { IsVerdict (disk_image disk.old) result }
 {
@@ -23,7 +23,7 @@ fn verdict(disk: &mut MemDisk) -> Option<Fault>
     }
 }
 
-/// What is drawn of the image, and what a check of it tells.
+/// What is drawn of the image, and what a check of it reports.
 pub(crate) fn judged(alloc: Global, image: &[u8]) -> Result<(Drawing, Option<Fault>), PictureFault>
     ensures ok { IfOk result (λ (drawing, found). IsJudged image.now drawing found) }
     ensures err { IfErr result (IsPictureFault image.now) }

@@ -83,7 +83,7 @@ impl Display for WhiteHead {
     }
 }
 
-/// Prints the white line of a track, where it has a sector in use that is free in the map.
+/// Prints the white line of a track, if it has a sector in use that is free in the map.
 fn put_ring<W: Write>(out: &mut W, drawing: &Drawing, track: u8) -> Result<(), PictureFault>
     ensures ok { OnOk result (Appends (W.contents out.old) (W.contents out.new)
         (own_ring drawing.now.map (drawn_in drawing.now) track)) }

@@ -10,8 +10,8 @@ use Rattle.disk_layout.specs.declared.faults.Fault.TheVariants.{BadLink, Loop}
 use Rattle.disk_layout.specs.declared.slot.Slot.{Slot}
 
 -- What ends a walk over these sectors at the last one. Without a fault it ends the chain, and u is the index of its last
--- used byte. With a fault all of its bytes are taken for the file's, up to index 255: it links to no place of the disk,
--- or back to one of these sectors, and the fault names that one.
+-- used byte. With a fault all of its bytes, up to index 255, are taken for the file's. Then it links to no place of the
+-- disk, or back to one of these sectors, and the fault names that one.
 abbrev pub Ends : Image → List Place → Place → Option Fault → ℕ → Type 0
 Ends img ps last None u = EndsAt img last u
 Ends img ps last (Some (BadLink p)) u = (p ≡ last) × LinksNowhere img last × (u ≡ 255)

@@ -65,12 +65,12 @@ fn names_no_block(slot: &Slot) -> bool
     !entry.is_relative() && !entry.has_first_block()
 }
 
-/// Fills `blocks` with those of the entry's file that can be reached, in order and each once, and returns what ends
-/// them. Nothing but the file's own chain is checked. The entry may be unclosed, and its type unknown.
+/// Fills `blocks` with those of the entry's file that can be reached, in order and each once, and returns what ends them.
+/// Only the file's own chain is checked. The entry may be unclosed, and its type unknown.
 ///
-/// The fault is `BadLink` at a block that links to no place of the disk, or at the entry's directory sector if the
-/// entry should name a first block and names none. It is `Loop` at the block to which the last one links back. After a
-/// fault the file has all bytes of the last block, up to index 255.
+/// The fault is `BadLink` at a block that links to no place of the disk, or at the entry's directory sector if the entry
+/// should name a first block and names none. It is `Loop` at the block to which the last one links back. After a fault
+/// the file has all bytes of the last block, up to index 255.
 pub fn reach_file(
     disk: &mut MemDisk,
     slot: &Slot,

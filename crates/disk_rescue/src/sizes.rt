@@ -7,13 +7,13 @@ use d64_image::Place;
 /// How many bytes the sectors of tracks 1 to 35 have: an image that every command takes.
 const SIZE: usize = 174_848;
 
-/// The same for tracks 1 to 40.
+/// How many bytes tracks 1 to 40 have.
 const FORTY_TRACKS: usize = 196_608;
 
-/// The same with a byte for each of the 683 sectors.
+/// How many bytes tracks 1 to 35 have, with a byte for each of the 683 sectors.
 const WITH_ERRORS: usize = 175_531;
 
-/// The same for the 768 sectors of 40 tracks.
+/// How many bytes tracks 1 to 40 have, with a byte for each of the 768 sectors.
 const FORTY_WITH_ERRORS: usize = 197_376;
 
 /// Whether an image has one of the four sizes.

@@ -1,13 +1,16 @@
 -- A run over the file that was handed in.
-use Rattle.std.proofs.Common.{Err, List, MutBor, Option, Some, ap, inl, inr, subst, sym, ◌≡◌, ◌∙◌, ℕ}
+use Rattle.std.proofs.Common.{Err, List, MutBor, Ok, Option, Some, ap, inl, inr, sym, ◌≡◌, ◌∙◌, ⊎_elim, ℕ}
 use Rattle.d64_image.specs.Keeps.{Keeps}
 use Rattle.d64_image.specs.declared.device_as_file.DeviceAsFile.{DeviceAsFile}
 use Rattle.d64_image.specs.declared.mirror.Mirror.{Mirror}
 use Rattle.host_session.specs.declared.events.printing.Printer.{Printer}
-use Rattle.ledger_cli.specs.Runs.{IsOverFile, IsServiceEnd}
+use Rattle.ledger_cli.specs.Runs.{IsOverFile, IsServiceEnd, IsServiceFault}
 use Rattle.ledger_cli.specs.Streams.{IsBegun, WhyUnbegun, stream_file}
+use Rattle.shop_commands.specs.Plays.{IsUntouched}
 use Rattle.shop_commands.specs.declared.faults.RunFault.{RunFault}
+use Rattle.shop_commands.specs.declared.faults.RunFault.TheVariants as run
 use Rattle.ledger_jobs.specs.Ends.{Ended, JobEnd}
+use Rattle.ledger_jobs.specs.FileServes.{IsServeFault, IsUnserved}
 use Rattle.ledger_jobs.specs.Serves.{IsServeRun}
 use Rattle.ledger_jobs.specs.declared.refusals.Refusal.TheVariants as refusals
 use Rattle.line_server.specs.Answering.{Answering}
@@ -27,17 +30,27 @@ module _ {F W : Type 0} (image : List ℕ) (file after : Option F) (old new : W)
   unbegun fault is why silent = inl (record { fault = fault; is = is; why = why.1; same = why.0; silent = silent })
 
 -- a service whose replies go to a writer that is lent, as its lender sees it
-pub service_end : {F R W : Type 0} (K : Keeps F) (i : Input R) (a : Answering (Printer (MutBor W))) (image : List ℕ)
-    (file after : F) (old_in new_in : R) (old new : Printer (MutBor W)) (ended : Ended) (first last : W)
-    → IsServeRun K i a image file after old_in new_in old new ended → old.out.now ≡ first
-    → (old.out.ghost_name ≡ new.out.ghost_name → last ≡ new.out.now) → IsServiceEnd image file after first last ended
-service_end K i a image file after old_in new_in old new ended first last x was is = record {
-  size = x.size;
-  refused = x.refused;
-  shop = x.shop;
-  untouched = λ one.
-      let u = x.untouched one in
-      (u.0.0, is (ap (λ p. p.out.ghost_name) (sym u.0.1)) ∙ ap (λ p. p.out.now) u.0.1 ∙ was);
-  statuses = x.statuses;
-  quiet = x.quiet;
-}
+module _ {F R W : Type 0} (K : Keeps F) (i : Input R) (a : Answering (Printer (MutBor W))) (image : List ℕ)
+    (file after : F) (old_in new_in : R) (old new : Printer (MutBor W)) (first last : W) (was : old.out.now ≡ first)
+    (is : old.out.ghost_name ≡ new.out.ghost_name → last ≡ new.out.now) where
+  lent : IsUnserved file after old_in new_in old new → IsUntouched file after first last
+  lent u = (u.0.0, is (ap (λ p. p.out.ghost_name) (sym u.0.1)) ∙ ap (λ p. p.out.now) u.0.1 ∙ was)
+
+  fault_end : (fault : RunFault) → IsServeFault K i a image file after old_in new_in old new fault
+      → IsServiceFault image file after first last fault
+  fault_end run.ImageSize x = (x.0, lent x.1)
+  fault_end run.NoMemory x = (x.0, lent x.1)
+  fault_end run.File x = ⊎_elim (λ y. y.size) (λ y. y.size) x.1
+  fault_end run.Device x = ⊎_elim (λ y. y.size) (λ y. y.1.size) x.1
+  fault_end (run.BadLine line) x = x
+  fault_end (run.Layout fault) x = (x.0, lent x.1)
+  fault_end run.NoStock x = (x.0, lent x.1)
+  fault_end run.NoRequests x = (x.0, lent x.1)
+  fault_end (run.BadCard item) x = (x.0, lent x.1)
+  fault_end (run.BadRequestCard till) x = (x.0, lent x.1)
+  fault_end run.TwoIntents x = (x.0, lent x.1)
+
+  pub service_end : (ended : Ended) → IsServeRun K i a image file after old_in new_in old new ended
+      → IsServiceEnd image file after first last ended
+  service_end (Ok printed) x = (x.done.0, x.done.1.1.size)
+  service_end (Err fault) x = fault_end fault x.fault

@@ -51,6 +51,5 @@ module _ {F T : Type 0} (K : Keeps F) (o : Output T) (image script : List ℕ) (
 
   -- however the play ended
   pub played_reached : (ended : Ended) → IsPlayRun K o image script file after old new ended → K.reached file after
-  played_reached (Ok None) x = over_ok (x.done refl).1
-  played_reached (Ok (Some f)) x = absurd (omega (arith, x.quiet refl))
+  played_reached (Ok printed) x = over_ok x.done.1.1
   played_reached (Err fault) x = fault_reached fault x.fault

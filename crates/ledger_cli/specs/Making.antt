@@ -23,7 +23,7 @@ image_writes image =
     ∷ []
 
 module _ {F : Type 0} (position : F → Option ℕ) (bytes contents : F → Option (List ℕ)) where
-  -- a file was sought to n and handed a beginning of these bytes, or all; or the seek failed, and it stayed
+  -- a file was sought to n and handed a prefix of these bytes, or all; or the seek failed, and it stayed
   abbrev pub IsHandedPart : F → F → ℕ → List ℕ → Type 0
   IsHandedPart old new n handed =
       (StaysAt (position old) (position new) × Keeps (bytes old) (bytes new))
@@ -35,7 +35,7 @@ module _ {F : Type 0} (position : F → Option ℕ) (bytes contents : F → Opti
   AreWritten old new (p ∷ ps) =
       (next : F) × IsHanded position bytes contents None old next p.at p.bytes × AreWritten next new ps
 
-  -- a file was handed a beginning of these pieces, the last of them perhaps in part, and nothing else
+  -- a file was handed the first of these pieces, the last of them perhaps in part, and nothing else
   abbrev pub AreWrittenInPart : F → F → List Piece → Type 0
   AreWrittenInPart old new [] = ⊥
   AreWrittenInPart old new (p ∷ ps) =
@@ -53,7 +53,7 @@ module _ {F : Type 0} (position : F → Option ℕ) (bytes contents : F → Opti
       → IsHanded position bytes contents None old new n handed → held old ≡ Some all → held new ≡ Some (put_in all n handed)
 
   -- An image of which this holds was written over a file. If it is known what the file held, it holds the image now, and
-  -- after it what it held after as many bytes: a file isn't ended by what is written.
+  -- after it what it held after as many bytes: writing doesn't end a file.
   pub record IsImageWritten (Is : List ℕ → Type 0) (old new : F) : Type 0 where
     pub image : List ℕ
     pub is : Is image
@@ -61,21 +61,21 @@ module _ {F : Type 0} (position : F → Option ℕ) (bytes contents : F → Opti
     pub holds : (held : F → Option (List ℕ)) → SaysWhatItHolds held → (all : List ℕ) → held old ≡ Some all
         → held new ≡ Some (image ++ drop 174848 all)
 
-  -- a beginning of its writes was done
+  -- a prefix of its writes was done
   pub record IsImageBegun (Is : List ℕ → Type 0) (old new : F) : Type 0 where
     pub image : List ℕ
     pub is : Is image
     pub written : AreWrittenInPart old new (image_writes image)
 
-  -- An image was written over a file. If it is known what the file held, it holds the image now, and behind it what it
-  -- held behind as many bytes.
+  -- An image was written over a file. If it is known what the file held, it holds the image now, and after it what it
+  -- held after as many bytes.
   pub record IsImageHanded (image : List ℕ) (old new : F) : Type 0 where
     pub written : AreWritten old new (image_writes image)
     pub holds : (held : F → Option (List ℕ)) → SaysWhatItHolds held → (all : List ℕ) → held old ≡ Some all
         → held new ≡ Some (image ++ drop 174848 all)
 
-  -- what copying an image and saying so came to: all of it was written, and that was said; or it has another size, and
-  -- nothing was done; or the file failed, and nothing was said, or the output did
+  -- what copying an image and printing that came to. All of it was written, and the message was printed; or it has
+  -- another size, and nothing was done. Or the file failed, and nothing was printed; or the output failed
   abbrev pub IsImageCopied : {W : Type 0} → (W → Option (List ℕ)) → (image : List ℕ) → F → F → W → W
       → Result Unit RunFault → Type 0
   IsImageCopied told image file after old new (Ok _) = (length image ≡ 174848)
@@ -87,8 +87,8 @@ module _ {F : Type 0} (position : F → Option ℕ) (bytes contents : F → Opti
       ⊎ (IsImageHanded image file after × AppendsPart (told old) (told new) (codes "COPIED\n")))
   IsImageCopied told image file after old new (Err _) = ⊥
 
-  -- what making such an image and saying so came to: all of it was written, and that was said; the file failed, and
-  -- nothing was said, or the output did; or there was no memory, and nothing was done
+  -- what making such an image and printing that came to. All of it was written, and the message was printed; or the file
+  -- failed, and nothing was printed. Or the output failed; or there was no memory, and nothing was done
   abbrev pub IsImageMade : {W : Type 0} → (W → Option (List ℕ)) → (List ℕ → Type 0) → F → F → W → W
       → Result Unit RunFault → Type 0
   IsImageMade told Is file after old new (Ok _) =

@@ -1,21 +1,20 @@
 -- What comes of a job that is run over the bytes of its files. All of it is our own.
-use Rattle.std.specs.Prelude.{◌≡◌, ◌≢◌, ◌⊎◌, ℕ, Bool, false, true, List, Option, None, Some, Result, Ok, Err, IfErr, IsOk, length}
-use Rattle.d64_image.specs.Memory.{sectors_in}
+use Rattle.std.specs.Prelude.{◌≡◌, ◌≢◌, ◌⊎◌, ℕ, Bool, false, true, List, Option, None, Some, Result, Ok, Err, length}
 use Rattle.d64_image.specs.declared.device_as_file.DeviceAsFile.{DeviceAsFile}
 use Rattle.d64_image.specs.declared.mirror.Mirror.{Mirror}
 use Rattle.ledger_cli.specs.Making.{IsImageCopied, IsImageMade}
 use Rattle.ledger_cli.specs.Streams.{HandsSectors, IsBegun, WhyUnbegun, stream, stream_file}
 use Rattle.disk_layout.specs.declared.faults.Fault.{Fault}
 use Rattle.host_session.specs.runs.Outputs.{AppendsPart, written}
-use Rattle.host_session.specs.session.Opening.{IsAShop}
 use Rattle.shop_commands.specs.Plays.{IsUntouched}
+use Rattle.shop_commands.specs.Shops.{IsOpenRefusal}
 use Rattle.shop_commands.specs.declared.faults.RunFault.{RunFault}
 use Rattle.shop_commands.specs.declared.faults.RunFault.TheVariants as run
 use Rattle.ledger_jobs.specs.Comparisons.{IsComparingRun}
 use Rattle.ledger_jobs.specs.Drawings.{IsDrawingRun}
 use Rattle.ledger_jobs.specs.Edited.{IsDeleteOver, IsRenameOver}
 use Rattle.ledger_jobs.specs.EditRefusals.{IsEditEnd}
-use Rattle.ledger_jobs.specs.Ends.{Ended, JobEnd, as_drawn, as_job, end_of, end_status, exit_status, refusal_line}
+use Rattle.ledger_jobs.specs.Ends.{Ended, EndsAs, JobEnd, as_drawn, as_job, end_of, end_status, refusal_line}
 use Rattle.ledger_jobs.specs.Keeping.{IsDryRepair, IsRepairOver}
 use Rattle.ledger_jobs.specs.Kept.{IsMakeOver, IsStoreOver}
 use Rattle.ledger_jobs.specs.Listings.{IsListingRun, as_listed}
@@ -23,7 +22,7 @@ use Rattle.ledger_jobs.specs.Losses.{IsEndOf, IsGuarded, IsKeptEndOf, IsRepaired
 use Rattle.ledger_jobs.specs.Names.{name_bytes}
 use Rattle.ledger_jobs.specs.NewDisks.{IsNewImage}
 use Rattle.shop_commands.specs.Images.{AreFreshBytes}
-use Rattle.ledger_jobs.specs.Runs.{IsNoShop, IsPlayRun, IsReadingEnd}
+use Rattle.ledger_jobs.specs.Runs.{IsPlayRun, IsReadingEnd}
 use Rattle.ledger_jobs.specs.Views.{IsViewRun, as_viewed}
 use Rattle.ledger_jobs.specs.declared.jobs.Job.{Job}
 use Rattle.ledger_jobs.specs.declared.jobs.Job.TheVariants as jobs
@@ -37,10 +36,6 @@ use Rattle.ledger_jobs.specs.declared.jobs.Unowned.TheVariants as unowned
 use Rattle.ledger_jobs.specs.declared.jobs.Reading.{Reading}
 use Rattle.ledger_jobs.specs.declared.jobs.Reading.TheVariants as readings
 use Rattle.ledger_jobs.specs.declared.refusals.Refusal.TheVariants as refusals
-
--- the run ended so, and this is how its job is told to have ended
-abbrev pub EndsAs : {A : Type 0} → (A → JobEnd) → JobEnd → (A → Type 0) → Type 0
-EndsAs {A} told end P = (ended : A) × (end ≡ told ended) × P ended
 
 -- what was asked of these bytes ended so
 abbrev pub IsRead : {W : Type 0} → (W → Option (List ℕ)) → Reading → List ℕ → W → W → JobEnd → Type 0
@@ -74,15 +69,20 @@ abbrev pub IsOverFile : {F W : Type 0} → List ℕ → Option F → Option F �
     → (DeviceAsFile (Mirror F) → DeviceAsFile (Mirror F) → Type 0) → Type 0
 IsOverFile image file after old new end P = IsUnbegun image file after old new end ⊎ IsRunOver image file after P
 
--- A service ended with 1 exactly if the image is no shop's, and then nothing was printed; with 3 if the file or the
--- output failed, or there was no memory.
-pub record IsServiceEnd {F W : Type 0} (image : List ℕ) (file after : F) (old new : W) (ended : Ended) : Type 0 where
-  pub size : length image ≢ 174848 → exit_status ended ≡ 1
-  pub refused : exit_status ended ≡ 1 → (length image ≢ 174848) ⊎ IsNoShop image
-  pub shop : exit_status ended ≡ 1 → length image ≡ 174848 → ¬ (IsAShop (sectors_in image))
-  pub untouched : exit_status ended ≡ 1 → IsUntouched file after old new
-  pub statuses : (exit_status ended ≡ 0) ⊎ ((exit_status ended ≡ 1) ⊎ (exit_status ended ≡ 3))
-  pub quiet : IsOk ended → exit_status ended ≡ 0
+-- Why a shop wasn't served to the input's end: the image's size, no memory, or that it is no shop's, and then nothing was
+-- done; or the file or the output failed.
+abbrev pub IsServiceFault : {F W : Type 0} → (image : List ℕ) → F → F → W → W → RunFault → Type 0
+IsServiceFault image file after old new run.ImageSize = (length image ≢ 174848) × IsUntouched file after old new
+IsServiceFault image file after old new run.NoMemory = (length image ≡ 174848) × IsUntouched file after old new
+IsServiceFault image file after old new run.File = length image ≡ 174848
+IsServiceFault image file after old new run.Device = length image ≡ 174848
+IsServiceFault image file after old new (run.BadLine line) = ⊥
+IsServiceFault image file after old new fault = IsOpenRefusal image fault × IsUntouched file after old new
+
+-- A service ended so: the shop of the image was served to the input's end, or it wasn't for this reason.
+abbrev pub IsServiceEnd : {F W : Type 0} → (image : List ℕ) → F → F → W → W → Ended → Type 0
+IsServiceEnd image file after old new (Ok printed) = (printed ≡ None) × (length image ≡ 174848)
+IsServiceEnd image file after old new (Err fault) = IsServiceFault image file after old new fault
 
 -- a repair that frees what nobody owns, or doesn't
 abbrev pub frees : Unowned → Bool
@@ -218,12 +218,12 @@ module _ {F : Type 0} (position : F → Option ℕ) (bytes contents : F → Opti
   IsJobRun told (jobs.Extract path folder) image script file after old new end =
       (after ≡ file) × (new ≡ old) × (end ≡ Err (refusals.Run run.File))
 
--- what is told of a job's end: nothing where it is done; and else its line, or a beginning of it
+-- what is reported of a job's end: nothing if it is done; otherwise its line, or a first part of that
 abbrev pub IsEndTold : {E : Type 0} → (E → Option (List ℕ)) → E → E → JobEnd → Type 0
 IsEndTold contents old new (Ok _) = new ≡ old
 IsEndTold contents old new (Err refusal) = AppendsPart (contents old) (contents new) (refusal_line refusal)
 
--- a job was run over this file: it ended so, with this status, and that was told
+-- a job was run over this file: it ended so, with this status, and that was reported
 pub record IsRun {F W E : Type 0} (position : F → Option ℕ) (bytes contents : F → Option (List ℕ))
     (printed : W → Option (List ℕ)) (told : E → Option (List ℕ)) (job : Job) (image script : List ℕ)
     (file after : Option F) (old new : W) (err new_err : E) (status : ℕ) : Type 0 where

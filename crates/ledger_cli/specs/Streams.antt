@@ -30,8 +30,7 @@ pub record IsBegun {F : Type 0} (image : List ℕ) (s : DeviceAsFile (Mirror F))
 abbrev pub WhyUnbegun : {F : Type 0} → (image : List ℕ) → Option F → RunFault → Type 0
 WhyUnbegun image file fault = ((file ≡ None) × (fault ≡ run.File)) ⊎ IsLoadFault image fault
 
--- If the image is a shop's, the file was handed sectors, each at 256 times its index and before memory took it, and nothing
--- else.
+-- If the image is a shop's, the file was handed only sectors, each at 256 times its index and before memory took it.
 abbrev pub HandsSectors : {F : Type 0} → (F → Option ℕ) → (F → Option (List ℕ)) → (F → Option (List ℕ)) → List ℕ
     → DeviceAsFile (Mirror F) → DeviceAsFile (Mirror F) → Type 0
 HandsSectors position bytes contents image old new =

@@ -165,7 +165,7 @@ fn frees(unowned: Unowned) -> bool
     }
 }
 
-/// Repairs the disk of the image over its file, or a copy of it in memory alone.
+/// Repairs the disk of the image over its file, or only a copy of it in memory.
 pub(crate) fn repair<F: Write + Seek + Drop, W: Write>(
     alloc: Global,
     image: &[u8],

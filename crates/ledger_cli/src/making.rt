@@ -23,7 +23,7 @@ const IMAGE_BYTES: usize = 174_848;
 const SPOILED: [u8; 256] = [255; 256];
 
 /// Seeks a place in a file, and hands it these bytes. `File` if the seek fails, and the file is as before; or if a write
-/// does, and the file has a beginning of the bytes, or all.
+/// does, and the file has a prefix of the bytes, or all.
 fn hand_over<F: Write + Seek>(file: &mut F, bytes: &[u8], at: u64) -> Result<(), RunFault>
     ensures ok { OnOk result (IsHanded F.stream_position F.stream_bytes F.contents None file.old file.new at bytes.now) }
     ensures err { IfErr result (λ fault. (fault ≡ faults.File)
@@ -36,7 +36,7 @@ fn hand_over<F: Write + Seek>(file: &mut F, bytes: &[u8], at: u64) -> Result<(),
 }
 
 /// Writes an image over what a file holds. Its directory is spoiled first and written last, so that a file with a part of
-/// the writes isn't a sound disk's. `File` if the file failed, which has a beginning of the writes then.
+/// the writes isn't a sound disk's. `File` if the file failed, which has a prefix of the writes then.
 fn write_over<F: Write + Seek>(file: &mut F, image: &[u8]) -> Result<(), RunFault>
     requires size { length image.now ≡ 174848 }
     ensures { IsWriting F.stream_position F.stream_bytes F.contents file.old file.new (image_writes image.now) result }
@@ -47,11 +47,12 @@ fn write_over<F: Write + Seek>(file: &mut F, image: &[u8]) -> Result<(), RunFaul
     hand_over(file, &image[DIRECTORY..BEHIND], DIRECTORY as u64)
 }
 
-/// Makes the image of an empty shop with 1 to 64 tills (an odd number gives one more), writes its 174,848 bytes over what
-/// the file holds, and prints so on `out`. A longer file keeps what it held after them: a file can't be cut by writing.
+/// Makes the image of an empty shop with 1 to 64 tills (an odd number gives one more). It writes the 174,848 bytes over
+/// what the file holds, and prints `FORMATTED` on `out`. A longer file keeps what it held after them: writing doesn't cut
+/// a file.
 ///
-/// `NoMemory` before anything is written; `File` if the file failed, which then has a beginning of the writes and nothing
-/// is printed, or `out`, which then has a beginning of what is printed.
+/// `NoMemory` before anything is written. `File` if the file failed: then it has a prefix of the writes, and nothing is
+/// printed. `File` also if `out` failed, which then has a prefix of what is printed.
 pub(crate) fn make_image<F: Write + Seek, W: Write>(
     alloc: Global,
     tills: u8,
@@ -69,10 +70,10 @@ pub(crate) fn make_image<F: Write + Seek, W: Write>(
 }
 
 /// Makes the image of an empty disk of this name, of at most sixteen bytes, and of this ID. It writes the 174,848 bytes
-/// over what the file holds, and prints so on `out`. A longer file keeps what it held after them.
+/// over what the file holds, and prints `FORMATTED` on `out`. A longer file keeps what it held after them.
 ///
-/// `NoMemory` before anything is written; `File` if the file failed, which then has a beginning of the writes and nothing
-/// is printed, or `out`, which then has a beginning of what is printed.
+/// `NoMemory` before anything is written. `File` if the file failed: then it has a prefix of the writes, and nothing is
+/// printed. `File` also if `out` failed, which then has a prefix of what is printed.
 pub(crate) fn make_disk<F: Write + Seek, W: Write>(
     alloc: Global,
     name: &[u8],
@@ -91,10 +92,11 @@ pub(crate) fn make_disk<F: Write + Seek, W: Write>(
     put_whole(out, b"FORMATTED\n")
 }
 
-/// Writes an image over what the file holds, and prints so on `out`. A longer file keeps what it held after the image.
+/// Writes an image over what the file holds, and prints `COPIED` on `out`. A longer file keeps what it held after the
+/// image.
 ///
-/// `ImageSize`: nothing was done. `File` if the file failed, which then has a beginning of the writes and nothing is
-/// printed, or `out`, which then has a beginning of what is printed.
+/// `ImageSize`: nothing was done. `File` if the file failed: then it has a prefix of the writes, and nothing is printed.
+/// `File` also if `out` failed, which then has a prefix of what is printed.
 pub(crate) fn copy_image<F: Write + Seek, W: Write>(
     image: &[u8],
     file: &mut F,

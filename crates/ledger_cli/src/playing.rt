@@ -16,7 +16,7 @@ use shop_commands::{RunFault, file_of, load};
 use std::alloc::Global;
 use std::io::{self, Write};
 
-/// Hands on what a writer holds back. Its replies stay written.
+/// Flushes a writer. Its replies stay written.
 fn hand_on<W: Write>(out: &mut W) -> io::Result<()>
     ensures { TellsNone (written W.contents) out.old out.new }
 {
@@ -51,7 +51,7 @@ fn play_lines<D: Sectors, W: Write>(disk: D, script: &[u8], out: &mut W) -> Resu
     }
 }
 
-/// The same on the shop of an image, over the file that keeps the image, which is handed back.
+/// Plays the script on the shop of an image, over the file that keeps the image, which is handed back.
 fn play_over<F: SectorFile, W: Write>(
     alloc: Global,
     image: &[u8],
@@ -84,7 +84,7 @@ pub(crate) fn play_written<F: SectorFile, W: Write>(
     file: F,
     out: &mut W,
 ) -> (F, Result<Option<Fault>, RunFault>)
-    // where it is known what the file keeps, it is this image
+    // if it is known what the file keeps, it is this image
     requires agrees { Agrees (F.keeps.kept file) (sectors_in image.now) }
     ensures run { IsPlayRun F.keeps (written W.contents) image.now script.now file result.0 out.old out.new result.1 }
     ensures reached { (s : Shop) → IsShop (sectors_in image.now) s → F.keeps.reached file result.0 }

@@ -125,7 +125,7 @@ pub fn run_over<F: Write + Seek + Drop, W: Write, E: Write>(
     (end(ended, err).status, left)
 }
 
-/// Does the same as `run_over`, and drops the file: pass `&mut` of a file that is needed afterwards. Returns the exit
+/// Does what `run_over` does, and drops the file: pass `&mut` of a file that is needed afterwards. Returns the exit
 /// status.
 pub fn run<F: Write + Seek + Drop, W: Write, E: Write>(
     alloc: Global,

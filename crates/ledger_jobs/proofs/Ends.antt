@@ -1,57 +1,40 @@
--- Faults and statuses, and how a command's end is told.
-use Rattle.std.proofs.Common.{◌≡◌, ◌≢◌, ◌↔◌, ℕ, Result, Ok, Err, refl, ap, arith}
-use Rattle.std.proofs.lemmas.Bool.{false≢true}
-use Rattle.std.specs.Prelude.{IfErr, IsOk}
-use Rattle.shop_commands.specs.Faults.{run_status}
-use Rattle.ledger_jobs.specs.Ends.{dry_end, end_of, exit_status}
+-- How a run ended, as the end of a job that prints no fault.
+use Rattle.std.proofs.Common.{◌≡◌, ◌≢◌, Result, Ok, Err, List, ℕ, ap, refl}
+use Rattle.std.specs.Prelude.{IfErr, IfOk, IsSome, None, OnOk, Option, is_some}
+use Rattle.ledger_jobs.specs.Ends.{dry_end, end_of}
+use Rattle.ledger_jobs.specs.Runs.{IsDryRefusal}
+use Rattle.script_lines.specs.Lines.{first_reset, lines}
+use Rattle.shop_commands.specs.Faults.{IsDryFault}
 use Rattle.shop_commands.specs.declared.dry_run.DryFault.{DryFault}
 use Rattle.shop_commands.specs.declared.dry_run.DryFault.TheVariants as dry
 use Rattle.shop_commands.specs.declared.faults.RunFault.{RunFault}
 use Rattle.shop_commands.specs.declared.faults.RunFault.TheVariants as run
 
--- 0 for a fault of a file alone
-abbrev pub file_or : RunFault → ℕ
-file_or run.File = 0
-file_or run.ImageSize = 1
-file_or (run.Layout fault) = 1
-file_or run.NoStock = 1
-file_or run.NoRequests = 1
-file_or (run.BadCard item) = 1
-file_or (run.BadRequestCard till) = 1
-file_or run.TwoIntents = 1
-file_or (run.BadLine line) = 1
-file_or run.NoMemory = 1
-file_or run.Device = 1
+module _ (Done Same : Type 0) where
+  -- what was done, or why it wasn't, is said of that end
+  pub so-ended : (Why : RunFault → Type 0) (ended : Result Unit RunFault) → OnOk ended Done → IfErr ended Why
+      → IfErr ended (λ fault. fault ≢ run.File → Same)
+      → IfOk (end_of ended) (λ found. (found ≡ None) × Done) × IfErr (end_of ended) Why
+      × IfErr (end_of ended) (λ fault. fault ≢ run.File → Same)
+  so-ended Why (Ok _) ok err untouched = ((refl, ok), tt, tt)
+  so-ended Why (Err fault) ok err untouched = (tt, err, untouched)
 
-pub not-file : (fault : RunFault) → file_or fault ≡ 1 → fault ≢ run.File
-not-file fault one e =
-    let zero' : file_or fault ≡ 0 = ap file_or e in
-    omega (arith, one, zero')
+  -- and of that of a run without a disk
+  pub dry-ended : (script : List ℕ) (ended : Result Unit DryFault) → OnOk ended Done
+      → IfErr ended (IsDryFault (first_reset (lines script))) → (IsSome (first_reset (lines script)) → Same)
+      → IfOk (dry_end ended) (λ found. (found ≡ None) × Done) × IfErr (dry_end ended) (IsDryRefusal script)
+      × IfErr (dry_end ended) (λ fault. fault ≢ run.File → Same)
+  dry-ended script (Ok _) ok err untouched = ((refl, ok), tt, tt)
+  dry-ended script (Err (dry.BadLine line)) ok bad untouched = (tt, bad, λ _. untouched (ap is_some bad))
+  dry-ended script (Err dry.Output) ok none untouched = (tt, none, λ other. absurd (other refl))
 
--- the fault of a job that prints none of an image's
-pub end-fault : (P : RunFault → Type 0) (ended : Result Unit RunFault) → IfErr ended P → IfErr (end_of ended) P
-end-fault P (Ok _) err = tt
-end-fault P (Err fault) err = err
+-- three clauses of what was done are one
+pub if-all : {T E : Type 0} (P Q R : T → Type 0) (ended : Result T E) → IfOk ended P → IfOk ended Q → IfOk ended R
+    → IfOk ended (λ t. P t × Q t × R t)
+if-all P Q R (Ok _) p q r = (p, q, r)
+if-all P Q R (Err _) p q r = tt
 
--- a fault has another status than 0
-some-status : (fault : RunFault) → run_status fault ≢ 0
-some-status run.ImageSize zero' = omega (arith, zero')
-some-status (run.Layout fault) zero' = omega (arith, zero')
-some-status run.NoStock zero' = omega (arith, zero')
-some-status run.NoRequests zero' = omega (arith, zero')
-some-status (run.BadCard item) zero' = omega (arith, zero')
-some-status (run.BadRequestCard till) zero' = omega (arith, zero')
-some-status run.TwoIntents zero' = omega (arith, zero')
-some-status (run.BadLine line) zero' = omega (arith, zero')
-some-status run.File zero' = omega (arith, zero')
-some-status run.NoMemory zero' = omega (arith, zero')
-some-status run.Device zero' = omega (arith, zero')
-
-pub end-quiet : (ended : Result Unit RunFault) → IsOk (end_of ended) ↔ (exit_status (end_of ended) ≡ 0)
-end-quiet (Ok _) = (λ _. refl, λ _. refl)
-end-quiet (Err fault) = (λ ok. absurd (false≢true ok), λ zero'. absurd (some-status fault zero'))
-
-pub dry-quiet : (ended : Result Unit DryFault) → IsOk (dry_end ended) ↔ (exit_status (dry_end ended) ≡ 0)
-dry-quiet (Ok _) = (λ _. refl, λ _. refl)
-dry-quiet (Err (dry.BadLine line)) = (λ ok. absurd (false≢true ok), λ zero'. absurd (omega (arith, zero')))
-dry-quiet (Err dry.Output) = (λ ok. absurd (false≢true ok), λ zero'. absurd (omega (arith, zero')))
+-- so are two
+pub both : {E : Type 0} (P Q : Type 0) (ended : Result Unit E) → OnOk ended P → OnOk ended Q → OnOk ended (P × Q)
+both P Q (Ok _) p q = (p, q)
+both P Q (Err _) p q = tt

@@ -6,29 +6,22 @@ use Rattle.std.specs.declared.io.Error.{Error}
 use Rattle.std.specs.declared.io.ErrorKind.{ErrorKind}
 use Rattle.std.specs.declared.io.ErrorKind.TheVariants as kinds
 use Rattle.shop_commands.specs.Faults.{io_fault}
-use Rattle.ledger_jobs.specs.Ends.{Ended, exit_status}
+use Rattle.ledger_jobs.specs.Ends.{Ended}
 use Rattle.ledger_jobs.specs.Jobs.{needed}
-use Rattle.ledger_jobs.specs.Runs.{HoldsOfBytes, IsUntold, IsReadingEnd, IsReadingOf, IsReadingRun}
+use Rattle.ledger_jobs.specs.Runs.{IsReadingEnd, IsReadingOf}
 use Rattle.ledger_jobs.specs.declared.jobs.Reading.{Reading}
 use Rattle.shop_commands.specs.declared.faults.RunFault.TheVariants as run
 
 -- what is asked, and how it ended, are these
 pub reading-as : {W : Type 0} (contents : W → Option (List ℕ)) (what at : Reading) (bytes : List ℕ) (old new : W)
     (ended end : Ended)
-    → what ≡ at → ended ≡ end → IsReadingRun contents at bytes old new (exit_status end)
-    → IfErr end (HoldsOfBytes at bytes)
-    → IsUntold at bytes end → IsReadingRun contents what bytes old new (exit_status ended)
-    × IfErr ended (HoldsOfBytes what bytes)
-    × IsUntold what bytes ended
-reading-as contents what at bytes old new ended end is told run fault quiet =
-    subst (λ (w : Reading). IsReadingRun contents w bytes old new (exit_status ended)
-    × IfErr ended (HoldsOfBytes w bytes) × IsUntold w bytes ended)
-    (sym is)
-    (subst (λ (e : Ended). IsReadingRun contents at bytes old new (exit_status e) × IfErr e (HoldsOfBytes at bytes)
-    × IsUntold at bytes e) (sym told)
-    (run, fault, quiet))
+    → what ≡ at → ended ≡ end → IsReadingEnd contents at bytes old new end
+    → IsReadingEnd contents what bytes old new ended
+reading-as contents what at bytes old new ended end is told run =
+    subst (λ (w : Reading). IsReadingEnd contents w bytes old new ended) (sym is)
+    (subst (λ (e : Ended). IsReadingEnd contents at bytes old new e) (sym told) run)
 
--- the system's failures are told by two words
+-- two words report the system's failures
 two-words : (kind : ErrorKind) → (io_fault kind ≡ run.File) ⊎ (io_fault kind ≡ run.NoMemory)
 two-words kinds.OutOfMemory = inr refl
 two-words _ = inl refl

@@ -18,8 +18,8 @@ pub record IsCopiedOver {F : Type 0} (r : Remains F) (image : List ℕ) (old new
   pub lasting : NowAll r new (λ s. s ≡ image)
   pub held : (all : List ℕ) → r.held old ≡ Some all → r.held new ≡ Some image
 
--- what copying an image and saying so came to: all of it was written, and that was said; or the image has another size,
--- and nothing was done; or the file failed, and nothing was said, or the output did
+-- what copying an image and printing that came to. All of it was written, and the message was printed; or the image has
+-- another size, and nothing was done. Or the file failed, and nothing was printed; or the output failed
 abbrev pub IsCopied : {F W : Type 0} → Remains F → (W → Option (List ℕ)) → (image : List ℕ) → F → F → W → W
     → Result Unit RunFault → Type 0
 IsCopied r contents image file after old new (Ok _) = (length image ≡ 174848)

@@ -1,4 +1,4 @@
--- A run over a file of which it is known what stays where the machine loses power. All of it is our own.
+-- A run over a file of which it is known what stays if the machine loses power. All of it is our own.
 use Rattle.std.specs.Prelude.{◌≡◌, ◌≢◌, ◌⊎◌, ◌≤◌, List, ℕ, Err, IfErr, OnOk, Some, length, true}
 use Rattle.d64_image.specs.Images.{Image}
 use Rattle.shop_commands.specs.Durable.{AllStays}
@@ -11,29 +11,28 @@ use Rattle.shop_commands.specs.declared.faults.RunFault.TheVariants as faults
 use Rattle.shop_commands.specs.declared.image_file.ImageFile.{ImageFile}
 use Rattle.ledger_jobs.specs.Ends.{Ended}
 
--- A run that ended as `end` left such a file. The rest of what was written was brought to the disk then, and `ended` is
--- told.
+-- A run that ended as `end` left such a file. Then the rest of what was written was synced, and `ended` is reported.
 pub record IsFinished {F : Type 0} {G : Ghosts F} (end : Ended) (left last : ImageFile F G) (ended : Ended) : Type 0 where
-  -- A file that can't be brought there is told of in place of how the run ended; but a run that was refused is told as
-  -- it ended, and so is one over a file whose sectors are all on the disk.
+  -- What is reported is how the run ended, or `Device` for a sync that failed. A run that was refused is reported as it
+  -- ended, and so is one over a file whose sectors were all synced.
   pub told : (ended ≡ end) ⊎ (ended ≡ Err faults.Device)
   pub refused : IfErr end (λ fault. fault ≢ faults.File → ended ≡ end)
   pub unblamed : is_synced left → placed.failures left ≡ 0 → ended ≡ end
-  -- where the file is blamed in place of that, it failed
+  -- if `Device` is reported in place of that, the file failed
   pub blamed : (ended ≡ end) ⊎ (G.has_failed (placed_file last) ≡ true)
   pub failed : G.has_failed (placed_file left) ≡ true → G.has_failed (placed_file last) ≡ true
   pub same : G.held (placed_file last) ≡ G.held (placed_file left)
   pub reached : placed.reached left last
   pub untouched : is_synced left → last ≡ left
-  -- nothing is asked of the file behind a refusal, nor of one that failed
+  -- nothing is asked of the file after a refusal, nor of a file that failed
   pub alone : IfErr end (λ fault. fault ≢ faults.File → last ≡ left)
   -- it changes nothing of what the file keeps, at no moment
   pub brought : KeepsOn left last
-  -- done, or where the output alone failed, all that the file holds stays
+  -- if the run was done, or only the output failed, all that the file holds stays
   pub there : OnOk ended (AllStays G.held G.lasting (placed_file last))
   pub stands : IfErr ended (λ fault. fault ≡ faults.File → AllStays G.held G.lasting (placed_file last))
 
--- A run over the image of a file that was handed in, and which was left as `after`, ended so.
+-- A run over the image of a file that was passed in, and which was left as `after`, ended so.
 pub record IsDurableRun {F : Type 0} {G : Ghosts F} (durability : Durability) (image : List ℕ) (file after : F)
     (ended : Ended) (IsRun : ImageFile F G → ImageFile F G → Ended → Type 0) : Type 0 where
   -- the file with its sectors at their places, as the run took it up, as it left it, and at the end
@@ -41,21 +40,20 @@ pub record IsDurableRun {F : Type 0} {G : Ghosts F} (durability : Durability) (i
   pub left : ImageFile F G
   pub last : ImageFile F G
   pub taken : IsTakenUp durability image file first
-  -- how the run alone ended
+  -- how the run itself ended
   pub end : Ended
   pub run : IsRun first left end
   pub finished : IsFinished end left last ended
   pub is_after : placed_file last ≡ after
-  -- where the file failed in the run, it says so
+  -- if the file failed in the run, it says so
   pub counted : 1 ≤ placed.failures left → G.has_failed after ≡ true
-  -- Where each sector is brought to the disk, what such a file keeps at any time of the run is the image that stays
-  -- there where the machine loses power.
+  -- If each sector is synced, what such a file keeps at any time of the run is the image that stays if the machine loses
+  -- power.
   pub lasts : durability ≡ durabilities.EachSector → length image ≡ 174848 → (now : ImageFile F G)
       → placed.reached first now → placed.kept now ≡ image_of (G.lasting.bytes (placed_file now))
-  -- Where they are brought there at the end, it is the image of the bytes that the file holds, where that is known
-  -- whole.
+  -- If they are synced at the end, it is the image of the bytes that the file holds, if that is known whole.
   pub holds : durability ≡ durabilities.AtEnd → length image ≡ 174848 → (now : ImageFile F G)
       → placed.reached first now → placed.kept now ≡ image_of (G.whole.lasting.bytes (placed_file now))
-  -- What stays at the end is the image that the run left, where that is known.
+  -- What stays at the end is the image that the run left, if that is known.
   pub remains : AllStays G.held G.lasting after → (c : Image) → placed.kept left ≡ Some c
       → image_of (G.lasting.bytes after) ≡ Some c

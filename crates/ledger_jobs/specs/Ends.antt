@@ -1,5 +1,5 @@
 -- How a job ends, and the program's exit status then. All of it is our own.
-use Rattle.std.specs.Prelude.{ℕ, Bool, true, false, if◌then◌else◌, List, [], ◌++◌, Option, Some, None}
+use Rattle.std.specs.Prelude.{◌≡◌, ℕ, Bool, true, false, if◌then◌else◌, List, [], ◌++◌, Option, Some, None}
 use Rattle.std.specs.Prelude.{Result, Ok, Err, codes, decimal, nat_eq}
 use Rattle.std.specs.IoError.{error_kind}
 use Rattle.std.specs.declared.fs.locks.TryLockError.{TryLockError}
@@ -35,7 +35,7 @@ refusal_status (refusals.Short p) = 1
 refusal_status refusals.Trimmed = 1
 refusal_status (refusals.Several greatest) = greatest
 
--- what is told of it
+-- what is reported of it
 abbrev pub refusal_text : Refusal → List ℕ
 refusal_text (refusals.Run fault) = run_text fault
 refusal_text (refusals.Keep fault) = keep_text fault
@@ -48,7 +48,7 @@ refusal_text (refusals.Short p) = codes "SHORT " ++ place_text p
 refusal_text refusals.Trimmed = codes "TRIMMED"
 refusal_text (refusals.Several greatest) = codes "STATUS " ++ decimal greatest
 
--- it is told on standard error: all but what was told before
+-- it is reported on standard error, unless the output has reported it
 abbrev pub is_told : Refusal → Bool
 is_told (refusals.Run fault) = true
 is_told (refusals.Keep fault) = true
@@ -61,25 +61,25 @@ is_told (refusals.Short p) = true
 is_told refusals.Trimmed = false
 is_told (refusals.Several greatest) = false
 
--- the line in which it is told
+-- the line in which it is reported
 abbrev pub refusal_line : Refusal → List ℕ
 refusal_line refusal = if is_told refusal then refusal_text refusal ++ codes "\n" else []
 
--- what is told where a file isn't locked
+-- what is reported if a file isn't locked
 abbrev pub lock_refusal : TryLockError → Refusal
 lock_refusal locks.WouldBlock = refusals.InUse
 lock_refusal (locks.Error error) = refusals.Run (io_fault (error_kind error))
 
--- what is told of a log that a folder has
+-- what is reported of a log that a folder has
 abbrev pub log_refusal : LogFault → Refusal
 log_refusal (logs.Unfit why) = refusals.Log
 log_refusal (logs.File error) = refusals.Run (io_fault (error_kind error))
 
--- a job is done, with the fault of the layout that it printed, where it printed one; or it isn't, for this reason
+-- a job is done, with the fault of the layout that it printed, if it printed one; or it isn't, for this reason
 abbrev pub JobEnd : Type 0
 JobEnd = Result (Option Fault) Refusal
 
--- what is told of a log that can't be landed for this reason
+-- what is reported of a log that can't be landed for this reason
 abbrev pub landing_fault : Refusal → Refusal
 landing_fault (refusals.Run run.NoMemory) = refusals.Run run.NoMemory
 landing_fault _ = refusals.Run run.Device
@@ -90,27 +90,21 @@ unlanded (Ok _) fault = Err (landing_fault (log_refusal fault))
 unlanded (Err (refusals.Run run.File)) fault = Err (landing_fault (log_refusal fault))
 unlanded (Err refusal) fault = Err refusal
 
--- the exit status: 1 also where a fault was printed
+-- the exit status: 1 also if a fault was printed
 abbrev pub end_status : JobEnd → ℕ
 end_status (Ok None) = 0
 end_status (Ok (Some _)) = 1
 end_status (Err refusal) = refusal_status refusal
 
--- what is told of it on standard error
+-- what is reported of it on standard error
 abbrev pub end_line : JobEnd → List ℕ
 end_line (Ok _) = []
 end_line (Err refusal) = refusal_line refusal
 
--- a run over the bytes of a job's files is done, with the fault of the layout that it printed, where it printed one;
--- or it isn't, for a fault
+-- a run over the bytes of a job's files is done, with the fault of the layout that it printed, if it printed one; or it
+-- isn't, for a fault
 abbrev pub Ended : Type 0
 Ended = Result (Option Fault) RunFault
-
--- the exit status: 1 also where a fault was printed
-abbrev pub exit_status : Ended → ℕ
-exit_status (Ok None) = 0
-exit_status (Ok (Some _)) = 1
-exit_status (Err fault) = run_status fault
 
 -- the end of a job that prints no fault
 abbrev pub end_of : Result Unit RunFault → Ended
@@ -123,7 +117,7 @@ dry_end (Ok _) = Ok None
 dry_end (Err (dry.BadLine line)) = Err (run.BadLine line)
 dry_end (Err dry.Output) = Err run.File
 
--- what came of asking the system, as it is told
+-- what came of asking the system, as it is reported
 abbrev pub told_of : {T : Type 0} → Result T Error → Result T Refusal
 told_of (Ok it) = Ok it
 told_of (Err error) = Err (refusals.Run (io_fault (error_kind error)))
@@ -147,3 +141,7 @@ as_repaired (Err fault) = Err (refusals.Keep fault)
 abbrev pub as_drawn : Result (Option Fault) PictureFault → JobEnd
 as_drawn (Ok printed) = Ok printed
 as_drawn (Err fault) = Err (refusals.Draw fault)
+
+-- a run ended so, and this is how its job ended
+abbrev pub EndsAs : {A : Type 0} → (A → JobEnd) → JobEnd → (A → Type 0) → Type 0
+EndsAs {A} told end P = (ended : A) × (end ≡ told ended) × P ended

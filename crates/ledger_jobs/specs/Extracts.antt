@@ -25,14 +25,14 @@ abbrev pub refusal_of : Result (Option Fault) KeepFault → Option Place → Opt
 refusal_of (Ok found) cut = refusal_found found cut
 refusal_of (Err fault) cut = Some (refusals.Keep fault)
 
--- How it is told that the job is refused, or that it isn't: then that is said, or the output failed
+-- How it is reported whether the job is refused. If it isn't, that is printed, or the output failed
 abbrev pub IsExtractTold : {W : Type 0} → (W → Option (List ℕ)) → Option Refusal → W → W → JobEnd → Type 0
 IsExtractTold contents (Some refusal) old new end = (end ≡ Err refusal) × (new ≡ old)
 IsExtractTold contents None old new end =
     ((end ≡ Ok None) × Appends (contents old) (contents new) (codes "EXTRACTED\n"))
     ⊎ ((end ≡ Err (refusals.Run run.File)) × AppendsPart (contents old) (contents new) (codes "EXTRACTED\n"))
 
--- All files of the image were made in the folder, or not all for a fault; and that was told, with what is seen of files
+-- All files of the image were made in the folder, or not all for a fault. That was reported, with what is seen of files
 -- that are cut short. Or there was no memory to see that, and nothing was done.
 abbrev pub IsExtractEnd : {F W : Type 0} → (F → Option (List NewFile)) → (W → Option (List ℕ)) → (image : List ℕ) → F → F
     → W → W → JobEnd → Type 0

@@ -13,7 +13,7 @@ use Rattle.shop_commands.specs.Shops.{IsOpenRefusal}
 use Rattle.shop_commands.specs.declared.faults.RunFault.{RunFault}
 use Rattle.shop_commands.specs.declared.faults.RunFault.TheVariants as run
 
--- what is told of a shop whose service this fault ended
+-- what is reported of a shop whose service this fault ended
 abbrev pub loop_fault : LoopFault → RunFault
 loop_fault (loop.Open fault) = opening_fault fault
 loop_fault loop.Input = run.File
@@ -45,8 +45,8 @@ IsServiceStopped K i a image file after old_in new_in old new =
 abbrev pub IsUnserved : {F R T : Type 0} → F → F → R → R → T → T → Type 0
 IsUnserved file after old_in new_in old new = IsUntouched file after old new × (new_in ≡ old_in)
 
--- Why a shop isn't served to the end of the input: its size, memory or that it is no shop's, and then nothing was done
--- or read; the input or the output; or the file.
+-- Why a shop isn't served to the end of the input. Its size, memory, or that it is no shop's: then nothing was done or
+-- read. Or the input or the output; or the file.
 abbrev pub IsServeFault : {F R T : Type 0} → Keeps F → Input R → Answering T → (image : List ℕ)
     → F → F → R → R → T → T → RunFault → Type 0
 IsServeFault K i a image file after old_in new_in old new run.ImageSize =

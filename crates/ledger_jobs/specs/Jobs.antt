@@ -8,8 +8,8 @@ use Rattle.ledger_jobs.specs.declared.jobs.Reading.{Reading}
 use Rattle.ledger_jobs.specs.declared.jobs.Reading.TheVariants as readings
 use Rattle.rel_records.specs.File.{IsLength}
 
--- the numbers of a job are in their ranges: tills 1 to 64, and of a file that is made the bytes of a record 1 to 254;
--- a new file can have the name that a file gets; and the name of a new disk has 16 bytes at most
+-- the numbers of a job are in their ranges: tills 1 to 64, and the bytes of a record of a file that is made 1 to 254. A
+-- new file can have the name that a file gets. The name of a new disk has 16 bytes at most
 abbrev pub IsFit : Job → Type 0
 IsFit (jobs.Format image tills) = (1 ≤ tills) × (tills ≤ 64)
 IsFit (jobs.FormatNew image tills) = (1 ≤ tills) × (tills ≤ 64)

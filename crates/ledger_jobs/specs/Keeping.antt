@@ -41,7 +41,7 @@ pub record IsTakingRun {W : Type 0} (contents : W → Option (List ℕ)) (what :
     (ended : Result Unit KeepFault) : Type 0 where
   -- 0: it was printed
   pub done : keep_end ended ≡ 0 → IsTaken contents what image name old new
-  -- else what is told is so
+  -- otherwise the reported fault holds
   pub fault : IfErr ended (IsTakingFault what image name)
   -- 1: the image has another size, its layout is in the way, or there is no such file; nothing was printed
   pub size : length image ≢ 174848 → keep_end ended ≡ 1
@@ -49,7 +49,7 @@ pub record IsTakingRun {W : Type 0} (contents : W → Option (List ℕ)) (what :
   -- 3: the output failed, or there was no memory
   pub statuses : (keep_end ended ≡ 0) ⊎ ((keep_end ended ≡ 1) ⊎ (keep_end ended ≡ 3))
 
--- the exit status of a repair: 1 also where sectors are left
+-- the exit status of a repair: 1 also if sectors are left
 abbrev pub repair_end : Result ℕ KeepFault → ℕ
 repair_end (Ok n) = if nat_eq n 0 then 0 else 1
 repair_end (Err fault) = keep_status fault
@@ -61,9 +61,9 @@ IsRepairedFile free K contents image file after old new n =
     IsUnfailed K file after × IsTakenUp K image file after
     (λ disk left. IsRepairDone free (in_run K file) contents image disk left old new n)
 
--- Why a file isn't repaired, or that not told: its size, memory, that it is of another kind, or that its disk isn't
--- sound, and then nothing was done; the output, and then it is mended; or the file, and then each image that it kept on
--- the way is sound and has the same files.
+-- Why a file isn't repaired, or that isn't printed. Its size, memory, that it is of another kind, or that its disk isn't
+-- sound: then nothing was done. The output: then it is mended. Or the file: then each image that it kept in between is
+-- sound and has the files of the first one.
 abbrev pub IsRepairedFault : {F W : Type 0} → Bool → Keeps F → (image : List ℕ) → F → F → W → W → KeepFault → Type 0
 IsRepairedFault free K image file after old new keep.ImageSize =
     (length image ≢ 174848) × IsUntouched file after old new
@@ -85,9 +85,9 @@ IsRepairedFault free K image file after old new _ = ⊥
 pub record IsRepairOver {F W : Type 0} (free : Bool) (K : Keeps F) (contents : W → Option (List ℕ)) (image : List ℕ)
     (file new_file : F)
     (old new : W) (ended : Result ℕ KeepFault) : Type 0 where
-  -- it is repaired, and that was told
+  -- it is repaired, and that was printed
   pub done : IfOk ended (IsRepairedFile free K contents image file new_file old new)
-  -- else what is told is so
+  -- otherwise the reported fault holds
   pub fault : IfErr ended (IsRepairedFault free K image file new_file old new)
   pub size : length image ≢ 174848 → repair_end ended ≡ 1
   -- 1 for a fault: the image has another size, is of another kind, or isn't sound; neither file nor output was touched

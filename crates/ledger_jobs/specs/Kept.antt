@@ -30,9 +30,9 @@ use Rattle.script_lines.specs.Lines.{lines}
 -- What changes the disk of an image, over the file that was handed in and is handed back, ended so.
 pub record IsKeptOver {F W : Type 0} (image : List ℕ) (file new_file : F) (old new : W) (Done : Type 0)
     (Fault : KeepFault → Type 0) (ended : Result Unit KeepFault) : Type 0 where
-  -- 0: it is done, and that was told
+  -- 0: it is done, and that was printed
   pub done : keep_end ended ≡ 0 → Done
-  -- else what is told is so
+  -- otherwise the reported fault holds
   pub fault : IfErr ended Fault
   -- 1: the image, or what was asked for, is in the way; neither file nor output was touched
   pub size : length image ≢ 174848 → keep_end ended ≡ 1
@@ -61,9 +61,9 @@ IsMadeFile K contents image name L file after old new =
     IsUnfailed K file after
     × IsTakenUp K image file after (λ disk left. IsMakeDone (in_run K file) contents image name L disk left old new)
 
--- Why no file is made, or that not told: what the image holds is in the way, and then nothing was done; or the output
--- failed, and then it is made; or the file did, and then it has the files of before, or those and the new one, and
--- nothing was printed.
+-- Why no file is made, or that isn't printed. What the image holds is in the way: then nothing was done. Or the output
+-- failed: then it is made. Or the file failed: then it has the files of before, or those and the new one, and nothing was
+-- printed.
 abbrev pub IsMadeFault : {F W : Type 0} → Keeps F → (image name : List ℕ) → ℕ → F → F → W → W → KeepFault → Type 0
 IsMadeFault K image name L file after old new keep.ImageSize = (length image ≢ 174848) × IsUntouched file after old new
 IsMadeFault K image name L file after old new keep.NoMemory = (length image ≡ 174848) × IsUntouched file after old new
@@ -87,8 +87,8 @@ IsMakeOver K contents image name L file after old new ended =
     IsKeptOver image file after old new (IsMadeFile K contents image name L file after old new)
     (IsMadeFault K image name L file after old new) ended
 
--- The disk was clean, `file` is the first closed relative file of the name, the text's lines are of these records,
--- which it has or can have, and whatever was held on the way is sound, with a beginning of those that count.
+-- The disk was clean, `file` is the first closed relative file of the name, and the text's lines are of these records,
+-- which it has or can have. Whatever was held on the way is sound, and has the first of those that count.
 pub record IsStoringRun {D : Type 0} (S : History D) (name text : List ℕ) (old new : D) : Type 0 where
   pub layout : Layout
   pub clean : IsCleanLayout (S.image old) layout
@@ -99,11 +99,11 @@ pub record IsStoringRun {D : Type 0} (S : History D) (name text : List ℕ) (old
   pub all : List NewRecord
   pub are_lines : AreLinesOf (record_length file.slot) (records_had file) (lines text) all
   pub held : HeldOnly S old new (IsStoring (S.image old) layout number file all)
-  -- files that are whole are so in each image held; only if a shop's REQUESTS is to grow nothing is said
+  -- files that are whole are whole in each image held; nothing is said of this only if a shop's REQUESTS is to grow
   pub whole : (NeverGrows (HasStock layout) file.slot → greatest all ≤ records_had file) → HoldsWhole S old new
 
--- And there was room, all of them are stored, and the disk is clean; the lines of those that count, of each record its
--- last, and were otherwise, and nothing else, were printed, in order.
+-- And there was room, all of them are stored, and the disk is clean. The output has, in order, the lines of the records
+-- that changed, each by the last line that names it.
 pub record IsStoringDone {D W : Type 0} (S : History D) (contents : W → Option (List ℕ)) (name text : List ℕ)
     (old new : D) (before after : W) : Type 0 where
   pub run : IsStoringRun S name text old new
@@ -111,7 +111,7 @@ pub record IsStoringDone {D W : Type 0} (S : History D) (contents : W → Option
   pub clean : IsClean (S.image new)
   pub has : HasRecords (S.image old) (S.image new) run.layout run.number
       (stored (record_length run.file.slot) run.all (grown_to (S.image old) run.file (greatest run.all)))
-  -- where those that count were so already no sector was written
+  -- if those that count were there already, no sector was written
   pub quiet : AreSo (record_length run.file.slot) (records (S.image old) run.file) (last_ones run.all)
       → WritesNothing S old new
   pub printed : Appends (contents before) (contents after)
@@ -130,8 +130,8 @@ abbrev pub IsKeptAsItWas : {F W : Type 0} → Keeps F → (image : List ℕ) →
 IsKeptAsItWas K image file after old new =
     IsTakenUp K image file after (λ disk left. Changes (in_run K file) disk left 0 (λ c. c ≡ disk.image)) × (new ≡ old)
 
--- Why records aren't stored, or that not told: what the image or the text holds is in the way, and then nothing was
--- done; or the output or the file failed, and then what was stored until then stays.
+-- Why records aren't stored, or that isn't printed. What the image or the text holds is in the way: then nothing was
+-- done. Or the output or the file failed: then what was stored until then stays.
 abbrev pub IsStoredFault : {F W : Type 0} → Keeps F → (image name text : List ℕ) → F → F → W → W → KeepFault → Type 0
 IsStoredFault K image name text file after old new keep.ImageSize = (length image ≢ 174848)
     × IsUntouched file after old new

@@ -14,15 +14,15 @@ use Rattle.ledger_jobs.specs.declared.refusals.Refusal.TheVariants as refusals
 abbrev pub IsServedOut : JobEnd → Type 0
 IsServedOut end = IsOk end ⊎ (end ≡ Err (refusals.Run run.File))
 
--- A service ended so over a log in a folder, and is told as this end.
+-- A service ended so over a log in a folder, and this end is reported.
 pub record IsLandedEnd {F D : Type 0} {G : Ghosts F} (h : FolderHistory D) (log : LiveLog F D G) (ended : JobEnd)
     (folder : Option D) (end : JobEnd) : Type 0 where
   -- the log of one that ended with `Device` is left where it is
   pub left : ended ≡ Err (refusals.Run run.Device) → (end ≡ ended) × (folder ≡ None)
-  -- otherwise it is landed: if the end is told as good, or as one of the input or the output, IMAGE has what the log
+  -- otherwise it is landed: if the end is reported as good, or as one of the input or the output, IMAGE has what the log
   -- stood for, and there is no log
   pub tried : ended ≢ Err (refusals.Run run.Device) → IsSome folder
   pub landed : (image : Image) → (of_live h).stands_for log image → IsServedOut end
       → IfSome folder (λ d. RestsAlone h d image)
-  -- what is told is how it ended, or that the log couldn't be landed
+  -- what is reported is how it ended, or that the log couldn't be landed
   pub told : (end ≡ ended) ⊎ ((end ≡ Err (refusals.Run run.Device)) ⊎ (end ≡ Err (refusals.Run run.NoMemory)))

@@ -12,7 +12,8 @@ use Rattle.shop_commands.specs.declared.faults.RunFault.{RunFault}
 use Rattle.shop_commands.specs.declared.faults.RunFault.TheVariants as run
 use Rattle.shop_log.specs.ImageLogs.{LogHistory}
 
--- The disk of the image was served over the log to this end: batch by batch, each durable before it was told.
+-- The disk of the image was served over the log to this end, batch by batch. Each batch was durable before its replies
+-- were reported.
 pub record IsLoggedTo {L R T : Type 0} (h : LogHistory L) (i : BatchInput R) (o : LogOutput L T) (image : List ℕ)
     (log after : L) (old_in new_in : R) (old new : T) (end : MemDisk → Result MemDisk (LoopFault × MemDisk)) : Type 0 where
   pub size : length image ≡ 174848
@@ -25,8 +26,8 @@ pub record IsLoggedTo {L R T : Type 0} (h : LogHistory L) (i : BatchInput R) (o 
 abbrev pub IsUnlogged : {L R T : Type 0} → L → L → R → R → T → T → Type 0
 IsUnlogged log after old_in new_in old new = (after ≡ log) × (new_in ≡ old_in) × (new ≡ old)
 
--- Why a shop isn't served over a log to the end of the input: its size, memory or that it is no shop's, and then nothing
--- was read, written or told; the input or the output; or the log, which takes no more.
+-- Why a shop isn't served over a log to the end of the input. Its size, memory, or that it is no shop's: then nothing was
+-- read, written or reported. Or the input or the output; or the log, which takes no more.
 abbrev pub IsLoggedFault : {L R T : Type 0} → LogHistory L → BatchInput R → LogOutput L T → (image : List ℕ)
     → L → L → R → R → T → T → RunFault → Type 0
 IsLoggedFault h i o image log after old_in new_in old new run.ImageSize =

@@ -13,7 +13,7 @@ use Rattle.ledger_jobs.specs.declared.jobs.Taking.{Taking}
 use Rattle.ledger_jobs.specs.declared.refusals.Refusal.{Refusal}
 use Rattle.ledger_jobs.specs.declared.refusals.Refusal.TheVariants as refusals
 
--- what is seen of an image, where it has the size of a disk
+-- what is seen of an image, if it has the size of a disk
 abbrev pub IsSeen : (image : List ℕ) → Option (List ℕ) → Option Place → Type 0
 IsSeen image name (Some p) = (length image ≡ 174848) × IsToldOfImage image name (Some p)
 IsSeen image name None = length image ≡ 174848 → IsToldOfImage image name None
@@ -33,26 +33,26 @@ abbrev pub IsJudged : (image : List ℕ) → Loss → Option Refusal → Type 0
 IsJudged image loss None = MayBeLost image loss
 IsJudged image loss (Some refusal) = (loss ≡ losses.Refused) × IsLossFault image refusal
 
--- A job that may change the image ended so: it was refused for what is lost, and what it was handed is untouched; or a
+-- A job that may change the image ended so. It was refused for what is lost, and what was passed to it is untouched; or a
 -- run over the image ended so.
 abbrev pub IsGuarded : (image : List ℕ) → Loss → (Untouched : Type 0) → (IsRun : JobEnd → Type 0) → JobEnd → Type 0
 IsGuarded image loss Untouched IsRun end =
     ((refusal : Refusal) × (end ≡ Err refusal) × (loss ≡ losses.Refused) × IsLossFault image refusal × Untouched)
     ⊎ (MayBeLost image loss × IsRun end)
 
--- a run that ended so is told as this end
+-- a run that ended so is reported as this end
 abbrev pub IsEndOf : (Ended → Type 0) → JobEnd → Type 0
 IsEndOf IsRun end = (ended : Ended) × (end ≡ as_job ended) × IsRun ended
 
--- a run that prints no fault and ended so is told as this end
+-- a run that prints no fault and ended so is reported as this end
 abbrev pub IsEndOfRun : (Result Unit RunFault → Type 0) → JobEnd → Type 0
 IsEndOfRun IsRun end = (ended : Result Unit RunFault) × (end ≡ as_job (end_of ended)) × IsRun ended
 
--- a run over the files of an image that ended so is told as this end
+-- a run over the files of an image that ended so is reported as this end
 abbrev pub IsKeptEndOf : (Result Unit KeepFault → Type 0) → JobEnd → Type 0
 IsKeptEndOf IsRun end = (ended : Result Unit KeepFault) × (end ≡ as_kept ended) × IsRun ended
 
--- a repair that ended so is told as this end
+-- a repair that ended so is reported as this end
 abbrev pub IsRepairedEndOf : (Result ℕ KeepFault → Type 0) → JobEnd → Type 0
 IsRepairedEndOf IsRun end = (ended : Result ℕ KeepFault) × (end ≡ as_repaired ended) × IsRun ended
 
@@ -62,7 +62,7 @@ taken_end (Ok _) (Some p) = Err (refusals.Short p)
 taken_end (Ok _) None = Ok None
 taken_end (Err fault) _ = Err (refusals.Keep fault)
 
--- What was asked for of the file of a name was printed, and then it is told whether that is all that the file had; or
+-- What was asked for of the file of a name was printed, and then it is reported whether that is all that the file had; or
 -- it wasn't printed. There may be no memory to see, and then nothing was printed.
 abbrev pub IsTakingEnd : {W : Type 0} → (contents : W → Option (List ℕ)) → Taking → (image name : List ℕ) → W → W
     → JobEnd → Type 0

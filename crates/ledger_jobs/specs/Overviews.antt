@@ -3,7 +3,7 @@ use Rattle.std.specs.Prelude.{◌≡◌, ◌++◌, ℕ, List, [], Option, Some, 
 use Rattle.std.specs.declared.alloc.Global.{Global}
 use Rattle.std.specs.Io.KnownBytes.{Appends}
 use Rattle.ledger_jobs.specs.Drawings.{IsDrawingRun}
-use Rattle.ledger_jobs.specs.Ends.{JobEnd, as_drawn, as_job, end_line, end_status}
+use Rattle.ledger_jobs.specs.Ends.{EndsAs, JobEnd, as_drawn, as_job, end_line, end_status}
 use Rattle.ledger_jobs.specs.Listings.{IsListingRun, as_listed}
 use Rattle.ledger_jobs.specs.Runs.{IsReadingEnd}
 use Rattle.ledger_jobs.specs.declared.jobs.Drawing.TheVariants as drawings
@@ -12,10 +12,6 @@ use Rattle.ledger_jobs.specs.declared.jobs.Overview.{Overview}
 use Rattle.ledger_jobs.specs.declared.jobs.Overview.TheVariants as overviews
 use Rattle.ledger_jobs.specs.declared.jobs.Reading.TheVariants as readings
 use Rattle.named_lines.specs.Named.{named}
-
--- a run ended so, and this is how its job ended
-abbrev pub EndsAs : {A : Type 0} → (A → JobEnd) → JobEnd → (A → Type 0) → Type 0
-EndsAs {A} told end P = (ended : A) × (end ≡ told ended) × P ended
 
 -- what is asked of an image that is alone ended so
 abbrev pub IsOverview : {W : Type 0} → (W → Option (List ℕ)) → Overview → (image : List ℕ) → W → W → JobEnd → Type 0
@@ -28,7 +24,7 @@ IsOverview contents (overviews.Check findings.All) image old new end =
 IsOverview contents overviews.Map image old new end =
     EndsAs as_drawn end (IsDrawingRun contents drawings.Map image old new)
 
--- a text, and the line that tells of this end, were printed with a name before each line; the end's status is this
+-- a text, and the line that reports this end, were printed with a name before each line; the end's status is this
 pub record IsToldAs {W : Type 0} (contents : W → Option (List ℕ)) (name text : List ℕ) (end : JobEnd) (old new : W)
     (status : ℕ) : Type 0 where
   pub told : Appends (contents old) (contents new) (named name (text ++ end_line end))

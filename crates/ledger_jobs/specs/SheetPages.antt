@@ -12,7 +12,7 @@ use Rattle.ledger_jobs.specs.declared.refusals.Refusal.{Refusal}
 abbrev pub Loaded : Type 0
 Loaded = Result (List ℕ) Refusal
 
--- the same of bytes that the code holds
+-- what was read of an image, from what the code holds
 abbrev pub as_loaded : Result (Vec ℕ Global) Refusal → Loaded
 as_loaded (Ok image) = Ok (vec_items image)
 as_loaded (Err refusal) = Err refusal
@@ -28,7 +28,7 @@ abbrev pub IsTileOf : {W : Type 0} → (W → Option (List ℕ)) → List ℕ �
 IsTileOf contents path (Ok image) old new status = IsTilePrinted contents path image old new status
 IsTileOf contents path (Err refusal) old new status = IsUnreadTile contents path refusal old new status
 
--- the same of what a source gave at this path
+-- one tile was printed, that of what a source gave at this path
 pub record IsTileFrom {W : Type 0} (gives : List ℕ → Loaded → Type 0) (contents : W → Option (List ℕ)) (path : List ℕ)
     (old new : W) (status : ℕ) : Type 0 where
   pub read : Loaded

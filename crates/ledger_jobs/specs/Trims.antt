@@ -5,7 +5,7 @@ use Rattle.disk_pictures.specs.declared.faults.PictureFault.{PictureFault}
 use Rattle.ledger_jobs.specs.Ends.{JobEnd}
 use Rattle.ledger_jobs.specs.declared.refusals.Refusal.TheVariants as refusals
 
--- it ended so: they were printed, and what isn't there was told; or not, for this fault
+-- it ended so: they were printed, and what isn't there was listed; or not, for this fault
 pub record IsTrimRun {W E : Type 0} (contents : W → Option (List ℕ)) (told : E → Option (List ℕ)) (image : List ℕ)
     (old new : W) (err new_err : E) (ended : Result Bool PictureFault) : Type 0 where
   pub done : IfOk ended (IsTrimmed contents told image old new err new_err)

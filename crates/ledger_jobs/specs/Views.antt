@@ -1,4 +1,4 @@
--- What comes of an image of which something is printed that isn't judged. Our own.
+-- What comes of an image of which something is printed that isn't checked. Our own.
 use Rattle.std.specs.Prelude.{◌≡◌, ◌≢◌, List, ℕ, None, Option, Result, Ok, Err, IfErr, OnOk}
 use Rattle.disk_pictures.specs.Views.{AreFreePrinted, IsSectorPrinted, IsViewFault}
 use Rattle.disk_pictures.specs.declared.faults.PictureFault.{PictureFault}
@@ -18,7 +18,7 @@ pub record IsViewRun {W : Type 0} (contents : W → Option (List ℕ)) (what : V
     (ended : Result Unit PictureFault) : Type 0 where
   -- it was printed
   pub done : OnOk ended (IsViewed contents what image old new)
-  -- otherwise what is told is so, and nothing was printed, but where the output failed
+  -- otherwise the reported fault holds, and nothing was printed, unless the output failed
   pub fault : IfErr ended (IsViewFault image)
   pub untouched : IfErr ended (λ fault. fault ≢ faults.File → new ≡ old)
 

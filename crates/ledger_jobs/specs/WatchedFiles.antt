@@ -1,4 +1,4 @@
--- Replies that are told only while the shop's file is there. Our own.
+-- Replies that are passed only while the shop's file is there. Our own.
 use Rattle.std.specs.Prelude.{◌≡◌, ◌⊎◌, ⊤, Bool, true, false, List, [], ◌∷◌, ◌++◌, refl}
 use Rattle.request_cards.specs.declared.reply.Reply.{Reply}
 use Rattle.request_cards.specs.declared.reply.Reply.TheVariants.{Cut, Syntax, Told}
@@ -14,17 +14,17 @@ media_for Syntax = Syntax
 media_for Cut = Cut
 media_for (Told till number word) = Told till number Media
 
--- the replies before were told, and then this one, whole or in part
+-- the replies before were passed, and then this one, whole or in part
 abbrev pub IsToldOrPart : {T : Type 0} → Output T → T → T → List (Reply × Instant) → Reply × Instant → Type 0
 IsToldOrPart o old new turns last = o.told old new (turns ++ last ∷ []) ⊎ o.broken_off old new turns last
 
--- The last reply was broken off, and the file was there; or the file had gone, and MEDIA was told in its place.
+-- The last reply was broken off, and the file was there; or the file had gone, and MEDIA was passed in its place.
 abbrev pub IsBrokenOff : {T : Type 0} → Output T → (gone : Bool) → T → T → List (Reply × Instant) → Reply × Instant → Type 0
 IsBrokenOff o gone old new turns last =
     ((gone ≡ false) × o.broken_off old new turns last)
     ⊎ ((gone ≡ true) × IsToldOrPart o old new turns (media_for last.0, last.1))
 
--- What an output says of itself to which replies go while a file is there: the file was there when each was told.
+-- What an output to which replies go while a file is there says of itself: the file was there when each was passed.
 abbrev pub while_there : {N T : Type 0} → Answering T → Output (WhileThere N T)
 while_there a = record {
   told = λ old new turns. (new.out.ghost_name ≡ old.out.ghost_name) × (new.gone ≡ old.gone)

@@ -13,7 +13,7 @@ use std::rt::Files;
 use system_files::ShownPath;
 
 /// The sector where the first file of the image at a path is cut short, as its shop is now. None also if another program
-/// has the image alone, if the image can't be read, and of standard input.
+/// has the image alone, if the image can't be read, and for standard input.
 fn cut_at<F, R>(rt: &R, path: &str) -> Option<Place>
 where
     F: Read + Locks + OpenFile + Drop,
@@ -28,7 +28,7 @@ where
 
 /// Prints for a person, after the verdict of a check, where the first file of the image is cut short, if one is: a line
 /// `SHORT t/s`. The image's file is opened, locked with others that read it, and read once more for it. If that can't be
-/// done, or the line not be printed, nothing is printed.
+/// done, or the line can't be printed, nothing is printed.
 pub fn tell_cut<F, R, E>(rt: &R, job: &Job<'_>, err: &mut E)
 where
     F: Read + Locks + OpenFile + Drop,
@@ -43,7 +43,7 @@ where
     }
 }
 
-/// Prints for a person where the first file of an image is cut short before it is played.
+/// Prints for a person, before an image is played, where its first file is cut short.
 fn warn_of_cut<F, R, E>(rt: &R, image: &str, err: &mut E)
 where
     F: Read + Locks + OpenFile + Drop,
@@ -57,9 +57,9 @@ where
     }
 }
 
-/// Prints for a person which file a job is going to replace, or where the first file of an image that is going to be
-/// played is cut short, if there is one; that image is locked with others that read it while it is read. If a line can't
-/// be printed, there is nobody left to tell.
+/// Prints for a person which file a job is going to replace. If a job is going to play an image, it prints where the
+/// first file of the image is cut short, if one is. That image is locked with others that read it while it is read. If a
+/// line can't be printed, this isn't reported: nobody reads standard error.
 pub fn announce<F, R, E>(rt: &R, job: &Job<'_>, err: &mut E)
 where
     F: Read + Locks + OpenFile + Drop,

@@ -14,10 +14,10 @@ use system_files::replace_image;
 /// How many bytes an image has.
 const IMAGE_BYTES: usize = 174_848;
 
-/// Writes an image over all that a file holds, brings it to the disk, and prints `COPIED`. If power goes on the way, the
-/// file has what it could have before, or is no sound disk's, or has the image. `ImageSize`: nothing was done. `File` if
-/// the file failed, which then has a part of the image and nothing is printed, or `out`, which then has a beginning of
-/// what is printed.
+/// Writes an image over all that a file holds, syncs it, and prints `COPIED`. If power goes on the way, the file has what
+/// it could have before, or is no sound disk's, or has the image. `ImageSize`: nothing was done. `File` if the file
+/// failed, which then has a part of the image, and nothing is printed. `File` also if `out` failed, which then has a
+/// prefix of what is printed.
 pub fn copy_run<F: EndedFile, W: Write>(
     image: &[u8],
     file: &mut F,
@@ -42,7 +42,7 @@ fn copied(ended: Result<(), RunFault>) -> Result<Option<Fault>, RunFault> {
     }
 }
 
-/// Copies the image at a path, as its shop is now, to a file at another, where none may stand.
+/// Copies the image at a path, as its shop is now, to a file at another path, at which there must be none.
 pub(crate) fn do_copying<F, R, W>(
     rt: &R,
     path: &str,

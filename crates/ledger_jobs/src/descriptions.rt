@@ -50,7 +50,7 @@ where
 /// that read it while it is read.
 ///
 /// `Several`: an image has a fault or is refused, as the output says. `File` if the output failed, and `NoMemory`: the
-/// images behind that one aren't read.
+/// images after that one aren't read.
 pub(crate) fn do_describing<F, R, W>(
     rt: &R,
     paths: &[&str],

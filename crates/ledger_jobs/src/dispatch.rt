@@ -25,14 +25,14 @@ use crate::refusals::Refusal;
 use crate::serving_images::do_serving;
 use crate::serving_logs::do_logged_serving;
 use crate::sheets::do_sheet;
-use crate::shop_runs::{format_run, reading_run};
+use crate::shop_runs::{ended, reading_run};
 use crate::viewing::do_viewing;
 use disk_layout::Fault;
 use disk_pictures::PictureFault;
 use host_session::Printer;
 use keeper_commands::KeepFault;
 use shop_commands::{
-    Durability, EndedFile, Locks, OverwrittenFile, RunFault, read_image, read_script,
+    Durability, EndedFile, Locks, OverwrittenFile, RunFault, format_image, read_image, read_script,
 };
 use std::alloc::Global;
 use std::fs::{File, OpenFile};
@@ -40,7 +40,7 @@ use std::io::{self, Read, Write};
 use std::rt::Files;
 use system_files::opened_to_read;
 
-/// What came of the system's part of a job, as it is told.
+/// What came of the system's part of a job, as it is reported.
 pub(crate) fn told<T>(taken: io::Result<T>) -> Result<T, Refusal>
     ensures { result ≡ told_of taken }
 {
@@ -107,7 +107,7 @@ fn bytes_of<R: Read + Drop>(
     }
 }
 
-/// Does what is asked of these bytes, where they could be read; else tells why they couldn't.
+/// Does what is asked of these bytes, if they could be read; otherwise returns why they couldn't.
 fn over_read<W: Write>(
     alloc: Global,
     what: Reading,
@@ -124,8 +124,8 @@ fn over_read<W: Write>(
     }
 }
 
-/// Does what is asked of the bytes that a reader has, where it could be opened; else tells why it couldn't. `File`
-/// where the file couldn't be opened or read, or the output failed; `NoMemory`; and what is wrong with the bytes.
+/// Does what is asked of the bytes that a reader has, if it could be opened; otherwise returns why it couldn't. `File` if
+/// the file couldn't be opened or read, or the output failed; `NoMemory`; and what is wrong with the bytes.
 pub fn do_over<R: Read + Drop, W: Write>(
     alloc: Global,
     what: Reading,
@@ -143,7 +143,7 @@ pub fn do_over<R: Read + Drop, W: Write>(
     }
 }
 
-/// Locks an image, where it could be opened, so that nobody writes it while it is read. A script isn't locked.
+/// Locks an image, if it could be opened, so that nobody writes it while it is read. A script isn't locked.
 fn lock_opened<F: Locks>(what: Reading, opened: &mut io::Result<F>) -> Result<(), Refusal> {
     match (what, opened) {
         (Reading::Dry, _) | (_, Err(_)) => Ok(()),
@@ -159,7 +159,7 @@ fn opened_for<R: Files>(rt: &R, what: Reading, path: &str) -> io::Result<R::File
     }
 }
 
-/// The sectors of the image that was opened at a path, where a log beside it gives them. A script has none.
+/// The sectors of the image that was opened at a path, if a log beside it gives them. A script has none.
 fn opened_log<F, R>(
     rt: &R,
     what: Reading,
@@ -217,10 +217,10 @@ where
     requires few { tills ≤ 64 }
 {
     let mut file = OverwrittenFile::new(AtPath::new(rt, path, older));
-    let ended = format_run(rt.alloc(), tills, &mut file, out);
+    let made = format_image(rt.alloc(), tills, &mut file, out);
     match file.opener().refused() {
         Some(refusal) => Err(refusal),
-        None => job_end(ended),
+        None => job_end(ended(made)),
     }
 }
 
@@ -312,14 +312,16 @@ where
     drawn_end(drawing_run(rt.alloc(), what, image.as_slice(), out))
 }
 
-/// Opens or reads the job's files and does it; what is printed goes to `out`, which is flushed at the end. An image is
-/// locked before anything of it is read or changed: alone where it is written. If a log stands beside it, it is landed
-/// before the image is written, and read in the place of the image otherwise. `InUse` where another program has it; `Log`
-/// if its log gives no image; `File` where a file couldn't be opened or read, and the faults of `reading_run`,
-/// `format_run`, `play_durably`, `serve_guarded`, `serve_logged_guarded`, `copy_run`, `repair_guarded`, `make_guarded`,
-/// `store_guarded`, `take_told`, `extract_run`, `listing_run`, `drawing_run`, `comparing_run` and `view_run`. `Trim` ends with `File`, since it reports on
-/// standard error: call `do_trim`. What is wrong with one of several images is printed, and only an
-/// output that failed ends the job before the last of them.
+/// Opens or reads the job's files and does it. What is printed goes to `out`, which is flushed at the end. An image is
+/// locked before anything of it is read or changed; if it is written, this program has it alone. If a log stands beside
+/// it, the log is landed before the image is written; otherwise it is read in the place of the image.
+///
+/// `InUse` if another program has the image; `Log` if its log gives no image; `File` if a file couldn't be opened or
+/// read. The other faults are those of `reading_run`, `format_image`, `play_durably`, `serve_guarded`,
+/// `serve_logged_guarded`, `copy_run`, `repair_guarded`, `make_guarded`, `store_guarded`, `take_told`, `extract_run`,
+/// `listing_run`, `drawing_run`, `comparing_run` and `view_run`. `Trim` ends with `File`, since it reports on standard
+/// error: call `do_trim`. What is wrong with one of several images is printed; only a failed output ends the job before
+/// the last of them.
 pub fn do_job<F, R, W>(rt: &R, job: &Job<'_>, out: &mut W) -> Result<Option<Fault>, Refusal>
 where
     F: EndedFile + Read + Locks + OpenFile + Drop,

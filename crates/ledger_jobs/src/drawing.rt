@@ -7,9 +7,8 @@ use disk_pictures::{PictureFault, map_image, picture_image, poster_image};
 use std::alloc::Global;
 use std::io::Write;
 
-/// Draws an image, and answers the fault that a check of it tells, which is drawn too. `ImageSize`; `Layout` where the
-/// directory's sectors aren't a chain on track 18; `NoMemory`: nothing was printed then. `File` where the output
-/// failed.
+/// Draws an image, and returns the fault that a check of it reports, which is drawn too. `ImageSize`; `Layout` if the
+/// directory's sectors aren't a chain on track 18; `NoMemory`: nothing was printed then. `File` if the output failed.
 pub fn drawing_run<W: Write>(
     alloc: Global,
     what: Drawing,

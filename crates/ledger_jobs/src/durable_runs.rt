@@ -1,4 +1,4 @@
-//! Runs over a file, and what of it stays where the machine loses power.
+//! Runs over a file, and what of it stays if the machine loses power.
 ghost use Rattle.std.specs.Prelude.{◌≡◌, ◌≢◌, IfErr, IfSome, take};
 ghost use Rattle.shop_commands.specs.Durable.{IsSynced};
 ghost use Rattle.shop_commands.specs.ImageFile.{placed};
@@ -19,8 +19,8 @@ use line_server::{Answers, LineSource};
 use shop_commands::{Durability, ImageFile, RunFault, WritesAt};
 use std::alloc::Global;
 
-/// Plays the script on the shop of the image that the file has, as `play_run` does, and hands the file back. Its
-/// sectors are brought to the disk so: each before its reply is told, or all at the end. `Device` also where that
+/// Plays the script on the shop of the image that the file has, as `play_run` does, and hands the file back. Its sectors
+/// are synced as `durability` says: each before its line's reply is passed, or all at the end. `Device` also if a sync
 /// failed.
 pub fn play_durably<F: WritesAt, T: ReplySink<KeptMirror<ImageFile<F>>>>(
     alloc: Global,
@@ -30,12 +30,12 @@ pub fn play_durably<F: WritesAt, T: ReplySink<KeptMirror<ImageFile<F>>>>(
     durability: Durability,
     out: &mut T,
 ) -> (F, Result<Option<Fault>, RunFault>)
-    // where each sector is brought to the disk, so is what the file holds, and these bytes were read of that
+    // if each sector is synced, what the file holds was synced too, and then these bytes were read from it
     requires synced { IsSynced F.held F.lasting durability file }
     requires image { IfSome (F.held file) (λ all. image.now ≡ take 174849 all) }
     ensures run { IsDurableRun {G = F.WritesAt.own} durability image.now file result.0 result.1
         (λ first left end. IsPlayRun placed T.output image.now script.now first left out.old out.new end) }
-    // where neither the file nor the output is blamed, nothing was done
+    // if neither the file nor the output is reported, nothing was done
     ensures untouched { IfErr result.1 (λ fault. fault ≢ File → fault ≢ Device
         → IsUntouched file result.0 out.old out.new) }
 {
@@ -45,8 +45,8 @@ pub fn play_durably<F: WritesAt, T: ReplySink<KeptMirror<ImageFile<F>>>>(
     (left.into_inner(), end)
 }
 
-/// Serves the shop of the image that the file has, as `serve_run` does, and hands the file back. Its sectors are
-/// brought to the disk so: each before its reply is told, or all at the end. `Device` also where that failed.
+/// Serves the shop of the image that the file has, as `serve_run` does, and hands the file back. Its sectors are synced
+/// as `durability` says: each before its line's reply is passed, or all at the end. `Device` also if a sync failed.
 pub fn serve_durably<F, R, T>(
     alloc: Global,
     image: &[u8],
@@ -59,13 +59,13 @@ where
     F: WritesAt,
     R: LineSource<KeptMirror<ImageFile<F>>>,
     T: Answers<KeptMirror<ImageFile<F>>>,
-    // where each sector is brought to the disk, so is what the file holds, and these bytes were read of that
+    // if each sector is synced, what the file holds was synced too, and then these bytes were read from it
     requires synced { IsSynced F.held F.lasting durability file }
     requires image { IfSome (F.held file) (λ all. image.now ≡ take 174849 all) }
     ensures run { IsDurableRun {G = F.WritesAt.own} durability image.now file result.0 result.1
         (λ first left end. IsServeRun placed R.input T.answering image.now first left
         input.old input.new out.old out.new end) }
-    // where neither the file nor the input or the output is blamed, nothing was done or read
+    // if neither the file nor the input or the output is reported, nothing was done or read
     ensures untouched { IfErr result.1 (λ fault. fault ≢ File → fault ≢ Device
         → IsUnserved file result.0 input.old input.new out.old out.new) }
 {

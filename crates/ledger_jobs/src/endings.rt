@@ -1,4 +1,4 @@
-//! How a job ends: what is told of it on standard error, and the exit status.
+//! How a job ends: what is reported of it on standard error, and the exit status.
 ghost use Rattle.std.specs.Prelude.{◌≡◌, IfErr, IsOk, OnErr, OnOk};
 ghost use Rattle.std.specs.Io.KnownBytes.{Appends};
 ghost use Rattle.host_session.specs.runs.Outputs.{AppendsPart};
@@ -10,8 +10,8 @@ use disk_layout::Fault;
 use host_session::{NotTaken, write_whole};
 use std::io::Write;
 
-/// Tells a refusal in one line; of what the output has told, nothing. Its error where standard error failed, which then
-/// has a beginning of the line: there is nobody left to tell.
+/// Prints a refusal in one line; nothing if the output has reported it. Its error is that standard error failed, and then
+/// has a first part of the line. This can't be reported.
 pub fn tell<E: Write>(err: &mut E, refusal: Refusal) -> Result<(), NotTaken>
     ensures told { OnOk result (Appends (E.contents err.old) (E.contents err.new) (refusal_line refusal)) }
     ensures part { OnErr result (AppendsPart (E.contents err.old) (E.contents err.new) (refusal_line refusal)) }
@@ -27,20 +27,20 @@ pub fn tell<E: Write>(err: &mut E, refusal: Refusal) -> Result<(), NotTaken>
     write_whole(err, line.as_slice())
 }
 
-/// How a job ended, as the program tells it.
+/// How a job ended, as the program reports it.
 #[derive(Clone, Copy, Debug, PartialEq, Eq)]
 pub struct Ending {
     /// The exit status.
     pub status: u8,
-    /// Whether what was to be told on standard error was taken whole.
+    /// Whether what was to be reported on standard error was taken whole.
     pub told: Result<(), NotTaken>,
 }
 
-/// The end of a job that ended so. Its status is 1 also where a check told a fault, on the output. Tells why the job
-/// isn't done, where it isn't, in one line: with status 1 what the image or the script has wrong, as `IMAGE SIZE`,
-/// `LAYOUT LOOP 17/0`, `BAD CARD 3` or `SCRIPT LINE 2`; with status 3 `FILE` where a file couldn't be opened or read,
-/// the image not made, or the output failed, `DEVICE` where the file of `play` failed, `IN USE` where another program
-/// has the image, or `NO MEMORY`. Where standard error failed it has a beginning of the line, and `told` is an error.
+/// The end of a job that ended so. If the job isn't done, it prints why, in one line. With status 1 that is what the
+/// image or the script has wrong, such as `IMAGE SIZE`, `LAYOUT LOOP 17/0`, `BAD CARD 3` or `SCRIPT LINE 2`. The status
+/// is 1 also if a check reported a fault, on the output. With status 3 it is `FILE` if a file couldn't be opened or read,
+/// the image wasn't made, or the output failed. It is `DEVICE` if the file of `play` failed, `IN USE` if another program
+/// has the image, or `NO MEMORY`. If standard error failed, it has a first part of the line, and `told` is an error.
 pub fn end<E: Write>(ended: Result<Option<Fault>, Refusal>, err: &mut E) -> Ending
     ensures status { result.status ≡ end_status ended }
     ensures quiet { IsOk ended → (err.new ≡ err.old) × IsOk result.told }

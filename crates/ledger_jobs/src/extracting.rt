@@ -37,7 +37,7 @@ impl<'a, R> SystemFolder<'a, R> {
 }
 
 impl<R: Files> SystemFolder<'_, R> {
-    /// Sees that the folder is made. An error, and a refusal, if something stood at its path before.
+    /// Checks that the folder is made. An error, and a refusal, if something stood at its path before.
     fn see_made(&mut self) -> io::Result<()> {
         if self.is_made {
             return Ok(());
@@ -97,8 +97,8 @@ fn found_refusal(found: Option<Fault>, cut: Option<Place>) -> Option<Refusal>
     }
 }
 
-/// Why the files of an image aren't all made and whole: the fault for which they weren't made, the first fault of what
-/// was, or that a file is cut short there.
+/// Why the files of an image aren't all made and whole. It is the fault for which they weren't made, the first fault of a
+/// file that was made, or the place where one is cut short.
 fn extract_refusal(ended: Result<Option<Fault>, KeepFault>, cut: Option<Place>) -> Option<Refusal>
     ensures { result ≡ refusal_of ended cut }
 {
@@ -119,8 +119,8 @@ fn tell_extracted<W: Write>(refused: Option<Refusal>, out: &mut W) -> Result<Opt
 }
 
 /// Makes all files of an image in a folder, as `extract_image` does, and prints `EXTRACTED` if all are whole. Otherwise
-/// nothing is printed: `Keep` with the first fault of a file or of the directory, `Short` if a file of a sound disk is cut
-/// short, or why the files aren't made. `File` if the output failed; `NoMemory`.
+/// nothing is printed. `Keep` has the first fault of a file or of the directory, or why the files aren't made. `Short`: a
+/// file of a sound disk is cut short. `File` if the output failed; `NoMemory`.
 pub fn extract_run<N: NewFolder, W: Write>(
     alloc: Global,
     image: &[u8],
@@ -134,7 +134,8 @@ pub fn extract_run<N: NewFolder, W: Write>(
     tell_extracted(extract_refusal(ended, cut), out)
 }
 
-/// Makes all files of the image at a path, as its shop is now, in a folder at another, where nothing may stand.
+/// Makes all files of the image at a path, as its shop is now, in a folder at another path, at which there must be
+/// nothing.
 pub(crate) fn do_extracting<F, R, W>(
     rt: &R,
     path: &str,

@@ -12,7 +12,7 @@ use system_files::{regular, regular_at};
 /// again.
 pub(crate) const STANDARD_INPUT: &str = "/dev/stdin";
 
-/// How many bytes the file has, and one more; 0 where it isn't opened, or the system doesn't tell.
+/// One more than how many bytes the file has; 0 if it isn't opened, or the system doesn't say.
 pub(crate) fn room_for<F: OpenFile>(opened: &io::Result<F>) -> usize {
     match opened {
         Ok(file) => match file.metadata() {
@@ -33,7 +33,7 @@ pub(crate) fn script_at<R: Files + Input + AllocGlobal>(rt: &R, path: &str) -> i
     read_script(rt.alloc(), opened?, room)
 }
 
-/// Sees that nothing stands at a path but a regular file, or nothing at all, before a file is made there.
+/// Checks that nothing stands at a path but a regular file, or nothing at all, before a file is made there.
 fn see_replaceable<R: Files>(rt: &R, path: &str) -> io::Result<()> {
     match regular_at(rt, path) {
         Ok(_) => Ok(()),
@@ -94,7 +94,7 @@ impl<'a, R> AtPath<'a, R> {
 }
 
 impl<R: Files + AllocGlobal> AtPath<'_, R> {
-    /// The file, opened, or made. None is made beside a log alone, which may be all that is left of a shop.
+    /// The file, opened, or made. If only a log is there, none is made: the log may be all that is left of a shop.
     fn made(&mut self) -> io::Result<R::File> {
         let mut how = OpenOptions::new();
         how.write(true);

@@ -15,7 +15,7 @@ use system_files::{opened_to_change, opened_to_read};
 /// How many bytes an image has.
 const IMAGE_BYTES: u64 = 174_848;
 
-/// What is told of this fault of a log.
+/// What is reported for this fault of a log.
 pub(crate) fn log_refusal(fault: &LogFault) -> Refusal
     ensures { result ≡ refusal_of fault.now }
 {
@@ -40,7 +40,7 @@ fn is_there<R: Files>(rt: &R, path: &str) -> io::Result<bool> {
     }
 }
 
-/// The regular file at a path, opened to be changed, which this program has alone. `InUse` where another has it.
+/// The regular file at a path, opened to be changed, which this program has alone. `InUse` if another program has it.
 pub(crate) fn opened_alone<F, R>(rt: &R, path: &str) -> Result<F, Refusal>
 where
     F: Locks + Drop,
@@ -66,8 +66,8 @@ where
     }
 }
 
-/// Sees that no log stands beside the image at a path, which this program has alone: one that stands there is landed, and
-/// that there is none is brought to the disk. Whoever came before may have been killed after a log's removal.
+/// Ensures that no log stands beside the image at a path, which this program has alone. A log that stands there is
+/// landed, and its removal is synced. A program that came before may have been killed after it removed the log.
 fn settle_log<F, R>(rt: &R, path: &str) -> Result<(), Refusal>
 where
     F: EndedFile + OpenFile + Drop,

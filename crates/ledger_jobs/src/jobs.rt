@@ -9,7 +9,7 @@ use shop_commands::{Durability, NameForm};
 pub enum Reading {
     /// The directory of an image, with its names in this form.
     List(NameForm),
-    /// Whether the layout of an image is clean, and else what is wrong with it.
+    /// Whether the layout of an image is clean, and if not, what is wrong with it.
     Check,
     /// What an image holds of a shop: how far new cards may go, the cards, and the last two requests of each till.
     Show,
@@ -35,7 +35,7 @@ pub enum Columns {
     Fields,
 }
 
-/// How an image is drawn: which sector is whose, and what a check of it tells.
+/// How an image is drawn: which sector is whose, and what a check of it reports.
 #[derive(Clone, Copy, Debug, PartialEq, Eq)]
 pub enum Drawing {
     /// A line for each track, for a terminal.
@@ -46,10 +46,10 @@ pub enum Drawing {
     Poster,
 }
 
-/// Where the requests of a shop that is served come to the disk first.
+/// To which file the requests of a shop that is served are synced first.
 #[derive(Clone, Copy, Debug, PartialEq, Eq)]
 pub enum Way {
-    /// A log beside the image, which other jobs read while it is served. It is brought to the image at the end.
+    /// A log beside the image, which other jobs read while it is served. Its image is copied into IMAGE at the end.
     OverLog,
     /// The image itself, sector by sector, and no other file.
     InPlace,
@@ -75,7 +75,7 @@ pub enum Overview {
     Map,
 }
 
-/// What is printed of an image that isn't judged.
+/// What is printed of an image that isn't checked.
 #[derive(Clone, Copy, Debug, PartialEq, Eq)]
 pub enum View {
     /// How many sectors of each track its map calls free.
@@ -107,7 +107,7 @@ pub enum Unowned {
 pub enum Effect {
     /// It writes them.
     Written,
-    /// It prints them alone, and the image stays as it is.
+    /// Only the lines are printed, and the image stays as it is.
     Printed,
 }
 
@@ -118,14 +118,14 @@ pub enum Job<'a> {
     Format {
         /// The image's path.
         image: &'a str,
-        /// How many tills the shop has, 1 to 64. Who makes a job sees to it.
+        /// How many tills the shop has, 1 to 64. The caller that makes a job ensures that.
         tills: u8,
     },
     /// The image of an empty shop, in a file that isn't there yet.
     FormatNew {
         /// The image's path.
         image: &'a str,
-        /// How many tills the shop has, 1 to 64. Who makes a job sees to it.
+        /// How many tills the shop has, 1 to 64. The caller that makes a job ensures that.
         tills: u8,
     },
     /// The image of an empty disk, in a file that isn't there yet.
@@ -156,14 +156,14 @@ pub enum Job<'a> {
         /// The image's path.
         image: &'a str,
     },
-    /// The messages of a script, played on the shop of an image, which is brought to the disk at the end.
+    /// The messages of a script, played on the shop of an image, which is synced at the end.
     Play {
         /// The image's path.
         image: &'a str,
         /// The script's path.
         script: &'a str,
     },
-    /// The same, but each sector is brought to the disk before the next is written.
+    /// The messages of a script, played as `Play` does; but each sector is synced before the next is written.
     PlaySynced {
         /// The image's path.
         image: &'a str,
@@ -186,11 +186,11 @@ pub enum Job<'a> {
     Serve {
         /// The image's path.
         image: &'a str,
-        /// Where the requests come to the disk first.
+        /// To which file the requests are synced first.
         way: Way,
-        /// When they are brought there: before a reply is told, or when the system likes.
+        /// When they are synced: before their replies are passed, or when the operating system does it.
         durability: Durability,
-        /// What is done where the disk has lost a part of a file.
+        /// What is done if the disk has lost a part of a file.
         loss: Loss,
     },
     /// An image of its own that holds what the shop of an image is now, in a file that isn't there yet.
@@ -204,7 +204,7 @@ pub enum Job<'a> {
     Repair {
         /// The image's path.
         image: &'a str,
-        /// What is done where the disk has lost a part of a file.
+        /// What is done if the disk has lost a part of a file.
         loss: Loss,
         /// What is done with sectors that are taken and no file's.
         unowned: Unowned,
@@ -231,11 +231,11 @@ pub enum Job<'a> {
     Make {
         /// The image's path.
         image: &'a str,
-        /// The name of the file, which a new file can have. Who makes a job sees to it.
+        /// The name of the file, which a new file can have. The caller that makes a job ensures that.
         name: Name,
-        /// How many bytes a record has, 1 to 254. Who makes a job sees to it.
+        /// How many bytes a record has, 1 to 254. The caller that makes a job ensures that.
         length: u8,
-        /// What is done where the disk has lost a part of a file.
+        /// What is done if the disk has lost a part of a file.
         loss: Loss,
     },
     /// The first file of a name, which gets another name on the disk of an image.
@@ -264,7 +264,7 @@ pub enum Job<'a> {
         records: &'a str,
         /// How its lines have the records.
         columns: Columns,
-        /// What is done where the disk has lost a part of a file.
+        /// What is done if the disk has lost a part of a file.
         loss: Loss,
     },
     /// An image that is read, drawn.
@@ -274,7 +274,7 @@ pub enum Job<'a> {
         /// The image's path.
         image: &'a str,
     },
-    /// What is printed of an image that is read and not judged.
+    /// What is printed of an image that is read and not checked.
     View {
         /// What is printed.
         what: View,
@@ -303,7 +303,8 @@ pub enum Job<'a> {
         /// The second image's path.
         after: &'a str,
     },
-    /// Several images that are read, in their order: what is printed of each, and why it is refused, behind its name.
+    /// Several images that are read, in their order. What is printed of each, and why it is refused, stands after its
+    /// name.
     Several {
         /// What is printed of each.
         what: Overview,

@@ -26,8 +26,8 @@ use std::fs::OpenFile;
 use std::io::{Read, Write};
 use std::rt::Files;
 
-/// The file at a path that a keeper's job writes, and its bytes: it is this program's alone, and what it holds is on
-/// the disk. Each sector is brought to the disk before the next is written.
+/// The file at a path that a keeper's job writes, and its bytes. It is this program's alone, and what it holds was
+/// synced. Each sector is synced before the next is written.
 fn image_to_keep<F, R>(rt: &R, path: &str) -> Result<(Vec<u8>, ImageFile<F>), Refusal>
 where
     F: EndedFile + Locks + OpenFile + Drop,
@@ -60,7 +60,7 @@ where
     ended
 }
 
-/// Repairs the image at a path, over its file, or a copy of it in memory alone.
+/// Repairs the image at a path, over its file, or only a copy of it in memory.
 pub(crate) fn do_repair<F, R, W>(
     rt: &R,
     path: &str,

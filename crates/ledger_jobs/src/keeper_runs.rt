@@ -33,7 +33,7 @@ pub fn taking_run<W: Write>(
     }
 }
 
-/// The file of a mirror whose repair ended so: `Device` where the file failed.
+/// The file of a mirror whose repair ended so: `Device` if the file failed.
 fn file_of<F: SectorFile, T: Drop>(
     mirror: KeptMirror<F>,
     ended: Result<T, KeepFault>,
@@ -51,7 +51,7 @@ fn file_of<F: SectorFile, T: Drop>(
 
 /// Repairs the disk of the image that the file keeps as `repair_image` does, prints what was mended, and hands the file
 /// back, with the number of sectors that stay taken though no file owns them. Each sector is handed to the file before
-/// memory takes it. `Device` where the file failed, `File` where the output did.
+/// memory takes it. `Device` if the file failed, `File` if the output did.
 pub fn repair_run<F: SectorFile, W: Write>(
     alloc: Global,
     image: &[u8],
@@ -59,7 +59,7 @@ pub fn repair_run<F: SectorFile, W: Write>(
     file: F,
     out: &mut W,
 ) -> (F, Result<u16, KeepFault>)
-    // where it is known what the file keeps, it is this image
+    // if it is known what the file keeps, it is this image
     requires agrees { Agrees (F.keeps.kept file) (sectors_in image.now) }
     ensures run { IsRepairOver free F.keeps W.contents image.now file result.0 out.old out.new result.1 }
 {
@@ -87,8 +87,8 @@ pub fn dry_repair_run<W: Write>(
 
 /// Makes a relative file with records of `length` bytes on the clean disk of the image that the file keeps, prints
 /// `MADE`, and hands the file back. Each sector is handed to the file before memory takes it. `FileExists`, `DiskFull`
-/// and what is wrong with the image leave file and output as they were. `Device` where the file failed: the new file is
-/// made or isn't. `File` where the output did: it is made.
+/// and what is wrong with the image leave file and output as they were. `Device` if the file failed: the new file is made
+/// or isn't. `File` if the output did: it is made.
 pub fn make_run<F: SectorFile, W: Write>(
     alloc: Global,
     image: &[u8],
@@ -99,7 +99,7 @@ pub fn make_run<F: SectorFile, W: Write>(
 ) -> (F, Result<(), KeepFault>)
     requires name { IsNewName name.now }
     requires length { IsLength length }
-    // where it is known what the file keeps, it is this image
+    // if it is known what the file keeps, it is this image
     requires agrees { Agrees (F.keeps.kept file) (sectors_in image.now) }
     ensures run { IsMakeOver F.keeps W.contents image.now name.now length file result.0 out.old out.new result.1 }
 {
@@ -113,10 +113,9 @@ pub fn make_run<F: SectorFile, W: Write>(
 }
 
 /// Stores records, from the lines of a text, in the first closed relative file of this name of the clean disk of the
-/// image that the file keeps, prints the lines of those that were otherwise, and hands the file back. Each sector is
-/// handed to the file before memory takes it. `NoFile`, `BadLine`, `DiskFull` and what is wrong with the image leave
-/// file and output as they were. `Device` where the file failed, `File` where the output did: what was stored until
-/// then stays.
+/// image that the file keeps. It prints the lines of those that changed, and hands the file back. Each sector is handed
+/// to the file before memory takes it. `NoFile`, `BadLine`, `DiskFull` and what is wrong with the image leave file and
+/// output as they were. `Device` if the file failed, `File` if the output did: what was stored until then stays.
 pub fn store_run<F: SectorFile, W: Write>(
     alloc: Global,
     image: &[u8],
@@ -125,7 +124,7 @@ pub fn store_run<F: SectorFile, W: Write>(
     file: F,
     out: &mut W,
 ) -> (F, Result<(), KeepFault>)
-    // where it is known what the file keeps, it is this image
+    // if it is known what the file keeps, it is this image
     requires agrees { Agrees (F.keeps.kept file) (sectors_in image.now) }
     ensures run { IsStoreOver F.keeps W.contents image.now name.now text.now file result.0 out.old out.new result.1 }
 {

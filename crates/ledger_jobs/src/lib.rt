@@ -60,7 +60,7 @@ pub use overviews::overview_run;
 pub use refusals::Refusal;
 pub use serving_files::serve_file;
 pub use serving_runs::serve_run;
-pub use shop_runs::{format_run, play_run, reading_run};
+pub use shop_runs::{play_run, reading_run};
 pub use system_files::ClosedStreams;
 pub use trimming::{do_trim, trim_run};
 pub use viewing::{view_run, viewed_end};

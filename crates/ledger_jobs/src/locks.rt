@@ -1,4 +1,4 @@
-//! Image files that a job locks, reads, writes and brings to the disk.
+//! Image files that a job locks, reads, writes and syncs.
 ghost use Rattle.std.specs.Prelude.{◌≡◌, IfOk, IfSome, OnOk, take, vec_items};
 ghost use Rattle.shop_commands.specs.Durable.{IsSynced};
 ghost use Rattle.ledger_jobs.specs.DurableRuns.{IsFinished};
@@ -9,9 +9,8 @@ use shop_commands::{Durability, ImageFile, Locks, RunFault, WritesAt};
 use std::alloc::Global;
 use std::io;
 
-/// Locks an image's file for this program alone. Where each sector is brought to the disk, so is first what the file
-/// holds: an earlier program's writes may still be on their way. `InUse`; `Device` where that failed. Nothing was read
-/// or changed.
+/// Locks an image's file for this program alone. If each sector is synced, what the file holds is synced first: an
+/// earlier program's writes may still be on their way. `InUse`; `Device` if the sync failed. Nothing was read or changed.
 pub(crate) fn lock_exclusive<F: Locks>(file: &mut F, durability: Durability) -> Result<(), Refusal>
     ensures owned { OnOk result (F.IsOwned file.new) }
     ensures shared { OnOk result (F.IsShared file.new) }
@@ -47,7 +46,7 @@ pub(crate) fn read_shared<F: Locks>(alloc: Global, file: &mut F) -> io::Result<V
     file.image(alloc)
 }
 
-/// The bytes of an image that this program has alone, and which are on the disk where each sector is brought there.
+/// The bytes of an image that this program has alone. If each sector is synced, they are on the disk.
 fn read_locked<F: Locks>(alloc: Global, file: &mut F, durability: Durability) -> io::Result<Vec<u8>>
     requires owned { F.IsOwned file.old }
     requires shared { F.IsShared file.old }
@@ -60,8 +59,8 @@ fn read_locked<F: Locks>(alloc: Global, file: &mut F, durability: Durability) ->
     file.image(alloc)
 }
 
-/// The bytes of an image that is to be written: its file is this program's alone first, and where each sector is
-/// brought to the disk, what it holds is there. `InUse`; `Device` where that failed; and then what `read_image` tells.
+/// The bytes of an image that is to be written. Its file is first locked for this program alone; if each sector is
+/// synced, what it holds is synced then. `InUse`; `Device` if the sync failed; and then the errors of `read_image`.
 pub(crate) fn own_image<F: Locks>(
     alloc: Global,
     file: &mut F,
@@ -79,9 +78,9 @@ pub(crate) fn own_image<F: Locks>(
     }
 }
 
-/// How a run over a file ends once the rest of what it wrote is brought to the disk. `Device` where it was done, or its
-/// output alone failed, and that fails; a fault of the image or the script leaves nothing to bring there, and a file
-/// that failed isn't asked again.
+/// How a run over a file ends after the rest of what it wrote is synced. `Device` if the sync fails after a run that was
+/// done, or whose output failed. After a fault of the image or the script there is nothing to sync, and a file that
+/// failed isn't synced again.
 pub(crate) fn finished<F: WritesAt>(
     file: &mut ImageFile<F>,
     ended: Result<Option<Fault>, RunFault>,

@@ -9,12 +9,12 @@ use shop_log::ImageLog;
 use std::alloc::Global;
 
 /// Serves the shop of an image over a log that stands for that image, batch by batch up to the end of the input. The
-/// lines at hand are handled in memory, made durable by one commit, and then their replies are told.
+/// lines at hand are handled in memory, made durable by one commit, and then their replies are reported.
 ///
 /// `ImageSize`; `NoMemory` if there was none for the disk or for a batch; and the faults of an opening, in its order:
-/// nothing was read, written or told then. `File`: the input couldn't be read, or the output failed; the lines before
-/// stand, and of one batch at most some weren't told. `Device`: the log takes no more commits; the last batch counts
-/// whole or not, and nothing of it was told.
+/// nothing was read, written or reported then. `File`: the input couldn't be read, or the output failed; the lines before
+/// stand, and of one batch at most some weren't reported. `Device`: the log takes no more commits. Then the last batch
+/// counts whole or not, and no reply of it was reported.
 // Out of line: a session is large, and a frame that has its room touches each page of it.
 #[inline(never)]
 pub fn serve_logged<L: ImageLog, R: BatchSource, T: Reports<L>>(

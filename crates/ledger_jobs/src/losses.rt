@@ -1,4 +1,5 @@
-//! What a disk has lost of its files: it is seen before a job changes the disk, and told where a file is taken out.
+//! What a disk has lost of its files: it is looked for before a job changes the disk, and reported if a file is taken
+//! out.
 ghost use Rattle.std.specs.Prelude.{◌≡◌, IfErr, IfOk, IfSome, option_map, take};
 ghost use Rattle.d64_image.specs.Keeps.{Agrees};
 ghost use Rattle.d64_image.specs.Memory.{sectors_in};
@@ -36,8 +37,8 @@ use shop_log::ImageLog;
 use std::alloc::Global;
 use std::io::Write;
 
-/// The place where the first file of an image is cut short, of all or of those of a name. None also where the image has
-/// another size, or its disk isn't sound. `NoMemory` alone may be told.
+/// The place where the first file of an image is cut short, of all or of those of a name. None also if the image has
+/// another size, or its disk isn't sound. The only error is `NoMemory`.
 pub(crate) fn cut_in(
     alloc: Global,
     image: &[u8],
@@ -78,8 +79,8 @@ pub(crate) fn run_end(ended: Result<(), RunFault>) -> Result<Option<Fault>, Refu
     }
 }
 
-/// Serves the shop of the image that the file has, as `serve_durably` does, unless a file of it is cut short and no loss
-/// is accepted: `Short` then, and nothing was read or changed.
+/// Serves the shop of the image that the file has, as `serve_durably` does. If a file of it is cut short and no loss is
+/// accepted, the error is `Short`, and nothing was read or changed.
 pub fn serve_guarded<F, R, T>(
     alloc: Global,
     image: &[u8],
@@ -93,7 +94,7 @@ where
     F: WritesAt,
     R: LineSource<KeptMirror<ImageFile<F>>>,
     T: Answers<KeptMirror<ImageFile<F>>>,
-    // where each sector is brought to the disk, so is what the file holds, and these bytes were read of that
+    // if each sector is synced, what the file holds was synced too, and then these bytes were read from it
     requires synced { IsSynced F.held F.lasting durability file }
     requires image { IfSome (F.held file) (λ all. image.now ≡ take 174849 all) }
     ensures { IsGuarded image.now loss (IsUnserved file result.0 input.old input.new out.old out.new)
@@ -108,8 +109,8 @@ where
     (left, job_end(ended))
 }
 
-/// Serves the shop of an image over a log that stands for it, as `serve_logged` does, unless a file of the image is cut
-/// short and no loss is accepted: `Short` then, and nothing was read, written or told.
+/// Serves the shop of an image over a log that stands for it, as `serve_logged` does. If a file of the image is cut short
+/// and no loss is accepted, the error is `Short`, and nothing was read, written or reported.
 pub fn serve_logged_guarded<L: ImageLog, R: BatchSource, T: Reports<L>>(
     alloc: Global,
     image: &[u8],
@@ -128,8 +129,8 @@ pub fn serve_logged_guarded<L: ImageLog, R: BatchSource, T: Reports<L>>(
     run_end(serve_logged(alloc, image, log, input, out))
 }
 
-/// Repairs the disk of the image that the file keeps, as `repair_run` does, unless a file of it is cut short and no loss
-/// is accepted: `Short` then, and nothing was printed or changed.
+/// Repairs the disk of the image that the file keeps, as `repair_run` does. If a file of it is cut short and no loss is
+/// accepted, the error is `Short`, and nothing was printed or changed.
 pub fn repair_guarded<F: SectorFile, W: Write>(
     alloc: Global,
     image: &[u8],
@@ -138,7 +139,7 @@ pub fn repair_guarded<F: SectorFile, W: Write>(
     loss: Loss,
     out: &mut W,
 ) -> (F, Result<Option<Fault>, Refusal>)
-    // where it is known what the file keeps, it is this image
+    // if it is known what the file keeps, it is this image
     requires agrees { Agrees (F.keeps.kept file) (sectors_in image.now) }
     ensures { IsGuarded image.now loss (IsUntouched file result.0 out.old out.new)
         (IsRepairedEndOf (IsRepairOver free F.keeps W.contents image.now file result.0 out.old out.new)) result.1 }
@@ -150,8 +151,8 @@ pub fn repair_guarded<F: SectorFile, W: Write>(
     (left, repaired_end(ended))
 }
 
-/// Repairs a copy of the image in memory, as `dry_repair_run` does, unless a file of it is cut short and no loss is
-/// accepted: `Short` then, and nothing was printed.
+/// Repairs a copy of the image in memory, as `dry_repair_run` does. If a file of it is cut short and no loss is accepted,
+/// the error is `Short`, and nothing was printed.
 pub fn dry_repair_guarded<W: Write>(
     alloc: Global,
     image: &[u8],
@@ -168,8 +169,8 @@ pub fn dry_repair_guarded<W: Write>(
     repaired_end(dry_repair_run(alloc, image, free, out))
 }
 
-/// Makes a relative file on the disk of the image that the file keeps, as `make_run` does, unless a file of it is cut
-/// short and no loss is accepted: `Short` then, and nothing was printed or changed.
+/// Makes a relative file on the disk of the image that the file keeps, as `make_run` does. If a file of the image is cut
+/// short and no loss is accepted, the error is `Short`, and nothing was printed or changed.
 pub fn make_guarded<F: SectorFile, W: Write>(
     alloc: Global,
     image: &[u8],
@@ -181,7 +182,7 @@ pub fn make_guarded<F: SectorFile, W: Write>(
 ) -> (F, Result<Option<Fault>, Refusal>)
     requires name { IsNewName name.now }
     requires length { IsLength length }
-    // where it is known what the file keeps, it is this image
+    // if it is known what the file keeps, it is this image
     requires agrees { Agrees (F.keeps.kept file) (sectors_in image.now) }
     ensures { IsGuarded image.now loss (IsUntouched file result.0 out.old out.new)
         (IsKeptEndOf (IsMakeOver F.keeps W.contents image.now name.now length file result.0 out.old out.new)) result.1 }
@@ -193,8 +194,8 @@ pub fn make_guarded<F: SectorFile, W: Write>(
     (left, kept_end(ended))
 }
 
-/// Stores records on the disk of the image that the file keeps, as `store_run` does, unless a file of it is cut short
-/// and no loss is accepted: `Short` then, and nothing was printed or changed.
+/// Stores records on the disk of the image that the file keeps, as `store_run` does. If a file of it is cut short and no
+/// loss is accepted, the error is `Short`, and nothing was printed or changed.
 pub fn store_guarded<F: SectorFile, W: Write>(
     alloc: Global,
     image: &[u8],
@@ -204,7 +205,7 @@ pub fn store_guarded<F: SectorFile, W: Write>(
     loss: Loss,
     out: &mut W,
 ) -> (F, Result<Option<Fault>, Refusal>)
-    // where it is known what the file keeps, it is this image
+    // if it is known what the file keeps, it is this image
     requires agrees { Agrees (F.keeps.kept file) (sectors_in image.now) }
     ensures { IsGuarded image.now loss (IsUntouched file result.0 out.old out.new)
         (IsKeptEndOf (IsStoreOver F.keeps W.contents image.now name.now text.now file result.0 out.old out.new))
@@ -227,8 +228,8 @@ fn taken_end(ended: Result<(), KeepFault>, cut: Option<Place>) -> Result<Option<
     }
 }
 
-/// Prints what is asked for of the file of this name in an image, as `taking_run` does; `Short` where what was printed
-/// isn't all that the file had. `name` has no shifted spaces at its end.
+/// Prints what is asked for of the file of this name in an image, as `taking_run` does. `Short` if what was printed isn't
+/// all that the file had. `name` has no shifted spaces at its end.
 pub fn take_told<W: Write>(
     alloc: Global,
     what: Taking,

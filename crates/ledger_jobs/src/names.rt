@@ -31,9 +31,9 @@ fn ends_in_space(bytes: &[u8]) -> bool
 }
 
 impl Name {
-    /// The name that has this text: bytes $20 to $7E but `"` and `\` as they are, each other as `\` and two of the
-    /// digits `0-9a-f`. None where the text is of no bytes, of more than sixteen, or of such as end in a shifted space,
-    /// which would be another text of the same name.
+    /// The name that has this text: bytes $20 to $7E except `"` and `\` as they are, every other one as `\` and two of
+    /// the digits `0-9a-f`. None if the text is of no bytes, or of more than sixteen. None also if it ends in a shifted
+    /// space: it would be another text of a name.
     pub fn read(text: &str) -> Option<Name>
         ensures found { IfSome result (λ name. IsNameOf text.now (name_bytes name)) }
         ensures none { IsNone result → (bytes : List ℕ) → AreBytes bytes → IsNameOf text.now bytes → ⊥ }

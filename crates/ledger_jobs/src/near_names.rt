@@ -1,4 +1,4 @@
-//! What a person is told if an image has no file of a name: which names are near.
+//! What is printed for a person if an image has no file of a name: which names are near.
 use crate::dispatch::image_of_file;
 use crate::files::STANDARD_INPUT;
 use crate::jobs::Job;
@@ -10,7 +10,7 @@ use std::io::{Read, Write};
 use std::rt::Files;
 use system_files::ShownPath;
 
-/// What is told if no name is near.
+/// What is printed if no name is near.
 const NO_SUCH_FILE: &str = "it has no such file; `ledger list` shows what it has";
 
 /// The name of the file that it asks for.
@@ -38,7 +38,7 @@ where
     if near.is_empty() { None } else { Some(near) }
 }
 
-/// Tells that a job's image has no file of the name, and which names are near.
+/// Prints that a job's image has no file of the name, and which names are near.
 pub(crate) fn tell_name<F, R, E>(rt: &R, job: &Job<'_>, path: &str, err: &mut E)
 where
     F: Read + Locks + OpenFile + Drop,

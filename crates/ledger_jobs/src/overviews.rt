@@ -1,9 +1,9 @@
-//! Several images, each read as if it were alone; what is printed of it stands behind its name.
+//! Several images, each read as if it were alone. What is printed of each stands after its name.
 ghost use Rattle.std.specs.Prelude.{◌≡◌, IfErr, IfOk, OnOk, Some, vec_items};
 ghost use Rattle.std.specs.Io.KnownBytes.{Appends};
 ghost use Rattle.shop_commands.specs.declared.faults.RunFault.TheVariants as faults;
-ghost use Rattle.ledger_jobs.specs.Ends.{as_job};
-ghost use Rattle.ledger_jobs.specs.Overviews.{EndsAs, IsOneOfSeveral, IsOverview, IsToldAs};
+ghost use Rattle.ledger_jobs.specs.Ends.{EndsAs, as_job};
+ghost use Rattle.ledger_jobs.specs.Overviews.{IsOneOfSeveral, IsOverview, IsToldAs};
 ghost use Rattle.ledger_jobs.specs.Runs.{IsReadingEnd};
 ghost use Rattle.named_lines.specs.Named.{named};
 
@@ -55,7 +55,7 @@ fn overview<W: Write>(
     }
 }
 
-/// Prints a text behind the image's name, line by line. `File` if the output failed.
+/// Prints a text line by line, each after the image's name. `File` if the output failed.
 fn put_text<W: Write>(name: &[u8], text: &[u8], out: &mut W) -> Result<(), RunFault>
     ensures ok { OnOk result (Appends (W.contents out.old) (W.contents out.new) (named name.now text.now)) }
     ensures err { IfErr result (λ fault. fault ≡ faults.File) }
@@ -66,8 +66,8 @@ fn put_text<W: Write>(name: &[u8], text: &[u8], out: &mut W) -> Result<(), RunFa
     }
 }
 
-/// Prints behind the image's name what it printed alone, and the line that tells why it is refused. Returns its exit
-/// status.
+/// Prints what an image printed alone, and the line that reports why it is refused, each line after the image's name.
+/// Returns its exit status.
 fn tell_named<W: Write>(
     name: &[u8],
     mut text: Vec<u8>,
@@ -85,8 +85,9 @@ fn tell_named<W: Write>(
     Ok(ending.status)
 }
 
-/// Prints what is asked of one of several images, each line behind the image's name, a colon and a space: what the command
-/// prints of it alone, and the line that it would tell on standard error. Returns the exit status that it would have.
+/// Prints what is asked of one of several images. The lines are those that the command prints of this image alone, and
+/// the line that it would report on standard error. Each stands after the image's name, a colon and a space. Returns the
+/// exit status that the command would have.
 ///
 /// `File` if the output failed, which may then have a part; `NoMemory`, and nothing is printed.
 pub fn overview_run<W: Write>(
@@ -126,7 +127,7 @@ where
 /// is read.
 ///
 /// `Several`: an image has a fault or is refused, as the output says. `File` if the output failed, and `NoMemory`: the
-/// images behind that one aren't read.
+/// images after that one aren't read.
 pub(crate) fn do_several<F, R, W>(
     rt: &R,
     what: Overview,

@@ -15,9 +15,9 @@ use std::fs::TryLockError;
 pub enum Refusal {
     /// A fault of the image or the script; or of a file, the output or memory.
     Run(RunFault),
-    /// The same for a job over the files of an image.
+    /// A fault in a job over the files of an image.
     Keep(KeepFault),
-    /// The same for a job that draws an image.
+    /// A fault in a job that draws an image.
     Draw(PictureFault),
     /// Another program has the image. Nothing was read or changed.
     InUse,

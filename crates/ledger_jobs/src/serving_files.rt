@@ -10,7 +10,7 @@ use line_server::{Answers, LineSource, serve};
 use shop_commands::{RunFault, file_of, load};
 use std::alloc::Global;
 
-/// What is told of a shop whose service this fault ended: `File` of its input and of its output.
+/// What is reported of a shop whose service this fault ended: `File` for its input and for its output.
 pub(crate) fn told(fault: LoopFault) -> RunFault
     ensures { result ≡ loop_fault fault }
 {
@@ -22,11 +22,11 @@ pub(crate) fn told(fault: LoopFault) -> RunFault
 }
 
 /// Serves the shop of an image line by line, as `serve` does, over the file that keeps the image. Each sector is handed
-/// to the file before memory takes it, and so before the reply to its line is told. The file is handed back.
+/// to the file before memory takes it, and so before the reply to its line is passed. The file is handed back.
 ///
-/// `ImageSize`; `NoMemory` where there was none for the disk; and the faults of an opening, in its order: nothing was
-/// done or read then. `File`: the input couldn't be read, or the output failed; the lines before stand. `Device`: the
-/// file failed; the message of the last line counts or it doesn't.
+/// `ImageSize`; `NoMemory` if there was none for the disk; and the faults of an opening, in its order: nothing was done
+/// or read then. `File`: the input couldn't be read, or the output failed; the lines before stand. `Device`: the file
+/// failed; the message of the last line counts or it doesn't.
 // Out of line: a session is large, and a frame that has its room touches each page of it.
 #[inline(never)]
 pub fn serve_file<F: SectorFile, R: LineSource<KeptMirror<F>>, T: Answers<KeptMirror<F>>>(

@@ -78,8 +78,8 @@ fn unlanded(
     }
 }
 
-/// Lands the log of a service that ended so, unless a commit of it failed or the image's file has gone: then the log
-/// stays where it is, and the next beginning lands it. `NoMemory` or `Device` if it couldn't be landed.
+/// Lands the log of a service that ended so. If a commit of it failed or the image's file has gone, the log stays where
+/// it is, and the next service or change lands it. `NoMemory` or `Device` if it couldn't be landed.
 fn landed_end<L: LogFile, D: LogFolder<L> + Drop>(
     log: LiveLog<L, D>,
     ended: Result<Option<Fault>, Refusal>,
@@ -125,7 +125,8 @@ where
 }
 
 /// The end of a service over a log that couldn't be made, or renewed. What was made of a further log is removed, since it
-/// would keep the disk full; but only while the path leads to the image's file, which this program has alone to write.
+/// would keep the disk full. This is done only while the path leads to the image's file, which only this program may
+/// write.
 fn cleared_end<F: OpenFile, R: Files<File = F>>(
     rt: &R,
     path: &str,
@@ -142,9 +143,9 @@ fn cleared_end<F: OpenFile, R: Files<File = F>>(
 }
 
 /// Serves the shop of the image at a path, over a log beside it, to what comes on standard input. Other programs may read
-/// the image meanwhile, by its log, and none may write it. When the input ends, the log is landed: the image is the shop
-/// then. Once the path doesn't lead to the image's file any more, or the file has another length, the line at hand hears
-/// MEDIA, it ends with `Device`, and the log stays.
+/// the image meanwhile, by its log, and none may write it. When the input ends, the log is landed: then the image is the
+/// shop's. If the path doesn't lead to the image's file any more, or the file has another length, the reply to the line
+/// at hand is MEDIA. Then the service ends with `Device`, and the log stays.
 pub(crate) fn do_logged_serving<F, R, W>(
     rt: &R,
     path: &str,

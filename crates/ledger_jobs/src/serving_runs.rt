@@ -11,7 +11,7 @@ use shop_commands::RunFault;
 use std::alloc::Global;
 
 /// Serves the shop of the image that the file keeps, line by line up to the end of the input, and hands the file back.
-/// `Device` where the file failed, `File` where the input or the output did.
+/// `Device` if the file failed, `File` if the input or the output did.
 // Out of line: a session is large, and a frame that has its room touches each page of it.
 #[inline(never)]
 pub fn serve_run<F: SectorFile, R: LineSource<KeptMirror<F>>, T: Answers<KeptMirror<F>>>(
@@ -21,7 +21,7 @@ pub fn serve_run<F: SectorFile, R: LineSource<KeptMirror<F>>, T: Answers<KeptMir
     input: &mut R,
     out: &mut T,
 ) -> (F, Result<Option<Fault>, RunFault>)
-    // where it is known what the file keeps, it is this image
+    // if it is known what the file keeps, it is this image
     requires agrees { Agrees (F.keeps.kept file) (sectors_in image.now) }
     ensures run { IsServeRun F.keeps R.input T.answering image.now file result.0
         input.old input.new out.old out.new result.1 }

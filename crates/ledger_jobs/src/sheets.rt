@@ -12,7 +12,7 @@ use std::fs::OpenFile;
 use std::io::{Read, Write};
 use std::rt::Files;
 
-/// Where the images of a sheet are read.
+/// Where the images of a sheet are read from.
 trait ImageSource {
     /// What may be read at a path: an image's bytes, or why there are none.
     ghost gives: { Self → List ℕ → Loaded → Type 0 };
@@ -38,7 +38,8 @@ where
     }
 }
 
-/// Prints the tile of an image that can't be read, with what the command would tell of it alone. Returns its exit status.
+/// Prints the tile of an image that can't be read, with what the command would report of it alone. Returns its exit
+/// status.
 fn put_unread<W: Write>(
     alloc: Global,
     path: &str,
@@ -70,7 +71,7 @@ fn put_tile_of<W: Write>(
     }
 }
 
-/// Reads the image at a path, prints its tile, and returns the exit status that its picture alone would have.
+/// Reads the image at a path, prints its tile, and returns the exit status that `picture` has for it.
 fn put_tile_at<S: ImageSource, W: Write>(
     alloc: Global,
     source: &S,
@@ -119,7 +120,7 @@ fn put_sheet<S: ImageSource, W: Write>(
 /// Draws the images at these paths on a contact sheet, in their order. An image is locked with others that read it while
 /// it is read, and one image is in memory at a time.
 ///
-/// `Several`: an image has a fault or is refused, as its tile says. `File` where the output failed, and `NoMemory`.
+/// `Several`: an image has a fault or is refused, as its tile says. `File` if the output failed, and `NoMemory`.
 pub(crate) fn do_sheet<F, R, W>(
     rt: &R,
     paths: &[&str],

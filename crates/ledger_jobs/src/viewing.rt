@@ -1,4 +1,4 @@
-//! What is printed of an image that isn't judged, done over its bytes and its file.
+//! What is printed of an image that isn't checked, done over its bytes and its file.
 ghost use Rattle.std.specs.Prelude.{◌≡◌};
 ghost use Rattle.ledger_jobs.specs.Views.{IsViewRun, as_viewed};
 
@@ -13,7 +13,7 @@ use std::fs::OpenFile;
 use std::io::{Read, Write};
 use std::rt::Files;
 
-/// Prints what is asked of an image. `ImageSize`, `NoMemory`: nothing was printed then. `File` where the output failed.
+/// Prints what is asked of an image. `ImageSize`, `NoMemory`: nothing was printed then. `File` if the output failed.
 pub fn view_run<W: Write>(
     alloc: Global,
     what: View,

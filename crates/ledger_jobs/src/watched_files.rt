@@ -1,4 +1,4 @@
-//! Replies that are told only while the shop's file is there.
+//! Replies that are passed only while the shop's file is there.
 ghost use Rattle.std.specs.Prelude.{◌≡◌, if◌then◌else◌, Err};
 ghost use Rattle.shop_commands.specs.declared.faults.RunFault.TheVariants.{Device};
 ghost use Rattle.ledger_jobs.specs.WatchedFiles.{media_for as media, while_there};
@@ -13,8 +13,8 @@ use request_cards::{Reply, Word};
 use shop_commands::RunFault;
 use system_files::Stays;
 
-/// What is told in the place of a reply if the file has gone: MEDIA to the same request. A message that is no request
-/// hears so.
+/// What is passed in the place of a reply if the file has gone: MEDIA to its request. The reply to a message that is no
+/// request is MEDIA too.
 fn media_for(reply: &Reply) -> Reply
     ensures { result ≡ media reply.now }
 {
@@ -29,8 +29,8 @@ fn media_for(reply: &Reply) -> Reply
     }
 }
 
-/// An output to which replies are told while a file stays. Before each is told the file is looked for. Once it has gone,
-/// MEDIA is told in the place of the reply, and no other.
+/// An output to which replies are passed while a file stays. Before each is passed, the file is looked for. After it has
+/// gone, MEDIA is passed in the place of the reply, and no other reply.
 #[derive(Drop)]
 pub struct WhileThere<'a, N, T> {
     file: N,
@@ -51,7 +51,7 @@ impl<'a, N, T> WhileThere<'a, N, T> {
         }
     }
 
-    /// Whether the file had gone when a reply was to be told.
+    /// Whether the file had gone when a reply was to be passed.
     pub fn is_gone(&self) -> bool
         ensures { result ≡ self.now.gone }
     {
@@ -71,7 +71,7 @@ impl<'a, D: Sectors, N: Stays, T: Answers<D>> ReplySink<D> for WhileThere<'a, N,
         Err(NotTaken)
     }
 
-    // Each reply was handed on behind it.
+    // Each reply was handed on after it was passed.
     fn hand_on(&mut self) -> Result<(), NotTaken> {
         Ok(())
     }

@@ -1,4 +1,4 @@
--- Replies that are told and handed on one by one. All of it is our own.
+-- Replies that are passed and handed on one by one. All of it is our own.
 use Rattle.std.specs.Prelude.{◌≡◌, ◌⊎◌, Bool, true, List, [], ◌∷◌, ◌++◌, refl}
 use Rattle.request_cards.specs.declared.reply.Reply.{Reply}
 use Rattle.host_session.specs.events.Instants.{Instant}
@@ -6,26 +6,27 @@ use Rattle.host_session.specs.events.Telling.{Output}
 
 -- What an output of answers says of itself.
 pub record Answering (T : Type 0) : Type 1 where
-  -- what it was told
+  -- what was passed to it
   pub output : Output T
   -- whether it may have failed
   pub has_failed : T → Bool
 
--- one that says only what it was told
+-- one that says only what was passed to it
 abbrev pub of_output : {T : Type 0} → Output T → Answering T
 of_output o = record { output = o; has_failed = λ _. true }
 
--- each of these replies was told by itself, and handed on before the next one was told
+-- each of these replies was passed by itself, and handed on before the next one was passed
 abbrev pub HandedOnInTurn : {T : Type 0} → Output T → T → T → List (Reply × Instant) → Type 0
 HandedOnInTurn o old new [] = o.told old new []
 HandedOnInTurn {T} o old new (turn ∷ turns) =
     (now : T) × o.told old now (turn ∷ []) × o.is_handed_on now × HandedOnInTurn o now new turns
 
--- this reply was broken off behind these, or told, and then it couldn't be handed on
+-- after these replies this one was broken off, or it was passed and then couldn't be handed on
 abbrev pub IsHeldBack : {T : Type 0} → Output T → T → T → List (Reply × Instant) → Reply × Instant → Type 0
 IsHeldBack o old new turns last = o.broken_off old new turns last ⊎ o.told old new (turns ++ last ∷ [])
 
--- These replies were handed on one by one, and then this one was told in part, not at all, or whole and not handed on.
+-- These replies were handed on one by one. After them this one was passed in part, not at all, or whole and not handed
+-- on.
 pub record IsBrokenOff {T : Type 0} (o : Output T) (old new : T) (turns : List (Reply × Instant))
     (last : Reply × Instant) : Type 0 where
   pub all : IsHeldBack o old new turns last
@@ -43,7 +44,7 @@ at_once o = record {
   none = λ x. (o.none x, o.none x);
 }
 
--- the same of an output of answers: it failed where a reply was broken off, and nowhere else
+-- an output of answers as such an output: it failed if a reply was broken off, and only then
 abbrev pub answered : {T : Type 0} → Answering T → Output T
 answered a = record {
   told = λ old new turns. (at_once a.output).told old new turns × (a.has_failed new ≡ a.has_failed old);

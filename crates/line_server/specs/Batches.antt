@@ -10,7 +10,7 @@ use Rattle.line_server.specs.Read.{AreWhole, LacksLf}
 
 -- What an input says of itself.
 pub record BatchInput (R : Type 0) : Type 1 where
-  -- the bytes that it has left, where they are known
+  -- the bytes that it has left, if they are known
   pub remaining : R → Option (List ℕ)
   -- whether it may have failed
   pub has_failed : R → Bool
@@ -27,8 +27,8 @@ texts_of ls = map (λ l. l.items) ls
 abbrev pub AreSame : List (List ℕ) → List (List ℕ) → Type 0
 AreSame kept ls = map request_of kept ≡ map request_of ls
 
--- Lines were taken together, of which these texts were kept: 512 at most. Where the input goes on there is one at least,
--- and nothing was read behind them; otherwise what was read behind them is no line.
+-- Lines were taken together, 512 at most, of which these texts were kept. If the input goes on, there is one line at
+-- least, and nothing was read after them. Otherwise what was read after them is no line.
 pub record IsBatchTaken (old new : Option (List ℕ)) (kept : List (List ℕ)) (said : Next) : Type 0 where
   pub handled : List ℕ
   pub rest : List ℕ
@@ -40,7 +40,7 @@ pub record IsBatchTaken (old new : Option (List ℕ)) (kept : List (List ℕ)) (
   pub ahead : said ≡ next.Event → (rest ≡ []) × (0 < length kept)
   pub end : said ≡ next.End → OnSome old (IsAtEnd new)
 
--- what an input says of itself: it failed where that is told, and nowhere else
+-- what an input says of itself: it failed if it reported a failure, and only then
 abbrev pub FailedIf : {R : Type 0} → BatchInput R → R → R → Next → Type 0
 FailedIf i old new next.Failed = i.has_failed new ≡ true
 FailedIf i old new _ = i.has_failed new ≡ i.has_failed old

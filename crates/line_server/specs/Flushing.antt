@@ -3,7 +3,7 @@ use Rattle.std.specs.Prelude.{◌≡◌, ⊤, refl}
 use Rattle.host_session.specs.events.Telling.{Output}
 use Rattle.line_server.specs.declared.flushing.Flushing.{Flushing}
 
--- the same of an output that is lent; it holds nothing back
+-- what a lent output says: what the output that it stands for says; it holds nothing back
 abbrev pub lent : {T : Type 0} → Output T → Output (Flushing T)
 lent o = record {
   told = λ old new turns. (new.out.ghost_name ≡ old.out.ghost_name) × o.told old.out.now new.out.now turns;

@@ -10,7 +10,7 @@ use Rattle.line_server.specs.Read.{LacksLf}
 
 -- What an input says of itself.
 pub record Input (R : Type 0) : Type 1 where
-  -- the bytes that it has left, where they are known
+  -- the bytes that it has left, if they are known
   pub remaining : R → Option (List ℕ)
   -- from the first to the second so many lines were taken, each asked for over a disk at this instant, in this order,
   -- and no other
@@ -37,8 +37,7 @@ abbrev pub AsksOne : {R : Type 0} → Input R → R → R → Instant → Type 0
 AsksOne {R} i old new at =
     (first : R) (xs : List Instant) → i.asked first old xs → i.asked first new (xs ++ at ∷ [])
 
--- what taking a line came to: one, of which this was kept; or what was read is none, at the end or where the input
--- failed
+-- what taking a line came to: a line, of which this was kept; or, if the input ended or failed, bytes that are no line
 abbrev pub IsLineTaken : Option (List ℕ) → Option (List ℕ) → (kept : List ℕ) → Next → Type 0
 IsLineTaken old new kept next.Event =
     (raw : List ℕ) × LacksLf raw × (request_of kept ≡ request_of (without_cr raw)) × Consumes old new (raw ++ 10 ∷ [])
@@ -46,8 +45,8 @@ IsLineTaken old new kept next.End =
     (rest : List ℕ) × LacksLf rest × Consumes old new rest × OnSome old (IsAtEnd new)
 IsLineTaken old new kept next.Failed = (rest : List ℕ) × LacksLf rest × Consumes old new rest
 
--- what an input says of a line that was asked for over a disk at this instant: it failed where that is told, and
--- nowhere else
+-- what an input says of a line that was asked for over a disk at this instant: it failed if it reported a failure, and
+-- only then
 abbrev pub IsAsked : {R : Type 0} → Input R → R → R → Instant → Next → Type 0
 IsAsked i old new at next.Event = AsksOne i old new at × (i.has_failed new ≡ i.has_failed old)
 IsAsked i old new at next.End = AsksNone i old new × (i.has_failed new ≡ i.has_failed old)

@@ -18,7 +18,7 @@ use Rattle.line_server.specs.declared.inputs.InputEvents.{InputEvents}
 abbrev pub line_messages : List ℕ → List Message
 line_messages bytes = map uncut (lines bytes)
 
--- the request that a message is, if any, and where power goes in it
+-- the request that a message is, if any, and at which write power goes in it, if at any
 abbrev pub asked_in : Message → Option Ask × Option ℕ
 asked_in m = (request_of m.bytes, m.cut_after)
 
@@ -30,8 +30,8 @@ AskTheSame ms ns = map asked_in ms ≡ map asked_in ns
 abbrev pub instants_in : {X : Type 0} → List (X × Instant) → List Instant
 instants_in taken = map (λ x. x.1) taken
 
--- These messages were taken of an input, each over a disk at this instant: they ask the same as its lines up to here;
--- what was read behind them is no line.
+-- These messages were taken from an input, each over a disk at this instant. They ask what the input's lines up to here
+-- ask. What was read after these lines is no line.
 pub record HasTaken {R : Type 0} (i : Input R) (first now : InputEvents R) (taken : List (Message × Instant)) : Type 0 where
   pub same : now.input.ghost_name ≡ first.input.ghost_name
   pub handled : List ℕ
@@ -41,15 +41,15 @@ pub record HasTaken {R : Type 0} (i : Input R) (first now : InputEvents R) (take
   pub read : Consumes (i.remaining first.input.now) (i.remaining now.input.now) (handled ++ rest)
   pub asks : AskTheSame (messages_in taken) (line_messages handled)
   pub asked : i.asked first.input.now now.input.now (instants_in taken)
-  -- behind a line nothing more was read
+  -- nothing was read after a line
   pub ahead : now.said ≡ next.Event → rest ≡ []
   -- at the end the input has nothing left, unless it had been at its end before
   pub end : now.said ≡ next.End
       → (first.said ≡ next.End) ⊎ OnSome (i.remaining first.input.now) (IsAtEnd (i.remaining now.input.now))
-  -- a failure is told where the input failed, unless it had been told before, or no line more is taken
+  -- a failure is reported only if the input failed, or had been reported as failed before, or no more lines are taken
   pub failed : now.said ≡ next.Failed → (first.said ≡ next.Failed)
       ⊎ ((i.has_failed now.input.now ≡ true) ⊎ (first.left ≤ length taken))
-  -- and where none is told it didn't fail
+  -- and if none is reported, the input didn't fail
   pub passed : (now.said ≡ next.Failed) ⊎ (i.has_failed now.input.now ≡ i.has_failed first.input.now)
   -- how many lines more are taken
   pub left : now.said ≡ next.Event → first.left ≤ now.left + length taken

@@ -10,7 +10,7 @@ use Rattle.line_server.specs.declared.reading.Part.TheVariants.{Ended, Over}
 abbrev pub LacksLf : List ℕ → Type 0
 LacksLf bytes = AllByRecursion (λ b. b ≢ 10) bytes
 
--- an LF, where the line was ended
+-- an LF, if the line was ended
 abbrev pub lf_after : Bool → List ℕ
 lf_after true = 10 ∷ []
 lf_after false = []
@@ -20,7 +20,7 @@ abbrev pub has_end : Part → Bool
 has_end (Ended _) = true
 has_end _ = false
 
--- a look at the input took these bytes of a line, and its LF where it came to that
+-- a look at the input took these bytes of a line, and its LF if it came to that
 pub record TookPart (old new : Option (List ℕ)) (before after : List ℕ) (part : Part) : Type 0 where
   pub raw : List ℕ
   pub lacks : LacksLf raw

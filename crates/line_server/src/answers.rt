@@ -7,7 +7,7 @@ use d64_image::Sectors;
 use host_session::{NotTaken, ReplySink};
 use request_cards::Reply;
 
-/// An output of answers. All that can be passed replies are such, and say no more than that.
+/// An output of answers. Every output that replies can be passed to is one, and says only which replies it was passed.
 pub trait Answers<D: Sectors> {
     /// What this output says of itself: what it was passed, and whether it may have failed.
     ghost answering: { Answering Self };

@@ -11,8 +11,8 @@ use std::io::BufRead;
 /// How many lines a batch has at most.
 pub const MOST_LINES: usize = 512;
 
-/// An input of lines that gives those at hand together. Each reader is one, and says no more than which bytes it has
-/// left, where it knows them.
+/// An input of lines that gives those at hand together. Each reader is one. It says only which bytes it has left, if it
+/// knows them.
 pub trait BatchSource {
     /// What this input says of itself: the bytes that it has left, and whether it may have failed.
     ghost input: { BatchInput Self };

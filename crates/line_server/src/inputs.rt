@@ -8,10 +8,10 @@ use arrayvec::ArrayVec;
 use d64_image::Sectors;
 use host_session::{Cut, EventSource, Next};
 
-/// The lines of an input, as a source of messages. A line counts only with its LF, and one CR before that is dropped;
-/// what stands after the last LF is no line. No line is a reset. 40 bytes of a line are kept, more than a request can
-/// have, so that no memory grows with the input; a longer line is no request, and neither is what is kept of it. A
-/// read that is interrupted is tried again. All of it is our own.
+/// The lines of an input, as a source of messages. Our own rules: A line counts only with its LF. One CR before the LF is
+/// dropped. Bytes after the last LF are no line. No line is a reset. The first 40 bytes of a line are kept, which is more
+/// than a request can have, so that memory doesn't grow with the input. A longer line is no request, and its first 40
+/// bytes are none either. A read that is interrupted is tried again.
 #[derive(Drop)]
 pub struct InputEvents<'a, R> {
     input: &'a mut R,

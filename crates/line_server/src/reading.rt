@@ -7,7 +7,7 @@ ghost use Rattle.line_server.specs.Read.{LacksLf, TookPart, lf_after};
 use arrayvec::ArrayVec;
 use std::io::{self, BufRead, Error, ErrorKind};
 
-/// Where a look at the input ended.
+/// How a look at the input ended.
 #[derive(Clone, Copy)]
 pub(crate) enum Part {
     /// Before the line's LF.

@@ -8,9 +8,8 @@ use crate::sources::LineSource;
 use d64_image::Sectors;
 use host_session::{LoopFault, run};
 
-/// Serves the shop of a disk: opens it, and takes line after line of an input until that ends. Each line is handled,
-/// and its reply passed and handed on, before the next line is asked for. What comes of it are the clauses of
-/// `IsServed`.
+/// Serves the shop of a disk: opens it, and takes line after line of an input until that ends. Each line is handled, and
+/// its reply passed and handed on, before the next line is asked for. The clauses of `IsServed` say what comes of it.
 ///
 /// `Open`: nothing was read or answered. `Input`: the input failed; the lines before stand, and were answered.
 /// `Output`: the output failed; the lines up to that one stand. `Device`: the device failed in the last line, which

@@ -10,7 +10,7 @@ use d64_image::Sectors;
 use host_session::Next;
 use std::io::BufRead;
 
-/// An input of lines. Each reader is one, and says no more than which bytes it has left, where it knows them.
+/// An input of lines. Each reader is one. It says only which bytes it has left, if it knows them.
 pub trait LineSource<D: Sectors> {
     /// What this input says of itself: the bytes that it has left, over which disk each line was asked for, and whether
     /// it may have failed.

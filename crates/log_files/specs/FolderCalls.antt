@@ -28,7 +28,7 @@ abbrev pub seen_after : Folder → List FolderCall → Folder
 seen_after first [] = first
 seen_after first (call ∷ earlier) = effect call (seen_after first earlier)
 
--- what a power loss may leave after a call, where reads returned `seen`, of what it might have left before
+-- what a power loss may leave after a call, from what one might have left before; reads returned `seen` then
 abbrev pub step : FolderCall → Folder → Folder → Folder → Type 0
 step (Write index bytes) seen from s = IsImageWritten from s
 step SyncImage seen from s = (s ≡ from) × HasImage seen s

@@ -60,8 +60,8 @@ module _ {D : Type 0} (h : FolderHistory D) where
     pub failed : OnErr result (h.has_failed new ≡ true)
     pub passed : OnOk result (h.has_failed new ≡ h.has_failed old)
 
-  -- A call changed what the folder holds from `from` to `to` (at Ok), and each folder that a power loss may leave now
-  -- comes by a step of one that it might have left before.
+  -- At Ok a call changed what the folder holds from `from` to `to`. Each folder that a power loss may leave now comes by
+  -- a step from one that it might have left before.
   pub record Acts {T E : Type 0} (old new : D) (to : Folder → Folder) (step : Folder → Folder → Type 0)
       (result : Result T E) : Type 0 where
     pub ok : OnOk result ((s : Folder) → h.held old ≡ Some s → h.held new ≡ Some (to s))
@@ -69,8 +69,8 @@ module _ {D : Type 0} (h : FolderHistory D) where
     pub time : Passes old new
     pub failures : CountsFailure old new result
 
-  -- A call brought something to the disk: what a power loss leaves now it might have left before, and at Ok that has P
-  -- of what the folder holds.
+  -- A call synced something. What a power loss leaves now it might have left before, and at Ok that has P of what the
+  -- folder holds.
   pub record Brings {E : Type 0} (old new : D) (P : Folder → Folder → Type 0) (result : Result Unit E) : Type 0 where
     pub held : h.held new ≡ h.held old
     pub lent : h.lent new ≡ h.lent old
@@ -143,8 +143,8 @@ module _ {D F : Type 0} (h : FolderHistory D) (g : FileHistory F) where
     pub held : (s : Folder) (f : List ℕ) → h.held d ≡ Some s → s.log ≡ Some f → g.held file ≡ Some f
     pub left : (c : List ℕ) → g.may_leave file c → (s : Folder) × h.may_leave d s × (s.log ≡ Some c)
 
-  -- What a power loss might have left while this file is the log: of the folder from the moment t on, if that is one
-  -- before the file was lent, and of the file from its moment k on.
+  -- What a power loss might have left while this file is the log. Either the folder might have left it since t, and t is
+  -- before the file was lent; or it has as its log what the file might have left since its moment k.
   abbrev pub LeftOpen : D → F → ℕ → ℕ → Folder → Type 0
   LeftOpen d file t k s = ((t ≤ h.moment d) × h.left_since d t s)
       ⊎ ((from : Folder) × h.may_leave d from × (c : List ℕ) × g.left_since file k c × (s ≡ with_log c from))

@@ -11,7 +11,7 @@ use Rattle.log_files.specs.Folders.{AllLeft, Folder, FolderHistory, IsClosedAlon
 use Rattle.log_files.specs.Shops.{Gives, LogGives, given_by}
 use Rattle.log_files.specs.declared.live_log.LiveLog.{LiveLog}
 
--- an open log gives its image beside its base
+-- an open log on this base gives its image
 pub stands_gives : {F : Type 0} {G : Ghosts F} (log : Log F G) (base shop : Image) (stands : StandsFor log base shop)
     (image : Image) → image ≡ base → LogGives stands.bytes image shop
 stands_gives log base shop stands image is = record {
@@ -37,7 +37,7 @@ module _ {F D : Type 0} {G : Ghosts F} (h : FolderHistory D) where
   left_now d (Some log) false s = h.may_leave d s
   left_now d None used s = h.may_leave d s
 
-  -- the moment: those of the folder, and behind them those of a file that was used
+  -- the moment: those of the folder, and after them those of a file that was used
   abbrev pub moment_now : D → Option (Log F G) → Bool → ℕ
   moment_now d (Some log) true = h.moment d + 1 + file_moments d log
   moment_now d (Some log) false = h.moment d
@@ -79,7 +79,7 @@ module _ {F D : Type 0} {G : Ghosts F} (h : FolderHistory D) where
   is_shut (Some log) = log.closed
   is_shut None = true
 
-  -- the files of a folder were left alone, but that its log was closed
+  -- the files of a folder were left alone, except that its log was closed
   abbrev pub IsLeftAlone : D → Option (Log F G) → D → Type 0
   IsLeftAlone d (Some log) new = IsClosedAlone h G.history d (log_file log) new
   IsLeftAlone d None new = new ≡ d

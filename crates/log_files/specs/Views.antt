@@ -5,7 +5,7 @@ use Rattle.shop_log.specs.Recovered.{is_marked}
 use Rattle.log_files.specs.Bringing.{marked_log}
 use Rattle.log_files.specs.Shops.{given_by}
 
--- What stands there. Once the log was opened it is what the open file has, whatever its name leads to by then.
+-- What stands there. After the log was opened, it is what the open file has, whatever its name leads to by then.
 pub record Seen : Type 0 where
   pub log : Option (List ℕ)
   pub image : Image
@@ -14,9 +14,9 @@ pub record Seen : Type 0 where
 abbrev pub HasMark : Seen → Type 0
 HasMark s = (f : List ℕ) × (s.log ≡ Some f) × (is_marked f ≡ true)
 
--- What a writer may do beside a reader.
+-- What a writer may do while a reader looks.
 pub record Goes (s t : Seen) : Type 0 where
-  -- with no log nothing: who begins to write has the lock for itself
+  -- with no log nothing: a writer that begins has the lock for itself
   pub none : s.log ≡ None → t ≡ s
   -- a mark stays
   pub mark : HasMark s → HasMark t

@@ -1,4 +1,4 @@
-//! An image that is brought to IMAGE, and a log that is taken away.
+//! An image that is copied into IMAGE, and a log that is removed.
 ghost use Rattle.std.specs.Prelude.{◌≡◌, ◌<◌, [], List, OnErr, OnOk, Some, ℕ, length, slice_index_or, true};
 ghost use Rattle.d64_image.specs.Images.{Image};
 ghost use Rattle.log_files.specs.Bringing.{HasLog, IsAlone, IsBrought, RestsAlone};
@@ -56,7 +56,7 @@ pub(crate) fn bring<F: LogFile, D: LogFolder<F>>(
     folder.sync_image()
 }
 
-/// Takes the log's name away, and brings the names to the disk. IMAGE must be what the log gives.
+/// Removes the log's name, and syncs the names. IMAGE must be what the log gives.
 pub(crate) fn unlog<F: LogFile, D: LogFolder<F>>(folder: &mut D) -> io::Result<()>
     ensures any_moment { (shop : Image) → AllLeft D.history folder.old (IsBrought shop)
         → LeavesFolders D.history folder.old folder.new (IsBrought shop) }

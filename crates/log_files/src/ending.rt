@@ -11,8 +11,8 @@ use shop_log::{Log, LogFile};
 use std::alloc::Global;
 use std::io;
 
-/// Closes an open log, and lands it. A log that takes no more commits is closed, and an error. `base` is room for an
-/// image.
+/// Closes an open log, and lands it. If the log takes no more commits, it is closed and an error is returned. `base` is
+/// room for an image.
 pub(crate) fn end_log<F: LogFile, D: LogFolder<F>>(
     alloc: Global,
     folder: &mut D,

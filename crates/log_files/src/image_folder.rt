@@ -14,8 +14,8 @@ use std::os::unix::fs::MetadataExt;
 use std::rt::Files;
 use system_files::{EndedFile, opened_to_change, opened_to_read, regular};
 
-/// An image's open file, and the names of its log beside it. It is read, written, synced and closed, and not locked: the
-/// caller does that. Nothing is known of what it holds: that it satisfies the contract of `LogFolder` is trusted.
+/// An image's open file, and the names of its log beside it. The file is read, written, synced and closed. It isn't
+/// locked: the caller does that. Nothing is known of what it holds: it is trusted to satisfy the contract of `LogFolder`.
 #[derive(Drop)]
 pub struct ImageFolder<'a, R: Files> {
     rt: &'a R,
@@ -54,7 +54,7 @@ where
     R::File: EndedFile + OpenFile,
 {
     /// The folder of the image whose file this is, open to be read and written. `synced` says whether each commit is
-    /// brought to the disk; all else is. `InvalidInput` if it isn't a regular file, or has a second name, by which it
+    /// synced; everything else always is. `InvalidInput` if it isn't a regular file, or has a second name, by which it
     /// would have another log.
     pub fn new(
         rt: &'a R,

@@ -10,9 +10,9 @@ use std::fs::OpenFile;
 use std::io::{self, Read, Seek, SeekFrom};
 use std::rt::Files;
 
-/// An image's open file, and its log, which is opened when it is read and stays open. Nothing is written. What the log
-/// holds is brought to the disk when it is read, so that what is shown stays if the power fails. Nothing is known of what
-/// it holds: that it satisfies the contract of `ViewsImage` is trusted.
+/// An image's open file, and its log, which is opened when it is read and stays open. Nothing is written. The log is
+/// synced when it is read, so that what is shown stays if the power fails. Nothing is known of what the two hold: they
+/// are trusted to satisfy the contract of `ViewsImage`.
 #[derive(Drop)]
 pub struct ImageView<'a, R: Files> {
     rt: &'a R,
@@ -35,7 +35,7 @@ impl<'a, R: Files> ImageView<'a, R> {
     }
 }
 
-/// The byte behind the blocks of a log; 0 if the file ends before it.
+/// The byte after the blocks of a log; 0 if the file ends before it.
 fn byte_behind<F: Read + Seek>(file: &mut F) -> io::Result<u8> {
     file.seek(SeekFrom::Start((BLOCK * BLOCKS) as u64))?;
     let mut byte = [0];

@@ -27,8 +27,8 @@ fn is_same(one: &[[u8; 256]], other: &[[u8; 256]]) -> bool
     one == other
 }
 
-/// The image that a log gives which stands beside this IMAGE: that of its whole commits. A log with no whole base, and one
-/// of another image that isn't marked, give none: then `shop` is no disk's.
+/// The image that a log gives which stands beside this IMAGE: that of its whole commits. A log with no whole base gives
+/// none, and so does a log of another image that isn't marked. Then `shop` is no disk's image.
 pub fn judge(log: &[u8], image: &[[u8; 256]], shop: &mut [[u8; 256]]) -> Result<(), Misfit>
     requires sized { length shop.old ≡ 683 }
     ensures ok { OnOk result (LogGives log.now image.now shop.new) }

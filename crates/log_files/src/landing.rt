@@ -1,4 +1,4 @@
-//! A log that is brought to its image, and removed.
+//! A log whose image is copied into IMAGE, and which is then removed.
 ghost use Rattle.std.specs.Prelude.{◌≡◌, ◌⊎◌, IfErr, IfOk, List, OnErr, OnOk, Some, ℕ, length, option_map, true};
 ghost use Rattle.d64_image.specs.Images.{Image};
 ghost use Rattle.log_files.specs.Bringing.{IsFound, IsSettledAs, RestsAlone};
@@ -42,7 +42,7 @@ impl From<io::Error> for LogFault {
     }
 }
 
-/// Brings IMAGE and the names to the disk: whoever came before may have been killed.
+/// Syncs IMAGE and the names: a program that came before may have been killed.
 fn settle<F: LogFile, D: LogFolder<F>>(folder: &mut D) -> io::Result<()>
     ensures held { D.history.held folder.new ≡ D.history.held folder.old }
     ensures outcomes { (s : Folder) → D.history.may_leave folder.new s → D.history.may_leave folder.old s }
@@ -75,7 +75,8 @@ fn find<F: LogFile, D: LogFolder<F>>(
     folder.read_log()
 }
 
-/// Brings the image that a log gives to IMAGE, and removes the log: the mark, IMAGE, the name, each synced before the next.
+/// Copies the image that a log gives into IMAGE, and removes the log: the mark, IMAGE, the name, each synced before the
+/// next.
 fn land_found<F: LogFile, D: LogFolder<F>>(
     folder: &mut D,
     now: &[[u8; 256]],
@@ -96,7 +97,7 @@ fn land_found<F: LogFile, D: LogFolder<F>>(
     unlog(folder)
 }
 
-/// Judges the log that was found, and lands it if it gives an image.
+/// Checks the log that was found, and lands it if it gives an image.
 fn land_log<F: LogFile, D: LogFolder<F>>(
     folder: &mut D,
     log: &[u8],
@@ -119,8 +120,8 @@ fn land_log<F: LogFile, D: LogFolder<F>>(
     Ok(())
 }
 
-/// Lands a log that is there: the folder is settled, the log is judged, and the image that it gives is brought to IMAGE;
-/// then the log is removed. `shop` is that image, or IMAGE's own if there is no log. A power loss at any moment, and an
+/// Lands a log that is there: the folder is settled, the log is checked, the image that it gives is copied into IMAGE,
+/// and the log is removed. `shop` is that image, or IMAGE's own if there is no log. A power loss at any moment, and an
 /// error, leave a folder from which the next opening finds an image that it might have found before. If the log gives no
 /// image, nothing was changed.
 pub fn land<F: LogFile, D: LogFolder<F>>(

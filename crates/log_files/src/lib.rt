@@ -1,5 +1,5 @@
-//! The life of a log beside its image: it is found, judged, landed, made anew and removed, so that a power loss at any
-//! moment leaves a folder that gives the same image.
+//! The life of a log beside its image: it is found, checked, landed, made anew and removed. A power loss at any moment
+//! leaves a folder that gives the image that it gave.
 #![tactic(auto)]
 
 mod beginning;

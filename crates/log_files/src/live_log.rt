@@ -10,7 +10,7 @@ use shop_log::{ImageLog, Log, LogFile, LogRoom, none_touched};
 use std::alloc::Global;
 use std::io;
 
-/// An open log and the folder in which it stands. A commit that leaves no room for a further one brings the image to
+/// An open log and the folder in which it stands. A commit that leaves no room for a further one copies the image into
 /// IMAGE, and a new log takes the place of the full one.
 #[derive(Drop)]
 pub struct LiveLog<F: LogFile, D> {
@@ -34,8 +34,8 @@ impl<F: LogFile, D: LogFolder<F> + Drop> LiveLog<F, D> {
     ghost use Rattle.shop_log.specs.ImageLogs.{IsEither, LeavesImages};
     ghost use Rattle.shop_log.specs.Marks.{Covers};
 
-    /// Makes a log in a folder that was landed with this image, in this room. At an error the folder, which is returned,
-    /// gives the same image.
+    /// Makes a log in a folder that was landed with this image, in this room. At an error the folder is returned, and
+    /// still gives this image.
     pub fn begin(
         alloc: Global,
         mut folder: D,

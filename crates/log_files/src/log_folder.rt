@@ -7,8 +7,8 @@ use shop_log::LogFile;
 use std::io;
 
 /// The folder of an image. It has IMAGE, its log `IMAGE-log`, and `IMAGE-log.new`, a log in the making. Its history names
-/// what it holds and what a power loss may leave of it, where that is known; of a real folder nothing is. While a file of
-/// it is open, the folder speaks of the log as it was when the file was opened or got its name.
+/// what it holds and what a power loss may leave of it, if that is known; of a real folder it isn't. While a file of it
+/// is open, the folder speaks of the log as it was when the file was opened or got its name.
 pub trait LogFolder<F: LogFile> {
     /// What a folder of this type holds, and what a power loss may leave of it.
     ghost history: { FolderHistory Self };
@@ -25,7 +25,7 @@ pub trait LogFolder<F: LogFile> {
         requires within { index < 683 }
         ensures { Acts history self.old self.new (with_sector index sector.now) IsImageWritten result };
 
-    /// Brings IMAGE to the disk.
+    /// Syncs IMAGE.
     fn sync_image(&mut self) -> io::Result<()>
         ensures { Brings history self.old self.new HasImage result };
 
@@ -67,7 +67,7 @@ pub trait LogFolder<F: LogFile> {
     fn remove_log(&mut self) -> io::Result<()>
         ensures { Acts history self.old self.new unlogged IsRemoving result };
 
-    /// Brings the names to the disk.
+    /// Syncs the names.
     fn sync_folder(&mut self) -> io::Result<()>
         ensures { Brings history self.old self.new HasNames result };
 }

@@ -5,7 +5,7 @@ use std::io;
 use std::rt::Files;
 
 /// The paths of an image, of its log `IMAGE-log` and of a log in the making, `IMAGE-log.new`. If the image's path is a
-/// symbolic link, they stand beside the file that it leads to: so an image has one log, whatever its path.
+/// symbolic link, the two logs stand beside the file that it leads to. So an image has one log, whatever its path.
 #[derive(Drop)]
 pub struct LogNames {
     image: String,
@@ -13,7 +13,7 @@ pub struct LogNames {
     making: String,
 }
 
-/// A path with these letters behind it.
+/// A path with these letters after it.
 fn extended(alloc: Global, path: &str, end: &str) -> io::Result<String> {
     let mut name = String::new(alloc);
     name.push_str(path)?;
@@ -21,7 +21,8 @@ fn extended(alloc: Global, path: &str, end: &str) -> io::Result<String> {
     Ok(name)
 }
 
-/// The path of the file that this path leads to; the path itself if there is no file, or if the runtime can't tell.
+/// The path of the file that this path leads to. It is the path itself if there is no file, or if the runtime doesn't
+/// know.
 fn resolved<R: Files>(rt: &R, alloc: Global, path: &str) -> io::Result<String> {
     match rt.canonicalize(alloc, path) {
         Ok(found) => Ok(found.into_string()),
@@ -81,12 +82,12 @@ pub fn forget_making<R: Files>(rt: &R, names: &LogNames) -> io::Result<bool> {
     remove_if_there(rt, names.making())
 }
 
-/// Brings the names in the folder of an image to the disk.
+/// Syncs the names in the folder of an image.
 pub(crate) fn sync_names<R: Files>(rt: &R, names: &LogNames) -> io::Result<()> {
     File::open(rt, names.folder())?.sync_all()
 }
 
-/// Removes a log and a log in the making, for an image that is to be replaced, and brings that to the disk. Whether a
+/// Removes a log and a log in the making, for an image that is to be replaced, and syncs that. Returns whether a
 /// log was there. At an error the log may be there, or not.
 pub fn forget_log<R: Files>(rt: &R, names: &LogNames) -> io::Result<bool> {
     forget_making(rt, names)?;

@@ -10,8 +10,8 @@ use crate::log_folder::LogFolder;
 use shop_log::{Log, LogFile, LogRoom};
 use std::io;
 
-/// Makes a log whose base is the image, under the name of one in the making; brings its bytes and that name to the disk,
-/// and then gives it the log's name, in place of a log that may have it and gives the same image.
+/// Makes a log whose base is the image, under the name of one in the making, and syncs its bytes and that name. Then it
+/// gives it the log's name, in place of a log that may have it and gives that image too.
 pub(crate) fn make_new<F: LogFile, D: LogFolder<F>>(
     folder: &mut D,
     room: LogRoom,

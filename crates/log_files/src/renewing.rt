@@ -11,8 +11,8 @@ use crate::marking::mark_found;
 use shop_log::{Log, LogFile};
 use std::io;
 
-/// Marks the log, brings this image to IMAGE, and makes a new log with the image as its base, which takes the name of the
-/// old one. `base` is what IMAGE has. At an error the folder gives the image.
+/// Marks the log, copies this image into IMAGE, and makes a new log with the image as its base, which takes the name of
+/// the old one. `base` is what IMAGE has. At an error the folder gives the image.
 pub(crate) fn renew<F: LogFile, D: LogFolder<F>>(
     folder: &mut D,
     log: Log<F>,

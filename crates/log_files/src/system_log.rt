@@ -8,7 +8,7 @@ use std::io;
 use std::rt::Files;
 use system_files::{EndedFile, FileName, Stays};
 
-/// A log's file, open. Once it has the name of the log, each sync sees that the name still leads to it. Nothing is known
+/// A log's file, open. Once it has the name of the log, each sync checks that the name still leads to it. Nothing is known
 /// of what it holds: that it satisfies the contract of `LogFile` is trusted.
 #[derive(Drop)]
 pub struct SystemLog<'a, R: Files> {
@@ -18,7 +18,7 @@ pub struct SystemLog<'a, R: Files> {
     pub(crate) file: R::File,
     // whether it has the name
     pub(crate) named: Cell<bool>,
-    // whether it is brought to the disk once it has the name
+    // whether it is synced once it has the name
     pub(crate) synced: bool,
 }
 
@@ -45,7 +45,7 @@ where
         self.file.put_over(bytes, at as u64)
     }
 
-    // its length never changes once it has the name, so the bytes alone are brought to the disk then
+    // its length never changes once it has the name, so then only the bytes are synced
     fn sync(&mut self) -> io::Result<()> {
         if !self.named.get() {
             return self.file.sync_whole();

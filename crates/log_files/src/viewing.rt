@@ -1,4 +1,4 @@
-//! What a reader sees of an image and its log, also beside a writer.
+//! What a reader sees of an image and its log, also while a writer is at work.
 ghost use Rattle.std.specs.Prelude.{◌≡◌, ◌+◌, ◌≤◌, IfErr, IfOk, OnOk, Option, Some, option_map, length};
 ghost use Rattle.d64_image.specs.Images.{Image};
 ghost use Rattle.log_files.specs.Faults.{IsMisfit};
@@ -53,7 +53,7 @@ fn put_mark_of(log: &mut [u8], marked: bool)
     }
 }
 
-/// Reads the image, and judges the log beside it by the mark that it has after that. True at Ok.
+/// Reads the image, and checks the log beside it by the mark that it has after that. True at Ok.
 fn view_log<V: ViewsImage>(
     folder: &mut V,
     log: &mut [u8],

@@ -40,8 +40,8 @@ BatchEnds h o disk before kept log now out told replies (Err faults.Output) =
 BatchEnds h o disk before kept log now out told replies (Err faults.Device) = (told ≡ out) × (h.is_over now ≡ true)
 BatchEnds h o disk before kept log now out told replies (Err _) = ⊥
 
--- A batch of lines was handled over memory and committed to a log behind the image `before`, and then its replies were
--- told.
+-- A batch of lines was handled over memory and committed to a log that stood for the image `before`. Then its replies
+-- were reported.
 pub record IsBatchServed {L T : Type 0} (h : LogHistory L) (o : LogOutput L T) (ls : List (List ℕ))
     (old new : View Memory) (before kept : Image) (log now : L) (out told : T)
     (result : Result Unit LoopFault) : Type 0 where
@@ -71,7 +71,7 @@ pub record Holds {L : Type 0} (h : LogHistory L) (s : Shop) (image : Image) (ls 
   pub safe : h.stands_for old image → IsSafe h s image ls turns old now
   pub files : IsWhole image → IsWhole (image_of session.disk)
 
--- Serving is under way: the lines up to here were served, and this was read behind them, which is no line.
+-- Serving is under way: the lines up to here were served. What was read after them is no line.
 pub record IsUnderWay {L R T : Type 0} (h : LogHistory L) (i : BatchInput R) (o : LogOutput L T) (disk : MemDisk)
     (old : L) (old_in : R) (old_out : T) (rest : List ℕ) (session : View Memory) (kept : Image) (now : L) (input : R)
     (out : T) : Type 0 where
@@ -88,7 +88,7 @@ pub record IsUnderWay {L R T : Type 0} (h : LogHistory L) (i : BatchInput R) (o 
   pub quiet : (s : Shop) → IsSettled (disk_image disk) s → AskNone s (lines handled)
       → (now ≡ old) × (disk_image disk ≡ image_of session.disk)
 
--- so it was served over each disk that holds what the session's does
+-- each disk that holds what the session's disk does was served so
 abbrev pub IsServedSo : {L R T : Type 0} → LogHistory L → BatchInput R → LogOutput L T → MemDisk → L → L → R → R → T → T
     → View Memory → Result Unit LoopFault → Type 0
 IsServedSo h i o disk old new old_in new_in old_out new_out session result =

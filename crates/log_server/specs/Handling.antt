@@ -42,7 +42,7 @@ pub record IsHandledWell (old new : View Memory) (line : List ℕ) (reply : Repl
   pub quiet : (s : Shop) → IsAtRest old s → is_next_request s (request_of line) ≡ false
       → new ≡ old
 
--- So were these lines, one after another.
+-- These lines were handled in this way, one after another.
 pub record AreHandled (old new : View Memory) (ls : List (List ℕ)) (answers : List Reply) : Type 0 where
   pub told : (s : Shop) → IsAtRest old s → (answers ≡ replies_after s ls) × IsAtRest new (shop_after s ls)
   pub marks : (s : Shop) → IsAtRest old s → KeepsCover memory old.disk new.disk

@@ -6,7 +6,7 @@ use Rattle.shop_log.specs.Marks.{Covers}
 use Rattle.shop_log.specs.Touched.{touched_of}
 use Rattle.log_server.specs.Memory.{Memory, image_of}
 
--- The disk was committed to a log behind the image `before`, of which a copy was kept.
+-- The disk was committed to a log that stood for the image `before`, of which a copy was kept.
 pub record IsKept {L E : Type 0} (h : LogHistory L) (disk : Memory) (before kept : Image) (old new : L)
     (result : Result Unit E) : Type 0 where
   pub ok : OnOk result (Covers (touched_of disk) before (image_of disk)

@@ -6,20 +6,19 @@ use Rattle.host_session.specs.events.Instants.{Instant}
 use Rattle.host_session.specs.events.Telling.{Output}
 use Rattle.host_session.specs.runs.Chains.{told_in}
 
--- What an output says of the replies that it was told, each over a log.
+-- What an output says of the replies that were reported to it, each over a log.
 pub record LogOutput (L T : Type 0) : Type 1 where
-  -- from the first to the second these replies were told, each over the log that stands beside it, in this order, and
-  -- nothing else
+  -- from the first to the second these replies were reported in this order, each over the log beside it, and no other
   pub told : T → T → List (Reply × L) → Type 0
-  -- these were told so, and then this one in part, not at all, or whole; and nothing else
+  -- these replies were reported, each over its log, and then this one in part, not at all, or whole; and no other
   pub broken_off : T → T → List (Reply × L) → Reply × L → Type 0
-  -- nothing that was told is held back
+  -- nothing that was reported is held back
   pub is_handed_on : T → Type 0
   -- whether it may have failed
   pub has_failed : T → Bool
   pub none : (x : T) → told x x []
 
--- these were told, in this order, and nothing else; over which disks isn't said
+-- these replies were reported, in this order, and no other; over which disks isn't said
 abbrev pub ToldAlone : {L T : Type 0} → Output T → T → T → List (Reply × L) → Type 0
 ToldAlone o old new turns = (xs : List (Reply × Instant)) × (told_in xs ≡ told_in turns) × o.told old new xs
 
@@ -28,7 +27,7 @@ abbrev pub BrokenAlone : {L T : Type 0} → Output T → T → T → List (Reply
 BrokenAlone o old new turns last =
     (xs : List (Reply × Instant)) × (at : Instant) × (told_in xs ≡ told_in turns) × o.broken_off old new xs (last.0, at)
 
--- what an output says that is told over no log
+-- what an output says to which replies are passed over no log
 abbrev pub of_output : {L T : Type 0} → Output T → LogOutput L T
 of_output o = record {
   told = λ old new turns. ToldAlone o old new turns;
@@ -38,7 +37,7 @@ of_output o = record {
   none = λ x. ([], refl, o.none x);
 }
 
--- what telling a reply over a log came to
+-- what reporting a reply over a log came to
 abbrev pub IsReported : {L T E : Type 0} → LogOutput L T → T → T → Reply → L → Result Unit E → Type 0
 IsReported {L} {T} o old new reply log (Ok _) = (first : T) (xs : List (Reply × L)) → o.told first old xs
     → o.told first new (xs ++ (reply, log) ∷ [])
@@ -46,7 +45,7 @@ IsReported {L} {T} o old new reply log (Err _) =
     ((first : T) (xs : List (Reply × L)) → o.told first old xs → o.broken_off first new xs (reply, log))
     × (o.has_failed new ≡ true)
 
--- what was told stays told, and nothing more was
+-- what was reported stays reported, and no reply was added
 abbrev pub StaysTold : {L T : Type 0} → LogOutput L T → T → T → Type 0
 StaysTold {L} {T} o old new = (first : T) (xs : List (Reply × L)) → o.told first old xs → o.told first new xs
 
@@ -59,12 +58,13 @@ HandsOn o old new (Err _) = StaysTold o old new × (o.has_failed new ≡ true)
 abbrev pub over_log : {L : Type 0} → L → List Reply → List (Reply × L)
 over_log log replies = map (λ r. (r, log)) replies
 
--- these were told whole, and this last one, if there is one, in part, not at all, or whole; and nothing else
+-- these replies were reported whole, and this last one, if there is one, in part, not at all, or whole; and no other
 abbrev pub IsToldTo : {L T : Type 0} → LogOutput L T → T → T → List (Reply × L) → Option (Reply × L) → Type 0
 IsToldTo o old new turns None = o.told old new turns
 IsToldTo o old new turns (Some last) = o.broken_off old new turns last
 
--- Behind replies told before, the first of these were told. The last of them may be told in part, not at all, or whole.
+-- After the replies `before`, the first of these were reported. The last of them may be reported in part, not at all, or
+-- whole.
 pub record IsCutShort {L T : Type 0} (o : LogOutput L T) (old new : T) (before turns : List (Reply × L)) : Type 0 where
   pub whole : List (Reply × L)
   pub last : Option (Reply × L)
@@ -72,7 +72,7 @@ pub record IsCutShort {L T : Type 0} (o : LogOutput L T) (old new : T) (before t
   pub parts : whole ++ (option_to_list last ++ rest) ≡ turns
   pub told : IsToldTo o old new (before ++ whole) last
 
--- all of these replies were told behind those before, and handed on, unless there is none
+-- all of these replies were reported after those before, and handed on, unless there is none
 abbrev pub ReportsWhole : {L T : Type 0} → LogOutput L T → T → T → List (Reply × L) → Type 0
 ReportsWhole {L} {T} o old new turns =
     ((first : T) (xs : List (Reply × L)) → o.told first old xs → o.told first new (xs ++ turns))

@@ -38,12 +38,12 @@ pub record HoldsFirst (s : Shop) (ls : List (List ℕ)) (n : ℕ) (image : Image
 abbrev pub AreFirst : List Reply → List Reply → Type 0
 AreFirst told all = (untold : List Reply) × (told ++ untold ≡ all) × (length untold ≤ 512)
 
--- all lines that were read were handled and told: it ended well, or the input failed
+-- all lines that were read were handled and their replies reported: it ended well, or the input failed
 abbrev pub IsOver : Result MemDisk (LoopFault × MemDisk) → Type 0
 IsOver (Ok _) = Unit {0}
 IsOver (Err e) = e.0 ≡ faults.Input
 
--- since each of these replies was told, the first of them to line k, a power loss leaves the shop of first lines with
+-- since each of these replies was reported, the first of them to line k, a power loss leaves the shop of first lines with
 -- that line among them
 abbrev pub StayFrom : {L : Type 0} → LogHistory L → Shop → List (List ℕ) → ℕ → List (Reply × L) → L → Type 0
 StayFrom h s ls k [] now = Unit {0}
@@ -56,20 +56,20 @@ pub record IsSafe {L : Type 0} (h : LogHistory L) (s : Shop) (image : Image) (ls
   pub any_moment : LeavesImages h old new (λ c. (c ≡ image) ⊎ HoldsFirst s ls 0 c)
   -- if all files are whole in the image as it was, they are in each that a power loss leaves
   pub files : IsWhole image → LeavesImages h old new IsWhole
-  -- and since a line's reply was told, it leaves the shop of first lines with this one among them
+  -- and since a line's reply was reported, it leaves the shop of first lines with this one among them
   pub told_stays : StayFrom h s ls 0 turns new
 
 -- The shop of a disk was served over a log, an input and an output, that were `old`, `old_in` and `old_out`.
 pub record IsServedOver {L R T : Type 0} (h : LogHistory L) (i : BatchInput R) (o : LogOutput L T) (disk : MemDisk)
     (old new : L) (old_in new_in : R) (old_out new_out : T)
     (result : Result MemDisk (LoopFault × MemDisk)) : Type 0 where
-  -- the lines that were handled, each with its LF, and what was read behind them, which is no line
+  -- the lines that were handled, each with its LF, and what was read after them, which is no line
   pub handled : List ℕ
   pub rest : List ℕ
   pub whole : AreWhole handled
   pub lacks : LacksLf rest
   pub read : Consumes (i.remaining old_in) (i.remaining new_in) (handled ++ rest)
-  -- each reply that was told, and the log over which it was; and the one that the output broke off
+  -- each reply that was reported, and the log over which it was; and the one that the output broke off
   pub turns : List (Reply × L)
   pub last : Option (Reply × L)
   pub told : IsToldTo o old_out new_out turns last
@@ -78,7 +78,7 @@ pub record IsServedOver {L R T : Type 0} (h : LogHistory L) (i : BatchInput R) (
       → AreFirst (told_in (turns ++ option_to_list last)) (replies (start_of s) [] (lines handled))
   pub safe : (s : Shop) → IsShop (disk_image disk) s → h.stands_for old (disk_image disk)
       → IsSafe h s (disk_image disk) (lines handled) (turns ++ option_to_list last) old new
-  -- At Ok, and if the input failed, each line was told, and handed on.
+  -- At Ok, and if the input failed, each line's reply was reported, and handed on.
   pub all : IsOver result → (last ≡ None) × (length turns ≡ length (lines handled))
   pub handed : IsOver result → (turns ≡ []) ⊎ o.is_handed_on new_out
   -- At Ok the log stands for the disk that is returned, a shop's at rest after all lines.
@@ -89,16 +89,16 @@ pub record IsServedOver {L R T : Type 0} (h : LogHistory L) (i : BatchInput R) (
   pub files : IsWhole (disk_image disk) → IfOk result (λ d. IsWhole (disk_image d))
   pub shop : IfOk result (λ _. IsAShop (disk_image disk))
   pub end : IfOk result (λ _. OnSome (i.remaining old_in) (IsAtEnd (i.remaining new_in)))
-  -- Of a shop at rest, lines that ask nothing new ask nothing of the log's files.
+  -- If the shop was at rest, lines that ask nothing new ask nothing of the log's files.
   pub quiet : (s : Shop) → IsSettled (disk_image disk) s → AskNone s (lines handled) → new ≡ old
-  -- What an opening refuses is handed on: the fault holds, and none that is judged before it. Then nothing was read,
-  -- written or told.
+  -- A refusal of the opening is returned: the fault holds, and none that is checked before it. Then nothing was read,
+  -- written or reported.
   pub «open» : IfErr result (λ e. (f : OpenFault) → e.0 ≡ faults.Open f
       → (IsAShop (disk_image disk) → ⊥) × Refuses ⊥ (disk_image disk) f × (disk_image e.1 ≡ disk_image disk)
       × (new ≡ old) × (new_in ≡ old_in) × (new_out ≡ old_out))
-  -- The input is told of only if it failed, or gave 2^64 - 1 lines.
+  -- `Input` is returned only if the input failed, or gave 2^64 - 1 lines.
   pub input : IfErr result (λ e. e.0 ≡ faults.Input
       → (i.has_failed new_in ≡ true) ⊎ (18446744073709551615 ≤ length (lines handled)))
-  -- The device is told of only if the log takes no more commits, and the output only if it failed.
+  -- `Device` is returned only if the log takes no more commits, and `Output` only if the output failed.
   pub device : IfErr result (λ e. e.0 ≡ faults.Device → h.is_over new ≡ true)
   pub output : IfErr result (λ e. e.0 ≡ faults.Output → o.has_failed new_out ≡ true)

@@ -92,14 +92,15 @@ fn ended(disk: MemDisk, end: Result<(), LoopFault>) -> Result<MemDisk, (LoopFaul
 }
 
 /// Serves the shop of a disk over a log that stands for the disk, until the input ends. It takes the lines at hand, 512
-/// at most; if there is none, it waits for one, and everything before is durable and told. It handles them in memory,
-/// makes what they came to durable by one commit, and then tells their replies in order and hands them on. What the
-/// opening mended is the first commit. What comes of it are the clauses of `IsServedOver`. The disk is returned as it
-/// is in memory.
+/// at most; if there is none, it waits for one, and everything before is durable and reported. It handles the lines in
+/// memory, makes their changes durable by one commit, and then reports their replies in order and hands them on. What the
+/// opening mended is the first commit. The clauses of `IsServedOver` say what comes of it. The disk is returned as it is
+/// in memory.
 ///
-/// `Open`: nothing was read, written or told. `Input`: the input couldn't be read; the lines before stand, and were
-/// told. `Output`: the output failed; the lines stand, and of one batch at most some weren't told. `Device`: the log
-/// takes no more commits; the last batch, or what the opening mended, counts whole or not, and nothing of it was told.
+/// `Open`: nothing was read, written or reported. `Input`: the input couldn't be read; the lines before stand, and were
+/// reported. `Output`: the output failed; the lines stand, and of one batch at most some weren't reported. `Device`: the
+/// log takes no more commits. Then the last batch, or what the opening mended, counts whole or not, and no reply of it
+/// was reported.
 ///
 /// It takes no memory but the room, and up to 430 kB of stack.
 pub fn serve_batches<L: ImageLog, R: BatchSource, T: Reports<L>>(

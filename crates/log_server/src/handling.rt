@@ -9,7 +9,7 @@ use host_session::Session;
 use request_cards::Reply;
 use shop_log::TouchedDisk;
 
-/// Handles a line over memory, which never fails: no till is told MEDIA.
+/// Handles a line over memory, which never fails: no till gets the reply MEDIA.
 fn handle_line(session: &mut Session<TouchedDisk<MemDisk>>, line: &[u8]) -> Reply
     ensures { IsHandledWell session.old session.new line.now result }
 {

@@ -10,7 +10,8 @@ use std::io;
 /// How many sectors a disk has.
 const SECTORS: usize = 683;
 
-/// Brings the image that was committed last to what it is now, and returns which of the marked sectors that changed.
+/// Copies each marked sector of the image of now into the kept image, which is the one committed last. Returns which of
+/// them changed.
 fn bring(kept: &mut [[u8; 256]], now: &[[u8; 256]], marked: &[bool; 683]) -> [bool; 683]
     requires kept { length kept.old ≡ 683 }
     requires now { length now.now ≡ 683 }
@@ -18,7 +19,7 @@ fn bring(kept: &mut [[u8; 256]], now: &[[u8; 256]], marked: &[bool; 683]) -> [bo
     // if every sector that changed is marked, every one is returned, and the image is as it is now
     ensures covers { Covers marked.now kept.old now.now → Covers result kept.old now.now }
     ensures brought { Covers marked.now kept.old now.now → kept.new ≡ now.now }
-    // no sector is returned that is the same
+    // if the disk is unchanged, no sector is returned
     ensures same { kept.old ≡ now.now → NoneTouched result }
 {
     let mut touched = [false; SECTORS];

@@ -8,13 +8,14 @@ use host_session::{NotTaken, ReplySink};
 use request_cards::Reply;
 use shop_log::{ImageLog, TouchedDisk};
 
-/// An output of replies, each reported over a log. All that can be told replies are such, and say no more than that.
+/// An output of replies, each reported over a log. Every output that replies can be passed to is one, and says only which
+/// replies it was passed.
 pub trait Reports<L: ImageLog> {
-    /// What this output says of the replies that it was told.
+    /// What this output says of the replies that were reported to it.
     ghost output: { LogOutput L Self };
 
-    /// Tells this reply. The log is lent as it is then, and the disk in memory. If the reply isn't taken, a part of it
-    /// may have been told, or all of it.
+    /// Reports this reply. The log is lent as it is then, and the disk in memory. If the reply isn't taken, a part of it
+    /// may have been passed, or all of it.
     fn report(
         &mut self,
         reply: &Reply,
@@ -23,7 +24,7 @@ pub trait Reports<L: ImageLog> {
     ) -> Result<(), NotTaken>
         ensures { IsReported output self.old self.new reply.now log.now result };
 
-    /// Hands on what is held back. What was told stays told, and at Ok nothing of it is held back any more.
+    /// Hands on what is held back. What was reported stays reported, and at Ok nothing of it is held back any more.
     fn pass_on(&mut self) -> Result<(), NotTaken>
         ensures { HandsOn output self.old self.new result };
 }

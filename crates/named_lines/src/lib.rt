@@ -1,4 +1,4 @@
-//! Texts each line of which begins with a name, as `grep` prints lines that it finds in several files.
+//! Texts whose lines each begin with a name, as `grep` prints lines that it finds in several files.
 #![tactic(auto)]
 
 mod naming;

@@ -17,10 +17,10 @@ pub struct Failure<'a> {
     pub sector: Option<Place>,
 }
 
-/// The calls of a job that failed: the first, and the last about a file of the command line that isn't there. A job makes
-/// such a file, or ends with that.
+/// The calls of a job that failed: the first one, and the last one about a file of the command line that isn't there. A
+/// job makes such a file, or ends with that failure.
 ///
-/// What a job takes for an answer isn't kept: a file beside the named ones that isn't there, or is there already, and a
+/// Some failures are answers, and aren't kept: a file beside the named ones that isn't there, or is there already, and a
 /// call that was interrupted.
 #[derive(Drop)]
 pub struct Failures<'a> {

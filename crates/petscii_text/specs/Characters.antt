@@ -1,5 +1,5 @@
 -- The characters of PETSCII: what a C64 shows for a byte in its two sets (Commodore 64 Programmer's Reference Guide,
--- appendix C), and the characters that Unicode 13 has for them (Block Elements, Symbols for Legacy Computing).
+-- appendix C). Unicode 13 has these characters (Block Elements, Symbols for Legacy Computing).
 use Rattle.std.specs.Prelude.{ℕ, ◌+◌, ◌/◌, ◌%◌, List, [], ◌∷◌, None, Option, Some, flat_map}
 use Rattle.std.specs.Prelude.{if◌then◌else◌, nat_eq, nat_lt, slice_index}
 use Rattle.std.proofs.Math.Utf8.{encode}

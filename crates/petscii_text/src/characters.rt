@@ -80,8 +80,8 @@ impl CharacterSet {
     }
 }
 
-/// The character that a C64 shows for the byte in this set, as Unicode has it; None for the control codes, $00 to $1F
-/// and $80 to $9F. $A0, the shifted space, is U+00A0.
+/// The character that a C64 shows for the byte in this set, as Unicode has it. None for the control codes: $00 to $1F and
+/// $80 to $9F. $A0, the shifted space, is U+00A0.
 #[tactic(auto, unfolding(crate::specs::Characters::character_of))]
 pub fn character(set: CharacterSet, byte: u8) -> Option<char>
     ensures { result ≡ character_of set byte }

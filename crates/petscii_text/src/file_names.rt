@@ -33,8 +33,8 @@ pub enum Ending {
 }
 
 impl Ending {
-    /// The ending for an entry with this type byte, closed or not, locked or not: its low four bits are 0 for DEL, 1 for
-    /// SEQ, 2 for PRG, 3 for USR and 4 for REL (1541 User's Guide, directory format).
+    /// The ending for an entry with this type byte, closed or not, locked or not. The byte's low four bits are 0 for DEL,
+    /// 1 for SEQ, 2 for PRG, 3 for USR and 4 for REL (1541 User's Guide, directory format).
     pub fn of_type(type_byte: u8) -> Ending
         ensures { result ≡ ending_of type_byte }
     {

@@ -6,8 +6,8 @@ ghost use Rattle.petscii_text.specs.Characters.{readable, readable_byte};
 use crate::characters::{CharacterSet, character};
 use std::fmt::{self, Display, Formatter};
 
-/// Bytes of PETSCII that are displayed in UTF-8: each as its character (`character`), $0D as LF, and every other
-/// control code as a backslash and two digits of `0-9a-f`, such as `\1d`.
+/// Bytes of PETSCII that are displayed in UTF-8, each as its character (`character`). $0D is an LF. Every other control
+/// code is a backslash and two digits of `0-9a-f`, such as `\1d`.
 #[derive(Clone, Copy)]
 pub struct Readable<'a> {
     /// The set whose characters they are.

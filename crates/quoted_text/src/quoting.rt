@@ -6,7 +6,7 @@ use petscii_text::{CharacterSet, Readable};
 use std::fmt::{self, Display, Formatter};
 
 /// Bytes of PETSCII that are displayed in UTF-8 between quotation marks, as a field of a file of comma-separated values
-/// has them (RFC 4180): a mark among them twice, and each other byte by its character (`petscii_text`). Every control
+/// has them (RFC 4180). A mark among them stands twice. Every other byte is its character (`petscii_text`). Every control
 /// code, also the carriage return $0D, is a backslash and two digits, so that the text is one line.
 #[derive(Clone, Copy)]
 pub struct Quoted<'a> {

@@ -1,5 +1,5 @@
 -- Fields of records as columns, by RFC 4180. A BASIC program ends each field with a carriage return, $0D. The text of a
--- byte is that of byte_text. All else is our own.
+-- byte is that of byte_text. Everything beyond that is our own.
 use Rattle.std.specs.Prelude.{◌≡◌, ◌≢◌, ◌-◌, ◌&&◌, ℕ, Bool, List, [], ◌∷◌, ◌++◌, codes, false, true, if◌then◌else◌}
 use Rattle.std.specs.Prelude.{length, nat_eq, slice_index, take}
 use Rattle.std.specs.List.{AllByRecursion}
@@ -21,7 +21,7 @@ is_empty (b ∷ bytes) = false
 abbrev pub piece : ℕ → Bool → List ℕ
 piece b last = if nat_eq b 13 then (if last then 34 ∷ [] else 34 ∷ 44 ∷ 34 ∷ []) else byte_text b
 
--- the columns behind the first quotation mark
+-- the columns after the first quotation mark
 unfoldable pub rest_of_columns : List ℕ → List ℕ
 rest_of_columns [] = []
 rest_of_columns (b ∷ bytes) = piece b (is_empty bytes) ++ rest_of_columns bytes
@@ -57,7 +57,7 @@ columns_of_fields (field ∷ (next ∷ fields)) = quoted field ++ 44 ∷ columns
 abbrev pub IsField : List ℕ → Type 0
 IsField field = AllByRecursion (λ b. b ≢ 13) field
 
--- where a column stands after one byte more
+-- the state of a column after one byte more
 abbrev pub next_column : Column → ℕ → Column
 next_column Start b = if nat_eq b 34 then Quoted else (if nat_eq b 44 then Start else Plain)
 next_column Plain b = if nat_eq b 44 then Start else Plain
@@ -65,7 +65,7 @@ next_column Quoted b = if nat_eq b 34 then Closed else Quoted
 next_column Closed b = if nat_eq b 44 then Start else Plain
 
 -- What this byte gives of the record's text. A comma between columns is a carriage return, \0d. The marks of a column
--- give nothing, and a mark anywhere else stays, so that no bytes have the text
+-- give nothing. A mark at any other place stays, so that no bytes have the text
 abbrev pub given : Column → ℕ → List ℕ
 given Start b = if nat_eq b 34 then [] else (if nat_eq b 44 then 92 ∷ 48 ∷ 100 ∷ [] else b ∷ [])
 given Plain b = if nat_eq b 44 then 92 ∷ 48 ∷ 100 ∷ [] else b ∷ []
@@ -82,12 +82,12 @@ unfoldable pub one_text : Column → List ℕ → List ℕ
 one_text column [] = given_at_end column
 one_text column (b ∷ text) = given column b ++ one_text (next_column column b) text
 
--- what the end of the line gives where no carriage return ends the last field
+-- what the end of the line gives if no carriage return ends the last field
 abbrev pub open_at_end : Column → List ℕ
 open_at_end Quoted = 34 ∷ []
 open_at_end _ = []
 
--- the same text where it is said whether the last field is unended so
+-- the text of these columns; the first argument says whether the last field is unended
 unfoldable pub text_by : Bool → Column → List ℕ → List ℕ
 text_by unended column [] = if unended then open_at_end column else given_at_end column
 text_by unended column (b ∷ text) = given column b ++ text_by unended (next_column column b) text

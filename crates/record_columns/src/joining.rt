@@ -53,10 +53,11 @@ fn is_marked(line: &[u8]) -> bool
     }
 }
 
-/// Appends the text, as `byte_text` has it, of the record that these columns stand for: their fields, each with a carriage
-/// return at its end, but for the last one if a column `\-` stands behind it. The line is handed in after its number and
-/// comma, and without its end. A column may stand between quotation marks or not, but one that has a comma stands between
-/// them. What no columns stand for gives a text that no bytes have. An error leaves a part of the text.
+/// Appends the text, as `byte_text` has it, of the record that these columns stand for. The record is their fields, each
+/// with a carriage return at its end, except the last one if a column `\-` stands after it. The line is passed without
+/// its number, the comma after that, and its end. A column may stand between quotation marks or not, but one that has a
+/// comma stands between them. For bytes that no columns give, the text is one that no bytes have. An error leaves a part
+/// of the text.
 pub fn push_columns(line: &[u8], text: &mut Vec<u8>) -> Result<(), AllocError>
     ensures { OnOk result (vec_items text.new ≡ vec_items text.old ++ columns_text line.now) }
 {

@@ -14,8 +14,8 @@ ghost use Rattle.record_columns.specs.Columns.{
 };
 ghost use Rattle.record_columns.specs.declared.reading.Column.TheVariants.{Start};
 
-/// The columns that are written of a record that ends with a carriage return are read as that record: they stand for its
-/// text, which is that of no other record (`texts_differ` of `byte_text`).
+/// The columns that are written of a record that ends with a carriage return are read as that record. They stand for its
+/// text, and no other record has that text (`texts_differ` of `byte_text`).
 pub fn columns_come_back()
     ensures { (bytes : List ℕ) → IsEnded bytes → one_text Start (columns_of bytes) ≡ text_of bytes }
 {}

@@ -9,7 +9,7 @@ use byte_text::{MOST_BYTES, read_text};
 /// The room of the text of a record of 254 bytes.
 const TEXT_ROOM: usize = 762;
 
-/// Where a column stands.
+/// The state of a column.
 #[derive(Clone, Copy, Debug, PartialEq, Eq)]
 pub enum Column {
     /// At its beginning.
@@ -25,7 +25,7 @@ pub enum Column {
 impl Column {
     ghost use Rattle.record_columns.specs.Columns.{next_column};
 
-    /// Where it stands after this byte.
+    /// The state after this byte.
     pub(crate) fn after(self, byte: u8) -> Column
         ensures { result ≡ next_column self byte }
     {
@@ -94,11 +94,11 @@ fn join_columns(line: &[u8], text: &mut Text) -> bool
     add_end(text, column)
 }
 
-/// The record that these columns stand for: their fields, each with a carriage return at its end. The line is handed in
-/// after its number and comma, and without its end. A column may stand between quotation marks or not, but one that has
-/// a comma stands between them; a mark within a column is never read.
+/// The record that these columns stand for: their fields, each with a carriage return at its end. The line is passed
+/// without its number, the comma after that, and its end. A column may stand between quotation marks or not, but one that
+/// has a comma stands between them; a mark within a column is never read.
 ///
-/// None if a column's bytes aren't text as `byte_text` reads it, if there is a quotation mark anywhere else than at both
+/// None if a column's bytes aren't text as `byte_text` reads it, if there is a quotation mark anywhere except at both
 /// ends of a column, or if the record has more than 254 bytes. So a line is read as it was meant or not at all.
 pub fn read_columns(line: &[u8]) -> Option<ArrayVec<u8, MOST_BYTES>>
     ensures found { IfSome result (λ bytes. one_text Column.Start line.now ≡ text_of bytes.items) }

@@ -30,9 +30,9 @@ fn write_piece<W: Write>(out: &mut W, byte: u8, last: bool) -> io::Result<()>
     out.write_all(b"\",\"")
 }
 
-/// Writes a record without the zeros at its end as columns of a file of comma-separated values (RFC 4180): each field
-/// between quotation marks, in the text of `byte_text`, which has no mark itself. The number of the record and the end
-/// of the line are the caller's. The record ends with a carriage return (`ends_with_return`).
+/// Writes a record, which ends with a carriage return (`ends_with_return`), as columns of a file of comma-separated
+/// values (RFC 4180), without the zeros at its end. Each field stands between quotation marks, in the text of
+/// `byte_text`, which has no mark itself. The caller writes the number of the record and the end of the line.
 ///
 /// `read_columns` gives the record back (`columns_come_back`). An error is the writer's, which may then have a part.
 pub fn write_columns<W: Write>(out: &mut W, bytes: &[u8]) -> io::Result<()>
@@ -59,9 +59,10 @@ fn write_open_columns<W: Write>(out: &mut W, bytes: &[u8]) -> io::Result<()>
     out.write_all(b"\",\\-")
 }
 
-/// Writes any record without the zeros at its end as columns: as `write_columns` does if it ends with a carriage return;
-/// otherwise a last column `\-`, which is no text of bytes, says that the one before it isn't ended. `push_columns`
-/// gives the record's text back (`all_columns_come_back`). An error is the writer's, which may then have a part.
+/// Writes any record as columns, without the zeros at its end. If it ends with a carriage return, this is what
+/// `write_columns` writes. Otherwise a last column `\-`, which is no text of bytes, says that the one before it isn't
+/// ended. `push_columns` gives the record's text back (`all_columns_come_back`). An error is the writer's, which may then
+/// have a part.
 pub fn write_all_columns<W: Write>(out: &mut W, bytes: &[u8]) -> io::Result<()>
     ensures { OnOk result (Appends (W.contents out.old) (W.contents out.new) (all_columns bytes.now)) }
 {

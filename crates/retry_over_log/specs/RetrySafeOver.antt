@@ -23,15 +23,15 @@ use Rattle.retry_safe.specs.Turns.{Answered, CountsOnce, EachTurn, IsLastOfTill,
 use Rattle.script_lines.specs.Lines.{lines}
 use Rattle.shop_log.specs.ImageLogs.{LogHistory}
 
--- the first n lines count, and with them each line from the k-th on whose reply was told by that moment
+-- the first n lines count, and with them each line from the k-th on whose reply was reported by that moment
 abbrev pub AreKept : {L : Type 0} → LogHistory L → ℕ → ℕ → ℕ → List (Reply × L) → Type 0
 AreKept h at n k [] = Unit {0}
 AreKept h at n k (x ∷ xs) = (h.moment x.1 ≤ at → k + 1 ≤ n) × AreKept h at n (k + 1) xs
 
--- Replies were told to these lines, of which the first n count once power has gone at that moment.
+-- Replies to these lines were reported. The first n lines count after power has gone at that moment.
 pub record AreToldOver {L T : Type 0} (h : LogHistory L) (o : LogOutput L T) (s : Shop) (ls : List (List ℕ)) (at n : ℕ)
     (old new : T) : Type 0 where
-  -- each reply beside the log over which it was told, and the one that the output broke off
+  -- each reply beside the log over which it was reported, and the one that the output broke off
   pub turns : List (Reply × L)
   pub last : Option (Reply × L)
   pub told : IsToldTo o old new turns last
@@ -41,7 +41,7 @@ pub record AreToldOver {L T : Type 0} (h : LogHistory L) (o : LogOutput L T) (s 
 -- Lines were read from an input, over this log and output at the end.
 pub record AreRead {L R T : Type 0} (h : LogHistory L) (i : BatchInput R) (o : LogOutput L T) (log : L) (old new : R)
     (out : T) : Type 0 where
-  -- the lines, each with its LF, and what was read behind them, which is no line
+  -- the lines, each with its LF, and what was read after them, which is no line
   pub handled : List ℕ
   pub rest : List ℕ
   pub whole : AreWhole handled
@@ -66,7 +66,7 @@ pub record RetrySafeOver {L R T : Type 0} (h : LogHistory L) (i : BatchInput R) 
   pub read : AreRead h i o log old_in new_in new
   pub turns : List Turn
   pub received : IsReceived (map uncut (lines read.handled)) turns
-  -- The replies that were told are those to the first lines. What was told before power went counts.
+  -- The replies that were reported are those to the first lines. What was reported before power went counts.
   pub told : AreToldOver h o s (lines read.handled) at (length turns) old new
   -- What power left is the shop after the lines that count.
   pub gone : IfAnswered result (λ _ _. HasGone h s at log turns)

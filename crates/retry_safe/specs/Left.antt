@@ -15,7 +15,7 @@ use Rattle.retry_safe.specs.Turns.{Answered, CountsOnce, EachTurn, Turn, counted
 abbrev pub IsOfShop : Shop → Image → Type 0
 IsOfShop s image = (state : State) × IsShop image (with_state s state)
 
--- the device held one image alone
+-- the device held only one image
 abbrev pub IsKept : {D : Type 0} → History D → D → D → Type 0
 IsKept h old new = HeldOnly h old new (λ c. c ≡ h.image old)
 

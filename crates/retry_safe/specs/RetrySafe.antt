@@ -37,7 +37,7 @@ abbrev pub IsOpened : {D : Type 0} → Reopened D → Type 0
 IsOpened (Ok x) = ¬ (IsMedia x.1)
 IsOpened (Err e) = ⊥
 
--- the same, unless there was no memory for the run's replies
+-- the message was answered, unless there was no memory for the run's replies
 abbrev pub IsAnswered : {D : Type 0} → Reopened D → Type 0
 IsAnswered (Ok x) = ¬ (IsMedia x.1)
 IsAnswered (Err e) = e.0 ≡ faults.NoMemory

@@ -33,7 +33,7 @@ fn play_until<D: Sectors>(
     }
 }
 
-/// Opens the disk, and takes it back where power goes after so many sector writes.
+/// Opens the disk, and takes it back if power goes, after so many sector writes.
 fn open_until<D: Sectors>(disk: D, power: u32) -> D
     ensures moments { (s : Shop) → IsShop (D.history.image disk) s → HeldOnly D.history disk result (λ c. IsShop c s) }
     ensures later { (s : Shop) → IsShop (D.history.image disk) s → D.history.failures disk ≤ D.history.failures result }
@@ -100,8 +100,8 @@ pub fn retry_after_power_loss<D: Sectors>(
     ensures safe { (s : Shop) → IsShop (D.history.image disk) s
         → RetrySafe D.history s (map message_of events.now) power again.now disk
         replies.old.items replies.new.items result }
-    // power stays away: no more is written than it lets pass in the run and in each opening of `recoveries`, and behind
-    // them 952 sectors in the last opening and 3618 in the message
+    // no more is written than power lets pass in the run and in each opening of `recoveries`, then 952 sectors in the
+    // last opening, and then 3618 in the message
     ensures writes { (s : Shop) → IsShop (D.history.image disk) s → D.history.writes (left_of result)
         ≤ D.history.writes disk + power + sum recoveries.now + 4570 }
     // what is no shop's disk is refused, and isn't written

@@ -1,5 +1,5 @@
-//! The call on a disk in memory, with power that goes after each number of writes that a first set can take. What a till
-//! is told comes from the trade rule, by hand.
+//! The call on a disk in memory, with power that goes after each number of writes that a first set can take. The expected
+//! replies come from the trade rule, by hand.
 use crate::retry_after_power_loss;
 use d64_image::{MemDisk, Meter};
 use disk_layout::blank_image;
@@ -40,7 +40,7 @@ fn a_repeat_hears_the_kept_answer_wherever_power_goes(rt: HostRuntime) {
     }
 }
 
-/// How many sectors are written in all, where power goes after each number of a first set's writes, and then in these
+/// How many sectors are written in all, if power goes after each number of a first set's writes, and then in these
 /// openings.
 fn written(rt: &(impl Abort + AllocGlobal), recoveries: &[u32]) -> u64 {
     let set = [Event {

@@ -1,4 +1,4 @@
--- What is written to a file, and what of it stays where the machine loses power. Our own.
+-- What is written to a file, and what of it stays if the machine loses power. Our own.
 use Rattle.std.specs.Prelude.{◌≡◌, ◌≤◌, ◌+◌, ℕ, List, None, Option, Some, Result, Ok, Err, OnOk, length, take}
 use Rattle.d64_image.specs.Offsets.{overwritten}
 use Rattle.shop_commands.specs.Lasting.{IsSectorIn, Lasting, StaysOr, overwritten_in}
@@ -9,29 +9,29 @@ use Rattle.shop_commands.specs.declared.durability.Durability.TheVariants as dur
 abbrev pub AllStays : {F : Type 0} → (held : F → Option (List ℕ)) → Lasting F → F → Type 0
 AllStays held L file = L.bytes file ≡ held file
 
--- where each sector is brought to the disk, all that the file holds stays
+-- if each sector is synced, all that the file holds stays
 abbrev pub IsSynced : {F : Type 0} → (held : F → Option (List ℕ)) → Lasting F → Durability → F → Type 0
 IsSynced held L durability file = durability ≡ durabilities.EachSector → AllStays held L file
 
--- In a file of which the bytes are known, and which is as long, these stand in place of those from n on, and nothing
--- else changed. One of which they aren't known stays so.
+-- If the file's bytes are known and reach so far, these stand in place of those from n on, and nothing else changed. If
+-- they aren't known, they still aren't.
 abbrev pub IsOverwritten : (old new : Option (List ℕ)) → ℕ → List ℕ → Type 0
 IsOverwritten None new n bytes = new ≡ None
 IsOverwritten (Some all) new n bytes = n + length bytes ≤ length all → new ≡ Some (overwritten all n bytes)
 
--- at an error a beginning of them stands there
+-- at an error a prefix of them stands there
 abbrev pub WritesOver : {E : Type 0} → (old new : Option (List ℕ)) → ℕ → List ℕ → Result Unit E → Type 0
 WritesOver old new n bytes (Ok _) = IsOverwritten old new n bytes
 WritesOver old new n bytes (Err _) = (count : ℕ) × IsOverwritten old new n (take count bytes)
 
--- The sector was brought to a disk on which all else was: it stays, and at an error it does or what was there before.
+-- The sector was synced to a disk on which everything else was. It stays. At an error it stays, or what was there before.
 pub record BringsSector {F E : Type 0} (held : F → Option (List ℕ)) (L : Lasting F) (old new : F) (n : ℕ)
     (bytes : List ℕ) (result : Result Unit E) : Type 0 where
   pub stays : StaysOr L old new (overwritten_in (L.bytes old) n bytes)
   pub ok : OnOk result (L.bytes new ≡ overwritten_in (L.bytes old) n bytes)
   pub all : OnOk result (AllStays held L new)
 
--- where each is brought there, and this is one
+-- if each sector is synced, so is this one
 abbrev pub LastsSo : {F E : Type 0} → (held : F → Option (List ℕ)) → Lasting F → F → F → Durability → ℕ → List ℕ
     → Result Unit E → Type 0
 LastsSo held L old new durability n bytes result = durability ≡ durabilities.EachSector → AllStays held L old

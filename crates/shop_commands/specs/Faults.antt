@@ -41,12 +41,12 @@ run_status run.File = 3
 run_status run.NoMemory = 3
 run_status run.Device = 3
 
--- what is told where a file or the output failed with an error of this kind
+-- what is reported if a file or the output failed with an error of this kind
 abbrev pub io_fault : ErrorKind → RunFault
 io_fault kinds.OutOfMemory = run.NoMemory
 io_fault _ = run.File
 
--- what is told where a shop's disk isn't opened for this fault
+-- what is reported if a shop's disk isn't opened for this fault
 abbrev pub opening_fault : OpenFault → RunFault
 opening_fault (opening.Layout fault) = run.Layout fault
 opening_fault opening.NoStock = run.NoStock
@@ -56,7 +56,7 @@ opening_fault (opening.BadRequestCard till) = run.BadRequestCard till
 opening_fault opening.TwoIntents = run.TwoIntents
 opening_fault opening.Device = run.Device
 
--- what is told where a script isn't played to its end for this fault
+-- what is reported if a script isn't played to its end for this fault
 abbrev pub script_fault : ScriptFault → RunFault
 script_fault (script.Open fault) = opening_fault fault
 script_fault (script.BadLine line) = run.BadLine line

@@ -1,4 +1,4 @@
--- The shop of a fresh disk, and what is told of a script on it. All of it is our own.
+-- The shop of a fresh disk, and what is printed of a script on it. All of it is our own.
 use Rattle.std.specs.Prelude.{◌≡◌, ◌↔◌, ◌≤◌, ℕ, List, [], None, codes, length}
 use Rattle.d64_image.specs.History.{History}
 use Rattle.d64_image.specs.Images.{Image}
@@ -33,17 +33,16 @@ abbrev pub FreshIsAShop : Type 0
 FreshIsAShop = (tills : ℕ) (img : Image) → 1 ≤ tills → tills ≤ 64 → IsFreshDisk img tills
     → IsSettled img (fresh_shop tills)
 
--- what is shown of a fresh disk is its top alone: no card, and no request of any till
+-- what is shown of a fresh disk is only its top: no card, and no request of any till
 abbrev pub FreshShowsItsTop : Type 0
 FreshShowsItsTop = (tills : ℕ) (img : Image) (s : Shop) → 1 ≤ tills → tills ≤ 64 → IsFreshDisk img tills
     → IsShop img s → shown_shop s.top s.state ≡ top_line (blank_top tills)
 
--- whatever shop a fresh disk with 64 tills is, a list of requests begins there where the dry run's does
+-- whatever shop a fresh disk with 64 tills is, a list of requests begins there in the state in which the dry run's does
 abbrev pub DryBeginsFresh : Type 0
 DryBeginsFresh = (img : Image) (s : Shop) → IsFreshDisk img 64 → IsShop img s → start_of s ≡ dry_start
 
--- what the dry run tells of a script are the replies over the lines before each, from the shop of a fresh disk with 64
--- tills on
+-- the dry run prints of a script the replies over the lines before each, from the shop of a fresh disk with 64 tills on
 abbrev pub DryTellsReplies : Type 0
 DryTellsReplies = (img : Image) (s : Shop) (script : List ℕ) → IsFreshDisk img 64 → IsShop img s
     → dry_report script ≡ report (replies (start_of s) [] (lines script))
@@ -52,8 +51,8 @@ DryTellsReplies = (img : Image) (s : Shop) (script : List ℕ) → IsFreshDisk i
 abbrev pub SamePlainScripts : Type 0
 SamePlainScripts = (script : List ℕ) → (first_reset (lines script) ≡ None) ↔ HasNoReset (lines script)
 
--- what was told where a script without a line that begins with @ was played whole on a fresh disk with 64 tills is what
--- the dry run tells of it
+-- if a script without a line that begins with @ was played whole on a fresh disk with 64 tills, what was printed is what
+-- the dry run prints of it
 abbrev pub RunTellsDry : {D : Type 0} → History D → Type 0
 RunTellsDry {D} h = (old new : D) (s : Shop) (script : List ℕ) (told : List Reply) → IsFreshDisk (h.image old) 64
     → IsShop (h.image old) s → first_reset (lines script) ≡ None

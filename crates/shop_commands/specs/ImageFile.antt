@@ -16,11 +16,11 @@ module _ {F : Type 0} {G : Ghosts F} where
   abbrev pub placed_file : ImageFile F G → F
   placed_file p = p.file
 
-  -- when what is written is brought to the disk
+  -- when what is written is synced
   abbrev pub placed_durability : ImageFile F G → Durability
   placed_durability p = p.durability
 
-  -- each sector is brought to the disk before anything else is done, on which all else that the file holds is
+  -- each sector is synced before anything else is done, and everything else that the file holds is on the disk
   abbrev pub is_synced : ImageFile F G → Type 0
   is_synced p = p.synced ≡ true
 
@@ -32,7 +32,7 @@ module _ {F : Type 0} {G : Ghosts F} where
   abbrev pub seen_of : ImageFile F G → Lasting F
   seen_of p = seen G.lasting G.whole.lasting p.synced p.sized
 
-  -- The counts only grow, and the sectors are brought to the disk as before.
+  -- The counts only grow, and whether sectors are synced didn't change.
   pub record GrowsOn (old new : ImageFile F G) : Type 0 where
     pub taken : old.taken ≤ new.taken
     pub failed : old.failed ≤ new.failed
@@ -40,9 +40,9 @@ module _ {F : Type 0} {G : Ghosts F} where
     pub synced : new.synced ≡ old.synced
     pub sized : new.sized ≡ old.sized
 
-  -- Where each sector is brought to the disk, and all else is there, such a file keeps what stays where the machine
-  -- loses power; else what an image's file holds whole: a sector that it took in part would be neither the old one nor
-  -- the new.
+  -- If each sector is synced, and everything else is on the disk, such a file keeps what stays if the machine loses
+  -- power. Otherwise it keeps what an image's file holds whole: a sector that it took in part would be neither the old
+  -- one nor the new.
   abbrev pub placed : Keeps (ImageFile F G)
   placed = record {
     kept = λ p. image_of ((seen_of p).bytes p.file);
@@ -72,13 +72,13 @@ module _ {F : Type 0} {G : Ghosts F} where
     };
   }
 
-  -- It keeps what it kept, and kept nothing else on the way.
+  -- It keeps what it kept, and kept nothing else in between.
   pub record KeepsOn (old new : ImageFile F G) : Type 0 where
     pub kept : placed.kept new ≡ placed.kept old
     pub only : KeptOnly placed old new (λ c. placed.kept old ≡ Some c)
 
-  -- The file of an image with these bytes was taken up: it took no sector, and hasn't failed. Where each sector is
-  -- brought to the disk, it keeps what stays there; else what it holds, where that is known whole.
+  -- The file of an image with these bytes was taken up: it took no sector, and hasn't failed. If each sector is synced,
+  -- it keeps what stays on the disk. Otherwise it keeps what it holds, if that is known whole.
   pub record IsTakenUp (durability : Durability) (image : List ℕ) (file : F) (p : ImageFile F G) : Type 0 where
     pub is_file : placed_file p ≡ file
     pub brings : placed_durability p ≡ durability
@@ -88,11 +88,11 @@ module _ {F : Type 0} {G : Ghosts F} where
     pub unsynced : durability ≡ durabilities.AtEnd → length image ≡ 174848 → is_unsynced p
     pub agrees : Agrees (placed.kept p) (sectors_in image)
 
-  -- All that was written was brought to the disk, where that wasn't done behind each sector.
+  -- All that was written was synced, if that wasn't done after each sector.
   pub record BringsAll {E : Type 0} (old new : ImageFile F G) (result : Result Unit E) : Type 0 where
     pub lasting : OnOk result (AllStays G.held G.lasting (placed_file new))
     pub whole : is_synced old → placed.failures old ≡ 0 → IsOk result
-    -- an error is told where the file failed alone, now or before
+    -- an error is returned only if the file failed, now or before
     pub failed : OnErr result (G.has_failed (placed_file new) ≡ true)
     pub passed : OnOk result (G.has_failed (placed_file new) ≡ G.has_failed (placed_file old))
     pub same : G.held (placed_file new) ≡ G.held (placed_file old)

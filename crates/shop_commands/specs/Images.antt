@@ -37,7 +37,7 @@ pub record AreFreshBytes (tills : ℕ) (bytes : List ℕ) : Type 0 where
   pub fresh : IsFreshDisk disk tills
   pub bytes_of : bytes ≡ bytes_of disk
 
--- if these bytes have the size of an image, all its files are whole: so where it is no sound disk's
+-- if these bytes have the size of an image, all its files are whole; this also holds if it isn't a sound disk's
 abbrev pub IsUncut : List ℕ → Type 0
 IsUncut s = length s ≡ 174848 → IsWhole (sectors_in s)
 
@@ -59,23 +59,23 @@ pub record IsHandedPart {F : Type 0} (r : Remains F) (tills : ℕ) (old new : F)
   pub remain : Since r old new (λ s. IsNoDisk s ⊎ (s ≡ bytes))
   pub uncut : Since r old new IsUncut
 
--- what writing such an image came to: it was handed over whole, or in part where the file failed, or there was no
--- memory, and nothing was done
+-- what writing such an image came to: it was handed over whole; or in part, if the file failed; or there was no memory,
+-- and nothing was done
 abbrev pub IsWritten : {F : Type 0} → Remains F → ℕ → F → F → Result Unit RunFault → Type 0
 IsWritten r tills old new (Ok _) = IsHandedOver r tills old new
 IsWritten r tills old new (Err run.File) = IsHandedPart r tills old new
 IsWritten r tills old new (Err run.NoMemory) = new ≡ old
 IsWritten r tills old new (Err _) = ⊥
 
--- the file or the output failed: the file was handed a part of the image, and nothing was said; or all of it, and a
--- part of what is said then
+-- the file or the output failed: the file was handed a part of the image, and nothing was printed; or it was handed all
+-- of it, and a part of the message was printed
 abbrev pub IsFormattedPart : {F W : Type 0} → Remains F → (W → Option (List ℕ)) → ℕ → F → F → W → W → Type 0
 IsFormattedPart into contents tills file new_file old new =
     (IsHandedPart into tills file new_file × (new ≡ old))
     ⊎ (IsHandedOver into tills file new_file × AppendsPart (contents old) (contents new) (codes "FORMATTED\n"))
 
--- what making such an image and saying so came to: the file was handed all of it, and that was said; or in part; or
--- there was no memory, and nothing was done
+-- what making such an image and printing that came to: the file was handed all of it, and the message was printed; or in
+-- part; or there was no memory, and nothing was done
 abbrev pub IsFormatted : {F W : Type 0} → Remains F → (W → Option (List ℕ)) → ℕ → F → F → W → W
     → Result Unit RunFault → Type 0
 IsFormatted into contents tills file new_file old new (Ok _) =
@@ -120,7 +120,7 @@ abbrev pub IsVerdict : Image → Option Fault → Type 0
 IsVerdict img None = IsClean img
 IsVerdict img (Some fault) = HoldsOfClean nowhere img fault
 
--- why an image isn't judged: its size, the output, or memory
+-- why an image isn't checked: its size, the output, or memory
 abbrev pub IsCheckFault : List ℕ → RunFault → Type 0
 IsCheckFault image run.File = length image ≡ 174848
 IsCheckFault image fault = IsLoadFault image fault

@@ -1,4 +1,4 @@
--- What a file says of the bytes that stay where the machine loses power. Our own.
+-- What a file says of the bytes that stay if the machine loses power. Our own.
 use Rattle.std.specs.Prelude.{
   ◌≡◌,
   ◌<◌,
@@ -24,7 +24,7 @@ use Rattle.d64_image.specs.Offsets.{overwritten}
 
 -- The bytes that stay, now and at the moments before.
 pub record Lasting (F : Type 0) : Type 1 where
-  -- those that stay now; None where that isn't known
+  -- those that stay now; None if that isn't known
   pub bytes : F → Option (List ℕ)
   -- the moment, as a number that doesn't fall
   pub moment : F → ℕ
@@ -56,14 +56,14 @@ pub record Whole {F : Type 0} (held : F → Option (List ℕ)) : Type 1 where
 abbrev pub unknown_whole : {F : Type 0} → {held : F → Option (List ℕ)} → Whole held
 unknown_whole = record { lasting = unknown_lasting; is_held = λ f all e. absurd (none-some all e) }
 
--- The bytes of a file that are looked at: those that stay, where each sector is brought to the disk; else those that an
+-- The bytes of a file that are looked at. If each sector is synced, they are those that stay; otherwise those that an
 -- image's file holds whole.
 abbrev pub seen : {F : Type 0} → (L W : Lasting F) → (synced sized : Bool) → Lasting F
 seen L W true sized = L
 seen L W false true = W
 seen L W false false = unknown_lasting
 
--- From old to new those of old stayed or these, and at each moment nothing else.
+-- From old to new the bytes of old stayed, or these, and at each moment nothing else.
 pub record StaysOr {F : Type 0} (L : Lasting F) (old new : F) (next : Option (List ℕ)) : Type 0 where
   pub now : (L.bytes new ≡ L.bytes old) ⊎ (L.bytes new ≡ next)
   pub later : L.moment old ≤ L.moment new
@@ -77,7 +77,7 @@ abbrev pub overwritten_in : Option (List ℕ) → ℕ → List ℕ → Option (L
 overwritten_in None n bytes = None
 overwritten_in (Some all) n bytes = Some (overwritten all n bytes)
 
--- a sector of 256 bytes, at a multiple of 256 of a file that reaches so far, where that is known
+-- a sector of 256 bytes, at a multiple of 256 of a file that reaches so far, if that is known
 pub record IsSectorIn (all : Option (List ℕ)) (n : ℕ) (bytes : List ℕ) : Type 0 where
   pub size : length bytes ≡ 256
   pub index : ℕ

@@ -24,7 +24,7 @@ use Rattle.d64_image.specs.Memory.{sectors_in}
 use Rattle.d64_image.specs.Chunks.{chunks_are_image, chunks_are_sectors}
 use Rattle.shop_commands.specs.Lasting.{Lasting}
 
--- the image that bytes are, where they are known and as many as an image has
+-- the image that bytes are, if they are known and as many as an image has
 abbrev pub image_of : Option (List ℕ) → Option Image
 image_of None = None
 image_of (Some all) = if length all == 174848 then Some (sectors_in all) else None

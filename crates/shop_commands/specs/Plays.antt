@@ -14,8 +14,8 @@ use Rattle.shop_commands.specs.Shops.{IsOpenRefusal}
 use Rattle.shop_commands.specs.declared.faults.RunFault.{RunFault}
 use Rattle.shop_commands.specs.declared.faults.RunFault.TheVariants as run
 
--- A play of a script ended so: the run of the script did, and at its end what was told was handed on; or each line was
--- played and told, but what was told wasn't handed on.
+-- How a play of a script ended. Either the run of the script ended so, and its replies were handed on; or each line was
+-- played and its reply passed, but the replies weren't handed on.
 abbrev pub IsPlayEnd : {D T : Type 0} → History D → Output T → D → List ℕ → T → T → Result D (RunFault × D) → Type 0
 IsPlayEnd h o disk script old new (Ok left) = IsScriptRun h o disk script old new (Ok left) × o.is_handed_on new
 IsPlayEnd h o disk script old new (Err e) =
@@ -43,7 +43,7 @@ IsPlayedOver K o image script file after old new end =
 abbrev pub IsUnfailed : {F : Type 0} → Keeps F → F → F → Type 0
 IsUnfailed K old new = K.failures new ≡ K.failures old
 
--- each line of the script was played on the disk of the file, told, and handed on
+-- each line of the script was played on the disk of the file, and its reply passed and handed on
 abbrev pub IsPlayedFile : {F T : Type 0} → Keeps F → Output T → (image script : List ℕ) → F → F → T → T → Type 0
 IsPlayedFile K o image script file after old new =
     IsUnfailed K file after × IsPlayedOver K o image script file after old new (λ left. Ok left)

@@ -17,7 +17,7 @@ pub record IsShown {W : Type 0} (contents : W → Option (List ℕ)) (image : Li
   pub is_shop : IsShop (sectors_in image) shop
   pub printed : Appends (contents old) (contents new) (shown_shop shop.top shop.state)
 
--- an image of the size of a disk is no shop's, for this fault: it holds, and none that is judged before it
+-- an image of the size of a disk is no shop's, for this fault: it holds, and none that is checked before it
 pub record IsOpenRefusal (image : List ℕ) (fault : RunFault) : Type 0 where
   pub size : length image ≡ 174848
   pub opening : OpenFault

@@ -24,7 +24,7 @@ abbrev pub card_part : ℕ → Option ℕ → List ℕ
 card_part item None = []
 card_part item (Some quantity) = card_line item quantity
 
--- a request as its till sent it and its answer, behind a word: TILL 1,4,I,42,20,DONE,100
+-- after a word, a request as its till sent it, and its answer: TILL 1,4,I,42,20,DONE,100
 abbrev pub told_line : List ℕ → Ask → Answer → List ℕ
 told_line word a answer = word ++ (message_text a ++ (codes "," ++ (answer_text answer ++ codes "\n")))
 

@@ -4,7 +4,7 @@ use Rattle.request_cards.specs.Ledgers.{Start, State, entry_of, nothing, replies
 use Rattle.script_lines.specs.Lines.{lines}
 use Rattle.shop_commands.specs.declared.table.Table.{Table}
 
--- what stands at the place n - 1, where items and tills count from 1
+-- the value at the place n - 1: items and tills count from 1
 abbrev pub nth : {X : Type 0} → List (Option X) → ℕ → Option X
 nth xs n = if n == 0 then None else slice_index_or xs (n - 1) None
 

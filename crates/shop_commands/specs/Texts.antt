@@ -1,5 +1,5 @@
 -- What is printed of an image, byte by byte. A listing has the form of a drive's directory (1541 User's Guide,
--- directory); how a fault is told is our own.
+-- directory); the form of a fault is our own.
 use Rattle.std.specs.Prelude.{ℕ, ◌%◌, ◌++◌, [], not, ◌&&◌, List, Option, Some, None, if◌then◌else◌, codes, decimal}
 use Rattle.std.specs.Prelude.{flat_map, map, nat_eq, nat_le, nat_lt, slice_range, take_while}
 use Rattle.std.specs.Int.{bit_at}
@@ -37,7 +37,7 @@ abbrev pub dry_text : DryFault → List ℕ
 dry_text (dry.BadLine line) = codes "SCRIPT LINE " ++ decimal line
 dry_text dry.Output = codes "FILE"
 
--- the line that a check prints: OK where nothing is wrong
+-- the line that a check prints: OK if nothing is wrong
 abbrev pub verdict_text : Option Fault → List ℕ
 verdict_text None = codes "OK\n"
 verdict_text (Some fault) = fault_text fault ++ codes "\n"
@@ -65,7 +65,7 @@ type_name kind =
     else if nat_eq kind 4 then codes "REL"
     else codes "???"
 
--- a type: a star stands before it where the file isn't closed, and < behind it where it is locked
+-- a type: a star stands before it if the file isn't closed, and < after it if it is locked
 abbrev pub type_text : ℕ → List ℕ
 type_text byte =
     (if nat_lt byte 128 then codes "*" else [])

@@ -27,7 +27,7 @@ pub fn load(alloc: Global, image: &[u8]) -> Result<MemDisk, RunFault>
     }
 }
 
-/// Hands all of these bytes to the writer. `File` if it failed.
+/// Passes all of these bytes to the writer. `File` if it failed.
 pub fn put<W: Write>(out: &mut W, bytes: &[u8]) -> Result<(), RunFault>
     ensures ok { OnOk result (Appends (W.contents out.old) (W.contents out.new) bytes.now) }
     ensures err { IfErr result (λ fault. fault ≡ faults.File) }
@@ -38,7 +38,7 @@ pub fn put<W: Write>(out: &mut W, bytes: &[u8]) -> Result<(), RunFault>
     Ok(())
 }
 
-/// Hands on what the writer still holds back. `File` if it failed.
+/// Flushes the writer. `File` if it failed.
 pub fn flush<W: Write>(out: &mut W) -> Result<(), RunFault>
     ensures kept { Keeps (W.contents out.old) (W.contents out.new) }
     ensures err { IfErr result (λ fault. fault ≡ faults.File) }
@@ -49,8 +49,8 @@ pub fn flush<W: Write>(out: &mut W) -> Result<(), RunFault>
     Ok(())
 }
 
-/// Hands all of these bytes to the writer, and those that it still holds back to where it keeps
-/// them. `File` if it failed, which then has a beginning of them, or all.
+/// Passes all of these bytes to the writer, and flushes it. `File` if it failed; then it has the first of these bytes, or
+/// all.
 pub fn put_whole<W: Write>(out: &mut W, bytes: &[u8]) -> Result<(), RunFault>
     ensures ok { OnOk result (Appends (W.contents out.old) (W.contents out.new) bytes.now) }
     ensures err { IfErr result (λ fault.

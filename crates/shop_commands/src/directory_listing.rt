@@ -59,11 +59,11 @@ fn put_directory<W: Write>(
     flush(out)
 }
 
-/// Prints the directory of the image, with its names in this form. It is read and checked whole before anything is printed.
+/// Prints the directory of the image, with its names in this form. It is read and checked whole before anything is
+/// printed.
 ///
-/// `ImageSize` if the image hasn't the size of a disk; `Layout` if the directory's sectors aren't a
-/// chain on track 18 outside 18/0; `NoMemory` if there was none for the disk. `File` if the output
-/// failed, which may then have a part.
+/// `ImageSize` if the image hasn't the size of a disk; `Layout` if the directory's sectors aren't a chain on track 18
+/// outside 18/0; `NoMemory` if there was none for the disk. `File` if the output failed, which may then have a part.
 pub fn list_image<W: Write>(
     alloc: Global,
     image: &[u8],
@@ -73,7 +73,7 @@ pub fn list_image<W: Write>(
     // What is listed has a directory, whose listing was printed; and what is reported holds.
     ensures ok { OnOk result (IsListed W.contents form image.now out.old out.new) }
     ensures err { IfErr result (IsListFault image.now) }
-    // Only where the output failed something may have been printed.
+    // At a refusal something was printed only if the output failed.
     ensures untouched { IfErr result (λ fault. (fault ≢ faults.File) → out.new ≡ out.old) }
 {
     let mut disk = load(alloc, image)?;

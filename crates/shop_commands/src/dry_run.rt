@@ -73,7 +73,7 @@ fn play<W: Write>(script: &[u8], table: &mut Table, out: &mut W) -> Result<(), D
     Ok(())
 }
 
-/// Hands on what the writer still holds back.
+/// Flushes the writer.
 fn hand_on<W: Write>(out: &mut W) -> Result<(), DryFault>
     ensures kept { Keeps (W.contents out.old) (W.contents out.new) }
     ensures err { IfErr result (λ e. e ≡ DryFault.Output) }
@@ -99,7 +99,7 @@ pub fn dry<W: Write>(script: &[u8], out: &mut W) -> Result<(), DryFault>
     ensures good { OnOk result (first_reset (lines script.now) ≡ None) }
     ensures ok { OnOk result
         (Appends (W.contents out.old) (W.contents out.new) (dry_report script.now)) }
-    // The output is at fault only where no line is.
+    // The output is reported only if no line is at fault.
     ensures err { IfErr result (IsDryFault (first_reset (lines script.now))) }
 {
     if let Some(line) = first_reset_line(script) {

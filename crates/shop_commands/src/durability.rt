@@ -1,4 +1,4 @@
-//! Files that are written at places, and brought to the disk.
+//! Files that are written at places, and synced.
 ghost use Rattle.std.specs.Prelude.{◌≡◌, Bool, List, None, OnErr, OnOk, Option, ℕ, true, ⊤};
 ghost use Rattle.shop_commands.specs.Durable.{IsSynced, LastsSo, WritesOver};
 ghost use Rattle.shop_commands.specs.Lasting.{IsSectorIn, Lasting, TakesSector, Whole, unknown_lasting};
@@ -13,10 +13,10 @@ pub trait WritesAt {
     ghost use Rattle.shop_commands.specs.Durable.{AllStays, WritesOver};
     ghost use Rattle.shop_commands.specs.Lasting.{IsSectorIn, LacksASector, StaysOr, TakesSector, overwritten_in};
 
-    // the bytes that it holds, where they are known
+    // the bytes that it holds, if they are known
     ghost held: { Self → Option (List ℕ) } = { λ _. None };
 
-    // the bytes that stay where the machine loses power, where they are known
+    // the bytes that stay if the machine loses power, if they are known
     ghost lasting: { Lasting Self } = { unknown_lasting };
 
     // the bytes that it holds, if it is known that a write that fails stands there whole or not at all
@@ -30,8 +30,8 @@ pub trait WritesAt {
     // whether one of its calls may have failed
     ghost has_failed: { Self → Bool } = { λ _. true };
 
-    /// Writes all these bytes over those from that place on, in bytes from the file's start. At an error a beginning of
-    /// them was written. All of a sector comes to the disk or nothing, if all the rest is there already.
+    /// Writes all these bytes over those from that place on, in bytes from the file's start. At an error a prefix of them
+    /// was written. If all the rest is on the disk already, all of a sector comes there or nothing.
     fn write_all_at(&mut self, bytes: &[u8], at: u64) -> io::Result<()>
         ensures written { WritesOver (held self.old) (held self.new) at bytes.now result }
         ensures stays { AllStays held lasting self.old → IsSectorIn (lasting.bytes self.old) at bytes.now
@@ -41,8 +41,8 @@ pub trait WritesAt {
         ensures failed { OnErr result (has_failed self.new ≡ true) }
         ensures passed { OnOk result (has_failed self.new ≡ has_failed self.old) };
 
-    /// Brings what it holds to the disk, whoever wrote it. At an error any of what wasn't there may be, or not, and
-    /// asking again says nothing: the caller doesn't go on.
+    /// Syncs what it holds, whichever program wrote it. At an error any of what wasn't there may be, or not, and a
+    /// further sync says nothing: the caller doesn't go on.
     fn sync(&mut self) -> io::Result<()>
         ensures same { held self.new ≡ held self.old }
         ensures lasting { OnOk result (AllStays held lasting self.new) }
@@ -71,7 +71,7 @@ impl WritesAt for File {
     }
 }
 
-/// When what is written to a file is brought to the disk, where it stays though the machine loses power.
+/// When what is written to a file is synced, so that it stays though the machine loses power.
 #[derive(Clone, Copy, Debug, PartialEq, Eq)]
 pub enum Durability {
     /// Each sector before anything else is done.
@@ -80,7 +80,7 @@ pub enum Durability {
     AtEnd,
 }
 
-/// Writes the bytes of a sector from a place on, and brings them to the disk where each one is.
+/// Writes the bytes of a sector from a place on, and syncs them if each sector is synced.
 #[inline(always)]
 pub(crate) fn write_sector<F: WritesAt>(
     file: &mut F,

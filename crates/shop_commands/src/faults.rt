@@ -19,7 +19,7 @@ pub enum RunFault {
     Layout(Fault),
     /// The image has no closed relative file STOCK, or the first one has records of another length than 18.
     NoStock,
-    /// The same for REQUESTS and 127.
+    /// The image has no closed relative file REQUESTS, or the first one has records of another length than 127.
     NoRequests,
     /// This record of STOCK is neither empty nor the card of its item; it is the first such one.
     BadCard(u16),

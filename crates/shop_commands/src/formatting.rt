@@ -50,11 +50,11 @@ fn write_image<F: EndedFile>(alloc: Global, tills: u8, file: &mut F) -> Result<(
 }
 
 /// Makes the disk of an empty shop with 1 to 64 tills (an odd number gives one more). Writes the 174,848 bytes of its
-/// image over all that the file held, syncs them, and prints so on `out`. If power goes on the way, the file has what
-/// it could have before, or is no sound disk's, or has the image.
+/// image over all that the file held, syncs them, and prints `FORMATTED` on `out`. If power goes on the way, the file has
+/// what it could have before, or is no sound disk's, or has the image.
 ///
 /// `NoMemory` before anything is written. `File` if the file failed, which then has a part of the image, and nothing is
-/// printed; or if `out` failed, which then has a prefix of what is printed.
+/// printed. `File` also if `out` failed, which then has a prefix of what is printed.
 pub fn format_image<F: EndedFile, W: Write>(
     alloc: Global,
     tills: u8,

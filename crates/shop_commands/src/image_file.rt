@@ -8,13 +8,13 @@ use crate::durability::{Durability, WritesAt, write_sector};
 use d64_image::{Place, SectorFile};
 use std::io;
 
-/// A file that has a sector at 256 times its index. Being written to a place needs no seek, so a sector is handed over
-/// by one call of the system, where that takes it at once.
+/// A file that has a sector at 256 times its index. Writing at a place needs no seek, so one call of the system writes a
+/// sector, if the system takes it at once.
 #[derive(Drop)]
 pub struct ImageFile<F: WritesAt> {
     file: F,
     durability: Durability,
-    /// Each sector is brought to the disk, and all the rest that the file holds is there, unless bringing one failed.
+    /// Each sector is synced, and so is all the rest that the file holds, unless a sync failed.
     synced: bool,
     /// It is the file of an image.
     sized: bool,
@@ -31,7 +31,7 @@ pub struct ImageFile<F: WritesAt> {
 /// How many bytes an image has.
 const IMAGE_BYTES: usize = 174_848;
 
-/// Whether these bytes are an image each sector of which is brought to the disk.
+/// Whether these bytes are an image each sector of which is synced.
 fn is_brought(durability: Durability, image: &[u8]) -> bool
     ensures { result ≡ true ↔ ((durability ≡ Durability.EachSector) × (length image.now ≡ 174848)) }
 {
@@ -43,7 +43,7 @@ impl<F: WritesAt> ImageFile<F> {
     ghost use Rattle.shop_commands.specs.Durable.{IsSynced};
     ghost use Rattle.shop_commands.specs.ImageFile.{BringsAll, IsTakenUp, is_synced, placed, placed_durability, placed_file};
 
-    /// The file, whose sectors aren't brought to the disk before the end. It took no sector, and hasn't failed.
+    /// The file, whose sectors aren't synced before the end. It took no sector, and hasn't failed.
     pub fn new(file: F) -> ImageFile<F>
         ensures file { placed_file result ≡ file }
         ensures durability { placed_durability result ≡ Durability.AtEnd }
@@ -60,9 +60,9 @@ impl<F: WritesAt> ImageFile<F> {
         }
     }
 
-    /// The file of an image with these bytes, which were read of it, whose sectors are brought to the disk so. It took
-    /// no sector, and hasn't failed. If each sector is, and what it holds is there, it keeps what stays there, otherwise
-    /// what it holds, if that is known whole.
+    /// The file of an image with these bytes, which were read from it, and whose sectors are synced as `durability` says.
+    /// It took no sector, and hasn't failed. If each sector is synced, and what the file holds is on the disk, it keeps
+    /// what stays there. Otherwise it keeps what it holds, if that is known whole.
     pub fn of_image(file: F, durability: Durability, image: &[u8]) -> ImageFile<F>
         requires there { IsSynced F.held F.lasting durability file }
         requires image { IfSome (F.held file) (λ all. image.now ≡ take 174849 all) }
@@ -78,7 +78,7 @@ impl<F: WritesAt> ImageFile<F> {
         }
     }
 
-    /// Whether it failed to bring a sector to the disk: it isn't asked again then.
+    /// Whether a sync failed: then no sync is tried again.
     #[inline(always)]
     fn is_stopped(&self) -> bool
         ensures { result ≡ true ↔ (is_synced self.now × (1 ≤ placed.failures self.now)) }
@@ -101,8 +101,8 @@ impl<F: WritesAt> ImageFile<F> {
         file
     }
 
-    /// Brings all that was written to the disk, if that wasn't done after each sector. A file that failed to bring
-    /// a sector there isn't asked again. If each is there, and none failed, there is nothing to bring, and no error.
+    /// Syncs all that was written, if that wasn't done after each sector. A file whose sync failed isn't asked again. If
+    /// each sector was synced, and none failed, there is nothing to sync, and no error.
     pub fn finish(&mut self) -> io::Result<()>
         ensures { BringsAll self.old self.new result }
     {
@@ -128,10 +128,10 @@ impl<F: WritesAt> SectorFile for ImageFile<F> {
     #[inline(always)]
     fn keep(&mut self, place: Place, from: &[u8; 256]) -> io::Result<()>
         ensures keeps { KeepsSector placed self.old self.new place from.now result }
-        // the sector was written at 256 times its index, and nothing else; at an error a beginning of it was
+        // the sector was written at 256 times its index, and nothing else; at an error a first part of it was
         ensures written { WritesOver (F.held (placed_file self.old)) (F.held (placed_file self.new)) (offset_of place)
             from.now result }
-        // where each sector is brought to the disk, so is this one
+        // if each sector is synced, this one was too
         ensures lasting { OnOk result (IsSynced F.held F.lasting (placed_durability self.old) (placed_file self.new)) }
         // an error is returned only if the file failed, now or before
         ensures failed { OnErr result (F.has_failed (placed_file self.new) ≡ true) }

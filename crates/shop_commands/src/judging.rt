@@ -38,9 +38,9 @@ fn put_verdict<W: Write>(out: &mut W, found: Option<Fault>) -> Result<(), RunFau
     flush(out)
 }
 
-/// Checks the layout of the image, and prints `OK` if it is clean, otherwise a fault and its place,
-/// which it also answers: which of several is open. `ImageSize` if the image hasn't the size of a
-/// disk, `NoMemory` if there was none for the disk, `File` if the output failed.
+/// Checks the layout of the image, and prints `OK` if it is clean, otherwise a fault and its place. Returns that fault.
+/// If several hold, it may be any of them. `ImageSize` if the image hasn't the size of a disk, `NoMemory` if there was
+/// none for the disk, `File` if the output failed.
 pub fn check_image<W: Write>(
     alloc: Global,
     image: &[u8],
@@ -53,7 +53,7 @@ pub fn check_image<W: Write>(
     ensures printed { IfOk result
         (λ found. Appends (W.contents out.old) (W.contents out.new) (verdict_text found)) }
     ensures err { IfErr result (IsCheckFault image.now) }
-    // Only where the output failed something may have been printed at a refusal.
+    // At a refusal something was printed only if the output failed.
     ensures untouched { IfErr result (λ fault. (fault ≢ faults.File) → out.new ≡ out.old) }
 {
     let mut disk = load(alloc, image)?;

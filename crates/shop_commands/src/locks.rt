@@ -21,8 +21,8 @@ pub trait Locks: WritesAt {
         ensures shared { OnOk result (Self.IsShared self.new) }
         ensures held { Self.held self.new ≡ Self.held self.old };
 
-    /// The bytes of the image that it is: the first 174,849, or all of them where there are fewer. Nothing was read of
-    /// it before. Its error where it failed, or where there was no memory for them.
+    /// The bytes of the image in this file: the first 174,849, or all of them if there are fewer. Nothing was read of it
+    /// before. Its error if reading failed, or if there was no memory for them.
     fn image(&mut self, alloc: Global) -> io::Result<Vec<u8>>
         // it is locked first, alone or with others that read it
         requires shared { Self.IsShared self.old }

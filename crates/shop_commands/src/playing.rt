@@ -88,7 +88,7 @@ pub fn play_file<F: SectorFile, T: ReplySink<KeptMirror<F>>>(
     file: F,
     out: &mut T,
 ) -> Result<F, (RunFault, F)>
-    // where it is known what the file keeps, it is this image
+    // if it is known what the file keeps, it is this image
     requires agrees { Agrees (F.keeps.kept file) (sectors_in image.now) }
     ensures ok { IfOk result (λ after. IsPlayedFile F.keeps T.output image.now script.now file after out.old out.new) }
     ensures err { IfErr result (λ e. IsFileFault F.keeps T.output image.now script.now file e.1 out.old out.new e.0) }

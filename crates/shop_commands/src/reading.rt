@@ -8,9 +8,9 @@ use std::io::{self, Read};
 /// too many.
 const IMAGE_BYTES: u64 = 174_849;
 
-/// The bytes of a script: all that the reader has left. Its error where it failed, or where there was no
-/// memory for them. `room` is how many bytes memory is taken for at once: with one more than a file has it need not
-/// grow, and any number will do.
+/// The bytes of a script: all that the reader has left. Its error if reading failed, or if there was no memory for them.
+/// `room` is how many bytes memory is taken for at once: any number will do, and with one more than the file has it need
+/// not grow.
 pub fn read_script<R: Read + Drop>(alloc: Global, reader: R, room: usize) -> io::Result<Vec<u8>>
     ensures { IfOk result (λ bytes. IfSome (R.remaining reader) (λ all. vec_items bytes ≡ all)) }
 {
@@ -20,8 +20,8 @@ pub fn read_script<R: Read + Drop>(alloc: Global, reader: R, room: usize) -> io:
     Ok(bytes)
 }
 
-/// The bytes of an image: the first 174,849 that the reader has left, or all of them where there are
-/// fewer. Its error where it failed, or where there was no memory for them.
+/// The bytes of an image: the first 174,849 that the reader has left, or all of them if there are fewer. Its error if
+/// reading failed, or if there was no memory for them.
 pub fn read_image<R: Read + Drop>(alloc: Global, reader: R) -> io::Result<Vec<u8>>
     ensures { IfOk result (λ bytes. IfSome (R.remaining reader)
         (λ all. vec_items bytes ≡ take 174849 all)) }

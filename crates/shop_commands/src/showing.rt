@@ -100,21 +100,21 @@ pub(crate) fn put_shop<D: Sectors, W: Write>(
     flush(out)
 }
 
-/// Prints what an image holds of a shop: how far new cards may go, the cards in the order of the items, and by till the
-/// last request and the one before it with their answers. A copy of the image is opened in memory, where an open intent
-/// is completed; the image isn't written.
+/// Prints what an image holds of a shop: how far new cards may go, and the cards in the order of the items. Then by till
+/// the last request and the one before it, with their answers. A copy of the image is opened in memory, in which an open
+/// intent is completed. The image isn't written.
 ///
-/// `ImageSize` if it hasn't the size of a disk. `Layout`, `NoStock`, `NoRequests`, `BadRequestCard`, `TwoIntents` or
-/// `BadCard` if it is no shop's: the first that holds in this order. `NoMemory` if there was none for the copy. `File`
-/// if the output failed, which may then have a part.
+/// `ImageSize` if it hasn't the size of a disk. If it isn't a shop's, the first of these that holds: `Layout`, `NoStock`,
+/// `NoRequests`, `BadRequestCard`, `TwoIntents`, `BadCard`. `NoMemory` if there was none for the copy. `File` if the
+/// output failed, which may then have a part.
 // Out of line: a session is large, and a frame that has its room touches each page of it.
 #[inline(never)]
 pub fn show_image<W: Write>(alloc: Global, image: &[u8], out: &mut W) -> Result<(), RunFault>
     // What is shown is the shop that the image is, at rest.
     ensures ok { OnOk result (IsShown W.contents image.now out.old out.new) }
-    // What is reported holds, and a shop is refused for memory or the output alone.
+    // What is reported holds, and a shop is refused only for memory or the output.
     ensures err { IfErr result (IsShowFault image.now) }
-    // Only where the output failed something may have been printed.
+    // At a refusal something was printed only if the output failed.
     ensures untouched { IfErr result (λ fault. (fault ≢ faults.File) → out.new ≡ out.old) }
 {
     let disk = load(alloc, image)?;

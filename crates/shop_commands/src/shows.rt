@@ -67,7 +67,7 @@ fn write_card(item: u16, quantity: u32, room: &mut [u8], end: usize) -> usize
     write_behind(b"CARD ", u32::from(item), room, start)
 }
 
-/// The same if the item has a card; otherwise nothing is written.
+/// Writes the item's line as `write_card` does if the item has a card; otherwise nothing is written.
 pub(crate) fn write_item(item: u16, quantity: Option<u32>, room: &mut [u8], end: usize) -> usize
     requires { (24 ≤ end) × (end ≤ length room.old) }
     ensures low { end ≤ result + 24 }
@@ -97,7 +97,7 @@ fn put_line_of<W: Write>(
     put_line(out, AnswerText(answer))
 }
 
-/// The same, if there is a request.
+/// Prints the line of a request, if there is one.
 fn put_told<W: Write>(
     out: &mut W,
     word: &[u8],

@@ -35,7 +35,7 @@ impl Table {
         }
     }
 
-    /// The quantity on hand, where the item has a card.
+    /// The quantity on hand, if the item has a card.
     fn on_hand(&self, item: u16) -> Option<u32>
         requires { 1 ≤ item }
         ensures value { result ≡ nth self.now.cards item }
@@ -67,7 +67,7 @@ impl Table {
         self.cards[usize::from(item) - 1] = Some(quantity);
     }
 
-    /// Writes the item's card where there is a new quantity.
+    /// Writes the item's card if there is a new quantity.
     fn store(&mut self, item: u16, quantity: Option<u32>)
         requires low { 1 ≤ item }
         requires high { IfSome quantity (λ _. item ≤ 8819) }

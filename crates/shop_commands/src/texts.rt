@@ -69,8 +69,8 @@ fn type_name(kind: u8) -> &'static str
     }
 }
 
-/// A type byte as it is printed: a star before the type's name where the file isn't closed (bit 7 is 0),
-/// and `<` after it if the file is locked (bit 6 is 1).
+/// A type byte as it is printed: a star before the type's name if the file isn't closed (bit 7 is 0), and `<` after it if
+/// the file is locked (bit 6 is 1).
 #[derive(Clone, Copy)]
 struct TypeText(u8);
 

@@ -25,7 +25,7 @@ zeros_in b at (suc n) = zeros_in b at n + (if slice_index b (at + n) == 0 then 1
 abbrev pub counts : List ℕ → Bool
 counts b = pair_at b 0 == zeros_in b 2 4094
 
--- bytes 2 to 9 are the first eight of the SHA-256 of those behind
+-- bytes 2 to 9 are the first eight of the SHA-256 of the bytes after them
 unfoldable pub matches : List ℕ → Bool
 matches b = bytes_eq (part b 2 8) (take 8 (sha256 (drop 10 b)))
 

@@ -6,8 +6,8 @@ use Rattle.std.specs.Prelude.{None, Option, Some, Result, OnErr, OnOk, true}
 abbrev pub overwritten : List ℕ → ℕ → List ℕ → List ℕ
 overwritten file at bytes = take at file ++ (bytes ++ drop (at + length bytes) file)
 
--- What a torn write may leave of a file that it doesn't lengthen: each byte of the range is the old one or the new one,
--- in any mix, and all other bytes are the old ones.
+-- What a torn write may leave of a file that it doesn't lengthen. Each byte of the range is the old one or the new one,
+-- in any mix; all other bytes are the old ones.
 pub record Mixed (at : ℕ) (bytes old new : List ℕ) : Type 0 where
   pub size : length new ≡ length old
   pub before : (i : ℕ) → i < at → slice_index new i ≡ slice_index old i
@@ -60,7 +60,7 @@ pub record LeavesOnly {F : Type 0} (h : FileHistory F) (old new : F) (P : List �
   -- for a run that began earlier
   pub before : (t : ℕ) (c : List ℕ) → t ≤ h.moment old → h.left_since new t c → h.left_since old t c ⊎ P c
 
--- Whatever a read may return beside the calls from old to new has P.
+-- Whatever a read may return during the calls from old to new has P.
 abbrev pub SeesOnly : {F : Type 0} → FileHistory F → F → F → (List ℕ → Type 0) → Type 0
 SeesOnly h old new P = (f g c : List ℕ) → h.held old ≡ Some f → h.held new ≡ Some g → IsBlend f g c → P c
 
@@ -92,7 +92,8 @@ pub record Rests {F : Type 0} (h : FileHistory F) (file : F) (bytes : List ℕ) 
   pub held : h.held file ≡ Some bytes
   pub durable : Only bytes (h.may_leave file)
 
--- Bytes were written over those of a file at rest, and synced. A power loss at any moment leaves a mix of old and new.
+-- Bytes were written over those of a file at rest, and synced. A power loss at any moment leaves a mix of old and new
+-- bytes.
 pub record BringsBytes {F T E : Type 0} (h : FileHistory F) (old new : F) (at : ℕ) (bytes file : List ℕ)
     (result : Result T E) : Type 0 where
   pub ok : OnOk result (Rests h new (overwritten file at bytes))

@@ -25,7 +25,7 @@ base_end f = first_commit (block_at f) (whole_blocks f)
 abbrev pub base_of : List ℕ → Image
 base_of f = replayed (block_at f) blank (base_end f)
 
--- the first byte behind the blocks isn't 0: the image is being brought to its own file
+-- the first byte after the blocks isn't 0: the image is being copied into its own file
 abbrev pub is_marked : List ℕ → Bool
 is_marked f = not (slice_index f 4194304 == 0)
 
@@ -50,12 +50,12 @@ pub record IsLeft (start before after : Image) (f : List ℕ) : Type 0 where
   pub base : base_of f ≡ start
   pub image : (recovered f ≡ before) ⊎ (recovered f ≡ after)
 
--- What a power loss may leave while a commit is written behind the log f.
+-- What a power loss may leave while a commit is written after the log f.
 pub record IsTorn (f : List ℕ) (end : ℕ) (after : Image) (c : List ℕ) : Type 0 where
   pub left : 0 < first_commit (block_at f) end → IsLeft (base_of f) (recovered f) after c
   pub unmarked : is_marked c ≡ false
 
--- A commit of n blocks stands behind the log f, and the file rests: its bytes, and what they stand for.
+-- A commit of n blocks stands after the log f, and the file rests: its bytes, and what they stand for.
 pub record IsAppended {F : Type 0} (h : FileHistory F) (file : F) (f : List ℕ) (end n : ℕ) (after : Image) : Type 0 where
   pub bytes : List ℕ
   pub rests : Rests h file bytes
@@ -65,5 +65,5 @@ pub record IsAppended {F : Type 0} (h : FileHistory F) (file : F) (f : List ℕ)
   -- the base stays, or this is the base
   pub base : 0 < first_commit (block_at f) end → base_of bytes ≡ base_of f
   pub first : end ≡ 0 → base_of bytes ≡ after
-  -- a read beside it returns what a power loss may leave of it
+  -- a read during the call returns what a power loss may leave of it
   pub beside : (c : List ℕ) → IsBlend f bytes c → IsTorn f end after c

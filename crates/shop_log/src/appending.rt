@@ -7,7 +7,7 @@ use std::io;
 
 /// Writes these bytes over those from that place on, and syncs the file. At an error the caller stops.
 pub(crate) fn append<F: LogFile>(file: &mut F, at: usize, bytes: &[u8]) -> io::Result<()>
-    // a file at rest, of which these bytes are no longer
+    // a file at rest, in which these bytes don't reach past the end
     ensures brings { (f : List ℕ) → Rests F.history file.old f → at + length bytes.now ≤ length f
         → BringsBytes F.history file.old file.new at bytes.now f result }
     ensures unknown { F.history.held file.old ≡ None → F.history.held file.new ≡ None }

@@ -22,7 +22,7 @@ fn count_zeros(block: &[u8; 4096]) -> usize
     count
 }
 
-/// The SHA-256 of the bytes behind the block's count and digest.
+/// The SHA-256 of the bytes after the block's count and digest.
 fn digest(block: &[u8; 4096]) -> [u8; 32]
     ensures { result ≡ sha256 (drop 10 block.now) }
 {
@@ -36,7 +36,7 @@ fn has_digest(block: &[u8; 4096]) -> bool
     block[2..10] == digest(block)[..8]
 }
 
-/// Whether the block is whole, and stands at this place: the first two bytes say how many of the others are zero, bytes
+/// Whether the block is whole, and stands at this place. The first two bytes say how many of the others are zero, bytes
 /// 12 and 13 are the place, and the digest agrees.
 pub(crate) fn is_whole_block(block: &[u8; 4096], place: usize) -> bool
     ensures { result ≡ is_whole place block.now }
@@ -66,7 +66,7 @@ fn put_digest(block: &mut [u8; 4096], digest: &[u8; 32])
     block[2..10].copy_from_slice(&digest[..8]);
 }
 
-/// Puts the digest and then the count of zeros into a block that has all else.
+/// Puts the digest and then the count of zeros into a block that has everything but these two.
 pub(crate) fn seal(block: &mut [u8; 4096])
     ensures counts { counts block.new ≡ true }
     ensures matches { matches block.new ≡ true }

@@ -1,4 +1,4 @@
-//! The blocks of a commit, written behind those of a log and synced.
+//! The blocks of a commit, written after those of a log and synced.
 ghost use Rattle.std.specs.Prelude.{◌≡◌, ◌+◌, ◌≤◌, IfOk, List, None, OnErr, ℕ, length, true};
 ghost use Rattle.shop_log.specs.Blocks.{brought};
 ghost use Rattle.shop_log.specs.Files.{LeavesOnly, Rests};
@@ -10,8 +10,8 @@ use crate::filling::fill;
 use crate::log_file::LogFile;
 use std::io;
 
-/// Makes the blocks of a commit in the room, writes them behind the file's first `end` blocks, and syncs. Returns how
-/// many they are. At an error the caller stops.
+/// Makes the blocks of a commit in the room, writes them after the file's first `end` blocks, and syncs. Returns their
+/// number. After an error the caller stops.
 pub(crate) fn append_commit<F: LogFile>(
     file: &mut F,
     room: &mut [[u8; 4096]],

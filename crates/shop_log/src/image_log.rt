@@ -13,7 +13,7 @@ pub trait ImageLog {
     ghost history: { LogHistory Self };
 
     /// Makes the image as it is now durable, by the sectors that were touched since the last commit: `touched[i]` says
-    /// so of the sector with index i. At an error it stands for the image before or after, and takes no more commits.
+    /// that the sector with index i was. At an error it stands for the image before or after, and takes no more commits.
     fn commit(&mut self, now: &[[u8; 256]], touched: &[bool; 683]) -> io::Result<()>
         requires sized { length now.now ≡ 683 }
         ensures { IsCommitted history self.old self.new now.now touched.now result };

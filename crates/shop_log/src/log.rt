@@ -13,7 +13,7 @@ use crate::log_room::LogRoom;
 use std::alloc::Global;
 use std::io;
 
-/// How many blocks a log has room for. The mark's block stands behind them.
+/// How many blocks a log has room for. The mark's block stands after them.
 pub const BLOCKS: usize = 1024;
 
 /// How many blocks a commit takes at most, with all 683 sectors.
@@ -58,7 +58,7 @@ impl<F: LogFile> Log<F> {
         requires sized { length image.now ≡ 683 }
         requires empty { (f : List ℕ) → F.history.held file ≡ Some f → f ≡ [] }
         ensures ok { IfOk result (λ log. F.history.held file ≡ Some [] → StandsFor log image.now image.now) }
-        // it takes a commit, whatever that has
+        // it takes a commit, whatever sectors that has
         ensures room { IfOk result (λ log. takes_none log ≡ false) }
         // an error is returned only after a failure of the file
         ensures cause { IfErr result (λ e. F.history.has_failed e.1 ≡ true) }
@@ -94,7 +94,7 @@ impl<F: LogFile> Log<F> {
         }
     }
 
-    /// Whether it is too full for one more commit, whatever that has.
+    /// Whether it is too full for one more commit, whatever sectors that has.
     pub fn is_full(&self) -> bool
         ensures { result ≡ false ↔ log_end self.now + 46 ≤ 1024 }
     {
@@ -109,7 +109,7 @@ impl<F: LogFile> Log<F> {
     }
 
     /// Makes the image as it is now durable, by the sectors that were touched since the last commit: `touched[i]` says
-    /// so of the sector with index i. They are written behind the commits before, and synced. If none was touched,
+    /// that the sector with index i was. They are written after the commits before, and synced. If none was touched,
     /// nothing is written. At an error the log is closed, and stands for the image before or after.
     pub fn commit(&mut self, now: &[[u8; 256]], touched: &[bool; 683]) -> io::Result<()>
         requires sized { length now.now ≡ 683 }
@@ -121,7 +121,7 @@ impl<F: LogFile> Log<F> {
         ensures any_moment { (start before : Image) → StandsFor self.old start before → Covers touched.now before now.now
             → LeavesOnly F.history (log_file self.old) (log_file self.new)
             (λ c. IsLeft start before now.now c × (is_marked c ≡ false)) }
-        // a read beside it, each byte of which is as before or as after it, finds one of these too
+        // a read during the call, each byte of which is as before or as after it, finds one of these too
         ensures beside { OnOk result ((start before : Image) → StandsFor self.old start before
             → Covers touched.now before now.now → SeesOnly F.history (log_file self.old) (log_file self.new)
             (λ c. IsLeft start before now.now c × (is_marked c ≡ false))) }
@@ -144,11 +144,11 @@ impl<F: LogFile> Log<F> {
         Ok(())
     }
 
-    /// Marks that the image is being brought to its own file from here on, and closes the log.
+    /// Marks that from here on the image is copied into its own file, and closes the log.
     pub fn mark(&mut self) -> io::Result<()>
         ensures marked { OnOk result ((start now : Image) → StandsFor self.old start now
             → (c : List ℕ) → F.history.may_leave (log_file self.new) c → is_marked c ≡ true) }
-        // a power loss at any moment leaves the same image and base
+        // a power loss at any moment leaves this image and this base
         ensures any_moment { (start now : Image) → StandsFor self.old start now
             → LeavesOnly F.history (log_file self.old) (log_file self.new) (IsLeft start now now) }
         ensures closed { is_closed self.new }

@@ -3,19 +3,20 @@ ghost use Rattle.shop_log.specs.Files.{FileHistory, SyncsBytes, WritesBytes};
 
 use std::io;
 
-/// A file that is written at places and synced. Its history names what it holds and what a power loss may leave of it,
-/// where that is known; of a real file nothing is.
+/// A file that is written at places and synced. Its history names what it holds and what a power loss may leave of it, if
+/// that is known; of a real file it isn't.
 pub trait LogFile: Drop {
     /// What a file of this type holds, and what a power loss may leave of it.
     ghost history: { FileHistory Self };
 
-    /// Writes these bytes over those from that place on, in bytes from the file's start, or behind its last byte. Until
-    /// a sync a power loss leaves each byte of the range as it was or as it is now, in any mix. An error does the same.
+    /// Writes these bytes from that place on, in bytes from the file's start: over those that are there, or after the
+    /// last byte. Until a sync a power loss leaves each byte of the range as it was or as it is now, in any mix. An error
+    /// does that too.
     fn write_at(&mut self, at: usize, bytes: &[u8]) -> io::Result<()>
         ensures { WritesBytes history self.old self.new at bytes.now result };
 
-    /// Brings the file to the disk, so that a power loss leaves what a read returns. At an error any of what wasn't
-    /// there may be, or not, and a further sync says nothing: the caller stops.
+    /// Syncs the file: after that a power loss leaves what a read returns. At an error any of what wasn't there may be,
+    /// or not, and a further sync says nothing: the caller stops.
     fn sync(&mut self) -> io::Result<()>
         ensures { SyncsBytes history self.old self.new result };
 }

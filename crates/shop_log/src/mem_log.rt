@@ -18,7 +18,7 @@ pub enum MemCall {
 }
 
 /// A file in memory, which keeps each call, so that all that a power loss may leave is known. It fails if memory is
-/// refused, and at a write that begins behind its end or goes past it; from then on it fails each call.
+/// refused, and at a write that begins after its end or goes past it. From then on each call fails.
 #[derive(Drop)]
 pub struct MemLog {
     alloc: Global,
@@ -112,7 +112,7 @@ impl LogFile for MemLog {
 
     fn write_at(&mut self, at: usize, bytes: &[u8]) -> io::Result<()>
         ensures written { WritesBytes memory self.old self.new at bytes.now result }
-        // behind its end nothing is written: no hole is left
+        // after its end nothing is written: no hole is left
         ensures within { OnOk result (at ≤ length (mem_bytes self.old)) }
     {
         let was_failed = self.failed;
@@ -142,7 +142,7 @@ impl LogFile for MemLog {
     }
 }
 
-/// Writes bytes over those from that place on, or behind the last one.
+/// Writes bytes over those from that place on, or after the last one.
 fn overwrite(file: &mut Vec<u8>, at: usize, bytes: &[u8]) -> io::Result<()>
     ensures ok { OnOk result (file.new.items ≡ overwritten file.old.items at bytes.now) }
     ensures within { OnOk result (at ≤ length file.old.items) }

@@ -97,7 +97,7 @@ fn wipe(image: &mut [[u8; 256]])
     }
 }
 
-/// Brings the sectors of the file's first n blocks into an image of zeros.
+/// Puts the sectors of the file's first n blocks into an image of zeros.
 fn replay(file: &[u8], n: usize, image: &mut [[u8; 256]])
     requires within { 4096 * n ≤ length file.now }
     requires sized { length image.old ≡ 683 }
@@ -140,7 +140,7 @@ pub fn read_base(file: &[u8], image: &mut [[u8; 256]]) -> bool
     end > 0
 }
 
-/// Whether the image is being brought to its own file: the byte behind the blocks isn't 0.
+/// Whether the image is being copied into its own file: the byte after the blocks isn't 0.
 pub fn is_marked(file: &[u8]) -> bool
     ensures { result ≡ marked file.now }
 {

@@ -35,7 +35,7 @@ put_in all n bytes = overwritten (grown all n) n bytes
 abbrev pub ended_behind : List ℕ → ℕ → List ℕ
 ended_behind all n = take n (grown all n)
 
--- A change of old bytes to new ones reached the disk in part: each byte is the old one or the new one, and there are at
+-- A change of old bytes to new ones reached the disk in part. Each byte is the old one or the new one, and there are at
 -- most as many as the longer of the two has.
 pub record IsInPart (old new s : List ℕ) : Type 0 where
   pub each : (i : ℕ) → (slice_index s i ≡ slice_index old i) ⊎ (slice_index s i ≡ slice_index new i)

@@ -45,7 +45,7 @@ module _ {F : Type 0} (r : Remains F) where
     pub ok : OnOk result (AllAreSpoiled new)
     pub held : OnOk result ((all : List ℕ) → r.held old ≡ Some all → (s : List ℕ) × (r.held new ≡ Some s))
 
-  -- all but the first sector of the directory is being written
+  -- everything except the first sector of the directory is being written
   pub record IsFilling {E : Type 0} (old new : F) (image : List ℕ) (result : Result Unit E) : Type 0 where
     pub since : Since old new IsSpoiled
     pub ok : OnOk result (AllAreFilled new image)

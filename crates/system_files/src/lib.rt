@@ -1,5 +1,6 @@
-//! What the program asks of the operating system's files: which may be opened, whether they are still there, and how
-//! one is overwritten so that a power loss never leaves a third disk.
+//! What the program asks of the operating system's files: which may be opened, whether they are still there, and how an
+//! image is written over one. After a power loss the file has its old bytes, or the new image, or it isn't a sound disk's
+//! image.
 #![tactic(auto)]
 
 mod names;

@@ -31,8 +31,8 @@ fn if_stream<F: AsRawFd + Drop>(file: F, stream: i32) -> Option<F>
 }
 
 impl<F: AsRawFd + Drop> ClosedStreams<F> {
-    /// Opens `/dev/null` in the place of each closed stream: as standard input for writing alone, as an output for
-    /// reading alone. The system gives a file the lowest number that is free. So if the file gets another number than
+    /// Opens `/dev/null` in the place of each closed stream: standard input only for writing, an output only for reading.
+    /// The system gives a file the lowest number that is free. So if the file gets another number than
     /// the stream's, the stream is open, and the file is closed again. An error if `/dev/null` can't be opened.
     pub fn hold<R: Files<File = F>>(rt: &R) -> io::Result<ClosedStreams<F>>
         ensures { IfOk result (AreStreams F.raw_fd) }

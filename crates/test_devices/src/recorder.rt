@@ -5,8 +5,8 @@ use crate::change::Change;
 use d64_image::{DeviceFault, Place, Sectors};
 use std::alloc::Global;
 
-/// A disk that keeps what each write replaced, so that each image that it held can be read again. Where memory for that
-/// is refused, it fails that call and each later one, but for a `read_at` whose bytes it has recorded.
+/// A disk that keeps what each write replaced, so that each image that it held can be read again. If memory for that is
+/// refused, it fails that call and each later one, except a `read_at` whose bytes it has recorded.
 #[derive(Drop)]
 pub struct Recorder<D> {
     disk: D,

@@ -25,7 +25,7 @@ fn opening(disk: MemDisk) -> (bool, MemDisk) {
     }
 }
 
-/// Opens an image: where it is opened, it is clean then; where it isn't, it stays as it was. True where it was opened.
+/// Opens an image: if it is opened, it is clean then; if it isn't, it stays as it was. True if it was opened.
 fn opens(alloc: Global, image: &MemDisk) -> Found<bool> {
     let (is_opened, mut left) = opening(copy(alloc, image)?);
     if is_opened {

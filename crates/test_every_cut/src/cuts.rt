@@ -12,7 +12,7 @@ use request_cards::{Reply, Word};
 use std::alloc::Global;
 use test_devices::{Change, Recorder};
 
-/// The message in which power goes, and its reply where it doesn't.
+/// The message in which power goes, and its reply if it doesn't.
 #[derive(Clone, Copy)]
 pub(crate) struct Asked<'a> {
     /// The message.
@@ -34,7 +34,7 @@ pub(crate) fn undo(disk: &mut MemDisk, change: &Change) -> Found<()> {
     or_say(disk.write(change.place, &change.bytes), "memory failed")
 }
 
-/// Sees that a disk is clean; where it isn't, this text.
+/// Checks that a disk is clean; returns this text if it isn't.
 pub(crate) fn is_clean(disk: &mut MemDisk, what: &'static str) -> Found<()> {
     match check(disk) {
         Ok(_) => Ok(()),
@@ -48,7 +48,7 @@ fn records(recorder: &mut Recorder<MemDisk>) -> bool {
     recorder.read(map_place(), &mut [0; 256]).is_ok()
 }
 
-/// Opens a disk, whose changes are recorded; where it isn't opened, this text.
+/// Opens a disk, whose changes are recorded; returns this text if it isn't opened.
 pub(crate) fn opened(
     alloc: Global,
     disk: MemDisk,
@@ -64,7 +64,7 @@ pub(crate) fn opened(
     }
 }
 
-/// Sees that no file of an image is cut short.
+/// Checks that no file of an image is cut short.
 fn is_uncut(alloc: Global, image: &MemDisk) -> Found<()> {
     match find_image_cut(alloc, image.bytes(), None) {
         Ok(None) => Ok(()),
@@ -102,7 +102,7 @@ pub(crate) fn close(
     Ok((disk, changes))
 }
 
-/// Sends a request again that was answered: it is told its kept answer.
+/// Sends a request again that was answered: the reply is its kept answer.
 fn send_kept<D: Sectors>(
     session: &mut Session<D>,
     kept: Option<Kept>,
@@ -164,8 +164,8 @@ fn send_again<D: Sectors>(
     Ok(())
 }
 
-/// A disk that was opened is clean, is opened again without a write, and answers what is sent again; where the message
-/// was counted, without a write too.
+/// A disk that was opened is clean, is opened again without a write, and answers what is sent again. If the message was
+/// counted, the answer needs no write either.
 fn resume(
     alloc: Global,
     disk: &mut MemDisk,
@@ -185,7 +185,7 @@ fn resume(
     is_clean(&mut disk, "a disk isn't clean after the repeat")
 }
 
-/// Opens an image that stands for this ledger, and goes on from there: the disk behind the opening, and its changes.
+/// Opens an image that stands for this ledger, and goes on from there: the disk after the opening, and its changes.
 fn settle(
     alloc: Global,
     image: &MemDisk,

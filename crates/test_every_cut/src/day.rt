@@ -11,7 +11,7 @@ use host_session::Session;
 use std::alloc::Global;
 use test_devices::{Change, Recorder};
 
-/// How many openings are cut behind a message that was cut, one after another, before one that isn't.
+/// How many openings are cut after a message that was cut, one after another, before one that isn't.
 pub(crate) const DEEP: u32 = 2;
 
 /// A shop on a disk, and what it is to hold.
@@ -26,8 +26,8 @@ pub(crate) struct Shop {
 }
 
 /// Each image that the disk held while a message was answered, from the last one back to the one after the first write:
-/// it is the ledger after the message. Where the message makes a card, those before some write may be the ledger before
-/// it, but never the last one. The disk is left as it was before the message.
+/// it is the ledger after the message. If the message makes a card, those before some write may be the ledger before it,
+/// but never the last one. The disk is left as it was before the message.
 fn try_images(
     alloc: Global,
     shop: &Shop,

@@ -23,7 +23,7 @@ struct Dice {
 }
 
 impl Dice {
-    /// A number below this one; 0 where there is none.
+    /// A number below this one; 0 if there is none.
     fn below(&mut self, bound: u32) -> u32
         ensures most { result ≤ bound }
         ensures below { 1 ≤ bound → result < bound }
@@ -72,7 +72,7 @@ impl Draw {
         1 + self.dice.below(reach)
     }
 
-    /// An item that has a card, where one stands close behind the item that is drawn; else that one.
+    /// An item that has a card, if one stands close after the item that is drawn; otherwise that one.
     fn item_with_card(&mut self, ledger: &Ledger) -> u32 {
         let first = self.item();
         for item in first..first + 40 {
@@ -118,7 +118,7 @@ impl Draw {
         format!(in alloc; "{till},{number},{letter},{item},{quantity}")
     }
 
-    /// A request again; another message where there is none.
+    /// A request again; another message if there is none.
     fn again(&mut self, alloc: Global, kept: Option<Kept>) -> Result<String, AllocError> {
         let text = match kept {
             Some((request, _)) => request.print(),
@@ -137,7 +137,7 @@ impl Draw {
         String::from_str(alloc, OTHERS[number])
     }
 
-    /// The next message of the day, where the shop holds this ledger.
+    /// The next message of the day, if the shop holds this ledger.
     pub(crate) fn message(&mut self, alloc: Global, ledger: &Ledger) -> Result<String, AllocError> {
         self.drawn = self.drawn.saturating_add(1);
         let till = 1 + self.dice.below(u32::from(ledger.tills().min(8))) as u8;

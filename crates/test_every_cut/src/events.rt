@@ -1,4 +1,4 @@
-//! The messages of a day as events of one run, each sent twice: power goes in the first, and in openings behind it.
+//! The messages of a day as events of one run, each sent twice: power goes in the first, and in openings after it.
 use crate::cuts::{copy, is_clean};
 use crate::found::Found;
 use crate::ledger::Ledger;
@@ -8,8 +8,8 @@ use host_session::{Cut, Event, PlayFault, Session, play};
 use request_cards::Reply;
 use std::alloc::Global;
 
-/// Where power goes in the message with this number, counted from 0: after at most ten of its writes, and in at most
-/// two openings.
+/// Where power goes in the message with this number, counted from 0: after at most ten of its writes, and in at most two
+/// openings.
 fn cut(number: usize) -> Cut {
     let mut recoveries = ArrayVec::new();
     for recovery in 0..number % 3 {
@@ -40,7 +40,7 @@ fn events<'a>(alloc: Global, messages: &'a [String]) -> Found<Vec<Event<'a>>> {
     Ok(events)
 }
 
-/// Plays the events on a copy of the disk. Where memory for the replies is wanted, nothing is told and nothing is
+/// Plays the events on a copy of the disk. If memory for the replies is refused, nothing is answered and nothing is
 /// written.
 fn run(
     alloc: Global,

@@ -46,7 +46,7 @@ impl Ledger {
         self.top
     }
 
-    /// The quantity on hand of an item, where it has a card.
+    /// The quantity on hand of an item, if it has a card.
     pub(crate) fn card(&self, item: u16) -> Option<u32> {
         let place = usize::from(item).checked_sub(1)?;
         *self.cards.get(place)?
@@ -91,7 +91,7 @@ impl Ledger {
         }
     }
 
-    /// Sets the item's quantity, where there is a new one.
+    /// Sets the item's quantity, if there is a new one.
     fn store(&mut self, item: u16, quantity: Option<u32>) {
         if quantity.is_none() {
             return;

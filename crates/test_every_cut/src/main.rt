@@ -27,7 +27,7 @@ use std::process::ExitCode;
 use std::{env, fs, io};
 use tried::Tried;
 
-/// A word that is a number; this one where there is no word. Err where it is no number.
+/// A word that is a number; this one if there is no word. Err if it is no number.
 fn number(word: Option<String>, without: u16) -> Found<u16> {
     match word {
         Some(word) => or_say(
@@ -64,7 +64,7 @@ fn old_shop(alloc: Global, tried: &mut Tried) -> Found<Shop> {
     })
 }
 
-/// The shop on an image of someone else's, which holds no card and no request yet.
+/// The shop on an image that the caller brings, which holds no card and no request yet.
 fn other_shop(alloc: Global, bytes: &[u8], tried: &mut Tried) -> Found<Shop> {
     let mut disk = or_say(
         MemDisk::load(alloc, bytes),
@@ -85,7 +85,7 @@ fn other_shop(alloc: Global, bytes: &[u8], tried: &mut Tried) -> Found<Shop> {
     })
 }
 
-/// Plays the day that the words name, and tells how much was tried.
+/// Plays the day that the words name, and prints how much was tried.
 fn run(rt: &HostRuntime, tried: &mut Tried) -> Found<()> {
     let mut words = or_say(env::args(rt), "no memory for the words")?;
     words.next();

@@ -13,8 +13,8 @@ use std::alloc::Global;
 /// How many tills the disk has. REQUESTS then has three blocks, with two records in each.
 const TILLS: u8 = 6;
 
-/// The last item that a new card may have there: of the 664 sectors outside track 18, REQUESTS has four; 654 of the
-/// others can hold records of 18 bytes, beside six side sectors.
+/// The last item that a new card may have there. REQUESTS has four of the 664 sectors outside track 18. The others are
+/// 654 that can hold records of 18 bytes, and six side sectors.
 const TOP: u16 = 9228;
 
 /// What was played on it. The last one's intent stands open.

@@ -1,6 +1,6 @@
 -- What stayed on the disk of a file that was played over durably.
-use Rattle.std.proofs.Common.{[], ◌≡◌, ◌∙◌, Err, List, Ok, Option, Some, ap, length, refl, subst, sym, true, ℕ}
-use Rattle.std.specs.Prelude.{IfErr, IsOk}
+use Rattle.std.proofs.Common.{[], ◌≡◌, ◌∙◌, Err, List, Ok, Option, Some, ap, length, subst, sym, true, ℕ}
+use Rattle.std.specs.Prelude.{IfErr, IfOk, None}
 use Rattle.d64_image.specs.Keeps.{KeptOnly, kept_or}
 use Rattle.d64_image.specs.Memory.{sectors_in}
 use Rattle.host_session.specs.events.Events.{HasNoReset, messages_of, requests_of}
@@ -52,8 +52,9 @@ module _ {F T : Type 0} {G : Ghosts F} (d : Durability) (o : Output T) (image sc
         each_kept d image file after ended Ran size known run kept_only.reached kept_only all sized stayed
 
     played : (v : Option Fault) → ended ≡ Ok v → IsPlayedFile placed o image script run.first run.left old new
-    played v e = run.run.done
-        (run.run.quiet (subst IsOk (sym (at_ok d image file after ended Ran size known run v e)) refl))
+    played v e = (subst (λ (end : Ended). IfOk end (λ printed. (printed ≡ None)
+        × IsPlayedFile placed o image script run.first run.left old new))
+        (at_ok d image file after ended Ran size known run v e) run.run.done).1
 
     -- each line was told its own reply, and what stays at the end is the shop after all of them
     pub lasts_done : (v : Option Fault) → ended ≡ Ok v → (all : List ℕ) → L.bytes after ≡ Some all

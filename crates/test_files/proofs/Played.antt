@@ -61,5 +61,5 @@ module _ {F T : Type 0} (K : Keeps F) (o : Output T) (image script : List ℕ) (
 
   -- however the play ended
   pub of_play : (end : Ended) → IsPlayRun K o image script file after old new end → KeptOnly K file after (IsSome s ms)
-  of_play (Ok v) x = of_whole (x.done (x.quiet refl)).1
+  of_play (Ok v) x = of_whole x.done.1.1
   of_play (Err fault) x = of_fault fault x.fault

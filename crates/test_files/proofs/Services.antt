@@ -200,7 +200,7 @@ module _ {F R T : Type 0} (K : Keeps F) (i : Input R) (a : Answering T) (image :
   by_fault run.TwoIntents e = refused run.TwoIntents e.0 e.1 (λ (is : run.TwoIntents ≡ run.File). cc)
 
   pub were_served : (end : Ended) → IsServeRun K i a image file after old_in new_in old new end → WereServed end
-  were_served (Ok v) x = served_whole v (x.done (x.quiet refl)).1
+  were_served (Ok v) x = served_whole v x.done.1.1
   were_served (Err fault) x = by_fault fault x.fault
 
   -- the fault that was told

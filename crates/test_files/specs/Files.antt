@@ -10,6 +10,7 @@ use Rattle.test_files.specs.declared.disk_file.Lock.TheVariants as locks
 abbrev pub file_held : DiskFile → List ℕ
 file_held f = disk_bytes f.held
 
+-- its disk
 abbrev pub file_disk : DiskFile → Disk
 file_disk f = f.disk
 

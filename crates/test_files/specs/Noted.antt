@@ -25,7 +25,7 @@ noted_lines = record {
   none = λ l. sym (append-nil (asked_for l));
 }
 
--- the replies that were told up to now, each with what the disk held
+-- the replies that were passed up to now, each with what the disk held
 abbrev pub replies_noted : NotedReplies → List (Reply × Image)
 replies_noted r = map turn_of r.turns.items
 
@@ -44,5 +44,6 @@ noted_output = record {
   none = λ r. sym (append-nil (replies_noted r));
 }
 
+-- that output, with whether it failed
 abbrev pub noted_replies : Answering NotedReplies
 noted_replies = record { output = noted_output; has_failed = λ r. r.failed }

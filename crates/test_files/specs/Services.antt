@@ -1,4 +1,4 @@
--- What comes of a shop that is served over a file in memory, and what stays where power is lost at any moment. Our own.
+-- What comes of a shop that is served over a file in memory, and what stays if power is lost at any moment. Our own.
 use Rattle.std.specs.Prelude.{◌≡◌, ◌≢◌, ◌⊎◌, ◌<◌, ◌≤◌, ℕ, Err, IsOk, List, [], ◌∷◌, ◌++◌, OnOk, OnSome}
 use Rattle.std.specs.Prelude.{false, true, length, map, zip}
 use Rattle.std.specs.Io.KnownBytes.{Consumes, IsAtEnd}
@@ -31,8 +31,8 @@ there_now f = record { moment = changes_of (file_disk f); image = sectors_in (by
 abbrev pub over_disks : List (Reply × DiskFile) → List (Reply × Instant)
 over_disks turns = map (λ x. (x.0, there_now x.1)) turns
 
--- The lines of these bytes were served. Each was asked for, told and handed on in turn; beside each reply stands the
--- file over whose disk that was, and on which the shop after its line is, at rest.
+-- The lines of these bytes were served. Each was asked for, answered and its reply handed on in turn. Beside each reply
+-- stands the file over whose disk that was, on which the shop after its line is, at rest.
 pub record AreServedThere {R T : Type 0} (i : Input R) (a : Answering T) (s : Shop) (bytes : List ℕ) (new : DiskFile)
     (old_in new_in : R) (out new_out : T) : Type 0 where
   -- the file as its shop was opened
@@ -54,13 +54,13 @@ IsFileToldBy i a input out handled = (i.has_failed input ≡ true)
 -- A shop was served on the file's disk, and that ended so.
 pub record IsServedToDisk {R T : Type 0} (i : Input R) (a : Answering T) (old new : DiskFile) (old_in new_in : R)
     (out new_out : T) (ended : Ended) : Type 0 where
-  -- the lines that were handled, each with its LF, and what was read behind them, which is no line
+  -- the lines that were handled, each with its LF, and what was read after them, which is no line
   pub handled : List ℕ
   pub rest : List ℕ
   pub whole : AreWhole handled
   pub lacks : LacksLf rest
   pub read : Consumes (i.remaining old_in) (i.remaining new_in) (handled ++ rest)
-  -- wherever power was lost, the disk has the shop after a beginning of these lines
+  -- wherever power was lost, the disk has the shop after a prefix of these lines
   pub stays : StaysAShop (line_messages handled) old new
   -- done, the input is at its end, and each line was served
   pub end : OnOk ended (OnSome (i.remaining old_in) (IsAtEnd (i.remaining new_in)))
@@ -68,13 +68,13 @@ pub record IsServedToDisk {R T : Type 0} (i : Input R) (a : Answering T) (old ne
       → OnOk ended (AreServedThere i a s handled new old_in new_in out new_out)
   -- all that the file holds then is on its disk
   pub held : OnOk ended (bytes_there new ≡ file_held new)
-  -- the device is told of where a call of the file failed
+  -- the device is reported only if a call of the file failed
   pub device : ended ≡ Err faults.Device → has_failed new ≡ true
-  -- `FILE` is told where the input or the output failed, or 2^64 - 1 lines came
+  -- `FILE` is reported if the input or the output failed, or 2^64 - 1 lines came
   pub file : ended ≡ Err faults.File → IsFileToldBy i a new_in new_out handled
-  -- and where neither that nor the device is told of, the input didn't fail
+  -- and if neither that nor the device is reported, the input didn't fail
   pub unfailed : ended ≢ Err faults.File → ended ≢ Err faults.Device → i.has_failed new_in ≡ i.has_failed old_in
-  -- Of a shop it is done where file, input and output say that they didn't fail, but for want of memory.
+  -- If it is a shop, it is done if file, input and output say that they didn't fail, unless there is no memory.
   pub well : IsAShop (sectors_in (bytes_there old)) → has_failed new ≡ false → i.has_failed new_in ≡ false
       → a.has_failed new_out ≡ false → length (lines handled) < 18446744073709551615
       → IsOk ended ⊎ (ended ≡ Err faults.NoMemory)

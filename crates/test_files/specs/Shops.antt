@@ -1,4 +1,4 @@
--- What stays of a shop where power is lost at any moment of a run over a file in memory. Our own.
+-- What stays of a shop if power is lost at any moment of a run over a file in memory. Our own.
 use Rattle.std.specs.Prelude.{◌≡◌, ℕ, List, [], length}
 use Rattle.d64_image.specs.Memory.{sectors_in}
 use Rattle.host_session.specs.events.Events.{HasNoReset, Message, requests_of}
@@ -24,14 +24,14 @@ WereThere old new all = file_lasting.stayed new (file_lasting.moment old) all
 abbrev pub IsAfterSome : Shop → List Message → List ℕ → Type 0
 IsAfterSome s ms all = (length all ≡ 174848) × IsSomeBeginning s ms (λ _. Unit {0}) (sectors_in all)
 
--- Whenever power was lost from `old` to `new`, the disk has the shop after a beginning of the messages.
+-- Whenever power was lost from `old` to `new`, the disk has the shop after a prefix of the messages.
 pub record StaysAShop (ms : List Message) (old new : DiskFile) : Type 0 where
   pub each : (s : Shop) → IsShop (sectors_in (bytes_there old)) s → (all : List ℕ) → WereThere old new all
       → IsAfterSome s ms all
   -- and so does what is there at the end
   pub now : (s : Shop) → IsShop (sectors_in (bytes_there old)) s → IsAfterSome s ms (bytes_there new)
 
--- A script without a reset was played: each line has its reply over the lines before it, in order, each counts, and the
+-- A script without a reset was played. Each line has its reply over the lines before it, in order, and each counts. The
 -- disk has the shop after all of them, at rest.
 pub record IsPlayedToDisk {T : Type 0} (o : Output T) (script : List ℕ) (old new : DiskFile) (out new_out : T)
     : Type 0 where

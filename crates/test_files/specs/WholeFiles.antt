@@ -6,6 +6,7 @@ use Rattle.test_files.specs.Files.{file_held, file_lasting}
 use Rattle.test_files.specs.declared.disk_file.DiskFile.{DiskFile}
 use Rattle.test_files.specs.declared.whole_file.WholeFile.{WholeFile}
 
+-- the file of an image on which it stands
 abbrev pub file_in : WholeFile → DiskFile
 file_in f = f.file
 
@@ -35,5 +36,6 @@ held_lasting = record {
   only_now = λ f. disk_lasting.only_now f.file.held;
 }
 
+-- the bytes that it holds, now and at the moments before
 abbrev pub whole_file : Whole (λ f. Some (whole_held f))
 whole_file = record { lasting = held_lasting; is_held = λ f all e. e }

@@ -9,7 +9,7 @@ use std::alloc::{AllocError, Global};
 /// How many bytes a disk has: those of an image.
 pub const IMAGE_BYTES: usize = 174_848;
 
-/// What stays where the machine loses power: the bytes of an image, and those that stood in their place before.
+/// What stays if the machine loses power: the bytes of an image, and those that stood in their place before.
 #[derive(Drop)]
 pub struct Disk {
     alloc: Global,
@@ -20,7 +20,7 @@ pub struct Disk {
     ghost images: { AreImages past.items } by { Prim.hlevel props },
 }
 
-/// Puts bytes in the place of those from there on. Whether there are so many: else nothing changes.
+/// Puts bytes in the place of those from there on. Returns whether there are so many: if not, nothing changes.
 fn put(held: &mut [u8], at: u64, bytes: &[u8]) -> bool
     ensures size { length held.new ≡ length held.old }
     ensures done { result ≡ true → held.new ≡ overwritten held.old at bytes.now }
@@ -41,7 +41,7 @@ impl Disk {
     ghost use Rattle.test_files.specs.Disks.{disk_bytes, disk_lasting, changes_of};
     ghost use Rattle.test_files.specs.Past.{HadBeen};
 
-    /// A disk with this image on it, and nothing before. An error where memory for it was refused.
+    /// A disk with this image on it, and nothing before. An error if memory for it was refused.
     pub fn new(alloc: Global, image: &[u8]) -> Result<Disk, AllocError>
         requires size { length image.now ≡ 174848 }
         ensures bytes { IfOk result (λ disk. disk_bytes disk ≡ image.now) }
@@ -69,8 +69,8 @@ impl Disk {
         self.past.len()
     }
 
-    /// Puts these bytes in the place of all that is there, which it keeps. An error where memory was refused: it is as
-    /// it was.
+    /// Puts these bytes in the place of all that is there, which it keeps. An error if memory was refused: it is as it
+    /// was.
     pub(crate) fn bring(&mut self, bytes: &[u8]) -> Result<(), AllocError>
         requires size { length bytes.now ≡ 174848 }
         ensures ok { OnOk result (disk_bytes self.new ≡ bytes.now) }
@@ -86,8 +86,8 @@ impl Disk {
         Ok(())
     }
 
-    /// Puts these bytes in the place of those from there on. Whether there are so many: else it is as it was, as at an
-    /// error, where memory was refused.
+    /// Puts these bytes in the place of those from there on. Returns whether there are so many: if not, it is as it was.
+    /// An error if memory was refused: it is as it was then too.
     pub(crate) fn put(&mut self, at: u64, bytes: &[u8]) -> Result<bool, AllocError>
         ensures done { IfOk result (λ fits. fits ≡ true
             → disk_bytes self.new ≡ overwritten (disk_bytes self.old) at bytes.now) }

@@ -31,7 +31,7 @@ pub enum Lock {
     Alone,
 }
 
-/// A file of an image, in memory: what it holds, and its disk. One of its calls fails, and each one behind it.
+/// A file of an image, in memory: what it holds, and its disk. One of its calls fails, and each one after it.
 #[derive(Drop)]
 pub struct DiskFile {
     /// What it holds, with all that it held before.
@@ -43,7 +43,7 @@ pub struct DiskFile {
     calls: u64,
     /// How many bytes a write that fails has written.
     part: usize,
-    /// Whether a failing call that brings it to the disk does so.
+    /// Whether a failing sync still brings it to the disk.
     done: bool,
     /// Whether one of its calls failed.
     failed: bool,
@@ -61,7 +61,7 @@ fn failed() -> io::Error {
     io::Error::from(ErrorKind::Other)
 }
 
-/// Writes all these bytes from there on, or so many of them at most and fails; none where memory for them was refused.
+/// Writes all these bytes from there on, or so many of them at most and fails; none if memory for them was refused.
 fn write(held: &mut Disk, at: u64, bytes: &[u8], most: Option<usize>) -> io::Result<()>
     ensures written { WritesOver (Some (disk_bytes held.old)) (Some (disk_bytes held.new)) at bytes.now result }
     // all of them or none
@@ -86,7 +86,7 @@ impl DiskFile {
     ghost use Rattle.test_files.specs.Files.{file_disk, file_held, file_lasting, has_failed, is_whole};
 
     /// A file of this image, all of which is on its disk. No call of it fails before the last that can be counted. An
-    /// error where memory for it was refused.
+    /// error if memory for it was refused.
     pub fn new(alloc: Global, image: &[u8], bringing: Bringing) -> Result<DiskFile, AllocError>
         requires size { length image.now ≡ 174848 }
         ensures held { IfOk result (λ file. file_held file ≡ image.now) }
@@ -141,7 +141,7 @@ impl DiskFile {
         self.held.bytes()
     }
 
-    /// Writes all these bytes from there on, and brings them to the disk where each write comes there.
+    /// Writes all these bytes from there on, and syncs them if each write is synced.
     fn write_through(&mut self, bytes: &[u8], at: u64) -> io::Result<()>
         ensures written { WritesOver (Some (file_held self.old)) (Some (file_held self.new)) at bytes.now result }
         ensures stays { file_lasting.bytes self.old ≡ Some (file_held self.old)
@@ -164,7 +164,7 @@ impl DiskFile {
         Ok(())
     }
 
-    /// Brings all that it holds to the disk. A call that fails does so or not.
+    /// Syncs all that it holds. A call that fails does that or not.
     fn bring_all(&mut self) -> io::Result<()>
         ensures held { self.new.held ≡ self.old.held }
         ensures part { self.new.part ≡ self.old.part }
@@ -180,7 +180,7 @@ impl DiskFile {
         if passes { Ok(()) } else { Err(failed()) }
     }
 
-    /// The same, and whether it failed is noted.
+    /// Writes as `write_through` does, and notes whether it failed.
     pub(crate) fn write_noted(&mut self, bytes: &[u8], at: u64) -> io::Result<()>
         ensures written { WritesOver (Some (file_held self.old)) (Some (file_held self.new)) at bytes.now result }
         ensures stays { file_lasting.bytes self.old ≡ Some (file_held self.old)
@@ -197,7 +197,7 @@ impl DiskFile {
         written
     }
 
-    /// The same, and whether it failed is noted.
+    /// Syncs, and notes whether it failed.
     pub(crate) fn bring_noted(&mut self) -> io::Result<()>
         ensures held { self.new.held ≡ self.old.held }
         ensures part { self.new.part ≡ self.old.part }

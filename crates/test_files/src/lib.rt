@@ -1,5 +1,5 @@
-//! A file in memory of which it is known what it holds and what of that is on its disk, with all that was there before;
-//! and the runs of the program over it, whose contracts say what stays where power is lost at any moment.
+//! A file in memory. It is known what it holds, what of that is on its disk, and all that was there before. Also the runs
+//! of the program over it, whose contracts say what stays if power is lost at any moment.
 #![tactic(auto)]
 
 mod disk;

@@ -10,8 +10,8 @@ use line_server::{Answers, LineSource};
 use request_cards::Reply;
 use std::alloc::Global;
 
-/// Lines in memory, of which only so many are given. It notes what the disk held when each was asked for; where it
-/// gives none more, or there is no memory for a copy, it has failed.
+/// Lines in memory, of which only so many are given. It notes what the disk held when each was asked for. If it gives no
+/// more, or there is no memory for a copy, it has failed.
 #[derive(Drop)]
 pub struct NotedLines<'a> {
     left: &'a [u8],
@@ -65,7 +65,7 @@ impl<'a> LineSource<MemDisk> for NotedLines<'a> {
     }
 }
 
-/// An output that keeps what it was told: each reply, with a copy of what the disk held then. It takes so many; one
+/// An output that keeps what was passed to it: each reply, with a copy of what the disk held then. It takes so many. One
 /// more, or one for which there is no memory, and it has failed.
 #[derive(Drop)]
 pub struct NotedReplies {
@@ -89,14 +89,14 @@ impl NotedReplies {
         }
     }
 
-    /// What it was told, in order.
+    /// What was passed to it, in order.
     pub fn turns(&self) -> &[RecordedReply]
         ensures { result.now ≡ self.now.turns.items }
     {
         self.turns.as_slice()
     }
 
-    /// Keeps a reply with these bytes of the disk. False where it has as many as it takes, or there is no memory.
+    /// Keeps a reply with these bytes of the disk. False if it has as many as it takes, or there is no memory.
     fn note(&mut self, reply: &Reply, bytes: &[u8]) -> bool
         ensures same { self.new.failed ≡ self.old.failed }
         ensures kept { IsNoted result (replies_noted self.old) (replies_noted self.new) reply.now

@@ -1,5 +1,5 @@
-//! Scripts that are played on the shop of a file in memory, and shops that are served over one: so that each sector is
-//! on its disk before anything else is done, or all at the end.
+//! Scripts that are played on the shop of a file in memory, and shops that are served over one. Each sector is on its
+//! disk before anything else is done, or all are at the end.
 ghost use Rattle.std.specs.Prelude.{◌≡◌, Err, OnOk, true};
 ghost use Rattle.host_session.specs.events.Events.{messages_of};
 ghost use Rattle.script_lines.specs.Lines.{lines};
@@ -21,7 +21,7 @@ use shop_commands::{Durability, ImageFile, RunFault};
 use std::alloc::Global;
 
 /// Plays a script on the shop of the image that the file holds: the file then, and how that ended. Wherever power is
-/// lost in it, the disk has the shop after a beginning of the lines.
+/// lost in it, the disk has the shop after a prefix of the lines.
 pub fn play_on_disk<T: ReplySink<KeptMirror<ImageFile<DiskFile>>>>(
     alloc: Global,
     image: &[u8],
@@ -36,14 +36,14 @@ pub fn play_on_disk<T: ReplySink<KeptMirror<ImageFile<DiskFile>>>>(
     ensures held { OnOk result.1 (bytes_there result.0 ≡ file_held result.0) }
     // however it ended
     ensures stays { StaysAShop (messages_of (lines script.now)) file result.0 }
-    // the device is told of where a call of the file failed
+    // the device is reported only if a call of the file failed
     ensures device { result.1 ≡ Err faults.Device → has_failed result.0 ≡ true }
 {
     play_durably(alloc, image, script, file, Durability::EachSector, out)
 }
 
-/// Plays a script on the shop of the image that the file holds, and brings it to the disk at the end: the file then,
-/// and how that ended. Wherever the program dies in it, the file has the shop after a beginning of the lines.
+/// Plays a script on the shop of the image that the file holds, and syncs it at the end: the file then, and how that
+/// ended. If the program dies at any point of it, the file has the shop after a prefix of the lines.
 pub fn play_in_file<T: ReplySink<KeptMirror<ImageFile<WholeFile>>>>(
     alloc: Global,
     image: &[u8],
@@ -57,14 +57,14 @@ pub fn play_in_file<T: ReplySink<KeptMirror<ImageFile<WholeFile>>>>(
     ensures held { OnOk result.1 (bytes_there (file_in result.0) ≡ whole_held result.0) }
     // however it ended
     ensures stays { HoldsAShop (messages_of (lines script.now)) file result.0 }
-    // the device is told of where a call of the file failed
+    // the device is reported only if a call of the file failed
     ensures device { result.1 ≡ Err faults.Device → has_failed (file_in result.0) ≡ true }
 {
     play_durably(alloc, image, script, file, Durability::AtEnd, out)
 }
 
-/// Serves the shop of the image that the file holds, line by line: the file then, and how that ended. Wherever power is
-/// lost in it, the disk has the shop after a beginning of the lines; and while a reply is told, the one after its line.
+/// Serves the shop of the image that the file holds, line by line: the file then, and how that ended. If power is lost at
+/// any point of it, the disk has the shop after the first of the lines; while a reply is passed, the one after its line.
 pub fn serve_on_disk<R, T>(
     alloc: Global,
     image: &[u8],

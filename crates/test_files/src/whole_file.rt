@@ -6,8 +6,8 @@ use crate::disk_file::DiskFile;
 use shop_commands::WritesAt;
 use std::io;
 
-/// A file whose writes, where they fail, leave what it held: what it holds at any moment is known, and with it what is
-/// left where its program dies.
+/// A file whose writes, if they fail, leave what it held. What it holds at any moment is known, and with it what is left
+/// if its program dies.
 #[derive(Drop)]
 pub struct WholeFile {
     file: DiskFile,

@@ -10,7 +10,7 @@ pub struct Given<'a> {
 }
 
 impl<'a> Given<'a> {
-    /// Of which nothing was read yet.
+    /// An input of which nothing was read yet.
     pub(crate) fn new(left: &'a [u8], fails: bool) -> Given<'a> {
         Given { left, fails }
     }

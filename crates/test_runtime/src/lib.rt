@@ -1,5 +1,5 @@
 //! A runtime in memory for tests: an image with its log, a script, standard input, an output and standard error. It knows
-//! what was done with each, and lets what it is told fail.
+//! what was done with each, and lets each fail at the call that a test names.
 #![tactic(auto)]
 
 mod given;

@@ -22,11 +22,11 @@ pub struct Memory {
     pub(crate) extracted: Stored,
     pub(crate) last: Stored,
     pub made: Cell<usize>,
-    /// Standard input, whether it fails behind its bytes, and whether it was taken: it can be once.
+    /// Standard input, whether it fails after its bytes, and whether it was taken: it can be once.
     pub input: Stored,
     pub fails: Cell<bool>,
     pub(crate) taken: Cell<bool>,
-    /// Whether it was opened by its name, which waits where it is a pipe whose writer is gone.
+    /// Whether it was opened by its name, which waits if it is a pipe whose writer is gone.
     pub reopened: Cell<bool>,
     /// Whether a file that no word names was to be made, changed, renamed or removed.
     pub meddled: Cell<bool>,
@@ -40,7 +40,7 @@ pub struct Memory {
 }
 
 impl Memory {
-    /// One where nothing stands, and nothing fails.
+    /// A memory with no file, in which nothing fails.
     pub fn new(alloc: Global) -> Memory {
         let folder = Stored::new(alloc);
         folder.kind.set(Kind::Folder);

@@ -10,8 +10,8 @@ use std::fs::{Metadata, OpenOptions};
 use std::io::{self, BufRead, ErrorKind, Lines, Write};
 use std::rt::{Env, Files};
 
-/// The runtime over it, with the words of a command line, each but the last ended by a zero, of which the first is the
-/// program's name, and with standard input.
+/// The runtime over it, with the words of a command line and with standard input. Each word except the last is ended by a
+/// zero, and the first is the program's name.
 #[derive(Clone, Copy)]
 pub struct Runtime<'a> {
     pub memory: &'a Memory,

@@ -46,11 +46,11 @@ pub struct Stored {
     pub(crate) is_logged: Cell<bool>,
     /// Whether it was read or changed without a lock that allows it.
     pub unlocked: Cell<bool>,
-    /// How often it was brought to the disk, also before it was read first, and the number of the call that fails.
+    /// How often it was synced, also before it was read first, and the number of the call that fails.
     pub syncs: Cell<usize>,
     pub syncs_before: Cell<usize>,
     pub bad_sync: Cell<usize>,
-    /// How many writes there were; how many weren't brought to the disk yet, and how many of these there were at most.
+    /// How many writes there were; how many weren't synced yet, and how many of these there were at most.
     pub writes: Cell<usize>,
     pub(crate) waiting: Cell<usize>,
     pub most_waiting: Cell<usize>,
@@ -150,7 +150,7 @@ impl Stored {
         }
     }
 
-    /// Brings it to the disk.
+    /// Syncs it.
     pub(crate) fn sync(&self) -> io::Result<()> {
         self.syncs.set(self.syncs.get().saturating_add(1));
         if self.syncs.get() == self.bad_sync.get() {
@@ -223,8 +223,8 @@ impl Stored {
         }
     }
 
-    /// What a system says of what stands there. Of the types that the kit can name a link is the one for a stream that
-    /// is no regular file.
+    /// What a system says of what stands there. The kit can't name a stream that is no regular file; a link stands for
+    /// it.
     pub(crate) fn found(&self) -> io::Result<Metadata> {
         match self.kind.get() {
             Kind::Missing => failed(ErrorKind::NotFound),

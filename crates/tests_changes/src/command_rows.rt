@@ -67,7 +67,7 @@ fn changes_are_printed(rt: HostRuntime) {
     );
 }
 
-/// Sees that a change was refused for this fault, with this status, and that nothing was printed or written.
+/// Checks that a change was refused for this fault, with this status, and that nothing was printed or written.
 fn is_refused(
     rt: &(impl Abort + AllocGlobal),
     before: &MemDisk,

@@ -2,7 +2,7 @@
 use std::fmt::Debug;
 use std::process::Abort;
 
-/// Sees that both are the same in a row of a table, which it names where they differ.
+/// Checks that two values are equal in a row of a table, and names the row if they differ.
 pub(crate) fn same_at<T: PartialEq + Debug + Drop, L: Debug + Drop>(
     rt: &impl Abort,
     got: T,
@@ -12,7 +12,7 @@ pub(crate) fn same_at<T: PartialEq + Debug + Drop, L: Debug + Drop>(
     assert_eq!(rt; got, want, "{row:?}");
 }
 
-/// Sees that an image has the bytes of another one, but for these from this one on.
+/// Checks that an image has the bytes of another one, except these from this one on.
 pub(crate) fn differs_in(
     rt: &impl Abort,
     got: &[u8],

@@ -38,7 +38,7 @@ fn files_are_deleted(rt: HostRuntime) {
     );
 }
 
-/// Sees that the file of this name isn't deleted where STOCK has this type, and that nothing is written.
+/// Checks that the file of this name isn't deleted if STOCK has this type, and that nothing is written.
 fn is_refused(rt: &(impl Abort + AllocGlobal), kind: u8, name: &'static [u8], told: ChangeFault) {
     assert!(rt; name.len() <= 16, "no entry has such a name");
     let before = with_type(rt, kind);

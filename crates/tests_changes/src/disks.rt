@@ -8,15 +8,15 @@ use disk_layout::{blank_image, directory_start};
 use layout_check::{check, survey};
 use std::process::Abort;
 
-/// The blank disk for two tills. Its directory, 18/1, begins at byte 91,648 of the image: STOCK is in the first slot, with
-/// the sectors 17/0 and 17/1, and REQUESTS in the second, with 17/2 and 17/3. The map, 18/0, begins at byte 91,392.
+/// The blank disk for two tills. Its directory, 18/1, begins at byte 91,648 of the image. STOCK is in the first slot,
+/// with the sectors 17/0 and 17/1, and REQUESTS in the second, with 17/2 and 17/3. The map, 18/0, begins at byte 91,392.
 pub(crate) fn blank(rt: &(impl Abort + AllocGlobal)) -> MemDisk {
     let mut disk = MemDisk::zeroed(rt.alloc()).expect(rt, "a disk of zeros");
     blank_image(&mut disk, b"STOCK LEDGER", *b"01", 2).expect(rt, "a blank disk");
     disk
 }
 
-/// Sees that the disk is sound.
+/// Checks that the disk is sound.
 pub(crate) fn sound(rt: &impl Abort, disk: &mut MemDisk)
     ensures { IsSound (disk_image disk.new) }
 {
@@ -26,7 +26,7 @@ pub(crate) fn sound(rt: &impl Abort, disk: &mut MemDisk)
     }
 }
 
-/// Sees that the disk is clean.
+/// Checks that the disk is clean.
 pub(crate) fn clean(rt: &impl Abort, disk: &mut MemDisk)
     ensures { IsClean (disk_image disk.new) }
 {

@@ -5,7 +5,7 @@ use d64_image::MemDisk;
 use file_changes::{format_disk, new_disk};
 
 /// What an empty disk has that isn't 0: 18/0, which begins at byte 91,392 of the image, and 18/1 at 91,648. Another
-/// program (`cc1541 -n games -i 1x`) makes the same image, but for the bytes `2A`, which NEW of CBM DOS 2.6 writes.
+/// program (`cc1541 -n games -i 1x`) makes this image, except for the bytes `2A`, which NEW of CBM DOS 2.6 writes.
 const EMPTY: [(usize, &[u8]); 16] = [
     (91_392, b"\x12\x01\x41"),
     (

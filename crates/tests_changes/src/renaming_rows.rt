@@ -55,7 +55,7 @@ fn entries_are_renamed(rt: HostRuntime) {
     );
 }
 
-/// Sees that this change of a name is refused, and that nothing is written.
+/// Checks that this change of a name is refused, and that nothing is written.
 fn is_refused(rt: &(impl Abort + AllocGlobal), from: &'static [u8], to: &[u8], told: ChangeFault) {
     assert!(rt;
         from.len() <= 16 && to.len() <= 16,

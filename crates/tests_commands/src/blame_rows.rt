@@ -1,4 +1,4 @@
-//! Long scripts, a full directory, and each number of tills: nothing is blamed where nothing failed.
+//! Long scripts, a full directory, and each number of tills: no fault is reported if nothing failed.
 use crate::comparing::{holds, same};
 use crate::files::{add, add_numbered, blank_paper, filled};
 use crate::images::{S18_1, formatted, put};
@@ -18,7 +18,7 @@ fn received(rt: &impl AllocGlobal) -> (Vec<u8>, Vec<u8>) {
     (script, replies)
 }
 
-/// A script of 2,100,013 bytes, lines of letters and a request behind them; and their replies.
+/// A script of 2,100,013 bytes, lines of letters and a request after them; and their replies.
 fn lettered(rt: &(impl AllocGlobal + Abort)) -> (Vec<u8>, Vec<u8>) {
     let letters = filled(rt, b'x', 99);
     let (mut script, mut replies) = (Vec::new(rt.alloc()), Vec::new(rt.alloc()));
@@ -32,7 +32,7 @@ fn lettered(rt: &(impl AllocGlobal + Abort)) -> (Vec<u8>, Vec<u8>) {
     (script, replies)
 }
 
-/// Sees that the script has these replies, without a disk and on a fresh one for 64 tills.
+/// Checks that the script has these replies, without a disk and on a fresh one for 64 tills.
 fn is_answered(rt: &(impl AllocGlobal + Abort), script: &[u8], replies: &[u8]) {
     let mut out = blank_paper(rt);
     same(rt, dried(script, &mut out), Ok(()));
@@ -89,8 +89,8 @@ fn a_full_directory_is_listed(rt: HostRuntime) {
     is_printed(&rt, &out, listing.as_slice());
 }
 
-/// What is shown of a fresh shop for so many tills. Two tills have a block. STOCK may take the 663 sectors outside
-/// track 18 that are left but for the side sector of REQUESTS, six of them as side sectors; a record has 18 bytes.
+/// What is shown of a fresh shop for so many tills. Two tills have a block. STOCK may take the 663 sectors outside track
+/// 18 that are left, except the side sector of REQUESTS, six of them as side sectors; a record has 18 bytes.
 fn fresh_shop(rt: &impl AllocGlobal, tills: u8) -> Vec<u8> {
     let blocks = 663 - 6 - (u32::from(tills.min(64)) + 1) / 2;
     let top = blocks * 254 / 18;

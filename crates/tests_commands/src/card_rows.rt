@@ -3,7 +3,7 @@ use crate::comparing::same_at;
 use request_cards::RequestCard;
 use std::process::Abort;
 
-/// A record's text without the zeros behind, and whether it is a card.
+/// A record's text without the zeros at its end, and whether it is a card.
 static RECORDS: [(&[u8], bool); 12] = [
     // The last number and item; a move that was refused, after a refusal.
     (b"A,999999999,S,65535,999999999,5,000000000\r", true),
@@ -12,14 +12,14 @@ static RECORDS: [(&[u8], bool); 12] = [
         A,000000006,I,00042,000000121,1,000000120,00000,000000000\r",
         true,
     ),
-    // Zeros alone, number 0, item 0, item 65536, a colon for a digit, an end with LF.
+    // Only zeros, number 0, item 0, item 65536, a colon for a digit, an end with LF.
     (b"", false),
     (b"A,000000000,S,00015,000000005,0,000000005\r", false),
     (b"A,000000001,S,00000,000000005,0,000000005\r", false),
     (b"A,000000001,S,65536,000000005,0,000000005\r", false),
     (b"A,000000001,S,00015,00000000:,0,000000005\r", false),
     (b"A,000000001,S,00015,000000005,0,000000005\n", false),
-    // A text behind the card, a move to itself, a second entry with a gap before it, and as an intent.
+    // A text after the card, a move to itself, a second entry with a gap before it, and as an intent.
     (b"A,000000001,S,00015,000000005,0,000000005\rA", false),
     (
         b"2A,000000001,M,00015,000000005,0,000000005,00015,000000005\r",
@@ -37,7 +37,7 @@ static RECORDS: [(&[u8], bool); 12] = [
     ),
 ];
 
-/// A record with this text and zeros behind it.
+/// A record with this text and zeros after it.
 fn record(text: &[u8]) -> [u8; 127] {
     let mut bytes = [0; 127];
     for (to, from) in bytes.iter_mut().zip(text) {
@@ -46,7 +46,7 @@ fn record(text: &[u8]) -> [u8; 127] {
     bytes
 }
 
-/// Sees that each record is a card or none.
+/// Checks that each record is a card or none.
 fn are_told(rt: &impl Abort, records: &[(&[u8], bool)]) {
     for (text, is_card) in records {
         let card = RequestCard::parse(&record(text));

@@ -6,7 +6,7 @@ use crate::runs::judged;
 use shop_commands::RunFault;
 use std::process::Abort;
 
-/// Changes of a disk for two tills, what is printed of it then, and how many faults are told.
+/// Changes of a disk for two tills, what is printed of it then, and how many faults are reported.
 type Verdict = (&'static [Bytes], &'static [u8], u8);
 
 /// What `check` prints of disks.
@@ -33,7 +33,7 @@ static VERDICTS: [Verdict; 16] = [
     (&[(S17_0, b"\x24\x00")], b"BADLINK 17/0\n", 1),
     (&[(S18_1, b"\x11\x00")], b"BADLINK 18/1\n", 1),
     (&[(S17_0, b"\x11\x00")], b"LOOP 17/0\n", 1),
-    // A third entry for the block of REQUESTS, alone and with a fault that is judged later.
+    // A third entry for the block of REQUESTS, alone and with a fault that is checked later.
     (
         &[
             (
@@ -45,7 +45,7 @@ static VERDICTS: [Verdict; 16] = [
         b"OWNEDTWICE 17/2\n",
         1,
     ),
-    // What isn't judged: the link of 18/0, its bytes behind the map, the bits of sectors that there aren't.
+    // What isn't checked: the link of 18/0, its bytes after the map, the bits of sectors that there aren't.
     (
         &[
             (S18_0, b"\x00\x00"),
@@ -60,7 +60,7 @@ static VERDICTS: [Verdict; 16] = [
     (&[(174847, b"\x07")], b"OK\n", 0),
 ];
 
-/// Sees that a disk is judged so after these changes.
+/// Checks that this verdict is printed of a disk after these changes.
 fn is_judged(rt: &(impl AllocGlobal + Abort), changes: &[Bytes], verdict: &[u8], faults: u8) {
     let image = changed(rt, 2, changes);
     let mut out = Vec::new(rt.alloc());
@@ -68,7 +68,7 @@ fn is_judged(rt: &(impl AllocGlobal + Abort), changes: &[Bytes], verdict: &[u8],
     same(rt, (found, out.as_slice()), (Ok(faults == 1), verdict));
 }
 
-/// Sees that each disk is judged so.
+/// Checks that the verdict of each disk is printed.
 fn are_judged(rt: &(impl AllocGlobal + Abort), rows: &[Verdict]) {
     for (changes, verdict, faults) in rows {
         is_judged(rt, changes, verdict, *faults);
@@ -80,7 +80,7 @@ fn images_are_judged(rt: HostRuntime) {
     are_judged(&rt, &VERDICTS);
 }
 
-/// Sees that an output that takes so many bytes, or doesn't flush, is told.
+/// Checks that an output that takes so many bytes, or doesn't flush, is reported.
 fn is_full(rt: &(impl AllocGlobal + Abort), image: &[u8], room: usize, flushes: bool) {
     let ended = judged(rt, image, &mut Full { room, flushes });
     same(rt, ended, Err(RunFault::File));
@@ -96,7 +96,7 @@ fn an_output_that_fails_is_told(rt: HostRuntime) {
     is_full(&rt, image.as_slice(), 10, false);
 }
 
-/// Sees that the size of the image is told, and nothing printed.
+/// Checks that the size of the image is reported, and nothing printed.
 fn is_no_disk(rt: &(impl AllocGlobal + Abort), image: &[u8]) {
     let mut out = Vec::new(rt.alloc());
     let ended = judged(rt, image, &mut out);

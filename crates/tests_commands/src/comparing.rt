@@ -2,7 +2,7 @@
 use std::fmt::Debug;
 use std::process::Abort;
 
-/// Sees that both are the same in a row, which it names where they differ.
+/// Checks that two values are equal in a row, and names the row if they differ.
 pub(crate) fn same_at<T: PartialEq + Debug + Drop, L: Debug + Drop>(
     rt: &impl Abort,
     got: T,
@@ -12,12 +12,12 @@ pub(crate) fn same_at<T: PartialEq + Debug + Drop, L: Debug + Drop>(
     assert_eq!(rt; got, want, "{row:?}");
 }
 
-/// Sees that both are the same.
+/// Checks that two values are equal.
 pub(crate) fn same<T: PartialEq + Debug + Drop>(rt: &impl Abort, got: T, want: T) {
     same_at(rt, got, want, "");
 }
 
-/// Sees that it holds.
+/// Checks that it holds.
 pub(crate) fn holds<L: Debug + Drop>(rt: &impl Abort, it: bool, row: L) {
     same_at(rt, it, true, row);
 }

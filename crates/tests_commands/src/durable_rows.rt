@@ -1,4 +1,4 @@
-//! Power is lost in each call of a file whose sectors are brought to the disk one by one: what was told is there.
+//! Power is lost in each call of a file whose sectors are synced one by one: the disk has each line that was answered.
 use crate::comparing::{holds, same_at};
 use crate::files::blank_paper;
 use crate::images::formatted;
@@ -22,7 +22,7 @@ const SHOPS: [&[u8]; 3] = [
     b"TOP 9256\nCARD 42,100\nTILL 1,3,I,42,200,SHORT,100\nPRIOR 1,2,I,42,20,DONE,100\n",
 ];
 
-/// Plays a script on a machine's image, brought to its disk so: how that ends, and what was told.
+/// Plays a script on a machine's image, with this durability: how that ends, and what was printed.
 fn played(
     rt: &(impl AllocGlobal + Abort),
     machine: &Machine,
@@ -40,7 +40,7 @@ fn played(
     (ended, out.bytes)
 }
 
-/// How many lines were told their own replies.
+/// How many lines got their own replies.
 fn told_lines(told: &[u8]) -> usize {
     let mut lines = 0usize;
     for (told, wanted) in told
@@ -67,8 +67,8 @@ fn is_shop(shown: &[u8], shops: &[&[u8]]) -> bool {
     shops.iter().any(|shop| *shop == shown)
 }
 
-/// Sees that power that goes in this call leaves the shop after the lines that were told, or with the next one. Whether
-/// it went before the script's end.
+/// Checks that power that goes in this call leaves the shop after the lines that were answered, or with the next one.
+/// Returns whether it went before the script's end.
 fn is_durable(rt: &(impl AllocGlobal + Abort), image: &[u8], call: usize, done: bool) -> bool {
     let machine = Machine::new(rt.alloc(), image, call, done);
     let (_, told) = played(rt, &machine, SCRIPT, Durability::EachSector);
@@ -89,7 +89,7 @@ fn begun(rt: &(impl AllocGlobal + Abort)) -> Vec<u8> {
     machine.disk(rt.alloc())
 }
 
-/// Sees the same of each call: of three writes of the first line and one of the second, and a sync behind each.
+/// Checks this for each call: three writes of the first line, one of the second, and a sync after each.
 fn each_is_durable(rt: &(impl AllocGlobal + Abort), done: bool) {
     let image = begun(rt);
     for call in 1..10usize {
@@ -108,7 +108,8 @@ fn what_was_told_is_there_where_a_last_sector_is(rt: HostRuntime) {
     each_is_durable(&rt, true);
 }
 
-/// Sees that a play that isn't synced sector by sector tells what isn't there: so the machine shows what it is to.
+/// Checks that a play that isn't synced sector by sector answers lines that the disk doesn't have. So the machine shows
+/// what it is to show.
 #[test]
 fn what_was_told_unsynced_is_lost(rt: HostRuntime) {
     let image = begun(&rt);

@@ -7,8 +7,8 @@ use std::cell::Cell;
 use std::io;
 use std::process::Abort;
 
-/// How many bytes a file has, and how many of them are read of an image: all of a disk, and one more of what is longer,
-/// as a disk with its error bytes, and a file past a mebibyte.
+/// How many bytes a file has, and how many of them are read of an image: all of a disk, and one more of a longer file.
+/// The longer files are a disk with its error bytes, and a file past a mebibyte.
 static SIZES: [(usize, usize); 4] = [
     (0, 0),
     (174848, 174848),
@@ -16,13 +16,13 @@ static SIZES: [(usize, usize); 4] = [
     (1_500_000, 174849),
 ];
 
-/// Sees that these bytes were read.
+/// Checks that these bytes were read.
 fn is_read(rt: &impl Abort, read: io::Result<Vec<u8>>, wanted: &[u8]) {
     let bytes = read.expect(rt, "it is read");
     holds(rt, bytes.as_slice() == wanted, wanted.len());
 }
 
-/// Sees that of the first bytes of a file a script takes all, and an image as many as it should.
+/// Checks that of the first bytes of a file a script takes all, and an image as many as it should.
 fn are_read(rt: &(impl AllocGlobal + Abort), file: &[u8], sizes: &[(usize, usize)]) {
     for (size, of_image) in sizes {
         let whole = file.get(..*size).unwrap_or(&[]);
@@ -63,7 +63,7 @@ impl<'a> OpensFile for Older<'a> {
     }
 }
 
-/// Sees that a file of so many bytes has this image's alone once it was written over, and isn't opened before there is
+/// Checks that a file of so many bytes has this image's alone once it was written over, and isn't opened before there is
 /// something to write.
 fn is_replaced(rt: &(impl AllocGlobal + Abort), size: usize, image: &[u8]) {
     let mut older = new_tape(rt, filled(rt, 7, size).as_slice(), usize::MAX);

@@ -50,7 +50,7 @@ impl Write for Full {
     }
 }
 
-/// A file in memory that takes so many bytes and then fails, or fails to be brought to the disk.
+/// A file in memory that takes so many bytes and then fails, or whose sync fails.
 #[derive(Drop)]
 pub(crate) struct Tape {
     bytes: Cursor<Vec<u8>>,

@@ -88,14 +88,14 @@ fn a_disk_for_two_tills_has_these_bytes_and_zeros(rt: HostRuntime) {
     holds(&rt, formatted(&rt, 1) == wanted, "one till");
 }
 
-/// Sees that the image for so many tills has the bytes there.
+/// Checks that the image for so many tills has the bytes there.
 fn stands(rt: &(impl AllocGlobal + Abort), tills: u8, at: usize, bytes: &[u8]) {
     let image = formatted(rt, tills);
     let there = image.as_slice().get(at..).unwrap_or(&[]);
     holds(rt, there.starts_with(bytes), (tills, at));
 }
 
-/// Sees that each of these stands.
+/// Checks that each of these stands.
 fn all_stand(rt: &(impl AllocGlobal + Abort), rows: &[(u8, Bytes)]) {
     for (tills, (at, bytes)) in rows {
         stands(rt, *tills, *at, bytes);
@@ -107,8 +107,8 @@ fn disks_for_other_tills_have_these_bytes(rt: HostRuntime) {
     all_stand(&rt, &OTHER_TILLS);
 }
 
-/// Sees that a file that takes so many bytes and is brought to the disk so often, or an output, ends the command, and
-/// how much more the output then would take: nothing is printed before the file is there.
+/// Checks that a file that takes so many bytes and is synced so often, or an output, ends the command. Also checks how
+/// much more the output then would take: nothing is printed before the file is there.
 fn is_not_formatted(
     rt: &(impl AllocGlobal + Abort),
     (room, syncs): (usize, usize),

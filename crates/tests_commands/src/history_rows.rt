@@ -46,7 +46,7 @@ fn served(
     }
 }
 
-/// Sees that the disk had each of these shops when a reply was handed on, and the same
+/// Checks that the disk had each of these shops when a reply was handed on, and the same
 /// when the next line was asked for.
 fn each_was_there(
     rt: &(impl AllocGlobal + Abort),

@@ -24,7 +24,7 @@ pub(crate) const S19_13: usize = 96256 + 13 * 256;
 /// Bytes, and where in an image they stand.
 pub(crate) type Bytes = (usize, &'static [u8]);
 
-/// The image that `format` makes for so many tills; for two where that is none of 1 to 64.
+/// The image that `format` makes for so many tills; for two if the number isn't one of 1 to 64.
 pub(crate) fn formatted(rt: &(impl AllocGlobal + Abort), tills: u8) -> Vec<u8> {
     let tills = if tills >= 1 && tills <= 64 { tills } else { 2 };
     let mut file = new_tape(rt, b"", usize::MAX);

@@ -63,7 +63,7 @@ fn a_file_keeps_what_is_told(rt: HostRuntime) {
     is_shown(&rt, recorder.into_inner().bytes(), shown);
 }
 
-/// Sees that a file that fails at its first sector ends the run, whether it keeps that
+/// Checks that a file that fails at its first sector ends the run, whether it keeps that
 /// or not, and that the shop stands.
 fn is_stopped(rt: &(impl AllocGlobal + Abort), image: &[u8], done: bool) {
     let mut out = blank_paper(rt);

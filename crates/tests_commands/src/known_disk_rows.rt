@@ -54,8 +54,8 @@ fn shop_of(rt: &(impl AllocGlobal + Abort), image: &[u8]) -> Option<usize> {
     SHOPS.iter().position(|shop| *shop == shown.as_slice())
 }
 
-/// Plays the script in a file that is synced at the end alone, of which so many calls pass: the shop that it holds
-/// then, the one on its disk, and whether that ended well.
+/// Plays the script in a file that is synced only at the end, and of which so many calls pass. Returns the shop that it
+/// holds then, the one on its disk, and whether that ended well.
 fn shops_in_file(
     rt: &(impl AllocGlobal + Abort),
     calls: u64,
@@ -73,7 +73,7 @@ fn shops_in_file(
     (shop_of(rt, file.held()), there, ended == Ok(None))
 }
 
-/// Sees that the disk has this shop, and that the day ended so.
+/// Checks that the disk has this shop, and that the day ended so.
 fn leaves(rt: &(impl AllocGlobal + Abort), bringing: Bringing, calls: u64, wanted: (usize, bool)) {
     let (shop, done) = shop_after(rt, bringing, calls);
     assert!(rt;

@@ -1,4 +1,4 @@
-//! Worked rows of the commands: scripts played, also without a disk, images made, listed, judged and shown, and files
+//! Worked rows of the commands: scripts played, also without a disk; images made, listed, checked and shown; and files
 //! and outputs that fail. Tests only: no program stands on this crate. They stand here and not in the crate that they
 //! test so that the gate proves that one once.
 #![tactic(auto)]

@@ -129,7 +129,7 @@ static LISTINGS: [Listing; 13] = [
     ),
 ];
 
-/// Sees that listing an image ends so, and that this is printed.
+/// Checks that listing an image ends so, and that this is printed.
 fn is_listed(
     rt: &(impl AllocGlobal + Abort),
     image: &[u8],
@@ -141,7 +141,7 @@ fn is_listed(
     same(rt, (got, out.as_slice()), (ended, printed));
 }
 
-/// Sees that each of these is printed.
+/// Checks that each of these is printed.
 fn are_listed(rt: &(impl AllocGlobal + Abort), rows: &[Listing]) {
     for (tills, changes, listing) in rows {
         let image = changed(rt, *tills, changes);
@@ -174,7 +174,7 @@ const TEXTS: [(CharacterSet, &str); 2] = [
     ),
 ];
 
-/// Sees that this is printed in each set.
+/// Checks that this is printed in each set.
 fn are_readable(rt: &(impl AllocGlobal + Abort), rows: &[(CharacterSet, &str)]) {
     for &(set, text) in rows {
         let image = changed(rt, 2, NAMED);
@@ -202,7 +202,7 @@ fn listing_for(rt: &impl AllocGlobal, tills: u8) -> Vec<u8> {
     text
 }
 
-/// Sees that the disk for so many tills is listed as it should be, and clean.
+/// Checks that the disk for so many tills is listed as it should be, and clean.
 fn has_its_disk(rt: &(impl AllocGlobal + Abort), tills: u8) {
     let listing = listing_for(rt, tills);
     let image = formatted(rt, tills);
@@ -219,7 +219,7 @@ fn each_number_of_tills_has_its_disk(rt: HostRuntime) {
     }
 }
 
-/// What is told of a directory that links so from its first sector.
+/// What is reported of a directory that links so from its first sector.
 static BAD_LINKS: [(&[u8], &str); 5] = [
     (b"\x11\x00", "LAYOUT BADLINK 18/1"),
     (b"\x12\x00", "LAYOUT BADLINK 18/1"),
@@ -228,7 +228,7 @@ static BAD_LINKS: [(&[u8], &str); 5] = [
     (b"\x12\x01", "LAYOUT LOOP 18/1"),
 ];
 
-/// Sees that a disk whose directory links so isn't listed, and that nothing is printed.
+/// Checks that a disk whose directory links so isn't listed, and that nothing is printed.
 fn is_bad(rt: &(impl AllocGlobal + Abort), link: &'static [u8], text: &str) {
     let image = changed(rt, 2, &[(S18_1, link)]);
     let mut out = Vec::new(rt.alloc());
@@ -237,7 +237,7 @@ fn is_bad(rt: &(impl AllocGlobal + Abort), link: &'static [u8], text: &str) {
     holds(rt, out.is_empty(), text);
 }
 
-/// The same of each of these links.
+/// Checks the refusal of each of these links.
 fn are_bad(rt: &(impl AllocGlobal + Abort), links: &[(&'static [u8], &str)]) {
     for (link, text) in links {
         is_bad(rt, *link, text);
@@ -249,7 +249,7 @@ fn a_bad_directory_is_told_and_nothing_is_printed(rt: HostRuntime) {
     are_bad(&rt, &BAD_LINKS);
 }
 
-/// Sees that the first so many bytes of the image aren't listed.
+/// Checks that the first so many bytes of the image aren't listed.
 fn is_no_disk(rt: &(impl AllocGlobal + Abort), image: &[u8], size: usize) {
     let part = image.get(..size).unwrap_or(&[]);
     is_listed(rt, part, Err(RunFault::ImageSize), b"");
@@ -264,7 +264,7 @@ fn other_sizes_are_told(rt: HostRuntime) {
     is_no_disk(&rt, image.as_slice(), 175531);
 }
 
-/// Sees that an output that takes so many bytes, or doesn't flush, is told.
+/// Checks that an output that takes so many bytes, or doesn't flush, is reported.
 fn is_full(rt: &(impl AllocGlobal + Abort), image: &[u8], room: usize, flushes: bool) {
     let ended = listed(rt, image, &mut Full { room, flushes });
     same(rt, ended, Err(RunFault::File));

@@ -4,8 +4,8 @@ use std::alloc::Global;
 use std::cell::{Cell, RefCell};
 use std::io::{self, BufRead, ErrorKind, Read, Write};
 
-/// A machine with one file, of which it keeps apart what was written and what was brought to the disk. Power
-/// goes in one of the file's calls.
+/// A machine with one file, of which it keeps apart what was written and what was synced. Power goes in one of the file's
+/// calls.
 #[derive(Drop)]
 pub(crate) struct Machine {
     held: RefCell<Vec<u8>>,
@@ -14,7 +14,7 @@ pub(crate) struct Machine {
     calls: Cell<usize>,
     /// Whether what is written when power goes comes to the disk.
     done: bool,
-    /// From where, and up to where, bytes were written that weren't brought to the disk.
+    /// From where, and up to where, bytes were written that weren't synced.
     waiting: Cell<(usize, usize)>,
 }
 
@@ -70,7 +70,7 @@ impl Machine {
             .set((from.min(at), to.max(at.saturating_add(bytes.len()))));
     }
 
-    /// Brings what was written to the disk.
+    /// Syncs what was written.
     fn bring(&self) {
         let (from, to) = self.waiting.get();
         if let (Ok(held), Ok(mut there)) = (self.held.try_borrow(), self.there.try_borrow_mut()) {

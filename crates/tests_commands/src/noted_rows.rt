@@ -19,8 +19,8 @@ fn is_shop(rt: &(impl AllocGlobal + Abort), image: &[u8], shop: usize) -> bool {
         .is_some_and(|shop| *shop == shown.as_slice())
 }
 
-/// Sees that the service ends so where so many lines are given and so many replies taken, that so many were, and that
-/// each line was asked for over the shop before it, and its reply told over the one after it.
+/// Checks that the service ends so if so many lines are given and so many replies taken, and that so many were. Each line
+/// was asked for over the shop before it, and its reply passed over the one after it.
 fn is_served(
     rt: &(impl AllocGlobal + Abort),
     most: (u64, usize),

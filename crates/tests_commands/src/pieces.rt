@@ -24,7 +24,7 @@ pub(crate) struct Pieces {
 }
 
 impl Pieces {
-    /// Of which nothing was asked yet.
+    /// Pieces of which nothing was asked yet.
     pub(crate) fn new(pieces: &'static [Piece]) -> Pieces {
         Pieces {
             pieces,
@@ -68,7 +68,7 @@ impl BufRead for Pieces {
     }
 }
 
-/// An input that gives each line only while so many bytes of the replies are handed on, and else fails.
+/// An input that gives each line only while so many bytes of the replies are handed on, and otherwise fails.
 #[derive(Drop)]
 pub(crate) struct Talk<'a> {
     lines: &'static [(&'static [u8], usize)],
@@ -76,7 +76,7 @@ pub(crate) struct Talk<'a> {
 }
 
 impl<'a> Talk<'a> {
-    /// Of which nothing was asked yet.
+    /// A talk of which nothing was asked yet.
     pub(crate) fn new(
         lines: &'static [(&'static [u8], usize)],
         handed: &'a Cell<usize>,
@@ -105,7 +105,7 @@ impl BufRead for Talk<'_> {
     }
 }
 
-/// An output that tells how many bytes were handed on.
+/// An output that reports how many bytes were handed on.
 #[derive(Drop)]
 pub(crate) struct Line<'a> {
     written: usize,

@@ -15,7 +15,7 @@ const ROWS: [(u8, u8, usize); 6] = [
     (1, 1, 256),
 ];
 
-/// Sees that a file of zeros that keeps these sectors, each filled with its track, has them there alone.
+/// Checks that a file of zeros that keeps these sectors, each filled with its track, has them there and nothing more.
 fn are_placed(rt: &(impl AllocGlobal + Abort), rows: &[(u8, u8, usize)]) {
     let zeros = filled(rt, 0, 174_848);
     let mut file = ImageFile::new(new_tape(rt, zeros.as_slice(), usize::MAX));
@@ -39,7 +39,7 @@ fn sectors_go_to_their_places(rt: HostRuntime) {
     are_placed(&rt, &ROWS);
 }
 
-/// Sees that a file that takes so many bytes keeps a sector, or doesn't.
+/// Checks that a file that takes so many bytes keeps a sector, or doesn't.
 fn is_kept(rt: &(impl AllocGlobal + Abort), room: usize, kept: bool) {
     let mut file = ImageFile::new(new_tape(rt, &[], room));
     same_at(

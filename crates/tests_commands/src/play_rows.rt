@@ -5,7 +5,7 @@ use crate::images::{Bytes, S17_0, S17_2, changed, formatted};
 use crate::runs::{is_printed, is_shown, played};
 use std::process::Abort;
 
-/// Sees that a script played on the image has these replies, and that this is shown then.
+/// Checks that a script played on the image has these replies, and that this is shown then.
 fn is_played(
     rt: &(impl AllocGlobal + Abort),
     image: &[u8],
@@ -104,7 +104,7 @@ static DAYS: [(&[u8], &[u8], &[u8]); 16] = [
     (b"@3 x\n@9 \n", b"CUT\nCUT\n", b"TOP 9256\n"),
 ];
 
-/// Sees that each of these is so played on the image.
+/// Checks how each of these is played on the image.
 fn are_played(rt: &(impl AllocGlobal + Abort), image: &[u8], days: &[(&[u8], &[u8], &[u8])]) {
     for (script, replies, shown) in days {
         is_played(rt, image, script, replies, shown);
@@ -150,7 +150,7 @@ static CHANGED: [Changed; 2] = [
     ),
 ];
 
-/// Sees that each disk is so shown and played on.
+/// Checks how each disk is shown and played on.
 fn are_played_on(rt: &(impl AllocGlobal + Abort), rows: &[Changed]) {
     for (changes, shown, script, replies, shown_then) in rows {
         let image = changed(rt, 2, changes);

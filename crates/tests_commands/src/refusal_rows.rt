@@ -1,4 +1,4 @@
-//! Scripts and images that are refused: what is told, and that nothing is written.
+//! Scripts and images that are refused: what is reported, and that nothing is written.
 use crate::comparing::{holds, same_at};
 use crate::files::filled;
 use crate::images::{Bytes, S17_0, S17_2, S18_1, changed, formatted};
@@ -6,7 +6,7 @@ use crate::runs::{is_told, played, shown};
 use shop_commands::RunFault;
 use std::process::Abort;
 
-/// Scripts with a line that can't be played, and what is told of each.
+/// Scripts with a line that can't be played, and what is reported of each.
 static BAD_LINES: [(&[u8], &str); 7] = [
     (b"1,1,S,1,0\n@x 1,1,S,1,0\n@y\n", "SCRIPT LINE 2"),
     (b"@x 1,1,S,1,0\n", "SCRIPT LINE 1"),
@@ -17,7 +17,7 @@ static BAD_LINES: [(&[u8], &str); 7] = [
     (b"@1/0/0/0/0/0/0/0/0/0 x\n", "SCRIPT LINE 1"),
 ];
 
-/// Changes of a disk for two tills that make it no shop's, and what is told of it.
+/// Changes of a disk for two tills that make it no shop's, and what is reported of it.
 static NO_SHOPS: [(&[Bytes], &str); 8] = [
     (&[(S17_0, b"\x11\x00")], "LAYOUT LOOP 17/0"),
     // A third entry, over the block of REQUESTS.
@@ -44,7 +44,7 @@ fn status_of(ended: Result<(), RunFault>) -> u8 {
     }
 }
 
-/// Sees that the script isn't played on the image for this reason, with status 1, and that nothing is written.
+/// Checks that the script isn't played on the image for this reason, with status 1, and that nothing is written.
 fn not_played(rt: &(impl AllocGlobal + Abort), image: &[u8], script: &[u8], text: &str) {
     let mut out = Vec::new(rt.alloc());
     let (ended, file) = played(rt, image, script, &mut out);
@@ -53,7 +53,7 @@ fn not_played(rt: &(impl AllocGlobal + Abort), image: &[u8], script: &[u8], text
     is_told(rt, ended, text);
 }
 
-/// Sees that none of these is played on the image.
+/// Checks that none of these is played on the image.
 fn none_is_played(rt: &(impl AllocGlobal + Abort), image: &[u8], lines: &[(&[u8], &str)]) {
     for (script, text) in lines {
         not_played(rt, image, script, text);
@@ -66,7 +66,7 @@ fn bad_lines_are_refused(rt: HostRuntime) {
     none_is_played(&rt, image.as_slice(), &BAD_LINES);
 }
 
-/// Sees that the image is neither shown nor played on for this reason, and that of a bad line `first` is told.
+/// Checks that the image is neither shown nor played on for this reason, and that `first` is reported of a bad line.
 fn is_refused(rt: &(impl AllocGlobal + Abort), image: &[u8], text: &str, first: &str) {
     let mut out = Vec::new(rt.alloc());
     is_told(rt, shown(rt, image, &mut out), text);
@@ -75,7 +75,7 @@ fn is_refused(rt: &(impl AllocGlobal + Abort), image: &[u8], text: &str, first: 
     not_played(rt, image, b"@x 1,1,S,1,0\n", first);
 }
 
-/// Sees that none of these disks is taken for a shop's; lines are judged before it.
+/// Checks that none of these disks is taken for a shop's; lines are checked before it.
 fn are_no_shops(rt: &(impl AllocGlobal + Abort), rows: &[(&'static [Bytes], &str)]) {
     for (changes, text) in rows {
         let image = changed(rt, 2, changes);
@@ -88,7 +88,7 @@ fn what_is_no_shop_is_refused(rt: HostRuntime) {
     are_no_shops(&rt, &NO_SHOPS);
 }
 
-/// Sees that the first so many bytes of the image are refused; the size is judged before the lines.
+/// Checks that the first so many bytes of the image are refused; the size is checked before the lines.
 fn is_no_disk(rt: &(impl AllocGlobal + Abort), image: &[u8], size: usize) {
     let part = image.get(..size).unwrap_or(&[]);
     is_refused(rt, part, "IMAGE SIZE", "IMAGE SIZE");

@@ -1,4 +1,4 @@
-//! Runs of the commands: what they print, show and tell.
+//! Runs of the commands: what they print, show and report.
 use crate::comparing::{holds, same};
 use crate::files::{Paper, Tape, new_tape};
 use host_session::Printer;
@@ -47,7 +47,7 @@ pub(crate) fn dried<W: Write>(script: &[u8], out: &mut W) -> Result<(), DryFault
     dry(script, out)
 }
 
-/// Judges an image: whether a fault is told.
+/// Checks an image: returns whether a fault is reported.
 pub(crate) fn judged<W: Write>(
     rt: &impl AllocGlobal,
     image: &[u8],
@@ -87,13 +87,13 @@ pub(crate) fn shown<W: Write>(
     show_image(rt.alloc(), image, out)
 }
 
-/// Sees that this was printed, and handed on by a flush.
+/// Checks that this was printed, and handed on by a flush.
 pub(crate) fn is_printed(rt: &impl Abort, out: &Paper, wanted: &[u8]) {
     same(rt, out.bytes.as_slice(), wanted);
     same(rt, out.handed, wanted.len());
 }
 
-/// Sees that the image is clean and that this is shown of it.
+/// Checks that the image is clean and that this is shown of it.
 pub(crate) fn is_shown(rt: &(impl AllocGlobal + Abort), image: &[u8], text: &[u8]) {
     let mut out = Vec::new(rt.alloc());
     let found = judged(rt, image, &mut out);
@@ -101,14 +101,14 @@ pub(crate) fn is_shown(rt: &(impl AllocGlobal + Abort), image: &[u8], text: &[u8
     shows(rt, image, text);
 }
 
-/// Sees that this is shown of the image.
+/// Checks that this is shown of the image.
 pub(crate) fn shows(rt: &(impl AllocGlobal + Abort), image: &[u8], text: &[u8]) {
     let mut out = Vec::new(rt.alloc());
     let ended = shown(rt, image, &mut out);
     same(rt, (ended, out.as_slice()), (Ok(()), text));
 }
 
-/// Sees that a command isn't done, and that this is told.
+/// Checks that a command isn't done, and that this is reported.
 pub(crate) fn is_told(rt: &(impl AllocGlobal + Abort), ended: Result<(), RunFault>, text: &str) {
     match ended {
         Ok(()) => holds(rt, false, text),
@@ -116,7 +116,7 @@ pub(crate) fn is_told(rt: &(impl AllocGlobal + Abort), ended: Result<(), RunFaul
     }
 }
 
-/// Sees that a fault is told by this text.
+/// Checks that a fault is reported by this text.
 pub(crate) fn has_text<F: Display + Drop>(rt: &(impl AllocGlobal + Abort), fault: F, text: &str) {
     let mut told = Vec::new(rt.alloc());
     let _ = write!(told, "{fault}");

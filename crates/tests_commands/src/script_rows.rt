@@ -85,14 +85,14 @@ static SCRIPTS: [(&str, &[u8], &[u8]); 15] = [
     ("an empty script has no line", b"", b""),
 ];
 
-/// Sees that a script has these replies.
+/// Checks that a script has these replies.
 fn is_answered(rt: &(impl AllocGlobal + Abort), shows: &str, script: &[u8], replies: &[u8]) {
     let mut out = Vec::new(rt.alloc());
     let ended = dried(script, &mut out);
     same_at(rt, (ended, out.as_slice()), (Ok(()), replies), shows);
 }
 
-/// Sees that each script has its replies.
+/// Checks that each script has its replies.
 fn are_answered(rt: &(impl AllocGlobal + Abort), scripts: &[(&str, &[u8], &[u8])]) {
     for (shows, script, replies) in scripts {
         is_answered(rt, shows, script, replies);
@@ -104,7 +104,7 @@ fn scripts_have_their_replies(rt: HostRuntime) {
     are_answered(&rt, &SCRIPTS);
 }
 
-/// Sees that a script over an output that takes nothing ends in this fault, with its number and its text.
+/// Checks that a script over an output that takes nothing ends in this fault, with its number and its text.
 fn is_refused(
     rt: &(impl AllocGlobal + Abort),
     script: &[u8],

@@ -28,7 +28,7 @@ fn served<R: BufRead, W: Write>(
 /// An input, whether it can be read to its end, the replies on a disk for two tills, and what is shown then.
 type Service = (&'static [Piece], bool, &'static [u8], &'static [u8]);
 
-/// What is shown where item 42 was set to 120 alone.
+/// What is shown if only item 42 was set, to 120.
 const SET: &[u8] = b"TOP 9256\nCARD 42,120\nTILL 1,1,S,42,120,DONE,120\n";
 
 static SERVICES: [Service; 7] = [
@@ -57,7 +57,7 @@ static SERVICES: [Service; 7] = [
         b"1,1,DONE,120\n1,1,DONE,120\n30,SYNTAX ERROR,00,00\n30,SYNTAX ERROR,00,00\n",
         SET,
     ),
-    // 41 bytes; and many more over two reads, with a request behind them.
+    // 41 bytes; and many more over two reads, with a request after them.
     (
         &[
             Bytes(b"64,999999999,M,65535,999999999,65534,1,1,\n"),
@@ -77,7 +77,7 @@ static SERVICES: [Service; 7] = [
         b"64,999999999,NO TILL\n30,SYNTAX ERROR,00,00\n",
         b"TOP 9256\n",
     ),
-    // The input fails, within a line and behind one.
+    // The input fails, within a line and after one.
     (
         &[Bytes(b"1,1,S,42,120\n1,2,I,4"), Failed],
         false,
@@ -87,7 +87,7 @@ static SERVICES: [Service; 7] = [
     (&[Failed], false, b"", b"TOP 9256\n"),
 ];
 
-/// Sees that each of these is so served.
+/// Checks how each of these is served.
 fn are_served(rt: &(impl AllocGlobal + Abort), image: &[u8], services: &[Service]) {
     for (pieces, whole, replies, shown) in services {
         let mut out = blank_paper(rt);
@@ -106,7 +106,7 @@ fn lines_are_served_in_turn(rt: HostRuntime) {
     are_served(&rt, image.as_slice(), &SERVICES);
 }
 
-/// Sees that an output that takes so many bytes, or doesn't flush, ends the service, and that the line stands.
+/// Checks that an output that takes so many bytes, or doesn't flush, ends the service, and that the line stands.
 fn is_told_full(rt: &(impl AllocGlobal + Abort), image: &[u8], room: usize, flushes: bool) {
     let mut full = Full { room, flushes };
     let mut input = Pieces::new(&[Bytes(b"1,1,S,42,120\n1,2,I,42,1\n")]);

@@ -19,7 +19,7 @@ static STOPPED: [(usize, &[u8], &[u8]); 3] = [
     (256, b"@1 1,1,S,15,7\n1,1,S,15,7\n", b"CUT\n"),
 ];
 
-/// Sees that a file that takes so many bytes ends the run in `Device`.
+/// Checks that a file that takes so many bytes ends the run in `Device`.
 fn is_stopped<W: Write>(
     rt: &(impl AllocGlobal + Abort),
     image: &[u8],
@@ -31,7 +31,7 @@ fn is_stopped<W: Write>(
     same_at(rt, ended, Err(RunFault::Device), script);
 }
 
-/// Sees that each of these is printed; that the output fails there too isn't told.
+/// Checks that each of these is printed; that the output fails there too isn't reported.
 fn are_stopped(rt: &(impl AllocGlobal + Abort), image: &[u8], rows: &[(usize, &[u8], &[u8])]) {
     for (room, script, replies) in rows {
         let mut out = blank_paper(rt);
@@ -51,7 +51,7 @@ fn a_file_that_fails_ends_the_run(rt: HostRuntime) {
     are_stopped(&rt, image.as_slice(), &STOPPED);
 }
 
-/// Sees that an output that takes so many bytes, or doesn't flush, ends the run in `File`, and that this is then shown.
+/// Checks that an output that takes so many bytes, or doesn't flush, ends the run in `File`, and that this is then shown.
 fn stands(rt: &(impl AllocGlobal + Abort), image: &[u8], room: usize, flushes: bool, text: &[u8]) {
     let mut full = Full { room, flushes };
     let (ended, file) = played(rt, image, b"1,1,S,42,120\n", &mut full);
@@ -67,7 +67,7 @@ fn after_an_output_that_fails_the_lines_stand(rt: HostRuntime) {
     stands(&rt, image.as_slice(), 1000, false, text);
 }
 
-/// Sees that an output that takes so many bytes, or doesn't flush, is told where a disk is shown.
+/// Checks that an output that takes so many bytes, or doesn't flush, is reported if a disk is shown.
 fn is_not_shown(rt: &(impl AllocGlobal + Abort), image: &[u8], room: usize, flushes: bool) {
     let ended = shown(rt, image, &mut Full { room, flushes });
     same(rt, ended, Err(RunFault::File));

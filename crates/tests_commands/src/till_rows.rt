@@ -17,7 +17,7 @@ const SECOND: Reply = Reply::Told {
     word: Word::Kept(Answer::Done(125)),
 };
 
-/// The reply that a line of the output has: one of the two, or else one that no till hears.
+/// The reply that a line of the output has: one of the two, or otherwise one that no till hears.
 fn reply_in(line: &[u8]) -> Reply {
     if line == b"1,1,DONE,120\n".as_slice() {
         FIRST

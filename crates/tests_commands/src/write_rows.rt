@@ -34,12 +34,12 @@ static SCRIPTS: [&[u8]; 2] = [
     b"1,1,S,1,10\n@2/1 1,2,S,15,3\n1,2,S,15,3\n1,3,M,1,4,15\n",
 ];
 
-/// Sees that four replies were handed on, each in one piece.
+/// Checks that four replies were handed on, each in one piece.
 fn are_four(rt: &impl Abort, out: &Counting, script: &[u8]) {
     same_at(rt, (out.writes, out.lines), (4, 4), script);
 }
 
-/// Sees that each script, played on the image, has its replies handed on so.
+/// Checks that each script, played on the image, has its replies handed on so.
 fn are_handed(rt: &(impl AllocGlobal + Abort), image: &[u8], scripts: &[&[u8]]) {
     for script in scripts {
         let mut out = Counting {

@@ -35,7 +35,7 @@ fn a_device_that_fails(rt: HostRuntime) {
 /// Slots, and their first and last bytes.
 const SLOTS: [(u8, u8, u8); 5] = [(0, 18, 0), (2, 0, 5), (3, 6, 7), (4, 8, 0), (7, 0, 9)];
 
-/// Sees that the slots of a sector are cut so.
+/// Checks that the slots of a sector are cut so.
 fn are_cut(rt: &impl Abort, bytes: &[u8; 256], rows: &[(u8, u8, u8)]) {
     for &(number, first, last) in rows {
         assert!(rt; number < 8, "a sector has eight slots");

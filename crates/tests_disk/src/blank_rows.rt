@@ -63,7 +63,7 @@ fn sector_for_two_tills(track: u8, number: u8) -> [u8; 256] {
     }
 }
 
-/// Sees that a track is as it is for two tills.
+/// Checks that a track is as it is for two tills.
 fn is_track(rt: &impl Abort, disk: &mut MemDisk, track: u8) {
     for number in 0..21u8 {
         if let Some(place) = Place::new(track, number) {
@@ -81,8 +81,8 @@ fn the_image_for_two_tills(rt: HostRuntime) {
     }
 }
 
-/// How many tills; how many sectors are written, blocks free, and blocks of REQUESTS with its side sector; tracks 17
-/// and 19 in the map; the link of 17/2, and byte 1 of 17/3.
+/// How many tills; how many sectors are written, blocks free, and blocks of REQUESTS with its side sector. Then tracks 17
+/// and 19 in the map, the link of 17/2, and byte 1 of 17/3.
 type Tills = (u8, (u64, u16, u16), [u8; 4], [u8; 4], [u8; 3]);
 
 const TILLS: [Tills; 4] = [
@@ -132,7 +132,7 @@ fn counted(map: &[u8; 256], directory: &[u8; 256]) -> (u16, u16) {
     (BamView::new(map).blocks_free(), entry.block_count())
 }
 
-/// Sees that a blank disk is so.
+/// Checks that a blank disk has these values.
 fn is_blank(
     rt: &impl Abort,
     disk: Meter<MemDisk>,
@@ -150,7 +150,7 @@ fn is_blank(
     same_at(rt, [first[0], first[1], side[1]], block, tills);
 }
 
-/// Sees that each blank disk is so.
+/// Checks each blank disk.
 fn are_blank(rt: &(impl Abort + AllocGlobal), rows: &[Tills]) {
     for row in rows {
         let tills = row.0;
@@ -175,7 +175,7 @@ fn place_of(number: u8) -> (u8, u8) {
     }
 }
 
-/// Sees that the blocks are those of the requests of 64 tills.
+/// Checks that the blocks are those of the requests of 64 tills.
 fn are_blocks(rt: &impl Abort, places: &[Place]) {
     let mut number = 0u8;
     for place in places {
@@ -213,7 +213,7 @@ const ENTRIES: [Entry; 2] = [
     (1, b"REQUESTS", (17, 2), (17, 3), 127),
 ];
 
-/// Sees that a slot of 18/1 is this entry, of two blocks.
+/// Checks that a slot of 18/1 is this entry, of two blocks.
 fn is_entry(rt: &impl Abort, slot: &Slot, (number, name, first, side, length): Entry) {
     same(rt, (slot.sector, slot.number), (at(18, 1), number));
     let entry = EntryView::new(&slot.bytes);
@@ -224,7 +224,7 @@ fn is_entry(rt: &impl Abort, slot: &Slot, (number, name, first, side, length): E
     same(rt, entry.first_side(), Place::new(side.0, side.1));
 }
 
-/// Sees that the slots are these entries, in turn.
+/// Checks that the slots are these entries, in turn.
 fn are_entries(rt: &impl Abort, slots: &[Slot], rows: &[Entry]) {
     for (slot, row) in slots.iter().zip(rows) {
         is_entry(rt, slot, *row);

@@ -16,7 +16,7 @@ fn walk<D: Sectors>(disk: &mut D, first: Place) -> (Result<u8, Fault>, usize) {
 /// A link of 17/0, the answer of a walk from there, and how many sectors it visits.
 type Walked = ((u8, u8), Result<u8, Fault>, usize);
 
-/// Sees that 17/0 is walked so with each link; 17/1 links back to it, and 17/2, a block of
+/// Checks that 17/0 is walked so with each link; 17/1 links back to it, and 17/2, a block of
 /// another file, ends with index 9.
 fn each_is_walked(rt: &(impl Abort + AllocGlobal), rows: &[Walked]) {
     let mut disk = zeroed(rt);
@@ -114,7 +114,7 @@ fn two_side_sectors(rt: HostRuntime) {
     same(&rt, told, (Some(at(17, 2)), Some(at(17, 0)), None));
 }
 
-/// Sees that a fault has this text and number.
+/// Checks that a fault has this text and number.
 fn is_told(rt: &(impl Abort + AllocGlobal), fault: Fault, text: &str, number: u8) {
     let told = fault.to_string(rt.alloc()).expect(rt, "a text");
     same(rt, (told.as_str(), fault.number()), (text, number));

@@ -6,7 +6,7 @@ use disk_layout::Fault;
 use layout_check::{Survey, check, survey};
 use std::process::Abort;
 
-/// What is wrong, the sector, two of its bytes and what they are, what is told, and whether the disk is sound.
+/// What is wrong, the sector, two of its bytes and what they are, what is reported, and whether the disk is sound.
 type Single = (
     &'static str,
     (u8, u8),
@@ -115,7 +115,7 @@ const SINGLE: [Single; 12] = [
     ),
 ];
 
-/// Sees that a fault has this text.
+/// Checks that a fault has this text.
 fn is_told(rt: &(impl Abort + AllocGlobal), fault: Option<Fault>, text: &str, row: &str) {
     match fault {
         Some(fault) => {
@@ -126,7 +126,7 @@ fn is_told(rt: &(impl Abort + AllocGlobal), fault: Option<Fault>, text: &str, ro
     }
 }
 
-/// Sees what is told of a fresh disk on which two bytes of a sector are these, and whether it is sound.
+/// Checks what is reported of a fresh disk on which two bytes of a sector are these, and whether it is sound.
 fn each_is_told(rt: &(impl Abort + AllocGlobal), rows: &[Single]) {
     for &(name, (track, number), first, second, text, sound) in rows {
         let mut disk = fresh(rt);
@@ -141,7 +141,7 @@ fn single_faults(rt: HostRuntime) {
     each_is_told(&rt, &SINGLE);
 }
 
-/// Sees what the check of a disk tells.
+/// Checks what the check of a disk reports.
 fn is_checked(rt: &impl Abort, disk: &mut MemDisk, fault: Fault) {
     same(rt, check(disk).err(), Some(fault));
 }
@@ -187,7 +187,7 @@ const OWNED: [(u8, u8, bool); 6] = [
     (17, 4, false),
 ];
 
-/// Sees that these are owned or not.
+/// Checks that these are owned or not.
 fn are_owned(rt: &impl Abort, found: &Survey, rows: &[(u8, u8, bool)]) {
     for &(track, number, owned) in rows {
         let told = found.is_owned(at(track, number));
@@ -195,7 +195,7 @@ fn are_owned(rt: &impl Abort, found: &Survey, rows: &[(u8, u8, bool)]) {
     }
 }
 
-/// Sees that each entry leaves so many sectors outside track 18 to the others.
+/// Checks that each entry leaves so many sectors outside track 18 to the others.
 fn leaves(rt: &impl Abort, found: &Survey, outside: u16) {
     for entry in 0..found.entries() {
         same_at(rt, found.outside(entry), outside, entry);

@@ -2,12 +2,12 @@
 use std::fmt::Debug;
 use std::process::Abort;
 
-/// Ends the test where the two differ.
+/// Ends the test if the two differ.
 pub(crate) fn same<T: PartialEq + Debug + Drop>(rt: &impl Abort, got: T, want: T) {
     assert_eq!(rt; got, want);
 }
 
-/// The same, and tells the row.
+/// Ends the test if the two differ, and names the row.
 pub(crate) fn same_at<T: PartialEq + Debug + Drop, L: Debug + Drop>(
     rt: &impl Abort,
     got: T,

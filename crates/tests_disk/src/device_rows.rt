@@ -36,7 +36,7 @@ fn copy_sector<D: Sectors>(disk: &mut D, from: Place, to: Place) -> Result<u8, D
     Ok(bytes[0])
 }
 
-/// A track, a sector, and where it stands in an image, counted in sectors, where there is such a one.
+/// A track, a sector, and where it stands in an image, counted in sectors, if there is such a one.
 type Placed = (u8, u8, Option<usize>);
 
 /// The published table gives byte offsets: track 18 begins at $16500, track 25 at $1EA00, track 31 at $25600.
@@ -60,7 +60,7 @@ const PLACES: [Placed; 17] = [
     (255, 255, None),
 ];
 
-/// Sees that a place has this track, sector and index, or that there is none.
+/// Checks that a place has this track, sector and index, or that there is none.
 fn is_placed(rt: &impl Abort, found: Option<Place>, (track, number, index): Placed) {
     match (found, index) {
         (Some(place), Some(index)) => {
@@ -71,7 +71,7 @@ fn is_placed(rt: &impl Abort, found: Option<Place>, (track, number, index): Plac
     }
 }
 
-/// Sees that each stands there.
+/// Checks that each stands there.
 fn are_placed(rt: &impl Abort, rows: &[Placed]) {
     for &(track, number, index) in rows {
         is_placed(rt, Place::new(track, number), (track, number, index));
@@ -100,7 +100,7 @@ fn a_sector_is_read(rt: HostRuntime) {
     same(&rt, (bytes[0], bytes[1]), (102, 0));
 }
 
-/// Sees that so many bytes are no image.
+/// Checks that so many bytes are no image.
 fn is_no_image(rt: &(impl Abort + AllocGlobal), size: usize) {
     let fault = MemDisk::load(rt.alloc(), zeros(rt, size).as_slice()).err();
     same_at(rt, fault, Some(ImageFault::Size), size);
@@ -122,7 +122,7 @@ fn a_disk_of_zeros(rt: HostRuntime) {
     same(&rt, zeroed(&rt).bytes(), zeros(&rt, 174_848).as_slice());
 }
 
-/// Sees that of these bytes the ones of 18/1, and no others, are 255.
+/// Checks that of these bytes the ones of 18/1, and no others, are 255.
 fn are_written(rt: &impl Abort, bytes: &[u8]) {
     for (i, byte) in bytes.iter().enumerate() {
         let written = 0x16600 <= i && i < 0x16700;

@@ -33,7 +33,7 @@ const BAD: [[u8; 2]; 4] = [[17, 0], [18, 0], [18, 19], [36, 0]];
 /// A link to itself, and to a sector that links back.
 const BACK: [[u8; 2]; 2] = [[18, 1], [18, 2]];
 
-/// Sees that a directory whose first sector has such a link, and whose second one links back to the first, is read so.
+/// Checks that a directory whose first sector has such a link, and whose second one links back to the first, is read so.
 fn each_is_read(rt: &(impl Abort + AllocGlobal), links: &[[u8; 2]], answer: Result<(), Fault>) {
     let mut disk = zeroed(rt);
     directory_sector(&mut disk, 2, [18, 1], [0; 8]);
@@ -80,7 +80,7 @@ fn of_three(rt: &(impl Abort + AllocGlobal)) -> MemDisk {
     disk
 }
 
-/// Sees that the slots are these.
+/// Checks that the slots are these.
 fn are(rt: &impl Abort, slots: &[Slot], rows: &[(u8, u8, u8)]) {
     for (slot, row) in slots.iter().zip(rows) {
         let told = (slot.sector.sector(), slot.number, slot.bytes[2]);

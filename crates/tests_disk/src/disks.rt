@@ -9,14 +9,14 @@ pub(crate) fn at(track: u8, sector: u8) -> Place {
     Place::new(track, sector).unwrap_or_default()
 }
 
-/// The bytes of a sector; where it can't be read, EE in each.
+/// The bytes of a sector; if it can't be read, EE in each.
 pub(crate) fn sector<D: Sectors>(disk: &mut D, place: Place) -> [u8; 256] {
     let mut bytes = [0xEE; 256];
     let _ = disk.read(place, &mut bytes);
     bytes
 }
 
-/// Writes a sector that begins with these two bytes, with zeros behind them.
+/// Writes a sector that begins with these two bytes, with zeros after them.
 pub(crate) fn link(disk: &mut MemDisk, from: Place, track: u8, sector: u8) {
     let mut bytes = [0; 256];
     bytes[0] = track;
@@ -40,7 +40,7 @@ pub(crate) fn put_four(map: &mut [u8; 256], track: u8, four: [u8; 4]) {
     }
 }
 
-/// What 18/0 holds of the map where every sector is free but the two that the map and the directory have.
+/// What 18/0 holds of the map if every sector is free except the two that the map and the directory have.
 pub(crate) fn empty_map() -> [u8; 256] {
     let mut map = [0; 256];
     for track in 1..36u8 {

@@ -160,7 +160,7 @@ const OPENED_AGAIN: [Row; 4] = [
     (Call::Close(2), 0),
 ];
 
-/// How many sectors are read where both files are opened, and then each so many times more.
+/// How many sectors are read if both files are opened, and then each so many times more.
 fn reads(rt: &(impl Abort + AllocGlobal), rounds: usize) -> u64 {
     let mut drive = counted(fresh(rt));
     rows(rt, &mut drive, &OPENED);

@@ -40,7 +40,7 @@ const BEHIND: [Row; 4] = [
     (Call::Read(2, b""), 50),
 ];
 
-/// Makes the file, reads on from record 65535 to its last one, and then does the calls behind it.
+/// Makes the file, reads on from record 65535 to its last one, and then does the calls after it.
 fn read_on(rt: &(impl Abort + AllocGlobal), behind: &[Row]) {
     let mut drive = counted(fresh(rt));
     rows(rt, &mut drive, &MADE);
@@ -50,7 +50,7 @@ fn read_on(rt: &(impl Abort + AllocGlobal), behind: &[Row]) {
     rows(rt, &mut drive, behind);
 }
 
-// Behind the last one a read finds none, and a write has no place.
+// After the last one a read finds none, and a write has no place.
 #[test]
 fn places_past_record_65535(rt: HostRuntime) {
     read_on(&rt, &BEHIND);

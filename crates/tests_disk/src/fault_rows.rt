@@ -1,4 +1,4 @@
-//! A mirror over a file in memory, also where that fails, and a disk of which one call fails.
+//! A mirror over a file in memory, also if that fails, and a disk of which one call fails.
 use crate::comparing::{same, same_at};
 use crate::disks::{at, sector, zeroed};
 use d64_image::{DeviceAsFile, DeviceFault, KeptMirror, MemDisk, OneFault, Place, Sectors};
@@ -40,7 +40,7 @@ fn write_all(rt: &impl Abort, mirror: &mut Mirrored, rows: &[Filled]) {
     }
 }
 
-/// Sees that 18/1 began so at each moment.
+/// Checks that 18/1 began so at each moment.
 fn began_so(rt: &impl Abort, recorder: &mut Recorder<MemDisk>, rows: &[(usize, u8)]) {
     for &(moment, byte) in rows {
         same_at(rt, first_at(recorder, moment, at(18, 1)), byte, moment);
@@ -81,7 +81,7 @@ fn firsts<D: Sectors>(disk: &mut D) -> [u8; 4] {
     ]
 }
 
-/// Sees what a file that fails at its third sector, which it takes or not, leaves of memory and of itself.
+/// Checks what a file that fails at its third sector, which it takes or not, leaves of memory and of itself.
 fn leaves_memory(rt: &(impl Abort + AllocGlobal), done: bool, in_file: [u8; 4]) {
     let mut mirror = mirrored(rt, 2, done);
     let failed = Err(DeviceFault);
@@ -112,8 +112,8 @@ fn four_calls<D: Sectors>(disk: &mut D, one: Place, other: Place) -> [bool; 4] {
     ]
 }
 
-/// The call that fails, whether it is done, the sector of 17 where it fails, whether each call is Ok,
-/// and what the two sectors hold then.
+/// The call that fails, whether it is done, the sector of track 17 at which it fails, whether each call is Ok, and what
+/// the two sectors hold then.
 type Failing = (u32, bool, Option<u8>, [bool; 4], (u8, u8));
 
 const FAILING: [Failing; 7] = [
@@ -134,7 +134,7 @@ fn of_17(number: Option<u8>) -> Option<Place> {
     }
 }
 
-/// Where one call fails, whether each is Ok, and the first bytes of the two sectors then.
+/// At which sector one call fails, whether each is Ok, and the first bytes of the two sectors then.
 fn failing(
     rt: &(impl Abort + AllocGlobal),
     call: u32,
@@ -149,7 +149,7 @@ fn failing(
     (there, calls, held)
 }
 
-/// Sees that in each row one call fails so.
+/// Checks that in each row one call fails so.
 fn each_fails(rt: &(impl Abort + AllocGlobal), rows: &[Failing]) {
     for &(call, done, there, calls, held) in rows {
         let wanted = (of_17(there), calls, held);

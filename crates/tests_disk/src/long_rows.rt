@@ -31,7 +31,7 @@ fn second_side() -> [u8; 256] {
     side
 }
 
-/// The directory with the long file alone.
+/// The directory with only the long file.
 fn long_directory() -> [u8; 256] {
     let mut directory = [0; 256];
     directory[0..5].copy_from_slice(&[0, 0xFF, 0x84, 1, 0]);
@@ -40,7 +40,7 @@ fn long_directory() -> [u8; 256] {
     directory
 }
 
-/// The map where the long file's sectors are taken.
+/// The map if the long file's sectors are taken.
 fn long_map() -> [u8; 256] {
     let mut map = empty_map();
     for track in 1..6u8 {
@@ -66,10 +66,10 @@ fn long_file(rt: &(impl Abort + AllocGlobal)) -> MemDisk {
     disk
 }
 
-/// A byte of a sector of track 7 that isn't what it is to be, and the sector of which this is told.
+/// A byte of a sector of track 7 that isn't what it is to be, and the sector at which this is reported.
 type Changed = (&'static str, u8, u8, u8);
 
-/// Two side sectors: each is judged by its number, the list, its link and its pointers.
+/// Two side sectors: each is checked by its number, the list, its link and its pointers.
 const CHANGED: [Changed; 6] = [
     ("number", 1, 2, 1),
     ("list of the second", 1, 7, 1),
@@ -80,7 +80,7 @@ const CHANGED: [Changed; 6] = [
     ("pointer to the block before", 0, 255, 0),
 ];
 
-/// Sees that of each change this is told.
+/// Checks that each change is reported so.
 fn each_is_told(rt: &(impl Abort + AllocGlobal), rows: &[Changed]) {
     for &(name, number, byte, told) in rows {
         let mut disk = long_file(rt);

@@ -5,7 +5,7 @@ use d64_image::Place;
 use disk_layout::Bam;
 use std::process::Abort;
 
-/// A map with a name, on which every sector is free but the two that the map and the directory have.
+/// A map with a name, on which every sector is free except the two that the map and the directory have.
 fn fresh() -> Bam {
     let mut bytes = empty_map();
     bytes[0x90..0x94].copy_from_slice(b"NAME");
@@ -25,7 +25,7 @@ const TRACKS: [u8; 34] = [
     31, 4, 32, 3, 33, 2, 34, 1, 35,
 ];
 
-/// Sees that the sectors of a track are picked in their order, and takes them.
+/// Checks that the sectors of a track are picked in their order, and takes them.
 fn is_picked(rt: &impl Abort, map: &mut Bam, track: u8) {
     for sector in 0..21u8 {
         if let Some(place) = Place::new(track, sector) {
@@ -35,7 +35,7 @@ fn is_picked(rt: &impl Abort, map: &mut Bam, track: u8) {
     }
 }
 
-/// The same of these tracks, one after another.
+/// Checks that these tracks are picked, one after another.
 fn are_picked(rt: &impl Abort, map: &mut Bam, tracks: &[u8]) {
     for &track in tracks {
         is_picked(rt, map, track);
@@ -104,7 +104,7 @@ const FOURS: [Four; 5] = [
     ),
 ];
 
-/// Sees that each sector is taken and given back so.
+/// Checks that each sector is taken and given back so.
 fn are_taken(rt: &impl Abort, rows: &[Four]) {
     for &(name, (track, sector), before, taken, given) in rows {
         let place = at(track, sector);

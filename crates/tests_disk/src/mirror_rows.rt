@@ -1,4 +1,4 @@
-//! A mirror in any file that is written and sought: the bytes of the file, and what is left where it fails.
+//! A mirror in any file that is written and sought: the bytes of the file, and what is left if it fails.
 use crate::comparing::{same, same_at};
 use crate::disks::{at, sector, zeroed};
 use d64_image::{DeviceFault, MemDisk, Mirror, Sectors};
@@ -10,7 +10,7 @@ fn mirrored<F: Write + Seek>(rt: &(impl Abort + AllocGlobal), file: F) -> Mirror
     Mirror::new(file, zeroed(rt))
 }
 
-/// What the bytes of an image are behind the three writes. The published table gives byte offsets: track 18 begins at
+/// What the bytes of an image are after the three writes. The published table gives byte offsets: track 18 begins at
 /// $16500, and the last sector begins 256 bytes before the end.
 fn written(at: usize) -> u8 {
     match at {
@@ -21,7 +21,7 @@ fn written(at: usize) -> u8 {
     }
 }
 
-/// Sees that an image has these bytes.
+/// Checks that an image has these bytes.
 fn are_written(rt: &impl Abort, bytes: &[u8]) {
     same(rt, bytes.len(), 174_848);
     for (i, byte) in bytes.iter().enumerate() {

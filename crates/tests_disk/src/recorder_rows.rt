@@ -11,7 +11,7 @@ fn fill_both<D: Sectors>(disk: &mut D, a: Place, b: Place, byte: u8) -> Result<(
     disk.write(b, &[byte; 256])
 }
 
-/// The bytes of a sector at a moment that a recorder has seen; where it can't be read, EE in each.
+/// The bytes of a sector at a moment that a recorder has seen; if it can't be read, EE in each.
 fn seen<D: Sectors>(disk: &mut Recorder<D>, moment: usize, place: Place) -> [u8; 256] {
     let mut bytes = [0xEE; 256];
     let _ = disk.read_at(moment, place, &mut bytes);
@@ -28,7 +28,7 @@ const MOMENTS: [(usize, u8, u8); 6] = [
     (9, 9, 1),
 ];
 
-/// Sees that both sectors were filled so at each moment.
+/// Checks that both sectors were filled so at each moment.
 fn were_filled<D: Sectors>(rt: &impl Abort, disk: &mut Recorder<D>, rows: &[(usize, u8, u8)]) {
     for &(moment, first, last) in rows {
         same_at(rt, seen(disk, moment, at(1, 0)), [first; 256], moment);

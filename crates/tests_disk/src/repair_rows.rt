@@ -15,7 +15,7 @@ fn worn(rt: &(impl Abort + AllocGlobal)) -> MemDisk {
     disk
 }
 
-/// How many entries a disk has that is repaired; None where it isn't.
+/// How many entries a disk has that is repaired; None if it isn't.
 fn repaired<D: Sectors>(disk: &mut D) -> Option<usize> {
     match repair(disk) {
         Ok(found) => Some(found.entries()),
@@ -23,7 +23,7 @@ fn repaired<D: Sectors>(disk: &mut D) -> Option<usize> {
     }
 }
 
-/// Sees that it is the fresh disk again.
+/// Checks that it is the fresh disk again.
 fn is_fresh(rt: &(impl Abort + AllocGlobal), disk: &MemDisk) {
     same(rt, disk.bytes() == fresh(rt).bytes(), true);
 }
@@ -40,8 +40,7 @@ fn wrong_sectors_are_written_once(rt: HostRuntime) {
     is_fresh(&rt, &disk.into_inner());
 }
 
-// Bits past a track's last sector aren't judged: in a map that is right they stay, in
-// one that is written they become 0.
+// Bits past a track's last sector aren't checked: in a map that is right they stay, in one that is written they become 0.
 #[test]
 fn bits_past_the_last_sector(rt: HostRuntime) {
     let mut spare = fresh(&rt);
@@ -55,7 +54,7 @@ fn bits_past_the_last_sector(rt: HostRuntime) {
     is_fresh(&rt, &wrong);
 }
 
-/// Cuts a repair after so many writes, and sees that the next one makes the rest of three.
+/// Cuts a repair after so many writes, and checks that the next one makes the rest of three.
 fn is_taken_up(rt: &(impl Abort + AllocGlobal), passed: u8) {
     let mut cut = Fuse::new(worn(rt), u32::from(passed));
     let failed = matches!(repair(&mut cut), Err(Fault::Device(_)));
@@ -76,7 +75,7 @@ fn a_cut_repair_is_taken_up_again(rt: HostRuntime) {
     }
 }
 
-/// Sees that a worn disk with these bytes changed too is told so, and that nothing is written.
+/// Checks that a worn disk with these bytes changed too is reported so, and that nothing is written.
 fn stays(
     rt: &(impl Abort + AllocGlobal),
     (track, number): (u8, u8),
@@ -90,7 +89,7 @@ fn stays(
     same(rt, disk.writes(), 0);
 }
 
-// A disk that isn't sound is told of and left as it is: a link that goes back, and an entry that isn't closed.
+// A disk that isn't sound is reported and left as it is: a link that goes back, and an entry that isn't closed.
 #[test]
 fn a_disk_that_is_not_sound_stays(rt: HostRuntime) {
     let back = Fault::Loop(at(17, 0));
@@ -99,8 +98,8 @@ fn a_disk_that_is_not_sound_stays(rt: HostRuntime) {
     stays(&rt, (18, 1), ((2, 4), (2, 4)), open);
 }
 
-// Nobody owns 2/5, which the map calls taken: it stays so, and what else is wrong is written, three sectors. Then nothing
-// is written, and the disk is clean but for it.
+// Nobody owns 2/5, which the map calls taken. It stays so, and what else is wrong is written, three sectors. Then nothing
+// is written, and the disk is clean except for it.
 #[test]
 fn a_repair_that_frees_nothing(rt: HostRuntime) {
     let mut disk = worn(&rt);

@@ -11,9 +11,9 @@ use std::process::Abort;
 enum State {
     /// The drive was just switched on, with a fresh disk: `STOCK` has 14 records of 18 bytes, `REQUESTS` two of 127.
     Fresh,
-    /// So, but the block count of `STOCK` is wrong.
+    /// A fresh disk, but the block count of `STOCK` is wrong.
     WrongCount,
-    /// So, but the chain of `STOCK` leaves the disk.
+    /// A fresh disk, but the chain of `STOCK` leaves the disk.
     BrokenChain,
     /// So, but `STOCK` is a program.
     Program,

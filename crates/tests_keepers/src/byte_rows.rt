@@ -70,7 +70,7 @@ const PRINTED: [Row; 8] = [
         b"GAME\xA0,8,1",
         (b"A", 0, b""),
     ),
-    // and a closed one behind; the disk has a loop elsewhere
+    // and a closed one after it; the disk has a loop elsewhere
     (
         &[
             (18, 1, 66, GAME),
@@ -86,7 +86,7 @@ const PRINTED: [Row; 8] = [
     (&[(17, 0, 1, b"\x13CARD")], b"STOCK", (b"CARD", 14, b"")),
 ];
 
-/// Sees that these bytes are printed.
+/// Checks that these bytes are printed.
 fn are_printed(rt: &(impl Abort + AllocGlobal), rows: &[Row]) {
     for &(changes, name, (front, zeros, end)) in rows {
         let disk = changed(rt, changes);
@@ -111,8 +111,8 @@ fn bytes_are_printed(rt: HostRuntime) {
     are_printed(&rt, &PRINTED);
 }
 
-/// Changes of the blank disk, and what is told of the bytes of `GAME`: there is none, it isn't closed, its first
-/// block is no place, its chain comes back or leads nowhere, it is relative and names no block, the directory comes
+/// Changes of the blank disk, and what is reported of the bytes of `GAME`. There is no such file, or it isn't closed; its
+/// first block is no place; its chain comes back or leads nowhere; it is relative and names no block; the directory comes
 /// back.
 const REFUSED: [(&[Change], &str); 7] = [
     (&[], "NO FILE"),
@@ -139,7 +139,7 @@ const REFUSED: [(&[Change], &str); 7] = [
     ),
 ];
 
-/// Sees that this is told, and nothing printed.
+/// Checks that this is reported, and nothing printed.
 fn are_refused(rt: &(impl Abort + AllocGlobal), rows: &[(&[Change], &str)]) {
     for &(changes, told) in rows {
         let disk = changed(rt, changes);
@@ -159,7 +159,7 @@ fn are_refused(rt: &(impl Abort + AllocGlobal), rows: &[(&[Change], &str)]) {
     }
 }
 
-// An image of another size is refused before its name is looked for; an output that fails is told.
+// An image of another size is refused before its name is looked for; an output that fails is reported.
 #[test]
 fn bytes_are_refused(rt: HostRuntime) {
     are_refused(&rt, &REFUSED);

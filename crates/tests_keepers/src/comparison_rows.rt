@@ -1,5 +1,5 @@
-//! Comparisons of two disks, each the blank disk for two tills with bytes changed, compared by length and Adler-32 with those
-//! that a plain program (tests/pages.py) printed of the same disks; and what is refused.
+//! Comparisons of two disks, each the blank disk for two tills with bytes changed, and what is refused. A plain program
+//! (tests/pages.py) printed comparisons of these disks; length and Adler-32 are compared with those.
 use crate::comparing::same_at;
 use crate::disks::{Change, changed};
 use crate::picture_rows::{adler, is_found};
@@ -16,9 +16,9 @@ struct Row {
     page: (usize, u32),
 }
 
-/// The blank disk and itself; records 3 to 5 and 14 of STOCK and 2 of REQUESTS; a file whose type and link change; a file of
-/// another name, beside a free bit of a block; and, on a disk that was damaged, a file under the name of another, whose own
-/// is gone.
+/// The blank disk and itself; records 3 to 5 and 14 of STOCK and 2 of REQUESTS; and a file whose type and link change.
+/// Then a file of another name, and a free bit of a block. Last a damaged disk with a file under the name of another,
+/// whose own is gone.
 const COMPARED: [Row; 5] = [
     Row {
         changes: (&[], &[]),

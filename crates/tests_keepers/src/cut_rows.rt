@@ -1,4 +1,4 @@
-//! Where the blank disk for two tills, with bytes changed, is told to have a file that is cut short.
+//! Where a file of the blank disk for two tills, with bytes changed, is reported to be cut short.
 use crate::comparing::same_at;
 use crate::disks::{Change, changed};
 use cut_files::find_image_cut;
@@ -21,12 +21,13 @@ const BLOCK: Change = (17, 4, 0, &[0, 5, 1, 8, 0, 0]);
 /// The map with 17/4 and 17/5 taken: 11 F0 FF 1F before.
 const TAKEN: Change = (18, 0, 68, &[0x0F, 0xC0]);
 
-/// The map with 17/4 taken alone.
+/// The map with only 17/4 taken.
 const OWNED: Change = (18, 0, 68, &[0x10, 0xE0]);
 
 /// Changes, and where the first file is cut short. STOCK has the block 17/0 and the side sector 17/1, REQUESTS 17/2 and
-/// 17/3. In order: none; of STOCK one pointer more, two more, the second alone, and a link to a next side sector; of
-/// REQUESTS one more, also where STOCK has another record length; a block of zeros, and one whose link alone is zero.
+/// 17/3. In order: none; STOCK with one pointer more, two more, only the second, and a link to a next side sector. Then
+/// REQUESTS with one more, also if STOCK has another record length; a block of zeros, and one of which only the link is
+/// zero.
 const LISTED: [(&[Change], Option<(u8, u8)>); 9] = [
     (&[], None),
     (&[(17, 1, 18, &[17, 9])], None),
@@ -42,8 +43,8 @@ const LISTED: [(&[Change], Option<(u8, u8)>); 9] = [
     (&[(17, 0, 0, &[0, 0])], None),
 ];
 
-/// The same of a file of another type: its count is greater than its chain with a stray sector and without one, it is
-/// right, and then SEQ, USR, a locked PRG and DEL.
+/// A file of another type. Its count is greater than its chain with a stray sector and without one; then it is right.
+/// Then SEQ, USR, a locked PRG and DEL.
 const COUNTED: [(&[Change], Option<(u8, u8)>); 7] = [
     (&[BLOCK, TAKEN, ENTRY], Some((17, 4))),
     (&[BLOCK, OWNED, ENTRY], None),
@@ -68,7 +69,7 @@ fn cut(
     }
 }
 
-/// Sees that this is told of each disk.
+/// Checks that this is reported of each disk.
 fn are_told(rt: &(impl Abort + AllocGlobal), rows: &[(&[Change], Option<(u8, u8)>)]) {
     for (row, &(changes, wanted)) in rows.iter().enumerate() {
         same_at(rt, cut(rt, changes, None), wanted, row);

@@ -11,14 +11,14 @@ use rel_records::{RelFile, create, find, write_record};
 use std::process::Abort;
 
 /// The blank disk for two tills: STOCK in 17/0 (18 bytes a record, 14 of them) with the side sector 17/1, REQUESTS in
-/// 17/2 (127 bytes, 2 of them) with the side sector 17/3; so 17/4 is the next free sector.
+/// 17/2 (127 bytes, 2 of them) with the side sector 17/3. So 17/4 is the next free sector.
 pub(crate) fn fresh(rt: &(impl Abort + AllocGlobal)) -> MemDisk {
     let mut disk = MemDisk::zeroed(rt.alloc()).expect(rt, "a disk of zeros");
     blank_image(&mut disk, b"STOCK LEDGER", *b"01", 2).expect(rt, "a blank disk");
     disk
 }
 
-/// Sees that the disk is clean.
+/// Checks that the disk is clean.
 fn clean(rt: &impl Abort, disk: &mut MemDisk)
     ensures { IsClean (disk_image disk.new) }
 {

@@ -60,7 +60,7 @@ const PLAIN: [(&str, &str); 5] = [
     ("1,\"A\"B\n", "1,\"A\"B\\0d\"\n"),
 ];
 
-/// Sees that each is made so.
+/// Checks that each is made so.
 fn are_plain(rt: &(impl Abort + AllocGlobal), rows: &[(&str, &str)]) {
     for &(lines, wanted) in rows {
         let plain = plain_lines(rt.alloc(), lines.as_bytes()).expect(rt, "memory");

@@ -25,8 +25,8 @@ fn lines_of(rt: &(impl Abort + AllocGlobal), disk: &MemDisk) -> Vec<u8> {
     out
 }
 
-/// Sees that the lines that are printed of a store are those of records that are stored, though the call of this number
-/// fails on the way; and that all of them are printed if no call fails.
+/// Checks that the lines that are printed of a store are those of records that are stored, though the call of this number
+/// fails on the way. All of them are printed if no call fails.
 fn prints_what_is_stored(rt: &(impl Abort + AllocGlobal), at: u32, done: bool) {
     let blank = changed(rt, &[]);
     match MemDisk::load(rt.alloc(), blank.bytes()) {
@@ -97,7 +97,7 @@ fn a_long_text_is_stored(rt: HostRuntime) {
     same_at(&rt, out.as_slice(), b"1,\"A\"\n".as_slice(), "printed");
 }
 
-// Record 5,000 of 18 bytes ends in block 355, where 5,009 end.
+// Record 5,000 of 18 bytes ends in block 355, in which 5,009 end.
 #[test]
 fn many_records_are_printed_once(rt: HostRuntime) {
     let blank = changed(&rt, &[]);
@@ -115,7 +115,7 @@ fn many_records_are_printed_once(rt: HostRuntime) {
     );
 }
 
-/// Sees that a file with records of so many bytes is made.
+/// Checks that a file with records of so many bytes is made.
 fn is_made(rt: &(impl Abort + AllocGlobal), blank: &MemDisk, length: u8) {
     assert!(rt;
         is_new_name(b"CARDS") && length >= 1 && length <= 254,

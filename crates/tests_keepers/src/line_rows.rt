@@ -8,9 +8,9 @@ use std::process::Abort;
 /// A record's number and bytes, and its line without the LF.
 type Row = (u32, &'static [u8], &'static [u8]);
 
-/// An empty record, one of zeros alone, fields that end in CR, a comma and a quotation mark within, zeros within; and
-/// the greatest number that a record can have, and the first that 16 bits don't hold. Records of 16
-/// and 17 bytes that take two digits each.
+/// An empty record, one with nothing but zeros, fields that end in CR, a comma and a quotation mark within, zeros within.
+/// Then the greatest number that a record can have, and the first that 16 bits don't hold. Last records of 16 and 17
+/// bytes that take two digits each.
 const PRINTED: [Row; 9] = [
     (1, b"\xFF\0\0", b"1,\"\\ff\""),
     (2, b"\0\0\0", b"2,\"\""),
@@ -41,8 +41,8 @@ const READ: [Row; 5] = [
     (182880, b"=A1", b"182880,=A1"),
 ];
 
-/// A byte order mark, numbers that no record has, also with a sign, a zero or a space before them, no comma, one
-/// quotation mark, two where the form has one, a text that is none, what is left of an end, and several columns.
+/// A byte order mark; numbers that no record has, also with a sign, a zero or a space before them; no comma. Then one
+/// quotation mark, and two if the form has one; a text that is none; what is left of an end; and several columns.
 const NO_LINES: [&[u8]; 19] = [
     b"\xEF\xBB\xBF1,\"A\"",
     b"",
@@ -65,7 +65,7 @@ const NO_LINES: [&[u8]; 19] = [
     b"1,\"KING\",\"LEEDS\"",
 ];
 
-/// Sees that each line is read as its record: up to so many zeros at its end.
+/// Checks that each line is read as its record: up to so many zeros at its end.
 fn are_read(rt: &impl Abort, rows: &[Row], as_printed: bool) {
     for &(number, bytes, line) in rows {
         let bytes = if as_printed {
@@ -80,7 +80,7 @@ fn are_read(rt: &impl Abort, rows: &[Row], as_printed: bool) {
     }
 }
 
-/// Sees that each record is printed so.
+/// Checks that each record is printed so.
 fn are_printed(rt: &(impl Abort + AllocGlobal), rows: &[Row]) {
     for &(number, bytes, line) in rows {
         let mut out = Vec::new(rt.alloc());
@@ -91,7 +91,7 @@ fn are_printed(rt: &(impl Abort + AllocGlobal), rows: &[Row]) {
     }
 }
 
-/// Sees that none of them is read.
+/// Checks that none of them is read.
 fn are_no_lines(rt: &impl Abort, rows: &[&[u8]]) {
     let mut found = ArrayVec::new();
     for &line in rows {

@@ -1,5 +1,5 @@
-//! All faults of the blank disk for two tills with bytes changed, and the names on it that are near to others, by hand from
-//! the D64 layout and the directory's format.
+//! All faults of the blank disk for two tills with bytes changed, and the names on it that are near to others. They were
+//! worked out by hand from the D64 layout and the directory's format.
 use crate::comparing::same_at;
 use crate::disks::{Change, changed};
 use crate::outputs::Full;
@@ -29,7 +29,7 @@ const ROWS: [Row; 8] = [
         &[(18, 0, 69, &[0xF9])],
         "MAPWRONG 17/0 \"STOCK\"\nMAPWRONG 17/3 \"REQUESTS\"\nMAPWRONG 18/0\n",
     ),
-    // a side sector with another number, and a block count of 3; the map isn't judged then
+    // a side sector with another number, and a block count of 3; the map isn't checked then
     (
         &[(17, 1, 2, &[1]), (18, 1, 30, &[3]), (18, 0, 5, &[0xFE])],
         "BADSIDE 17/1 \"STOCK\"\nCOUNTWRONG 18/1 \"STOCK\"\n",

@@ -45,7 +45,7 @@ fn made<W: Write>(
     }
 }
 
-/// Sees that the sector has these bytes from there on.
+/// Checks that the sector has these bytes from there on.
 fn has_bytes(rt: &impl Abort, disk: &mut MemDisk, place: (u8, u8), from: usize, bytes: &[u8]) {
     let mut sector = [0; 256];
     let _ = disk.read(
@@ -58,7 +58,7 @@ fn has_bytes(rt: &impl Abort, disk: &mut MemDisk, place: (u8, u8), from: usize, 
     }
 }
 
-/// Sees that this is told of a file GAME, and nothing printed or written.
+/// Checks that this is reported of a file GAME, and nothing printed or written.
 fn is_refused(rt: &(impl Abort + AllocGlobal), before: &MemDisk, name: &[u8], told: &str) {
     let mut out = Vec::new(rt.alloc());
     let (ended, after) = made(rt, before.bytes(), name, 254, &mut out);
@@ -67,7 +67,7 @@ fn is_refused(rt: &(impl Abort + AllocGlobal), before: &MemDisk, name: &[u8], to
     same_at(rt, after.bytes() == before.bytes(), true, told);
 }
 
-/// Changes of the blank disk, and what is told: the map's count of track 1, a block count, a loop, and a deleted
+/// Changes of the blank disk, and what is reported: the map's count of track 1, a block count, a loop, and a deleted
 /// entry that bears the name.
 const REFUSED: [(&[Change], &str); 4] = [
     (&[(18, 0, 4, &[20])], "LAYOUT MAPWRONG 18/0"),

@@ -1,4 +1,4 @@
-//! Outputs that fail, and what is told.
+//! Outputs that fail, and what is reported.
 use crate::comparing::same_at;
 use keeper_commands::KeepFault;
 use std::io::{self, Write};
@@ -25,7 +25,7 @@ impl Write for Full {
     }
 }
 
-/// The exit status that goes with what is told: none where nothing is.
+/// The exit status that goes with this report: 0 if there is none.
 fn status_of(told: &str) -> u8 {
     match told {
         "" => 0,
@@ -34,7 +34,7 @@ fn status_of(told: &str) -> u8 {
     }
 }
 
-/// Sees that a job ended so: with this told, and its status; or done, where nothing is told.
+/// Checks that a job ended so: with this report, and its status; or done, if there is no report.
 pub(crate) fn is_told(rt: &(impl AllocGlobal + Abort), ended: Result<(), KeepFault>, told: &str) {
     let mut text = Vec::new(rt.alloc());
     let mut status = 0;

@@ -1,5 +1,5 @@
-//! Maps, pages, posters and tiles of the blank disk for two tills with bytes changed, compared by length and Adler-32 with
-//! those that a plain program (tests/pages.py) printed of the same disks; and what is refused.
+//! Maps, pages, posters and tiles of the blank disk for two tills with bytes changed, and what is refused. A plain
+//! program (tests/pages.py) printed those of these disks; length and Adler-32 are compared with those.
 use crate::comparing::same_at;
 use crate::disks::{Change, changed};
 use disk_layout::Fault;
@@ -18,17 +18,17 @@ struct Row {
     told: &'static str,
     /// The length of the map, and its Adler-32.
     map: (usize, u32),
-    /// The same of the page.
+    /// The length of the page, and its Adler-32.
     picture: (usize, u32),
-    /// The same of the poster.
+    /// The length of the poster, and its Adler-32.
     poster: (usize, u32),
-    /// The same of the tile of `a.d64`.
+    /// The length of the tile of `a.d64`, and its Adler-32.
     tile: (usize, u32),
 }
 
-/// The blank disk; a program file whose block links to itself; a name with all that HTML escapes beside a free bit of a
-/// block; an open entry; a name of the disk that would be a script, beside a sector that is taken and of no file; and 32
-/// entries, of which the 27th has a block.
+/// The blank disk; a program file whose block links to itself; a name with all that HTML escapes, and a free bit of a
+/// block; an open entry. Then a name of the disk that would be a script, with a sector that is taken and of no file; and
+/// 32 entries, of which the 27th has a block.
 const DRAWN: [Row; 6] = [
     Row {
         changes: &[],
@@ -128,7 +128,7 @@ pub(crate) fn adler(bytes: &[u8]) -> u32 {
     high.wrapping_mul(65_536).wrapping_add(low)
 }
 
-/// Sees that a job ended so: with this fault of the disk told, or with none.
+/// Checks that a job ended so: with this fault of the disk reported, or with none.
 pub(crate) fn is_found(
     rt: &(impl AllocGlobal + Abort),
     ended: Result<Option<Fault>, PictureFault>,
@@ -148,7 +148,7 @@ pub(crate) fn is_found(
     same_at(rt, text.as_slice(), told.as_bytes(), "told");
 }
 
-/// Sees that these disks are drawn so.
+/// Checks that these disks are drawn so.
 fn are_drawn(rt: &(impl Abort + AllocGlobal), rows: &[Row]) {
     for row in rows {
         let disk = changed(rt, row.changes);
@@ -182,7 +182,7 @@ fn are_drawn(rt: &(impl Abort + AllocGlobal), rows: &[Row]) {
     }
 }
 
-/// Sees that nothing is drawn of this image, and why.
+/// Checks that nothing is drawn of this image, and why.
 fn isnt_drawn(rt: &(impl Abort + AllocGlobal), image: &[u8], told: &str) {
     let mut out = Vec::new(rt.alloc());
     is_found(rt, map_image(rt.alloc(), image, &mut out), told);

@@ -37,7 +37,7 @@ fn count_lines(text: &[u8]) -> u32 {
     count
 }
 
-/// Sees that the lines begin so.
+/// Checks that the lines begin so.
 fn are_printed(rt: &(impl Abort + AllocGlobal), rows: &[(CharacterSet, &str)]) {
     for &(set, first) in rows {
         let disk = changed(rt, RECORDS);
@@ -55,7 +55,7 @@ fn are_printed(rt: &(impl Abort + AllocGlobal), rows: &[(CharacterSet, &str)]) {
     }
 }
 
-// Nothing is printed of another size, and an output that fails is told.
+// Nothing is printed of another size, and an output that fails is reported.
 #[test]
 fn records_are_readable(rt: HostRuntime) {
     are_printed(&rt, &LINES);
@@ -86,7 +86,7 @@ const TEXTS: [(CharacterSet, &str); 2] = [
     (CharacterSet::Mixed, "Dear \"x\",\n\\12"),
 ];
 
-/// Sees that its text is this.
+/// Checks that its text is this.
 fn are_read(rt: &(impl Abort + AllocGlobal), rows: &[(CharacterSet, &str)]) {
     for &(set, text) in rows {
         let disk = changed(rt, LETTER);

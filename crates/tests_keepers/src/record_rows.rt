@@ -1,5 +1,5 @@
-//! What is printed of relative files: records of 1, 2, 100, 127 and 254 bytes, one of which was written, also one
-//! that goes on in the next block; files without records; and what is refused.
+//! What is printed of relative files. They have records of 1, 2, 100, 127 and 254 bytes, one of which was written, also
+//! one that goes on in the next block. Files without records; and what is refused.
 use crate::comparing::same_at;
 use crate::disks::{Change, changed, with_record};
 use crate::outputs::{Full, is_told};
@@ -7,8 +7,8 @@ use keeper_commands::{KeepFault, RecordForm, records_image};
 use std::io::Write;
 use std::process::Abort;
 
-/// A file's name, how long a record is, the one that is written, its bytes and their text, and how many records there
-/// are then: all whole ones in the blocks that the file has.
+/// A file's name, how long a record is, the one that is written, its bytes and their text. Then how many records there
+/// are: all whole ones in the blocks that the file has.
 pub(crate) type Made = (&'static [u8], u8, u32, &'static [u8], &'static str, u32);
 
 pub(crate) const MADE: [Made; 6] = [
@@ -44,7 +44,7 @@ pub(crate) fn lines(rt: &impl AllocGlobal, count: u32, written: u32, text: &str)
     lines
 }
 
-/// Sees that the records of each file are printed.
+/// Checks that the records of each file are printed.
 fn are_printed(rt: &(impl Abort + AllocGlobal), rows: &[Made]) {
     for &(name, size, number, bytes, text, count) in rows {
         assert!(rt;
@@ -65,8 +65,8 @@ fn records_are_printed(rt: HostRuntime) {
     are_printed(&rt, &MADE);
 }
 
-/// Changes of the blank disk, the name that is asked for, and what is told. Where a last index is below 2 the file
-/// has no record, and nothing is printed; the loop and the links are in a file that isn't asked for.
+/// Changes of the blank disk, the name that is asked for, and what is reported. If a last index is below 2, the file has
+/// no record, and nothing is printed. The loop and the links are in a file that isn't asked for.
 const REFUSED: [(&[Change], &[u8], &str); 9] = [
     (&[(17, 0, 1, &[1])], b"STOCK", ""),
     (&[(17, 0, 1, &[0])], b"STOCK", ""),
@@ -80,7 +80,7 @@ const REFUSED: [(&[Change], &[u8], &str); 9] = [
     (&[(18, 1, 2, &[0x04])], b"STOCK", "LAYOUT UNCLOSED 18/1"),
 ];
 
-/// Sees that this is told of each disk, and nothing printed.
+/// Checks that this is reported of each disk, and nothing printed.
 fn are_refused(rt: &(impl Abort + AllocGlobal), rows: &[(&[Change], &[u8], &str)]) {
     for &(changes, name, told) in rows {
         let disk = changed(rt, changes);
@@ -91,7 +91,7 @@ fn are_refused(rt: &(impl Abort + AllocGlobal), rows: &[(&[Change], &[u8], &str)
     }
 }
 
-// An image of another size is refused before its name is looked for; an output that fails is told.
+// An image of another size is refused before its name is looked for; an output that fails is reported.
 #[test]
 fn records_are_refused(rt: HostRuntime) {
     are_refused(&rt, &REFUSED);

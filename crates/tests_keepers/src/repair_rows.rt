@@ -10,8 +10,8 @@ use std::process::Abort;
 /// A sector that the map calls taken and nobody owns: 2/5, whose bit is one of byte 9, with the count of track 2.
 const STRAY: Change = (18, 0, 8, &[20, 0xDF]);
 
-/// Changes, what is printed, and what is told: a clean disk; track 1's count in the map, the block count of STOCK, a
-/// pointer of its side sector behind those to its blocks, and all three; a loop; an open entry beside a wrong map.
+/// Changes, what is printed, and what is reported. A clean disk. Track 1's count in the map, the block count of STOCK, a
+/// pointer of its side sector after those to its blocks, and all three. Then a loop, and an open entry with a wrong map.
 const REPAIRED: [(&[Change], &str, &str); 7] = [
     (&[], "OK\n", ""),
     (&[(18, 0, 4, &[20])], "MENDED 18/0\nOK\n", ""),
@@ -47,7 +47,7 @@ fn repaired<W: Write>(
     }
 }
 
-/// Sees that a repair ended so: with this told; or done, with so many sectors left, where nothing is told.
+/// Checks that a repair ended so: with this report; or done, with so many sectors left, if there is no report.
 fn is_ended(rt: &(impl Abort + AllocGlobal), ended: Result<u16, KeepFault>, told: &str, left: u16) {
     let (ended, count) = match ended {
         Ok(count) => (Ok(()), count),
@@ -57,7 +57,7 @@ fn is_ended(rt: &(impl Abort + AllocGlobal), ended: Result<u16, KeepFault>, told
     same_at(rt, count, left, told);
 }
 
-/// Sees that this is printed and told of a disk with these changes, and that it becomes that with those.
+/// Checks that this is printed and reported of a disk with these changes, and that it becomes that with those.
 fn becomes(
     rt: &(impl Abort + AllocGlobal),
     changes: &[Change],
@@ -74,8 +74,8 @@ fn becomes(
     same_at(rt, same, true, printed);
 }
 
-/// Sees that this is printed and told of each disk, whatever is asked of unowned sectors: there are none. Where it is
-/// mended it is the blank disk again, else it is as it was.
+/// Checks that this is printed and reported of each disk, whatever is asked of unowned sectors: there are none. A mended
+/// disk is the blank disk again; otherwise it is as it was.
 fn are_repaired(rt: &(impl Abort + AllocGlobal), rows: &[(&[Change], &str, &str)]) {
     for &(changes, printed, told) in rows {
         for free in [false, true] {
@@ -94,8 +94,8 @@ fn disks_are_repaired(rt: HostRuntime) {
 }
 
 /// Changes of disks with sectors that the map calls taken and nobody owns; what is printed, how many are left, and the
-/// changes that are left; and what is printed where they are freed: one; one whose track's count is of before; one
-/// beside a free block of REQUESTS, 17/2; two on track 35, behind 18/0; ten on track 1.
+/// changes that are left; and what is printed if they are freed. One sector; one whose track's count is that of before;
+/// one with a free block of REQUESTS, 17/2; two on track 35, after 18/0; ten on track 1.
 const STRAYS: [(&[Change], &str, u16, &[Change], &str); 5] = [
     (
         &[STRAY],
@@ -135,7 +135,7 @@ FREED 1/9\nMENDED 18/0\nMENDED 18/1\nOK\n",
     ),
 ];
 
-// What nobody owns stays taken, or is freed where that is asked for, and the disk is the blank one then.
+// What nobody owns stays taken, or is freed if that is asked for, and then the disk is the blank one.
 #[test]
 fn unowned_sectors_are_left_or_freed(rt: HostRuntime) {
     for &(changes, printed, left, kept, freed) in &STRAYS {
@@ -144,7 +144,7 @@ fn unowned_sectors_are_left_or_freed(rt: HostRuntime) {
     }
 }
 
-/// Disks that are refused as they are, and what is told: GEOS's signature, of two versions, and beside a loop; a format
+/// Disks that are refused as they are, and what is reported: GEOS's signature, of two versions, and with a loop; a format
 /// byte of another drive, and of none.
 const REFUSED: [(&[Change], &str); 5] = [
     (&[STRAY, (18, 0, 173, b"GEOS format V1.0")], "GEOS"),
@@ -157,8 +157,8 @@ const REFUSED: [(&[Change], &str); 5] = [
     (&[(18, 0, 2, &[0])], "FORMAT"),
 ];
 
-// A disk of GEOS, and one of another format, are refused also where unowned sectors are to be freed. A name that is like
-// the signature is none.
+// A disk of GEOS, and one of another format, are refused even if unowned sectors are to be freed. A name that is like the
+// signature is none.
 #[test]
 fn disks_of_other_kinds_are_refused(rt: HostRuntime) {
     for &(changes, told) in &REFUSED {

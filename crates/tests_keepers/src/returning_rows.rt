@@ -19,8 +19,8 @@ fn printed(rt: &(impl Abort + AllocGlobal), image: &[u8], name: &[u8]) -> Vec<u8
     text
 }
 
-/// Sees that the text of each file, stored in a new file of the record length, gives these records: the one that was
-/// written is printed, since all others are empty there, and then the same text.
+/// Checks that the text of each file, stored in a new file of the record length, gives these records. Only the one that
+/// was written is printed, since all others are empty there. Then the new file gives that text.
 fn come_back(rt: &(impl Abort + AllocGlobal), rows: &[Made]) {
     for &(name, size, number, bytes, written, count) in rows {
         assert!(rt;
@@ -47,7 +47,7 @@ fn records_come_back(rt: HostRuntime) {
     come_back(&rt, &MADE);
 }
 
-// Over a file that has more records those behind stay: of 28 records the first 14 are those of the blank disk.
+// In a file that has more records the others stay: of 28 records the first 14 are those of the blank disk.
 #[test]
 fn records_behind_stay(rt: HostRuntime) {
     let blank = changed(&rt, &[]);

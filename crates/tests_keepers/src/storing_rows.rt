@@ -1,5 +1,5 @@
-//! Records stored from a text on the blank disk for two tills, of whose STOCK 14 records of 18 bytes are there, none of
-//! them written: what is printed and told, and what the disk has then.
+//! Records stored from a text on the blank disk for two tills: what is printed and reported, and what the disk has then.
+//! Its STOCK has 14 records of 18 bytes, none of them written.
 use crate::comparing::same_at;
 use crate::disks::{Change, changed};
 use crate::outputs::{Full, is_told};
@@ -26,7 +26,7 @@ pub(crate) fn stored<W: Write>(
     }
 }
 
-/// Sees that this is printed of the text, told, and that the file has these lines first then.
+/// Checks that this is printed of the text and reported, and that then the file has these lines first.
 fn is_stored(
     rt: &(impl Abort + AllocGlobal),
     before: &MemDisk,
@@ -59,7 +59,7 @@ fn is_stored(
     after
 }
 
-/// Sees that this is told of the text, and nothing printed or written.
+/// Checks that this is reported of the text, and nothing printed or written.
 fn is_refused(rt: &(impl Abort + AllocGlobal), before: &MemDisk, text: &str, told: &str) {
     let mut out = Vec::new(rt.alloc());
     let (ended, after) = stored(rt, before.bytes(), b"STOCK", text.as_bytes(), &mut out);
@@ -68,8 +68,8 @@ fn is_refused(rt: &(impl Abort + AllocGlobal), before: &MemDisk, text: &str, tol
     same_at(rt, after.bytes() == before.bytes(), true, told);
 }
 
-// A line as it is printed, one without quotation marks and with a CR, one behind the last record: 28 records of 18
-// bytes are in two blocks; of two lines of record 3 the last counts. Stored again, nothing is printed or written.
+// A line as it is printed, one without quotation marks and with a CR, and one past the last record: 28 records of 18
+// bytes are in two blocks. If two lines are of record 3, the last counts. Stored again, nothing is printed or written.
 #[test]
 fn records_are_stored(rt: HostRuntime) {
     let text = "3,\"MILK\\0d\"\n1,\\ffx\\22\r\n15,\"A,B\"\n3,\"MILK\\0d\\00\"\n";
@@ -90,8 +90,8 @@ fn records_are_stored(rt: HostRuntime) {
     is_told(&rt, ended, "FILE");
 }
 
-// Of lines of one record that differ the last counts, and is stored in its turn. Stored again, nothing is printed or
-// written; nor where the last one is as the record was already.
+// If lines of one record differ, the last counts, and is stored in its turn. Stored again, nothing is printed or written;
+// nor is it if the last one is what the record has already.
 #[test]
 fn last_lines_are_stored(rt: HostRuntime) {
     let text = "3,A\n1,B\n3,C\n2,X\n1,B\n";
@@ -110,9 +110,9 @@ fn last_lines_are_stored(rt: HostRuntime) {
     same_at(&rt, same.bytes() == blank.bytes(), true, "as they were");
 }
 
-/// Texts and what is told: a second line that is no record's, of nineteen bytes, of several columns, of number 0, behind
-/// a byte order mark, past the last record that a file of 720 blocks has, and so many that the 660 free blocks don't
-/// suffice.
+/// Texts and what is reported. The second line is no record's, or of nineteen bytes, of several columns, or of number 0.
+/// It stands after a byte order mark. It is past the last record that a file of 720 blocks has. There are so many that
+/// the 660 free blocks don't suffice.
 const REFUSED: [(&str, &str); 7] = [
     ("1,\"A\"\n1;\"B\"\n", "RECORDS LINE 2"),
     ("1,\"A\"\n2,0123456789012345678\n", "RECORDS LINE 2"),
@@ -123,7 +123,7 @@ const REFUSED: [(&str, &str); 7] = [
     ("1,A\n10160,B\n", "DISK FULL"),
 ];
 
-/// Changes of the blank disk, and what is told: the map's count of track 1, and STOCK an entry of another type.
+/// Changes of the blank disk, and what is reported: the map's count of track 1, and STOCK an entry of another type.
 const NOT_CLEAN: [(&[Change], &str); 2] = [
     (&[(18, 0, 4, &[20])], "LAYOUT MAPWRONG 18/0"),
     (&[(17, 2, 0, &[17, 2])], "LAYOUT LOOP 17/2"),

@@ -3,8 +3,8 @@ use crate::comparing::same_at;
 use byte_text::{read_text, write_text};
 use std::process::Abort;
 
-/// Bytes and their text: letters and signs of the names of disks, shifted letters, a shifted space within, the bytes
-/// at both ends of those that stand for themselves, and those two among them that don't.
+/// Bytes and their text: letters and signs of the names of disks, shifted letters, and a shifted space within. Then the
+/// bytes at both ends of those that stand for themselves, and the two among them that don't.
 const TEXTS: [(&[u8], &[u8]); 9] = [
     (b"", b""),
     (b"<SCRIPT>&", b"<SCRIPT>&"),
@@ -23,7 +23,7 @@ const NO_TEXTS: [&[u8]; 11] = [
     b"\\41", b"\\20", b"\\FF", b"\\f", b"\\", b"A\\g0", b"\"", b"A\n", b"\x7F", b"\xA0", b"\0",
 ];
 
-/// Sees that each row is printed and read back.
+/// Checks that each row is printed and read back.
 fn are_texts(rt: &(impl Abort + AllocGlobal), rows: &[(&[u8], &[u8])]) {
     for &(bytes, text) in rows {
         let mut out = Vec::new(rt.alloc());
@@ -39,7 +39,7 @@ fn are_texts(rt: &(impl Abort + AllocGlobal), rows: &[(&[u8], &[u8])]) {
     }
 }
 
-/// Sees that none of them is read.
+/// Checks that none of them is read.
 fn are_no_texts(rt: &impl Abort, rows: &[&[u8]]) {
     for &text in rows {
         same_at(rt, read_text(text).is_none(), true, text);

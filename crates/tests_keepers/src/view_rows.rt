@@ -1,5 +1,6 @@
-//! What is printed of a disk that isn't judged, and of tracks 1 to 35 of images of other sizes: the blank disk for two
-//! tills with bytes changed. Texts are compared by length and Adler-32 with those of a plain program (tests/views.py).
+//! What is printed of a disk that isn't checked, and of tracks 1 to 35 of images of other sizes. The disk is the blank
+//! one for two tills with bytes changed. Texts are compared by length and Adler-32 with those of a plain program
+//! (tests/views.py).
 use crate::comparing::same_at;
 use crate::disks::{Change, changed};
 use crate::outputs::Full;
@@ -12,8 +13,8 @@ use std::process::Abort;
 /// A disk, a sector of it, and the length and the Adler-32 of what is printed of that.
 type Row = (&'static [Change], (u8, u8), (usize, u32));
 
-/// A block of REQUESTS; a side sector; the map; the directory; a free sector; one that is taken and of no file; a block
-/// of a disk whose directory leaves track 18, and one whose link leaves the disk; and a byte of each kind.
+/// A block of REQUESTS; a side sector; the map; the directory; a free sector; one that is taken and of no file. Then a
+/// block of a disk whose directory leaves track 18, one whose link leaves the disk, and a byte of each kind.
 const SECTORS: [Row; 9] = [
     (&[], (17, 2), (1188, 263966860)),
     (&[], (17, 1), (1180, 1403898494)),
@@ -33,12 +34,12 @@ const KINDS: &[u8] = b"\x1f ?@Z[\\]^_`\x7f\x80\x9f\xa0\xbf\xc0\xdf\xe0\xfe\xff";
 const BLOCK_END: &str = "f0  00 00 00 00 00 00 00 00 00 00 00 00 00 00 00 00  ................\n\
 OWNER BLOCK b 2 \"REQUESTS\" REL LENGTH 127 RECORDS 2\nLINK END 255\n";
 
-/// Error bytes that aren't 1: an image, with what it has behind its tracks; their indices and numbers; the link of 17/2;
+/// Error bytes that aren't 1: an image, with what it has after its tracks; their indices and numbers; the link of 17/2;
 /// and what is reported.
 type Trim = (usize, &'static [(usize, u8)], [u8; 2], &'static str);
 
-/// All sectors read; two that weren't; a file that goes on on track 36; both on 40 tracks, where errors past track 35
-/// aren't told; and bytes that the layout doesn't have.
+/// All sectors read; two that weren't; a file that goes on on track 36; and both on 40 tracks, of which errors past track
+/// 35 aren't reported. Last bytes that the layout doesn't have.
 const TRIMS: [Trim; 6] = [
     (0, &[], [0, 255], ""),
     (683, &[], [0, 255], ""),
@@ -63,7 +64,7 @@ const TRIMS: [Trim; 6] = [
     ),
 ];
 
-/// Sees that these bytes were printed.
+/// Checks that these bytes were printed.
 fn is_printed(rt: &impl Abort, out: &[u8], want: (usize, u32)) {
     same_at(rt, (out.len(), adler(out)), want, want);
 }
@@ -114,7 +115,7 @@ fn free_sectors_are_counted(rt: HostRuntime) {
     is_printed(&rt, out.as_slice(), (603, 3750922069));
 }
 
-/// Sees that nothing is printed of this, and why.
+/// Checks that nothing is printed of this, and why.
 fn is_refused(rt: &(impl Abort + AllocGlobal), image: &[u8], why: PictureFault) {
     let mut out = Vec::new(rt.alloc());
     let mut err = Vec::new(rt.alloc());
@@ -159,7 +160,7 @@ fn an_output_that_fails_is_told(rt: HostRuntime) {
     same_at(&rt, ended, Err(PictureFault::File), "sector");
 }
 
-/// An image with so many bytes behind its tracks, all 1 but for these.
+/// An image with so many bytes after its tracks, all 1 except these.
 fn longer(rt: &(impl Abort + AllocGlobal), row: &Trim) -> Vec<u8> {
     let &(more, errors, link, _) = row;
     let disk = changed(rt, &[]);

@@ -53,7 +53,7 @@ fn served(
     (fault, out.into_inner())
 }
 
-/// Sees that it ends so, with this printed.
+/// Checks that it ends so, with this printed.
 fn ends(
     rt: &(impl Abort + AllocGlobal),
     fails: Option<ErrorKind>,

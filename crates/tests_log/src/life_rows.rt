@@ -1,5 +1,5 @@
-//! The life of a log beside its image, in memory, where the power may have failed anywhere. Which image a folder gives
-//! docs/LOG.md says.
+//! The life of a log beside its image, in memory; the power may have failed at any point of it. docs/LOG.md says which
+//! image a folder gives.
 use crate::comparing::{same, same_at};
 use crate::logs::{begun, change, commit, numbered, two_touched, without};
 use log_files::{LiveLog, LogFault, LogFolder, MemFolder, Misfit, land, land_in};
@@ -87,7 +87,7 @@ fn landed(rt: &(impl Abort + AllocGlobal), image: &[[u8; 256]], log: &[u8]) -> F
     }
 }
 
-/// Behind the commit; in the middle of it; in the middle of the mark, of IMAGE, and behind IMAGE.
+/// After the commit; in the middle of it; in the middle of the mark, and of IMAGE; and after IMAGE.
 #[test]
 fn power_lost_on_the_way(rt: HostRuntime) {
     let (old, half, new) = (numbered(&rt), torn(&rt), changed(&rt));
@@ -183,7 +183,8 @@ fn a_service_begins_and_ends(rt: HostRuntime) {
     same(&rt, held(&rt, &mut folder), Found::After);
 }
 
-/// Behind the base of 46 blocks and 933 commits of one fewer than 46 of the 1,024 are free: 1,000 need a second log.
+/// After the base of 46 blocks and 933 commits of one block, fewer than 46 of the 1,024 are free: 1,000 commits need a
+/// second log.
 #[test]
 fn a_full_log_is_renewed(rt: HostRuntime) {
     let mut image = numbered(&rt);

@@ -11,8 +11,8 @@ const BEFORE: [u8; 4] = [0xe2, 0x02, 0xe0, 0x01];
 
 const AFTER: [u8; 4] = [0x80, 0xd3, 0x13, 0xae];
 
-/// Where a byte of the commit's block at 188,416 is lost: of its count, its digest, its kind, how many sectors it has, its
-/// place, an index, and the sectors' bytes.
+/// At which byte the commit's block at 188,416 is damaged: in its count, its digest, its kind, how many sectors it has,
+/// its place, an index, and the sectors' bytes.
 const LOST: [usize; 11] = [
     188_416, 188_417, 188_418, 188_425, 188_426, 188_427, 188_428, 188_432, 188_435, 188_480,
     188_991,
@@ -26,7 +26,7 @@ fn the_digest_is_sha256(rt: HostRuntime) {
     same(&rt, seen, (0xba, 0x78, 0x16, 0xbf, 0xad));
 }
 
-/// 46 blocks, and zeros behind them.
+/// 46 blocks, and zeros after them.
 #[test]
 fn a_log_begins_with_its_base(rt: HostRuntime) {
     let image = numbered(&rt);
@@ -97,7 +97,7 @@ fn a_torn_commit_does_not_count(rt: HostRuntime) {
     }
 }
 
-/// The mark is the first byte behind the blocks. It leaves the image, and closes the log.
+/// The mark is the first byte after the blocks. It leaves the image, and closes the log.
 #[test]
 fn a_mark_closes_the_log(rt: HostRuntime) {
     let image = numbered(&rt);
@@ -111,7 +111,7 @@ fn a_mark_closes_the_log(rt: HostRuntime) {
     same(&rt, commit(&mut log, image.as_slice(), &[true; 683]), false);
 }
 
-/// Of a file that is too short, and of one of zeros, no image is known.
+/// A file that is too short, and one with only zeros, give no image.
 #[test]
 fn a_file_without_a_base(rt: HostRuntime) {
     let short = vec![in rt.alloc(); 0; 4_194_303].expect(&rt, "there is memory");

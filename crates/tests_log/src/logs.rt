@@ -64,7 +64,7 @@ pub(crate) fn commit(log: &mut Log<MemLog>, image: &[[u8; 256]], touched: &[bool
     image.len() == 683 && !log.is_full() && log.commit(image, touched).is_ok()
 }
 
-/// The first four bytes of the SHA-256 of so many bytes from there on; zeros where there are none such.
+/// The first four bytes of the SHA-256 of so many bytes from there on; zeros if there are no such bytes.
 pub(crate) fn sum(bytes: &[u8], from: usize, count: usize) -> [u8; 4] {
     let mut first = [0; 4];
     if from <= bytes.len() && count <= bytes.len() - from {
@@ -74,7 +74,7 @@ pub(crate) fn sum(bytes: &[u8], from: usize, count: usize) -> [u8; 4] {
     first
 }
 
-/// The 20 bytes from there on; zeros where there are none such.
+/// The 20 bytes from there on; zeros if there are no such bytes.
 pub(crate) fn head(bytes: &[u8], from: usize) -> [u8; 20] {
     let mut first = [0; 20];
     if from <= bytes.len() && 20 <= bytes.len() - from {
@@ -90,7 +90,7 @@ pub(crate) fn stands_for(rt: &(impl Abort + AllocGlobal), file: &[u8]) -> (bool,
     (based, sum(image.as_slice().as_flattened(), 0, 174_848))
 }
 
-/// The same of the image that it began with.
+/// Whether the file has a base, and the sum of the image that it began with.
 pub(crate) fn began_with(rt: &(impl Abort + AllocGlobal), file: &[u8]) -> (bool, [u8; 4]) {
     let mut image = blank(rt);
     let based = image.len() == 683 && read_base(file, image.as_mut_slice());

@@ -52,7 +52,8 @@ fn on_hand(disk: MemDisk) -> Option<u32> {
     }
 }
 
-/// Each batch is committed by one write and one sync, and told before the next piece is read; the last needs neither.
+/// Each batch is committed by one write and one sync, and its replies reported before the next piece is read. The last
+/// batch needs neither.
 #[test]
 fn a_day_is_three_batches(rt: HostRuntime) {
     let disk = shop(&rt);

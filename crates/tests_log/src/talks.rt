@@ -12,7 +12,7 @@ pub(crate) struct Talk<'a> {
 }
 
 impl<'a> Talk<'a> {
-    /// Of which nothing was asked yet.
+    /// A talk of which nothing was asked yet.
     pub(crate) fn new(
         pieces: &'static [(&'static [u8], usize)],
         handed: &'a Cell<usize>,

@@ -1,4 +1,4 @@
-//! What a person at a terminal is told to do about an image that is refused, or that fails.
+//! What the program advises a person at a terminal to do about an image that is refused, or that fails.
 use crate::scenes::each;
 
 /// REQUESTS has two records of 127 bytes in a block: 1,400 want 700 blocks, of 720 that a file can have, and fewer than

@@ -140,7 +140,7 @@ fn what_is_no_shop_is_told(rt: HostRuntime) {
 }
 
 /// Messages as they come, and the replies, a write each: a repeat, a line that begins with `@`, an empty one, one that is
-/// too long; what lacks its end of line isn't handled.
+/// too long. What lacks its end of line isn't handled.
 const SERVED: &[u8] = b"
 no script
 input 1,1,S,42,120|1,1,S,42,120\r|@1 x||1,2,I,42,1                              |1,2,I,42,1

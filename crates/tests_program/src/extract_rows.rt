@@ -1,7 +1,7 @@
 //! Files taken out of an image, to a folder that is made.
 use crate::scenes::each;
 
-/// A shop's two relative files, each with its records, and the index; a disk that is hurt; and what makes nothing.
+/// A shop's two relative files, each with its records, and the index; a disk that is damaged; and what makes nothing.
 const EXTRACTED: &[u8] = b"
 $ ledger_cli extract a.d64 out
 prints EXTRACTED|

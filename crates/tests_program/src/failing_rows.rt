@@ -1,7 +1,7 @@
 //! Files and outputs that fail while a file is made, stored in or repaired.
 use crate::scenes::each;
 
-/// Stores where a sync fails.
+/// Stores in which a sync fails.
 const UNSYNCED: &[u8] = b"
 # The shop has the file CARDS, of records of 30 bytes.
 $ ledger_cli make a.d64 CARDS --length 30
@@ -79,7 +79,7 @@ fn files_that_fail_are_told(rt: HostRuntime) {
     each(&rt, BROKEN);
 }
 
-/// Each image is left the same where the output takes nothing.
+/// Each image stays as it was if the output takes nothing.
 const UNTOLD: &[u8] = b"
 # The shop has the file CARDS, of records of 30 bytes.
 $ ledger_cli make a.d64 CARDS --length 30

@@ -189,7 +189,7 @@ fn closed_files_are_told(rt: HostRuntime) {
     each(&rt, CLOSED);
 }
 
-/// An image is made over what stood there, the same as over nothing.
+/// An image is made over what stood there as over nothing.
 const REPLACED: &[u8] = b"
 size 174848
 

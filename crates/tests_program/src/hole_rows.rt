@@ -6,8 +6,7 @@ use ledger_jobs::{Job, do_job, end};
 use std::io::{self, ErrorKind, Write};
 use test_runtime::Runtime;
 
-/// A script of 3,300,000 bytes, of which the first line alone is new: without a disk, on one, and with each sector brought
-/// to the disk.
+/// A script of 3,300,000 bytes, of which only the first line is new: without a disk, on one, and with each sector synced.
 const DRY: &[u8] = b"
 script 330000*1,1,S,1,5|
 $ ledger_cli dry s.txt
@@ -65,7 +64,7 @@ fn long_records_have_their_length(rt: HostRuntime) {
     each(&rt, LENGTHS);
 }
 
-/// The folder of an image is brought to the disk behind each of its three syncs, and once more behind the log's removal.
+/// The folder of an image is synced after each of its three syncs, and once more after the log's removal.
 const ELSEWHERE: &[u8] = b"
 no image
 $ ledger_cli format in/a.d64 --tills 2
@@ -79,7 +78,7 @@ prints 1,1,DONE,5|
 written
 ";
 
-/// The same at the root.
+/// An image at the root is synced so too.
 const AT_THE_ROOT: &[u8] = b"
 no image
 $ ledger_cli format /a.d64 --tills 2

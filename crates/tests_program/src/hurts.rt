@@ -1,7 +1,7 @@
 //! Changes of an image, by name.
 use test_runtime::Stored;
 
-/// Changes of an image: a name, where bytes stand, and these bytes.
+/// Changes of an image: a name, the place of the bytes, and the bytes.
 const HURTS: [(&[u8], u64, &[u8]); 16] = [
     // 17/0 links to itself.
     (b"LOOP", 86016, b"\x11\x00"),

@@ -1,9 +1,9 @@
-//! The words of the command line: the jobs that they ask for, and the number and status of the fault where they ask for
-//! none.
+//! The words of the command line and the jobs that they ask for. If they ask for none, the number and the status of the
+//! fault.
 use crate::scenes::each;
 
-/// Words, and their job: its subcommand, its image, its script or records, and its tills, the length of its records or how
-/// many bytes its name has, where it has them.
+/// Words, and their job: its subcommand, its image, and its script or records. Then its tills, the length of its records
+/// or how many bytes its name has, if it has them.
 const JOBS: &[u8] = b"
 job ledger dry s.txt
 prints dry, , s.txt, 0
@@ -89,7 +89,7 @@ job ledger format --tills=20 a.d64
 prints format, a.d64, , 20
 ";
 
-/// Flags behind the words and before them, in any order.
+/// Flags after the words and before them, in any order.
 const FLAGS: &[u8] = b"
 job ledger format a.d64 --tills 3 --new
 prints format new, a.d64, , 3
@@ -256,8 +256,8 @@ fn tills_are_one_to_sixty_four(rt: HostRuntime) {
     each(&rt, NO_TILLS);
 }
 
-/// Capital digits, a plain byte in digits, a quotation mark, a digit too few, a shifted space at the end, seventeen bytes, no
-/// plain text. The name is judged before the length.
+/// Capital digits, a plain byte in digits, a quotation mark, a digit too few, a shifted space at the end, seventeen
+/// bytes, no plain text. The name is checked before the length.
 const NO_NAMES: &[u8] = b"
 job ledger records a.d64 \\C1
 prints fault 3, status 2

@@ -1,4 +1,4 @@
-//! The job that words ask for, told in a line.
+//! The job that words ask for, printed in a line.
 use crate::runs::texts_of;
 use command_line::command_line;
 use keeper_commands::{ByteForm, RecordForm};
@@ -13,8 +13,8 @@ use std::cell::RefCell;
 use std::io::Write;
 use test_runtime::Errors;
 
-/// A job: its subcommand, its image, its script or records, and its tills, the length of its records, how many bytes its
-/// name has, or the sum of its track and its sector, where it has them.
+/// A job: its subcommand, its image, and its script or records. Then its tills, the length of its records, how many bytes
+/// its name has, or the sum of its track and its sector, if it has them.
 type Row<'a> = (&'a str, &'a str, &'a str, u8);
 
 /// How many bytes a name has.

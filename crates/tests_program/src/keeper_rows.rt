@@ -1,7 +1,7 @@
 //! What a keeper asks of an image: its repair, what is taken out of it, and how it is drawn.
 use crate::scenes::each;
 
-/// Images that are repaired, each sector brought to the disk before the next is written, and before the first is read.
+/// Images that are repaired: each sector is synced before the next is written, and before the first is read.
 const REPAIRED: &[u8] = b"
 $ ledger_cli repair a.d64
 prints OK|
@@ -66,8 +66,8 @@ fn images_are_repaired(rt: HostRuntime) {
     each(&rt, REPAIRED);
 }
 
-/// Images with a sector that nobody owns, which stays or is freed; what a person is told of it; and a repair that writes
-/// nothing: it reads the image as `show` does, and ends as the other.
+/// Images with a sector that nobody owns, which stays or is freed, and what a person reads about it. Then a repair that
+/// writes nothing: it reads the image as `show` does, and ends as the other.
 const UNOWNED: &[u8] = b"
 hurt COUNT
 hurt UNOWNED
@@ -118,7 +118,7 @@ fn unowned_sectors_stay_or_are_freed(rt: HostRuntime) {
     each(&rt, UNOWNED);
 }
 
-/// What is taken out of images. A sound disk needn't be clean; the layout is judged before the name.
+/// What is taken out of images. A sound disk needn't be clean; the layout is checked before the name.
 const TAKEN: &[u8] = b"
 $ ledger_cli records a.d64 REQUESTS
 prints 1,\"\\ff\"|2,\"\\ff\"|
@@ -195,7 +195,7 @@ fn files_are_taken_out(rt: HostRuntime) {
     each(&rt, TAKEN);
 }
 
-/// What an image is drawn as: the first lines of a map where track 1 is free, and a page.
+/// What an image is drawn as: the first lines of a map if track 1 is free, and a page.
 const DRAWN: &[u8] = b"
 $ ledger_cli map a.d64
 prints    0         1         2|   012345678901234567890| 1 .....................|..

@@ -16,7 +16,7 @@ fn counted(memory: &Memory, word: &[u8]) -> Option<usize> {
     }
 }
 
-/// Whether each sector was brought to the disk before the next was written.
+/// Whether each sector was synced before the next was written.
 fn is_synced(image: &Stored) -> bool {
     let counted = image.writes.get().saturating_add(1);
     image.syncs.get() == counted && image.most_waiting.get() <= 1

@@ -1,7 +1,7 @@
 //! Shops that are served over a log, and what the words do beside one.
 use crate::scenes::each;
 
-/// Lines are told once the log has them, and the log is landed at the end.
+/// Replies are printed after the log has their lines, and the log is landed at the end.
 const SERVED: &[u8] = b"
 input 1,1,S,1,5|1,2,R,1,4|1,2,R,1,4|hello|
 $ ledger_cli serve a.d64
@@ -48,7 +48,8 @@ fn lines_are_served_over_a_log(rt: HostRuntime) {
     each(&rt, SERVED);
 }
 
-/// A commit that fails isn't told, and its log stays: it has the shop from then on, and the next that writes lands it.
+/// A commit that fails isn't answered, and its log stays. The log has the shop from then on, and the next job that writes
+/// lands it.
 const LEFT: &[u8] = b"
 input 1,1,S,1,5|
 log-sync 3 fails

@@ -2,7 +2,7 @@
 //! a terminal would obey a part.
 use crate::scenes::each;
 
-/// A name is looked at before its file is opened, once more behind the lock, and then before each reply.
+/// A name is looked at before its file is opened, once more after the lock, and then before each reply.
 const GONE: &[u8] = b"
 gone 2
 $ ledger_cli serve --in-place a.d64

@@ -8,7 +8,7 @@ use std::io::{self, Write};
 use std::process::Abort;
 use test_runtime::Runtime;
 
-/// Outputs that are full. Of two lines of record 1 the last counts.
+/// Outputs that are full. If two lines are of record 1, the last counts.
 const FULL: &[u8] = b"
 script 1,1,S,1,5|1,2,S,1,6|
 input 1,1,S,1,5|1,2,S,1,6|
@@ -161,7 +161,7 @@ impl Write for Kept {
     }
 }
 
-/// Sees that the job ends with status 3 over an output that hands nothing on.
+/// Checks that the job ends with status 3 over an output that hands nothing on.
 fn hands_on(rt: &(impl AllocGlobal + Abort), job: &Job<'static>, printed: usize)
     requires { IsFit job.now }
 {
@@ -265,7 +265,7 @@ fn files_fail(rt: HostRuntime) {
     each(&rt, BROKEN);
 }
 
-/// An image isn't made where no more than this is taken.
+/// An image isn't made if no more than this is taken.
 const ROOM: &[u8] = b"
 no image
 disk-takes 0 bytes

@@ -1,7 +1,7 @@
-//! Which refusal is told where several would be right.
+//! Which refusal is reported if several would be right.
 use crate::scenes::each;
 
-/// Of an image of another size, and of records of which the first line is none: each row has a fault less than the one
+/// Refusals of an image of another size, and of records whose first line is none. Each row has a fault less than the one
 /// before.
 const OF_STORE: &[u8] = b"
 image short
@@ -41,7 +41,7 @@ tells IMAGE SIZE|
 ends 1
 ";
 
-/// The same of other jobs.
+/// Refusals of other jobs.
 const OF_OTHERS: &[u8] = b"
 image short
 others reading

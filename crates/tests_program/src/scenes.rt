@@ -1,8 +1,8 @@
 //! Rows as texts: what stands where the program is run, its command line, and what it leaves.
 //!
 //! A row ends at an empty line. At its beginning the image of a shop stands at `a.d64` and the script `1,1,S,1,5` at
-//! `s.txt`, nothing is on standard input, and nothing fails. A line begins with a word; its text is what stands behind
-//! the space, with `|` for the end of a line and `3*` for what stands there three times.
+//! `s.txt`, nothing is on standard input, and nothing fails. A line begins with a word; its text is what stands after the
+//! space, with `|` for the end of a line and `3*` for what stands there three times.
 //!
 //! What the program finds:
 //! - `image`, `script`, `input`: a file at `a.d64` or `s.txt`, or standard input, with this text; `feed`: the image
@@ -13,26 +13,26 @@
 //!   aside
 //! - `hurt`: a change of the image (`hurts`); `resize`: its bytes, by cutting it or by zeros
 //!
-//! What fails, in the next run alone:
-//! - `sync`, `folder-sync`, `log-sync`: the call of this number that brings the image, the folder or the log to the disk
-//! - `disk-takes`, `output-takes`: so many bytes are taken; `input-fails`: behind its bytes
-//! - `others`: another program has the image `alone`, or is `reading` it; or the system can't say (`unknown`)
+//! What fails, only in the next run:
+//! - `sync`, `folder-sync`, `log-sync`: the call of this number that syncs the image, the folder or the log
+//! - `disk-takes`, `output-takes`: so many bytes are taken; `input-fails`: after its bytes
+//! - `others`: another program has the image `alone`, or is `reading` it; or the system doesn't know (`unknown`)
 //! - `unreadable`: the image can be opened, and reading it fails
 //! - `gone`, `cut`: from this look at its name on the image is elsewhere, or has half of its bytes
 //!
-//! The run, by a command line as a shell splits it: `$` with standard error that no person reads, `person` with one who
-//! does, `waiting` with one who doesn't see the output. `job` only prints which job the command line asks for, by
+//! The run, by a command line as a shell splits it: `$` with standard error that no person reads, `person` with a person
+//! who reads it, `waiting` with one who doesn't see the output. `job` only prints which job the command line asks for, by
 //! `ledger_cli::job`. `run` does that job by `ledger_cli::run`, over the bytes of `a.d64` and `s.txt` or standard input.
 //!
-//! What it leaves; of what isn't named nothing is printed or told, the status is 0, nothing is written, and standard
-//! input isn't opened by its name. In every row no other file is made, changed, renamed or removed:
+//! What it leaves. If no line names them, nothing is printed or reported, the status is 0, nothing is written, and
+//! standard input isn't opened by its name. In every row no other file is made, changed, renamed or removed:
 //! - `prints`, `tells`, `ends`: the output, standard error, the status; a text that ends with `..` is its beginning, one
 //!   that begins with `..` too a part of it
-//! - `written`: the image is another; `rewritten`: it was written, and is the same; `leaves` with `the shop`, `another`
+//! - `written`: the image is another; `rewritten`: it was written, and is as it was; `leaves` with `the shop`, `another`
 //!   or `the one aside`
 //! - `size`, `at-most`: its bytes; `writes`, `syncs`, `folder-syncs`: how many there were; `reads-behind`: how many syncs
 //!   before it was read; `pieces`: in how many writes the output was taken
-//! - `synced`: one sync before the first write, and one behind each
+//! - `synced`: one sync before the first write, and one after each
 //! - `logged`: a log stands beside the image, which no line needs to say if there is none
 //! - `unlocked`: the image was read without a lock, as a script
 //! - `makes`: so many files were made in the folder `out`, which was made before
@@ -58,7 +58,7 @@ pub(crate) struct Scene {
     pub(crate) aside: Stored,
     /// Whether a line spoke of a log that stands there.
     pub(crate) logged: Cell<bool>,
-    /// Whether a line spoke of an image that was written, and whether all that the last run left is known to be told.
+    /// Whether a line spoke of an image that was written, and whether all that the last run left was named.
     pub(crate) written: Cell<bool>,
     pub(crate) told: Cell<bool>,
 }
@@ -180,7 +180,7 @@ fn begins(scene: &Scene) -> bool {
         && memory.input.hold(Kind::Plain, b"")
 }
 
-/// Does what a line says, or sees that it is so. Whether it is.
+/// Does what a line says, or checks that it is so. Whether it is.
 fn holds(scene: &Scene, line: &[u8]) -> bool {
     let (word, rest) = cut(line, b' ').unwrap_or((line, b""));
     match word {
@@ -199,7 +199,7 @@ fn holds(scene: &Scene, line: &[u8]) -> bool {
         || is_told(scene) && finds(scene, word, text)
 }
 
-/// Sees that each line of these rows holds.
+/// Checks that each line of these rows holds.
 fn each_line(rt: &impl Abort, scene: &Scene, rows: &[u8]) {
     for line in rows.split(|byte| *byte == b'\n') {
         let holds = line.starts_with(b"#") || holds(scene, line);
@@ -245,7 +245,7 @@ pub(crate) fn first_scene(rt: &(impl AllocGlobal + Abort)) -> Scene {
     scene
 }
 
-/// Sees that these rows hold.
+/// Checks that these rows hold.
 pub(crate) fn each(rt: &(impl AllocGlobal + Abort), rows: &[u8]) {
     each_line(rt, &first_scene(rt), rows);
 }

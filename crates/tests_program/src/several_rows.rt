@@ -1,7 +1,7 @@
 //! What is asked of several images: each line begins with the name of the image that it is about.
 use crate::scenes::each;
 
-/// Images that are judged, with those that can't be.
+/// Images that are checked, with those that can't be.
 const CHECKED: &[u8] = b"
 $ ledger_cli check a.d64 a.d64
 prints a.d64: OK|a.d64: OK|
@@ -95,7 +95,7 @@ fn images_are_described(rt: HostRuntime) {
     each(&rt, DESCRIBED);
 }
 
-/// The jobs that words with several images ask for; `run` has the bytes of one alone.
+/// The jobs that words with several images ask for; `run` has the bytes of only one.
 const ASKED: &[u8] = b"
 job ledger check a.d64 b.d64
 prints check several, a.d64, b.d64, 2

@@ -1,8 +1,8 @@
 //! Relative files that are made on an image, and records that are stored in them.
 use crate::scenes::each;
 
-/// Files that are made, and why they aren't: the layout is judged before the name. Each sector is brought to the disk
-/// before the next is written, and all before the first byte is read.
+/// Files that are made, and why they aren't: the layout is checked before the name. Each sector is synced before the next
+/// is written, and all before the first byte is read.
 const MADE: &[u8] = b"
 $ ledger_cli make a.d64 CARDS --length 30
 prints MADE|

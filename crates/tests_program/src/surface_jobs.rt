@@ -35,7 +35,7 @@ fn parts<'a>(job: &Job<'a>) -> (&'static str, &'a str, &'a str, u8) {
     }
 }
 
-/// Sees that a job ends with this status, having printed this and told that. What it did to its file is left there.
+/// Checks that a job ends with this status, after it printed and reported these. What it did to its file is left there.
 fn ends(
     rt: &(impl Abort + AllocGlobal),
     job: &Job<'_>,
@@ -100,7 +100,7 @@ fn handed_back(
     (status, file.expect(rt, "the file"))
 }
 
-// An image has 174,848 bytes. Of a file with two more the image takes all but the last two.
+// An image has 174,848 bytes. From a file with two more it takes all but the last two.
 #[test]
 fn files_are_handed_back(rt: HostRuntime) {
     let image = formatted(&rt).into_inner();

@@ -1,8 +1,8 @@
-//! Images that are brought to the disk.
+//! Images that are synced.
 use crate::scenes::each;
 
-/// How plays and shops that are served bring an image to the disk: at the end, or before the first write and behind each.
-/// Where that fails, a play of the same messages gives the answer then.
+/// When plays and shops that are served sync an image: at the end, or before the first write and after each. If a sync
+/// fails, a play of these messages gives the answer then.
 const SYNCED: &[u8] = b"
 script 1,1,S,42,120|
 input 1,1,S,42,120|
@@ -110,7 +110,8 @@ fn a_play_is_brought_to_the_disk(rt: HostRuntime) {
     each(&rt, SYNCED);
 }
 
-/// An image is brought to the disk with its folder before that it is made is said, and one that can't be isn't called made.
+/// An image is synced with its folder before the program prints that it is made. One that can't be synced isn't called
+/// made.
 const MADE: &[u8] = b"
 no image
 $ ledger_cli format a.d64 --tills 2

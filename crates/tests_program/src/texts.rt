@@ -2,7 +2,7 @@
 use std::alloc::Global;
 use std::cell::RefCell;
 
-/// What stands before such a byte, and what behind it.
+/// What stands before such a byte, and what after it.
 pub(crate) fn cut(text: &[u8], at: u8) -> Option<(&[u8], &[u8])> {
     for (place, byte) in text.iter().enumerate() {
         if *byte == at {
@@ -75,7 +75,7 @@ fn fits(bytes: &[u8], text: &[u8]) -> bool {
     }
 }
 
-/// Takes what was written where it is this text. Whether it is.
+/// Takes what was written if it is this text. Returns whether it is.
 pub(crate) fn took(written: &RefCell<Vec<u8>>, text: &[u8]) -> bool {
     match written.try_borrow_mut() {
         Ok(mut held) if fits(held.as_slice(), text) => {

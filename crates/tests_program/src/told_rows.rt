@@ -1,7 +1,7 @@
-//! What a person at a terminal is told below a refusal.
+//! What a person at a terminal reads below a refusal.
 use crate::scenes::each;
 
-/// What is told of files and of words.
+/// What is printed about files and words.
 const TOLD: &[u8] = b"
 no script
 no image
@@ -79,7 +79,7 @@ tells NAME|ledger: a name has 1 to 16 bytes; one that isn't plain text is a back
 ends 2
 ";
 
-/// Paths are printed without what a terminal obeys: a line feed, ESC, DEL, a control character above 127 and a mark that
+/// Paths are printed without what a terminal obeys. A line feed, ESC, DEL, a control character above 127 and a mark that
 /// turns the direction of text stand as numbers; other characters above 127 stand as they are.
 const SHOWN: &[u8] = b"
 no script
@@ -129,7 +129,7 @@ fn people_are_told_more(rt: HostRuntime) {
     each(&rt, TOLD);
 }
 
-/// What is told of a shop.
+/// What is printed about a shop.
 const OF_A_SHOP: &[u8] = b"
 script 1,1,S,1,5|@x|
 person ledger_cli play a.d64 s.txt
@@ -179,7 +179,7 @@ fn people_are_told_of_shops(rt: HostRuntime) {
     each(&rt, OF_A_SHOP);
 }
 
-/// What is told of a file that is made anew, over another one where it is there.
+/// What is printed about a file that is made anew, over another one if it is there.
 const REPLACED: &[u8] = b"
 no script
 no image
@@ -206,7 +206,7 @@ fn people_are_told_what_is_replaced(rt: HostRuntime) {
     each(&rt, REPLACED);
 }
 
-/// Who waits is told how far it is.
+/// A person who waits reads how far it is.
 const LINES: &[u8] = b"
 script 250*1,1,S,1,5|
 person ledger_cli play a.d64 s.txt

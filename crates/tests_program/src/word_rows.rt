@@ -1,7 +1,7 @@
-//! What the program ends with, prints and tells of words that ask for nothing to be done.
+//! What the program ends with, prints and reports of words that ask for nothing to be done.
 use crate::scenes::each;
 
-/// Words, what is printed and told where that is ours to say; no file is made.
+/// Words, what is printed and reported if that is ours to say; no file is made.
 const TOLD: &[u8] = b"
 # Too long records.
 no image
@@ -143,7 +143,7 @@ fn words_are_told(rt: HostRuntime) {
     each(&rt, TOLD);
 }
 
-/// What stands somewhere in what is printed or told.
+/// What stands somewhere in what is printed or reported.
 const SAID: &[u8] = b"
 no image
 no script

@@ -1,7 +1,7 @@
-//! Wrong command lines: what is told of each first, with which status, and that nothing is printed or changed.
+//! Wrong command lines: what is reported of each first, with which status, and that nothing is printed or changed.
 use crate::scenes::each;
 
-/// Of the program, and of the commands over a shop.
+/// Wrong words of the program, and of the commands over a shop.
 const OF_SHOPS: &[u8] = b"
 $
 tells error: 'ledger' requires a subcommand but one was not provided|..
@@ -149,7 +149,7 @@ fn wrong_words_are_refused(rt: HostRuntime) {
     each(&rt, OF_SHOPS);
 }
 
-/// Of the commands for keepers of disks.
+/// Wrong words of the commands for keepers of disks.
 const OF_KEEPERS: &[u8] = b"
 $ ledger_cli list
 tells error: the following required arguments were not provided:|  <IMAGE>...|..

@@ -1,5 +1,5 @@
-//! Records as columns: those that Python's `csv` writes of the fields, with marks everywhere and only where they are
-//! needed, and lines that aren't read.
+//! Records as columns: those that Python's `csv` writes of the fields, with marks everywhere and only if they are needed;
+//! and lines that aren't read.
 use crate::comparing::same_at;
 use record_columns::{
     ends_with_return, push_columns, read_columns, write_all_columns, write_columns,
@@ -24,7 +24,7 @@ const RECORDS: [(&[u8], &[u8], &[u8]); 6] = [
     (b"MILK\r 12 \r", b"\"MILK\",\" 12 \"", b"MILK, 12 "),
 ];
 
-/// Sees that each record is written so, and read from both.
+/// Checks that each record is written so, and read from both.
 fn are_columns(rt: &(impl Abort + AllocGlobal), rows: &[(&[u8], &[u8], &[u8])]) {
     for &(bytes, marked, plain) in rows {
         let mut out = Vec::new(rt.alloc());
@@ -37,7 +37,7 @@ fn are_columns(rt: &(impl Abort + AllocGlobal), rows: &[(&[u8], &[u8], &[u8])]) 
     }
 }
 
-/// Sees that the line is read as this record.
+/// Checks that the line is read as this record.
 fn are_read(rt: &impl Abort, line: &[u8], bytes: &[u8]) {
     let found = read_columns(line);
     same_at(
@@ -48,8 +48,8 @@ fn are_read(rt: &impl Abort, line: &[u8], bytes: &[u8]) {
     );
 }
 
-/// Lines that aren't read: a mark that is doubled, open, within a column, before text, a byte that is no text, and a
-/// byte with its number that stands for itself.
+/// Lines that aren't read: a mark that is doubled, open, within a column, or before text. Then a byte that is no text,
+/// and a byte with its number that stands for itself.
 const REFUSED: [&[u8]; 7] = [
     b"\"A\"\"B\"",
     b"\"A",
@@ -60,7 +60,7 @@ const REFUSED: [&[u8]; 7] = [
     b"A,\\41",
 ];
 
-/// Sees that none of them is read.
+/// Checks that none of them is read.
 fn are_refused(rt: &impl Abort, lines: &[&[u8]]) {
     for &line in lines {
         same_at(rt, read_columns(line).is_none(), true, line);
@@ -109,14 +109,14 @@ const JOINED: [(&[u8], &[u8]); 6] = [
     (b"\"KING,\\-", b"KING\""),
 ];
 
-/// Sees that these columns have this text.
+/// Checks that these columns have this text.
 fn has_text(rt: &(impl Abort + AllocGlobal), line: &[u8], text: &[u8]) {
     let mut joined = Vec::new(rt.alloc());
     let _ = push_columns(line, &mut joined);
     same_at(rt, joined.as_slice(), text, line);
 }
 
-/// Sees that each record is written so, and that its columns have its text.
+/// Checks that each record is written so, and that its columns have its text.
 fn are_all_columns(rt: &(impl Abort + AllocGlobal), rows: &[(&[u8], &[u8], &[u8])]) {
     for &(bytes, columns, text) in rows {
         let mut out = Vec::new(rt.alloc());
@@ -126,7 +126,7 @@ fn are_all_columns(rt: &(impl Abort + AllocGlobal), rows: &[(&[u8], &[u8], &[u8]
     }
 }
 
-/// Sees that each line has this text.
+/// Checks that each line has this text.
 fn are_joined(rt: &(impl Abort + AllocGlobal), rows: &[(&[u8], &[u8])]) {
     for &(line, text) in rows {
         has_text(rt, line, text);

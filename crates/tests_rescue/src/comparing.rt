@@ -2,7 +2,7 @@
 use std::fmt::Debug;
 use std::process::Abort;
 
-/// Sees that both are the same in a row of a table, which it names where they differ.
+/// Checks that two values are equal in a row of a table, and names the row if they differ.
 pub(crate) fn same_at<T: PartialEq + Debug + Drop, L: Debug + Drop>(
     rt: &impl Abort,
     got: T,

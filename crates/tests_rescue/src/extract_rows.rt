@@ -5,7 +5,7 @@ use disk_layout::Fault;
 use file_rescue::{MemFolder, extract_image};
 use std::process::Abort;
 
-/// Bytes that are written: a sector, where they begin, and the bytes.
+/// Bytes that are written: a sector, at which of its bytes they begin, and the bytes.
 type Written = (u8, u8, usize, &'static [u8]);
 
 /// A program of one block, and a locked relative file with records of two bytes, whose side sector is missing.
@@ -34,8 +34,8 @@ const FILES: [(&[u8], &[u8]); 3] = [
     (b"02-__B.csv", b"1,\"AB\"\n2,\"C\"\n"),
 ];
 
-/// What changes the disk; the row of each entry from its fourth column on, of which the fourth is the name in UTF-8; and
-/// the fault: 0 none, 1 `BadLink`, 2 `Loop`, 3 `OwnedTwice`, 4 `Unclosed`, and its sector.
+/// What changes the disk; and the row of each entry from its fourth column on, of which the fourth is the name in UTF-8.
+/// Then the fault: 0 none, 1 `BadLink`, 2 `Loop`, 3 `OwnedTwice`, 4 `Unclosed`, and its sector.
 type Row = (Written, &'static [u8], &'static [u8], (u8, u8, u8));
 
 /// A change that changes nothing.
@@ -134,7 +134,7 @@ fn index_of(rt: &(impl Abort + AllocGlobal), first: &[u8], second: &[u8]) -> Vec
     text
 }
 
-/// Sees that the folder's index has these ends of its rows.
+/// Checks that the folder's index has these ends of its rows.
 fn has_index(rt: &(impl Abort + AllocGlobal), folder: &MemFolder, row: &Row) {
     let (change, first, second, _) = row;
     let wanted = index_of(rt, *first, *second);
@@ -146,7 +146,7 @@ fn has_index(rt: &(impl Abort + AllocGlobal), folder: &MemFolder, row: &Row) {
     same_at(rt, folder.files().len(), 4, change);
 }
 
-/// Sees that each row gives its index and its fault.
+/// Checks that each row gives its index and its fault.
 fn are_extracted(rt: &(impl Abort + AllocGlobal), rows: &[Row]) {
     for row in rows {
         let disk = written(rt, &DISK, row.0);
@@ -162,7 +162,7 @@ fn indexes_have_what_is_found(rt: HostRuntime) {
     are_extracted(&rt, &ROWS);
 }
 
-/// Sees that the folder has these files first.
+/// Checks that the folder has these files first.
 fn has_files(rt: &(impl Abort + AllocGlobal), folder: &MemFolder, files: &[(&[u8], &[u8])]) {
     for (file, (name, bytes)) in folder.files().iter().zip(files) {
         same_at(rt, file.name.as_slice(), *name, name);

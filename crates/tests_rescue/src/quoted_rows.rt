@@ -4,8 +4,8 @@ use petscii_text::CharacterSet;
 use quoted_text::{OneLine, Quoted};
 use std::process::Abort;
 
-/// A set, bytes, and their text without the marks: none, a mark and two of them, lines of a club's member, a heart and
-/// control codes, and what a field of a spreadsheet may have too.
+/// A set, bytes, and their text without the marks. The bytes are: none, a mark and two of them, lines of a club's member,
+/// a heart and control codes, and what a field of a spreadsheet may have too.
 const TEXTS: [(CharacterSet, &[u8], &str); 6] = [
     (CharacterSet::Mixed, b"", ""),
     (CharacterSet::Graphics, b"\"A\"\"", "\"\"A\"\"\"\""),
@@ -23,7 +23,7 @@ const TEXTS: [(CharacterSet, &[u8], &str); 6] = [
     (CharacterSet::Mixed, b"A,\xFF'\xA0", "a,🮖'\u{a0}"),
 ];
 
-/// Sees that each is displayed so, and between marks.
+/// Checks that each is displayed so, and between marks.
 fn are_quoted(rt: &(impl Abort + AllocGlobal), rows: &[(CharacterSet, &[u8], &str)]) {
     for &(set, bytes, wanted) in rows {
         let text = format!(in rt.alloc(); "{}", OneLine { set, bytes }).expect(rt, "memory");

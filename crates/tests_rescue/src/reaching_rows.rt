@@ -102,7 +102,7 @@ fn entry(kind: u8, track: u8, sector: u8) -> Slot {
     }
 }
 
-/// The same as it is returned.
+/// This end as it is returned.
 fn wanted(end: End) -> Reach {
     match end {
         End::At(last) => Reach { last, fault: None },
@@ -121,7 +121,7 @@ fn wanted(end: End) -> Reach {
     }
 }
 
-/// Sees that these blocks are reached, and what ends them.
+/// Checks that these blocks are reached, and what ends them.
 fn are_reached(rt: &(impl Abort + AllocGlobal), rows: &[Row]) {
     for &(links, (kind, track, sector), blocks, end) in rows {
         let mut disk = linked(rt, links);

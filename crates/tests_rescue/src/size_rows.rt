@@ -1,4 +1,4 @@
-//! Images of other sizes: which are taken, their first 35 tracks, and the errors that their last bytes tell.
+//! Images of other sizes: which are taken, their first 35 tracks, and the errors that their last bytes report.
 use crate::comparing::same_at;
 use d64_image::Place;
 use disk_rescue::{error_at, first_tracks};
@@ -24,7 +24,7 @@ const SIZES: [(usize, bool); 16] = [
     (0, false),
 ];
 
-/// An image of this size, the byte 7 at the end of track 35 and 8 behind it.
+/// An image of this size, with the byte 7 at the end of track 35 and 8 after it.
 fn sized(rt: &(impl Abort + AllocGlobal), size: usize) -> Vec<u8> {
     let mut image = Vec::new(rt.alloc());
     image.resize(size, 1).expect(rt, "memory");
@@ -39,7 +39,7 @@ fn sized(rt: &(impl Abort + AllocGlobal), size: usize) -> Vec<u8> {
     image
 }
 
-/// Sees that these sizes are taken or not, and what is taken of them.
+/// Checks that these sizes are taken or not, and what is taken of them.
 fn are_taken(rt: &(impl Abort + AllocGlobal), rows: &[(usize, bool)]) {
     for &(size, taken) in rows {
         let image = sized(rt, size);
@@ -52,8 +52,8 @@ fn are_taken(rt: &(impl Abort + AllocGlobal), rows: &[(usize, bool)]) {
     }
 }
 
-/// A size, a sector, where its error byte lies (none: the image has none), and the error with 5 there. 17/4 is sector 340,
-/// 35/16 the last of 683.
+/// A size, a sector, the place of a byte, and the error that is reported if this byte is 5. It is the sector's error
+/// byte, or the image has none. 17/4 is sector 340, 35/16 the last of 683.
 const ERRORS: [(usize, (u8, u8), usize, Option<u8>); 7] = [
     (175_531, (1, 0), 174_848, Some(5)),
     (175_531, (17, 4), 175_188, Some(5)),
@@ -64,7 +64,7 @@ const ERRORS: [(usize, (u8, u8), usize, Option<u8>); 7] = [
     (196_608, (17, 4), 196_000, None),
 ];
 
-/// Sees that this error is told of the sector, and none if the byte is 1.
+/// Checks that this error is reported of the sector, and none if the byte is 1.
 fn are_told(rt: &(impl Abort + AllocGlobal), rows: &[(usize, (u8, u8), usize, Option<u8>)]) {
     for &(size, (track, sector), at, wanted) in rows {
         let place = Place::new(track, sector).unwrap_or_default();

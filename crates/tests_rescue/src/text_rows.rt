@@ -3,8 +3,8 @@ use crate::comparing::same_at;
 use petscii_text::{CharacterSet, Ending, Readable, character, file_name};
 use std::process::Abort;
 
-/// A set, a byte, and the characters from that byte on: those that cc1541 4.0 prints, but for the bytes that the README of
-/// `petscii_text` lists. `tests/characters.py` compares the two again.
+/// A set, a byte, and the characters from that byte on: those that cc1541 4.0 prints, except for the bytes that the
+/// README of `petscii_text` lists. `tests/characters.py` compares the two again.
 const ROWS: [(CharacterSet, u8, &str); 10] = [
     (
         CharacterSet::Graphics,
@@ -58,7 +58,7 @@ const ROWS: [(CharacterSet, u8, &str); 10] = [
     ),
 ];
 
-/// Sees that the bytes from these on have these characters.
+/// Checks that the bytes from these on have these characters.
 fn are_shown(rt: &impl Abort, rows: &[(CharacterSet, u8, &str)]) {
     for &(set, first, text) in rows {
         for (byte, wanted) in (first..=255).zip(text.chars()) {
@@ -67,7 +67,7 @@ fn are_shown(rt: &impl Abort, rows: &[(CharacterSet, u8, &str)]) {
     }
 }
 
-/// Sees that none of these bytes has a character.
+/// Checks that none of these bytes has a character.
 fn are_not_shown(rt: &impl Abort, bytes: &[u8]) {
     for &byte in bytes {
         same_at(rt, character(CharacterSet::Graphics, byte), None, byte);
@@ -81,8 +81,8 @@ fn characters(rt: HostRuntime) {
     are_not_shown(&rt, b"\0\x0D\x1D\x1F\x80\x8D\x93\x9F");
 }
 
-/// A set, bytes, and the text that people read: a record of a club's members in the mixed set, a line in the graphics set
-/// with a heart, and control codes.
+/// A set, bytes, and the text that people read. The bytes are a record of a club's members in the mixed set, a line in
+/// the graphics set with a heart, and control codes.
 const TEXTS: [(CharacterSet, &[u8], &str); 5] = [
     (CharacterSet::Mixed, b"", ""),
     (
@@ -95,7 +95,7 @@ const TEXTS: [(CharacterSet, &[u8], &str); 5] = [
     (CharacterSet::Graphics, b"\xFF\x5E\x5F\"", "π↑←\""),
 ];
 
-/// Sees that each is displayed so.
+/// Checks that each is displayed so.
 fn are_read(rt: &(impl Abort + AllocGlobal), rows: &[(CharacterSet, &[u8], &str)]) {
     for &(set, bytes, wanted) in rows {
         let text = format!(in rt.alloc(); "{}", Readable { set, bytes }).expect(rt, "memory");
@@ -131,7 +131,7 @@ const NAMES: [(u8, &[u8], Ending, &[u8]); 9] = [
     (10, b"--HELP", Ending::Prg, b"10---HELP.prg"),
 ];
 
-/// Sees that the files have these names.
+/// Checks that the files have these names.
 fn are_named(rt: &impl Abort, rows: &[(u8, &[u8], Ending, &[u8])]) {
     for &(number, name, ending, wanted) in rows {
         if name.len() <= 16 {
@@ -153,7 +153,7 @@ const TYPES: [(u8, Ending); 8] = [
     (0xFF, Ending::Other),
 ];
 
-/// Sees that the types have these endings.
+/// Checks that the types have these endings.
 fn are_ended(rt: &impl Abort, rows: &[(u8, Ending)]) {
     for &(type_byte, ending) in rows {
         same_at(rt, Ending::of_type(type_byte), ending, type_byte);

@@ -13,7 +13,7 @@ use rel_records::{
 };
 use std::process::Abort;
 
-/// Sees that the disk is clean.
+/// Checks that the disk is clean.
 fn clean(rt: &impl Abort, disk: &mut MemDisk)
     ensures { IsClean (disk_image disk.new) }
 {
@@ -87,7 +87,7 @@ fn files_are_made(rt: HostRuntime) {
     same(&rt, none.is_err(), true);
 }
 
-// Record 1694 of 18 bytes begins behind 119 blocks of 254 bytes and 248 more.
+// Record 1694 of 18 bytes begins after 119 blocks of 254 bytes and 248 more.
 #[test]
 fn records_have_parts(rt: HostRuntime) {
     let (a, b): ([u8; 256], [u8; 256]) = ([1; 256], [2; 256]);

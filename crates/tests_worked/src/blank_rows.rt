@@ -46,7 +46,7 @@ fn with_files(rt: &(impl Abort + AllocGlobal), disk: &MemDisk, tills: u8) -> Mem
     disk
 }
 
-/// Sees that a disk made so, with the name and the number of the blank one for so many tills, has its bytes.
+/// Checks that a disk made so, with the name and the number of the blank one for so many tills, has its bytes.
 fn is_blank(rt: &(impl Abort + AllocGlobal), tills: u8)
     requires some { 1 ≤ tills }
     requires few { tills ≤ 64 }

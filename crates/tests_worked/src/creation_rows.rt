@@ -30,7 +30,7 @@ fn filled(rt: &(impl Abort + AllocGlobal)) -> MemDisk {
     with_files(rt, fresh(rt), &FILLING)
 }
 
-/// How many blocks the map tells free.
+/// How many blocks are free, as the map counts them.
 fn blocks_free(disk: &mut MemDisk) -> u16 {
     BamView::new(&sector(disk, 18, 0)).blocks_free()
 }
@@ -106,10 +106,10 @@ fn a_name_is_taken(rt: HostRuntime) {
 /// After how many writes a creation is cut, and the writes of the repair then.
 const CUTS: [(u32, u64); 5] = [(0, 0), (1, 1), (2, 1), (3, 1), (4, 0)];
 
-/// The same of one that takes a directory sector.
+/// The cuts of a creation that takes a directory sector.
 const CUTS_WITH_SECTOR: [(u32, u64); 6] = [(0, 0), (1, 1), (2, 1), (3, 1), (4, 1), (5, 0)];
 
-/// Cuts the creation of a file on a disk by each row; it makes so many writes where it isn't cut.
+/// Cuts the creation of a file on a disk by each row; it makes so many writes if it isn't cut.
 fn are_mended(
     rt: &(impl Abort + AllocGlobal),
     disk: &MemDisk,

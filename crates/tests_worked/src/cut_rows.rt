@@ -17,7 +17,8 @@ struct Asked {
     before: &'static [u8],
     message: &'static [u8],
     reply: &'static [u8],
-    /// The message where power goes after 0, 1, 2 .. of its writes, those of the next opening, and those of the repeat.
+    /// The message in which power goes after 0, 1, 2 ... of its writes, the writes of the next opening, and those of the
+    /// repeat.
     cuts: &'static [Cut],
 }
 
@@ -83,8 +84,8 @@ const REFUSED: Asked = Asked {
     cuts: &[(b"@0 1,1,R,7,5", 0, 1), (b"@1 1,1,R,7,5", 0, 0)],
 };
 
-/// Hands the message to a session whose power goes after so many writes, opens the disk again, and repeats the message:
-/// the disk then, which the next opening has left clean.
+/// Passes the message to a session whose power goes after so many writes, opens the disk again, and repeats the message.
+/// Returns the disk then, which the next opening has left clean.
 fn repeated(
     rt: &(impl Abort + AllocGlobal),
     disk: &MemDisk,
@@ -106,7 +107,7 @@ fn repeated(
 }
 
 /// Cuts the message after so many writes. What the next opening writes, and then the repeat, which has the reply, stands
-/// in the row; the same is told of a script and of events.
+/// in the row. A script and events give these results too.
 fn is_cut(rt: &(impl Abort + AllocGlobal), disk: &MemDisk, asked: &Asked, power: u32, cut: Cut) {
     let (line, recovery, repeat) = cut;
     let last = repeated(rt, disk, asked.message, power, (recovery, repeat));
@@ -143,13 +144,13 @@ fn requests_are_cut(rt: HostRuntime) {
 /// Where the record of item 1 stands in an image: 336 sectors are before 17/0, whose link has two bytes.
 const ITEM_1: usize = 336 * 256 + 2;
 
-/// Sees that this is the record of item 1 where power went in the move after so many writes.
+/// Checks that this is the record of item 1 if power went in the move after so many writes.
 fn has_first(rt: &(impl Abort + AllocGlobal), disk: &MemDisk, power: u32, card: &[u8]) {
     let (_, cut) = handled(rt, disk, MOVE.message, power);
     same_at(rt, cut.bytes().get(ITEM_1..ITEM_1 + 18), Some(card), power);
 }
 
-// The first write is the intent's. The card of the item to go to takes two, and comes behind.
+// The first write is the intent's. The card of the item to go to takes two, and comes after.
 #[test]
 fn the_item_that_goods_leave_is_written_first(rt: HostRuntime) {
     let disk = after(&rt, MOVE.before);

@@ -8,9 +8,9 @@ use request_cards::Reply;
 use script_lines::event_at;
 use std::process::Abort;
 
-/// A line of a day as a script has it, its reply, and how many sectors are written. Where power goes in it, `@`, that
-/// is after so many writes of the message, and behind each `/` after so many of a recovery's; what the whole recovery
-/// then writes counts too.
+/// A line of a day as a script has it, its reply, and how many sectors are written. If power goes in it, `@`, that is
+/// after so many writes of the message, and after each `/` after so many of a recovery's. What the whole recovery then
+/// writes counts too.
 pub(crate) type Line<'a> = (&'a [u8], &'a [u8], u64);
 
 /// Adds a text and an end of line, as far as there is memory.
@@ -57,7 +57,7 @@ fn writes_of(lines: &[Line<'_>]) -> u64 {
     sum
 }
 
-/// The replies as a script tells them.
+/// The replies as a script prints them.
 pub(crate) fn text_of(rt: &impl AllocGlobal, told: &[Reply]) -> Vec<u8> {
     let mut replies = Vec::new(rt.alloc());
     for reply in told {
@@ -66,7 +66,7 @@ pub(crate) fn text_of(rt: &impl AllocGlobal, told: &[Reply]) -> Vec<u8> {
     replies
 }
 
-/// Sees that the lines had their replies and writes, and that the disk is clean: the disk.
+/// Checks that the lines had their replies and writes, and that the disk is clean: the disk.
 fn is_told(
     rt: &(impl Abort + AllocGlobal),
     (told, meter): (Vec<u8>, Meter<MemDisk>),
@@ -81,7 +81,7 @@ fn is_told(
     disk
 }
 
-/// Plays the lines as a script on a copy of the disk: what is told, and the disk then.
+/// Plays the lines as a script on a copy of the disk. Returns what is printed, and the disk then.
 fn as_script(
     rt: &(impl Abort + AllocGlobal),
     disk: &MemDisk,
@@ -93,7 +93,7 @@ fn as_script(
     (told, meter)
 }
 
-/// The same as events.
+/// Plays the lines as events on a copy of the disk.
 fn as_events(
     rt: &(impl Abort + AllocGlobal),
     disk: &MemDisk,

@@ -1,5 +1,5 @@
-//! The disks of the rows. Where one can't be made, or isn't what it is to be, the test ends there: on the way out of a
-//! `?` all that a row holds would be let go, and proved.
+//! The disks of the rows. If one can't be made, or isn't what it is to be, the test ends there: on the way out of a `?`
+//! all that a row holds would be dropped, and proved.
 ghost use Rattle.std.specs.Prelude.{◌≡◌, ◌≤◌};
 ghost use Rattle.d64_image.specs.Memory.{disk_image, sectors_in};
 ghost use Rattle.disk_layout.specs.Clean.{IsClean};
@@ -24,7 +24,7 @@ pub(crate) fn blank(rt: &(impl Abort + AllocGlobal), tills: u8) -> MemDisk
 }
 
 /// The blank disk for two tills: STOCK in 17/0 (18 bytes a record, 14 of them) with the side sector 17/1, REQUESTS in
-/// 17/2 with the side sector 17/3; so 17/4 is the next free sector.
+/// 17/2 with the side sector 17/3. So 17/4 is the next free sector.
 pub(crate) fn fresh(rt: &(impl Abort + AllocGlobal)) -> MemDisk {
     blank(rt, 2)
 }
@@ -53,7 +53,7 @@ pub(crate) fn passed(meter: Meter<Fuse<MemDisk>>) -> (u64, MemDisk) {
 /// Power that doesn't go: more writes than any disk takes in a row.
 pub(crate) const WHOLE: u32 = u32::MAX;
 
-/// Sees that the disk is clean.
+/// Checks that the disk is clean.
 pub(crate) fn clean<D: Sectors>(rt: &impl Abort, disk: &mut D)
     ensures { IsClean (D.history.image disk.new) }
 {
@@ -75,7 +75,7 @@ pub(crate) fn found<D: Sectors>(rt: &impl Abort, disk: &mut D, name: &[u8]) -> R
     }
 }
 
-/// Sees that the disk is sound.
+/// Checks that the disk is sound.
 fn sound<D: Sectors>(rt: &impl Abort, disk: &mut D)
     ensures { IsSound (D.history.image disk.new) }
 {
@@ -101,14 +101,14 @@ pub(crate) fn at(track: u8, number: u8) -> Place {
     Place::new(track, number).unwrap_or_default()
 }
 
-/// The bytes of a sector; where it can't be read, EE in each.
+/// The bytes of a sector; if it can't be read, EE in each.
 pub(crate) fn sector<D: Sectors>(disk: &mut D, track: u8, number: u8) -> [u8; 256] {
     let mut bytes = [0xEE; 256];
     let _ = disk.read(at(track, number), &mut bytes);
     bytes
 }
 
-/// The bytes of a sector from this one on, and all behind it.
+/// The bytes of a sector from this one on, and all after it.
 pub(crate) fn bytes_from(disk: &MemDisk, track: u8, number: u8, from: u8) -> &[u8] {
     let Some(place) = Place::new(track, number) else {
         return &[];
@@ -118,7 +118,7 @@ pub(crate) fn bytes_from(disk: &MemDisk, track: u8, number: u8, from: u8) -> &[u
         .unwrap_or(&[])
 }
 
-/// Sees that these bytes stand on a sector, from this one of its own on.
+/// Checks that these bytes stand on a sector, from this one of its own on.
 pub(crate) fn stands(
     rt: &impl Abort,
     disk: &MemDisk,
@@ -129,7 +129,7 @@ pub(crate) fn stands(
     same_at(rt, there, Some(bytes), (track, number, from));
 }
 
-/// Bytes of a sector: its place, the first of them, how many they are, and a text, behind which zeros stand.
+/// Bytes of a sector: its place, the first of them, how many they are, and a text, after which zeros stand.
 pub(crate) type Change = (u8, u8, u8, usize, &'static [u8]);
 
 /// As many as a sector has.

@@ -15,8 +15,8 @@ fn number_of(fault: Option<OpenFault>) -> u8 {
     }
 }
 
-/// Opens a disk of which one call fails, and sees that the device is told, and that the next opening is whole.
-/// False where no call had this number.
+/// Opens a disk of which one call fails, and checks that the device is reported, and that the next opening is whole.
+/// False if no call had this number.
 fn opening_fails(rt: &(impl Abort + AllocGlobal), disk: &MemDisk, at: u32, done: bool) -> bool {
     let (fault, faulty) = opening(OneFault::new(loaded(rt, disk.bytes()), at, done));
     let was_hit = faulty.place().is_some();
@@ -86,14 +86,15 @@ fn sent_twice(rt: &(impl Abort + AllocGlobal), at: u32, done: bool) -> (Reply, R
     (first, second, session.close().into_inner())
 }
 
-/// MEDIA, told to the message.
+/// The reply MEDIA to the message.
 const MEDIA: Reply = Reply::Told {
     till: 1,
     number: 1,
     word: Word::Media,
 };
 
-/// The message is told MEDIA, sent again MEDIA with nothing written, and after the next opening it has its answer.
+/// The reply to the message is MEDIA. Sent again, it gets MEDIA with nothing written. After the next opening it has its
+/// answer.
 fn request_fails(rt: &(impl Abort + AllocGlobal), at: u32, done: bool) {
     let (once, left) = handed(rt, faulty(rt, at, done), MESSAGE);
     let left = left.into_inner();
@@ -118,7 +119,7 @@ fn each_call_of_a_request_fails(rt: HostRuntime) {
     requests_fail(&rt, before, all, true);
 }
 
-/// A script of the message and a second line: it tells the device after one reply, MEDIA.
+/// A script of the message and a second line: it reports the device after one reply, MEDIA.
 fn script_fails(rt: &(impl Abort + AllocGlobal), at: u32, done: bool) {
     let script = b"1,1,S,15,7\n2,1,S,1,1\n";
     let (ended, out, left) = ran(rt, faulty(rt, at, done), script);
@@ -133,7 +134,7 @@ const EVENT: Event<'static> = Event {
     cut: None,
 };
 
-/// The same of events, behind a reply that the list has.
+/// The message as events, after a reply that the list has.
 fn events_fail(rt: &(impl Abort + AllocGlobal), at: u32, done: bool) {
     let (ended, replies, left) = ran_of_events(
         faulty(rt, at, done),
@@ -188,8 +189,8 @@ fn number_of_end(ended: Result<(), ScriptFault>) -> u8 {
     }
 }
 
-/// Sees what is told of the script where one call fails, by the fault's number and by what was written. What is left is
-/// opened, and the message has its answer.
+/// Checks what is reported of the script if one call fails, by the fault's number and by what was written. What is left
+/// is opened, and the message has its answer.
 fn cut_run_fails(rt: &(impl Abort + AllocGlobal), at: u32, done: bool, number: u8, wanted: &[u8]) {
     let (ended, out, left) = ran(rt, faulty(rt, at, done), CUT);
     same_at(rt, number_of_end(ended), number, (at, done));
@@ -198,8 +199,7 @@ fn cut_run_fails(rt: &(impl Abort + AllocGlobal), at: u32, done: bool, number: u
     holds(rt, says(reply, b"1,1,DONE,5"), (at, done));
 }
 
-/// Has each call of the script fail: those before the message, then those in it, and
-/// behind these those of the recovery.
+/// Has each call of the script fail: those before the message, then those in it, and then those of the recovery.
 fn cut_runs_fail(
     rt: &(impl Abort + AllocGlobal),
     (before, behind, all): (u32, u32, u32),
@@ -216,8 +216,8 @@ fn cut_runs_fail(
     }
 }
 
-// A call of the first opening that fails is told as its fault (1), one of the whole recovery as the device's (4), which
-// isn't tried again. In the message power goes anyway, so that nothing is told.
+// A call of the first opening that fails is reported as its fault (1). One of the whole recovery is reported as the
+// device's (4), which isn't tried again. In the message power goes anyway, so that nothing is reported.
 #[test]
 fn each_call_of_a_cut_run_fails(rt: HostRuntime) {
     let (all, before, recovery) = calls_of_a_cut(&rt);

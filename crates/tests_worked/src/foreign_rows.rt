@@ -1,5 +1,5 @@
-//! Disks that another program may have made: last indices that fit no record, a file on track 18, records of one byte
-//! and of 254, locked files, names that stand twice, a side sector that names a block too many.
+//! Disks that another program may have made. They have last indices that fit no record, a file on track 18, or records of
+//! one byte or of 254. Or they have locked files, names that stand twice, or a side sector that names a block too many.
 ghost use Rattle.std.specs.Prelude.{◌≤◌};
 
 use crate::comparing::same_at;
@@ -15,7 +15,7 @@ fn count(rt: &impl Abort, disk: &mut MemDisk) -> u32 {
     records(&found(rt, disk, b"STOCK"))
 }
 
-/// Writes `A` into a record of STOCK. Tells how many records there were, how many sectors were written, how many
+/// Writes `A` into a record of STOCK. Returns how many records there were, how many sectors were written, how many
 /// records there are, and the last index of the file's one block.
 fn written(rt: &(impl Abort + AllocGlobal), mut disk: MemDisk, number: u32) -> (u32, u64, u32, u8) {
     let before = count(rt, &mut disk);
@@ -29,12 +29,11 @@ fn written(rt: &(impl Abort + AllocGlobal), mut disk: MemDisk, number: u32) -> (
     )
 }
 
-/// A byte of the blank disk that is another one, a record that is written then, and what is told.
+/// A byte of the blank disk that is another one, a record that is written then, and what `written` returns.
 type Changed = ((u8, u8, u8), u8, u32, (u32, u64, u32, u8));
 
-/// Below 2 the last index says that its block has no used byte. Where it says more than whole records have, the rest
-/// counts for nothing; the block is filled only where a whole record more fits into it. A locked file is written as any
-/// other.
+/// Below 2 the last index says that its block has no used byte. If it says more than whole records have, the rest counts
+/// for nothing; the block is filled only if a whole record more fits into it. A locked file is written as any other.
 const CHANGED: [Changed; 6] = [
     ((17, 0, 1), 0, 1, (0, 2, 14, 0xFD)),
     ((17, 0, 1), 1, 1, (0, 2, 14, 0xFD)),
@@ -93,8 +92,8 @@ fn with_new(rt: &(impl Abort + AllocGlobal), size: u8) -> MemDisk
     disk
 }
 
-/// Writes this text into a record of `NEW`. Tells the records before and after, how many sectors growth and
-/// writing took, and whether the record is read so.
+/// Writes this text into a record of `NEW`. Returns the records before and after, how many sectors growth and writing
+/// took, and whether the record is read so.
 fn made(
     rt: &(impl Abort + AllocGlobal),
     disk: &mut MemDisk,
@@ -109,7 +108,7 @@ fn made(
     (before, after, writes, read_back.as_slice() == text)
 }
 
-/// Sees what is told of a file of this record length and of a record of it.
+/// Checks what is returned for a file of this record length and for a record of it.
 fn is_made(rt: &(impl Abort + AllocGlobal), size: u8, number: u32, wanted: (u32, u32, u64, bool))
     requires low { 1 ≤ size }
     requires high { size ≤ 254 }
@@ -141,7 +140,7 @@ fn found_of_two(rt: &(impl Abort + AllocGlobal), kind: u8) -> RelFile {
 /// over, and a free slot is no entry.
 const TWICE: [(u8, usize, u8); 4] = [(0x84, 0, 18), (0xC4, 0, 18), (0x82, 1, 127), (0, 0, 127)];
 
-/// Sees which entry is found in each row.
+/// Checks which entry is found in each row.
 fn are_found(rt: &(impl Abort + AllocGlobal), rows: &[(u8, usize, u8)]) {
     for &(kind, entry, length) in rows {
         let file = found_of_two(rt, kind);
@@ -155,7 +154,7 @@ fn names_that_stand_twice(rt: HostRuntime) {
     are_found(&rt, &TWICE);
 }
 
-/// How many records STOCK of a sound disk has, and what reading one of them tells.
+/// How many records STOCK of a sound disk has, and what reading one of them returns.
 fn read_of_sound(
     rt: &impl Abort,
     disk: &mut MemDisk,

@@ -1,4 +1,4 @@
-//! Growth that is cut after each write, judged and mended; side sectors past 120 and 240 blocks.
+//! Growth that is cut after each write, checked and mended; side sectors past 120 and 240 blocks.
 use crate::comparing::{holds, same_at};
 use crate::disks::{Change, WHOLE, bytes_from, changed, clean, fresh, sector, sound_stock, stands};
 use crate::records::{grow, repaired};
@@ -7,7 +7,7 @@ use disk_layout::SideView;
 use rel_records::{RelFault, records};
 use std::process::Abort;
 
-/// Repairs a copy of the disk, in which power fails after so many writes, then repairs that. Tells how many writes the
+/// Repairs a copy of the disk, in which power fails after so many writes, then repairs that. Returns how many writes the
 /// second repair made, and how many records STOCK has. The disk between is sound, and the last one clean.
 pub(crate) fn mended(rt: &(impl Abort + AllocGlobal), disk: &MemDisk, power: u32) -> (u64, u32) {
     let (_, _, mut half) = repaired(rt, disk, power);
@@ -25,8 +25,8 @@ pub(crate) fn grown(rt: &(impl Abort + AllocGlobal), number: u32) -> MemDisk {
     disk
 }
 
-/// The disk whose STOCK grows to this record, where power fails after so many writes. It comes to its end where these
-/// are all that it takes.
+/// The disk whose STOCK grows to this record, if power fails after so many writes. It comes to its end if these are all
+/// that it takes.
 fn cut(
     rt: &(impl Abort + AllocGlobal),
     disk: &MemDisk,
@@ -58,8 +58,8 @@ const CUTS: [Cut; 7] = [
     (6, 1707, 0),
 ];
 
-/// STOCK with 240 blocks gets 11/4 and 11/5: behind these the older side sectors are written, 17/1 and then 14/4, which
-/// a repair writes again. After the sixth write the file is longer.
+/// STOCK with 240 blocks gets 11/4 and 11/5. After these the older side sectors are written, 17/1 and then 14/4, which a
+/// repair writes again. After the sixth write the file is longer.
 const CUTS_OF_TWO: [Cut; 8] = [
     (0, 3386, 0),
     (1, 3386, 1),
@@ -99,7 +99,7 @@ fn growth_with_two_older_side_sectors_is_cut_and_mended(rt: HostRuntime) {
     are_mended(&rt, 3386, 7, &CUTS_OF_TWO);
 }
 
-/// How the older side sectors begin where that growth was cut after so many writes: the lower one, then the other.
+/// How the older side sectors begin if that growth was cut after so many writes: the lower one, then the other.
 type Older = (u32, &'static [u8], &'static [u8]);
 
 const OLDER: [Older; 3] = [
@@ -120,7 +120,7 @@ const OLDER: [Older; 3] = [
     ),
 ];
 
-/// Sees that they begin so.
+/// Checks that they begin so.
 fn each_begins(rt: &(impl Abort + AllocGlobal), rows: &[Older]) {
     let disk = grown(rt, 3386);
     for (writes, lower, other) in rows {
@@ -135,14 +135,13 @@ fn older_side_sectors_are_written_in_turn(rt: HostRuntime) {
     each_begins(&rt, &OLDER);
 }
 
-/// A deleted entry behind that of STOCK and REQUESTS, and the bits of track 1 in the map behind its last sector.
+/// A deleted entry after those of STOCK and REQUESTS, and the bits of track 1 in the map after its last sector.
 const UNJUDGED: [Change; 2] = [
     (18, 1, 66, 30, b"\0\x13\x05OLD\xA0"),
     (18, 0, 7, 1, b"\xFF"),
 ];
 
-/// Sees that they stay where growth by a block is cut after so many writes, or isn't, and
-/// so do the bytes behind the entry.
+/// Checks that they stay if growth by a block is cut after so many writes, or isn't, and so do the bytes after the entry.
 fn unjudged_stays(rt: &(impl Abort + AllocGlobal), disk: &MemDisk, writes: u32) {
     let left = cut(rt, disk, 15, writes, 5);
     stands(rt, &left, (18, 0, 7), b"\xFF");
@@ -201,7 +200,7 @@ const SIDES: [Side; 5] = [
     ),
 ];
 
-/// Sees that the side sectors are as the rows have them. A clean disk has exact ones, pointer by pointer of the chain.
+/// Checks that the side sectors are as the rows have them. A clean disk has exact ones, pointer by pointer of the chain.
 fn are_exact(rt: &(impl Abort + AllocGlobal), rows: &[Side]) {
     for &(number, (track, side), head, first, last) in rows {
         let mut disk = grown(rt, number);
@@ -220,7 +219,7 @@ fn side_sectors_are_exact(rt: HostRuntime) {
     are_exact(&rt, &SIDES);
 }
 
-/// Records that don't fit, and what is told: 9,256 records fill the disk, and 720 blocks hold 10,160.
+/// Records that don't fit, and the fault: 9,256 records fill the disk, and 720 blocks hold 10,160.
 const TOO_MUCH: [(u32, RelFault); 4] = [
     (9257, RelFault::Full),
     (10160, RelFault::Full),
@@ -228,7 +227,7 @@ const TOO_MUCH: [(u32, RelFault); 4] = [
     (65536, RelFault::TooLarge),
 ];
 
-/// Sees that growth to each record is refused, with nothing written.
+/// Checks that growth to each record is refused, with nothing written.
 fn are_refused(rt: &(impl Abort + AllocGlobal), rows: &[(u32, RelFault)]) {
     for &(number, fault) in rows {
         let (_, told) = grow(rt, &fresh(rt), b"STOCK", number, WHOLE);

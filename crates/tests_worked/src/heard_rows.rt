@@ -1,4 +1,4 @@
-//! Replies with what the disk held when each was told.
+//! Replies with what the disk held when each was passed.
 use crate::comparing::same_at;
 use crate::disks::{fresh, loaded};
 use crate::sessions::{asked, says};
@@ -7,7 +7,7 @@ use host_session::{
 };
 use std::process::Abort;
 
-/// A day on which power goes once: line 2 is cut behind its first write, and asked again.
+/// A day on which power goes once: line 2 is cut after its first write, and asked again.
 const DAY: &[u8] = b"1,1,S,42,120\n@1 2,1,R,42,5\n2,1,R,42,5\n1,2,I,42,200\n";
 
 /// What the copy of the disk beside a reply holds: it is at rest, and a request sent again
@@ -40,7 +40,7 @@ fn each_reply_is_told_over_its_own_disk(rt: HostRuntime) {
     same_at(&rt, says(short.reply, b"1,2,SHORT,125"), true, "short");
 }
 
-// The first line is asked for over the disk as it was opened, each other over the disk that the line before it left.
+// The first line is asked for over the disk as it was opened, every other one over the disk that the line before it left.
 #[test]
 fn each_line_is_asked_for_over_what_the_last_one_left(rt: HostRuntime) {
     let mut asks = RecordedEvents::new(rt.alloc(), ScriptEvents::new(DAY));
@@ -65,7 +65,7 @@ fn each_line_is_asked_for_over_what_the_last_one_left(rt: HostRuntime) {
     same_at(&rt, last.as_slice() == again.bytes.as_slice(), true, "last");
 }
 
-// It takes one reply; the second line is handled, and nothing is handled behind it.
+// It takes one reply; the second line is handled, and nothing is handled after it.
 #[test]
 fn an_output_takes_one_reply(rt: HostRuntime) {
     let mut out = RecordedReplies::new(rt.alloc(), 1);

@@ -1,4 +1,4 @@
-//! What a session tells of a shop, and the bytes that requests leave on the disk.
+//! What a session reports of a shop, and the bytes that requests leave on the disk.
 use crate::comparing::{same, same_at};
 use crate::disks::{blank, stands};
 use crate::sessions::{after, open};
@@ -10,7 +10,7 @@ use std::process::Abort;
 /// A request, and its answer.
 type Told = Option<(&'static [u8], Answer)>;
 
-/// What a session tells after a script.
+/// What a session reports after a script.
 #[derive(Clone, Copy)]
 struct Held {
     script: &'static [u8],
@@ -46,7 +46,7 @@ const HELD: [Held; 6] = [
         kept: Some((b"1,3,M,1,4,15", Answer::Moved(6, 7))),
         prior: Some((b"1,2,S,15,3", Answer::Done(3))),
     },
-    // A move that is cut behind its first card, and a first set that is cut behind its growth.
+    // A move that is cut after its first card, and a first set that is cut after its growth.
     Held {
         script: b"1,1,S,1,10\n1,2,S,15,3\n@2/1 1,3,M,1,4,15\n",
         card: (1, Some(6)),
@@ -67,7 +67,7 @@ fn read(told: Told) -> Option<(Request, Answer)> {
     Some((Request::parse(message)?, answer))
 }
 
-/// Sees that the session tells what the row has, and nothing of what there isn't.
+/// Checks that the session reports what the row has, and nothing of what there isn't.
 fn tells(rt: &impl Abort, session: &Session<MemDisk>, row: &Held) {
     same(rt, (session.top(), session.tills()), (9256, 2));
     let (item, quantity) = row.card;

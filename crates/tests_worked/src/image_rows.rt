@@ -6,8 +6,8 @@ use d64_image::MemDisk;
 use host_session::OpenFault;
 use std::process::Abort;
 
-/// Cards of version 1 as power may have left them: open intents of a set of item 2 and 15, two cards that are none, and
-/// a stock card in the wrong record.
+/// Cards of version 1 as power may have left them: open intents of a set of item 2 and 15, two cards that are none, and a
+/// stock card in the wrong record.
 const INTENT_2: &[u8] = b"I,000000001,S,00002,000000005,0,000000005\r";
 
 const INTENT_15: &[u8] = b"I,000000001,S,00015,000000005,0,000000005\r";
@@ -22,7 +22,7 @@ const CARD_4: &[u8] = b"K,00004,000000001\r";
 const SECOND_OWNER: &[u8] =
     b"\x82\x11\x02X\xA0\xA0\xA0\xA0\xA0\xA0\xA0\xA0\xA0\xA0\xA0\xA0\xA0\xA0\xA0\0\0\0\0\0\0\0\0\0\x01\0";
 
-/// An image that isn't opened: a script that made the disk, what is changed on it, and what is told.
+/// An image that isn't opened: a script that made the disk, what is changed on it, and what is reported.
 type Refused = (&'static [u8], &'static [Change], &'static [u8]);
 
 const REFUSED: [Refused; 16] = [
@@ -59,8 +59,8 @@ const REFUSED: [Refused; 16] = [
     ),
     (b"", &[INTENT, (17, 2, 129, 127, INTENT_2)], b"TWO INTENTS"),
     (b"", &[(17, 0, 38, 18, CARD_4)], b"BAD CARD 3"),
-    // A till's card is judged before two intents, these before the cards of items, and of
-    // those not the open intent's own.
+    // A till's card is checked before two intents, these before the cards of items; of the last, that of the open intent
+    // isn't checked.
     (
         b"",
         &[
@@ -82,27 +82,27 @@ const REFUSED: [Refused; 16] = [
     ),
 ];
 
-/// What is told of an image that isn't opened, which stays as it was.
+/// What is reported of an image that isn't opened, which stays as it was.
 fn refused_image(rt: &(impl Abort + AllocGlobal), disk: &MemDisk, row: &[u8]) -> OpenFault {
     let (fault, left) = opening(loaded(rt, disk.bytes()));
     holds(rt, left.bytes() == disk.bytes(), row);
     fault.expect(rt, "it is opened")
 }
 
-/// Sees that this is told of it through a mirror too, whose file stays as well.
+/// Checks that this is reported of it through a mirror too, whose file stays as well.
 fn is_refused_mirror(rt: &(impl Abort + AllocGlobal), disk: &MemDisk, fault: OpenFault) {
     let (told, mirror) = opening(mirrored(rt, disk));
     same_at(rt, told, Some(fault), fault);
     holds(rt, unmirrored(rt, mirror).bytes() == disk.bytes(), fault);
 }
 
-/// Sees that a fault has this text.
+/// Checks that a fault has this text.
 fn is_told(rt: &(impl Abort + AllocGlobal), fault: OpenFault, text: &[u8]) {
     let told = fault.to_string(rt.alloc()).expect(rt, "a text");
     same_at(rt, told.as_bytes(), text, fault);
 }
 
-/// Sees that none of the images is opened, and what is told of each.
+/// Checks that none of the images is opened, and what is reported of each.
 fn none_is_opened(rt: &(impl Abort + AllocGlobal), rows: &[Refused]) {
     for (script, changes, told) in rows {
         let disk = changed(after(rt, script), changes);
@@ -156,7 +156,7 @@ const OPENED: [Opened; 4] = [
     (&[INTENT], 2, b"1,1,S,1,5", b"1,1,DONE,5", 0, 9256),
 ];
 
-/// Sees that each of the images is opened, and what is told and written then.
+/// Checks that each of the images is opened, and what is reported and written then.
 fn each_is_opened(rt: &(impl Abort + AllocGlobal), rows: &[Opened]) {
     for (changes, recovery, message, told, writes, top) in rows {
         let disk = changed(fresh(rt), changes);

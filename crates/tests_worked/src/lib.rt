@@ -1,4 +1,4 @@
-//! Worked rows that need several crates at once: disks that are grown, written and cut, and then judged and mended.
+//! Worked rows that need several crates at once: disks that are grown, written and cut, and then checked and mended.
 //! Tests only: no program stands on this crate.
 #![tactic(auto)]
 

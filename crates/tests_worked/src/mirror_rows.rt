@@ -13,7 +13,7 @@ const LINES: [(&[u8], &[u8]); 4] = [
     (b"1,3,S,9256,1\n", b"1,3,DONE,1\n"),
 ];
 
-/// Plays the line on the disk, mirrored in a file, and sees that it has its reply, and
+/// Plays the line on the disk, mirrored in a file, and checks that it has its reply, and
 /// that the file has the same bytes.
 fn is_mirrored(
     rt: &(impl Abort + AllocGlobal),
@@ -48,7 +48,7 @@ fn filling(
     KeptMirror::new(file, loaded(rt, disk.bytes()))
 }
 
-/// Sees that these are the sectors in which the images differ, counted from 0.
+/// Checks that these are the sectors in which the images differ, counted from 0.
 fn only_these(rt: &impl Abort, new: &[u8], old: &[u8], these: &[usize]) {
     for number in 0..683usize {
         let differs = new.chunks(256).nth(number) != old.chunks(256).nth(number);
@@ -56,8 +56,8 @@ fn only_these(rt: &impl Abort, new: &[u8], old: &[u8], these: &[usize]) {
     }
 }
 
-// The file refuses the third sector of a first set: memory has the first two of the growth, 17/4 and 18/0, as has a
-// disk whose power goes after two writes.
+// The file refuses the third sector of a first set. Memory has the first two of the growth, 17/4 and 18/0, as has a disk
+// whose power goes after two writes.
 #[test]
 fn a_file_that_fails_is_a_device_that_fails(rt: HostRuntime) {
     let disk = fresh(&rt);

@@ -1,5 +1,5 @@
-//! Openings of disks with cards of version 1 and with open intents: the writes of each, also where power goes in
-//! it, and what is told afterwards.
+//! Openings of disks with cards of version 1 and with open intents: the writes of each, also if power goes in it, and
+//! what is answered afterwards.
 use crate::comparing::same_at;
 use crate::days::{Line, is_played};
 use crate::disks::{Change, INTENT, WHOLE, changed, clean};
@@ -16,7 +16,7 @@ struct Opening {
     changes: &'static [Change],
     /// Openings one after another: the writes after which power goes in each, and how many passed.
     openings: &'static [(u32, u64)],
-    /// What is told then.
+    /// The lines then, and their replies.
     lines: &'static [Line<'static>],
 }
 
@@ -43,7 +43,7 @@ const OLD_RECEIPT: Change = (
 /// A day before whose cards are of version 1 then.
 const OLD_DAY: &[u8] = b"1,1,S,42,120\n1,2,I,42,121\n2,1,R,42,30\n";
 
-/// What is told on it.
+/// The lines on it, and their replies.
 const OLD_LINES: &[Line<'static>] = &[
     (b"1,2,I,42,121", b"1,2,SHORT,120", 0),
     (b"1,1,S,42,120", b"1,1,STALE", 0),

@@ -56,7 +56,7 @@ fn an_output_takes_13_bytes(rt: HostRuntime) {
     same_at(&rt, told, (true, 0, 0), "sent again");
 }
 
-/// Sees that the script leaves the disk that it has where its replies are taken.
+/// Checks that the script leaves the disk that it has if its replies are taken.
 fn is_done(rt: &(impl Abort + AllocGlobal), script: &[u8]) {
     let left = stopped(rt, script, b"");
     holds(rt, left.bytes() == after(rt, script).bytes(), script);

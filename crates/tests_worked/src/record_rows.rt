@@ -11,7 +11,8 @@ use std::process::Abort;
 /// What a write of a record did: its answer, how many sectors it wrote, and how many records the file has then.
 type Written = (Result<(), RelFault>, u64, u32);
 
-/// Writes a text into a record of STOCK from this position on, and sees what is told, and the record as it is read back.
+/// Writes a text into a record of STOCK from this position on, and checks what is returned, and the record as it is read
+/// back.
 fn is_written(
     rt: &(impl Abort + AllocGlobal),
     disk: &MemDisk,
@@ -50,7 +51,7 @@ fn short(rt: &(impl Abort + AllocGlobal)) -> MemDisk {
     disk
 }
 
-// Where STOCK has one record, record 2 is made with all others that fit.
+// If STOCK has one record, record 2 is made with all others that fit.
 #[test]
 fn a_short_file_is_filled(rt: HostRuntime) {
     let mut disk = short(&rt);

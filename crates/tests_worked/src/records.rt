@@ -9,7 +9,8 @@ use layout_check::repair;
 use rel_records::{RelFault, create, grow_to, read_record, records, write_record};
 use std::process::Abort;
 
-/// Creates a file, where power goes after so many writes: the disk then, the answer, and how many sectors were written.
+/// Creates a file, with power that goes after so many writes. Returns the disk then, the answer, and how many sectors
+/// were written.
 pub(crate) fn make(
     rt: &(impl Abort + AllocGlobal),
     disk: &MemDisk,
@@ -33,8 +34,8 @@ pub(crate) fn make(
     (disk, (answer, writes))
 }
 
-/// Lets a file grow to a record, where power goes after so many writes: the disk then, the answer, how many sectors were
-/// written, and how many records the file has.
+/// Lets a file grow to a record, with power that goes after so many writes. Returns the disk then, the answer, how many
+/// sectors were written, and how many records the file has.
 pub(crate) fn grow(
     rt: &(impl Abort + AllocGlobal),
     disk: &MemDisk,
@@ -82,8 +83,8 @@ pub(crate) fn read(
     (records(&file), read_record(disk, &file, number, text))
 }
 
-/// Mends the disk, where power goes after so many writes: whether that came to its end, how many sectors were written,
-/// and the disk then.
+/// Mends the disk, with power that goes after so many writes. Returns whether that came to its end, how many sectors were
+/// written, and the disk then.
 pub(crate) fn repaired(
     rt: &(impl Abort + AllocGlobal),
     disk: &MemDisk,

@@ -4,7 +4,7 @@ use crate::days::{Line, is_played};
 use crate::disks::fresh;
 use std::process::Abort;
 
-/// A set takes two blocks of growth, intent, card and answer; a refusal its answer alone; a repeat nothing.
+/// A set takes two blocks of growth, intent, card and answer; a refusal takes only its answer; a repeat takes nothing.
 const REPEATS: [Line<'static>; 5] = [
     (b"1,1,S,42,120", b"1,1,DONE,120", 13),
     (b"1,1,S,42,120", b"1,1,DONE,120", 0),
@@ -79,13 +79,13 @@ const FULL: [Line<'static>; 6] = [
     (b"1,6,S,9255,1", b"1,6,DONE,1", 3),
 ];
 
-/// A card behind 120 blocks, and one that takes a side sector more.
+/// A card after 120 blocks, and one that takes a side sector more.
 const SIDES: [Line<'static>; 2] = [
     (b"1,1,S,1693,1", b"1,1,DONE,1", 598),
     (b"1,2,S,1694,2", b"1,2,DONE,2", 10),
 ];
 
-/// A message that is cut before its first write hasn't come; another till is told so.
+/// A message that is cut before its first write hasn't come; the reply to another till says so.
 const CUT_EARLY: [Line<'static>; 5] = [
     (b"@0 1,1,R,7,5", b"CUT", 0),
     (b"1,1,R,7,6", b"1,1,NO CARD", 1),
@@ -94,7 +94,7 @@ const CUT_EARLY: [Line<'static>; 5] = [
     (b"1,2,S,1,5", b"1,2,DONE,5", 3),
 ];
 
-/// One that is cut after its only write, or behind its intent, has; another till sees it.
+/// One that is cut after its only write, or after its intent, has; another till sees it.
 const CUT_LATE: [Line<'static>; 6] = [
     (b"@1 1,1,R,7,5", b"CUT", 1),
     (b"1,1,R,7,6", b"1,1,CLASH", 0),

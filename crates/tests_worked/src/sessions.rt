@@ -1,4 +1,4 @@
-//! Sessions on copies of a disk, also where power goes in them.
+//! Sessions on copies of a disk, also if power goes in them.
 use crate::comparing::{holds, same_at};
 use crate::disks::{clean, fresh, fused, loaded, passed};
 use d64_image::{DeviceAsFile, KeptMirror, MemDisk, Meter, Sectors};
@@ -14,7 +14,8 @@ pub(crate) fn open<D: Sectors>(rt: &impl Abort, disk: D) -> Session<D> {
     }
 }
 
-/// Opens a disk, and hands it a message where there is one: the fault of a disk that isn't opened, and the disk then.
+/// Opens a disk, and passes it a message if there is one. Returns the fault of a disk that isn't opened, and the disk
+/// then.
 fn tried<D: Sectors>(disk: D, message: Option<&[u8]>) -> (Option<OpenFault>, D) {
     match Session::open(disk) {
         Ok(mut session) => {
@@ -39,7 +40,7 @@ pub(crate) fn handed<D: Sectors>(rt: &impl Abort, disk: D, message: &[u8]) -> (R
     (reply, session.close())
 }
 
-/// Plays a script: how that ends, what is told, and the disk then.
+/// Plays a script. Returns how that ends, what is printed, and the disk then.
 pub(crate) fn ran<D: Sectors>(
     rt: &impl AllocGlobal,
     disk: D,
@@ -57,7 +58,7 @@ pub(crate) fn one_reply(rt: &(impl Abort + AllocGlobal)) -> Vec<Reply> {
     vec![in rt.alloc(); Reply::Syntax; 1].expect(rt, "a list")
 }
 
-/// Plays events, behind the replies that the list has: how that ends, the list, and the disk then.
+/// Plays events, after the replies that the list has. Returns how that ends, the list, and the disk then.
 pub(crate) fn ran_of_events<D: Sectors>(
     disk: D,
     events: &[Event<'_>],
@@ -77,7 +78,7 @@ pub(crate) fn after(rt: &(impl Abort + AllocGlobal), script: &[u8]) -> MemDisk {
     disk
 }
 
-/// Opens a copy of the disk, whose power goes after so many writes; tells how many passed, and the disk then.
+/// Opens a copy of the disk, whose power goes after so many writes. Returns how many passed, and the disk then.
 pub(crate) fn opened(
     rt: &(impl Abort + AllocGlobal),
     disk: &MemDisk,
@@ -87,8 +88,8 @@ pub(crate) fn opened(
     passed(fuse)
 }
 
-/// Hands the message to a session on a copy of the disk, whose power goes after so many writes, also before the session
-/// stands; tells how many passed, and the disk then.
+/// Passes the message to a session on a copy of the disk. Power goes after so many writes, also before the session
+/// stands. Returns how many passed, and the disk then.
 pub(crate) fn handled(
     rt: &(impl Abort + AllocGlobal),
     disk: &MemDisk,

@@ -30,7 +30,7 @@ fn add_track(rt: &impl Abort, blocks: &mut Vec<Place>, track: u8, count: usize) 
 }
 
 /// So many blocks of STOCK, as it grows on the blank disk: 17/0, then from 17/4 on the tracks 17, 19, 16, 20 and so on
-/// away from track 18, but for what it passes.
+/// away from track 18, except what it passes.
 fn blocks(rt: &(impl Abort + AllocGlobal), count: usize) -> Vec<Place> {
     let mut blocks = Vec::new(rt.alloc());
     for distance in 1..=17u8 {
@@ -40,7 +40,7 @@ fn blocks(rt: &(impl Abort + AllocGlobal), count: usize) -> Vec<Place> {
     blocks
 }
 
-/// Sees that the pointers of a side sector are the blocks that come next; behind the last one there is none.
+/// Checks that the pointers of a side sector are the blocks that come next; after the last one there is none.
 fn points(
     rt: &impl Abort,
     disk: &mut MemDisk,

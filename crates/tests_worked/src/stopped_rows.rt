@@ -9,7 +9,7 @@ use host_session::{OpenFault, PlayFault, ScriptFault, Session};
 use request_cards::{Reply, Word};
 use std::process::Abort;
 
-/// MEDIA, told to till 1.
+/// The reply MEDIA to till 1.
 fn media(number: u32) -> Reply {
     Reply::Told {
         till: 1,
@@ -18,7 +18,7 @@ fn media(number: u32) -> Reply {
     }
 }
 
-/// Sees that a session is dead, and tells nothing of the shop.
+/// Checks that a session is dead, and reports nothing of the shop.
 fn is_dead<D: Sectors>(rt: &impl Abort, session: &Session<D>) {
     holds(rt, session.is_dead(), "it is dead");
     holds(rt, session.card(1).is_err(), "no card");
@@ -26,7 +26,7 @@ fn is_dead<D: Sectors>(rt: &impl Abort, session: &Session<D>) {
     holds(rt, session.prior(1).is_err(), "nor the one before it");
 }
 
-/// Hands messages to a session whose device fails after one write, and sees that it is dead then. Gives its device.
+/// Hands messages to a session whose device fails after one write, and checks that it is dead then. Gives its device.
 fn dead(rt: &(impl Abort + AllocGlobal)) -> Meter<MemDisk> {
     let mut session = open(rt, Fuse::new(Meter::new(fresh(rt)), 1));
     same(rt, session.handle(b"1,1,S,1,0"), media(1));
@@ -48,7 +48,8 @@ fn a_dead_session_writes_nothing(rt: HostRuntime) {
     is_played(&rt, &disk, &[repeat], "the repeat");
 }
 
-/// Lines of which the last one told has the device fail in it: after how many writes, and how many lines are told.
+/// Lines of which the last one answered has the device fail in it: after how many writes, and how many lines are
+/// answered.
 type Stopped = (u32, usize, &'static [Line<'static>]);
 
 const STOPPED: [Stopped; 4] = [
@@ -63,12 +64,12 @@ const STOPPED: [Stopped; 4] = [
             (b"1,2,I,42,121", b"", 0),
         ],
     ),
-    // In the whole recovery: nothing passes in it, or the card alone.
+    // In the whole recovery: nothing passes in it, or only the card.
     (1, 1, &[(b"@1 1,1,S,1,5", b"CUT", 0), (b"x", b"", 0)]),
     (2, 1, &[(b"@1/0 1,1,S,1,5", b"CUT", 0), (b"x", b"", 0)]),
 ];
 
-/// Sees that the lines are stopped so as a script; the disk then.
+/// Checks that the lines are stopped so as a script; the disk then.
 fn script_stops(
     rt: &(impl Abort + AllocGlobal),
     power: u32,
@@ -82,7 +83,7 @@ fn script_stops(
     fuse.into_inner()
 }
 
-/// The same as events, behind a reply that the list has.
+/// The lines as events, after a reply that the list has.
 fn events_stop(
     rt: &(impl Abort + AllocGlobal),
     power: u32,
@@ -99,7 +100,7 @@ fn events_stop(
     fuse.into_inner()
 }
 
-/// Sees that each row's lines are stopped so on a blank disk, and leave the same as a script and as events.
+/// Checks that each row's lines are stopped at this point on a blank disk, and leave one disk as a script and as events.
 fn are_stopped(rt: &(impl Abort + AllocGlobal), rows: &[Stopped]) {
     for &(power, count, lines) in rows {
         let wanted = replies_of(rt, lines.get(..count).unwrap_or(lines));
@@ -109,8 +110,8 @@ fn are_stopped(rt: &(impl Abort + AllocGlobal), rows: &[Stopped]) {
     }
 }
 
-// The device fails in a message or in a whole recovery: the reply is told, and no line behind it is handled. As a
-// script and as events the same is told, and the same is left.
+// The device fails in a message or in a whole recovery: the reply is passed, and no line after it is handled. A script
+// and events give one result, and leave one disk.
 #[test]
 fn a_device_that_fails_stops_a_run(rt: HostRuntime) {
     are_stopped(&rt, &STOPPED);
@@ -127,7 +128,7 @@ const BAD: [(&[u8], usize); 7] = [
     (b"@0 x\n@99999/99999 x\n@1/100000 x", 3),
 ];
 
-/// Sees that the first bad line of each script is told, and that nothing is written.
+/// Checks that the first bad line of each script is reported, and that nothing is written.
 fn are_bad(rt: &(impl Abort + AllocGlobal), disk: &MemDisk, rows: &[(&[u8], usize)]) {
     for &(script, line) in rows {
         let (ended, told, left) = ran(rt, loaded(rt, disk.bytes()), script);
@@ -137,7 +138,7 @@ fn are_bad(rt: &(impl Abort + AllocGlobal), disk: &MemDisk, rows: &[(&[u8], usiz
     }
 }
 
-/// Sees that the disk is judged where there is no line at all, and what is told of it.
+/// Checks that the disk is checked if there is no line at all, and what is reported of it.
 fn is_judged(rt: &(impl Abort + AllocGlobal), disk: &MemDisk, refused: OpenFault) {
     let (ended, told, _) = ran(rt, loaded(rt, disk.bytes()), b"");
     same(
@@ -149,8 +150,8 @@ fn is_judged(rt: &(impl Abort + AllocGlobal), disk: &MemDisk, refused: OpenFault
     same(rt, ended, Err(PlayFault::Open(refused)));
 }
 
-// A bad line is told before the disk is judged, and nothing is written. Without one the disk is judged,
-// also where there is no line at all.
+// A bad line is reported before the disk is checked, and nothing is written. Without one the disk is checked, even if
+// there is no line at all.
 #[test]
 fn bad_lines_come_first(rt: HostRuntime) {
     let disk = changed(fresh(&rt), &[(17, 0, 0, 2, b"\x11\0")]);

@@ -1,9 +1,8 @@
 -- The script was played over the file that was handed in.
 use Rattle.host_session.specs.runs.Outputs.{written}
 use Rattle.ledger_cli.proofs.Over.{over}
-use Rattle.ledger_cli.specs.Runs.{EndsAs}
 use Rattle.ledger_cli.specs.Streams.{HandsSectors, stream}
-use Rattle.ledger_jobs.specs.Ends.{as_job}
+use Rattle.ledger_jobs.specs.Ends.{EndsAs, as_job}
 use Rattle.ledger_jobs.specs.Runs.{IsPlayRun}
 use Rattle.ledger_cli.proofs.changing.play.Goals as goal
 

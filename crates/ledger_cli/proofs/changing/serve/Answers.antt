@@ -30,7 +30,7 @@ returns-in-None g c =
       (
         run.result.1,
         c.job_end.ensures,
-        service_end _ _ _ c.args.image.now c.in-Ok.stream run.result.0 _ _ c.new-printer.result run.new.out run.result.1
-            old _ run.ensures.run (ap (λ o. o.now) c.new-printer.ensures) (λ same. search rules),
+        service_end _ _ _ c.args.image.now c.in-Ok.stream run.result.0 _ _ c.new-printer.result run.new.out old _
+            (ap (λ o. o.now) c.new-printer.ensures) (λ same. search rules) run.result.1 run.ensures.run,
       ),
     ))
