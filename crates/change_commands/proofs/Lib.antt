@@ -1,3 +1,4 @@
 -- The lemmas of this crate.
 pub mod DeletedImages
 pub mod RenamedImages
+pub mod ShopFiles

@@ -2,3 +2,4 @@
 pub mod Deletes
 pub mod Faults
 pub mod Renames
+pub mod ShopFiles

@@ -6,7 +6,10 @@ mod faults;
 mod judging;
 mod output;
 mod renaming;
+mod shop_files;
 
 pub use deleting::delete_image;
 pub use faults::EditFault;
+pub use judging::load;
 pub use renaming::rename_image;
+pub use shop_files::has_shop_file;
