@@ -13,6 +13,7 @@ pub mod Keeping
 pub mod Kept
 pub mod LandedRuns
 pub mod Listings
+pub mod LoggedPlays
 pub mod LoggedRuns
 pub mod Losses
 pub mod Names

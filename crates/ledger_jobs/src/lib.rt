@@ -21,6 +21,7 @@ mod keeper_files;
 mod keeper_runs;
 mod listings;
 mod locks;
+mod logged_plays;
 mod logged_runs;
 mod losses;
 mod names;
@@ -57,6 +58,7 @@ pub use jobs::{
 };
 pub use keeper_runs::{dry_repair_run, make_run, repair_run, store_run, taking_run};
 pub use listings::{listed_end, listing_run};
+pub use logged_plays::play_logged;
 pub use logged_runs::serve_logged;
 pub use losses::{
     dry_repair_guarded, loss_refusal, make_guarded, repair_guarded, serve_guarded,
