@@ -11,7 +11,8 @@ whose directory is 18/1 alone, and of random links. Each is taken out in a folde
 The script compares
 - the names of the folder's files, which begin with a digit or are index.csv, and that nothing else was made or changed;
 - each file's bytes, the lines of its records, and the index, which Python's csv reads;
-- the status, standard output and standard error.
+- the status, standard output and standard error;
+- what `bytes` and `records` print of each closed entry (of random images the first two), and how they end.
 It ends at the first difference with status 1, and keeps the image."""
 
 import csv
@@ -95,7 +96,7 @@ class Wanted:
         owned = {}
         for place in [MAP, *sectors, *(block for blocks, _, _ in chains for block in blocks)]:
             owned[place] = owned.get(place, 0) + 1
-        self.files, self.faults, rows = {}, [fault] if fault else [], []
+        self.files, self.faults, rows, self.closed = {}, [fault] if fault else [], [], []
         for number, ((place, slot), (blocks, last, ended)) in enumerate(zip(slots, chains), 1):
             shared = next((block for block in blocks if owned[block] > 1), None)
             data = self.data(image, blocks, last)
@@ -106,7 +107,14 @@ class Wanted:
             told = ended or (f"OWNEDTWICE {shared[0]}/{shared[1]}" if shared else "")
             told = told or ("" if slot[2] >= 128 else f"UNCLOSED {place[0]}/{place[1]}")
             self.faults += [told] if told else []
+            if slot[2] >= 128:
+                own = fault or ended or (f"OWNEDTWICE {shared[0]}/{shared[1]}" if shared else "")
+                self.closed.append((slot[5:21].rstrip(b"\xa0"), slot, data, own))
         self.rows = rows
+
+    def first(self, name, is_asked):
+        """The bytes of the first closed entry of this name that is asked for, its slot, and its fault."""
+        return next(((data, slot, own) for its, slot, data, own in self.closed if its == name and is_asked(slot)), None)
 
     @staticmethod
     def reach(image, place, slot):
@@ -173,6 +181,40 @@ def finish(ran, wanted, out):
     return ran.returncode
 
 
+def has_records(slot):
+    return slot[2] % 16 == 4 and 1 <= slot[23] <= 254
+
+
+def taken(program, folder, image, most):
+    """Compares what `bytes` and `records` print of the first names of an image's closed entries."""
+    path, wanted = folder / "disk.d64", Wanted(image)
+    names = [name for name in dict.fromkeys(its for its, _, _, _ in wanted.closed) if name][:most]
+    found = subprocess.run([program, "check", path], capture_output=True).stdout.decode().strip() if names else ""
+    for name in names:
+        data, _, own = wanted.first(name, lambda slot: True)
+        ran = subprocess.run([program, "bytes", path, "--", name_text(name)], capture_output=True)
+        want(f"the bytes of {name}", ran.stdout, data)
+        ends_with(f"the end of bytes {name}", ran, own, [])
+        first = wanted.first(name, has_records)
+        if first:
+            data, slot, own = first
+            ran = subprocess.run([program, "records", path, "--", name_text(name)], capture_output=True)
+            want(f"the records of {name}", ran.stdout, Wanted.lines(data, slot[23]))
+            ends_with(f"the end of records {name}", ran, own, [f"LAYOUT {found}\n"])
+    return len(names)
+
+
+def ends_with(what, ran, own, others):
+    """The file's own fault is reported, or nothing, or one of the others."""
+    told = ran.stderr.decode()
+    if own:
+        want(what, (ran.returncode, told), (1, f"LAYOUT {own}\n"))
+    elif told in others or told.startswith("SHORT "):
+        want(what, ran.returncode, 1)
+    else:
+        want(what, (ran.returncode, told), (0, ""))
+
+
 def tools_disks(folder):
     """The disks of the tools, sound and with each fault."""
     sound = disks.customers(folder, folder / "customers.d64")
@@ -234,11 +276,13 @@ def main():
     count = int(sys.argv[2]) if len(sys.argv) > 2 else 10_000
     seed = int(sys.argv[3]) if len(sys.argv) > 3 else 1
     need(*disks.TOOLS)
-    images = files = whole = 0
+    images = files = whole = names = 0
     with tempfile.TemporaryDirectory() as made, tempfile.TemporaryDirectory() as work:
-        for image in chain_of(tools_disks(Path(made)), random_disks(seed, count)):
+        tried = chain_of(((image, 144) for image in tools_disks(Path(made))), ((image, 2) for image in random_disks(seed, count)))
+        for image, most in tried:
             try:
                 had, status = extracted(program, Path(work), image)
+                names += taken(program, Path(work), image, most)
             except Differs as error:
                 Path("extract-differs.d64").write_bytes(image)
                 print(f"extract: image {images + 1} (kept as extract-differs.d64): {error}")
@@ -247,7 +291,8 @@ def main():
         for entry in Path(work).iterdir():
             entry.unlink()
         refused(program, Path(work))
-    print(f"extract: {images} images taken out, {whole} of them whole; {files} files and {images} indexes are those of the reader")
+    print(f"extract: {images} images taken out, {whole} of them whole; {files} files and {images} indexes are those of the reader, "
+          f"and so are the bytes and records of {names} names")
 
 
 if __name__ == "__main__":

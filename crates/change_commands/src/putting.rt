@@ -17,7 +17,7 @@ use std::io::Write;
 /// gives it one.
 ///
 /// `ImageSize`, `NoMemory`, `Layout` if the disk isn't clean, for a fault that holds; `FileExists` if an entry has the
-/// name; otherwise `DiskFull` if the disk has fewer free blocks than the file takes, or no room in its directory: nothing
+/// name. Otherwise `DiskFull` if the disk has fewer free blocks than the file takes, or no room in its directory. Nothing
 /// was written or printed then. `Device` if the device failed: the file is there or not, and nothing was printed. `File`
 /// if the output failed: the file is there.
 pub fn put_image<D: Sectors, W: Write>(

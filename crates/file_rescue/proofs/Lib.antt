@@ -3,5 +3,4 @@ pub mod Extracted
 pub mod Inside
 pub mod Made
 pub mod Parts
-pub mod Pieced
 pub mod Reached

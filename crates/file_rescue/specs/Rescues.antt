@@ -8,7 +8,6 @@ use Rattle.d64_image.specs.Memory.{sectors_in}
 use Rattle.d64_image.specs.declared.place.Place.{Place}
 use Rattle.disk_layout.specs.Directory.{type_byte}
 use Rattle.disk_layout.specs.Layout.{record_length}
-use Rattle.disk_layout.specs.Records.{pieces}
 use Rattle.disk_layout.specs.declared.faults.Fault.{Fault}
 use Rattle.disk_layout.specs.declared.faults.Fault.TheVariants.{Unclosed}
 use Rattle.disk_layout.specs.declared.slot.Slot.{Slot}
@@ -16,7 +15,7 @@ use Rattle.disk_rescue.specs.Reached.{IsReached}
 use Rattle.disk_rescue.specs.Sharing.{first_shared, shared_fault}
 use Rattle.keeper_commands.specs.Bytes.{file_bytes}
 use Rattle.keeper_commands.specs.Found.{records_length}
-use Rattle.keeper_commands.specs.Records.{records_text}
+use Rattle.keeper_commands.specs.Records.{records_of, records_text}
 use Rattle.keeper_commands.specs.declared.faults.KeepFault.{KeepFault}
 use Rattle.keeper_commands.specs.declared.faults.KeepFault.TheVariants as keep
 use Rattle.petscii_text.specs.FileNames.{ending_of, file_name_of}
@@ -43,10 +42,6 @@ pub record AreRescued (img : Image) (slots : List Slot) (files : List Rescued) :
 -- the bytes of the file that can be reached
 abbrev pub bytes_in : Image → Rescued → List ℕ
 bytes_in img f = file_bytes img f.blocks.items f.last
-
--- the whole records of L bytes among these bytes, record 1 first
-abbrev pub records_of : ℕ → List ℕ → List (List ℕ)
-records_of L bytes = pieces L (length bytes / L) bytes
 
 -- The files that are made of entry n: one with its bytes, as 03-MEMBERS.rel; and if it has records, one with their lines,
 -- as 03-MEMBERS.csv. The side sectors aren't needed for these.

@@ -7,7 +7,6 @@ mod laws;
 mod making;
 mod mem_folder;
 mod output;
-mod record_lines;
 mod rescuing;
 mod rows;
 mod sharing;

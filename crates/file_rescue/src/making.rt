@@ -4,14 +4,14 @@ ghost use Rattle.d64_image.specs.Memory.{disk_image};
 ghost use Rattle.file_rescue.specs.Folders.{AddsFiles, AddsPart, StaysInside, new_file};
 ghost use Rattle.file_rescue.specs.Rescues.{IsMakeFault, IsRescued, bytes_in, entry_file, files_of, line_files};
 ghost use Rattle.keeper_commands.specs.Found.{records_length};
+ghost use Rattle.keeper_commands.specs.Records.{records_of, records_text};
 ghost use Rattle.keeper_commands.specs.declared.faults.KeepFault.TheVariants as faults;
 
 use crate::folders::NewFolder;
-use crate::record_lines::put_records;
 use crate::rescuing::Rescued;
 use d64_image::MemDisk;
 use disk_entries::entry_name;
-use keeper_commands::{ByteForm, KeepFault, length_of_records, put_file};
+use keeper_commands::{KeepFault, RecordForm, length_of_records, put_pieces, read_file};
 use petscii_text::{Ending, file_name};
 use std::alloc::Global;
 
@@ -54,17 +54,20 @@ fn bytes_of(alloc: Global, disk: &mut MemDisk, file: &Rescued) -> Result<Vec<u8>
     ensures err { IfErr result (λ fault. fault ≡ faults.NoMemory) }
     ensures same { disk_image disk.new ≡ disk_image disk.old }
 {
-    let Ok(mut bytes) = Vec::with_capacity(alloc, 254 * file.blocks.len()) else {
-        return Err(KeepFault::NoMemory);
-    };
-    match put_file(
-        &mut bytes,
-        disk,
-        file.blocks.as_slice(),
-        file.last,
-        ByteForm::Plain,
-    ) {
-        Ok(()) => Ok(bytes),
+    read_file(alloc, disk, file.blocks.as_slice(), file.last)
+}
+
+/// The lines of the records of `size` bytes among these bytes. `NoMemory` if there was none for them.
+fn record_lines(alloc: Global, bytes: &[u8], size: u8) -> Result<Vec<u8>, KeepFault>
+    requires low { 1 ≤ size }
+    requires high { size ≤ 254 }
+    requires short { length bytes.now ≤ 182880 }
+    ensures ok { IfOk result (λ lines. lines.items ≡ records_text (records_of size bytes.now)) }
+    ensures err { IfErr result (λ fault. fault ≡ faults.NoMemory) }
+{
+    let mut lines = Vec::new(alloc);
+    match put_pieces(&mut lines, RecordForm::Lines, bytes, size as usize) {
+        Ok(()) => Ok(lines),
         Err(_) => Err(KeepFault::NoMemory),
     }
 }
@@ -88,8 +91,7 @@ fn make_records<F: NewFolder>(
     let Some(length) = length_of_records(&file.slot) else {
         return Ok(());
     };
-    let mut lines = Vec::new(alloc);
-    put_records(&mut lines, bytes, length as usize)?;
+    let lines = record_lines(alloc, bytes, length)?;
     make_entry(folder, number, file, Ending::Records, lines.as_slice())
 }
 

@@ -17,8 +17,10 @@ pub mod Mendings
 pub mod Numbered
 pub mod OneStored
 pub mod Padded
+pub mod Pieced
 pub mod Printing
 pub mod Reached
+pub mod ReachedRecords
 pub mod Repairs
 pub mod Returned
 pub mod SameRepairs

@@ -3,7 +3,7 @@ use Rattle.std.specs.Prelude.{◌≡◌, ◌≢◌, ◌⊎◌, ◌-◌, ℕ, Lis
 use Rattle.std.specs.Io.KnownBytes.{Appends}
 use Rattle.d64_image.specs.Images.{Image}
 use Rattle.d64_image.specs.Memory.{sectors_in}
-use Rattle.disk_layout.specs.Layout.{File}
+use Rattle.disk_layout.specs.Layout.{File, record_length}
 use Rattle.disk_layout.specs.Records.{records}
 use Rattle.disk_layout.specs.declared.faults.Fault.{Fault}
 use Rattle.rel_records.specs.File.{OfItsFile}
@@ -12,7 +12,7 @@ use Rattle.rel_records.specs.declared.reading.record_order.LastBlock.{LastBlock}
 use Rattle.rel_records.specs.reading.Kept.{IsKept}
 use Rattle.keeper_commands.specs.Bytes.{HasFile, HasNoFile, file_bytes}
 use Rattle.keeper_commands.specs.Forms.{bytes_as, form_line, records_as}
-use Rattle.keeper_commands.specs.Records.{IsRecordFile}
+use Rattle.keeper_commands.specs.Records.{HasNoReached, HasNoRecordFile, IsReachedFile, IsRecordFile, records_of}
 use Rattle.keeper_commands.specs.declared.faults.KeepFault.{KeepFault}
 use Rattle.keeper_commands.specs.declared.faults.KeepFault.TheVariants as keep
 use Rattle.keeper_commands.specs.declared.forms.ByteForm.{ByteForm}
@@ -25,6 +25,36 @@ pub record AreRecordsPrinted {W : Type 0} (contents : W → Option (List ℕ)) (
   pub file : File
   pub is_file : IsRecordFile image name file
   pub printed : Appends (contents old) (contents new) (records_as form (records (sectors_in image) file))
+
+-- of a disk that isn't sound: the lines of the records among the bytes that can be reached of the first closed file of
+-- that name that has records, and nothing else, were; and this fault is reported
+pub record AreReachedPrinted {W : Type 0} (contents : W → Option (List ℕ)) (form : RecordForm) (img : Image)
+    (name : List ℕ) (fault : Fault) (old new : W) : Type 0 where
+  pub file : IsReachedFile img name fault
+  pub printed : Appends (contents old) (contents new)
+      (records_as form (records_of (record_length file.slot) (file_bytes img file.blocks file.last)))
+
+-- how the printing of the records of a disk that isn't sound ends: never with all done
+abbrev pub IsReachedEnd : {W : Type 0} → (W → Option (List ℕ)) → RecordForm → Image → (name : List ℕ) → W → W → KeepFault
+    → Type 0
+IsReachedEnd contents form img name old new (keep.Layout fault) =
+    (HasNoReached img name fault × (new ≡ old)) ⊎ AreReachedPrinted contents form img name fault old new
+IsReachedEnd contents form img name old new keep.NoMemory = new ≡ old
+IsReachedEnd contents form img name old new keep.File = (fault : Fault) × IsReachedFile img name fault
+IsReachedEnd contents form img name old new _ = ⊥
+
+-- Why records aren't printed, or not surely all. Of a disk that isn't sound those are that can be reached. Where the
+-- output failed, there is such a file
+abbrev pub IsRecordsFault : {W : Type 0} → (W → Option (List ℕ)) → RecordForm → (image name : List ℕ) → W → W → KeepFault
+    → Type 0
+IsRecordsFault contents form image name old new keep.ImageSize = (length image ≢ 174848) × (new ≡ old)
+IsRecordsFault contents form image name old new keep.NoMemory = (length image ≡ 174848) × (new ≡ old)
+IsRecordsFault contents form image name old new (keep.Layout fault) =
+    (length image ≡ 174848) × IsReachedEnd contents form (sectors_in image) name old new (keep.Layout fault)
+IsRecordsFault contents form image name old new keep.NoFile = HasNoRecordFile image name × (new ≡ old)
+IsRecordsFault contents form image name old new keep.File = ((file : File) × IsRecordFile image name file)
+    ⊎ ((length image ≡ 174848) × IsReachedEnd contents form (sectors_in image) name old new keep.File)
+IsRecordsFault contents form image name old new _ = ⊥
 
 -- the bytes that can be reached of the first closed file of that name, and nothing else, were; and this fault is in the
 -- way of more, or none is

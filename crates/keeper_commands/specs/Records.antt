@@ -1,20 +1,25 @@
 -- What is printed of the records of a relative file of an image. All of it is our own.
-use Rattle.std.specs.Prelude.{◌≡◌, ◌≢◌, ◌≤◌, ℕ, zero, suc, ◌+◌, ◌-◌, ◌++◌, List, [], IfErr, IfOk, Option, Result, Some}
-use Rattle.std.specs.Prelude.{get_or, length, slice_get, take}
+use Rattle.std.specs.Prelude.{◌≡◌, ◌≤◌, ℕ, zero, suc, ◌+◌, ◌-◌, ◌/◌, ◌++◌, List, [], IfErr, IfOk, Option, Result, Some}
+use Rattle.std.specs.Prelude.{get_or, length, slice_get, take, unwrap_or}
 use Rattle.std.specs.Io.KnownBytes.{Appends}
 use Rattle.byte_text.specs.Texts.{record_line}
 use Rattle.d64_image.specs.Images.{Image}
 use Rattle.d64_image.specs.Memory.{sectors_in}
+use Rattle.d64_image.specs.declared.place.Place.{Place}
 use Rattle.disk_layout.specs.Fault.{Holds, nowhere}
 use Rattle.disk_layout.specs.Layout.{File, IsLayout, Layout}
-use Rattle.disk_layout.specs.Records.{records}
+use Rattle.disk_layout.specs.Records.{pieces, records}
 use Rattle.disk_layout.specs.Rest.{IsFirst, IsNamed}
+use Rattle.disk_layout.specs.declared.faults.Fault.{Fault}
+use Rattle.disk_layout.specs.declared.slot.Slot.{Slot}
 use Rattle.rel_records.specs.File.{OfItsFile}
 use Rattle.rel_records.specs.declared.rel_file.RelFile.{RelFile}
 use Rattle.rel_records.specs.declared.reading.record_order.LastBlock.{LastBlock}
 use Rattle.rel_records.specs.reading.Kept.{IsKept}
+use Rattle.keeper_commands.specs.Found.{HasNone, IsHad}
 use Rattle.keeper_commands.specs.declared.faults.KeepFault.{KeepFault}
 use Rattle.keeper_commands.specs.declared.faults.KeepFault.TheVariants as keep
+use Rattle.keeper_commands.specs.declared.finding.Kind.TheVariants.{Records}
 
 -- the lines of the first n of these records, record 1 first
 abbrev pub lines_to : List (List ℕ) → ℕ → List ℕ
@@ -56,11 +61,24 @@ pub record HasNoRecordFile (image name : List ℕ) : Type 0 where
   pub is_layout : IsLayout (sectors_in image) layout
   pub none : (k : ℕ) (f : File) → slice_get layout.files k ≡ Some f → ¬ (IsNamed name f)
 
--- why records aren't printed. If the output failed, there is such a file
-abbrev pub IsRecordsFault : List ℕ → List ℕ → KeepFault → Type 0
-IsRecordsFault image name keep.ImageSize = length image ≢ 174848
-IsRecordsFault image name keep.NoMemory = length image ≡ 174848
-IsRecordsFault image name (keep.Layout fault) = (length image ≡ 174848) × Holds nowhere (sectors_in image) fault
-IsRecordsFault image name keep.NoFile = HasNoRecordFile image name
-IsRecordsFault image name keep.File = (file : File) × IsRecordFile image name file
-IsRecordsFault image name _ = ⊥
+-- the whole records of L bytes among these bytes, record 1 first
+abbrev pub records_of : ℕ → List ℕ → List (List ℕ)
+records_of L bytes = pieces L (length bytes / L) bytes
+
+-- The disk isn't sound, by the fault `first`, and these blocks can be reached of the first closed file of that name that
+-- has records. What is reported is the file's own fault, or `first` if it has none.
+pub record IsReachedFile (img : Image) (name : List ℕ) (fault : Fault) : Type 0 where
+  pub first : Fault
+  pub holds : Holds nowhere img first
+  pub slot : Slot
+  pub blocks : List Place
+  pub last : ℕ
+  pub own : Option Fault
+  pub had : IsHad img Records name slot blocks last own
+  pub fault_is : fault ≡ unwrap_or own first
+
+-- the disk isn't sound, by this fault, and no such file can be found
+pub record HasNoReached (img : Image) (name : List ℕ) (fault : Fault) : Type 0 where
+  pub holds : Holds nowhere img fault
+  pub ended : Option Fault
+  pub none : HasNone img Records name ended

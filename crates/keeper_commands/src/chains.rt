@@ -1,5 +1,5 @@
 //! The blocks of a file, and their bytes as they are printed.
-ghost use Rattle.std.specs.Prelude.{◌≡◌, ◌-◌, IfErr, OnOk, drop, max, take};
+ghost use Rattle.std.specs.Prelude.{◌≡◌, ◌≤◌, ◌-◌, IfErr, IfOk, OnOk, drop, length, max, take};
 ghost use Rattle.std.specs.Io.KnownBytes.{Appends};
 ghost use Rattle.d64_image.specs.Images.{sector};
 ghost use Rattle.d64_image.specs.Memory.{disk_image};
@@ -14,6 +14,7 @@ use crate::forms::ByteForm;
 use crate::output::put;
 use d64_image::{MemDisk, Place, Sectors};
 use petscii_text::{CharacterSet, Readable};
+use std::alloc::Global;
 use std::io::Write;
 
 /// Prints bytes as text that people read. `File` if the output failed.
@@ -95,5 +96,26 @@ pub fn put_file<W: Write>(
             put_blocks(out, disk, front, form)?;
             put_block(out, disk, *end, last, form)
         }
+    }
+}
+
+/// The bytes of a file with these blocks, up to the index `last` of the last one. `NoMemory` if there was none for them.
+pub fn read_file(
+    alloc: Global,
+    disk: &mut MemDisk,
+    blocks: &[Place],
+    last: u8,
+) -> Result<Vec<u8>, KeepFault>
+    requires { length blocks.now ≤ 720 }
+    ensures ok { IfOk result (λ bytes. bytes.items ≡ file_bytes (disk_image disk.old) blocks.now last) }
+    ensures err { IfErr result (λ fault. fault ≡ faults.NoMemory) }
+    ensures same { disk_image disk.new ≡ disk_image disk.old }
+{
+    let Ok(mut bytes) = Vec::with_capacity(alloc, 254 * blocks.len()) else {
+        return Err(KeepFault::NoMemory);
+    };
+    match put_file(&mut bytes, disk, blocks, last, ByteForm::Plain) {
+        Ok(()) => Ok(bytes),
+        Err(_) => Err(KeepFault::NoMemory),
     }
 }

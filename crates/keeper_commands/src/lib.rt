@@ -17,12 +17,14 @@ mod loading;
 mod making;
 mod mending;
 mod output;
+mod piece_printing;
+mod reached_records;
 mod record_printing;
 mod record_storing;
 mod storing;
 
 pub use byte_printing::bytes_image;
-pub use chains::put_file;
+pub use chains::{put_file, read_file};
 pub use column_lines::plain_lines;
 pub use faults::KeepFault;
 pub use finding::length_of_records;
@@ -34,5 +36,6 @@ pub use laws::{
 pub use loading::load;
 pub use making::{is_new_name, make_image};
 pub use mending::repair_image;
+pub use piece_printing::put_pieces;
 pub use record_printing::records_image;
 pub use record_storing::store_image;

@@ -45,7 +45,7 @@ fn write_fields_line<W: Write>(out: &mut W, number: u32, bytes: &[u8]) -> io::Re
 }
 
 /// Writes the line of a record in this form.
-fn write_form_line<W: Write>(
+pub(crate) fn write_form_line<W: Write>(
     out: &mut W,
     form: RecordForm,
     number: u32,

@@ -1,14 +1,14 @@
 //! Images taken into memory.
-ghost use Rattle.std.specs.Prelude.{◌≡◌, ◌≢◌, ℕ, List, IfErr, IfOk, OnOk, length};
+ghost use Rattle.std.specs.Prelude.{◌≡◌, IfErr, IfOk, MatchOption, OnOk, length};
 ghost use Rattle.d64_image.specs.Memory.{disk_image, sectors_in};
 ghost use Rattle.disk_layout.specs.Clean.{IsClean};
+ghost use Rattle.disk_layout.specs.Fault.{Holds, nowhere};
 ghost use Rattle.disk_layout.specs.Layout.{IsSound};
 ghost use Rattle.keeper_commands.specs.Faults.{IsCleanFault, IsLoadFault};
-ghost use Rattle.keeper_commands.specs.Records.{IsRecordsFault};
-ghost use Rattle.keeper_commands.specs.declared.faults.KeepFault.TheVariants as faults;
 
 use crate::faults::KeepFault;
 use d64_image::{ImageFault, MemDisk};
+use disk_layout::Fault;
 use layout_check::{check, survey};
 use std::alloc::Global;
 
@@ -25,17 +25,14 @@ pub fn load(alloc: Global, image: &[u8]) -> Result<MemDisk, KeepFault>
     }
 }
 
-/// The same of an image that is sound.
-pub(crate) fn load_sound(alloc: Global, image: &[u8]) -> Result<MemDisk, KeepFault>
-    ensures ok { IfOk result (λ disk. (length image.now ≡ 174848)
-        × (disk_image disk ≡ sectors_in image.now) × IsSound (disk_image disk)) }
-    ensures err { IfErr result (λ fault. (fault ≢ faults.NoFile) × (fault ≢ faults.File)
-        × ((name : List ℕ) → IsRecordsFault image.now name fault)) }
+/// What is wrong with the disk, if it isn't sound.
+pub(crate) fn unsoundness(disk: &mut MemDisk) -> Option<Fault>
+    ensures fault { MatchOption result (IsSound (disk_image disk.old)) (Holds nowhere (disk_image disk.old)) }
+    ensures same { disk_image disk.new ≡ disk_image disk.old }
 {
-    let mut disk = load(alloc, image)?;
-    match survey(&mut disk) {
-        Ok(_) => Ok(disk),
-        Err(fault) => Err(KeepFault::Layout(fault)),
+    match survey(disk) {
+        Ok(_) => None,
+        Err(fault) => Some(fault),
     }
 }
 

@@ -1,11 +1,11 @@
 //! The records of a relative file, as they are printed.
-ghost use Rattle.std.specs.Prelude.{◌≡◌, ◌≢◌, ◌≤◌, ◌+◌, IfErr, IfOk, Ok, OnOk, length, take};
+ghost use Rattle.std.specs.Prelude.{◌≡◌, ◌≤◌, ◌+◌, IfErr, IfOk, Ok, OnOk, length, take};
 ghost use Rattle.std.specs.Io.KnownBytes.{Appends};
 ghost use Rattle.d64_image.specs.Memory.{disk_image};
 ghost use Rattle.disk_layout.specs.Records as records_of;
 ghost use Rattle.keeper_commands.specs.Forms.{records_as};
-ghost use Rattle.keeper_commands.specs.Printed.{AreRecordsPrinted};
-ghost use Rattle.keeper_commands.specs.Records.{HandsOn, IsGathered, IsRecordsFault, records_text};
+ghost use Rattle.keeper_commands.specs.Printed.{AreRecordsPrinted, IsRecordsFault};
+ghost use Rattle.keeper_commands.specs.Records.{HandsOn, IsGathered, records_text};
 ghost use Rattle.keeper_commands.specs.declared.faults.KeepFault.TheVariants as faults;
 ghost use Rattle.rel_records.specs.File.{IsOf, OfItsFile};
 ghost use Rattle.rel_records.specs.reading.Kept.{IsKept};
@@ -13,8 +13,9 @@ ghost use Rattle.rel_records.specs.reading.Kept.{IsKept};
 use crate::faults::KeepFault;
 use crate::forms::RecordForm;
 use crate::line_printing::print_lines;
-use crate::loading::load_sound;
+use crate::loading::{load, unsoundness};
 use crate::output::{flush, put};
+use crate::reached_records::reached_records;
 use arrayvec::ArrayVec;
 use byte_text::{LINE_ROOM, put_line};
 use d64_image::MemDisk;
@@ -113,9 +114,15 @@ fn put_records_as<W: Write>(
     }
 }
 
-/// Prints the records of the first closed relative file of this name, one a line, record 1 first. A line is its number, a
-/// comma, and its bytes up to the last one that isn't 0, in this form. `ImageSize`, `NoMemory`; `Layout` if the image
-/// isn't sound; `NoFile`; `File` if the output failed, which may then have a part.
+/// Prints the records of the first closed relative file of this name, one a line, record 1 first: its number, a
+/// comma, and its bytes up to the last one that isn't 0, in this form.
+///
+/// If the disk isn't sound, whole records are cut from the bytes that can be reached of the first such file with a record
+/// length of 1 to 254, without side sectors. The error is then `Layout` with the first fault of what `bytes_image` judges of
+/// that file, or with that of the disk if there is none.
+///
+/// Nothing was printed after `ImageSize`, `NoMemory` and `NoFile`, and after `Layout` if such a disk has no such file. After
+/// `File` the output failed, which may have a part.
 pub fn records_image<W: Write>(
     alloc: Global,
     image: &[u8],
@@ -124,10 +131,12 @@ pub fn records_image<W: Write>(
     out: &mut W,
 ) -> Result<(), KeepFault>
     ensures ok { OnOk result (AreRecordsPrinted W.contents form image.now name.now out.old out.new) }
-    ensures err { IfErr result (IsRecordsFault image.now name.now) }
-    ensures untouched { IfErr result (λ fault. (fault ≢ faults.File) → out.new ≡ out.old) }
+    ensures err { IfErr result (IsRecordsFault W.contents form image.now name.now out.old out.new) }
 {
-    let mut disk = load_sound(alloc, image)?;
+    let mut disk = load(alloc, image)?;
+    if let Some(fault) = unsoundness(&mut disk) {
+        return reached_records(alloc, &mut disk, name, form, fault, out);
+    }
     let file = match find(&mut disk, name) {
         Ok(file) => file,
         Err(RelFault::NotFound) => return Err(KeepFault::NoFile),

@@ -1,8 +1,7 @@
 -- What comes of what is asked for of a file, from what its command says.
 use Rattle.std.proofs.Common.{◌≡◌, ◌≢◌, ℕ, List, None, Option, Result, Ok, Err, arith, inl, inr, length, refl}
 use Rattle.std.specs.Prelude.{IfErr, OnOk}
-use Rattle.keeper_commands.specs.Printed.{AreBytesPrinted, AreRecordsPrinted, IsBytesFault}
-use Rattle.keeper_commands.specs.Records.{IsRecordsFault}
+use Rattle.keeper_commands.specs.Printed.{AreBytesPrinted, AreRecordsPrinted, IsBytesFault, IsRecordsFault}
 use Rattle.keeper_commands.specs.declared.faults.KeepFault.{KeepFault}
 use Rattle.keeper_commands.specs.declared.faults.KeepFault.TheVariants as keep
 use Rattle.keeper_commands.specs.declared.forms.ByteForm.{ByteForm}
@@ -45,26 +44,28 @@ module _ {W : Type 0} (contents : W → Option (List ℕ)) (what : Taking) (imag
 
 module _ {W : Type 0} (contents : W → Option (List ℕ)) (image name : List ℕ) (old new : W) where
   pub records-run : (form : RecordForm) (r : Result Unit KeepFault) → OnOk r (AreRecordsPrinted contents form image name old new)
-      → IfErr r (IsRecordsFault image name)
-      → IfErr r (λ fault. fault ≢ keep.File → new ≡ old) → IsTakingRun contents (takings.Records form) image name old new r
-  records-run form (Ok x) ok err untouched =
+      → IfErr r (IsRecordsFault contents form image name old new)
+      → IsTakingRun contents (takings.Records form) image name old new r
+  records-run form (Ok x) ok err =
       taken contents (takings.Records form) image name old new (Ok x) refl ok.is_file.size ok tt
-  records-run form (Err keep.ImageSize) ok err untouched = refused contents (takings.Records form) image name old new _ refl
-      (λ _. untouched (λ e. cc)) (err, λ _. untouched (λ e. cc))
-  records-run form (Err (keep.Layout fault)) ok err untouched = refused contents (takings.Records form) image name old new _ refl
-      (λ _. untouched (λ e. cc)) (err, λ _. untouched (λ e. cc))
-  records-run form (Err keep.NoFile) ok err untouched = refused contents (takings.Records form) image name old new _ refl
-      (λ _. untouched (λ e. cc)) (err, λ _. untouched (λ e. cc))
-  records-run form (Err keep.File) ok err untouched = stopped contents (takings.Records form) image name old new _ refl err.1.size
-      (err, λ one. absurd (omega (arith, one)))
-  records-run form (Err keep.NoMemory) ok err untouched = stopped contents (takings.Records form) image name old new _ refl err
-      (err, λ one. absurd (omega (arith, one)))
-  records-run form (Err keep.Device) ok err untouched = absurd err
-  records-run form (Err keep.FileExists) ok err untouched = absurd err
-  records-run form (Err (keep.BadLine line)) ok err untouched = absurd err
-  records-run form (Err keep.DiskFull) ok err untouched = absurd err
-  records-run form (Err keep.Geos) ok err untouched = absurd err
-  records-run form (Err keep.Format) ok err untouched = absurd err
+  records-run form (Err keep.ImageSize) ok err = refused contents (takings.Records form) image name old new _ refl
+      (λ _. err.1) err
+  records-run form (Err (keep.Layout fault)) ok err = refused contents (takings.Records form) image name old new _ refl
+      (λ other. absurd (other err.0)) err
+  records-run form (Err keep.NoFile) ok err = refused contents (takings.Records form) image name old new _ refl
+      (λ other. absurd (other err.0.size)) err
+  records-run form (Err keep.File) ok err = stopped contents (takings.Records form) image name old new _ refl
+      (elim err [
+        | inl file ↦ file.1.size
+        | inr reached ↦ reached.0
+      ]) err
+  records-run form (Err keep.NoMemory) ok err = stopped contents (takings.Records form) image name old new _ refl err.0 err
+  records-run form (Err keep.Device) ok err = absurd err
+  records-run form (Err keep.FileExists) ok err = absurd err
+  records-run form (Err (keep.BadLine line)) ok err = absurd err
+  records-run form (Err keep.DiskFull) ok err = absurd err
+  records-run form (Err keep.Geos) ok err = absurd err
+  records-run form (Err keep.Format) ok err = absurd err
 
   pub bytes-run : (form : ByteForm) (r : Result Unit KeepFault)
       → OnOk r (AreBytesPrinted contents form image name None old new)

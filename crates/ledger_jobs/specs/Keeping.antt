@@ -10,8 +10,7 @@ use Rattle.disk_layout.specs.Directory.{map_place}
 use Rattle.disk_layout.specs.Fault.{Holds, nowhere}
 use Rattle.disk_layout.specs.Layout.{IsSound}
 use Rattle.keeper_commands.specs.Faults.{keep_status}
-use Rattle.keeper_commands.specs.Printed.{AreBytesPrinted, AreRecordsPrinted, IsBytesFault}
-use Rattle.keeper_commands.specs.Records.{IsRecordsFault}
+use Rattle.keeper_commands.specs.Printed.{AreBytesPrinted, AreRecordsPrinted, IsBytesFault, IsRecordsFault}
 use Rattle.keeper_commands.specs.Kinds.{HasFormatByte, HasGeosSign, IsPlainDisk}
 use Rattle.keeper_commands.specs.Repairs.{IsMendedDisk, IsRepairDone, IsRepairFault, IsRepairRun}
 use Rattle.keeper_commands.specs.declared.faults.KeepFault.{KeepFault}
@@ -30,12 +29,11 @@ abbrev pub IsTaken : {W : Type 0} → (W → Option (List ℕ)) → Taking → (
 IsTaken contents (takings.Records form) image name old new = AreRecordsPrinted contents form image name old new
 IsTaken contents (takings.Bytes form) image name old new = AreBytesPrinted contents form image name None old new
 
--- Why it wasn't, or not all of it. If records are refused, nothing was printed. If bytes are, those that can be reached
--- were printed
+-- why it wasn't, or not surely all of it
 abbrev pub IsTakingFault : {W : Type 0} → (W → Option (List ℕ)) → Taking → (image name : List ℕ) → W → W → KeepFault
     → Type 0
 IsTakingFault contents (takings.Records form) image name old new fault =
-    IsRecordsFault image name fault × (keep_status fault ≡ 1 → new ≡ old)
+    IsRecordsFault contents form image name old new fault
 IsTakingFault contents (takings.Bytes form) image name old new fault =
     IsBytesFault contents form image name old new fault
 

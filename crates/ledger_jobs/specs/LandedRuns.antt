@@ -1,6 +1,7 @@
 -- How a service over a log ends, whose log is landed then. All of it is our own.
-use Rattle.std.specs.Prelude.{◌≡◌, ◌≢◌, ◌⊎◌, Err, IfOk, IfSome, IsOk, IsSome, None, Option}
+use Rattle.std.specs.Prelude.{◌≡◌, ◌≢◌, ◌⊎◌, if◌then◌else◌, Bool, Err, IfSome, IsOk, IsSome, None, Option, Some}
 use Rattle.d64_image.specs.Images.{Image}
+use Rattle.host_session.specs.shop.Shop.{IsSettled, Shop}
 use Rattle.log_files.specs.Bringing.{RestsAlone}
 use Rattle.log_files.specs.Folders.{FolderHistory}
 use Rattle.log_files.specs.LiveLogs.{of_live}
@@ -26,3 +27,21 @@ pub record IsLandedEnd {F D : Type 0} {G : Ghosts F} (h : FolderHistory D) (log 
       → IfSome folder (λ d. RestsAlone h d image)
   -- what is reported is how it ended, or that the log couldn't be landed
   pub told : (end ≡ ended) ⊎ ((end ≡ Err (refusals.Run run.Device)) ⊎ (end ≡ Err (refusals.Run run.NoMemory)))
+
+-- the end of a service that ended so, and whose image's file has gone or hasn't
+abbrev pub watched_end : (gone : Bool) → JobEnd → JobEnd
+watched_end gone ended = if gone then Err (refusals.Run run.Device) else ended
+
+-- Something was done over a log in a folder, and left the log with this end. Then the log was landed, as after a service
+-- with this end; or as after one with `Device`, if the image's file had gone.
+pub record IsDoneAndLanded {F D : Type 0} {G : Ghosts F} (h : FolderHistory D) (IsDone : LiveLog F D G → JobEnd → Type 0)
+    (gone : Bool) (folder : Option D) (end : JobEnd) : Type 0 where
+  pub left : LiveLog F D G
+  pub ended : JobEnd
+  pub done : IsDone left ended
+  pub landed : IsLandedEnd h left (watched_end gone ended) folder end
+
+-- IMAGE is that of this shop at rest, and no log stands beside it
+abbrev pub HasLanded : {D : Type 0} → FolderHistory D → Shop → Option D → Type 0
+HasLanded h s None = ⊥
+HasLanded h s (Some folder) = (image : Image) × IsSettled image s × RestsAlone h folder image

@@ -3,6 +3,8 @@ pub mod Comparisons
 pub mod Copies
 pub mod Drawings
 pub mod DurableRuns
+pub mod EditRefusals
+pub mod Edited
 pub mod Ends
 pub mod Extracts
 pub mod FileServes
@@ -11,9 +13,11 @@ pub mod Keeping
 pub mod Kept
 pub mod LandedRuns
 pub mod Listings
+pub mod LoggedPlays
 pub mod LoggedRuns
 pub mod Losses
 pub mod Names
+pub mod NewDisks
 pub mod Overviews
 pub mod Runs
 pub mod Serves

@@ -1,20 +1,30 @@
 //! Serving the shop of the image at a path, over a log beside it.
 ghost use Rattle.std.specs.Prelude.{◌≡◌, IfOk, length};
 ghost use Rattle.ledger_jobs.specs.Ends.{landing_fault, unlanded as unlanded_end};
-ghost use Rattle.ledger_jobs.specs.LandedRuns.{IsLandedEnd};
+ghost use Rattle.ledger_jobs.specs.LandedRuns.{IsDoneAndLanded, IsLandedEnd};
+ghost use Rattle.ledger_jobs.specs.LoggedRuns.{IsLoggedRun, IsUnlogged};
+ghost use Rattle.ledger_jobs.specs.Losses.{IsEndOfRun, IsGuarded};
+ghost use Rattle.ledger_jobs.specs.WatchedFiles.{while_there};
+ghost use Rattle.log_files.specs.LiveLogs.{of_live};
+ghost use Rattle.log_server.specs.Reporting.{of_output};
 
-use crate::dispatch::told;
 use crate::image_logs::{is_sized, log_refusal, opened_alone};
 use crate::jobs::Loss;
 use crate::losses::{loss_refusal, serve_logged_guarded};
+use crate::outcomes::told;
 use crate::refusals::Refusal;
 use crate::serving_images::name_of;
 use crate::watched_files::{WhileThere, served_end};
+use d64_image::MemDisk;
 use disk_layout::Fault;
 use host_session::Printer;
-use log_files::{ImageFolder, LiveLog, LogFault, LogFolder, LogNames, forget_making, land_in};
+use line_server::{Answers, BatchSource};
+use log_files::{
+    ImageFolder, LiveLog, LogFault, LogFolder, LogNames, SystemLog, forget_making, land_in,
+};
 use shop_commands::{Durability, EndedFile, Locks, RunFault};
-use shop_log::{LogFile, LogRoom};
+use shop_log::{LogFile, LogRoom, TouchedDisk};
+use std::alloc::Global;
 use std::fs::OpenFile;
 use std::io::{BufReader, Write};
 use std::rt::Files;
@@ -80,7 +90,7 @@ fn unlanded(
 
 /// Lands the log of a service that ended so. If a commit of it failed or the image's file has gone, the log stays where
 /// it is, and the next service or change lands it. `NoMemory` or `Device` if it couldn't be landed.
-fn landed_end<L: LogFile, D: LogFolder<L> + Drop>(
+pub(crate) fn landed_end<L: LogFile, D: LogFolder<L> + Drop>(
     log: LiveLog<L, D>,
     ended: Result<Option<Fault>, Refusal>,
 ) -> (Option<D>, Result<Option<Fault>, Refusal>)
@@ -96,50 +106,96 @@ fn landed_end<L: LogFile, D: LogFolder<L> + Drop>(
     }
 }
 
-/// Serves the shop of this image over a log that was begun with it, to what comes on standard input, while the name of
-/// the image's file leads to it. Then the log is landed.
-fn serve_begun<L, D, N, R, W>(
-    rt: &R,
+/// Serves the shop of this image over a log that was begun with it, to an input, while the file stays to which the replies
+/// are bound. Then the log is landed, and the folder returned; but it is left where it is if the file has gone, or a commit
+/// failed.
+fn serve_begun<L, D, N, I, T>(
+    alloc: Global,
     image: &[u8],
     log: LiveLog<L, D>,
-    name: N,
     loss: Loss,
-    out: &mut W,
-) -> Result<Option<Fault>, Refusal>
+    input: &mut I,
+    answers: &mut WhileThere<'_, N, T>,
+) -> (Option<D>, Result<Option<Fault>, Refusal>)
 where
     L: LogFile,
     D: LogFolder<L> + Drop,
-    N: Stays + Drop,
-    R: Input + AllocGlobal,
-    W: Write,
+    N: Stays,
+    I: BatchSource,
+    T: Answers<TouchedDisk<MemDisk>>,
+    ensures { IsDoneAndLanded D.history (λ left ended. IsGuarded image.now loss
+        (IsUnlogged log left input.old input.new answers.old answers.new)
+        (IsEndOfRun (IsLoggedRun (of_live D.history) I.input (of_output (while_there T.answering)) image.now log left
+        input.old input.new answers.old answers.new)) ended) answers.new.gone result.0 result.1 }
 {
     let mut log = log;
-    // A bare reader of standard input reads a byte a call.
-    let mut input = told(BufReader::new(rt.alloc(), rt.reader()))?;
-    let mut printer = Printer::new(out);
-    let mut answers = WhileThere::new(name, &mut printer);
-    let ended = serve_logged_guarded(rt.alloc(), image, &mut log, loss, &mut input, &mut answers);
-    let gone = answers.is_gone();
-    let (_, end) = landed_end(log, served_end(ended, gone));
-    end
+    let ended = serve_logged_guarded(alloc, image, &mut log, loss, input, answers);
+    landed_end(log, served_end(ended, answers.is_gone()))
 }
 
-/// The end of a service over a log that couldn't be made, or renewed. What was made of a further log is removed, since it
+/// The end of a job over a log that couldn't be made, or renewed. What was made of a further log is removed, since it
 /// would keep the disk full. This is done only while the path leads to the image's file, which only this program may
 /// write.
-fn cleared_end<F: OpenFile, R: Files<File = F>>(
+pub(crate) fn cleared_end<F: OpenFile, R: Files<File = F>, T>(
     rt: &R,
     path: &str,
     image: &F,
     names: &LogNames,
-    ended: Result<Option<Fault>, Refusal>,
-) -> Result<Option<Fault>, Refusal>
+    ended: Result<T, Refusal>,
+) -> Result<T, Refusal>
     ensures { result ≡ ended }
 {
     if ended.is_err() && name_of(rt, path, image).is_ok() {
         let _ = forget_making(rt, names);
     }
     ended
+}
+
+/// The regular file at a path, which this program has alone and which has as many bytes as an image.
+pub(crate) fn opened_image<F, R>(rt: &R, path: &str) -> Result<F, Refusal>
+where
+    F: Locks + OpenFile + Drop,
+    R: Files<File = F>,
+{
+    let image = opened_alone(rt, path)?;
+    if is_sized(&image)? {
+        return Ok(image);
+    }
+    Err(Refusal::Run(RunFault::ImageSize))
+}
+
+/// The bytes of the shop of the image at a path, and a log beside it that was begun with them. A log that stood there was
+/// landed. Other programs may read the image from then on.
+pub(crate) fn begun_beside<'a, F, R>(
+    rt: &'a R,
+    path: &str,
+    names: &'a LogNames,
+    image: &mut F,
+    durability: Durability,
+    loss: Loss,
+) -> Result<(Vec<u8>, LiveLog<SystemLog<'a, R>, ImageFolder<'a, R>>), Refusal>
+where
+    F: EndedFile + Locks + OpenFile + Drop,
+    R: Files<File = F> + AllocGlobal,
+{
+    let alloc = rt.alloc();
+    let mut folder = folder_of(rt, names, path, durability)?;
+    let shop = shop_of(rt, &mut folder, loss)?;
+    let room = told(LogRoom::new(alloc).map_err(From::from))?;
+    let bytes = told(
+        shop.as_slice()
+            .as_flattened()
+            .to_vec(alloc)
+            .map_err(From::from),
+    )?;
+    let log = match LiveLog::begin(alloc, folder, room, shop) {
+        Ok(log) => log,
+        Err((error, _)) => return cleared_end(rt, path, image, names, told(Err(error))),
+    };
+    match image.lock_shared() {
+        Ok(()) => Ok((bytes, log)),
+        Err(error) => Err(Refusal::of_lock(&error)),
+    }
 }
 
 /// Serves the shop of the image at a path, over a log beside it, to what comes on standard input. Other programs may read
@@ -159,29 +215,14 @@ where
     W: Write,
 {
     let alloc = rt.alloc();
-    let mut image = opened_alone(rt, path)?;
-    if !is_sized(&image)? {
-        return Err(Refusal::Run(RunFault::ImageSize));
-    }
+    let mut image = opened_image(rt, path)?;
+    // A bare reader of standard input reads a byte a call.
+    let mut input = told(BufReader::new(alloc, rt.reader()))?;
     let name = name_of(rt, path, &image)?;
     let names = told(LogNames::of(rt, alloc, path))?;
-    let mut folder = folder_of(rt, &names, path, durability)?;
-    let shop = shop_of(rt, &mut folder, loss)?;
-    let room = told(LogRoom::new(alloc).map_err(From::from))?;
-    let bytes = told(
-        shop.as_slice()
-            .as_flattened()
-            .to_vec(alloc)
-            .map_err(From::from),
-    )?;
-    let log = match LiveLog::begin(alloc, folder, room, shop) {
-        Ok(log) => log,
-        Err((error, _)) => return cleared_end(rt, path, &image, &names, told(Err(error))),
-    };
-    // others may read it from here on
-    if let Err(error) = image.lock_shared() {
-        return Err(Refusal::of_lock(&error));
-    }
-    let ended = serve_begun(rt, bytes.as_slice(), log, name, loss, out);
+    let (bytes, log) = begun_beside(rt, path, &names, &mut image, durability, loss)?;
+    let mut printer = Printer::new(out);
+    let mut answers = WhileThere::new(name, &mut printer);
+    let (_, ended) = serve_begun(alloc, bytes.as_slice(), log, loss, &mut input, &mut answers);
     cleared_end(rt, path, &image, &names, ended)
 }

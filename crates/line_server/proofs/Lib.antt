@@ -3,6 +3,7 @@ pub mod Cuts
 pub mod Long
 pub mod Together
 pub mod Taken
+pub mod LinesGiven
 pub mod Turns
 pub mod Same
 pub mod Handled

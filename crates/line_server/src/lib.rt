@@ -6,6 +6,7 @@ mod batches;
 mod flushing;
 mod inputs;
 mod reading;
+mod scripts;
 mod serving;
 mod sources;
 
@@ -13,5 +14,6 @@ pub use answers::Answers;
 pub use batches::{BatchSource, MOST_LINES};
 pub use flushing::Flushing;
 pub use inputs::InputEvents;
+pub use scripts::ScriptBatches;
 pub use serving::serve;
 pub use sources::LineSource;

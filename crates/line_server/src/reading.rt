@@ -33,7 +33,7 @@ fn before_lf(bytes: &[u8]) -> usize
 }
 
 /// Appends these bytes, as far as there is room.
-fn append_part(line: &mut ArrayVec<u8, 40>, bytes: &[u8])
+pub(crate) fn append_part(line: &mut ArrayVec<u8, 40>, bytes: &[u8])
     ensures { line.new.items ≡ take 40 (line.old.items ++ bytes.now) }
 {
     let count = bytes.len().min(line.remaining_capacity());

@@ -65,9 +65,9 @@ fn records_are_printed(rt: HostRuntime) {
     are_printed(&rt, &MADE);
 }
 
-/// Changes of the blank disk, the name that is asked for, and what is reported. If a last index is below 2, the file has
-/// no record, and nothing is printed. The loop and the links are in a file that isn't asked for.
-const REFUSED: [(&[Change], &[u8], &str); 9] = [
+/// Changes of the blank disk, the name that is asked for, and what is reported. If a last index is below 2, the file
+/// has no record, and nothing is printed.
+const REFUSED: [(&[Change], &[u8], &str); 10] = [
     (&[(17, 0, 1, &[1])], b"STOCK", ""),
     (&[(17, 0, 1, &[0])], b"STOCK", ""),
     (&[], b"STOC", "NO FILE"),
@@ -75,9 +75,15 @@ const REFUSED: [(&[Change], &[u8], &str); 9] = [
     (&[], b"SEVENTEEN LETTERS", "NO FILE"),
     // closed, and of another type
     (&[(18, 1, 2, &[0x82])], b"STOCK", "NO FILE"),
-    (&[(17, 2, 0, &[17, 2])], b"STOCK", "LAYOUT LOOP 17/2"),
+    // the same on a disk that isn't sound
+    (
+        &[(18, 1, 2, &[0x82]), (17, 2, 0, &[17, 2])],
+        b"STOCK",
+        "LAYOUT LOOP 17/2",
+    ),
     (&[(17, 2, 0, &[36, 0])], b"NONE", "LAYOUT BADLINK 17/2"),
     (&[(18, 1, 2, &[0x04])], b"STOCK", "LAYOUT UNCLOSED 18/1"),
+    (&[(18, 1, 23, &[0])], b"STOCK", "LAYOUT BADLENGTH 18/1"),
 ];
 
 /// Checks that this is reported of each disk, and nothing printed.
@@ -89,6 +95,60 @@ fn are_refused(rt: &(impl Abort + AllocGlobal), rows: &[(&[Change], &[u8], &str)
         is_told(rt, ended, told);
         same_at(rt, out.as_slice(), b"", name);
     }
+}
+
+/// Record 2 of STOCK is CARD.
+const CARD: Change = (17, 0, 20, b"CARD");
+
+/// STOCK has a side sector of zeros.
+const LOST_SIDE: Change = (17, 1, 0, &[0; 256]);
+
+/// Changes of a disk that isn't sound then, on which all 14 records of STOCK are printed, and what is reported: the disk's
+/// fault, or the file's own.
+const HURT: [(&[Change], &str); 5] = [
+    (&[CARD, (17, 2, 0, &[17, 2])], "LAYOUT LOOP 17/2"),
+    (&[CARD, LOST_SIDE], "LAYOUT BADSIDE 17/1"),
+    (
+        &[CARD, LOST_SIDE, (17, 0, 0, b"\xFF\xFF")],
+        "LAYOUT BADLINK 17/0",
+    ),
+    (
+        &[CARD, (17, 0, 0, b"\x11\x00"), (17, 2, 0, &[17, 2])],
+        "LAYOUT LOOP 17/0",
+    ),
+    // a program's first block too
+    (
+        &[CARD, (18, 1, 66, b"\x82\x11\x00GAME")],
+        "LAYOUT OWNEDTWICE 17/0",
+    ),
+];
+
+#[test]
+fn records_that_can_be_reached_are_printed(rt: HostRuntime) {
+    let wanted = lines(&rt, 14, 2, "CARD");
+    for (changes, told) in HURT {
+        let disk = changed(&rt, changes);
+        let mut out = Vec::new(rt.alloc());
+        let ended = records_image(
+            rt.alloc(),
+            disk.bytes(),
+            b"STOCK",
+            RecordForm::Lines,
+            &mut out,
+        );
+        is_told(&rt, ended, told);
+        same_at(&rt, out.as_slice(), wanted.as_slice(), told);
+    }
+    let disk = changed(&rt, &[LOST_SIDE]);
+    let mut full = Full { room: 20 };
+    let ended = records_image(
+        rt.alloc(),
+        disk.bytes(),
+        b"STOCK",
+        RecordForm::Lines,
+        &mut full,
+    );
+    is_told(&rt, ended, "FILE");
 }
 
 // An image of another size is refused before its name is looked for; an output that fails is reported.

@@ -124,8 +124,10 @@ $ ledger_cli records a.d64 REQUESTS
 prints 1,\"\\ff\"|2,\"\\ff\"|
 syncs 0
 
+# Of a damaged disk what can be reached is printed.
 hurt LOOP
 $ ledger_cli records a.d64 REQUESTS
+prints 1,\"\\ff\"|2,\"\\ff\"|
 tells LAYOUT LOOP 17/0|
 ends 1
 syncs 0
@@ -138,11 +140,11 @@ syncs 0
 
 hurt NO DIRECTORY
 $ ledger_cli records a.d64 REQUESTS
+prints 1,\"\\ff\"|2,\"\\ff\"|
 tells LAYOUT BADLINK 18/1|
 ends 1
 syncs 0
 
-# Of a damaged disk what can be reached is printed.
 hurt NO DIRECTORY
 $ ledger_cli bytes a.d64 REQUESTS
 prints \xff\0..

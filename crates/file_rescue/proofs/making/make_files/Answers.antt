@@ -4,7 +4,7 @@ use Rattle.std.proofs.lemmas.Result.{err_from_is_err_and}
 use Rattle.d64_image.specs.Memory.{disk_image}
 use Rattle.file_rescue.proofs.Made.{both-made, data-part, lines-part}
 use Rattle.file_rescue.proofs.Parts.{none-added}
-use Rattle.file_rescue.proofs.Pieced.{short-file}
+use Rattle.keeper_commands.proofs.Pieced.{short-file}
 use Rattle.file_rescue.proofs.making.make_files.Goals as goal
 
 pub bytes_of-requires : goal.bytes_of-requires

@@ -1,14 +1,16 @@
 -- The image is sound, the file was found, and its records were printed; or why not.
-use Rattle.std.proofs.Common.{◌≡◌, Err, List, length, subst, sym, ◌∙◌, ap, refl, ℕ}
+use Rattle.std.proofs.Common.{◌≡◌, Err, List, inl, length, subst, sym, ◌∙◌, ap, ℕ}
 use Rattle.std.proofs.lemmas.Result.{IfErr-weaker, err_from_is_err_and}
 use Rattle.std.proofs.KnownBytes.{Appends-kept}
 use Rattle.std.specs.Io.KnownBytes.{Appends}
 use Rattle.d64_image.specs.Images.{Image}
-use Rattle.d64_image.specs.Memory.{sectors_in}
-use Rattle.disk_layout.specs.Layout.{File, IsLayout, Layout}
+use Rattle.d64_image.specs.Memory.{disk_image, sectors_in}
+use Rattle.disk_layout.specs.Fault.{Holds, nowhere}
+use Rattle.disk_layout.specs.Layout.{File, IsLayout, IsSound, Layout}
 use Rattle.disk_layout.specs.Rest.{IsFirst}
 use Rattle.disk_layout.specs.Records as records_of
 use Rattle.d64_image.proofs.Told.{at-ok}
+use Rattle.keeper_commands.proofs.ReachedRecords.{reached-end, records-unloaded}
 use Rattle.keeper_commands.specs.Forms.{records_as}
 use Rattle.keeper_commands.specs.Records.{IsRecordFile}
 use Rattle.rel_records.specs.File.{IsFileOf, entry_of}
@@ -20,13 +22,30 @@ returns-in_err-disk g c =
     let told = p.1 ∙ ap Err p.2 in
     record {
       ok = rw told tt;
-      err = rw told (c.in_err-disk.ensures.err.2 c.args.name.now);
-      untouched = rw told (λ other. refl);
+      err = rw told (records-unloaded g.W.Write.contents c.args.form c.args.image.now c.args.name.now c.args.out.now _
+          c.in_err-disk.ensures.err);
     }
+
+pub reached_records-requires : goal.reached_records-requires
+reached_records-requires g c = subst (λ (img : Image). Holds nowhere img c.in-Some.fault) (sym c.unsoundness.ensures.same)
+    c.in-Some.ensures.fault
+
+pub returns-in-Some : goal.returns-in-Some
+returns-in-Some g c =
+    let loaded = c.in_ok-disk.ensures.ok in
+    let both = reached-end g.W.Write.contents c.args.form c.args.image.now c.args.name.now c.args.out.now
+    (disk_image c.unsoundness.new.disk) c.reached_records.new.out loaded.0 (c.unsoundness.ensures.same ∙ loaded.1)
+    c.reached_records.result c.reached_records.ensures in
+    record { ok = both.0; err = both.1 }
+
+-- the disk stays sound
+still : (img new : Image) → new ≡ img → IsSound img → IsSound new
+still img new same sound = subst (λ (i : Image). IsSound i) (sym same) sound
 
 pub put_records_as-requires : goal.put_records_as-requires
 put_records_as-requires g c =
-    let sound = c.in_ok-disk.ensures.ok.2 in
+    let sound = still (disk_image c.in_ok-disk.disk) (disk_image c.unsoundness.new.disk) c.unsoundness.ensures.same
+    c.in_default.ensures.fault in
     let found = c.in-Ok.ensures.ok sound.0 sound.1 in
     record {
       of = (
@@ -48,52 +67,49 @@ found-file image name img l n f size same is first = record {
   first = first;
 }
 
-pub returns-in_err-put_records_as : goal.returns-in_err-put_records_as
-returns-in_err-put_records_as g c =
+pub returns-in_err-put_records_as-clause-err : goal.returns-in_err-put_records_as-clause-err
+returns-in_err-put_records_as-clause-err g c =
     let loaded = c.in_ok-disk.ensures.ok in
-    let sound = loaded.2 in
+    let sound = still (disk_image c.in_ok-disk.disk) (disk_image c.unsoundness.new.disk) c.unsoundness.ensures.same
+    c.in_default.ensures.fault in
     let found = c.in-Ok.ensures.ok sound.0 sound.1 in
     let p = err_from_is_err_and c.from_residual-in_err-put_records_as.result c.from_residual-in_err-put_records_as.ensures.1
     in
-    let told = p.1 ∙ ap Err (p.2 ∙ c.in_err-put_records_as.ensures.err) in
-    record {
-      ok = rw told tt;
-      err = rw told (
-        found.0,
-        found-file c.args.image.now c.args.name.now _ sound.0 _ found.0 loaded.0 loaded.1 sound.1 found.1,
-      );
-      untouched = rw told (λ other. absurd (other refl));
-    }
+    rw (p.1 ∙ ap Err (p.2 ∙ c.in_err-put_records_as.ensures.err)) (inl (
+      found.0,
+      found-file c.args.image.now c.args.name.now (disk_image c.unsoundness.new.disk) sound.0 (entry_of c.in-Ok.file)
+          found.0 loaded.0 (c.unsoundness.ensures.same ∙ loaded.1) sound.1 found.1,
+    ))
 
 pub returns-clause-err : goal.returns-clause-err
 returns-clause-err g c =
     let loaded = c.in_ok-disk.ensures.ok in
-    let sound = loaded.2 in
+    let sound = still (disk_image c.in_ok-disk.disk) (disk_image c.unsoundness.new.disk) c.unsoundness.ensures.same
+    c.in_default.ensures.fault in
     let found = c.in-Ok.ensures.ok sound.0 sound.1 in
     IfErr-weaker c.flush.result _ _
-    (λ fault is. rw is (
+    (λ fault is. rw is (inl (
       found.0,
-      found-file c.args.image.now c.args.name.now _ sound.0 _ found.0 loaded.0 loaded.1
-          sound.1 found.1,
-    ))
+      found-file c.args.image.now c.args.name.now (disk_image c.unsoundness.new.disk) sound.0 (entry_of c.in-Ok.file)
+          found.0 loaded.0 (c.unsoundness.ensures.same ∙ loaded.1) sound.1 found.1,
+    )))
     c.flush.ensures.err
 
 pub returns-clause-ok : goal.returns-clause-ok
 returns-clause-ok g c =
     let loaded = c.in_ok-disk.ensures.ok in
-    let sound = loaded.2 in
+    let sound = still (disk_image c.in_ok-disk.disk) (disk_image c.unsoundness.new.disk) c.unsoundness.ensures.same
+    c.in_default.ensures.fault in
     let found = c.in-Ok.ensures.ok sound.0 sound.1 in
     let of = subst (λ (img : Image). IsFileOf img sound.0 (entry_of c.in-Ok.file) found.0 c.in-Ok.file)
     (sym c.find.ensures.reads.image) found.2 in
     at-ok c.flush.result (record {
       file = found.0;
-      is_file = found-file c.args.image.now c.args.name.now _ sound.0 _ found.0 loaded.0 loaded.1 sound.1 found.1;
+      is_file = found-file c.args.image.now c.args.name.now (disk_image c.unsoundness.new.disk) sound.0
+          (entry_of c.in-Ok.file) found.0 loaded.0 (c.unsoundness.ensures.same ∙ loaded.1) sound.1 found.1;
       printed = subst (λ (img : Image). Appends (g.W.Write.contents c.args.out.now) (g.W.Write.contents c.flush.new.out)
           (records_as c.args.form (records_of.records img found.0)))
-          (c.find.ensures.reads.image ∙ loaded.1)
+          (c.find.ensures.reads.image ∙ c.unsoundness.ensures.same ∙ loaded.1)
           (Appends-kept _ _ _ _ (c.in_ok-put_records_as.ensures.ok sound.0 (entry_of c.in-Ok.file) found.0 of)
           c.flush.ensures.kept);
     })
-
-pub returns-clause-untouched : goal.returns-clause-untouched
-returns-clause-untouched g c = IfErr-weaker c.flush.result _ _ (λ fault is other. absurd (other is)) c.flush.ensures.err

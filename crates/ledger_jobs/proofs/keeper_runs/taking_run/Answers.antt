@@ -7,7 +7,7 @@ returns-in-Records g c = record {
   run = rw c.in-Records.is
       (records-run g.W.Write.contents c.args.image.now c.args.name.now c.args.out.now c.records_image.new.out
       _ c.records_image.result
-      c.records_image.ensures.ok c.records_image.ensures.err c.records_image.ensures.untouched);
+      c.records_image.ensures.ok c.records_image.ensures.err);
 }
 
 pub returns-in-Bytes : goal.returns-in-Bytes

@@ -1,0 +1,88 @@
+-- What is known of the records that can be reached of a file.
+use Rattle.std.proofs.Common.{◌≡◌, ◌⊎◌, List, Ok, Err, Option, Result, inl, inr, length, refl, subst, sym, ℕ}
+use Rattle.std.specs.Prelude.{IfErr, IsErrAnd, OnOk, unwrap_or}
+use Rattle.d64_image.specs.Images.{Image}
+use Rattle.d64_image.specs.Memory.{sectors_in}
+use Rattle.d64_image.specs.declared.place.Place.{Place}
+use Rattle.disk_layout.specs.Fault.{Holds, nowhere}
+use Rattle.disk_layout.specs.declared.faults.Fault.{Fault}
+use Rattle.disk_layout.specs.declared.slot.Slot.{Slot}
+use Rattle.keeper_commands.specs.Faults.{IsLoadFault}
+use Rattle.keeper_commands.specs.Found.{IsHad}
+use Rattle.keeper_commands.specs.Printed.{AreRecordsPrinted, IsReachedEnd, IsRecordsFault}
+use Rattle.keeper_commands.specs.Records.{IsReachedFile}
+use Rattle.keeper_commands.specs.declared.faults.KeepFault.{KeepFault}
+use Rattle.keeper_commands.specs.declared.faults.KeepFault.TheVariants as keep
+use Rattle.keeper_commands.specs.declared.finding.Kind.TheVariants.{Records}
+use Rattle.keeper_commands.specs.declared.forms.RecordForm.{RecordForm}
+
+-- what is known of the file that was found
+abbrev pub reached-file : (img : Image) (name : List ℕ) (first : Fault) (s : Slot) (blocks : List Place) (last : ℕ)
+    (own : Option Fault) (fault : Fault) → Holds nowhere img first → IsHad img Records name s blocks last own
+    → fault ≡ unwrap_or own first → IsReachedFile img name fault
+reached-file img name first s blocks last own fault holds had is = record {
+  first = first;
+  holds = holds;
+  slot = s;
+  blocks = blocks;
+  last = last;
+  own = own;
+  had = had;
+  fault_is = is;
+}
+
+-- the output failed, or there was no memory
+pub put-failed : {W : Type 0} (contents : W → Option (List ℕ)) (form : RecordForm) (img : Image) (name : List ℕ)
+    (old new : W) (why : KeepFault) (fault : Fault) → IsReachedFile img name fault
+    → (why ≡ keep.File) ⊎ ((why ≡ keep.NoMemory) × (new ≡ old)) → IsReachedEnd contents form img name old new why
+put-failed contents form img name old new why fault file (inl is) =
+    subst (λ (w : KeepFault). IsReachedEnd contents form img name old new w) (sym is) (fault, file)
+put-failed contents form img name old new why fault file (inr (is, same)) =
+    subst (λ (w : KeepFault). IsReachedEnd contents form img name old new w) (sym is) same
+
+module _ {W : Type 0} (contents : W → Option (List ℕ)) (form : RecordForm) (image name : List ℕ) (old : W) where
+  -- what an image has wrong that isn't loaded
+  pub records-unloaded : (fault : KeepFault) → IsLoadFault image fault
+      → IsRecordsFault contents form image name old old fault
+  records-unloaded keep.ImageSize told = (told, refl)
+  records-unloaded keep.NoMemory told = (told, refl)
+  records-unloaded (keep.Layout fault) told = absurd told
+  records-unloaded keep.NoFile told = absurd told
+  records-unloaded keep.FileExists told = absurd told
+  records-unloaded (keep.BadLine k) told = absurd told
+  records-unloaded keep.DiskFull told = absurd told
+  records-unloaded keep.File told = absurd told
+  records-unloaded keep.Device told = absurd told
+  records-unloaded keep.Geos told = absurd told
+  records-unloaded keep.Format told = absurd told
+
+  -- how a disk that isn't sound ends it
+  reached-fault : (new : W) → length image ≡ 174848 → (fault : KeepFault)
+      → IsReachedEnd contents form (sectors_in image) name old new fault
+      → IsRecordsFault contents form image name old new fault
+  reached-fault new size keep.ImageSize told = absurd told
+  reached-fault new size keep.NoMemory told = (size, told)
+  reached-fault new size (keep.Layout fault) told = (size, told)
+  reached-fault new size keep.NoFile told = absurd told
+  reached-fault new size keep.FileExists told = absurd told
+  reached-fault new size (keep.BadLine k) told = absurd told
+  reached-fault new size keep.DiskFull told = absurd told
+  reached-fault new size keep.File told = inr (size, told)
+  reached-fault new size keep.Device told = absurd told
+  reached-fault new size keep.Geos told = absurd told
+  reached-fault new size keep.Format told = absurd told
+
+  reached-told : (new : W) → length image ≡ 174848 → (r : Result Unit KeepFault)
+      → IsErrAnd r (IsReachedEnd contents form (sectors_in image) name old new)
+      → OnOk r (AreRecordsPrinted contents form image name old new)
+      × IfErr r (IsRecordsFault contents form image name old new)
+  reached-told new size (Ok x) told = absurd told
+  reached-told new size (Err fault) told = (tt, reached-fault new size fault told)
+
+  -- the disk is that of the image
+  pub reached-end : (img : Image) (new : W) → length image ≡ 174848 → img ≡ sectors_in image → (r : Result Unit KeepFault)
+      → IsErrAnd r (IsReachedEnd contents form img name old new)
+      → OnOk r (AreRecordsPrinted contents form image name old new)
+      × IfErr r (IsRecordsFault contents form image name old new)
+  reached-end img new size same r told = reached-told new size r
+      (subst (λ (i : Image). IsErrAnd r (IsReachedEnd contents form i name old new)) same told)

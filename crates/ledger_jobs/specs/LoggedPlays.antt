@@ -1,0 +1,41 @@
+-- What comes of a script that is played over a log. All of it is our own.
+use Rattle.std.specs.Prelude.{◌≡◌, ◌⊎◌, List, ℕ, [], IsOk, Result}
+use Rattle.d64_image.specs.Images.{Image}
+use Rattle.d64_image.specs.Memory.{sectors_in}
+use Rattle.host_session.specs.runs.Chains.{told_in}
+use Rattle.host_session.specs.shop.Shop.{IsSettled, IsShop, Shop, start_of}
+use Rattle.line_server.specs.Scripts.{of_script}
+use Rattle.line_server.specs.declared.scripts.ScriptBatches.{ScriptBatches}
+use Rattle.log_server.specs.Reporting.{LogOutput}
+use Rattle.log_server.specs.Serves.{shop_behind}
+use Rattle.request_cards.specs.Ledgers.{replies}
+use Rattle.request_cards.specs.declared.reply.Reply.{Reply}
+use Rattle.script_lines.specs.Lines.{lines}
+use Rattle.shop_commands.specs.declared.faults.RunFault.{RunFault}
+use Rattle.shop_log.specs.ImageLogs.{LogHistory}
+use Rattle.ledger_jobs.specs.LoggedRuns.{IsLoggedRun}
+
+-- All messages of a script were played on the shop s of an image, over a log.
+pub record IsPlayedWhole {L T : Type 0} (h : LogHistory L) (o : LogOutput L T) (s : Shop) (image script : List ℕ)
+    (log after : L) (old new : T) : Type 0 where
+  -- each message has its reply, after the messages before it. These were reported in this order, each over a log, and
+  -- passed on
+  pub turns : List (Reply × L)
+  pub told : o.told old new turns
+  pub replies_are : told_in turns ≡ replies (start_of s) [] (lines script)
+  pub handed : (turns ≡ []) ⊎ o.is_handed_on new
+  -- what the log stands for at the end: the shop after all messages, at rest
+  pub last : Image
+  pub rests : IsSettled last (shop_behind s (lines script))
+  pub stands : h.stands_for log (sectors_in image) → h.stands_for after last
+
+-- A script was played so over a log that was `log` and is `after`.
+pub record IsLoggedPlay {L T : Type 0} (h : LogHistory L) (o : LogOutput L T) (image script : List ℕ) (log after : L)
+    (old new : T) (ended : Result Unit RunFault) : Type 0 where
+  -- its lines were served as those of an input
+  pub first : ScriptBatches
+  pub left : ScriptBatches
+  pub is_first : first.left.now ≡ script
+  pub run : IsLoggedRun h of_script o image log after first left old new ended
+  -- at Ok all messages were played
+  pub whole : IsOk ended → (s : Shop) → IsShop (sectors_in image) s → IsPlayedWhole h o s image script log after old new

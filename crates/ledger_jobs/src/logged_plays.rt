@@ -1,0 +1,37 @@
+//! Playing a script over a log, as a run of the program.
+ghost use Rattle.std.specs.Prelude.{◌≡◌, Err, IfSome, None};
+ghost use Rattle.ledger_jobs.specs.LoggedPlays.{IsLoggedPlay};
+ghost use Rattle.script_lines.specs.Lines.{first_reset, lines};
+ghost use Rattle.shop_commands.specs.declared.faults.RunFault.TheVariants as faults;
+
+use crate::logged_runs::serve_logged;
+use line_server::ScriptBatches;
+use log_server::Reports;
+use script_lines::first_reset_line;
+use shop_commands::RunFault;
+use shop_log::ImageLog;
+use std::alloc::Global;
+
+/// Plays the lines of a script on the shop of an image, over a log that stands for that image: in batches of 512 lines,
+/// each of which is handled in memory, made durable by one commit, and then answered. A last line without LF counts.
+///
+/// `BadLine`: the first line that begins with `@`, since a log has no resets. Nothing was done then. Otherwise the
+/// faults of `serve_logged`, of which `File` means the output, since a script never fails.
+pub fn play_logged<L: ImageLog, T: Reports<L>>(
+    alloc: Global,
+    image: &[u8],
+    script: &[u8],
+    log: &mut L,
+    out: &mut T,
+) -> Result<(), RunFault>
+    ensures bad_line { IfSome (first_reset (lines script.now))
+        (λ n. (result ≡ Err (faults.BadLine n)) × (log.new ≡ log.old) × (out.new ≡ out.old)) }
+    ensures run { first_reset (lines script.now) ≡ None
+        → IsLoggedPlay L.history T.output image.now script.now log.old log.new out.old out.new result }
+{
+    if let Some(line) = first_reset_line(script) {
+        return Err(RunFault::BadLine(line));
+    }
+    let mut left = ScriptBatches::new(script);
+    serve_logged(alloc, image, log, &mut left, out)
+}
