@@ -40,7 +40,7 @@ fn edit_refusal(alloc: Global, image: &[u8], name: &[u8]) -> Option<Refusal>
 }
 
 /// Renames a file on the disk of the image that the file keeps, as `rename_run` does. It is refused if a file of the disk
-/// is cut short (`Short`) or the file to be renamed is one of a shop's two (`ShopFile`): then nothing was printed or
+/// is cut short (`Short`), or if the file to be renamed is one of a shop's two (`ShopFile`). Then nothing was printed or
 /// changed.
 pub fn rename_guarded<F: SectorFile, W: Write>(
     alloc: Global,
@@ -64,7 +64,7 @@ pub fn rename_guarded<F: SectorFile, W: Write>(
 }
 
 /// Deletes a file on the disk of the image that the file keeps, as `delete_run` does. It is refused if a file of the disk
-/// is cut short (`Short`) or the file to be deleted is one of a shop's two (`ShopFile`): then nothing was printed or
+/// is cut short (`Short`), or if the file to be deleted is one of a shop's two (`ShopFile`). Then nothing was printed or
 /// changed.
 pub fn delete_guarded<F: SectorFile, W: Write>(
     alloc: Global,
