@@ -2,7 +2,8 @@
 
 /// What `records` prints, its statuses, and an example.
 pub(crate) const RECORDS: &str = "\
-Prints a line for each record, for example 1,\"MILK\\0d\".
+Prints a line for each record, for example 1,\"MILK\\0d\". If the file is
+damaged, it prints what can be read, and then reports a fault.
 --text and --mixed print lines for people: `store` doesn't take them back.
 --fields prints a column for each field, which a CR ends: 1,\"MILK\",\"12\". A last
 column \\- says that the last field has no CR. `store --fields` takes these lines
@@ -10,8 +11,8 @@ back. With --fields, --text and --mixed have no effect.
 
 Exit status:
   0  the records were printed
-  1  the image is refused (LAYOUT, IMAGE SIZE, LOG), NO FILE, or the file has
-     lost its end (SHORT)
+  1  LAYOUT and a fault, or SHORT (the file has lost its end): what can be read
+     was printed; or NO FILE, IMAGE SIZE, LOG: nothing was
   2  NAME
   3  FILE, NO MEMORY, IN USE
 
@@ -19,13 +20,14 @@ Example: ledger records old.d64 ADDRESS > address.csv";
 
 /// What `bytes` prints, its statuses, and an example.
 pub(crate) const BYTES: &str = "\
-Prints the bytes of the first closed file with this name, even if the disk is
-damaged elsewhere. With --text or --mixed each CR ends a line.
+Prints the bytes of the first closed file with this name. If the file is damaged,
+it prints what can be read, and then reports the fault. With --text or --mixed
+each CR ends a line.
 
 Exit status:
   0  the bytes were printed
-  1  the image is refused (LAYOUT, IMAGE SIZE, LOG), NO FILE, or the file has
-     lost its end (SHORT)
+  1  LAYOUT and a fault, or SHORT (the file has lost its end): what can be read
+     was printed; or NO FILE, IMAGE SIZE, LOG: nothing was
   2  NAME
   3  FILE, NO MEMORY, IN USE
 
