@@ -20,9 +20,9 @@ Example: ledger records old.d64 ADDRESS > address.csv";
 
 /// What `bytes` prints, its statuses, and an example.
 pub(crate) const BYTES: &str = "\
-Prints the bytes of the first closed file with this name. If the file is damaged,
-it prints what can be read, and then reports the fault. With --text or --mixed
-each CR ends a line.
+Prints the bytes of the first closed file with this name. If the file is
+damaged, it prints what can be read, and then reports the fault. With --text or
+--mixed each CR ends a line.
 
 Exit status:
   0  the bytes were printed
