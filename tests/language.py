@@ -13,8 +13,9 @@ them. Of each it checks
 It also counts the words of all documents, against LIMIT, without the definitions that they quote whole (tests/quotes.py checks
 those). Of the sources it checks
   - that each public item of the product's crates has a `///` over it;
+  - the words of WORDS in comments of `src/` and `specs/`;
   - the program's help texts: sentences, words, and lines of more than 80 columns.
-By crate, and as counts that don't change the status, it reports what comments (`///`, `//!`) have, and definitions of `specs/`
+By crate, and as counts that don't change the status, it reports the long sentences of comments, and definitions of `specs/`
 without a comment over them. With --counts it prints one line for each document and no findings. The status is 1 if a document or
 a source has a finding, or all documents together are too long."""
 
@@ -31,7 +32,7 @@ GENERATED = ("docs/CORE.md", "docs/DEFINITIONS.md")
 # copies of the sources, whose words don't count
 COPIED = ("docs/CORE.md",)
 QUOTING = ("docs/EMBED.md", "docs/PROOF.md")
-ELSE = r"(?<!thing )(?<!\banyone )(?<!somebody )(?<!anybody )(?<![Nn]obody )(?<!what )(?<!whatever )"
+ELSE = r"(?<!thing )(?<!where )(?<!\banyone )(?<!somebody )(?<!anybody )(?<![Nn]obody )(?<!what )(?<!whatever )"
 # what a document doesn't say, and what it says in its place
 WORDS = {
     "tell": (r"\b[Tt](ell|ells|old|elling)\b(?! apart)", "print, report, return or answer"),
@@ -225,16 +226,35 @@ def source_findings():
     return count
 
 
-def comment_counts():
-    """For each crate how many of its comments have a long sentence, or a word of the list, and how many definitions have none."""
+def comments(file):
+    """The comments of a source, lines that follow each other as one: the number of the first line, and the text."""
+    mark = r"\s*//[/!]? ?(.*)$" if file.suffix == ".rt" else r"\s*-- ?(.*)$"
+    kept, start = [], 0
+    for number, line in enumerate([*file.read_text().split("\n"), ""], 1):
+        if found := re.match(mark, line):
+            start = start if kept else number
+            kept.append(found[1])
+        elif kept:
+            yield start, "\n".join(kept)
+            kept = []
+
+
+def comment_findings():
+    """Prints the words of the list in comments; gives their number. For each crate it also prints how many long sentences its
+    comments have, and how many definitions have none."""
+    count = 0
     for crate in sorted(it for it in TOP.glob("crates/*") if (it / "src").is_dir()):
-        kept = [re.findall(r"(?m)^\s*//[/!] ?(.*)$", it.read_text()) for it in sorted(crate.glob("src/**/*.rt"))]
-        found = [what for lines in kept for _, what, _ in findings("\n".join(lines))]
-        long = sum(it.endswith(" words") for it in found)
-        bare = [it for file in crate.glob("specs/**/*.antt") for it in uncommented(file, DEFINITION, "--")]
-        if found or bare:
-            what = f"{long} long sentences, {len(found) - long} words of the list, {len(bare)} definitions without a comment"
-            print(f"comments of {crate.name}: {what}")
+        specs = sorted(crate.glob("specs/**/*.antt"))
+        texts = [(file, *it) for file in [*sorted(crate.glob("src/**/*.rt")), *specs] for it in comments(file)]
+        found = [(file, start + line - 1, *it) for file, start, text in texts for line, *it in findings(text)]
+        words = [it for it in found if not it[2].endswith(" words")]
+        for file, line, what, where in words:
+            print(f"{file.relative_to(TOP)}:{line}: {what}: {where}")
+        count += len(words)
+        long, bare = len(found) - len(words), [it for file in specs for it in uncommented(file, DEFINITION, "--")]
+        if long or bare:
+            print(f"comments of {crate.name}: {long} long sentences, {len(bare)} definitions without a comment")
+    return count
 
 
 def main():
@@ -245,8 +265,7 @@ def main():
     found, length = (sum(column) for column in zip(*counts))
     if words:
         return 1 if found else 0
-    comment_counts()
-    found += source_findings()
+    found += comment_findings() + source_findings()
     print(f"language: {len(counts)} documents, {length:,} words of {LIMIT:,} at most, {found} findings")
     return 1 if found or length > LIMIT else 0
 

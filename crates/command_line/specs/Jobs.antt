@@ -132,7 +132,7 @@ IsRefusedName found =
     ⊎ Has found (codes "new") (HasNoName (codes "N"))))))
 
 -- why there is none: the words are refused for one of these kinds, or memory ran out. Or the number of tills, a name, the
--- length of a record, the sector or the ID of a disk isn't valid, or two flags exclude each other
+-- length of a record, the sector or the ID of a disk isn't valid, or two flags exclude one another
 abbrev pub IsNoJob : Kinds → Option (Text × List Row) → JobFault → Type 0
 IsNoJob kinds found (faults.Words e) = HasKind kinds e
 IsNoJob kinds found faults.Tills = (kinds ≡ []) × Has found (codes "format") (λ rows. tills_in rows ≡ None)

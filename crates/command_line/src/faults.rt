@@ -31,7 +31,7 @@ pub enum JobFault {
     /// The ID of a disk isn't the text of two bytes.
     #[error("ID")]
     Id,
-    /// Two flags are given that exclude each other: `--sync` and `--log`.
+    /// Two flags are given that exclude one another: `--sync` and `--log`.
     #[error("FLAGS")]
     Flags,
 }

@@ -11,7 +11,7 @@ use ledger_jobs::{Columns, Effect, Findings, Loss, Unowned, Way};
 use petscii_text::CharacterSet;
 use shop_commands::{Durability, NameForm};
 
-/// Where the requests of a shop that is served come to the disk first.
+/// To which file the requests of a shop that is served are synced first.
 pub(crate) fn way<'a>(matches: &ArgMatches<'a>) -> Way
     ensures { result ≡ way_in (rows_of (found_of matches.now)) }
 {
@@ -22,7 +22,7 @@ pub(crate) fn way<'a>(matches: &ArgMatches<'a>) -> Way
     }
 }
 
-/// When what is served is brought to the disk.
+/// When what is served is synced.
 pub(crate) fn serve_durability<'a>(matches: &ArgMatches<'a>) -> Durability
     ensures { result ≡ of_serve (rows_of (found_of matches.now)) }
 {
@@ -33,7 +33,7 @@ pub(crate) fn serve_durability<'a>(matches: &ArgMatches<'a>) -> Durability
     }
 }
 
-/// What is done where the disk has lost a part of a file.
+/// What is done if the disk has lost a part of a file.
 pub(crate) fn loss<'a>(matches: &ArgMatches<'a>) -> Loss
     ensures { result ≡ loss_in (rows_of (found_of matches.now)) }
 {

@@ -112,7 +112,7 @@ fn parsed<'a>(alloc: Global, words: &'a [&'a str]) -> Result<ArgMatches<'a>, Err
 pub struct CommandLine<'a> {
     /// The job, or why there is none.
     pub job: Result<Job<'a>, JobFault>,
-    /// Whether more is to be printed where it isn't done: --explain is among the words. False where they are refused.
+    /// Whether more is to be printed if the job isn't done: --explain is among the words. False if they are refused.
     pub is_explained: bool,
 }
 
@@ -123,7 +123,7 @@ pub fn command_line<'a>(alloc: Global, words: &'a [&'a str]) -> CommandLine<'a>
     ensures fit { IfOk result.job IsFit }
     ensures err { let texts = map (λ word. word.now) words.entry.now in
         IfErr result.job (IsNoJob (fault_of ledger texts) (subcommand_of ledger texts)) }
-    // Words that the command line takes are explained exactly where they ask for it, and others aren't.
+    // Words that the command line takes are explained exactly if they ask for it, and others aren't.
     ensures explained { let texts = map (λ word. word.now) words.entry.now in
         IsHeard result.job (explained (matches_of ledger texts) (subcommand_of ledger texts)) result.is_explained }
 {
@@ -141,13 +141,13 @@ pub fn command_line<'a>(alloc: Global, words: &'a [&'a str]) -> CommandLine<'a>
 
 /// The job that the words ask for. The first word is the program's name.
 pub fn job<'a>(alloc: Global, words: &'a [&'a str]) -> Result<Job<'a>, JobFault>
-    // A job comes only where no word is refused, and is that of the subcommand and its values.
+    // A job comes only if no word is refused, and is that of the subcommand and its values.
     ensures ok { let texts = map (λ word. word.now) words.entry.now in
         IfOk result (λ j. (fault_of ledger texts ≡ []) × IsJob (subcommand_of ledger texts) j) }
     ensures fit { IfOk result IsFit }
-    // Words are refused for one of the reasons that the command line gives, or for want of memory,
-    // or for a number of tills that is none of 1 to 64, a name or an ID that no file or disk has, a length that no record has,
-    // or flags that exclude each other, if nothing else is wrong.
+    // Words are refused for one of the reasons that the command line gives, or because memory ran out. If nothing else is
+    // wrong, they are refused for one of these: a number of tills that isn't 1 to 64, a name or an ID that no file or disk
+    // has, a length that no record has, or flags that exclude one another.
     ensures err { let texts = map (λ word. word.now) words.entry.now in
         IfErr result (IsNoJob (fault_of ledger texts) (subcommand_of ledger texts)) }
 {

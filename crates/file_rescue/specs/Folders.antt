@@ -9,7 +9,7 @@ pub record NewFile : Type 0 where
 abbrev pub new_file : List ℕ → List ℕ → NewFile
 new_file name bytes = record { name = name; bytes = bytes }
 
--- A name of a file that lies in the folder in which the name is used, and that any system takes: it has no separator of
+-- A name of a file that lies in the folder in which the name is used, and that any system takes. It has no separator of
 -- folders and no zero, isn't one of the two names that a system gives folders, and isn't long
 pub record StaysInside (name : List ℕ) : Type 0 where
   pub some : 1 ≤ length name
@@ -19,13 +19,13 @@ pub record StaysInside (name : List ℕ) : Type 0 where
   pub not_here : name ≢ codes "."
   pub not_above : name ≢ codes ".."
 
--- a folder of which it is known that it got the files `old` got these behind them, and no other
+-- a folder of which it is known that it got the files `old` got these after them, and no other
 abbrev pub AddsFiles : Option (List NewFile) → Option (List NewFile) → List NewFile → Type 0
 AddsFiles None new files = ⊤
 AddsFiles (Some had) None files = ⊥
 AddsFiles (Some had) (Some has) files = has ≡ had ++ files
 
--- behind these there is one file more, the first of those that are left, with a beginning of its bytes
+-- after these there is one file more, the first of those that are left, with a prefix of its bytes
 abbrev pub BeginsNext : (front back these : List NewFile) → Type 0
 BeginsNext front [] these = ⊥
 BeginsNext front (next ∷ back) these =

@@ -62,7 +62,7 @@ unfoldable pub files_from : Image → ℕ → List Rescued → List NewFile
 files_from img n [] = []
 files_from img n (f ∷ fs) = files_of img n f ++ files_from img (n + 1) fs
 
--- what the index says of entry n, where these sectors are somebody's
+-- what the index says of entry n, if these sectors are somebody's
 abbrev pub row_of : Image → List Place → ℕ → Rescued → Row
 row_of img all n f = record {
   number = n;

@@ -122,14 +122,14 @@ fn extract_files<F: NewFolder>(
     Ok(fault)
 }
 
-/// Makes in a folder a file for each entry of the image's directory, with what can be reached of its bytes; for each
-/// relative one also a file with the lines of its records; and behind them `index.csv`, with a line for each entry. What
-/// ends a directory or a chain before its end, a block that several have and a file that isn't closed keep nothing back.
-/// Returns the first of these faults, the directory's before those of the entries in their order: `BadLink`, `Loop`,
-/// `OwnedTwice` or `Unclosed`.
+/// Makes in a folder a file for each entry of the image's directory, with what can be reached of its bytes, and for each
+/// relative one also a file with the lines of its records. After them it makes `index.csv`, with a line for each entry. A
+/// damaged directory or chain, a block that several have, and a file that isn't closed keep nothing back. Returns the
+/// first of these faults, the directory's before those of the entries in their order: `BadLink`, `Loop`, `OwnedTwice` or
+/// `Unclosed`.
 ///
 /// Each name is that of a file in the folder, and no two are equal (`names_stay_inside`). `ImageSize`: nothing was made.
-/// `File` if the folder failed, or `NoMemory`: the folder has a beginning of the files, and perhaps a part of one more.
+/// `File` if the folder failed, or `NoMemory`: the folder has a prefix of the files, and perhaps a part of one more.
 pub fn extract_image<F: NewFolder>(
     alloc: Global,
     image: &[u8],

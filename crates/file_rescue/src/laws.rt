@@ -8,8 +8,8 @@ ghost use Rattle.file_rescue.specs.Folders.{StaysInside};
 ghost use Rattle.file_rescue.specs.Rescues.{all_files};
 ghost use Rattle.file_rescue.specs.declared.rescuing.Rescued.{Rescued};
 
-/// Whatever the entries are called, each file that is made of at most 144 lies in the folder in which it is made, and no
-/// two have one name, the index among them.
+/// Whatever the entries are called, if there are at most 144, each file that is made lies in the folder in which it is
+/// made. No two files have one name, the index among them.
 pub fn names_stay_inside()
     ensures inside { (img : Image) (directory : List Place) (files : List Rescued) → length files ≤ 144
         → AllByRecursion (λ f. StaysInside f.name) (all_files img directory files) }

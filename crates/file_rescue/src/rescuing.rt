@@ -24,7 +24,7 @@ pub struct Rescued {
     pub(crate) fault: Option<Fault>,
 }
 
-/// What can be reached of an entry's file, with room for its blocks. `NoMemory` alone is told.
+/// What can be reached of an entry's file, with room for its blocks. The only error is `NoMemory`.
 fn rescue(
     alloc: Global,
     disk: &mut MemDisk,
@@ -48,7 +48,7 @@ fn rescue(
     }
 }
 
-/// What can be reached of these entries' files. `NoMemory` alone is told.
+/// What can be reached of these entries' files. The only error is `NoMemory`.
 pub(crate) fn rescue_all(
     alloc: Global,
     disk: &mut MemDisk,

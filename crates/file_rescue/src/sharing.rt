@@ -1,4 +1,4 @@
-//! Who has the sectors of a disk, by the files that are rescued.
+//! The owners of the sectors of a disk, by the files that are rescued.
 ghost use Rattle.disk_rescue.specs.Owned.{CountsAll};
 ghost use Rattle.file_rescue.specs.Sharing.{owned};
 

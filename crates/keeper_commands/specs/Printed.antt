@@ -43,7 +43,7 @@ IsReachedEnd contents form img name old new keep.NoMemory = new ≡ old
 IsReachedEnd contents form img name old new keep.File = (fault : Fault) × IsReachedFile img name fault
 IsReachedEnd contents form img name old new _ = ⊥
 
--- Why records aren't printed, or not surely all. Of a disk that isn't sound those are that can be reached. Where the
+-- Why records aren't printed, or not surely all. If a disk isn't sound, those that can be reached are printed. If the
 -- output failed, there is such a file
 abbrev pub IsRecordsFault : {W : Type 0} → (W → Option (List ℕ)) → RecordForm → (image name : List ℕ) → W → W → KeepFault
     → Type 0

@@ -132,7 +132,7 @@ pub enum Job<'a> {
     New {
         /// The image's path.
         image: &'a str,
-        /// The name of the disk, 0 to 16 bytes. Who makes a job sees to it.
+        /// The name of the disk, 0 to 16 bytes. The caller that makes a job ensures that.
         name: Name,
         /// The two bytes of the disk's ID.
         id: [u8; 2],
@@ -170,7 +170,8 @@ pub enum Job<'a> {
         /// The script's path.
         script: &'a str,
     },
-    /// The same, but each request goes to a log beside the image, which is brought to the image at the end.
+    /// The messages of a script, played as `Play` does; but each goes to a log beside the image, whose image is copied
+    /// into IMAGE at the end.
     PlayLogged {
         /// The image's path.
         image: &'a str,
@@ -244,7 +245,7 @@ pub enum Job<'a> {
         image: &'a str,
         /// The name that the file has.
         from: Name,
-        /// The name that the file gets, which a new file can have. Who makes a job sees to it.
+        /// The name that the file gets, which a new file can have. The caller that makes a job ensures that.
         to: Name,
     },
     /// The first file of a name, deleted from the disk of an image.

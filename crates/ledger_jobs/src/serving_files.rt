@@ -36,7 +36,7 @@ pub fn serve_file<F: SectorFile, R: LineSource<KeptMirror<F>>, T: Answers<KeptMi
     input: &mut R,
     out: &mut T,
 ) -> Result<F, (RunFault, F)>
-    // where it is known what the file keeps, it is this image
+    // if it is known what the file keeps, it is this image
     requires agrees { Agrees (F.keeps.kept file) (sectors_in image.now) }
     ensures ok { IfOk result (λ after.
         IsServedFile F.keeps R.input T.answering image.now file after input.old input.new out.old out.new) }
