@@ -197,7 +197,7 @@ prints fault 1, status 2
 job ledger new a.d64 --name A
 prints fault 1, status 2
 job ledger play a.d64 s.txt --log --sync
-prints fault 1, status 2
+prints fault 8, status 2
 job ledger store a.d64 A r.txt s.txt
 prints fault 1, status 2
 job ledger records a.d64
