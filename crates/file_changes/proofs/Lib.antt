@@ -9,6 +9,7 @@ pub mod Overwritten
 pub mod NewChains
 pub mod Patched
 pub mod RenameCalls
+pub mod PlainEnds
 pub mod PlainEntries
 pub mod PutCalls
 pub mod PutInSector

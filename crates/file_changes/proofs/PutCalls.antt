@@ -41,7 +41,7 @@ module _ {D : Type 0} (S : History D) (a b : D) (name : List ℕ) (kind : FileTy
       → HeldOnly S a b (IsPutting (S.image a) l name kind (stored bytes))
   held-before l h =
       let P : Image → Type 0 = IsPutting (S.image a) l name kind (stored bytes) in
-      weaker S a b _ P (λ c e. subst P (sym e) (inl (creating-before (S.image a) (S.image a) l h (λ q own. refl) refl)))
+      weaker S a b _ P (λ c e. subst P (sym e) (inl (creating-before (S.image a) (S.image a) l h (λ q own. refl) refl), λ w. w))
       quiet.held
 
   pub put-refused : (r : Result (Unit {0}) ChangeFault) (e : ChangeFault) → IsErrAnd r (λ y. y ≡ e)

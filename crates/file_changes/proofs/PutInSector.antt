@@ -13,6 +13,11 @@ use Rattle.disk_layout.proofs.lemmas.lists.Count.{places-few}
 use Rattle.disk_layout.proofs.lemmas.lists.Lists.{snoc-last}
 use Rattle.disk_layout.proofs.lemmas.lists.Once.{Contains-cases, Contains-here, Contains-there, insert-in, insert-out}
 use Rattle.disk_layout.specs.Chain.{EachOnce}
+use Rattle.disk_layout.specs.Clean.{IsCleanLayout}
+use Rattle.disk_layout.specs.Whole.{IsWhole}
+use Rattle.disk_layout.proofs.lemmas.lists.Once.{EachOnce-apart}
+use Rattle.rel_records.proofs.lemmas.whole.Created.{linked-stays, more-whole}
+use Rattle.file_changes.proofs.PlainEnds.{plain-long}
 use Rattle.disk_layout.specs.Directory.{is_used, map_place, slot_in}
 use Rattle.disk_layout.specs.Layout.{File, IsFile, Layout, file_owns, owners}
 use Rattle.disk_layout.specs.Map.{IsFirstOn, IsMapOf}
@@ -163,14 +168,30 @@ module _ (a c : Image) (l : Layout) (map : Sector) (first : Place) (rest : List 
   ends : slice_index (sector c fresh) 0 ≡ 0
   ends = ap (λ x. slice_index x 0) there ∙ made.ends
 
+  now-clean : IsCleanLayout (put c p bytes)
+      (record { directory = l.directory ++ fresh ∷ []; files = with_new (put c p bytes) l.files [] k })
+  now-clean = linked-clean c l p bytes wc.size relinked a was.layout was is_last fresh k refl linked.link ends on_18
+      no_fresh used free file once taking.clean same
+      (plain-exact b (slot_in fresh (sector c fresh) 0) kind name first (length ps) ps
+      (last_index (length ds) (length ps)) entry) right-there
+
+  not-file : ¬ (Contains (flat_map file_owns l.files) p)
+  unfolding owners
+  not-file d = EachOnce-apart l.directory (flat_map file_owns l.files) was.layout.once.1 p listed d
+
+  -- whole files stay whole
+  pub sector-kept : IsWhole a → IsWhole (put c p bytes)
+  sector-kept = more-whole a c p bytes l _ l.files [] k taking.clean.layout (sym (append-nil l.files)) refl now-clean same
+      not-file (linked-stays c l p bytes wc.size relinked was.layout)
+      (plain-long b (slot_in fresh (sector c fresh) 0) kind name first (length ps) ps
+      (last_index (length ds) (length ps)) entry refl
+      (is-chain b first rest ds chain-still taking.count taking.once) (omega (arith, taking.count.low)))
+
   -- the image has the files of before and the new one, and is clean
   pub sector-put : HasPut a l name kind ds (put c p bytes)
   sector-put = record {
     layout = record { directory = l.directory ++ fresh ∷ []; files = with_new (put c p bytes) l.files [] k };
-    clean = linked-clean c l p bytes wc.size relinked a was.layout was is_last fresh k refl linked.link ends on_18
-        no_fresh used free file once taking.clean same
-        (plain-exact b (slot_in fresh (sector c fresh) 0) kind name first (length ps) ps
-        (last_index (length ds) (length ps)) entry) right-there;
+    clean = now-clean;
     file = k;
     adds = linked-adds c l p bytes wc.size relinked a was.layout was is_last fresh k refl linked.link ends on_18 no_fresh
         used free file once;
@@ -181,3 +202,6 @@ module _ (a c : Image) (l : Layout) (map : Sector) (first : Place) (rest : List 
     counted = entry.count;
     holds = chain-data b first rest ds chain-still taking.count;
   }
+
+  pub sector-both : HasPut a l name kind ds (put c p bytes) × (IsWhole a → IsWhole (put c p bytes))
+  sector-both = (sector-put, sector-kept)

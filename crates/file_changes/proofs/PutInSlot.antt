@@ -20,7 +20,14 @@ use Rattle.file_changes.proofs.PlainEntries.{IsPlainEntry, is-plain, plain-exact
 use Rattle.file_changes.specs.PutSites.{HasBlocks, IsTaking}
 use Rattle.file_changes.specs.Puts.{HasPut, HoldsChain, plain_entry, sectors_for}
 use Rattle.file_changes.specs.declared.file_type.FileType.{FileType}
-use Rattle.rel_records.proofs.lemmas.creation.InSlot.{Made, TakesSlot, made}
+use Rattle.rel_records.proofs.lemmas.creation.InSlot.{Made, TakesSlot, made, not_file, slot-stays, with_file}
+use Rattle.rel_records.proofs.lemmas.whole.Created.{more-whole}
+use Rattle.file_changes.proofs.PlainEnds.{plain-long}
+use Rattle.disk_layout.proofs.lemmas.counts.Recounts.{slot-of}
+use Rattle.disk_layout.specs.Clean.{IsCleanLayout}
+use Rattle.disk_layout.specs.Layout.{count_field}
+use Rattle.disk_layout.specs.Directory.{type_byte}
+use Rattle.disk_layout.specs.Whole.{IsWhole}
 use Rattle.rel_records.proofs.lemmas.creation.NewClean.{map-same}
 use Rattle.rel_records.proofs.lemmas.creation.NewWrites.{before-same, files-before}
 use Rattle.rel_records.proofs.lemmas.creation.StillClean.{made-clean}
@@ -124,13 +131,25 @@ module _ (a c : Image) (l : Layout) (map : Sector) (first : Place) (rest : List 
       subst Q (sym has.map) (map-same map ((first ∷ rest) ++ map_place ∷ (xs ++ ys))
       (map_place ∷ (xs ++ (file_owns k ++ ys))) (among (map_place ∷ xs) ys (first ∷ rest)) (subst P e right))
 
+  now-clean : IsCleanLayout (put c p bytes) (with_file (put c p bytes) l it.before it.after k)
+  now-clean = made-clean takes taking.clean same
+      (plain-exact b (slot_in p bytes n) kind name first (length ps) ps (last_index (length ds) (length ps)) entry)
+      right-there it
+
+  -- whole files stay whole
+  pub slot-kept : IsWhole a → IsWhole (put c p bytes)
+  slot-kept = more-whole a c p bytes l _ it.before it.after k taking.clean.layout it.split refl now-clean same
+      (not_file takes)
+      (λ f d. let still = slot-stays takes f.slot (slot-of c l f was.layout d) in
+      (ap count_field still, sym (ap type_byte still)))
+      (plain-long b (slot_in p bytes n) kind name first (length ps) ps (last_index (length ds) (length ps)) entry refl
+      (is-chain b first rest ds chain-still taking.count taking.once) (omega (arith, taking.count.low)))
+
   -- the image has the files of before and the new one, and is clean
   pub slot-put : HasPut a l name kind ds (put c p bytes)
   slot-put = record {
     layout = record { directory = l.directory; files = _ };
-    clean = made-clean takes taking.clean same
-        (plain-exact b (slot_in p bytes n) kind name first (length ps) ps (last_index (length ds) (length ps)) entry)
-        right-there it;
+    clean = now-clean;
     file = k;
     adds = it.adds;
     slot = inl (room, refl);
@@ -140,3 +159,6 @@ module _ (a c : Image) (l : Layout) (map : Sector) (first : Place) (rest : List 
     counted = entry.count;
     holds = chain-data b first rest ds chain-still taking.count;
   }
+
+  pub slot-both : HasPut a l name kind ds (put c p bytes) × (IsWhole a → IsWhole (put c p bytes))
+  slot-both = (slot-put, slot-kept)

@@ -40,6 +40,7 @@ use Rattle.disk_layout.specs.Rest.{slot_name}
 use Rattle.disk_layout.specs.Same.{AddsFile}
 use Rattle.disk_layout.specs.Side.{link_bytes, padded, place_bytes}
 use Rattle.disk_layout.specs.View.{blocks_free}
+use Rattle.disk_layout.specs.Whole.{IsWhole}
 use Rattle.file_changes.specs.Entries.{IsFreeName, entries_of}
 use Rattle.file_changes.specs.Faults.{TellsChange}
 use Rattle.file_changes.specs.declared.faults.ChangeFault.{ChangeFault}
@@ -101,9 +102,9 @@ pub record HasPut (a : Image) (l : Layout) (name : List ℕ) (kind : FileType) (
     pub counted : count_field file.slot ≡ length file.blocks
     pub holds : data_of c file ≡ bytes
 
--- every image held: it has the files of before, or one more
+-- every image held: it has the files of before, or one more; if all files were whole, they are
 abbrev pub IsPutting : Image → Layout → List ℕ → FileType → List ℕ → Image → Type 0
-IsPutting a l name kind bytes c = HasFilesOf a l c ⊎ HasPut a l name kind bytes c
+IsPutting a l name kind bytes c = (HasFilesOf a l c ⊎ HasPut a l name kind bytes c) × (IsWhole a → IsWhole c)
 
 -- there is no room: fewer free blocks than the file takes, or neither a free slot nor a free sector for the directory
 abbrev pub HasNoRoomFor : Image → Layout → ℕ → Type 0

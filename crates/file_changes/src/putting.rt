@@ -81,7 +81,7 @@ fn stored(data: &[u8]) -> &[u8]
 ///
 /// At most fifty-five sectors are read, unless the device fails. The map is written first, then the chain, then the
 /// directory; the last write makes the file. In each image that the disk holds on the way all other files are as they
-/// were.
+/// were, and whole files stay whole.
 pub fn put_file<D: Sectors>(
     disk: &mut D,
     name: &[u8],

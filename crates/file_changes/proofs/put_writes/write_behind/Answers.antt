@@ -52,7 +52,7 @@ returns-in_err-write_with_directory-clause-file g c l name kind site is_for =
     record {
       ok = not-done c.from_residual.result _ c.from_residual.ensures.1 _;
       moments = putting-before g.D.Sectors.history c.args.disk.now c.write_with_directory.new.disk l st.map.bytes
-          (c.args.fresh ∷ st.blocks.items) name kind c.args.data.now site.taking.clean.layout
+          (c.args.fresh ∷ st.blocks.items) name kind c.args.data.now site.taking.clean
           (beside-unowned l st.blocks.items c.args.fresh site.taking.unowned site.no_fresh) site.taking.header
           (length st.blocks.items + 2) (rw (c.as_slice.ensures.value) at c.in_err-write_with_directory.ensures.moments) (length st.blocks.items + 3)
           (omega arith);
@@ -71,9 +71,9 @@ returns-clause-file g c l name kind site is_for =
     (S.whole c.write_with_directory.new.disk) in
     let P : Image → Type 0 = HasPut a l name kind c.args.data.now in
     record {
-      ok = on_ok_weaker c.write.result (λ done. subst P (sym done) made) c.write.ensures.ok;
+      ok = on_ok_weaker c.write.result (λ done. subst P (sym done) made.0) c.write.ensures.ok;
       moments = putting-done S c.args.disk.now c.write_with_directory.new.disk l st.map.bytes
-          (c.args.fresh ∷ st.blocks.items) name kind c.args.data.now site.taking.clean.layout
+          (c.args.fresh ∷ st.blocks.items) name kind c.args.data.now site.taking.clean
           (beside-unowned l st.blocks.items c.args.fresh site.taking.unowned site.no_fresh) site.taking.header
           (length st.blocks.items + 2) prepared c.write.new.self st.place c.args.last.now (length st.blocks.items + 3)
           (omega arith) c.write.ensures.held

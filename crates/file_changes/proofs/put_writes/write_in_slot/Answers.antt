@@ -40,7 +40,7 @@ returns-in_err-write_sectors-clause-file g c l name kind site is_for =
     record {
       ok = not-done c.from_residual.result _ c.from_residual.ensures.1 _;
       moments = putting-before g.D.Sectors.history c.args.disk.now c.write_sectors.new.disk l st.map.bytes st.blocks.items
-          name kind c.args.data.now site.taking.clean.layout
+          name kind c.args.data.now site.taking.clean
           (λ q d own. site.taking.unowned q d (Contains-there q map_place (owners l) own)) site.taking.header
           (length st.blocks.items + 1) (rw (c.as_slice.ensures.value) at c.in_err-write_sectors.ensures.moments) (length st.blocks.items + 2) (omega arith);
     }
@@ -56,9 +56,9 @@ returns-clause-file g c l name kind site is_for =
     (at_end S _ _ _ prepared.held) written (S.whole c.write_sectors.new.disk) in
     let P : Image → Type 0 = HasPut a l name kind c.args.data.now in
     record {
-      ok = on_ok_weaker c.write.result (λ done. subst P (sym done) made) c.write.ensures.ok;
+      ok = on_ok_weaker c.write.result (λ done. subst P (sym done) made.0) c.write.ensures.ok;
       moments = putting-done S c.args.disk.now c.write_sectors.new.disk l st.map.bytes st.blocks.items
-          name kind c.args.data.now site.taking.clean.layout
+          name kind c.args.data.now site.taking.clean
           (λ q d own. site.taking.unowned q d (Contains-there q map_place (owners l) own)) site.taking.header
           (length st.blocks.items + 1) prepared c.write.new.self st.place c.args.bytes.now (length st.blocks.items + 2)
           (omega arith) c.write.ensures.held

@@ -30,7 +30,7 @@ use Rattle.rel_records.proofs.lemmas.creation.NewFiles.{IsNewFile, new-exact, ne
 use Rattle.rel_records.proofs.lemmas.creation.NewWrites.{before-same, files-before}
 use Rattle.rel_records.proofs.lemmas.creation.StillClean.{made-clean}
 use Rattle.rel_records.proofs.lemmas.creation.Unowned.{two-unowned}
-use Rattle.rel_records.proofs.lemmas.whole.Created.{before-whole, more-whole}
+use Rattle.rel_records.proofs.lemmas.whole.Created.{before-whole, fresh-long, more-whole}
 use Rattle.rel_records.specs.creation.Made.{HasFilesOf, IsCreating}
 use Rattle.rel_records.specs.creation.NewFile.{ChangesOnly, HasNewSectors, IsEntered, IsTakenFor}
 use Rattle.rel_records.specs.growth.Next.{IsFresh}
@@ -200,12 +200,12 @@ module _ (a c : Image) (l : Layout) (st : Site) (bytes : Sector) (name : List �
 
   -- whole files stay whole
   pub slot-whole : IsWhole a → IsWhole (put c st.place bytes)
-  slot-whole = more-whole a c st.place bytes l _ it.before it.after (slot_in st.place bytes st.number) st.block st.side u
-      L h.taken.clean.layout it.split refl (made-clean takes h.taken.clean same exact right it) same
+  slot-whole = more-whole a c st.place bytes l _ it.before it.after k h.taken.clean.layout it.split refl (made-clean takes h.taken.clean same exact right it) same
       (not_file takes)
       (λ f d. let still = slot-stays takes f.slot (slot-of c l f was.layout d) in
       (ap count_field still, sym (ap type_byte still)))
-      (rw entry.kind refl) fresh
+      (fresh-long (put c st.place bytes) (slot_in st.place bytes st.number) st.block st.side u L (rw entry.kind refl)
+      fresh)
 
 module _ {D : Type 0} (S : History D) (d e : D) (l : Layout) (st : Site) (bytes : Sector) (name : List ℕ) (L : ℕ)
     (h : IsSlotSite (S.image d) l st) (is_for : IsSlotEntry name L st bytes) (low : 1 ≤ L) (high : L ≤ 254)

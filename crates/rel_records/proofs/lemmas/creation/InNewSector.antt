@@ -34,7 +34,7 @@ use Rattle.rel_records.proofs.lemmas.creation.Unowned.{once-linked, two-unowned}
 use Rattle.rel_records.proofs.lemmas.creation.NewClean.{file-more, is-new, map-same, three-among}
 use Rattle.rel_records.proofs.lemmas.creation.NewFiles.{IsNewFile, new-exact, new-is_file, new_file, owners-new}
 use Rattle.rel_records.proofs.lemmas.creation.NewWrites.{before-same, files-before}
-use Rattle.rel_records.proofs.lemmas.whole.Created.{before-whole, linked-stays, more-whole}
+use Rattle.rel_records.proofs.lemmas.whole.Created.{before-whole, fresh-long, linked-stays, more-whole}
 use Rattle.rel_records.specs.creation.Made.{HasFilesOf, IsCreating}
 use Rattle.rel_records.specs.creation.NewFile.{ChangesOnly, HasNewSectors, IsLinkedTo, IsNewDirectory}
 use Rattle.rel_records.specs.creation.NewFile.{IsTakenForDirectory}
@@ -191,9 +191,10 @@ module _ (a c : Image) (l : Layout) (st : Site) (fresh : Place) (first_bytes byt
 
   -- whole files stay whole
   pub sector-whole : IsWhole a → IsWhole (put c st.place bytes)
-  sector-whole = more-whole a c st.place bytes l _ l.files [] (slot_in fresh (sector c fresh) 0) st.block st.side u L
-      h.taken.clean.layout (sym (append-nil l.files)) refl now-clean same
-      not-file (linked-stays c l st.place bytes wc.size relinked was.layout) (rw entry.kind refl) blocks
+  sector-whole = more-whole a c st.place bytes l _ l.files [] k h.taken.clean.layout (sym (append-nil l.files)) refl now-clean same
+      not-file (linked-stays c l st.place bytes wc.size relinked was.layout)
+      (fresh-long (put c st.place bytes) (slot_in fresh (sector c fresh) 0) st.block st.side u L (rw entry.kind refl)
+      blocks)
 
   -- the image has the files of before and the new one, and is clean
   pub sector-more : HasFileAt a l name L st fresh (put c st.place bytes)

@@ -29,7 +29,7 @@ use Rattle.rel_records.proofs.lemmas.reading.Opened.{rel-of}
 use Rattle.rel_records.specs.growth.Next.{IsFresh}
 
 -- its block count and its end are right
-abbrev IsLong : Image → File → Type 0
+abbrev pub IsLong : Image → File → Type 0
 IsLong img y = (IsTrue (is_plain y.slot) → count_field y.slot ≤ length y.blocks)
     × (IsTrue (is_rel y.slot || is_plain y.slot) → HasEnd img y)
 
@@ -76,16 +76,28 @@ linked-stays c l p bytes full relinked is f d =
     let on = (filter-out is_used (flat_map (λ q. slots_in q (sector c q)) l.directory) f.slot (slot-of c l f is d)).0 in
     (count-any c l p bytes full relinked l.directory f.slot on, (entry-any c l p bytes full relinked l.directory f.slot on).face.kind)
 
--- The entry of a new file of one fresh block was written into the sector at p: the image is clean, and no other entry
--- changed its type or its count.
-module _ (a c : Image) (p : Place) (bytes : Sector) (l m : Layout) (fs gs : List File) (s : Slot) (block side : Place)
-    (u L : ℕ) (is : IsLayout a l) (split : l.files ≡ fs ++ gs)
-    (files : m.files ≡ with_new (put c p bytes) fs gs (new_file s block side u))
+-- a relative file of one fresh block is
+pub fresh-long : (b : Image) (s : Slot) (block side : Place) (u L : ℕ) → IsTrue (is_rel s)
+    → IsFresh 0 L (sector b block) → IsLong b (new_file s block side u)
+fresh-long b s block side u L rel fresh = (
+  λ t. absurd (rel-not-plain s rel t),
+  λ t q last. (let both : Some block ≡ Some q = last in
+      let here : block ≡ q = cc in
+      not-zeros (sector b q) 1 (λ z.
+      let at : slice_index (sector b block) 1 ≡ 0 = ap (λ x. slice_index (sector b x) 1) here ∙ z in
+      absurd (omega (arith, fresh.index, at)))),
+)
+
+-- The entry of a new file, whose count and end are right, was written into the sector at p: the image is clean, and no
+-- other entry changed its type or its count.
+module _ (a c : Image) (p : Place) (bytes : Sector) (l m : Layout) (fs gs : List File) (k : File)
+    (is : IsLayout a l) (split : l.files ≡ fs ++ gs)
+    (files : m.files ≡ with_new (put c p bytes) fs gs k)
     (clean : IsCleanLayout (put c p bytes) m) (same : AgreeAt a c (owners l))
     (off : ¬ (Contains (flat_map file_owns l.files) p))
     (stays : (f : File) → Contains l.files f → (count_field (reslot (put c p bytes) f.slot) ≡ count_field f.slot)
     × (type_byte f.slot ≡ type_byte (reslot (put c p bytes) f.slot)))
-    (rel : IsTrue (is_rel s)) (fresh : IsFresh 0 L (sector (put c p bytes) block)) (w : IsWhole a) where
+    (new : IsLong (put c p bytes) k) (w : IsWhole a) where
   old-long : (f : File) → Contains l.files f → IsLong (put c p bytes) (reread (put c p bytes) f)
   old-long f on =
       let (i, there) = contains-get l.files f on in
@@ -101,17 +113,6 @@ module _ (a c : Image) (p : Place) (bytes : Sector) (l m : Layout) (fs gs : List
             (same q (owned-block l f q on own) ∙ unless-same c p q bytes apart ∙ zeros)),
       )
 
-  new-long : IsLong (put c p bytes) (new_file s block side u)
-  new-long = (
-    λ t. absurd (rel-not-plain s rel t),
-    λ t q last. (let both : Some block ≡ Some q = last in
-        let here : block ≡ q = cc in
-        not-zeros (sector (put c p bytes) q) 1 (λ z.
-        let at : slice_index (sector (put c p bytes) block) 1 ≡ 0 =
-        ap (λ x. slice_index (sector (put c p bytes) x) 1) here ∙ z in
-        absurd (omega (arith, fresh.index, at)))),
-  )
-
   from : (xs : List File) → ((f : File) → Contains xs f → Contains l.files f) → (y : File)
       → Contains (map (reread (put c p bytes)) xs) y → IsLong (put c p bytes) y
   from xs sub y d =
@@ -122,9 +123,9 @@ module _ (a c : Image) (p : Place) (bytes : Sector) (l m : Layout) (fs gs : List
   long : (y : File) → Contains m.files y → IsLong (put c p bytes) y
   long y on =
       let P : List File → Type 0 = λ ys. Contains ys y in
-      elim (insert-out (map (reread (put c p bytes)) fs) (map (reread (put c p bytes)) gs) (new_file s block side u) y
+      elim (insert-out (map (reread (put c p bytes)) fs) (map (reread (put c p bytes)) gs) k y
       (subst P files on)) [
-        | inl e ↦ (let Q : File → Type 0 = IsLong (put c p bytes) in subst Q e new-long)
+        | inl e ↦ (let Q : File → Type 0 = IsLong (put c p bytes) in subst Q e new)
         | inr rest ↦ elim (Contains-append_cases (map (reread (put c p bytes)) fs) (map (reread (put c p bytes)) gs) y
             rest) [
               | inl d ↦ from fs (λ f on. rw split (Contains-append_left fs gs f on)) y d
