@@ -87,6 +87,16 @@ job ledger format --tills 64 a.d64
 prints format, a.d64, , 64
 job ledger format --tills=20 a.d64
 prints format, a.d64, , 20
+job ledger new a.d64 --name GAMES --id 1X
+prints new, a.d64, , 5
+job ledger new --id \\00\\01 a.d64 --name ''
+prints new, a.d64, , 0
+job ledger rename a.d64 ADD\\c1 OLD
+prints rename, a.d64, , 4
+job ledger delete a.d64 A
+prints delete, a.d64, , 1
+job ledger play --log a.d64 s.txt
+prints play logged, a.d64, s.txt, 0
 ";
 
 /// Flags after the words and before them, in any order.
@@ -180,6 +190,14 @@ job ledger make a.d64 A 30
 prints fault 1, status 2
 job ledger store a.d64 A
 prints fault 1, status 2
+job ledger rename a.d64 A
+prints fault 1, status 2
+job ledger delete a.d64
+prints fault 1, status 2
+job ledger new a.d64 --name A
+prints fault 1, status 2
+job ledger play a.d64 s.txt --log --sync
+prints fault 8, status 2
 job ledger store a.d64 A r.txt s.txt
 prints fault 1, status 2
 job ledger records a.d64

@@ -115,6 +115,13 @@ prints fault 4, status 2
 # A new file has a name.
 job ledger make a.d64 '' --length 30
 prints fault 3, status 2
+job ledger rename a.d64 A ''
+prints fault 3, status 2
+# An id has two bytes.
+job ledger new a.d64 --name A --id 1
+prints fault 7, status 2
+job ledger new a.d64 --name A --id 123
+prints fault 7, status 2
 ";
 
 #[test]
