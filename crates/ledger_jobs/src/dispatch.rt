@@ -20,6 +20,7 @@ use crate::names::Name;
 use crate::new_disks::do_new;
 use crate::outcomes::{drawn_end, job_end, told};
 use crate::overviews::do_several;
+use crate::playing_logs::do_logged_playing;
 use crate::readings::{do_reading, image_at};
 use crate::refusals::Refusal;
 use crate::serving_images::do_serving;
@@ -123,11 +124,11 @@ where
 /// it, the log is landed before the image is written; otherwise it is read in the place of the image.
 ///
 /// `InUse` if another program has the image; `Log` if its log gives no image; `File` if a file couldn't be opened or
-/// read. The other faults are those of `reading_run`, `format_image`, `new_run`, `play_durably`, `serve_guarded`,
-/// `serve_logged_guarded`, `copy_run`, `repair_guarded`, `make_guarded`, `rename_guarded`, `delete_guarded`,
-/// `store_guarded`, `take_told`, `extract_run`, `listing_run`, `drawing_run`, `comparing_run` and `view_run`. `Trim` ends
-/// with `File`, since it reports on standard error: call `do_trim`. What is wrong with one of several images is printed;
-/// only a failed output ends the job before the last of them.
+/// read. The other faults are those of `reading_run`, `format_image`, `new_run`, `play_durably`, `play_logged`,
+/// `serve_guarded`, `serve_logged_guarded`, `copy_run`, `repair_guarded`, `make_guarded`, `rename_guarded`,
+/// `delete_guarded`, `store_guarded`, `take_told`, `extract_run`, `listing_run`, `drawing_run`, `comparing_run` and
+/// `view_run`. `Trim` ends with `File`, since it reports on standard error: call `do_trim`. What is wrong with one of
+/// several images is printed; only a failed output ends the job before the last of them.
 pub fn do_job<F, R, W>(rt: &R, job: &Job<'_>, out: &mut W) -> Result<Option<Fault>, Refusal>
 where
     F: EndedFile + Read + Locks + OpenFile + Drop,
@@ -154,8 +155,7 @@ where
         Job::PlaySynced { image, script } => {
             do_playing(rt, image, script, Durability::EachSector, out)
         }
-        // no word asks for it yet
-        Job::PlayLogged { .. } => Err(Refusal::Run(RunFault::File)),
+        Job::PlayLogged { image, script } => do_logged_playing(rt, image, script, out),
         Job::Serve {
             image,
             way,

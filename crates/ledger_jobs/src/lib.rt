@@ -29,6 +29,7 @@ mod near_names;
 mod new_disks;
 mod outcomes;
 mod overviews;
+mod playing_logs;
 mod readings;
 mod refusals;
 mod serving_files;

@@ -38,6 +38,8 @@ mod lock_rows;
 #[cfg(test)]
 mod log_rows;
 #[cfg(test)]
+mod logged_play_rows;
+#[cfg(test)]
 mod moved_rows;
 #[cfg(test)]
 mod output_rows;

@@ -1,0 +1,106 @@
+//! Playing a script on the shop of the image at a path, over a log beside it.
+ghost use Rattle.std.specs.Prelude.{◌≡◌, Bool, IfOk, IsOk, None};
+ghost use Rattle.d64_image.specs.Memory.{sectors_in};
+ghost use Rattle.host_session.specs.shop.Shop.{IsShop, Shop};
+ghost use Rattle.ledger_jobs.specs.LandedRuns.{HasLanded, IsDoneAndLanded};
+ghost use Rattle.ledger_jobs.specs.LoggedPlays.{IsLoggedPlay};
+ghost use Rattle.ledger_jobs.specs.Losses.{IsEndOfRun};
+ghost use Rattle.log_files.specs.LiveLogs.{of_live};
+ghost use Rattle.log_server.specs.Serves.{shop_behind};
+ghost use Rattle.script_lines.specs.Lines.{first_reset, lines};
+
+use crate::files::script_at;
+use crate::jobs::Loss;
+use crate::logged_plays::play_logged;
+use crate::losses::run_end;
+use crate::outcomes::told;
+use crate::refusals::Refusal;
+use crate::serving_images::name_of;
+use crate::serving_logs::{begun_beside, cleared_end, landed_end, opened_image};
+use crate::watched_files::served_end;
+use disk_layout::Fault;
+use host_session::Printer;
+use log_files::{LiveLog, LogFolder, LogNames};
+use log_server::Reports;
+use script_lines::first_reset_line;
+use shop_commands::{Durability, EndedFile, Locks, RunFault};
+use shop_log::LogFile;
+use std::alloc::Global;
+use std::fs::OpenFile;
+use std::io::Write;
+use std::rt::Files;
+use system_files::Stays;
+
+/// Plays a script without resets on the shop of this image, over a log that was begun with it. Then the log is landed,
+/// and the folder returned; but it is left where it is if the image's file has gone, or a commit failed.
+fn play_begun<L, D, N, T>(
+    alloc: Global,
+    image: &[u8],
+    script: &[u8],
+    log: LiveLog<L, D>,
+    name: &N,
+    out: &mut T,
+) -> (Option<D>, Result<Option<Fault>, Refusal>)
+where
+    L: LogFile,
+    D: LogFolder<L> + Drop,
+    N: Stays,
+    T: Reports<LiveLog<L, D>>,
+    requires plain { first_reset (lines script.now) ≡ None }
+    ensures played { (gone : Bool) × IsDoneAndLanded D.history (λ left ended. IsEndOfRun
+        (IsLoggedPlay (of_live D.history) T.output image.now script.now log left out.old out.new) ended)
+        gone result.0 result.1 }
+    // done, IMAGE is the shop after all messages
+    ensures landed { (s : Shop) → IsShop (sectors_in image.now) s
+        → (of_live D.history).stands_for log (sectors_in image.now) → IsOk result.1
+        → HasLanded D.history (shop_behind s (lines script.now)) result.0 }
+{
+    let mut log = log;
+    let ended = run_end(play_logged(alloc, image, script, &mut log, out));
+    landed_end(log, served_end(ended, !name.is_there()))
+}
+
+/// The bytes of the script at a path. `BadLine` if a line begins with `@`: the first such line.
+fn plain_script<R: Files + Input + AllocGlobal>(rt: &R, path: &str) -> Result<Vec<u8>, Refusal>
+    ensures { IfOk result (λ script. first_reset (lines script.items) ≡ None) }
+{
+    let script = told(script_at(rt, path))?;
+    match first_reset_line(script.as_slice()) {
+        None => Ok(script),
+        Some(line) => Err(Refusal::Run(RunFault::BadLine(line))),
+    }
+}
+
+/// Plays the script at a path on the shop of the image at another, over a log beside the image. Other programs may read
+/// the image meanwhile, by its log, and none may write it. At the end the log is landed: the image is the shop then. If
+/// the path doesn't lead to the image's file then, or the file has another length, it ends with `Device`, and the log
+/// stays. A script with a line that begins with `@` is refused before anything is written.
+pub(crate) fn do_logged_playing<F, R, W>(
+    rt: &R,
+    path: &str,
+    script: &str,
+    out: &mut W,
+) -> Result<Option<Fault>, Refusal>
+where
+    F: EndedFile + Locks + OpenFile + Drop,
+    R: Files<File = F> + Input + AllocGlobal,
+    W: Write,
+{
+    let alloc = rt.alloc();
+    let mut image = opened_image(rt, path)?;
+    let script = plain_script(rt, script)?;
+    let name = name_of(rt, path, &image)?;
+    let names = told(LogNames::of(rt, alloc, path))?;
+    let durability = Durability::EachSector;
+    let (bytes, log) = begun_beside(rt, path, &names, &mut image, durability, Loss::Accepted)?;
+    let mut printer = Printer::new(out);
+    let (_, ended) = play_begun(
+        alloc,
+        bytes.as_slice(),
+        script.as_slice(),
+        log,
+        &name,
+        &mut printer,
+    );
+    cleared_end(rt, path, &image, &names, ended)
+}
