@@ -66,7 +66,7 @@ fn a_play_over_a_log_is_refused(rt: HostRuntime) {
     each(&rt, REFUSED);
 }
 
-/// A commit that fails isn't told, and its log stays, as it does if the image goes from its name. The next play lands it.
+/// A commit that fails isn't reported, and its log stays, as it does if the image goes from its name. The next play lands it.
 const LEFT: &[u8] = b"
 log-sync 3 fails
 $ ledger_cli play --log a.d64 s.txt
