@@ -1,15 +1,17 @@
 #!/usr/bin/env python3
-"""Kills the built program while it repairs a disk, stores records and makes a file, and looks at what it left:
+"""Kills the built program while it repairs a disk, stores records, and makes, renames and deletes files, and looks at what
+it left:
 
     tests/keepers_kill.py PROGRAM [KILLS] [SEED] [FOLDER]
 
 PROGRAM is what `tools/program` prints. It is killed (SIGKILL) at random moments, a
-third of KILLS in `repair --free`, in `store` and in `make`, on a disk with other files; images lie in FOLDER (/var/tmp), which
-has to be on a disk, so that each sync takes its time. After each kill
+quarter of KILLS each in `repair --free`, in `store`, in `make`, and in `rename` or `delete`, on a disk with other files;
+images lie in FOLDER (/var/tmp), which has to be on a disk, so that each sync takes its time. After each kill
 - `check` says OK, or `repair --free` makes it so, and is killed some times itself before; nobody is told IN USE. The disk
   to repair has side sectors that list more blocks than there are, so it is repaired with `--accept-loss`;
 - all other files are as they were, byte for byte;
 - `repair`: each sector is the old one or the mended one; `make`: the file isn't there, or has empty records;
+- `rename`: the file has the old name or the new one, and its records; `delete`: it is there with its records, or isn't;
 - `store`: the records are those of before, grown by empty ones at the most, or some first lines are stored and the next
   record is the old one, the new one, or across two sectors in its first part the new one; what was printed is the
   beginning of the lines that change something, none of which isn't stored;
@@ -275,6 +277,45 @@ class Makes(Killer):
         want(sure(self.program, "check", self.image) == ["OK"], "check isn't OK at the end")
 
 
+class Edits(Killer):
+    """A relative file that is renamed or deleted."""
+
+    def begin(self):
+        disks = Disks(self.program, self.folder, self.draw)
+        disks.others(self.image, self.draw.choice([0, 5, 6, 7]), 3)
+        length = self.draw.randint(1, 254)
+        disks.relative(self.image, NAME, length, [disks.record(length) for _ in range(self.draw.randint(1, 200))])
+        self.before = self.held()
+        renamed = self.draw.random() < 0.5
+        self.words = ["rename", self.image, NAME, "RENAMED"] if renamed else ["delete", self.image, NAME]
+        self.said = "RENAMED" if renamed else "DELETED"
+        _, self.seconds = self.timed(*self.words)
+        self.right = self.held()
+        want(without(self.right, "RENAMED") == without(self.before, NAME), "another file was changed")
+        want(len(self.right.files()) == len(self.before.files()) - (not renamed), "the file wasn't changed")
+
+    def state(self):
+        """Whether the change is made; each file is as it was."""
+        files = self.held().files()
+        want(files in (self.before.files(), self.right.files()), "a change is made in part")
+        return files == self.right.files()
+
+    def kill(self):
+        self.image.write_bytes(self.before.image)
+        out, dead = self.killed(1.1 * self.seconds, *self.words)
+        done = self.state()
+        want(done or not out, f"{self.said} was printed before it was so")
+        held = self.held()
+        self.kills += dead
+        self.amid += dead and held.image not in (self.before.image, self.right.image)
+        self.heal(self.seconds)
+        want(self.state() == done, "a repair made the change, or took it back")
+        ended = run(self.program, *self.words)
+        want(ended == ((1, [], "NO FILE") if done else (0, [self.said], "")), f"again: {ended}")
+        want(self.state(), "again, the files aren't those of a run without a kill")
+        want(sure(self.program, "check", self.image) == ["OK"], "check isn't OK at the end")
+
+
 def main():
     if len(sys.argv) < 2:
         sys.exit(__doc__)
@@ -283,10 +324,10 @@ def main():
     draw = random.Random(int(sys.argv[3]) if len(sys.argv) > 3 else 1541)
     above = sys.argv[4] if len(sys.argv) > 4 else "/var/tmp"
     told = []
-    for what in (Repairs, Stores, Makes):
+    for what in (Repairs, Stores, Makes, Edits):
         with tempfile.TemporaryDirectory(dir=above) as folder:
             killer = what(program, Path(folder), draw)
-            while killer.kills < kills // 3:
+            while killer.kills < kills // 4:
                 killer.begin()
                 for _ in range(20):
                     killer.kill()

@@ -2,3 +2,4 @@
 pub mod DeletedImages
 pub mod PutImages
 pub mod RenamedImages
+pub mod ShopFiles

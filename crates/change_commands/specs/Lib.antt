@@ -3,3 +3,4 @@ pub mod Deletes
 pub mod Faults
 pub mod Puts
 pub mod Renames
+pub mod ShopFiles

@@ -10,8 +10,9 @@ use d64_image::{ImageFault, MemDisk};
 use layout_check::{check, survey};
 use std::alloc::Global;
 
-/// The disk in memory that holds the image.
-fn load(alloc: Global, image: &[u8]) -> Result<MemDisk, EditFault>
+/// The disk in memory that holds the image. The error is `ImageSize` if the image hasn't 174,848 bytes, and `NoMemory` if
+/// there was none for as many.
+pub fn load(alloc: Global, image: &[u8]) -> Result<MemDisk, EditFault>
     ensures ok { IfOk result (λ disk. (length image.now ≡ 174848)
         × (disk_image disk ≡ sectors_in image.now)) }
     ensures err { IfErr result (IsLoadFault image.now) }

@@ -5,6 +5,8 @@ use Rattle.std.specs.IoError.{error_kind}
 use Rattle.std.specs.declared.fs.locks.TryLockError.{TryLockError}
 use Rattle.std.specs.declared.fs.locks.TryLockError.TheVariants as locks
 use Rattle.std.specs.declared.io.Error.{Error}
+use Rattle.change_commands.specs.Faults.{edit_status, edit_text}
+use Rattle.change_commands.specs.declared.faults.EditFault.{EditFault}
 use Rattle.disk_layout.specs.Texts.{place_text}
 use Rattle.disk_layout.specs.declared.faults.Fault.{Fault}
 use Rattle.disk_pictures.specs.Faults.{picture_status, picture_text}
@@ -26,12 +28,14 @@ use Rattle.ledger_jobs.specs.declared.refusals.Refusal.TheVariants as refusals
 abbrev pub refusal_status : Refusal → ℕ
 refusal_status (refusals.Run fault) = run_status fault
 refusal_status (refusals.Keep fault) = keep_status fault
+refusal_status (refusals.Edit fault) = edit_status fault
 refusal_status (refusals.Draw fault) = picture_status fault
 refusal_status refusals.InUse = 3
 refusal_status (refusals.Kept n) = 1
 refusal_status refusals.Exists = 1
 refusal_status refusals.Log = 1
 refusal_status (refusals.Short p) = 1
+refusal_status refusals.ShopFile = 1
 refusal_status refusals.Trimmed = 1
 refusal_status (refusals.Several greatest) = greatest
 
@@ -39,12 +43,14 @@ refusal_status (refusals.Several greatest) = greatest
 abbrev pub refusal_text : Refusal → List ℕ
 refusal_text (refusals.Run fault) = run_text fault
 refusal_text (refusals.Keep fault) = keep_text fault
+refusal_text (refusals.Edit fault) = edit_text fault
 refusal_text (refusals.Draw fault) = picture_text fault
 refusal_text refusals.InUse = codes "IN USE"
 refusal_text (refusals.Kept n) = codes "KEPT " ++ decimal n
 refusal_text refusals.Exists = codes "FILE EXISTS"
 refusal_text refusals.Log = codes "LOG"
 refusal_text (refusals.Short p) = codes "SHORT " ++ place_text p
+refusal_text refusals.ShopFile = codes "SHOP FILE"
 refusal_text refusals.Trimmed = codes "TRIMMED"
 refusal_text (refusals.Several greatest) = codes "STATUS " ++ decimal greatest
 
@@ -52,12 +58,14 @@ refusal_text (refusals.Several greatest) = codes "STATUS " ++ decimal greatest
 abbrev pub is_told : Refusal → Bool
 is_told (refusals.Run fault) = true
 is_told (refusals.Keep fault) = true
+is_told (refusals.Edit fault) = true
 is_told (refusals.Draw fault) = true
 is_told refusals.InUse = true
 is_told (refusals.Kept n) = false
 is_told refusals.Exists = true
 is_told refusals.Log = true
 is_told (refusals.Short p) = true
+is_told refusals.ShopFile = true
 is_told refusals.Trimmed = false
 is_told (refusals.Several greatest) = false
 
@@ -131,6 +139,11 @@ as_job (Err fault) = Err (refusals.Run fault)
 abbrev pub as_kept : Result Unit KeepFault → JobEnd
 as_kept (Ok _) = Ok None
 as_kept (Err fault) = Err (refusals.Keep fault)
+
+-- what came of a change to the files of an image, as a job's end
+abbrev pub as_edited : Result Unit EditFault → JobEnd
+as_edited (Ok _) = Ok None
+as_edited (Err fault) = Err (refusals.Edit fault)
 
 -- what came of a repair, as a job's end: so many sectors are left, or it wasn't done
 abbrev pub as_repaired : Result ℕ KeepFault → JobEnd

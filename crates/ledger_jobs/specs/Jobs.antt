@@ -1,5 +1,5 @@
 -- What holds of each job. Our own.
-use Rattle.std.specs.Prelude.{◌≤◌, ⊤, ℕ, List, take}
+use Rattle.std.specs.Prelude.{◌≤◌, ⊤, ℕ, List, length, take}
 use Rattle.keeper_commands.specs.Makes.{IsNewName}
 use Rattle.ledger_jobs.specs.Names.{name_bytes}
 use Rattle.ledger_jobs.specs.declared.jobs.Job.{Job}
@@ -9,11 +9,13 @@ use Rattle.ledger_jobs.specs.declared.jobs.Reading.TheVariants as readings
 use Rattle.rel_records.specs.File.{IsLength}
 
 -- the numbers of a job are in their ranges: tills 1 to 64, and the bytes of a record of a file that is made 1 to 254. A
--- new file can have its name
+-- new file can have the name that a file gets. The name of a new disk has 16 bytes at most
 abbrev pub IsFit : Job → Type 0
 IsFit (jobs.Format image tills) = (1 ≤ tills) × (tills ≤ 64)
 IsFit (jobs.FormatNew image tills) = (1 ≤ tills) × (tills ≤ 64)
-IsFit (jobs.Make image name length loss) = IsNewName (name_bytes name) × IsLength length
+IsFit (jobs.Make image name size loss) = IsNewName (name_bytes name) × IsLength size
+IsFit (jobs.Rename image from to) = IsNewName (name_bytes to)
+IsFit (jobs.New image name id) = length (name_bytes name) ≤ 16
 IsFit _ = ⊤
 
 -- what is read of a file: a script whole, and of an image one byte more than a disk has at most

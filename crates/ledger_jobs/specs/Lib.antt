@@ -3,6 +3,8 @@ pub mod Comparisons
 pub mod Copies
 pub mod Drawings
 pub mod DurableRuns
+pub mod EditRefusals
+pub mod Edited
 pub mod Ends
 pub mod Extracts
 pub mod FileServes
@@ -14,6 +16,7 @@ pub mod Listings
 pub mod LoggedRuns
 pub mod Losses
 pub mod Names
+pub mod NewDisks
 pub mod Overviews
 pub mod Runs
 pub mod Serves

@@ -6,7 +6,7 @@ use Rattle.keeper_commands.specs.declared.faults.KeepFault.{KeepFault}
 use Rattle.shop_commands.specs.declared.faults.RunFault.{RunFault}
 use Rattle.shop_commands.specs.declared.faults.RunFault.TheVariants as run
 use Rattle.ledger_jobs.specs.Ends.{JobEnd, as_job, as_kept, as_repaired, end_of, Ended}
-use Rattle.ledger_jobs.specs.Keeping.{IsTaken, IsTakingRun}
+use Rattle.ledger_jobs.specs.Keeping.{IsTakingRun}
 use Rattle.ledger_jobs.specs.declared.jobs.Loss.{Loss}
 use Rattle.ledger_jobs.specs.declared.jobs.Loss.TheVariants as losses
 use Rattle.ledger_jobs.specs.declared.jobs.Taking.{Taking}

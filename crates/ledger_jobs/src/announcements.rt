@@ -1,10 +1,10 @@
 //! What a person at a terminal reads before a job is done, and after a check.
-use crate::dispatch::image_of_file;
 use crate::explanations::CUT_SHORT;
 use crate::files::STANDARD_INPUT;
 use crate::job_files::size_of;
 use crate::jobs::Job;
 use crate::losses::cut_in;
+use crate::readings::image_of_file;
 use d64_image::Place;
 use shop_commands::Locks;
 use std::fs::OpenFile;

@@ -1,7 +1,8 @@
 //! Two images compared, each read as if it were alone.
 ghost use Rattle.ledger_jobs.specs.Comparisons.{IsComparingRun};
 
-use crate::dispatch::{drawn_end, image_at};
+use crate::outcomes::drawn_end;
+use crate::readings::image_at;
 use crate::refusals::Refusal;
 use disk_layout::Fault;
 use disk_pictures::{PictureFault, compare_images};

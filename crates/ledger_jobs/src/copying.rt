@@ -1,8 +1,9 @@
 //! Copies of images, as their shops are now.
 ghost use Rattle.ledger_jobs.specs.Copies.{IsCopied};
 
-use crate::dispatch::{image_at, job_end};
 use crate::files::{AtPath, Older};
+use crate::outcomes::job_end;
+use crate::readings::image_at;
 use crate::refusals::Refusal;
 use disk_layout::Fault;
 use shop_commands::{EndedFile, Locks, OverwrittenFile, RunFault, put_whole};

@@ -1,6 +1,6 @@
 //! Images that are read, each described by an object of JSON.
-use crate::dispatch::image_at;
 use crate::job_files::size_of;
+use crate::readings::image_at;
 use crate::refusals::Refusal;
 use disk_faults::{DescribeFault, describe_image, describe_refusal};
 use disk_layout::Fault;

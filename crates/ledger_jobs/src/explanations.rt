@@ -5,6 +5,7 @@ use crate::job_files::{image_of, size_of, text_of};
 use crate::jobs::Job;
 use crate::near_names::tell_name;
 use crate::refusals::Refusal;
+use change_commands::EditFault;
 use disk_pictures::PictureFault;
 use keeper_commands::KeepFault;
 use noted_files::Failure;
@@ -56,6 +57,13 @@ const FOREIGN_LOG: &str =
 pub(crate) const CUT_SHORT: &str =
     "a file ends at that sector, too early: docs/KEEPERS.md says what to do";
 
+const NAMED: &str = "a file has this name; `ledger list` shows them";
+
+const LOCKED: &str = "the file is locked: `ledger list` prints `<` after its type";
+
+const SHOP_FILE: &str =
+    "the file is one of the two that a shop is kept in; without it the shop is lost";
+
 const BAD_LINE: &str = "nothing was done; mend the line, and run it again";
 
 fn about_run(fault: RunFault) -> About {
@@ -76,7 +84,7 @@ fn about_keep(fault: KeepFault) -> About {
         KeepFault::ImageSize => About::Size,
         KeepFault::Layout(_) => About::Image(JUDGED),
         KeepFault::NoFile => About::Name,
-        KeepFault::FileExists => About::Image("a file has this name; `ledger list` shows them"),
+        KeepFault::FileExists => About::Image(NAMED),
         KeepFault::DiskFull => About::Image("too few blocks are free; nothing was done"),
         KeepFault::BadLine(_) => About::Text(BAD_LINE),
         KeepFault::Device => About::Device,
@@ -90,10 +98,24 @@ fn about_keep(fault: KeepFault) -> About {
     }
 }
 
+fn about_edit(fault: EditFault) -> About {
+    match fault {
+        EditFault::File => About::Files,
+        EditFault::ImageSize => About::Size,
+        EditFault::Layout(_) => About::Image(JUDGED),
+        EditFault::NoFile => About::Name,
+        EditFault::FileExists => About::Image(NAMED),
+        EditFault::Locked => About::Image(LOCKED),
+        EditFault::Device => About::Device,
+        EditFault::NoMemory => About::Nothing,
+    }
+}
+
 fn subject_of(refusal: Refusal) -> About {
     match refusal {
         Refusal::Run(fault) => about_run(fault),
         Refusal::Keep(fault) => about_keep(fault),
+        Refusal::Edit(fault) => about_edit(fault),
         Refusal::Draw(PictureFault::File) => About::Files,
         Refusal::Draw(PictureFault::ImageSize) => About::Size,
         Refusal::Draw(PictureFault::NoMemory) => About::Nothing,
@@ -103,6 +125,7 @@ fn subject_of(refusal: Refusal) -> About {
         Refusal::Exists => About::Made,
         Refusal::Log => About::Image(FOREIGN_LOG),
         Refusal::Short(_) => About::Image(CUT_SHORT),
+        Refusal::ShopFile => About::Image(SHOP_FILE),
         Refusal::Trimmed => About::Image(JUDGED),
         Refusal::Several(_) => About::Nothing,
     }
@@ -241,6 +264,13 @@ fn tell_made<E: Write>(job: &Job<'_>, err: &mut E) {
         }
         Job::Extract { folder, .. } => {
             tell_of(err, folder, "it is there already; choose another name");
+        }
+        Job::New { image, .. } => {
+            tell_of(
+                err,
+                image,
+                "it or its log is there already; choose another name",
+            );
         }
         _ => tell_of(
             err,

@@ -2,8 +2,8 @@
 ghost use Rattle.std.specs.Prelude.{◌≡◌};
 ghost use Rattle.ledger_jobs.specs.Extracts.{IsExtractEnd, IsExtractTold, refusal_found, refusal_of};
 
-use crate::dispatch::image_at;
 use crate::losses::{cut_in, run_end};
+use crate::readings::image_at;
 use crate::refusals::Refusal;
 use d64_image::Place;
 use disk_layout::Fault;

@@ -2,8 +2,8 @@
 ghost use Rattle.std.specs.Prelude.{◌≡◌};
 ghost use Rattle.ledger_jobs.specs.Ends.{log_refusal as refusal_of};
 
-use crate::dispatch::told;
 use crate::locks::lock_exclusive;
+use crate::outcomes::told;
 use crate::refusals::Refusal;
 use log_files::{ImageFolder, ImageView, LogFault, LogNames, land_in, view_in};
 use shop_commands::{Durability, EndedFile, Locks, RunFault};

@@ -8,11 +8,12 @@ use system_files::regular_at;
 /// The file that a job reads or writes first.
 pub(crate) fn image_of<'a>(job: &Job<'a>) -> &'a str {
     match job {
-        Job::Format { image, .. } | Job::FormatNew { image, .. } => image,
+        Job::Format { image, .. } | Job::FormatNew { image, .. } | Job::New { image, .. } => image,
         Job::List { image, .. } | Job::Check { image, .. } | Job::Show { image } => image,
-        Job::Play { image, .. } | Job::PlaySynced { image, .. } | Job::Serve { image, .. } => image,
+        Job::Play { image, .. } | Job::PlaySynced { image, .. } => image,
+        Job::PlayLogged { image, .. } | Job::Serve { image, .. } => image,
         Job::Repair { image, .. } | Job::Take { image, .. } | Job::Draw { image, .. } => image,
-        Job::Extract { image, .. } => image,
+        Job::Extract { image, .. } | Job::Rename { image, .. } | Job::Delete { image, .. } => image,
         Job::View { image, .. } | Job::Trim { image } => image,
         Job::Make { image, .. } | Job::Store { image, .. } | Job::Copy { image, .. } => image,
         Job::Several { images, .. } | Job::Sheet { images } | Job::Describe { images } => {
@@ -27,8 +28,8 @@ pub(crate) fn image_of<'a>(job: &Job<'a>) -> &'a str {
 pub(crate) fn text_of<'a>(job: &Job<'a>) -> Option<&'a str> {
     match job {
         Job::Play { script, .. } | Job::PlaySynced { script, .. } => Some(script),
+        Job::PlayLogged { script, .. } | Job::Dry { script } => Some(script),
         Job::Store { records, .. } => Some(records),
-        Job::Dry { script } => Some(script),
         _ => None,
     }
 }

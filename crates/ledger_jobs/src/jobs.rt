@@ -128,6 +128,15 @@ pub enum Job<'a> {
         /// How many tills the shop has, 1 to 64. The caller that makes a job ensures that.
         tills: u8,
     },
+    /// The image of an empty disk, in a file that isn't there yet.
+    New {
+        /// The image's path.
+        image: &'a str,
+        /// The name of the disk, 0 to 16 bytes. Who makes a job sees to it.
+        name: Name,
+        /// The two bytes of the disk's ID.
+        id: [u8; 2],
+    },
     /// The directory of an image.
     List {
         /// How its names are printed.
@@ -156,6 +165,13 @@ pub enum Job<'a> {
     },
     /// The messages of a script, played as `Play` does; but each sector is synced before the next is written.
     PlaySynced {
+        /// The image's path.
+        image: &'a str,
+        /// The script's path.
+        script: &'a str,
+    },
+    /// The same, but each request goes to a log beside the image, which is brought to the image at the end.
+    PlayLogged {
         /// The image's path.
         image: &'a str,
         /// The script's path.
@@ -221,6 +237,22 @@ pub enum Job<'a> {
         length: u8,
         /// What is done if the disk has lost a part of a file.
         loss: Loss,
+    },
+    /// The first file of a name, which gets another name on the disk of an image.
+    Rename {
+        /// The image's path.
+        image: &'a str,
+        /// The name that the file has.
+        from: Name,
+        /// The name that the file gets, which a new file can have. Who makes a job sees to it.
+        to: Name,
+    },
+    /// The first file of a name, deleted from the disk of an image.
+    Delete {
+        /// The image's path.
+        image: &'a str,
+        /// The name of the file.
+        name: Name,
     },
     /// Records from the lines of a text, stored in a relative file of an image.
     Store {

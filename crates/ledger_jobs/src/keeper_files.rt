@@ -10,13 +10,14 @@ ghost use Rattle.ledger_jobs.specs.Names.{name_bytes};
 ghost use Rattle.ledger_jobs.specs.declared.refusals.Refusal.TheVariants as refusals;
 ghost use Rattle.rel_records.specs.File.{IsLength};
 
-use crate::dispatch::{image_at, told};
 use crate::files::script_at;
 use crate::image_logs::opened_and_landed;
 use crate::jobs::{Columns, Effect, Loss, Unowned};
 use crate::locks::own_image;
 use crate::losses::{dry_repair_guarded, make_guarded, repair_guarded, store_guarded};
 use crate::names::Name;
+use crate::outcomes::told;
+use crate::readings::image_at;
 use crate::refusals::Refusal;
 use disk_layout::Fault;
 use keeper_commands::plain_lines;
@@ -28,7 +29,7 @@ use std::rt::Files;
 
 /// The file at a path that a keeper's job writes, and its bytes. It is this program's alone, and what it holds was
 /// synced. Each sector is synced before the next is written.
-fn image_to_keep<F, R>(rt: &R, path: &str) -> Result<(Vec<u8>, ImageFile<F>), Refusal>
+pub(crate) fn image_to_keep<F, R>(rt: &R, path: &str) -> Result<(Vec<u8>, ImageFile<F>), Refusal>
 where
     F: EndedFile + Locks + OpenFile + Drop,
     R: Files<File = F> + AllocGlobal,

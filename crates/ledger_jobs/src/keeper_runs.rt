@@ -3,7 +3,6 @@ ghost use Rattle.std.specs.Prelude.{◌≡◌, ◌⊎◌, Err};
 ghost use Rattle.d64_image.specs.Keeps.{Agrees};
 ghost use Rattle.d64_image.specs.Memory.{sectors_in};
 ghost use Rattle.d64_image.specs.KeptMirrors.{is_broken, mirror_file};
-ghost use Rattle.keeper_commands.specs.declared.faults.KeepFault.TheVariants as faults;
 ghost use Rattle.ledger_jobs.specs.Keeping.{IsDryRepair, IsRepairOver, IsTakingRun};
 ghost use Rattle.ledger_jobs.specs.Kept.{IsMakeOver, IsStoreOver};
 ghost use Rattle.keeper_commands.specs.Makes.{IsNewName};
@@ -33,18 +32,19 @@ pub fn taking_run<W: Write>(
     }
 }
 
-/// The file of a mirror whose repair ended so: `Device` if the file failed.
-fn file_of<F: SectorFile, T: Drop>(
+/// The file of a mirror over which a run ended so, and how it ends over the file: with this fault if the file failed.
+pub(crate) fn file_of<F: SectorFile, T: Drop, E: Drop>(
     mirror: KeptMirror<F>,
-    ended: Result<T, KeepFault>,
-) -> (F, Result<T, KeepFault>)
+    ended: Result<T, E>,
+    fault: E,
+) -> (F, Result<T, E>)
     ensures file { result.0 ≡ mirror_file mirror }
-    ensures end { (is_broken mirror × (result.1 ≡ Err faults.Device)) ⊎ ((is_broken mirror → ⊥) × (result.1 ≡ ended)) }
+    ensures end { (is_broken mirror × (result.1 ≡ Err fault)) ⊎ ((is_broken mirror → ⊥) × (result.1 ≡ ended)) }
 {
     let failed = mirror.is_broken();
     let (file, _) = mirror.into_inner();
     if failed {
-        return (file, Err(KeepFault::Device));
+        return (file, Err(fault));
     }
     (file, ended)
 }
@@ -69,7 +69,7 @@ pub fn repair_run<F: SectorFile, W: Write>(
     };
     let mut mirror = KeptMirror::new(file, disk);
     let ended = repair_image(alloc, image, free, &mut mirror, out);
-    file_of(mirror, ended)
+    file_of(mirror, ended, KeepFault::Device)
 }
 
 /// Repairs a copy of the image in memory, and prints what `repair_run` would print. Nothing else is written.
@@ -109,7 +109,7 @@ pub fn make_run<F: SectorFile, W: Write>(
     };
     let mut mirror = KeptMirror::new(file, disk);
     let ended = make_image(alloc, image, name, length, &mut mirror, out);
-    file_of(mirror, ended)
+    file_of(mirror, ended, KeepFault::Device)
 }
 
 /// Stores records, from the lines of a text, in the first closed relative file of this name of the clean disk of the
@@ -134,5 +134,5 @@ pub fn store_run<F: SectorFile, W: Write>(
     };
     let mut mirror = KeptMirror::new(file, disk);
     let ended = store_image(alloc, image, name, text, &mut mirror, out);
-    file_of(mirror, ended)
+    file_of(mirror, ended, KeepFault::Device)
 }

@@ -4,7 +4,7 @@ ghost use Rattle.std.specs.Io.KnownBytes.{Keeps};
 ghost use Rattle.disk_faults.specs.declared.faults.DescribeFault.TheVariants as faults;
 ghost use Rattle.ledger_jobs.specs.Listings.{IsListingRun, as_listed};
 
-use crate::dispatch::image_at;
+use crate::readings::image_at;
 use crate::refusals::Refusal;
 use disk_faults::{DescribeFault, list_faults};
 use disk_layout::Fault;

@@ -20,11 +20,11 @@ ghost use Rattle.ledger_jobs.specs.Serves.{IsServeRun};
 ghost use Rattle.ledger_jobs.specs.declared.refusals.Refusal.TheVariants as refusals;
 ghost use Rattle.rel_records.specs.File.{IsLength};
 
-use crate::dispatch::{job_end, kept_end, repaired_end};
 use crate::durable_runs::serve_durably;
 use crate::jobs::{Loss, Taking};
 use crate::keeper_runs::{dry_repair_run, make_run, repair_run, store_run, taking_run};
 use crate::logged_runs::serve_logged;
+use crate::outcomes::{job_end, kept_end, repaired_end};
 use crate::refusals::Refusal;
 use cut_files::find_image_cut;
 use d64_image::{ImageFault, KeptMirror, Place, SectorFile};

@@ -1,8 +1,8 @@
 //! What is printed for a person if an image has no file of a name: which names are near.
-use crate::dispatch::image_of_file;
 use crate::files::STANDARD_INPUT;
 use crate::jobs::Job;
 use crate::names::Name;
+use crate::readings::image_of_file;
 use disk_faults::print_near_names;
 use shop_commands::Locks;
 use std::fs::OpenFile;
@@ -16,7 +16,8 @@ const NO_SUCH_FILE: &str = "it has no such file; `ledger list` shows what it has
 /// The name of the file that it asks for.
 fn name_of<'j>(job: &'j Job<'_>) -> Option<&'j Name> {
     match job {
-        Job::Take { name, .. } | Job::Store { name, .. } => Some(name),
+        Job::Take { name, .. } | Job::Store { name, .. } | Job::Delete { name, .. } => Some(name),
+        Job::Rename { from, .. } => Some(from),
         _ => None,
     }
 }

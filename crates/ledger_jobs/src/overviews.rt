@@ -7,11 +7,12 @@ ghost use Rattle.ledger_jobs.specs.Overviews.{IsOneOfSeveral, IsOverview, IsTold
 ghost use Rattle.ledger_jobs.specs.Runs.{IsReadingEnd};
 ghost use Rattle.named_lines.specs.Named.{named};
 
-use crate::dispatch::{drawn_end, image_at, job_end};
 use crate::drawing::drawing_run;
 use crate::endings::end;
 use crate::jobs::{Drawing, Findings, Overview, Reading};
 use crate::listings::{listed_end, listing_run};
+use crate::outcomes::{drawn_end, job_end};
+use crate::readings::image_at;
 use crate::refusals::Refusal;
 use crate::shop_runs::reading_run;
 use disk_layout::Fault;

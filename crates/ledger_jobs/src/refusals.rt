@@ -2,6 +2,7 @@
 ghost use Rattle.std.specs.Prelude.{◌≡◌, Some};
 ghost use Rattle.ledger_jobs.specs.Ends.{is_told as told_there, lock_refusal, refusal_status, refusal_text};
 
+use change_commands::EditFault;
 use d64_image::Place;
 use disk_pictures::PictureFault;
 use keeper_commands::KeepFault;
@@ -17,6 +18,8 @@ pub enum Refusal {
     Run(RunFault),
     /// A fault in a job over the files of an image.
     Keep(KeepFault),
+    /// A fault in a job that renames or deletes a file of an image.
+    Edit(EditFault),
     /// A fault in a job that draws an image.
     Draw(PictureFault),
     /// Another program has the image. Nothing was read or changed.
@@ -30,6 +33,8 @@ pub enum Refusal {
     Log,
     /// A file of the image is cut short: its chain ends at this sector, too early.
     Short(Place),
+    /// A file that is to be renamed or deleted is one of a shop's two files. Nothing was changed.
+    ShopFile,
     /// An image was trimmed, and sectors of it weren't read or are past track 35. Standard error has them.
     Trimmed,
     /// At least one of several images has a fault or is refused. The output has which and why. This is the greatest of
@@ -45,12 +50,14 @@ impl Refusal {
         match self {
             Refusal::Run(fault) => fault.status(),
             Refusal::Keep(fault) => fault.status(),
+            Refusal::Edit(fault) => fault.status(),
             Refusal::Draw(fault) => fault.status(),
             Refusal::InUse => 3,
             Refusal::Kept(_) => 1,
             Refusal::Exists => 1,
             Refusal::Log => 1,
             Refusal::Short(_) => 1,
+            Refusal::ShopFile => 1,
             Refusal::Trimmed => 1,
             Refusal::Several(greatest) => *greatest,
         }
@@ -61,8 +68,9 @@ impl Refusal {
         ensures { result ≡ told_there self.now }
     {
         match self {
-            Refusal::Run(_) | Refusal::Keep(_) | Refusal::Draw(_) => true,
-            Refusal::InUse | Refusal::Exists | Refusal::Log | Refusal::Short(_) => true,
+            Refusal::Run(_) | Refusal::Keep(_) | Refusal::Edit(_) | Refusal::Draw(_) => true,
+            Refusal::InUse | Refusal::Exists | Refusal::Log => true,
+            Refusal::Short(_) | Refusal::ShopFile => true,
             Refusal::Kept(_) | Refusal::Trimmed | Refusal::Several(_) => false,
         }
     }
@@ -86,12 +94,14 @@ impl Display for Refusal {
         match self {
             Refusal::Run(fault) => fault.fmt(f),
             Refusal::Keep(fault) => fault.fmt(f),
+            Refusal::Edit(fault) => fault.fmt(f),
             Refusal::Draw(fault) => fault.fmt(f),
             Refusal::InUse => f.write_str("IN USE"),
             Refusal::Kept(count) => write!(f, "KEPT {count}"),
             Refusal::Exists => f.write_str("FILE EXISTS"),
             Refusal::Log => f.write_str("LOG"),
             Refusal::Short(place) => write!(f, "SHORT {}/{}", place.track(), place.sector()),
+            Refusal::ShopFile => f.write_str("SHOP FILE"),
             Refusal::Trimmed => f.write_str("TRIMMED"),
             Refusal::Several(greatest) => write!(f, "STATUS {greatest}"),
         }

@@ -2,11 +2,11 @@
 ghost use Rattle.std.specs.Prelude.{◌≡◌, IfSome, take};
 ghost use Rattle.shop_commands.specs.Durable.{IsSynced};
 
-use crate::dispatch::told;
 use crate::image_logs::opened_and_landed;
 use crate::jobs::Loss;
 use crate::locks::own_image;
 use crate::losses::serve_guarded;
+use crate::outcomes::told;
 use crate::refusals::Refusal;
 use crate::watched_files::{WhileThere, served_end};
 use disk_layout::Fault;

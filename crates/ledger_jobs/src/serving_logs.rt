@@ -3,10 +3,10 @@ ghost use Rattle.std.specs.Prelude.{◌≡◌, IfOk, length};
 ghost use Rattle.ledger_jobs.specs.Ends.{landing_fault, unlanded as unlanded_end};
 ghost use Rattle.ledger_jobs.specs.LandedRuns.{IsLandedEnd};
 
-use crate::dispatch::told;
 use crate::image_logs::{is_sized, log_refusal, opened_alone};
 use crate::jobs::Loss;
 use crate::losses::{loss_refusal, serve_logged_guarded};
+use crate::outcomes::told;
 use crate::refusals::Refusal;
 use crate::serving_images::name_of;
 use crate::watched_files::{WhileThere, served_end};

@@ -2,7 +2,7 @@
 ghost use Rattle.std.specs.Prelude.{IfOk, List, map, ℕ};
 ghost use Rattle.ledger_jobs.specs.SheetPages.{AreTiles, IsSheetPrinted, IsTileFrom, IsTileOf, IsUnreadTile, Loaded, as_loaded};
 
-use crate::dispatch::image_at;
+use crate::readings::image_at;
 use crate::refusals::Refusal;
 use disk_layout::Fault;
 use disk_pictures::{PictureFault, sheet_begin, sheet_finish, sheet_refusal, sheet_tile};

@@ -3,10 +3,10 @@ ghost use Rattle.std.specs.Prelude.{◌≡◌};
 ghost use Rattle.ledger_jobs.specs.Overviews.{EndsAs};
 ghost use Rattle.ledger_jobs.specs.Trims.{IsTrimRun, as_trimmed};
 
-use crate::dispatch::told;
 use crate::files::STANDARD_INPUT;
 use crate::image_logs::logged_image;
 use crate::locks::lock_shared;
+use crate::outcomes::told;
 use crate::refusals::Refusal;
 use disk_layout::Fault;
 use disk_pictures::{PictureFault, trim_image};

@@ -2,8 +2,8 @@
 ghost use Rattle.std.specs.Prelude.{◌≡◌};
 ghost use Rattle.ledger_jobs.specs.Views.{IsViewRun, as_viewed};
 
-use crate::dispatch::image_at;
 use crate::jobs::View;
+use crate::readings::image_at;
 use crate::refusals::Refusal;
 use disk_layout::Fault;
 use disk_pictures::{PictureFault, free_image, sector_image};

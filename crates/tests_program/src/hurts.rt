@@ -2,7 +2,7 @@
 use test_runtime::Stored;
 
 /// Changes of an image: a name, the place of the bytes, and the bytes.
-const HURTS: [(&[u8], u64, &[u8]); 16] = [
+const HURTS: [(&[u8], u64, &[u8]); 21] = [
     // 17/0 links to itself.
     (b"LOOP", 86016, b"\x11\x00"),
     // Track 1 has a free sector too few in the map at 18/0.
@@ -20,6 +20,14 @@ const HURTS: [(&[u8], u64, &[u8]); 16] = [
     (b"DIRECTORY LOOP", 91648, b"\x12\x01"),
     // A third entry, over the block of REQUESTS.
     (b"OWNED TWICE", 91714, b"\x82\x11\x02X"),
+    // The third entry's name, in 18/1 from byte 69 on; its type byte, which is 0 in a free slot, or C4 in that of a locked
+    // relative file; and track 17 of the map with all sectors but the first four free, as before that file was made.
+    (b"OLD CARDS FOR CARDS", 91717, b"OLD CARDS"),
+    (b"CARDS GONE", 91714, b"\0"),
+    (b"CARDS LOCKED", 91714, b"\xC4"),
+    (b"CARDS FREED", 91460, b"\x11\xF0\xFF\x1F"),
+    // 17/0, the only block of STOCK, with zeros alone.
+    (b"STOCK LOST", 86016, &[0; 256]),
     (b"STICK FOR STOCK", 91653, b"STICK"),
     (b"RESTS FOR REQUESTS", 91685, b"RESTS"),
     (b"CARD 1", 86018, b"K,00002,000000001\r"),

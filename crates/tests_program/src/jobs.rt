@@ -27,6 +27,11 @@ fn row_of<'a>(job: &Job<'a>) -> Row<'a> {
     match *job {
         Job::Format { image, tills } => ("format", image, "", tills),
         Job::FormatNew { image, tills } => ("format new", image, "", tills),
+        Job::New {
+            image,
+            ref name,
+            ..
+        } => ("new", image, "", bytes_of(name)),
         Job::List { image, .. } => ("list", image, "", 0),
         Job::Check { findings, image } => match findings {
             Findings::First => ("check", image, "", 0),
@@ -36,6 +41,7 @@ fn row_of<'a>(job: &Job<'a>) -> Row<'a> {
         Job::Dry { script } => ("dry", "", script, 0),
         Job::Play { image, script } => ("play", image, script, 0),
         Job::PlaySynced { image, script } => ("play synced", image, script, 0),
+        Job::PlayLogged { image, script } => ("play logged", image, script, 0),
         Job::Serve { image, .. } => ("serve", image, "", 0),
         Job::Copy { image, copy } => ("copy", image, copy, 0),
         Job::Extract { image, folder } => ("extract", image, folder, 0),
@@ -51,6 +57,12 @@ fn row_of<'a>(job: &Job<'a>) -> Row<'a> {
             ref name,
         } => ("bytes", image, "", bytes_of(name)),
         Job::Make { image, length, .. } => ("make", image, "", length),
+        Job::Rename {
+            image,
+            ref from,
+            ..
+        } => ("rename", image, "", bytes_of(from)),
+        Job::Delete { image, ref name } => ("delete", image, "", bytes_of(name)),
         Job::Store {
             image,
             ref name,

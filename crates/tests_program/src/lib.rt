@@ -8,6 +8,8 @@ mod advice_rows;
 #[cfg(test)]
 mod cause_rows;
 #[cfg(test)]
+mod change_rows;
+#[cfg(test)]
 mod comparing;
 #[cfg(test)]
 mod day_rows;
@@ -63,6 +65,8 @@ mod sync_rows;
 mod texts;
 #[cfg(test)]
 mod told_rows;
+#[cfg(test)]
+mod typed_rows;
 #[cfg(test)]
 mod value_rows;
 #[cfg(test)]

@@ -1,6 +1,6 @@
 -- What was seen of the image, where no loss is accepted.
-use Rattle.std.proofs.Common.{inl, inr, refl, subst, sym}
-use Rattle.std.specs.Prelude.{None, Option, Some}
+use Rattle.std.proofs.Common.{inl, inr, refl, subst}
+use Rattle.std.specs.Prelude.{None, Option}
 use Rattle.d64_image.specs.declared.place.Place.{Place}
 use Rattle.cut_files.proofs.Told.{told-cut, told-uncut}
 use Rattle.ledger_jobs.specs.Losses.{IsSeen}

@@ -32,6 +32,6 @@ pub returns-in-Dry : goal.returns-in-Dry
 returns-in-Dry g c =
     let done = c.dry in
     let so = dry-ended _ _ c.args.bytes.now done.result (both _ _ done.result done.ensures.good done.ensures.ok)
-        done.ensures.err done.ensures.untouched in
+    done.ensures.err done.ensures.untouched in
     reading-as g.W.Write.contents _ _ c.args.bytes.now c.args.out.now done.new.out _ _ c.in-Dry.is c.dry_ended.ensures
     (record { done = so.0; fault = so.1; untouched = so.2 })

@@ -1,7 +1,7 @@
 -- What was read is what is needed of the reader's bytes.
 use Rattle.std.specs.Prelude.{vec_items}
 use Rattle.ledger_jobs.proofs.Runs.{reading-of}
-use Rattle.ledger_jobs.proofs.dispatch.do_over.Goals as goal
+use Rattle.ledger_jobs.proofs.readings.do_over.Goals as goal
 
 pub returns-in-Ok : goal.returns-in-Ok
 returns-in-Ok g c = record {

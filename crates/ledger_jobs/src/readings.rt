@@ -1,0 +1,158 @@
+//! What is asked of the bytes of one file: it is opened, locked and read.
+ghost use Rattle.std.specs.Prelude.{◌≡◌, IfErr, IfOk, IfSome, Err, vec_items};
+ghost use Rattle.std.specs.IoError.{error_kind};
+ghost use Rattle.shop_commands.specs.Faults.{io_fault};
+ghost use Rattle.ledger_jobs.specs.Jobs.{needed};
+ghost use Rattle.ledger_jobs.specs.Runs.{IsReadingEnd, IsReadingOf};
+
+use crate::files::{STANDARD_INPUT, room_for};
+use crate::image_logs::logged_image;
+use crate::jobs::Reading;
+use crate::locks::{lock_shared, read_shared};
+use crate::outcomes::{job_end, told};
+use crate::refusals::Refusal;
+use crate::shop_runs::reading_run;
+use disk_layout::Fault;
+use shop_commands::{Locks, RunFault, read_image, read_script};
+use std::alloc::Global;
+use std::fs::{File, OpenFile};
+use std::io::{self, Read, Write};
+use std::rt::Files;
+use system_files::opened_to_read;
+
+/// What is needed of the bytes that a reader has: of an image 174,849 at most, and a script whole. `room` is how many
+/// bytes memory is taken for at once for a script.
+fn bytes_of<R: Read + Drop>(
+    alloc: Global,
+    what: Reading,
+    reader: R,
+    room: usize,
+) -> io::Result<Vec<u8>>
+    ensures { IfOk result (λ bytes. IfSome (R.remaining reader) (λ all. vec_items bytes ≡ needed what all)) }
+{
+    match what {
+        Reading::Dry => read_script(alloc, reader, room),
+        Reading::List(_) | Reading::Check | Reading::Show => read_image(alloc, reader),
+    }
+}
+
+/// Does what is asked of these bytes, if they could be read; otherwise returns why they couldn't.
+fn over_read<W: Write>(
+    alloc: Global,
+    what: Reading,
+    read: io::Result<Vec<u8>>,
+    out: &mut W,
+) -> Result<Option<Fault>, RunFault>
+    ensures unread { IfErr read (λ e. (result ≡ Err (io_fault (error_kind e))) × (out.new ≡ out.old)) }
+    ensures run { IfOk read
+        (λ bytes. IsReadingEnd W.contents what (vec_items bytes) out.old out.new result) }
+{
+    match read {
+        Ok(bytes) => reading_run(alloc, what, bytes.as_slice(), out),
+        Err(error) => Err(RunFault::of_io(&error)),
+    }
+}
+
+/// Does what is asked of the bytes that a reader has, if it could be opened; otherwise returns why it couldn't. `File` if
+/// the file couldn't be opened or read, or the output failed; `NoMemory`; and what is wrong with the bytes.
+pub fn do_over<R: Read + Drop, W: Write>(
+    alloc: Global,
+    what: Reading,
+    opened: io::Result<R>,
+    room: usize,
+    out: &mut W,
+) -> Result<Option<Fault>, RunFault>
+    ensures unopened { IfErr opened (λ e. (result ≡ Err (io_fault (error_kind e))) × (out.new ≡ out.old)) }
+    ensures run { IfOk opened (λ reader. IfSome (R.remaining reader)
+        (λ all. IsReadingOf W.contents what (needed what all) out.old out.new result)) }
+{
+    match opened {
+        Ok(reader) => over_read(alloc, what, bytes_of(alloc, what, reader, room), out),
+        Err(unopened) => Err(RunFault::of_io(&unopened)),
+    }
+}
+
+/// Locks an image, if it could be opened, so that nobody writes it while it is read. A script isn't locked.
+fn lock_opened<F: Locks>(what: Reading, opened: &mut io::Result<F>) -> Result<(), Refusal> {
+    match (what, opened) {
+        (Reading::Dry, _) | (_, Err(_)) => Ok(()),
+        (_, Ok(file)) => lock_shared(file),
+    }
+}
+
+/// The file that is read for this. An image is a regular file; a script may be a pipe.
+fn opened_for<R: Files>(rt: &R, what: Reading, path: &str) -> io::Result<R::File> {
+    match what {
+        Reading::Dry => File::open(rt, path),
+        Reading::List(_) | Reading::Check | Reading::Show => opened_to_read(rt, path),
+    }
+}
+
+/// The sectors of the image that was opened at a path, if a log beside it gives them. A script has none.
+fn opened_log<F, R>(
+    rt: &R,
+    what: Reading,
+    path: &str,
+    opened: &io::Result<F>,
+) -> Result<Option<Vec<[u8; 256]>>, Refusal>
+where
+    F: OpenFile + Drop,
+    R: Files<File = F> + AllocGlobal,
+{
+    match (what, opened) {
+        (Reading::Dry, _) | (_, Err(_)) => Ok(None),
+        (_, Ok(file)) => logged_image(rt, path, file),
+    }
+}
+
+/// Does what is asked of the file at a path, or of standard input. An image is read as its shop is now.
+pub(crate) fn do_reading<F, R, W>(
+    rt: &R,
+    what: Reading,
+    path: &str,
+    out: &mut W,
+) -> Result<Option<Fault>, Refusal>
+where
+    F: Read + Locks + OpenFile + Drop,
+    R: Files<File = F> + Input + AllocGlobal,
+    W: Write,
+{
+    if path == STANDARD_INPUT {
+        return job_end(do_over(rt.alloc(), what, Ok(rt.reader()), 0, out));
+    }
+    let mut opened = opened_for(rt, what, path);
+    lock_opened(what, &mut opened)?;
+    if let Some(image) = opened_log(rt, what, path, &opened)? {
+        let bytes = image.as_slice().as_flattened();
+        return job_end(reading_run(rt.alloc(), what, bytes, out));
+    }
+    let room = room_for(&opened);
+    job_end(do_over(rt.alloc(), what, opened, room, out))
+}
+
+/// The bytes of the image at a path as its shop is now: of its log, if one stands beside it. Nobody begins to write the
+/// image while it is read.
+pub(crate) fn image_of_file<F, R>(rt: &R, path: &str) -> Result<Vec<u8>, Refusal>
+where
+    F: Read + Locks + OpenFile + Drop,
+    R: Files<File = F> + AllocGlobal,
+{
+    let mut file = told(opened_to_read(rt, path))?;
+    lock_shared(&mut file)?;
+    match logged_image(rt, path, &file)? {
+        Some(image) => told(read_image(rt.alloc(), image.as_slice().as_flattened())),
+        None => told(read_shared(rt.alloc(), &mut file)),
+    }
+}
+
+/// The bytes of the image at a path, as its shop is now, or of standard input.
+pub(crate) fn image_at<F, R>(rt: &R, path: &str) -> Result<Vec<u8>, Refusal>
+where
+    F: Read + Locks + OpenFile + Drop,
+    R: Files<File = F> + Input + AllocGlobal,
+{
+    if path == STANDARD_INPUT {
+        return told(read_image(rt.alloc(), rt.reader()));
+    }
+    image_of_file(rt, path)
+}

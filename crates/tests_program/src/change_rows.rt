@@ -1,0 +1,161 @@
+//! Files that are renamed and deleted on an image, and images of empty disks.
+use crate::scenes::each;
+
+/// A file that is renamed: sixteen bytes of its entry. Each sector is brought to the disk before the next is written, and
+/// all before the first byte is read.
+const RENAMED: &[u8] = b"
+# CARDS has the third entry of 18/1. The new name is in its place.
+$ ledger_cli make a.d64 CARDS --length 30
+prints MADE|
+written
+keep
+hurt OLD CARDS FOR CARDS
+aside
+
+$ ledger_cli rename a.d64 CARDS 'OLD CARDS'
+prints RENAMED|
+leaves the one aside
+synced
+syncs 2
+reads-behind 1 sync
+
+# The output takes nothing: it is renamed all the same.
+output-takes 0 bytes
+$ ledger_cli rename a.d64 CARDS 'OLD CARDS'
+tells FILE|
+ends 3
+leaves the one aside
+
+disk-takes 0 bytes
+$ ledger_cli rename a.d64 CARDS 'OLD CARDS'
+tells DEVICE|
+ends 3
+rewritten
+
+# A wrong map is no matter of names; a chain without an end is.
+hurt WRONG MAP
+$ ledger_cli rename a.d64 CARDS CARD
+prints RENAMED|
+written
+
+hurt LOOP
+$ ledger_cli rename a.d64 CARDS CARD
+tells LAYOUT LOOP 17/0|
+ends 1
+
+$ ledger_cli rename a.d64 CARDS STOCK
+tells FILE EXISTS|
+ends 1
+
+person ledger_cli rename a.d64 cards OTHER
+tells NO FILE|ledger: a.d64: it has no such file, but \"CARDS\" REL|
+ends 1
+";
+
+#[test]
+fn files_are_renamed(rt: HostRuntime) {
+    each(&rt, RENAMED);
+}
+
+/// A file that is deleted: its type byte is 0, and then its two sectors are free in the map.
+const DELETED: &[u8] = b"
+$ ledger_cli make a.d64 CARDS --length 30
+prints MADE|
+written
+keep
+hurt CARDS GONE
+hurt CARDS FREED
+aside
+
+$ ledger_cli delete a.d64 CARDS
+prints DELETED|
+leaves the one aside
+synced
+syncs 3
+reads-behind 1 sync
+$ ledger_cli check a.d64
+prints OK|
+
+# The second sync, of two writes, fails: the entry is gone, and its sectors aren't free yet.
+hurt CARDS GONE
+aside
+
+sync 2 fails
+$ ledger_cli delete a.d64 CARDS
+tells DEVICE|
+ends 3
+leaves the one aside
+
+hurt WRONG MAP
+$ ledger_cli delete a.d64 CARDS
+tells LAYOUT MAPWRONG 18/0|
+ends 1
+
+hurt CARDS LOCKED
+person ledger_cli delete a.d64 CARDS
+tells LOCKED|ledger: a.d64: the file is locked: `ledger list` prints `<` after its type|
+ends 1
+
+hurt STOCK LOST
+$ ledger_cli delete a.d64 CARDS
+tells SHORT 17/0|
+ends 1
+";
+
+#[test]
+fn files_are_deleted(rt: HostRuntime) {
+    each(&rt, DELETED);
+}
+
+/// The two files of a shop stay, also if a card of it is wrong. A file of another name is deleted.
+const SHOPS: &[u8] = b"
+person ledger_cli delete a.d64 STOCK
+tells SHOP FILE|ledger: a.d64: the file is one of the two that a shop is kept in; without it the shop is lost|
+ends 1
+
+hurt CARD 3
+$ ledger_cli rename a.d64 REQUESTS OLD
+tells SHOP FILE|
+ends 1
+
+hurt STICK FOR STOCK
+$ ledger_cli delete a.d64 STICK
+prints DELETED|
+written
+";
+
+#[test]
+fn files_of_a_shop_stay(rt: HostRuntime) {
+    each(&rt, SHOPS);
+}
+
+/// An empty disk in a file that isn't there: 664 blocks are free, 683 sectors without the 19 of track 18.
+const NEW: &[u8] = b"
+no image
+$ ledger_cli new a.d64 --name GAMES --id 1X
+prints FORMATTED|
+written
+size 174848
+syncs 3
+folder-syncs 4
+$ ledger_cli check a.d64
+prints OK|
+$ ledger_cli list a.d64
+prints 0 \"GAMES\" 1X 2A|664 BLOCKS FREE|
+
+person ledger_cli new a.d64 --name GAMES --id 1X
+tells FILE EXISTS|ledger: a.d64: it or its log is there already; choose another name|
+ends 1
+
+no image
+disk-takes 1000 bytes
+$ ledger_cli new a.d64 --name GAMES --id 1X
+tells FILE|
+ends 3
+written
+";
+
+#[test]
+fn empty_disks_are_made(rt: HostRuntime) {
+    each(&rt, NEW);
+}
