@@ -27,12 +27,13 @@ DESCRIPTION = """A stock ledger on a Commodore 1541 disk, kept as a D64 image of
 if it didn't get the answer: a repeat gets the kept answer and has no second effect. Power may fail between any two sector writes; the
 next opening puts everything right. The commands for keepers of disks take any image of 35 tracks without error bytes."""
 
+# a command, what it does, and what it prints
 EXAMPLES = (
-    ("{0} format --new shop.d64 --tills 4", "makes a shop for four tills; a file of this name is left alone"),
-    ("{0} play shop.d64 day.txt", "plays the messages of a script"),
-    ("{0} records old.d64 ADDRESS > address.csv", "prints the records of a relative file, a line each"),
-    ("{0} store new.d64 ADDRESS address.csv", "puts them back"),
-    ("{0} check ./*.[dD]64", "checks a shelf of disks"),
+    ("{0} check hurt.d64", "checks a disk, and prints the fault and its sector:", ("MAPWRONG 20/6",)),
+    ("{0} list customers.d64", "prints the directory:", ('0 "CUSTOMERS 1987" CU 2A', '132 "ADDRESS" REL', "..", "393 BLOCKS FREE")),
+    ("{0} records customers.d64 ADDRESS", "prints the records of a relative file:", ('1,"CLARK\\0d12 MILL LANE\\0dLEEDS\\0d"', "..")),
+    ("{0} format --new shop.d64 --tills 4", "makes a shop for four tills; a file of this name is left alone:", ("FORMATTED",)),
+    ("{0} play shop.d64 day.txt", "plays the messages of a script, and prints the reply to each line:", ("1,1,DONE,40", "..")),
 )
 
 
@@ -160,8 +161,8 @@ def man_page(words, version, name):
         lines += [".TP", f".B {status}", escaped(when)]
     lines += explained_words()
     lines.append(".SH EXAMPLES")
-    for line, does in EXAMPLES:
-        lines += [".TP", f".B {escaped(line.format(name))}", escaped(does)]
+    for line, does, printed in EXAMPLES:
+        lines += [".TP", f".B {escaped(line.format(name))}", escaped(does), ".nf", *("\\&" + escaped(it) for it in printed), ".fi"]
     lines += [".SH SEE ALSO", "The folder share/doc/ledger\\-1541: README.md, docs/KEEPERS.md, docs/MESSAGES.md, docs/TRUST.md"]
     return "\n".join(lines) + "\n"
 
@@ -171,9 +172,9 @@ def values_of(word):
     return [row[0].strip("<>") for row in word.values]
 
 
-def is_file(value):
-    """Whether a value is a file's path. NAME is a file within the image."""
-    return value != "NAME"
+def is_file(word, value):
+    """Whether a value of a subcommand is a file's path. NAME, OLD and the NEW of `rename` are files within the image."""
+    return value not in ("NAME", "OLD", "T/S") and (word.name, value) != ("rename", "NEW")
 
 
 def bash(words, options, name):
@@ -183,7 +184,7 @@ def bash(words, options, name):
         "        {}) words=\"{}\" valued=\"{}\" files=\"{}\" ;;".format(
             word.name, " ".join(f"--{it.long}" for it in map(option_of, word.options)),
             " ".join(f"--{it.long}" for it in map(option_of, word.options) if it.value),
-            " ".join("yes" if is_file(it) else "no" for it in values_of(word)))
+            " ".join("yes" if is_file(word, it) else "no" for it in values_of(word)))
         for word in words)
     function = "_" + name.replace("-", "_")
     return f"""# completions of {name} for bash
@@ -255,7 +256,7 @@ def zsh(words, options, name):
     cases = []
     for word in words:
         taken = zsh_options(map(option_of, word.options))
-        taken += [quoted(f"{number}:{value}:{'_files' if is_file(value) else ''}") for number, value in enumerate(values_of(word), 1)]
+        taken += [quoted(f"{number}:{value}:{'_files' if is_file(word, value) else ''}") for number, value in enumerate(values_of(word), 1)]
         cases.append(f"                {word.name})\n                    _arguments " + " \\\n                        ".join(taken) + " ;;")
     tops = " \\\n        ".join(zsh_options(options))
     function = "_" + name

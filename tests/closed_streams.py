@@ -20,7 +20,7 @@ from pathlib import Path
 
 PROGRAM = Path(sys.argv[1]).resolve()
 SIZE = 174_848
-IMAGE_COMMANDS = ("list check show play serve repair records bytes make store map picture").split()
+IMAGE_COMMANDS = ("list check show play serve repair records bytes make store rename delete map picture").split()
 tried = 0
 
 
@@ -40,6 +40,9 @@ def command(name, image="s.d64"):
         "records": ["records", image, "REQUESTS"],
         "bytes": ["bytes", image, "REQUESTS"],
         "make": ["make", image, "CARDS", "--length", "30"],
+        "new": ["new", "new.d64", "--name", "TOOLS", "--id", "01"],
+        "rename": ["rename", image, "NOTES", "CARDS"],
+        "delete": ["delete", image, "NOTES"],
         "store": ["store", image, "REQUESTS", "r.txt"],
         "store -": ["store", image, "REQUESTS", "/dev/stdin"],
     }.get(name, [name, image])
@@ -47,13 +50,14 @@ def command(name, image="s.d64"):
 
 NEEDS_INPUT = {"serve", "play -", "dry -", "store -"}
 INPUTS = {"serve": b"1,1,S,5,7\n", "play -": b"1,1,S,5,7\n", "dry -": b"1,1,S,5,7\n", "store -": b"1,A\n"}
-COMMANDS = ["format", "format --new", *IMAGE_COMMANDS, "dry", "play -", "dry -", "store -"]
+COMMANDS = ["format", "format --new", "new", *IMAGE_COMMANDS, "dry", "play -", "dry -", "store -"]
 
 
 def fresh(folder):
     for old in folder.iterdir():
         old.unlink()
     subprocess.run([PROGRAM, "format", "s.d64", "--tills", "2"], cwd=folder, check=True, stdout=subprocess.DEVNULL)
+    subprocess.run([PROGRAM, "make", "s.d64", "NOTES", "--length", "30"], cwd=folder, check=True, stdout=subprocess.DEVNULL)
     (folder / "s.txt").write_bytes(b"1,1,S,1,5\n")
     (folder / "r.txt").write_bytes(b"1,A\n")
 

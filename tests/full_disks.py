@@ -121,9 +121,10 @@ class Trial:
             want(got == shop.shown(), "show prints another shop")
 
     def no_room_for_an_image(self):
-        """`copy` and `format --new` without room."""
+        """`copy`, `format --new` and `new` without room."""
         disk, image, _ = self.shop_on(IMAGE_BYTES + 8 * PAGE)
-        for words in (["copy", image, disk.folder / "new.d64"], ["format", "--new", disk.folder / "new.d64", "--tills", 4]):
+        for words in (["copy", image, disk.folder / "new.d64"], ["format", "--new", disk.folder / "new.d64", "--tills", 4],
+                      ["new", disk.folder / "new.d64", "--name", "NEW", "--id", "01"]):
             status, out, err = run(self.program, *words)
             want((status, out, err) == (3, [], "FILE"), f"{words[0]} without room: {status}, {out}, {err}")
             got = run(self.program, "check", disk.folder / "new.d64")
@@ -149,7 +150,7 @@ class Trial:
                 sure(self.program, word, image, *more)
                 self.tried += 1
             writing = [["serve"], ["serve", "--in-place"], ["play", empty], ["repair"], ["make", "CARDS", "--length", 30],
-                       ["store", "STOCK", empty], ["format", "--tills", 4]]
+                       ["store", "STOCK", empty], ["rename", "CARDS", "NOTES"], ["delete", "CARDS"], ["format", "--tills", 4]]
             for word, *more in writing:
                 status, out, err = run(self.program, word, image, *more)
                 want((status, out, err) == (3, [], "FILE"), f"{word} in a folder that can't be written: {status}, {out}, {err}")

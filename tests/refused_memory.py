@@ -50,6 +50,7 @@ LINES = SCRIPT.replace(b"@3 ", b"")
 # records of a file CARDS: one that is there, one behind three blocks of growth, and one as a spreadsheet writes it
 RECORDS = b"1,\"MILK\\0d\"\n30,\"\\ffx\"\n2,EGGS\r\n"
 IMAGE = "shop.d64"
+NEW = "new.d64"
 MOST = 5000
 
 
@@ -147,6 +148,10 @@ class Disks:
         """A shop with an empty file CARDS."""
         self.put("carded", lambda: (self.blank(), self.run("make", IMAGE, "CARDS", "--length", "30")))
 
+    def gone(self):
+        """No image where a new one is made."""
+        (self.trial.folder / NEW).unlink(missing_ok=True)
+
     def wrong(self):
         """The shop after the day, with wrong counts of free sectors and of a file's blocks."""
         self.played()
@@ -177,6 +182,9 @@ def lines_of(disks):
         (["bytes", IMAGE, "STOCK"], disks.played, b"", 0),
         (["make", IMAGE, "CARDS", "--length", "30"], disks.blank, b"", 0),
         (["store", IMAGE, "CARDS", "records"], disks.carded, b"", 0),
+        (["rename", IMAGE, "CARDS", "NOTES"], disks.carded, b"", 0),
+        (["delete", IMAGE, "CARDS"], disks.carded, b"", 0),
+        (["new", NEW, "--name", "TOOLS", "--id", "01"], disks.gone, b"", 0),
         (["map", IMAGE], disks.played, b"", 0),
         (["free", IMAGE], disks.played, b"", 0),
         (["sector", IMAGE, "17/0"], disks.played, b"", 0),

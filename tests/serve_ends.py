@@ -49,8 +49,9 @@ class Ends:
     def writing(self):
         """The words that write an image, and what follows it; `format` last, which changes it."""
         empty = script(self.folder, [])
-        return [["serve"], ["serve", "--in-place"], ["play", empty], ["play", empty, "--sync"], ["repair"],
-                ["make", "CARDS", "--length", 30], ["store", "STOCK", empty], ["format", "--tills", 8]]
+        return [["serve"], ["serve", "--in-place"], ["play", empty], ["play", empty, "--sync"],
+                ["play", empty, "--log"], ["repair"], ["make", "CARDS", "--length", 30], ["store", "STOCK", empty],
+                ["rename", "CARDS", "NOTES"], ["delete", "NOTES"], ["format", "--tills", 8]]
 
     def show(self):
         return sure(self.program, "show", self.image)

@@ -59,8 +59,9 @@ class Logs:
     def writing(self):
         """The words that write an image, and what follows it; `format` last, which changes it."""
         empty = script(self.folder, [])
-        return [["serve"], ["serve", "--in-place"], ["serve", "--unsynced"], ["play", empty], ["play", empty, "--sync"], ["repair"],
-                ["make", "CARDS", "--length", 30], ["store", "STOCK", empty], ["format", "--tills", 4]]
+        return [["serve"], ["serve", "--in-place"], ["serve", "--unsynced"], ["play", empty], ["play", empty, "--sync"],
+                ["play", empty, "--log"], ["repair"], ["make", "CARDS", "--length", 30], ["store", "STOCK", empty],
+                ["rename", "CARDS", "NOTES"], ["delete", "NOTES"], ["format", "--tills", 4]]
 
     def line(self):
         """A next request of a till, a repeat, or a line that is none."""

@@ -55,6 +55,7 @@ def commands(program, folder):
     subprocess.run([program, "format", shop, "--tills", "64"], check=True, stdout=subprocess.DEVNULL)
     Path(script).write_text("".join(f"{1 + n % 64},{1 + n // 64},R,{1 + n},5\n" for n in range(600)))
     subprocess.run([program, "play", shop, script], check=True, stdout=subprocess.DEVNULL)
+    subprocess.run([program, "make", shop, "NOTES", "--length", "30"], check=True, stdout=subprocess.DEVNULL)
     with open(records, "w") as lines:
         subprocess.run([program, "records", shop, "STOCK"], check=True, stdout=lines)
     yield "format", ["format", str(folder / "new.d64"), "--tills", "64"], b""
@@ -63,6 +64,7 @@ def commands(program, folder):
         yield word, [word, shop], b""
     yield "check --json", ["check", "--json", shop], b""
     yield "play", ["play", shop, script], b""
+    yield "play --log", ["play", shop, script, "--log"], b""
     yield "play, a day with resets", ["play", shop, DAY], b""
     yield "serve", ["serve", shop], Path(script).read_bytes()
     yield "repair", ["repair", shop], b""
@@ -70,6 +72,8 @@ def commands(program, folder):
     yield "bytes", ["bytes", shop, "STOCK"], b""
     yield "make", ["make", shop, "ADDRESS", "--length", "40"], b""
     yield "store", ["store", shop, "STOCK", records], b""
+    yield "rename", ["rename", shop, "NOTES", "CARDS"], b""
+    yield "delete", ["delete", shop, "NOTES"], b""
     yield "--help", ["--help"], b""
 
 

@@ -1,3 +1,4 @@
+pub mod Named
 pub mod Parses
 pub mod Pictures
 pub mod Sectors

@@ -1,5 +1,5 @@
 -- What a job is where its words are parsed.
-use Rattle.std.proofs.Common.{◌≡◌, Bor, List, Option, Some, true, inl, inr, refl, ap, sym, ◌∙◌, subst, []}
+use Rattle.std.proofs.Common.{◌≡◌, Bor, List, Option, Some, true, refl, ap, sym, ◌∙◌, subst, []}
 use Rattle.std.specs.Prelude.{◌≤◌, ℕ, Bool, false, if◌then◌else◌}
 use Rattle.std.specs.Prelude.{Result, Ok, Err, IfErr, IfOk, MatchResult, codes, option_map}
 use Rattle.clap.specs.Words.{App, FailsBy, HasKind, HasMatchesOf, Kinds, Row, Text, fault_of, found_of, is_simple}
@@ -7,14 +7,12 @@ use Rattle.clap.specs.Words.{is_simple_and_free, matches_of, rows_of, subcommand
 use Rattle.clap.specs.declared.error.Error.{Error}
 use Rattle.clap.specs.declared.parser.matches.ArgMatches.{ArgMatches}
 use Rattle.command_table.specs.Grammar.{ledger, value}
-use Rattle.command_line.specs.Jobs.{Has, HasNoName, HasNoNewName, IsHeard, IsJob, IsMakingJob, IsNoJob, IsParse}
-use Rattle.command_line.specs.Forms.{IsTakenBy}
-use Rattle.command_line.specs.Jobs.{IsStoringJob, IsTakingJob, is_given, tills_in, word_of_taking}
+use Rattle.command_line.specs.Jobs.{Has, IsHeard, IsJob, IsNoJob, IsParse}
+use Rattle.command_line.specs.Flags.{is_given}
+use Rattle.command_line.specs.Numbers.{tills_in}
 use Rattle.ledger_jobs.specs.Jobs.{IsFit}
-use Rattle.ledger_jobs.specs.Names.{IsNameOf, name_bytes}
 use Rattle.ledger_jobs.specs.declared.jobs.Job.{Job}
 use Rattle.ledger_jobs.specs.declared.jobs.Job.TheVariants as jobs
-use Rattle.ledger_jobs.specs.declared.jobs.Taking.{Taking}
 use Rattle.command_line.specs.declared.faults.JobFault.{JobFault}
 use Rattle.command_line.specs.declared.faults.JobFault.TheVariants as faults
 
@@ -94,20 +92,22 @@ pub format-fit : (image : Bor Text) (tills : ℕ) (new : Bool) → (1 ≤ tills)
 format-fit image tills true fit = fit
 format-fit image tills false fit = fit
 
--- and with --sync or without that of `play`
-pub play-met : (found : Option (Text × List Row)) (rows : List Row) (image script : Bor Text) (synced : Bool)
-    → is_given (codes "sync") rows ≡ synced → found ≡ Some (codes "play", rows)
+-- and with --sync, with --log or without both that of `play`; with both there is none
+pub play-met : (found : Option (Text × List Row)) (rows : List Row) (image script : Bor Text) (synced logged : Bool)
+    → is_given (codes "sync") rows ≡ synced → is_given (codes "log") rows ≡ logged → found ≡ Some (codes "play", rows)
     → image.now ≡ value (codes "IMAGE") rows → script.now ≡ value (codes "SCRIPT") rows
-    → IsJob found (if synced then jobs.PlaySynced image script else jobs.Play image script)
-play-met found rows image script true given is by-image by-script =
-    record { rows = rows; is = is; holds = (by-image, by-script, given) }
-play-met found rows image script false given is by-image by-script =
-    record { rows = rows; is = is; holds = (by-image, by-script, given) }
-
-pub play-fit : (image script : Bor Text) (synced : Bool)
-    → IsFit (if synced then jobs.PlaySynced image script else jobs.Play image script)
-play-fit image script true = tt
-play-fit image script false = tt
+    → let r : Result Job JobFault =
+        if synced then (if logged then Err faults.Flags else Ok (jobs.PlaySynced image script))
+        else (if logged then Ok (jobs.PlayLogged image script) else Ok (jobs.Play image script)) in
+      MatchResult r (IsJob found) (IsNoJob [] found) × IfOk r IsFit
+play-met found rows image script true true sync log is by-image by-script =
+    ((refl, record { rows = rows; is = is; holds = (sync, log) }), tt)
+play-met found rows image script true false sync log is by-image by-script =
+    (record { rows = rows; is = is; holds = (by-image, by-script, sync, log) }, tt)
+play-met found rows image script false true sync log is by-image by-script =
+    (record { rows = rows; is = is; holds = (by-image, by-script, sync, log) }, tt)
+play-met found rows image script false false sync log is by-image by-script =
+    (record { rows = rows; is = is; holds = (by-image, by-script, sync, log) }, tt)
 
 -- what was heard is what the words ask for
 pub heard-as-asked : (r : Result Job JobFault) (asked heard : Bool) → heard ≡ asked → IsHeard r asked heard
@@ -118,130 +118,5 @@ heard-as-asked (Err faults.Name) asked heard same = same
 heard-as-asked (Err faults.Length) asked heard same = same
 heard-as-asked (Err faults.Images) asked heard same = same
 heard-as-asked (Err faults.Sector) asked heard same = same
-
--- what it takes out of an image is the job of a subcommand that was met, or its name is none
-pub taking-met : (o : Option (Bor Text × Bor ArgMatches)) (found : Option (Text × List Row)) (name : Bor Text)
-    (at : Bor ArgMatches)
-    (what : Taking) (image : Text) (r : Result Job JobFault)
-    → option_map (λ (p : Bor Text × Bor ArgMatches). (p.0.now, rows_of (found_of p.1.now))) o ≡ found
-    → o ≡ Some (name, at) → name.now ≡ word_of_taking what → image ≡ value (codes "IMAGE") (rows_of (found_of at.now))
-    → IsTakenBy what (rows_of (found_of at.now)) → IsTakingJob (rows_of (found_of at.now)) what image r → MatchResult r (IsJob found) (IsNoJob [] found)
-    × IfOk r IsFit
-taking-met o found name at what image (Ok (jobs.Take asked path text)) told some is by-image by taking = (
-  subst (λ (w : Taking). Has found (word_of_taking w) (λ rows. (path.now ≡ value (codes "IMAGE") rows)
-      × IsNameOf (value (codes "NAME") rows) (name_bytes text) × IsTakenBy w rows))
-      (sym taking.0)
-      (met-has o found name at (word_of_taking what) _ told some is (taking.1 ∙ by-image, taking.2, by)),
-  tt,
-)
-taking-met o found name at what image (Ok (jobs.Format path tills)) told some is by-image by taking = absurd taking
-taking-met o found name at what image (Ok (jobs.FormatNew path tills)) told some is by-image by taking = absurd taking
-taking-met o found name at what image (Ok (jobs.List form path)) told some is by-image by taking = absurd taking
-taking-met o found name at what image (Ok (jobs.Several asked paths)) told some is by-image by taking = absurd taking
-taking-met o found name at what image (Ok (jobs.Sheet paths)) told some is by-image by taking = absurd taking
-taking-met o found name at what image (Ok (jobs.Describe paths)) told some is by-image by taking = absurd taking
-taking-met o found name at what image (Ok (jobs.View asked path)) told some is by-image by taking = absurd taking
-taking-met o found name at what image (Ok (jobs.Trim path)) told some is by-image by taking = absurd taking
-taking-met o found name at what image (Ok (jobs.Compare before after)) told some is by-image by taking = absurd taking
-taking-met o found name at what image (Ok (jobs.Check findings path)) told some is by-image by taking = absurd taking
-taking-met o found name at what image (Ok (jobs.Show path)) told some is by-image by taking = absurd taking
-taking-met o found name at what image (Ok (jobs.Play path script)) told some is by-image by taking = absurd taking
-taking-met o found name at what image (Ok (jobs.PlaySynced path script)) told some is by-image by taking = absurd taking
-taking-met o found name at what image (Ok (jobs.Dry path)) told some is by-image by taking = absurd taking
-taking-met o found name at what image (Ok (jobs.Serve path way durability loss)) told some is by-image by taking =
-    absurd taking
-taking-met o found name at what image (Ok (jobs.Copy path copy)) told some is by-image by taking = absurd taking
-taking-met o found name at what image (Ok (jobs.Extract path folder)) told some is by-image by taking = absurd taking
-taking-met o found name at what image (Ok (jobs.Repair path loss unowned effect)) told some is by-image by taking =
-    absurd taking
-taking-met o found name at what image (Ok (jobs.Make path text length loss)) told some is by-image by taking =
-    absurd taking
-taking-met o found name at what image (Ok (jobs.Store path text records columns loss)) told some is by-image by taking =
-    absurd taking
-taking-met o found name at what image (Ok (jobs.Draw asked path)) told some is by-image by taking = absurd taking
-taking-met o found name at what image (Err faults.Name) told some is by-image by taking =
-    ((refl, inl (what, met-has o found name at (word_of_taking what) HasNoName told some is taking)), tt)
-taking-met o found name at what image (Err faults.Tills) told some is by-image by taking = absurd taking
-taking-met o found name at what image (Err faults.Images) told some is by-image by taking = absurd taking
-taking-met o found name at what image (Err faults.Sector) told some is by-image by taking = absurd taking
-taking-met o found name at what image (Err (faults.Words e)) told some is by-image by taking = absurd taking
-taking-met o found name at what image (Err faults.Length) told some is by-image by taking = absurd taking
-
--- what makes a relative file is the job of the subcommand that was met, or its words give none
-pub making-met : (o : Option (Bor Text × Bor ArgMatches)) (found : Option (Text × List Row)) (name : Bor Text)
-    (at : Bor ArgMatches)
-    (image : Text) (r : Result Job JobFault)
-    → option_map (λ (p : Bor Text × Bor ArgMatches). (p.0.now, rows_of (found_of p.1.now))) o ≡ found
-    → o ≡ Some (name, at) → name.now ≡ codes "make" → image ≡ value (codes "IMAGE") (rows_of (found_of at.now))
-    → IsMakingJob (rows_of (found_of at.now)) image r → MatchResult r (IsJob found) (IsNoJob [] found) × IfOk r IsFit
-making-met o found name at image (Ok (jobs.Make path text length loss)) told some is by-image job = (
-  met-has o found name at (codes "make") _ told some is (job.0 ∙ by-image, job.1, job.2, job.5),
-  (job.3, job.4),
-)
-making-met o found name at image (Ok (jobs.Format path tills)) told some is by-image job = absurd job
-making-met o found name at image (Ok (jobs.FormatNew path tills)) told some is by-image job = absurd job
-making-met o found name at image (Ok (jobs.List form path)) told some is by-image job = absurd job
-making-met o found name at image (Ok (jobs.Several asked paths)) told some is by-image job = absurd job
-making-met o found name at image (Ok (jobs.Sheet paths)) told some is by-image job = absurd job
-making-met o found name at image (Ok (jobs.Describe paths)) told some is by-image job = absurd job
-making-met o found name at image (Ok (jobs.View asked path)) told some is by-image job = absurd job
-making-met o found name at image (Ok (jobs.Trim path)) told some is by-image job = absurd job
-making-met o found name at image (Ok (jobs.Compare before after)) told some is by-image job = absurd job
-making-met o found name at image (Ok (jobs.Check findings path)) told some is by-image job = absurd job
-making-met o found name at image (Ok (jobs.Show path)) told some is by-image job = absurd job
-making-met o found name at image (Ok (jobs.Play path script)) told some is by-image job = absurd job
-making-met o found name at image (Ok (jobs.PlaySynced path script)) told some is by-image job = absurd job
-making-met o found name at image (Ok (jobs.Dry path)) told some is by-image job = absurd job
-making-met o found name at image (Ok (jobs.Serve path way durability loss)) told some is by-image job = absurd job
-making-met o found name at image (Ok (jobs.Copy path copy)) told some is by-image job = absurd job
-making-met o found name at image (Ok (jobs.Extract path folder)) told some is by-image job = absurd job
-making-met o found name at image (Ok (jobs.Repair path loss unowned effect)) told some is by-image job = absurd job
-making-met o found name at image (Ok (jobs.Take asked path text)) told some is by-image job = absurd job
-making-met o found name at image (Ok (jobs.Store path text records columns loss)) told some is by-image job = absurd job
-making-met o found name at image (Ok (jobs.Draw asked path)) told some is by-image job = absurd job
-making-met o found name at image (Err faults.Name) told some is by-image job =
-    ((refl, inr (inr (met-has o found name at (codes "make") HasNoNewName told some is job))), tt)
-making-met o found name at image (Err faults.Length) told some is by-image job =
-    ((refl, met-has o found name at (codes "make") _ told some is job), tt)
-making-met o found name at image (Err faults.Tills) told some is by-image job = absurd job
-making-met o found name at image (Err faults.Images) told some is by-image job = absurd job
-making-met o found name at image (Err faults.Sector) told some is by-image job = absurd job
-making-met o found name at image (Err (faults.Words e)) told some is by-image job = absurd job
-
--- what stores records in one is the job of the subcommand that was met, or its words give none
-pub storing-met : (o : Option (Bor Text × Bor ArgMatches)) (found : Option (Text × List Row)) (name : Bor Text)
-    (at : Bor ArgMatches)
-    (image : Text) (r : Result Job JobFault)
-    → option_map (λ (p : Bor Text × Bor ArgMatches). (p.0.now, rows_of (found_of p.1.now))) o ≡ found
-    → o ≡ Some (name, at) → name.now ≡ codes "store" → image ≡ value (codes "IMAGE") (rows_of (found_of at.now))
-    → IsStoringJob (rows_of (found_of at.now)) image r → MatchResult r (IsJob found) (IsNoJob [] found) × IfOk r IsFit
-storing-met o found name at image (Ok (jobs.Store path text records columns loss)) told some is by-image job =
-    (met-has o found name at (codes "store") _ told some is (job.0 ∙ by-image, job.1, job.2, job.3, job.4), tt)
-storing-met o found name at image (Ok (jobs.Format path tills)) told some is by-image job = absurd job
-storing-met o found name at image (Ok (jobs.FormatNew path tills)) told some is by-image job = absurd job
-storing-met o found name at image (Ok (jobs.List form path)) told some is by-image job = absurd job
-storing-met o found name at image (Ok (jobs.Several asked paths)) told some is by-image job = absurd job
-storing-met o found name at image (Ok (jobs.Sheet paths)) told some is by-image job = absurd job
-storing-met o found name at image (Ok (jobs.Describe paths)) told some is by-image job = absurd job
-storing-met o found name at image (Ok (jobs.View asked path)) told some is by-image job = absurd job
-storing-met o found name at image (Ok (jobs.Trim path)) told some is by-image job = absurd job
-storing-met o found name at image (Ok (jobs.Compare before after)) told some is by-image job = absurd job
-storing-met o found name at image (Ok (jobs.Check findings path)) told some is by-image job = absurd job
-storing-met o found name at image (Ok (jobs.Show path)) told some is by-image job = absurd job
-storing-met o found name at image (Ok (jobs.Play path script)) told some is by-image job = absurd job
-storing-met o found name at image (Ok (jobs.PlaySynced path script)) told some is by-image job = absurd job
-storing-met o found name at image (Ok (jobs.Dry path)) told some is by-image job = absurd job
-storing-met o found name at image (Ok (jobs.Serve path way durability loss)) told some is by-image job = absurd job
-storing-met o found name at image (Ok (jobs.Copy path copy)) told some is by-image job = absurd job
-storing-met o found name at image (Ok (jobs.Extract path folder)) told some is by-image job = absurd job
-storing-met o found name at image (Ok (jobs.Repair path loss unowned effect)) told some is by-image job = absurd job
-storing-met o found name at image (Ok (jobs.Take asked path text)) told some is by-image job = absurd job
-storing-met o found name at image (Ok (jobs.Make path text length loss)) told some is by-image job = absurd job
-storing-met o found name at image (Ok (jobs.Draw asked path)) told some is by-image job = absurd job
-storing-met o found name at image (Err faults.Name) told some is by-image job =
-    ((refl, inr (inl (met-has o found name at (codes "store") HasNoName told some is job))), tt)
-storing-met o found name at image (Err faults.Length) told some is by-image job = absurd job
-storing-met o found name at image (Err faults.Tills) told some is by-image job = absurd job
-storing-met o found name at image (Err faults.Images) told some is by-image job = absurd job
-storing-met o found name at image (Err faults.Sector) told some is by-image job = absurd job
-storing-met o found name at image (Err (faults.Words e)) told some is by-image job = absurd job
+heard-as-asked (Err faults.Id) asked heard same = same
+heard-as-asked (Err faults.Flags) asked heard same = same

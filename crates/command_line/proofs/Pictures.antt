@@ -8,7 +8,9 @@ use Rattle.ledger_jobs.specs.Jobs.{IsFit}
 use Rattle.ledger_jobs.specs.declared.jobs.Drawing.TheVariants as drawings
 use Rattle.ledger_jobs.specs.declared.jobs.Job.{Job}
 use Rattle.ledger_jobs.specs.declared.jobs.Job.TheVariants as jobs
-use Rattle.command_line.specs.Jobs.{IsForOne, IsJob, IsNoJob, IsNoPicture, IsPictureJob, is_given}
+use Rattle.command_line.specs.Images.{IsForOne, IsNoPicture, IsPictureJob}
+use Rattle.command_line.specs.Jobs.{IsJob, IsNoJob}
+use Rattle.command_line.specs.Flags.{is_given}
 use Rattle.command_line.specs.declared.faults.JobFault.{JobFault}
 use Rattle.command_line.proofs.Parses.{met-has, met-is}
 

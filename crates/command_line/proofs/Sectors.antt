@@ -7,7 +7,7 @@ use Rattle.d64_image.specs.Places.{place_at}
 use Rattle.request_cards.specs.Reading.{number_in}
 use Rattle.request_cards.proofs.Fields.{number_refused}
 use Rattle.request_cards.proofs.Numbers.{leads_first}
-use Rattle.command_line.specs.Jobs.{place_if_both, spelled_place}
+use Rattle.command_line.specs.Numbers.{place_if_both, spelled_place}
 
 -- no bytes spell no number
 none-spelled : number_in 0 20 [] ≡ None

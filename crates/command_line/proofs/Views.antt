@@ -8,7 +8,8 @@ use Rattle.ledger_jobs.specs.declared.jobs.Job.{Job}
 use Rattle.ledger_jobs.specs.declared.jobs.Overview.{Overview}
 use Rattle.ledger_jobs.specs.declared.jobs.Overview.TheVariants as overviews
 use Rattle.command_line.specs.Forms.{IsViewedBy, findings_in}
-use Rattle.command_line.specs.Jobs.{IsCheckJob, IsJob, IsNoJob, IsOnlyImage, IsOverviewJob, job_of_one, word_of_overview}
+use Rattle.command_line.specs.Images.{IsCheckJob, IsOnlyImage, IsOverviewJob, job_of_one, word_of_overview}
+use Rattle.command_line.specs.Jobs.{IsJob, IsNoJob}
 use Rattle.command_line.specs.declared.faults.JobFault.{JobFault}
 use Rattle.command_line.proofs.Parses.{met-has}
 

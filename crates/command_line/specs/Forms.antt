@@ -1,22 +1,32 @@
 -- The forms that the words ask for. Our own.
-use Rattle.std.specs.Prelude.{◌≡◌, ⊤, List, Option, Some, None, codes, false, if◌then◌else◌}
+use Rattle.std.specs.Prelude.{◌≡◌, false, List, Option, Some, None, codes, if◌then◌else◌, ⊤}
 use Rattle.clap.specs.Words.{Row}
-use Rattle.command_line.specs.Flags.{is_given}
-use Rattle.keeper_commands.specs.declared.forms.ByteForm.{ByteForm}
-use Rattle.keeper_commands.specs.declared.forms.ByteForm.TheVariants as bytes
-use Rattle.keeper_commands.specs.declared.forms.RecordForm.{RecordForm}
-use Rattle.keeper_commands.specs.declared.forms.RecordForm.TheVariants as records
-use Rattle.ledger_jobs.specs.declared.jobs.Columns.{Columns}
-use Rattle.ledger_jobs.specs.declared.jobs.Columns.TheVariants as columns
-use Rattle.ledger_jobs.specs.declared.jobs.Findings.{Findings}
-use Rattle.ledger_jobs.specs.declared.jobs.Findings.TheVariants as findings
+use Rattle.shop_commands.specs.declared.durability.Durability.{Durability}
+use Rattle.ledger_jobs.specs.declared.jobs.Effect.{Effect}
 use Rattle.ledger_jobs.specs.declared.jobs.Overview.{Overview}
-use Rattle.ledger_jobs.specs.declared.jobs.Overview.TheVariants as overviews
+use Rattle.ledger_jobs.specs.declared.jobs.Loss.{Loss}
 use Rattle.ledger_jobs.specs.declared.jobs.Taking.{Taking}
-use Rattle.ledger_jobs.specs.declared.jobs.Taking.TheVariants as takings
+use Rattle.ledger_jobs.specs.declared.jobs.Unowned.{Unowned}
+use Rattle.ledger_jobs.specs.declared.jobs.Way.{Way}
+use Rattle.keeper_commands.specs.declared.forms.ByteForm.{ByteForm}
+use Rattle.keeper_commands.specs.declared.forms.RecordForm.{RecordForm}
+use Rattle.ledger_jobs.specs.declared.jobs.Columns.{Columns}
+use Rattle.ledger_jobs.specs.declared.jobs.Findings.{Findings}
 use Rattle.petscii_text.specs.declared.characters.CharacterSet.{CharacterSet}
 use Rattle.petscii_text.specs.declared.characters.CharacterSet.TheVariants.{Graphics, Mixed}
 use Rattle.shop_commands.specs.declared.texts.NameForm.{NameForm}
+use Rattle.command_line.specs.Flags.{is_given}
+use Rattle.shop_commands.specs.declared.durability.Durability.TheVariants as durabilities
+use Rattle.ledger_jobs.specs.declared.jobs.Effect.TheVariants as effects
+use Rattle.ledger_jobs.specs.declared.jobs.Overview.TheVariants as overviews
+use Rattle.ledger_jobs.specs.declared.jobs.Loss.TheVariants as losses
+use Rattle.ledger_jobs.specs.declared.jobs.Taking.TheVariants as takings
+use Rattle.ledger_jobs.specs.declared.jobs.Unowned.TheVariants as unowneds
+use Rattle.ledger_jobs.specs.declared.jobs.Way.TheVariants as ways
+use Rattle.keeper_commands.specs.declared.forms.ByteForm.TheVariants as bytes
+use Rattle.keeper_commands.specs.declared.forms.RecordForm.TheVariants as records
+use Rattle.ledger_jobs.specs.declared.jobs.Columns.TheVariants as columns
+use Rattle.ledger_jobs.specs.declared.jobs.Findings.TheVariants as findings
 use Rattle.shop_commands.specs.declared.texts.NameForm.TheVariants as names
 
 -- the set of the text that is asked for: with --mixed the one with small letters, with only --text the other
@@ -59,6 +69,26 @@ name_form_in rows = name_form (set_in rows)
 -- which faults the flags ask for: the first, but with --all all of them
 abbrev pub findings_in : List Row → Findings
 findings_in rows = if is_given (codes "all") rows then findings.All else findings.First
+
+-- to which file the requests of a shop that is served are synced first: to a log, but with --in-place to the image itself
+abbrev pub way_in : List Row → Way
+way_in rows = if is_given (codes "in-place") rows then ways.InPlace else ways.OverLog
+
+-- when what is served is synced: before each reply, or with --unsynced when the operating system does it
+abbrev pub serve_durability : List Row → Durability
+serve_durability rows = if is_given (codes "unsynced") rows then durabilities.AtEnd else durabilities.EachSector
+
+-- what is done if a disk has lost a part of a file: the job is refused, but with --accept-loss it goes on
+abbrev pub loss_in : List Row → Loss
+loss_in rows = if is_given (codes "accept-loss") rows then losses.Accepted else losses.Refused
+
+-- what a repair does with sectors that are taken and no file's: they are kept, but with --free they are freed
+abbrev pub unowned_in : List Row → Unowned
+unowned_in rows = if is_given (codes "free") rows then unowneds.Freed else unowneds.Kept
+
+-- whether it writes the image: it does, but with --dry-run it only prints
+abbrev pub effect_in : List Row → Effect
+effect_in rows = if is_given (codes "dry-run") rows then effects.Printed else effects.Written
 
 -- the flags ask for what is taken in this form
 abbrev pub IsTakenBy : Taking → List Row → Type 0

@@ -14,8 +14,8 @@ pub enum JobFault {
     /// The number of tills isn't one of 1 to 64, in decimal digits without leading zeros.
     #[error("TILLS")]
     Tills,
-    /// The name isn't one that a file can have: a text of at most sixteen bytes, the last of which isn't a shifted space.
-    /// The name of a file that is made has one byte at least.
+    /// The name isn't one that a file or a disk can have: a text of at most sixteen bytes, the last of which isn't a shifted
+    /// space. The name that a file gets has one byte at least.
     #[error("NAME")]
     Name,
     /// The length of a record isn't one of 1 to 254, in decimal digits without leading zeros.
@@ -28,11 +28,17 @@ pub enum JobFault {
     /// The text of a sector isn't that of one of the disk: its track, a slash and its number, such as 17/4.
     #[error("SECTOR")]
     Sector,
+    /// The ID of a disk isn't the text of two bytes.
+    #[error("ID")]
+    Id,
+    /// Two flags are given that exclude each other: `--sync` and `--log`.
+    #[error("FLAGS")]
+    Flags,
 }
 
 impl JobFault {
     /// The fault's number: 1 for `Words`, 2 for `Tills`, 3 for `Name`, 4 for `Length`, 5 for `Images`, 6
-    /// for `Sector`.
+    /// for `Sector`, 7 for `Id`, 8 for `Flags`.
     pub fn number(&self) -> u8
         ensures { result ≡ job_number self.now }
     {
@@ -43,6 +49,8 @@ impl JobFault {
             JobFault::Length => 4,
             JobFault::Images => 5,
             JobFault::Sector => 6,
+            JobFault::Id => 7,
+            JobFault::Flags => 8,
         }
     }
 
@@ -58,6 +66,7 @@ impl JobFault {
             },
             JobFault::Tills | JobFault::Name | JobFault::Length => 2,
             JobFault::Images | JobFault::Sector => 2,
+            JobFault::Id | JobFault::Flags => 2,
         }
     }
 }

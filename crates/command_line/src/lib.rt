@@ -2,9 +2,15 @@
 #![tactic(auto)]
 
 mod faults;
+mod forms;
+mod images;
+mod names;
+mod numbers;
 mod progress;
 mod runner;
+mod shops;
 mod starting;
+mod values;
 mod words;
 
 pub use faults::JobFault;

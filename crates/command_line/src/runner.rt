@@ -78,8 +78,13 @@ fn explain_words<E: Write>(fault: &JobFault, err: &mut E) {
         ),
         JobFault::Name => writeln!(
             err,
-            "ledger: NAME has 1 to 16 bytes; one that isn't plain text is a backslash and two digits, as \\c1"
+            "ledger: a name has 1 to 16 bytes; one that isn't plain text is a backslash and two digits, as \\c1"
         ),
+        JobFault::Id => writeln!(
+            err,
+            "ledger: I has two bytes; one that isn't plain text is a backslash and two digits, as \\c1"
+        ),
+        JobFault::Flags => writeln!(err, "ledger: give --sync or --log, not both"),
     };
 }
 

@@ -51,9 +51,10 @@ check = with_rule (with_rule (over_images (codes "check")) (flag (codes "json"))
 abbrev pub show : App
 show = over_image (codes "show")
 
--- play IMAGE SCRIPT [--sync]
+-- play IMAGE SCRIPT [--sync] [--log]
 abbrev pub play : App
-play = with_rule (with_rule (over_image (codes "play")) (required (codes "SCRIPT"))) (flag (codes "sync"))
+play = with_rule (with_rule (with_rule (over_image (codes "play")) (required (codes "SCRIPT"))) (flag (codes "sync")))
+    (flag (codes "log"))
 
 -- a subcommand that goes on where a disk has lost a part of a file, if --accept-loss is given
 abbrev pub may_accept_loss : App → App
@@ -95,6 +96,19 @@ make = may_accept_loss (with_rule (with_rule (over_image (codes "make")) (requir
 abbrev pub store : App
 store = with_rule (may_accept_loss (with_rule (with_rule (over_image (codes "store")) (required (codes "NAME")))
     (required (codes "RECORDS")))) (flag (codes "fields"))
+
+-- rename IMAGE OLD NEW
+abbrev pub rename : App
+rename = with_rule (with_rule (over_image (codes "rename")) (required (codes "OLD"))) (required (codes "NEW"))
+
+-- delete IMAGE NAME
+abbrev pub delete : App
+delete = with_rule (over_image (codes "delete")) (required (codes "NAME"))
+
+-- new IMAGE --name N --id I
+abbrev pub new : App
+new = with_rule (with_rule (over_image (codes "new")) (required_behind (codes "name") (codes "N")))
+    (required_behind (codes "id") (codes "I"))
 
 -- map IMAGE..
 abbrev pub map : App
@@ -141,23 +155,29 @@ bare = explainable (with_required_subcommand (with_version (new_app (codes "ledg
 abbrev pub with_command : App → App → App
 with_command a command = with_subcommand a (explainable command).top
 
--- a program that has the subcommands for a shop too
+-- a program that has the subcommands that look at disks too
+abbrev pub with_looks : App → App
+with_looks a = with_command (with_command (with_command (with_command (with_command (with_command
+    a list) check) map) picture) free) sector
+
+-- a program that has those that rescue files and disks too
+abbrev pub with_rescue : App → App
+with_rescue a = with_command (with_command (with_command (with_command (with_command
+    a records) bytes) extract) repair) trim
+
+-- a program that has those that change the files of a disk too
+abbrev pub with_changes : App → App
+with_changes a = with_command (with_command (with_command (with_command (with_command
+    a new) make) store) rename) delete
+
+-- a program that has those that run a shop too
 abbrev pub with_shop : App → App
-with_shop a = with_command (with_command (with_command (with_command (with_command (with_command (with_command
-    a format) list) check) show) play) serve) copy
-
--- a program that has the subcommands for the files of a disk too
-abbrev pub with_files : App → App
-with_files a = with_command (with_command (with_command (with_command (with_command (with_command
-    a repair) records) bytes) extract) make) store
-
--- a program that has those for a look at a disk too
-abbrev pub with_views : App → App
-with_views a = with_command (with_command (with_command (with_command (with_command a map) picture) free) sector) trim
+with_shop a = with_command (with_command (with_command (with_command (with_command (with_command
+    a format) show) play) dry) serve) copy
 
 -- the program with its subcommands
 abbrev pub ledger : App
-ledger = with_command (with_views (with_files (with_shop bare))) dry
+ledger = with_shop (with_changes (with_rescue (with_looks bare)))
 
 -- this is that subcommand, and none of its values is one of the program's
 pub record IsSubcommand (app : App) (c : Command) : Type 0 where

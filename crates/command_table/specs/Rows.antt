@@ -4,10 +4,10 @@ use Rattle.clap.specs.Words.{App, Rule, new_app, new_rule, with_rule}
 use Rattle.clap.specs.declared.builder.action.ArgAction.{ArgAction}
 use Rattle.clap.specs.declared.builder.action.ArgAction.TheVariants.{Append, SetTrue}
 use Rattle.command_table.specs.Grammar.{with_command}
-use Rattle.command_table.specs.declared.subcommands.Count.{Count}
-use Rattle.command_table.specs.declared.subcommands.Count.TheVariants as counts
+use Rattle.command_table.specs.declared.values.Count.{Count}
+use Rattle.command_table.specs.declared.values.Count.TheVariants as counts
 use Rattle.command_table.specs.declared.subcommands.Subcommand.{Subcommand}
-use Rattle.command_table.specs.declared.subcommands.Value.{Value}
+use Rattle.command_table.specs.declared.values.Value.{Value}
 
 -- it has to stand there
 abbrev pub is_required : Count → Bool

@@ -6,7 +6,8 @@ ghost use Rattle.command_table.specs.Grammar as grammar;
 ghost use Rattle.command_table.specs.Rows as rows;
 
 use crate::help_texts::MORE;
-use crate::subcommands::{Count, EXPLAIN, SUBCOMMANDS, Subcommand, Value};
+use crate::subcommands::{SUBCOMMANDS, Subcommand};
+use crate::values::{Count, EXPLAIN, Value};
 use clap::{Arg, ArgAction, Command};
 use std::alloc::{AllocError, Global};
 

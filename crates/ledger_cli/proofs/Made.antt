@@ -5,7 +5,6 @@ use Rattle.std.specs.Prelude.{IfErr, None, OnOk, codes}
 use Rattle.std.specs.Io.KnownBytes.{Appends}
 use Rattle.host_session.specs.runs.Outputs.{AppendsPart}
 use Rattle.system_files.proofs.Filled.{in_three}
-use Rattle.shop_commands.specs.Images.{AreFreshBytes}
 use Rattle.shop_commands.specs.declared.faults.RunFault.{RunFault}
 use Rattle.shop_commands.specs.declared.faults.RunFault.TheVariants as run
 use Rattle.d64_image.specs.Mirrors.{IsHanded}
@@ -13,15 +12,15 @@ use Rattle.ledger_cli.specs.Making.{AreWritten, AreWrittenInPart, IsHandedPart, 
 use Rattle.ledger_cli.specs.Making.{IsWriting, Piece, image_writes}
 use Rattle.ledger_cli.proofs.Put.{image_put}
 
-module _ {F : Type 0} (position : F → Option ℕ) (bytes contents : F → Option (List ℕ)) (tills : ℕ) (old new : F)
+module _ {F : Type 0} (position : F → Option ℕ) (bytes contents : F → Option (List ℕ)) (Is : List ℕ → Type 0) (old new : F)
     (image : List ℕ) where
   -- a file that says what it holds has the image, and what it held behind
-  pub image_written : length image ≡ 174848 → AreFreshBytes tills image
+  pub image_written : length image ≡ 174848 → Is image
       → AreWritten position bytes contents old new (image_writes image)
-      → IsImageWritten position bytes contents tills old new
+      → IsImageWritten position bytes contents Is old new
   image_written size fresh w = record {
     image = image;
-    fresh = fresh;
+    is = fresh;
     written = w;
     holds = λ held says all is.
         let first = says old w.0 91648 (replicate 256 255) all w.1 is in
@@ -37,32 +36,32 @@ module _ {F : Type 0} (position : F → Option ℕ) (bytes contents : F → Opti
   }
 
 module _ {F W : Type 0} (position : F → Option ℕ) (bytes contents : F → Option (List ℕ)) (told : W → Option (List ℕ))
-    (tills : ℕ) (file new_file : F) (old new : W) where
+    (Is : List ℕ → Type 0) (file new_file : F) (old new : W) where
   -- there was no memory for the disk
   pub not_made : (result : Result Unit RunFault) (fault : RunFault) → result ≡ Err fault → fault ≡ run.NoMemory
-      → new_file ≡ file → new ≡ old → IsImageMade position bytes contents told tills file new_file old new result
+      → new_file ≡ file → new ≡ old → IsImageMade position bytes contents told Is file new_file old new result
   not_made result fault is why same silent =
-      subst (IsImageMade position bytes contents told tills file new_file old new) (sym is)
-      (subst (λ f. IsImageMade position bytes contents told tills file new_file old new (Err f)) (sym why) (same, silent))
+      subst (IsImageMade position bytes contents told Is file new_file old new) (sym is)
+      (subst (λ f. IsImageMade position bytes contents told Is file new_file old new (Err f)) (sym why) (same, silent))
 
   -- the file failed
-  pub made_in_part : (image : List ℕ) → AreFreshBytes tills image → (result : Result Unit RunFault) (fault : RunFault)
+  pub made_in_part : (image : List ℕ) → Is image → (result : Result Unit RunFault) (fault : RunFault)
       → result ≡ Err fault
       → (fault ≡ run.File) × AreWrittenInPart position bytes contents file new_file (image_writes image)
-      → new ≡ old → IsImageMade position bytes contents told tills file new_file old new result
+      → new ≡ old → IsImageMade position bytes contents told Is file new_file old new result
   made_in_part image fresh result fault is part silent =
-      subst (IsImageMade position bytes contents told tills file new_file old new) (sym is)
-      (subst (λ f. IsImageMade position bytes contents told tills file new_file old new (Err f)) (sym part.0)
-      (inl (record { image = image; fresh = fresh; written = part.1 }, silent)))
+      subst (IsImageMade position bytes contents told Is file new_file old new) (sym is)
+      (subst (λ f. IsImageMade position bytes contents told Is file new_file old new (Err f)) (sym part.0)
+      (inl (record { image = image; is = fresh; written = part.1 }, silent)))
 
   -- it was made, and that was said, or a part of it
-  pub made : IsImageWritten position bytes contents tills file new_file → (result : Result Unit RunFault)
+  pub made : IsImageWritten position bytes contents Is file new_file → (result : Result Unit RunFault)
       → OnOk result (Appends (told old) (told new) (codes "FORMATTED\n"))
       → IfErr result (λ fault. (fault ≡ run.File) × AppendsPart (told old) (told new) (codes "FORMATTED\n"))
-      → IsImageMade position bytes contents told tills file new_file old new result
+      → IsImageMade position bytes contents told Is file new_file old new result
   made whole (Ok _) said part = (whole, said)
   made whole (Err fault) said part =
-      subst (λ f. IsImageMade position bytes contents told tills file new_file old new (Err f)) (sym part.0)
+      subst (λ f. IsImageMade position bytes contents told Is file new_file old new (Err f)) (sym part.0)
       (inr (whole, part.1))
 
 module _ {F : Type 0} (position : F → Option ℕ) (bytes contents : F → Option (List ℕ)) (old : F) where

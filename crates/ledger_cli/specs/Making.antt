@@ -1,10 +1,9 @@
--- What making the image of an empty shop leaves of a file that is written and sought. Our own.
+-- What making an image leaves of a file that is written and sought. Our own.
 use Rattle.std.specs.Prelude.{◌≡◌, ◌≢◌, ◌⊎◌, ℕ, length, List, [], ◌∷◌, ◌++◌, Option, None, Some, Result, Ok, Err, codes, drop, replicate, take}
 use Rattle.std.specs.Io.KnownBytes.{Appends, Keeps}
 use Rattle.std.specs.Io.Seek.{StaysAt}
 use Rattle.d64_image.specs.Mirrors.{IsHanded, IsSought}
 use Rattle.host_session.specs.runs.Outputs.{AppendsPart}
-use Rattle.shop_commands.specs.Images.{AreFreshBytes}
 use Rattle.shop_commands.specs.declared.faults.RunFault.{RunFault}
 use Rattle.shop_commands.specs.declared.faults.RunFault.TheVariants as run
 use Rattle.system_files.specs.Remains.{put_in}
@@ -53,19 +52,19 @@ module _ {F : Type 0} (position : F → Option ℕ) (bytes contents : F → Opti
   SaysWhatItHolds held = (old new : F) (n : ℕ) (handed all : List ℕ)
       → IsHanded position bytes contents None old new n handed → held old ≡ Some all → held new ≡ Some (put_in all n handed)
 
-  -- The image of an empty shop with so many tills was written over a file. If it is known what the file held, it holds
-  -- the image now, and after it what it held after as many bytes: writing doesn't end a file.
-  pub record IsImageWritten (tills : ℕ) (old new : F) : Type 0 where
+  -- An image of which this holds was written over a file. If it is known what the file held, it holds the image now, and
+  -- after it what it held after as many bytes: writing doesn't end a file.
+  pub record IsImageWritten (Is : List ℕ → Type 0) (old new : F) : Type 0 where
     pub image : List ℕ
-    pub fresh : AreFreshBytes tills image
+    pub is : Is image
     pub written : AreWritten old new (image_writes image)
     pub holds : (held : F → Option (List ℕ)) → SaysWhatItHolds held → (all : List ℕ) → held old ≡ Some all
         → held new ≡ Some (image ++ drop 174848 all)
 
   -- a prefix of its writes was done
-  pub record IsImageBegun (tills : ℕ) (old new : F) : Type 0 where
+  pub record IsImageBegun (Is : List ℕ → Type 0) (old new : F) : Type 0 where
     pub image : List ℕ
-    pub fresh : AreFreshBytes tills image
+    pub is : Is image
     pub written : AreWrittenInPart old new (image_writes image)
 
   -- An image was written over a file. If it is known what the file held, it holds the image now, and after it what it
@@ -90,11 +89,12 @@ module _ {F : Type 0} (position : F → Option ℕ) (bytes contents : F → Opti
 
   -- what making such an image and printing that came to. All of it was written, and the message was printed; or the file
   -- failed, and nothing was printed. Or the output failed; or there was no memory, and nothing was done
-  abbrev pub IsImageMade : {W : Type 0} → (W → Option (List ℕ)) → ℕ → F → F → W → W → Result Unit RunFault → Type 0
-  IsImageMade told tills file after old new (Ok _) =
-      IsImageWritten tills file after × Appends (told old) (told new) (codes "FORMATTED\n")
-  IsImageMade told tills file after old new (Err run.File) =
-      (IsImageBegun tills file after × (new ≡ old))
-      ⊎ (IsImageWritten tills file after × AppendsPart (told old) (told new) (codes "FORMATTED\n"))
-  IsImageMade told tills file after old new (Err run.NoMemory) = (after ≡ file) × (new ≡ old)
-  IsImageMade told tills file after old new (Err _) = ⊥
+  abbrev pub IsImageMade : {W : Type 0} → (W → Option (List ℕ)) → (List ℕ → Type 0) → F → F → W → W
+      → Result Unit RunFault → Type 0
+  IsImageMade told Is file after old new (Ok _) =
+      IsImageWritten Is file after × Appends (told old) (told new) (codes "FORMATTED\n")
+  IsImageMade told Is file after old new (Err run.File) =
+      (IsImageBegun Is file after × (new ≡ old))
+      ⊎ (IsImageWritten Is file after × AppendsPart (told old) (told new) (codes "FORMATTED\n"))
+  IsImageMade told Is file after old new (Err run.NoMemory) = (after ≡ file) × (new ≡ old)
+  IsImageMade told Is file after old new (Err _) = ⊥

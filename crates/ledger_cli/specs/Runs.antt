@@ -12,12 +12,16 @@ use Rattle.shop_commands.specs.declared.faults.RunFault.{RunFault}
 use Rattle.shop_commands.specs.declared.faults.RunFault.TheVariants as run
 use Rattle.ledger_jobs.specs.Comparisons.{IsComparingRun}
 use Rattle.ledger_jobs.specs.Drawings.{IsDrawingRun}
+use Rattle.ledger_jobs.specs.Edited.{IsDeleteOver, IsRenameOver}
+use Rattle.ledger_jobs.specs.EditRefusals.{IsEditEnd}
 use Rattle.ledger_jobs.specs.Ends.{Ended, EndsAs, JobEnd, as_drawn, as_job, end_of, end_status, refusal_line}
 use Rattle.ledger_jobs.specs.Keeping.{IsDryRepair, IsRepairOver}
 use Rattle.ledger_jobs.specs.Kept.{IsMakeOver, IsStoreOver}
 use Rattle.ledger_jobs.specs.Listings.{IsListingRun, as_listed}
 use Rattle.ledger_jobs.specs.Losses.{IsEndOf, IsGuarded, IsKeptEndOf, IsRepairedEndOf, IsTakingEnd}
 use Rattle.ledger_jobs.specs.Names.{name_bytes}
+use Rattle.ledger_jobs.specs.NewDisks.{IsNewImage}
+use Rattle.shop_commands.specs.Images.{AreFreshBytes}
 use Rattle.ledger_jobs.specs.Runs.{IsPlayRun, IsReadingEnd}
 use Rattle.ledger_jobs.specs.Views.{IsViewRun, as_viewed}
 use Rattle.ledger_jobs.specs.declared.jobs.Job.{Job}
@@ -90,7 +94,15 @@ module _ {F : Type 0} (position : F → Option ℕ) (bytes contents : F → Opti
   abbrev pub IsFormatted : (W → Option (List ℕ)) → ℕ → Option F → Option F → W → W → JobEnd → Type 0
   IsFormatted told tills None after old new end = (after ≡ None) × (new ≡ old) × (end ≡ Err (refusals.Run run.File))
   IsFormatted told tills (Some file) after old new end = (left : F) × (after ≡ Some left)
-      × EndsAs (λ ended. as_job (end_of ended)) end (IsImageMade position bytes contents told tills file left old new)
+      × EndsAs (λ ended. as_job (end_of ended)) end
+      (IsImageMade position bytes contents told (AreFreshBytes tills) file left old new)
+
+  -- the making of the image of an empty disk did
+  abbrev pub IsNewMade : (W → Option (List ℕ)) → (name id : List ℕ) → Option F → Option F → W → W → JobEnd → Type 0
+  IsNewMade told name id None after old new end = (after ≡ None) × (new ≡ old) × (end ≡ Err (refusals.Run run.File))
+  IsNewMade told name id (Some file) after old new end = (left : F) × (after ≡ Some left)
+      × EndsAs (λ ended. as_job (end_of ended)) end
+      (IsImageMade position bytes contents told (IsNewImage name id) file left old new)
 
   -- the copy of the image to the file ended so; without a file it isn't made
   abbrev pub IsCopyJob : (W → Option (List ℕ)) → List ℕ → Option F → Option F → W → W → JobEnd → Type 0
@@ -138,6 +150,19 @@ module _ {F : Type 0} (position : F → Option ℕ) (bytes contents : F → Opti
       (λ f left. IsGuarded image loss (IsUntouched f left old new)
       (IsKeptEndOf (IsStoreOver (stream position bytes contents) told image name text f left old new)) end)
 
+  -- the renaming of a file did
+  abbrev pub IsRenamed : (W → Option (List ℕ)) → (image from to : List ℕ) → Option F → Option F → W → W → JobEnd
+      → Type 0
+  IsRenamed told image from to file after old new end = IsOverFile image file after old new end
+      (λ f left. IsEditEnd image from (IsUntouched f left old new)
+      (IsRenameOver (stream position bytes contents) told image from to f left old new) end)
+
+  -- the deletion of a file did
+  abbrev pub IsDeleted : (W → Option (List ℕ)) → (image name : List ℕ) → Option F → Option F → W → W → JobEnd → Type 0
+  IsDeleted told image name file after old new end = IsOverFile image file after old new end
+      (λ f left. IsEditEnd image name (IsUntouched f left old new)
+      (IsDeleteOver (stream position bytes contents) told image name f left old new) end)
+
   -- what comes of each job: its run over the bytes that it reads, and over the file that it writes
   abbrev pub IsJobRun : (W → Option (List ℕ)) → Job → (image script : List ℕ) → Option F → Option F → W → W → JobEnd
       → Type 0
@@ -145,6 +170,8 @@ module _ {F : Type 0} (position : F → Option ℕ) (bytes contents : F → Opti
       IsFormatted told tills file after old new end
   IsJobRun told (jobs.FormatNew path tills) image script file after old new end =
       IsFormatted told tills file after old new end
+  IsJobRun told (jobs.New path name id) image script file after old new end =
+      IsNewMade told (name_bytes name) id file after old new end
   IsJobRun told (jobs.List form path) image script file after old new end =
       (after ≡ file) × IsRead told (readings.List form) image old new end
   IsJobRun told (jobs.Check what path) image script file after old new end =
@@ -157,6 +184,8 @@ module _ {F : Type 0} (position : F → Option ℕ) (bytes contents : F → Opti
       IsPlayed told image script file after old new end
   IsJobRun told (jobs.PlaySynced path text) image script file after old new end =
       IsPlayed told image script file after old new end
+  IsJobRun told (jobs.PlayLogged path text) image script file after old new end =
+      IsPlayed told image script file after old new end
   IsJobRun told (jobs.Serve path way durability loss) image script file after old new end =
       IsServed image loss file after old new end
   IsJobRun told (jobs.Copy path copy) image script file after old new end = IsCopyJob told image file after old new end
@@ -164,6 +193,10 @@ module _ {F : Type 0} (position : F → Option ℕ) (bytes contents : F → Opti
       IsRepairJob told image u effect loss file after old new end
   IsJobRun told (jobs.Make path name L loss) image script file after old new end =
       IsMade told image (name_bytes name) L loss file after old new end
+  IsJobRun told (jobs.Rename path from to) image script file after old new end =
+      IsRenamed told image (name_bytes from) (name_bytes to) file after old new end
+  IsJobRun told (jobs.Delete path name) image script file after old new end =
+      IsDeleted told image (name_bytes name) file after old new end
   IsJobRun told (jobs.Store path name text c loss) image script file after old new end =
       IsStored told image (name_bytes name) script loss file after old new end
   IsJobRun told (jobs.Take what path name) image script file after old new end =

@@ -1,13 +1,13 @@
 //! Jobs that write their image, run over its file.
-ghost use Rattle.std.specs.Prelude.{◌≡◌, ◌≤◌};
+ghost use Rattle.std.specs.Prelude.{◌≡◌, ◌≤◌, length};
 ghost use Rattle.keeper_commands.specs.Makes.{IsNewName};
-ghost use Rattle.ledger_cli.specs.Runs.{IsCopyJob, IsFormatted, IsMade, IsPlayed, IsRepairJob, IsRepaired, IsServed, IsStored};
+ghost use Rattle.ledger_cli.specs.Runs.{IsCopyJob, IsFormatted, IsMade, IsNewMade, IsPlayed, IsRepairJob, IsRepaired, IsServed, IsStored};
 ghost use Rattle.ledger_cli.specs.Runs.{frees as frees_of};
 ghost use Rattle.ledger_jobs.specs.Ends.{as_job, end_of};
 ghost use Rattle.ledger_jobs.specs.Names.{name_bytes};
 ghost use Rattle.rel_records.specs.File.{IsLength};
 
-use crate::making::{copy_image, make_image};
+use crate::making::{copy_image, make_disk, make_image};
 use crate::playing::play_written;
 use crate::stream::{begin, file_of};
 use disk_layout::Fault;
@@ -49,6 +49,25 @@ pub(crate) fn format<F: Write + Seek + Drop, W: Write>(
         return (None, Err(Refusal::Run(RunFault::File)));
     };
     let ended = make_image(alloc, tills, &mut file, out);
+    (Some(file), end_so(ended))
+}
+
+/// Makes the file the image of an empty disk.
+pub(crate) fn begin_disk<F: Write + Seek + Drop, W: Write>(
+    alloc: Global,
+    name: &Name,
+    id: [u8; 2],
+    file: Option<F>,
+    out: &mut W,
+) -> (Option<F>, Ended)
+    requires name { length (name_bytes name.now) ≤ 16 }
+    ensures { IsNewMade F.stream_position F.stream_bytes F.contents W.contents (name_bytes name.now) id file result.0
+        out.old out.new result.1 }
+{
+    let Some(mut file) = file else {
+        return (None, Err(Refusal::Run(RunFault::File)));
+    };
+    let ended = make_disk(alloc, name.as_bytes(), id, &mut file, out);
     (Some(file), end_so(ended))
 }
 

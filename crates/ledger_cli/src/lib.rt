@@ -2,6 +2,7 @@
 #![tactic(auto)]
 
 mod changing;
+mod editing;
 mod making;
 mod playing;
 mod running;

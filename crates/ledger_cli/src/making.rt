@@ -1,9 +1,12 @@
-//! Making the image of an empty shop over any file that is written and sought.
+//! Making the image of an empty shop or an empty disk, or a copy, over any file that is written and sought.
 ghost use Rattle.std.specs.Prelude.{◌≡◌, ◌≤◌, IfErr, None, OnOk, length};
 ghost use Rattle.d64_image.specs.Mirrors.{IsHanded};
+ghost use Rattle.ledger_jobs.specs.NewDisks.{IsNewImage};
+ghost use Rattle.shop_commands.specs.Images.{AreFreshBytes};
 ghost use Rattle.ledger_cli.specs.Making.{IsHandedPart, IsImageCopied, IsImageMade, IsWriting, image_writes};
 ghost use Rattle.shop_commands.specs.declared.faults.RunFault.TheVariants as faults;
 
+use file_changes::new_disk;
 use shop_commands::{RunFault, fresh_disk, put_whole};
 use std::alloc::Global;
 use std::io::{Seek, SeekFrom, Write};
@@ -58,10 +61,33 @@ pub(crate) fn make_image<F: Write + Seek, W: Write>(
 ) -> Result<(), RunFault>
     requires some { 1 ≤ tills }
     requires few { tills ≤ 64 }
-    ensures { IsImageMade F.stream_position F.stream_bytes F.contents W.contents tills file.old file.new
+    ensures { IsImageMade F.stream_position F.stream_bytes F.contents W.contents (AreFreshBytes tills) file.old file.new
         out.old out.new result }
 {
     let disk = fresh_disk(alloc, tills)?;
+    write_over(file, disk.bytes())?;
+    put_whole(out, b"FORMATTED\n")
+}
+
+/// Makes the image of an empty disk of this name, of at most sixteen bytes, and of this ID. It writes the 174,848 bytes
+/// over what the file holds, and prints `FORMATTED` on `out`. A longer file keeps what it held after them.
+///
+/// `NoMemory` before anything is written. `File` if the file failed: then it has a prefix of the writes, and nothing is
+/// printed. `File` also if `out` failed, which then has a prefix of what is printed.
+pub(crate) fn make_disk<F: Write + Seek, W: Write>(
+    alloc: Global,
+    name: &[u8],
+    id: [u8; 2],
+    file: &mut F,
+    out: &mut W,
+) -> Result<(), RunFault>
+    requires name { length name.now ≤ 16 }
+    ensures { IsImageMade F.stream_position F.stream_bytes F.contents W.contents (IsNewImage name.now id)
+        file.old file.new out.old out.new result }
+{
+    let Ok(disk) = new_disk(alloc, name, id) else {
+        return Err(RunFault::NoMemory);
+    };
     write_over(file, disk.bytes())?;
     put_whole(out, b"FORMATTED\n")
 }

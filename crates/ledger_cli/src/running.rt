@@ -3,7 +3,8 @@ ghost use Rattle.std.specs.Prelude.{◌≡◌, Option};
 ghost use Rattle.ledger_cli.specs.Runs.{IsChecked, IsJobRun, IsRead, IsRun};
 ghost use Rattle.ledger_jobs.specs.Jobs.{IsFit};
 
-use crate::changing::{Ended, copy, format, make, play, repair, serve, store};
+use crate::changing::{Ended, begin_disk, copy, format, make, play, repair, serve, store};
+use crate::editing::{delete, rename};
 use ledger_jobs::{
     Findings, Job, Reading, Refusal, comparing_run, drawing_run, drawn_end, end, job_end,
     listed_end, listing_run, reading_run, take_told, view_run, viewed_end,
@@ -44,11 +45,14 @@ fn obey<F: Write + Seek + Drop, W: Write>(
 {
     match *job {
         Job::Format { tills, .. } | Job::FormatNew { tills, .. } => format(alloc, tills, file, out),
+        Job::New { ref name, id, .. } => begin_disk(alloc, name, id, file, out),
         Job::List { form, .. } => (file, read(alloc, Reading::List(form), image, out)),
         Job::Check { findings, .. } => (file, checked(alloc, findings, image, out)),
         Job::Show { .. } => (file, read(alloc, Reading::Show, image, out)),
         Job::Dry { .. } => (file, read(alloc, Reading::Dry, script, out)),
-        Job::Play { .. } | Job::PlaySynced { .. } => play(alloc, image, script, file, out),
+        Job::Play { .. } | Job::PlaySynced { .. } | Job::PlayLogged { .. } => {
+            play(alloc, image, script, file, out)
+        }
         Job::Serve { loss, .. } => serve(alloc, image, script, loss, file, out),
         Job::Copy { .. } => copy(image, file, out),
         Job::Repair {
@@ -63,6 +67,10 @@ fn obey<F: Write + Seek + Drop, W: Write>(
             loss,
             ..
         } => make(alloc, image, name, length, loss, file, out),
+        Job::Rename {
+            ref from, ref to, ..
+        } => rename(alloc, image, from, to, file, out),
+        Job::Delete { ref name, .. } => delete(alloc, image, name, file, out),
         Job::Store { ref name, loss, .. } => store(alloc, image, name, script, loss, file, out),
         Job::Take { what, ref name, .. } => {
             let ended = take_told(alloc, what, image, name.as_bytes(), out);
@@ -89,15 +97,15 @@ fn obey<F: Write + Seek + Drop, W: Write>(
 ///
 /// `file` is IMAGE for writing, at its start, for a job that writes it, and the copy for `Copy`. If it is missing, such
 /// a job ends with 3 and `FILE`, and nothing is printed. A job that only reads leaves it as it was. There are no logs:
-/// `Serve` always writes the image itself.
+/// `Serve` and `PlayLogged` write the image itself.
 ///
 /// Three kinds of job end with 3 and `FILE`:
 /// - a job over several images, since only one has its bytes here: call `overview_run` for each;
 /// - `Extract`, since there is no folder: call `extract_run` over one;
 /// - `Trim`, which reports on standard error: call `trim_run`.
 ///
-/// The file is handed each sector at 256 times its index, before memory takes it, and nothing else; `Format` and `Copy`
-/// hand it the whole image. It isn't cut: what a longer file held after an image stays there. The caller decides
+/// The file is handed each sector at 256 times its index, before memory takes it, and nothing else; `Format`, `New` and
+/// `Copy` hand it the whole image. It isn't cut: what a longer file held after an image stays there. The caller decides
 /// whether it was there before, and when its sectors are synced. If it fails, the status is 3, and nothing is known of
 /// what it was handed in that call.
 pub fn run_over<F: Write + Seek + Drop, W: Write, E: Write>(

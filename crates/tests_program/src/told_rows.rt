@@ -62,8 +62,20 @@ ends 2
 
 no script
 image
+person ledger_cli new a.d64 --name A --id 1
+tells ID|ledger: I has two bytes; one that isn't plain text is a backslash and two digits, as \\c1|
+ends 2
+
+no script
+image
+person ledger_cli play a.d64 s.txt --sync --log
+tells FLAGS|ledger: give --sync or --log, not both|
+ends 2
+
+no script
+image
 person ledger_cli records a.d64 \\C1
-tells NAME|ledger: NAME has 1 to 16 bytes; one that isn't plain text is a backslash and two digits, as \\c1|
+tells NAME|ledger: a name has 1 to 16 bytes; one that isn't plain text is a backslash and two digits, as \\c1|
 ends 2
 ";
 

@@ -51,6 +51,53 @@ tells NAME|
 ends 2
 size 0
 
+# No name to rename, or to delete.
+no image
+no script
+$ ledger_cli rename a.d64 \\C1 B
+tells NAME|
+ends 2
+size 0
+
+no image
+no script
+$ ledger_cli delete a.d64 \\C1
+tells NAME|
+ends 2
+size 0
+
+# No name for a file.
+no image
+no script
+$ ledger_cli rename a.d64 A ''
+tells NAME|
+ends 2
+size 0
+
+# Too long a name of a disk.
+no image
+no script
+$ ledger_cli new a.d64 --name ABCDEFGHIJKLMNOPQ --id 1
+tells NAME|
+ends 2
+size 0
+
+# An ID of three bytes, one of them typed as digits.
+no image
+no script
+$ ledger_cli new a.d64 --name '' --id 1\\a02
+tells ID|
+ends 2
+size 0
+
+# Two ways to the disk.
+no image
+no script
+$ ledger_cli play a.d64 s.txt --log --sync
+tells FLAGS|
+ends 2
+size 0
+
 # The version.
 no image
 no script

@@ -1,15 +1,18 @@
 -- The job is that of the subcommand that was met, with the values of its arguments.
-use Rattle.std.proofs.Common.{ap, inl, refl, subst, sym, ◌∙◌}
-use Rattle.std.specs.Prelude.{codes}
-use Rattle.clap.specs.Words.{found_of, rows_of}
+use Rattle.std.proofs.Common.{[], ap, inl, inr, refl, subst, sym, ◌∙◌}
+use Rattle.std.specs.Prelude.{IfOk, MatchResult, codes}
+use Rattle.clap.specs.Words.{found_of, rows_of, subcommand_rows_of}
 use Rattle.request_cards.specs.Reading.{number_in}
+use Rattle.ledger_jobs.specs.declared.jobs.Job.TheVariants as jobs
 use Rattle.ledger_jobs.specs.declared.jobs.Overview.TheVariants as overviews
 use Rattle.ledger_jobs.specs.declared.jobs.Taking.TheVariants as takings
 use Rattle.ledger_jobs.specs.Jobs.{IsFit}
-use Rattle.command_line.specs.Jobs.{IsJob, is_given, spelled_place}
+use Rattle.command_line.specs.Jobs.{IsJob, IsNoJob}
+use Rattle.command_line.specs.Flags.{is_given}
+use Rattle.command_line.specs.Numbers.{spelled_place}
 use Rattle.command_line.proofs.Pictures.{picturing-met}
-use Rattle.command_line.proofs.Parses.{format-fit, format-met, making-met, met-has, met-is}
-use Rattle.command_line.proofs.Parses.{play-fit, play-met, storing-met, taking-met}
+use Rattle.command_line.proofs.Named.{making-met, named-met, new-met, renaming-met, storing-met}
+use Rattle.command_line.proofs.Parses.{format-fit, format-met, met-has, met-is, play-met}
 use Rattle.command_line.proofs.Views.{checking-met, viewing-met}
 use Rattle.command_line.proofs.words.job_of.Goals as goal
 
@@ -62,14 +65,14 @@ returns-in-show c = record {
 
 pub returns-in-play : goal.returns-in-play
 returns-in-play c =
-    let synced = is_given (codes "sync") (rows_of (found_of c.in-Some.found.now)) in
+    let rows = rows_of (found_of c.in-Some.found.now) in
     let is = met-is c.parsed_subcommand.result _ c.in-Some.name c.in-Some.found _ c.parsed_subcommand.ensures c.in-Some.is c.in-play.is in
+    let found = subcommand_rows_of c.args.matches.now in
+    let met = play-met found rows c.value_of-image.result c.value_of-script.result (is_given (codes "sync") rows)
+    (is_given (codes "log") rows) refl refl is c.value_of-image.ensures c.value_of-script.ensures in
     record {
-      job = subst (IsJob _) (sym c.playing.ensures)
-          (play-met _ _ c.value_of-image.result c.value_of-script.result synced refl is c.value_of-image.ensures
-          c.value_of-script.ensures);
-      fit = subst IsFit (sym c.playing.ensures)
-          (play-fit c.value_of-image.result c.value_of-script.result synced);
+      job = subst (λ r. MatchResult r (IsJob found) (IsNoJob [] found)) (sym c.playing.ensures) met.0;
+      fit = subst (λ r. IfOk r IsFit) (sym c.playing.ensures) met.1;
     }
 
 pub returns-in-dry : goal.returns-in-dry
@@ -109,30 +112,57 @@ returns-in-repair c = record {
 
 pub returns-in-records : goal.returns-in-records
 returns-in-records c =
-    let met = taking-met c.parsed_subcommand.result _ c.in-Some.name c.in-Some.found (takings.Records c.record_form.result) _ c.taking.result c.parsed_subcommand.ensures
-    c.in-Some.is c.in-records.is
-    c.value_of-image.ensures c.record_form.ensures c.taking.ensures in
+    let rows = rows_of (found_of c.in-Some.found.now) in
+    let is = met-is c.parsed_subcommand.result _ c.in-Some.name c.in-Some.found _ c.parsed_subcommand.ensures c.in-Some.is c.in-records.is in
+    let met = named-met _ rows (jobs.Take (takings.Records c.record_form.result) c.value_of-image.result) c.taking.result
+    (λ name at. record { rows = rows; is = is; holds = (c.value_of-image.ensures, at, c.record_form.ensures) }) (λ name. tt)
+    (λ missing. inl (takings.Records c.record_form.result, record { rows = rows; is = is; holds = missing })) c.taking.ensures in
     record { job = met.0; fit = met.1 }
 
 pub returns-in-bytes : goal.returns-in-bytes
 returns-in-bytes c =
-    let met = taking-met c.parsed_subcommand.result _ c.in-Some.name c.in-Some.found (takings.Bytes c.byte_form.result) _ c.taking-in-bytes.result
-    c.parsed_subcommand.ensures c.in-Some.is c.in-bytes.is
-    c.value_of-image.ensures c.byte_form.ensures c.taking-in-bytes.ensures in
+    let rows = rows_of (found_of c.in-Some.found.now) in
+    let is = met-is c.parsed_subcommand.result _ c.in-Some.name c.in-Some.found _ c.parsed_subcommand.ensures c.in-Some.is c.in-bytes.is in
+    let met = named-met _ rows (jobs.Take (takings.Bytes c.byte_form.result) c.value_of-image.result) c.taking-in-bytes.result
+    (λ name at. record { rows = rows; is = is; holds = (c.value_of-image.ensures, at, c.byte_form.ensures) }) (λ name. tt)
+    (λ missing. inl (takings.Bytes c.byte_form.result, record { rows = rows; is = is; holds = missing })) c.taking-in-bytes.ensures in
     record { job = met.0; fit = met.1 }
 
 pub returns-in-make : goal.returns-in-make
 returns-in-make c =
-    let met = making-met c.parsed_subcommand.result _ c.in-Some.name c.in-Some.found _ c.making.result c.parsed_subcommand.ensures c.in-Some.is
-    c.in-make.is
-    c.value_of-image.ensures c.making.ensures in
+    let is = met-is c.parsed_subcommand.result _ c.in-Some.name c.in-Some.found _ c.parsed_subcommand.ensures c.in-Some.is c.in-make.is in
+    let met = making-met _ (rows_of (found_of c.in-Some.found.now)) c.value_of-image.result c.making.result is c.value_of-image.ensures
+    c.making.ensures in
     record { job = met.0; fit = met.1 }
 
 pub returns-in-store : goal.returns-in-store
 returns-in-store c =
-    let met = storing-met c.parsed_subcommand.result _ c.in-Some.name c.in-Some.found _ c.storing.result c.parsed_subcommand.ensures c.in-Some.is
-    c.in-store.is
-    c.value_of-image.ensures c.storing.ensures in
+    let is = met-is c.parsed_subcommand.result _ c.in-Some.name c.in-Some.found _ c.parsed_subcommand.ensures c.in-Some.is c.in-store.is in
+    let met = storing-met _ (rows_of (found_of c.in-Some.found.now)) c.value_of-image.result c.storing.result is c.value_of-image.ensures
+    c.storing.ensures in
+    record { job = met.0; fit = met.1 }
+
+pub returns-in-rename : goal.returns-in-rename
+returns-in-rename c =
+    let is = met-is c.parsed_subcommand.result _ c.in-Some.name c.in-Some.found _ c.parsed_subcommand.ensures c.in-Some.is c.in-rename.is in
+    let met = renaming-met _ (rows_of (found_of c.in-Some.found.now)) c.value_of-image.result c.renaming.result is c.value_of-image.ensures
+    c.renaming.ensures in
+    record { job = met.0; fit = met.1 }
+
+pub returns-in-delete : goal.returns-in-delete
+returns-in-delete c =
+    let rows = rows_of (found_of c.in-Some.found.now) in
+    let is = met-is c.parsed_subcommand.result _ c.in-Some.name c.in-Some.found _ c.parsed_subcommand.ensures c.in-Some.is c.in-delete.is in
+    let met = named-met _ rows (jobs.Delete c.value_of-image.result) c.deleting.result
+    (λ name at. record { rows = rows; is = is; holds = (c.value_of-image.ensures, at) }) (λ name. tt)
+    (λ missing. inr (inr (inr (inl (record { rows = rows; is = is; holds = missing }))))) c.deleting.ensures in
+    record { job = met.0; fit = met.1 }
+
+pub returns-in-new : goal.returns-in-new
+returns-in-new c =
+    let is = met-is c.parsed_subcommand.result _ c.in-Some.name c.in-Some.found _ c.parsed_subcommand.ensures c.in-Some.is c.in-new.is in
+    let met = new-met _ (rows_of (found_of c.in-Some.found.now)) c.value_of-image.result c.empty_disk.result is c.value_of-image.ensures
+    c.empty_disk.ensures in
     record { job = met.0; fit = met.1 }
 
 pub returns-in-map : goal.returns-in-map

@@ -2,8 +2,8 @@
 use Rattle.std.proofs.Common.{None, [], fold, subst, take_all}
 use Rattle.clap.specs.Words.{new_app}
 use Rattle.command_table.specs.Grammar.{IsSubcommand}
-use Rattle.command_table.specs.declared.subcommands.Count.TheVariants as counts
-use Rattle.command_table.specs.declared.subcommands.Value.{Value}
+use Rattle.command_table.specs.declared.values.Count.TheVariants as counts
+use Rattle.command_table.specs.declared.values.Value.{Value}
 use Rattle.command_table.proofs.Grammars.{arg-made, one-more}
 use Rattle.command_table.specs.Rows.{with_value}
 use Rattle.command_table.proofs.grammar.subcommand_of.Goals as goal

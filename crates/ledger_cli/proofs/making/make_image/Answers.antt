@@ -9,7 +9,7 @@ use Rattle.ledger_cli.proofs.making.make_image.Goals as goal
 pub returns-in_err-disk : goal.returns-in_err-disk
 returns-in_err-disk g c =
     let p = err_from_is_err_and c.from_residual.result c.from_residual.ensures.1 in
-    not_made g.F.Seek.stream_position g.F.Seek.stream_bytes g.F.Write.contents g.W.Write.contents c.args.tills
+    not_made g.F.Seek.stream_position g.F.Seek.stream_bytes g.F.Write.contents g.W.Write.contents (AreFreshBytes c.args.tills)
     c.args.file.now c.args.file.now c.args.out.now c.args.out.now c.from_residual.result _ (p.1 ∙ ap Err p.2)
     c.in_err-disk.ensures.err refl refl
 
@@ -19,7 +19,7 @@ returns-in_err-write_over g c =
     let p = err_from_is_err_and r.result r.ensures.1 in
     let fresh : AreFreshBytes c.args.tills c.bytes.result.now =
     record { disk = disk_image c.in_ok-disk.disk; fresh = c.in_ok-disk.ensures.ok; bytes_of = c.bytes.ensures.value } in
-    made_in_part g.F.Seek.stream_position g.F.Seek.stream_bytes g.F.Write.contents g.W.Write.contents c.args.tills
+    made_in_part g.F.Seek.stream_position g.F.Seek.stream_bytes g.F.Write.contents g.W.Write.contents (AreFreshBytes c.args.tills)
     c.args.file.now c.write_over.new.file c.args.out.now c.args.out.now c.bytes.result.now fresh r.result _
     (p.1 ∙ ap Err p.2) c.in_err-write_over.ensures refl
 
@@ -27,8 +27,8 @@ pub returns : goal.returns
 returns g c =
     let fresh : AreFreshBytes c.args.tills c.bytes.result.now =
     record { disk = disk_image c.in_ok-disk.disk; fresh = c.in_ok-disk.ensures.ok; bytes_of = c.bytes.ensures.value } in
-    made g.F.Seek.stream_position g.F.Seek.stream_bytes g.F.Write.contents g.W.Write.contents c.args.tills
+    made g.F.Seek.stream_position g.F.Seek.stream_bytes g.F.Write.contents g.W.Write.contents (AreFreshBytes c.args.tills)
     c.args.file.now c.write_over.new.file c.args.out.now c.put_whole.new.out
-    (image_written g.F.Seek.stream_position g.F.Seek.stream_bytes g.F.Write.contents c.args.tills c.args.file.now
+    (image_written g.F.Seek.stream_position g.F.Seek.stream_bytes g.F.Write.contents (AreFreshBytes c.args.tills) c.args.file.now
     c.write_over.new.file c.bytes.result.now c.bytes.ensures.size fresh c.in_ok-write_over.ensures)
     c.put_whole.result c.put_whole.ensures.ok c.put_whole.ensures.err

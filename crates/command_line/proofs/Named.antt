@@ -1,0 +1,74 @@
+-- The jobs of files with their names, where their words are parsed.
+use Rattle.std.proofs.Common.{◌≡◌, Bor, List, Option, Some, inl, inr, refl, subst, sym, []}
+use Rattle.std.specs.Prelude.{IfOk, MatchResult, Result, codes}
+use Rattle.clap.specs.Words.{Row, Text}
+use Rattle.command_table.specs.Grammar.{value}
+use Rattle.ledger_jobs.specs.Jobs.{IsFit}
+use Rattle.ledger_jobs.specs.Names.{IsNameOf, name_bytes}
+use Rattle.ledger_jobs.specs.declared.jobs.Job.{Job}
+use Rattle.ledger_jobs.specs.declared.names.Name.{Name}
+use Rattle.command_line.specs.Jobs.{IsJob, IsNoJob, IsRefusedName}
+use Rattle.command_line.specs.Names.{HasNoName, IsMakingJob, IsNamedJob, IsNewDiskJob, IsRenamingJob, IsStoringJob}
+use Rattle.command_line.specs.declared.faults.JobFault.{JobFault}
+
+-- the job that is made of the name is that of the subcommand, or its name is none
+pub named-met : (found : Option (Text × List Row)) (rows : List Row) (make : Name → Job) (r : Result Job JobFault)
+    → ((name : Name) → IsNameOf (value (codes "NAME") rows) (name_bytes name) → IsJob found (make name))
+    → ((name : Name) → IsFit (make name)) → (HasNoName (codes "NAME") rows → IsRefusedName found)
+    → IsNamedJob rows make r → MatchResult r (IsJob found) (IsNoJob [] found) × IfOk r IsFit
+named-met found rows make r job fit none (inl (name, same, is)) =
+    let P : Result Job JobFault → Type 0 = λ j. MatchResult j (IsJob found) (IsNoJob [] found) × IfOk j IsFit in
+    subst P (sym same) (job name is, fit name)
+named-met found rows make r job fit none (inr (same, missing)) =
+    let P : Result Job JobFault → Type 0 = λ j. MatchResult j (IsJob found) (IsNoJob [] found) × IfOk j IsFit in
+    subst P (sym same) ((refl, none missing), tt)
+
+-- what stores records in a file is the job of `store`, or its name is none
+pub storing-met : (found : Option (Text × List Row)) (rows : List Row) (image : Bor Text) (r : Result Job JobFault)
+    → found ≡ Some (codes "store", rows) → image.now ≡ value (codes "IMAGE") rows
+    → IsStoringJob rows image r → MatchResult r (IsJob found) (IsNoJob [] found) × IfOk r IsFit
+storing-met found rows image r is by-image (records, by-records, named) =
+    named-met found rows _ r
+    (λ name at. record { rows = rows; is = is; holds = (by-image, at, by-records, refl, refl) })
+    (λ name. tt)
+    (λ missing. inr (inl (record { rows = rows; is = is; holds = missing })))
+    named
+
+-- what makes a relative file is that of `make`, or its words give none
+pub making-met : (found : Option (Text × List Row)) (rows : List Row) (image : Bor Text) (r : Result Job JobFault)
+    → found ≡ Some (codes "make", rows) → image.now ≡ value (codes "IMAGE") rows
+    → IsMakingJob rows image r → MatchResult r (IsJob found) (IsNoJob [] found) × IfOk r IsFit
+making-met found rows image r is by-image (inl (name, size, same, at, new, by-size, fit)) =
+    let P : Result Job JobFault → Type 0 = λ j. MatchResult j (IsJob found) (IsNoJob [] found) × IfOk j IsFit in
+    subst P (sym same) (record { rows = rows; is = is; holds = (by-image, at, by-size, refl) }, (new, fit))
+making-met found rows image r is by-image (inr (inl (same, missing))) =
+    let P : Result Job JobFault → Type 0 = λ j. MatchResult j (IsJob found) (IsNoJob [] found) × IfOk j IsFit in
+    subst P (sym same) ((refl, inr (inr (inl (record { rows = rows; is = is; holds = missing })))), tt)
+making-met found rows image r is by-image (inr (inr (same, name, missing))) =
+    let P : Result Job JobFault → Type 0 = λ j. MatchResult j (IsJob found) (IsNoJob [] found) × IfOk j IsFit in
+    subst P (sym same) ((refl, record { rows = rows; is = is; holds = (name, missing) }), tt)
+
+-- what gives a file another name is that of `rename`, or one of the two is none
+pub renaming-met : (found : Option (Text × List Row)) (rows : List Row) (image : Bor Text) (r : Result Job JobFault)
+    → found ≡ Some (codes "rename", rows) → image.now ≡ value (codes "IMAGE") rows
+    → IsRenamingJob rows image r → MatchResult r (IsJob found) (IsNoJob [] found) × IfOk r IsFit
+renaming-met found rows image r is by-image (inl (from, to, same, old, new, fit)) =
+    let P : Result Job JobFault → Type 0 = λ j. MatchResult j (IsJob found) (IsNoJob [] found) × IfOk j IsFit in
+    subst P (sym same) (record { rows = rows; is = is; holds = (by-image, old, new) }, fit)
+renaming-met found rows image r is by-image (inr (same, missing)) =
+    let P : Result Job JobFault → Type 0 = λ j. MatchResult j (IsJob found) (IsNoJob [] found) × IfOk j IsFit in
+    subst P (sym same) ((refl, inr (inr (inr (inr (inl (record { rows = rows; is = is; holds = missing })))))), tt)
+
+-- what makes the image of an empty disk is that of `new`, or its words give none
+pub new-met : (found : Option (Text × List Row)) (rows : List Row) (image : Bor Text) (r : Result Job JobFault)
+    → found ≡ Some (codes "new", rows) → image.now ≡ value (codes "IMAGE") rows
+    → IsNewDiskJob rows image r → MatchResult r (IsJob found) (IsNoJob [] found) × IfOk r IsFit
+new-met found rows image r is by-image (inl (name, id, same, at, two)) =
+    let P : Result Job JobFault → Type 0 = λ j. MatchResult j (IsJob found) (IsNoJob [] found) × IfOk j IsFit in
+    subst P (sym same) (record { rows = rows; is = is; holds = (by-image, at, two) }, at.short)
+new-met found rows image r is by-image (inr (inl (same, missing))) =
+    let P : Result Job JobFault → Type 0 = λ j. MatchResult j (IsJob found) (IsNoJob [] found) × IfOk j IsFit in
+    subst P (sym same) ((refl, inr (inr (inr (inr (inr (record { rows = rows; is = is; holds = missing })))))), tt)
+new-met found rows image r is by-image (inr (inr (same, name, missing))) =
+    let P : Result Job JobFault → Type 0 = λ j. MatchResult j (IsJob found) (IsNoJob [] found) × IfOk j IsFit in
+    subst P (sym same) ((refl, record { rows = rows; is = is; holds = (name, missing) }), tt)

@@ -1,0 +1,135 @@
+//! The forms that the flags ask for.
+ghost use Rattle.std.specs.Prelude.{◌≡◌};
+ghost use Rattle.clap.specs.Words.{found_of, rows_of};
+ghost use Rattle.command_line.specs.Forms.{effect_in, loss_in, unowned_in, serve_durability as of_serve, way_in};
+ghost use Rattle.command_line.specs.Forms.{byte_form_in, columns_in, findings_in, name_form_in, record_form_in, set_in};
+
+use crate::values::is_given;
+use clap::ArgMatches;
+use keeper_commands::{ByteForm, RecordForm};
+use ledger_jobs::{Columns, Effect, Findings, Loss, Unowned, Way};
+use petscii_text::CharacterSet;
+use shop_commands::{Durability, NameForm};
+
+/// Where the requests of a shop that is served come to the disk first.
+pub(crate) fn way<'a>(matches: &ArgMatches<'a>) -> Way
+    ensures { result ≡ way_in (rows_of (found_of matches.now)) }
+{
+    if is_given(matches, "in-place") {
+        Way::InPlace
+    } else {
+        Way::OverLog
+    }
+}
+
+/// When what is served is brought to the disk.
+pub(crate) fn serve_durability<'a>(matches: &ArgMatches<'a>) -> Durability
+    ensures { result ≡ of_serve (rows_of (found_of matches.now)) }
+{
+    if is_given(matches, "unsynced") {
+        Durability::AtEnd
+    } else {
+        Durability::EachSector
+    }
+}
+
+/// What is done where the disk has lost a part of a file.
+pub(crate) fn loss<'a>(matches: &ArgMatches<'a>) -> Loss
+    ensures { result ≡ loss_in (rows_of (found_of matches.now)) }
+{
+    if is_given(matches, "accept-loss") {
+        Loss::Accepted
+    } else {
+        Loss::Refused
+    }
+}
+
+/// What a repair does with sectors that are taken and no file's.
+pub(crate) fn unowned<'a>(matches: &ArgMatches<'a>) -> Unowned
+    ensures { result ≡ unowned_in (rows_of (found_of matches.now)) }
+{
+    if is_given(matches, "free") {
+        Unowned::Freed
+    } else {
+        Unowned::Kept
+    }
+}
+
+/// Whether a repair writes the image.
+pub(crate) fn effect<'a>(matches: &ArgMatches<'a>) -> Effect
+    ensures { result ≡ effect_in (rows_of (found_of matches.now)) }
+{
+    if is_given(matches, "dry-run") {
+        Effect::Printed
+    } else {
+        Effect::Written
+    }
+}
+
+/// The set of the text that is asked for.
+fn text_set<'a>(matches: &ArgMatches<'a>) -> Option<CharacterSet>
+    ensures { result ≡ set_in (rows_of (found_of matches.now)) }
+{
+    if is_given(matches, "mixed") {
+        return Some(CharacterSet::Mixed);
+    }
+    if is_given(matches, "text") {
+        return Some(CharacterSet::Graphics);
+    }
+    None
+}
+
+/// How the lines of a text have the records.
+pub(crate) fn columns<'a>(matches: &ArgMatches<'a>) -> Columns
+    ensures { result ≡ columns_in (rows_of (found_of matches.now)) }
+{
+    if is_given(matches, "fields") {
+        Columns::Fields
+    } else {
+        Columns::One
+    }
+}
+
+/// How records are printed.
+pub(crate) fn record_form<'a>(matches: &ArgMatches<'a>) -> RecordForm
+    ensures { result ≡ record_form_in (rows_of (found_of matches.now)) }
+{
+    if is_given(matches, "fields") {
+        return RecordForm::Fields;
+    }
+    match text_set(matches) {
+        Some(set) => RecordForm::Text(set),
+        None => RecordForm::Lines,
+    }
+}
+
+/// How the bytes of a file are printed.
+pub(crate) fn byte_form<'a>(matches: &ArgMatches<'a>) -> ByteForm
+    ensures { result ≡ byte_form_in (rows_of (found_of matches.now)) }
+{
+    match text_set(matches) {
+        Some(set) => ByteForm::Text(set),
+        None => ByteForm::Plain,
+    }
+}
+
+/// Which faults of an image are printed.
+pub(crate) fn findings<'a>(matches: &ArgMatches<'a>) -> Findings
+    ensures { result ≡ findings_in (rows_of (found_of matches.now)) }
+{
+    if is_given(matches, "all") {
+        Findings::All
+    } else {
+        Findings::First
+    }
+}
+
+/// How names of a disk are printed.
+pub(crate) fn name_form<'a>(matches: &ArgMatches<'a>) -> NameForm
+    ensures { result ≡ name_form_in (rows_of (found_of matches.now)) }
+{
+    match text_set(matches) {
+        Some(set) => NameForm::Text(set),
+        None => NameForm::Ascii,
+    }
+}

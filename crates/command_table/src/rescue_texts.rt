@@ -1,0 +1,76 @@
+//! What help says below the words of the subcommands that rescue files and disks, at most 80 columns wide.
+
+/// What `records` prints, its statuses, and an example.
+pub(crate) const RECORDS: &str = "\
+Prints a line for each record, for example 1,\"MILK\\0d\".
+--text and --mixed print lines for people: `store` doesn't take them back.
+--fields prints a column for each field, which a CR ends: 1,\"MILK\",\"12\". A last
+column \\- says that the last field has no CR. `store --fields` takes these lines
+back. With --fields, --text and --mixed have no effect.
+
+Exit status:
+  0  the records were printed
+  1  the image is refused (LAYOUT, IMAGE SIZE, LOG), NO FILE, or the file has
+     lost its end (SHORT)
+  2  NAME
+  3  FILE, NO MEMORY, IN USE
+
+Example: ledger records old.d64 ADDRESS > address.csv";
+
+/// What `bytes` prints, its statuses, and an example.
+pub(crate) const BYTES: &str = "\
+Prints the bytes of the first closed file with this name, even if the disk is
+damaged elsewhere. With --text or --mixed each CR ends a line.
+
+Exit status:
+  0  the bytes were printed
+  1  the image is refused (LAYOUT, IMAGE SIZE, LOG), NO FILE, or the file has
+     lost its end (SHORT)
+  2  NAME
+  3  FILE, NO MEMORY, IN USE
+
+Example: ledger bytes old.d64 'ADD\\c1' > add.prg";
+
+/// What `extract` makes and prints, its statuses, and an example.
+pub(crate) const EXTRACT: &str = "\
+Makes FOLDER, and in it a file for each entry of the directory, for example
+01-LETTER 02.prg. A relative file also has its records as lines (.csv). What can
+be read of a damaged file is taken, and index.csv says what was found. Prints
+EXTRACTED if all files are whole.
+
+Exit status:
+  0  all files are whole
+  1  a file or the directory isn't (LAYOUT and the first fault, SHORT); or
+     IMAGE SIZE, LOG, FILE EXISTS: nothing was done
+  3  FILE, NO MEMORY, IN USE
+
+Example: ledger extract old.d64 old";
+
+/// What `repair` prints, its statuses, and an example.
+pub(crate) const REPAIR: &str = "\
+Prints MENDED and the sector for each sector that it changed, then OK. No file
+changes. Sectors that are marked as taken and belong to no file stay taken:
+KEPT and their number instead of OK. With --free it prints FREED and the sector
+for each of them.
+
+Exit status:
+  0  the disk is clean
+  1  KEPT; or the disk is refused (LAYOUT, SHORT, GEOS, FORMAT, IMAGE SIZE, LOG)
+     and untouched
+  3  FILE, NO MEMORY, IN USE, DEVICE
+
+Example: ledger repair --dry-run old.d64";
+
+/// What `trim` prints, its statuses, and an example.
+pub(crate) const TRIM: &str = "\
+Prints an image of 174848 bytes, as every other command takes it, from one of 35
+or 40 tracks with or without error bytes. On standard error it prints a line for
+each sector that the drive couldn't read, for example ERROR 23 17/4. A file that
+goes on past track 35 has one too: BEYOND and the sector whose link leads there.
+
+Exit status:
+  0  all of the image is there
+  1  such a line was printed, or the image is refused (IMAGE SIZE, LOG)
+  3  FILE, NO MEMORY, IN USE
+
+Example: ledger trim old40.d64 > old.d64";
