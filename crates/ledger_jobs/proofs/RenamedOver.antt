@@ -29,6 +29,7 @@ module _ {F W : Type 0} (K : Keeps F) (contents : W → Option (List ℕ)) (imag
   rename-not-loaded file old (edit.Layout fault) told = absurd told
   rename-not-loaded file old edit.NoFile told = absurd told
   rename-not-loaded file old edit.FileExists told = absurd told
+  rename-not-loaded file old edit.DiskFull told = absurd told
   rename-not-loaded file old edit.Locked told = absurd told
   rename-not-loaded file old edit.File told = absurd told
   rename-not-loaded file old edit.Device told = absurd told
@@ -77,6 +78,7 @@ module _ {F : Type 0} {G : Ghosts F} (start : KeptMirror F G) (sound : is_broken
     whole-ended whole (Err edit.FileExists) ok err =
         sound-refused start sound untaken b image holds old new whole _ err
     whole-ended whole (Err edit.Locked) ok err = absurd err
+    whole-ended whole (Err edit.DiskFull) ok err = absurd err.0
     whole-ended whole (Err edit.File) ok err = (
       whole_file start sound untaken b err.run.moments.held whole,
       taken_up start sound untaken b image size holds (done_of_file whole err),
@@ -106,6 +108,7 @@ module _ {F : Type 0} {G : Ghosts F} (start : KeptMirror F G) (sound : is_broken
     run-of broken (Err edit.NoFile) ok err = (left-run _ err, err.unprinted)
     run-of broken (Err edit.FileExists) ok err = (left-run _ err, err.unprinted)
     run-of broken (Err edit.Locked) ok err = absurd err
+    run-of broken (Err edit.DiskFull) ok err = absurd err.0
     run-of broken (Err edit.File) ok err = absurd (not_broken start sound untaken b err.unfailed broken)
     run-of broken (Err edit.Device) ok err = (err.0, err.2)
 

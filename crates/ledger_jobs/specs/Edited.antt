@@ -58,6 +58,7 @@ IsRenamedFault K image from to file after old new edit.File =
 IsRenamedFault K image from to file after old new edit.Device =
     FileFailed K file after
     × IsTakenUp K image file after (λ disk left. IsRenameRun (in_run K file) image from to disk left) × (new ≡ old)
+IsRenamedFault K image from to file after old new edit.DiskFull = ⊥
 IsRenamedFault K image from to file after old new edit.Locked = ⊥
 
 -- the renaming of a file on the disk of an image, over its file, ended so
@@ -95,6 +96,7 @@ IsDeletedFault K image name file after old new edit.Device =
     FileFailed K file after
     × IsTakenUp K image file after (λ disk left. IsDeleteRun (in_run K file) image name disk left) × (new ≡ old)
 IsDeletedFault K image name file after old new edit.FileExists = ⊥
+IsDeletedFault K image name file after old new edit.DiskFull = ⊥
 
 -- the deletion of a file on the disk of an image, over its file, ended so
 abbrev pub IsDeleteOver : {F W : Type 0} → Keeps F → (W → Option (List ℕ)) → (image name : List ℕ) → F → F → W → W

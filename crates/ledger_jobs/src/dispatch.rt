@@ -20,6 +20,7 @@ use crate::names::Name;
 use crate::new_disks::do_new;
 use crate::outcomes::{drawn_end, job_end, told};
 use crate::overviews::do_several;
+use crate::putting::do_put;
 use crate::readings::{do_reading, image_at};
 use crate::refusals::Refusal;
 use crate::serving_images::do_serving;
@@ -125,7 +126,7 @@ where
 /// `InUse` if another program has the image; `Log` if its log gives no image; `File` if a file couldn't be opened or
 /// read. The other faults are those of `reading_run`, `format_image`, `new_run`, `play_durably`, `serve_guarded`,
 /// `serve_logged_guarded`, `copy_run`, `repair_guarded`, `make_guarded`, `rename_guarded`, `delete_guarded`,
-/// `store_guarded`, `take_told`, `extract_run`, `listing_run`, `drawing_run`, `comparing_run` and `view_run`. `Trim` ends
+/// `put_guarded`, `store_guarded`, `take_told`, `extract_run`, `listing_run`, `drawing_run`, `comparing_run` and `view_run`. `Trim` ends
 /// with `File`, since it reports on standard error: call `do_trim`. What is wrong with one of several images is printed;
 /// only a failed output ends the job before the last of them.
 pub fn do_job<F, R, W>(rt: &R, job: &Job<'_>, out: &mut W) -> Result<Option<Fault>, Refusal>
@@ -185,6 +186,12 @@ where
             ref to,
         } => do_rename(rt, image, from, to, out),
         Job::Delete { image, ref name } => do_delete(rt, image, name, out),
+        Job::Put {
+            image,
+            ref name,
+            file,
+            kind,
+        } => do_put(rt, image, name, file, kind, out),
         Job::Store {
             image,
             ref name,

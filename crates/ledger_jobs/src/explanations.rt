@@ -59,6 +59,8 @@ pub(crate) const CUT_SHORT: &str =
 
 const NAMED: &str = "a file has this name; `ledger list` shows them";
 
+const NO_ROOM: &str = "it has too few free blocks, or no room in its directory; nothing was done";
+
 const LOCKED: &str = "the file is locked: `ledger list` prints `<` after its type";
 
 const SHOP_FILE: &str =
@@ -105,6 +107,7 @@ fn about_edit(fault: EditFault) -> About {
         EditFault::Layout(_) => About::Image(JUDGED),
         EditFault::NoFile => About::Name,
         EditFault::FileExists => About::Image(NAMED),
+        EditFault::DiskFull => About::Image(NO_ROOM),
         EditFault::Locked => About::Image(LOCKED),
         EditFault::Device => About::Device,
         EditFault::NoMemory => About::Nothing,

@@ -41,6 +41,7 @@ mod log_rows;
 mod moved_rows;
 #[cfg(test)]
 mod output_rows;
+mod put_rows;
 #[cfg(test)]
 mod refusal_rows;
 #[cfg(test)]
