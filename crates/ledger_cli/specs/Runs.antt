@@ -169,9 +169,9 @@ module _ {F : Type 0} (position : F → Option ℕ) (bytes contents : F → Opti
   -- the putting of a file did
   abbrev pub IsPut : (W → Option (List ℕ)) → (image name : List ℕ) → FileType → List ℕ → Option F → Option F → W → W
       → JobEnd → Type 0
-  IsPut told image name kind data file after old new end = IsOverFile image file after old new end
+  IsPut told image name kind given file after old new end = IsOverFile image file after old new end
       (λ f left. IsGuarded image losses.Refused (IsUntouched f left old new)
-      (IsEditedEndOf (IsPutOver (stream position bytes contents) told image name kind data f left old new)) end)
+      (IsEditedEndOf (IsPutOver (stream position bytes contents) told image name kind given f left old new)) end)
 
   -- what comes of each job: its run over the bytes that it reads, and over the file that it writes
   abbrev pub IsJobRun : (W → Option (List ℕ)) → Job → (image script : List ℕ) → Option F → Option F → W → W → JobEnd
