@@ -20,7 +20,7 @@ from pathlib import Path
 
 PROGRAM = Path(sys.argv[1]).resolve()
 SIZE = 174_848
-IMAGE_COMMANDS = ("list check show play serve repair records bytes make store rename delete map picture").split()
+IMAGE_COMMANDS = ("list check show play serve repair records bytes make store put rename delete map picture").split()
 tried = 0
 
 
@@ -41,6 +41,7 @@ def command(name, image="s.d64"):
         "bytes": ["bytes", image, "REQUESTS"],
         "make": ["make", image, "CARDS", "--length", "30"],
         "new": ["new", "new.d64", "--name", "TOOLS", "--id", "01"],
+        "put": ["put", image, "LINES", "r.txt", "--type", "seq"],
         "rename": ["rename", image, "NOTES", "CARDS"],
         "delete": ["delete", image, "NOTES"],
         "store": ["store", image, "REQUESTS", "r.txt"],

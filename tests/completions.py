@@ -37,6 +37,7 @@ LINES = (
     # neither of a file's two names is that of a file in the folder
     ("rename b.d64 A b\tx", ["rename", "b.d64", "A", "bx"]),
     ("copy b.d64 a\t", ["copy", "b.d64", "a shop.d64"]),
+    ("put b.d64 N a\t", ["put", "b.d64", "N", "a shop.d64"]),
     ("store b.d64 N a\t", ["store", "b.d64", "N", "a shop.d64"]),
     ("serve --uns\tb.d64", ["serve", "--unsynced", "b.d64"]),
 )

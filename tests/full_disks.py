@@ -150,7 +150,7 @@ class Trial:
                 sure(self.program, word, image, *more)
                 self.tried += 1
             writing = [["serve"], ["serve", "--in-place"], ["play", empty], ["repair"], ["make", "CARDS", "--length", 30],
-                       ["store", "STOCK", empty], ["rename", "CARDS", "NOTES"], ["delete", "CARDS"], ["format", "--tills", 4]]
+                       ["store", "STOCK", empty], ["put", "TEXT", empty, "--type", "seq"], ["rename", "CARDS", "NOTES"], ["delete", "CARDS"], ["format", "--tills", 4]]
             for word, *more in writing:
                 status, out, err = run(self.program, word, image, *more)
                 want((status, out, err) == (3, [], "FILE"), f"{word} in a folder that can't be written: {status}, {out}, {err}")

@@ -182,6 +182,7 @@ def lines_of(disks):
         (["bytes", IMAGE, "STOCK"], disks.played, b"", 0),
         (["make", IMAGE, "CARDS", "--length", "30"], disks.blank, b"", 0),
         (["store", IMAGE, "CARDS", "records"], disks.carded, b"", 0),
+        (["put", IMAGE, "LINES", "records", "--type", "seq"], disks.blank, b"", 0),
         (["rename", IMAGE, "CARDS", "NOTES"], disks.carded, b"", 0),
         (["delete", IMAGE, "CARDS"], disks.carded, b"", 0),
         (["new", NEW, "--name", "TOOLS", "--id", "01"], disks.gone, b"", 0),

@@ -51,7 +51,7 @@ class Ends:
         empty = script(self.folder, [])
         return [["serve"], ["serve", "--in-place"], ["play", empty], ["play", empty, "--sync"],
                 ["play", empty, "--log"], ["repair"], ["make", "CARDS", "--length", 30], ["store", "STOCK", empty],
-                ["rename", "CARDS", "NOTES"], ["delete", "NOTES"], ["format", "--tills", 8]]
+                ["put", "TEXT", empty, "--type", "seq"], ["rename", "CARDS", "NOTES"], ["delete", "NOTES"], ["format", "--tills", 8]]
 
     def show(self):
         return sure(self.program, "show", self.image)

@@ -61,7 +61,7 @@ class Logs:
         empty = script(self.folder, [])
         return [["serve"], ["serve", "--in-place"], ["serve", "--unsynced"], ["play", empty], ["play", empty, "--sync"],
                 ["play", empty, "--log"], ["repair"], ["make", "CARDS", "--length", 30], ["store", "STOCK", empty],
-                ["rename", "CARDS", "NOTES"], ["delete", "NOTES"], ["format", "--tills", 4]]
+                ["put", "TEXT", empty, "--type", "seq"], ["rename", "CARDS", "NOTES"], ["delete", "NOTES"], ["format", "--tills", 4]]
 
     def line(self):
         """A next request of a till, a repeat, or a line that is none."""

@@ -72,6 +72,7 @@ def commands(program, folder):
     yield "bytes", ["bytes", shop, "STOCK"], b""
     yield "make", ["make", shop, "ADDRESS", "--length", "40"], b""
     yield "store", ["store", shop, "STOCK", records], b""
+    yield "put", ["put", shop, "LINES", records, "--type", "seq"], b""
     yield "rename", ["rename", shop, "NOTES", "CARDS"], b""
     yield "delete", ["delete", shop, "NOTES"], b""
     yield "--help", ["--help"], b""

@@ -8,7 +8,7 @@ use Rattle.ledger_jobs.specs.Names.{IsNameOf, name_bytes}
 use Rattle.ledger_jobs.specs.declared.jobs.Job.{Job}
 use Rattle.ledger_jobs.specs.declared.names.Name.{Name}
 use Rattle.command_line.specs.Jobs.{IsJob, IsNoJob, IsRefusedName}
-use Rattle.command_line.specs.Names.{HasNoName, IsMakingJob, IsNamedJob, IsNewDiskJob, IsRenamingJob, IsStoringJob}
+use Rattle.command_line.specs.Names.{HasNoName, IsMakingJob, IsNamedJob, IsNewDiskJob, IsPuttingJob, IsRenamingJob, IsStoringJob}
 use Rattle.command_line.specs.declared.faults.JobFault.{JobFault}
 
 -- the job that is made of the name is that of the subcommand, or its name is none
@@ -68,7 +68,21 @@ new-met found rows image r is by-image (inl (name, id, same, at, two)) =
     subst P (sym same) (record { rows = rows; is = is; holds = (by-image, at, two) }, at.short)
 new-met found rows image r is by-image (inr (inl (same, missing))) =
     let P : Result Job JobFault → Type 0 = λ j. MatchResult j (IsJob found) (IsNoJob [] found) × IfOk j IsFit in
-    subst P (sym same) ((refl, inr (inr (inr (inr (inr (record { rows = rows; is = is; holds = missing })))))), tt)
+    subst P (sym same) ((refl, inr (inr (inr (inr (inr (inl (record { rows = rows; is = is; holds = missing }))))))), tt)
 new-met found rows image r is by-image (inr (inr (same, name, missing))) =
+    let P : Result Job JobFault → Type 0 = λ j. MatchResult j (IsJob found) (IsNoJob [] found) × IfOk j IsFit in
+    subst P (sym same) ((refl, record { rows = rows; is = is; holds = (name, missing) }), tt)
+
+-- what puts a file on the disk is that of `put`, or its words give none
+pub putting-met : (found : Option (Text × List Row)) (rows : List Row) (image : Bor Text) (r : Result Job JobFault)
+    → found ≡ Some (codes "put", rows) → image.now ≡ value (codes "IMAGE") rows
+    → IsPuttingJob rows image r → MatchResult r (IsJob found) (IsNoJob [] found) × IfOk r IsFit
+putting-met found rows image r is by-image (inl (name, file, kind, same, at, new, by-file, by-type)) =
+    let P : Result Job JobFault → Type 0 = λ j. MatchResult j (IsJob found) (IsNoJob [] found) × IfOk j IsFit in
+    subst P (sym same) (record { rows = rows; is = is; holds = (by-image, at, by-file, by-type) }, new)
+putting-met found rows image r is by-image (inr (inl (same, missing))) =
+    let P : Result Job JobFault → Type 0 = λ j. MatchResult j (IsJob found) (IsNoJob [] found) × IfOk j IsFit in
+    subst P (sym same) ((refl, inr (inr (inr (inr (inr (inr (record { rows = rows; is = is; holds = missing }))))))), tt)
+putting-met found rows image r is by-image (inr (inr (same, name, missing))) =
     let P : Result Job JobFault → Type 0 = λ j. MatchResult j (IsJob found) (IsNoJob [] found) × IfOk j IsFit in
     subst P (sym same) ((refl, record { rows = rows; is = is; holds = (name, missing) }), tt)

@@ -97,9 +97,9 @@ pub play-met : (found : Option (Text × List Row)) (rows : List Row) (image scri
     → is_given (codes "sync") rows ≡ synced → is_given (codes "log") rows ≡ logged → found ≡ Some (codes "play", rows)
     → image.now ≡ value (codes "IMAGE") rows → script.now ≡ value (codes "SCRIPT") rows
     → let r : Result Job JobFault =
-        if synced then (if logged then Err faults.Flags else Ok (jobs.PlaySynced image script))
-        else (if logged then Ok (jobs.PlayLogged image script) else Ok (jobs.Play image script)) in
-      MatchResult r (IsJob found) (IsNoJob [] found) × IfOk r IsFit
+    if synced then (if logged then Err faults.Flags else Ok (jobs.PlaySynced image script))
+    else (if logged then Ok (jobs.PlayLogged image script) else Ok (jobs.Play image script)) in
+    MatchResult r (IsJob found) (IsNoJob [] found) × IfOk r IsFit
 play-met found rows image script true true sync log is by-image by-script =
     ((refl, record { rows = rows; is = is; holds = (sync, log) }), tt)
 play-met found rows image script true false sync log is by-image by-script =
@@ -120,3 +120,4 @@ heard-as-asked (Err faults.Images) asked heard same = same
 heard-as-asked (Err faults.Sector) asked heard same = same
 heard-as-asked (Err faults.Id) asked heard same = same
 heard-as-asked (Err faults.Flags) asked heard same = same
+heard-as-asked (Err faults.Kind) asked heard same = same

@@ -15,7 +15,7 @@ use Rattle.command_line.specs.Forms.{columns_in, way_in, serve_durability, loss_
 use Rattle.command_line.specs.Forms.{IsViewedBy}
 use Rattle.command_line.specs.Images.{word_of_drawing, AreCompared, AreOnSheet, IsNoPicture, IsDrawnBy}
 use Rattle.command_line.specs.Images.{word_of_overview, IsOnlyImage, AreImages, AreDescribed}
-use Rattle.command_line.specs.Names.{HasNoName, HasNoNewName, HasName, HasNewName, IsIdOf, HasNoId, HasNoRenaming}
+use Rattle.command_line.specs.Names.{HasNoName, HasNoNewName, HasName, HasNewName, IsIdOf, HasNoId, HasNoRenaming, type_in}
 use Rattle.command_line.specs.Flags.{is_given}
 use Rattle.ledger_jobs.specs.declared.jobs.Job.TheVariants as jobs
 use Rattle.ledger_jobs.specs.declared.jobs.Overview.TheVariants as overviews
@@ -117,6 +117,9 @@ IsJob found (jobs.Rename image from to) = Has found (codes "rename")
     × IsNameOf (value (codes "NEW") rows) (name_bytes to))
 IsJob found (jobs.Delete image name) = Has found (codes "delete")
     (λ rows. (image.now ≡ value (codes "IMAGE") rows) × IsNameOf (value (codes "NAME") rows) (name_bytes name))
+IsJob found (jobs.Put image name file kind) = Has found (codes "put")
+    (λ rows. (image.now ≡ value (codes "IMAGE") rows) × IsNameOf (value (codes "NAME") rows) (name_bytes name)
+    × (file.now ≡ value (codes "FILE") rows) × (type_in rows ≡ Some kind))
 IsJob found (jobs.New image name id) = Has found (codes "new")
     (λ rows. (image.now ≡ value (codes "IMAGE") rows) × IsNameOf (value (codes "N") rows) (name_bytes name)
     × IsIdOf (value (codes "I") rows) id)
@@ -129,10 +132,10 @@ IsRefusedName found =
     ((what : Taking) × Has found (word_of_taking what) (HasNoName (codes "NAME")))
     ⊎ (Has found (codes "store") (HasNoName (codes "NAME")) ⊎ (Has found (codes "make") (HasNoNewName (codes "NAME"))
     ⊎ (Has found (codes "delete") (HasNoName (codes "NAME")) ⊎ (Has found (codes "rename") HasNoRenaming
-    ⊎ Has found (codes "new") (HasNoName (codes "N"))))))
+    ⊎ (Has found (codes "new") (HasNoName (codes "N")) ⊎ Has found (codes "put") (HasNoNewName (codes "NAME")))))))
 
 -- why there is none: the words are refused for one of these kinds, or memory ran out. Or the number of tills, a name, the
--- length of a record, the sector or the ID of a disk isn't valid, or two flags exclude one another
+-- length of a record, the sector, the ID of a disk or the type of a file isn't valid, or two flags exclude one another
 abbrev pub IsNoJob : Kinds → Option (Text × List Row) → JobFault → Type 0
 IsNoJob kinds found (faults.Words e) = HasKind kinds e
 IsNoJob kinds found faults.Tills = (kinds ≡ []) × Has found (codes "format") (λ rows. tills_in rows ≡ None)
@@ -143,5 +146,7 @@ IsNoJob kinds found faults.Sector = (kinds ≡ []) × Has found (codes "sector")
 IsNoJob kinds found faults.Images = (kinds ≡ []) × Has found (codes "picture") IsNoPicture
 IsNoJob kinds found faults.Id =
     (kinds ≡ []) × Has found (codes "new") (λ rows. HasName (codes "N") rows × HasNoId rows)
+IsNoJob kinds found faults.Kind =
+    (kinds ≡ []) × Has found (codes "put") (λ rows. HasNewName (codes "NAME") rows × (type_in rows ≡ None))
 IsNoJob kinds found faults.Flags = (kinds ≡ [])
     × Has found (codes "play") (λ rows. (is_given (codes "sync") rows ≡ true) × (is_given (codes "log") rows ≡ true))

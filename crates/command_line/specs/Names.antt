@@ -1,8 +1,11 @@
 -- The names that the words give, and the jobs of files with them. Our own.
-use Rattle.std.specs.Prelude.{◌≡◌, ◌⊎◌, ℕ, List, Some, None, Result, Ok, Err, codes, length}
+use Rattle.std.specs.Prelude.{◌≡◌, ◌⊎◌, ℕ, List, Option, Some, None, Result, Ok, Err, codes, if◌then◌else◌, length}
+use Rattle.std.specs.Str.{bytes_eq}
 use Rattle.std.specs.Borrow.{Bor}
 use Rattle.clap.specs.Words.{Row, Text}
 use Rattle.byte_text.specs.Texts.{AreBytes, text_of}
+use Rattle.file_changes.specs.declared.file_type.FileType.{FileType}
+use Rattle.file_changes.specs.declared.file_type.FileType.TheVariants.{Prg, Seq, Usr}
 use Rattle.keeper_commands.specs.Makes.{IsNewName}
 use Rattle.rel_records.specs.File.{IsLength}
 use Rattle.command_table.specs.Grammar.{value}
@@ -79,3 +82,21 @@ IsNewDiskJob rows image result =
     × IsNameOf (value (codes "N") rows) (name_bytes name) × IsIdOf (value (codes "I") rows) id)
     ⊎ (((result ≡ Err faults.Name) × HasNoName (codes "N") rows)
     ⊎ ((result ≡ Err faults.Id) × HasName (codes "N") rows × HasNoId rows))
+
+-- the type of a file that has this word
+abbrev pub type_named : Text → Option FileType
+type_named word = if bytes_eq word (codes "prg") then Some Prg else (if bytes_eq word (codes "seq") then Some Seq
+    else (if bytes_eq word (codes "usr") then Some Usr else None))
+
+-- the type that the words give as TYPE
+abbrev pub type_in : List Row → Option FileType
+type_in rows = type_named (value (codes "TYPE") rows)
+
+-- the job that puts a file on the disk; or there is no name for it, or no type
+abbrev pub IsPuttingJob : List Row → Bor Text → Result Job JobFault → Type 0
+IsPuttingJob rows image result =
+    ((name : Name) × (file : Bor Text) × (kind : FileType) × (result ≡ Ok (jobs.Put image name file kind))
+    × IsNameOf (value (codes "NAME") rows) (name_bytes name) × IsNewName (name_bytes name)
+    × (file.now ≡ value (codes "FILE") rows) × (type_in rows ≡ Some kind))
+    ⊎ (((result ≡ Err faults.Name) × HasNoNewName (codes "NAME") rows)
+    ⊎ ((result ≡ Err faults.Kind) × HasNewName (codes "NAME") rows × (type_in rows ≡ None)))

@@ -34,11 +34,14 @@ pub enum JobFault {
     /// Two flags are given that exclude one another: `--sync` and `--log`.
     #[error("FLAGS")]
     Flags,
+    /// The type of a file isn't `prg`, `seq` or `usr`.
+    #[error("TYPE")]
+    Kind,
 }
 
 impl JobFault {
     /// The fault's number: 1 for `Words`, 2 for `Tills`, 3 for `Name`, 4 for `Length`, 5 for `Images`, 6
-    /// for `Sector`, 7 for `Id`, 8 for `Flags`.
+    /// for `Sector`, 7 for `Id`, 8 for `Flags`, 9 for `Kind`.
     pub fn number(&self) -> u8
         ensures { result ≡ job_number self.now }
     {
@@ -51,6 +54,7 @@ impl JobFault {
             JobFault::Sector => 6,
             JobFault::Id => 7,
             JobFault::Flags => 8,
+            JobFault::Kind => 9,
         }
     }
 
@@ -66,7 +70,7 @@ impl JobFault {
             },
             JobFault::Tills | JobFault::Name | JobFault::Length => 2,
             JobFault::Images | JobFault::Sector => 2,
-            JobFault::Id | JobFault::Flags => 2,
+            JobFault::Id | JobFault::Flags | JobFault::Kind => 2,
         }
     }
 }

@@ -114,7 +114,11 @@ fn of_several<'a>(alloc: Global, what: Overview, images: &[&'a str]) -> Result<J
 }
 
 /// The job that prints this of one image, or of several.
-pub(crate) fn viewing<'a>(alloc: Global, matches: &ArgMatches<'a>, what: Overview) -> Result<Job<'a>, JobFault>
+pub(crate) fn viewing<'a>(
+    alloc: Global,
+    matches: &ArgMatches<'a>,
+    what: Overview,
+) -> Result<Job<'a>, JobFault>
     ensures { IsOverviewJob (rows_of (found_of matches.now)) what result }
 {
     let image = value_of(matches, "IMAGE");

@@ -1,10 +1,11 @@
 //! The jobs of files with their names.
-ghost use Rattle.std.specs.Prelude.{ℕ, IfSome, IsNone, List};
+ghost use Rattle.std.specs.Prelude.{◌≡◌, ℕ, IfSome, IsNone, List};
 ghost use Rattle.clap.specs.Words.{found_of, rows_of};
 ghost use Rattle.byte_text.specs.Texts.{AreBytes};
 ghost use Rattle.keeper_commands.specs.Makes.{IsNewName};
 ghost use Rattle.ledger_jobs.specs.Names.{IsNameOf, name_bytes};
 ghost use Rattle.command_line.specs.Names.{IsMakingJob, IsStoringJob, IsNamedJob, IsRenamingJob, IsNewDiskJob, IsIdOf};
+ghost use Rattle.command_line.specs.Names.{IsPuttingJob, type_named as named_type};
 ghost use Rattle.ledger_jobs.specs.declared.jobs.Job.TheVariants as jobs;
 
 use crate::faults::JobFault;
@@ -13,10 +14,15 @@ use crate::numbers::length_of;
 use crate::values::value_of;
 use byte_text::read_text;
 use clap::ArgMatches;
+use file_changes::FileType;
 use ledger_jobs::{Job, Name, Taking};
 
 /// The job that takes this out of an image, of the file of a name.
-pub(crate) fn taking<'a>(matches: &ArgMatches<'a>, what: Taking, image: &'a str) -> Result<Job<'a>, JobFault>
+pub(crate) fn taking<'a>(
+    matches: &ArgMatches<'a>,
+    what: Taking,
+    image: &'a str,
+) -> Result<Job<'a>, JobFault>
     ensures { IsNamedJob (rows_of (found_of matches.now)) (λ name. jobs.Take what image.entry name) result }
 {
     match Name::read(value_of(matches, "NAME")) {
@@ -92,6 +98,41 @@ pub(crate) fn renaming<'a>(matches: &ArgMatches<'a>, image: &'a str) -> Result<J
     match new_name(value_of(matches, "NEW")) {
         Some(to) => Ok(Job::Rename { image, from, to }),
         None => Err(JobFault::Name),
+    }
+}
+
+/// The type of a file that has this word.
+fn type_named(word: &str) -> Option<FileType>
+    ensures { result ≡ named_type word.now }
+{
+    if word == "prg" {
+        return Some(FileType::Prg);
+    }
+    if word == "seq" {
+        return Some(FileType::Seq);
+    }
+    if word == "usr" {
+        return Some(FileType::Usr);
+    }
+    None
+}
+
+/// The job that puts a file of the host on the disk of an image.
+pub(crate) fn putting<'a>(matches: &ArgMatches<'a>, image: &'a str) -> Result<Job<'a>, JobFault>
+    ensures { IsPuttingJob (rows_of (found_of matches.now)) image.entry result }
+{
+    let file = value_of(matches, "FILE");
+    let Some(name) = new_name(value_of(matches, "NAME")) else {
+        return Err(JobFault::Name);
+    };
+    match type_named(value_of(matches, "TYPE")) {
+        Some(kind) => Ok(Job::Put {
+            image,
+            name,
+            file,
+            kind,
+        }),
+        None => Err(JobFault::Kind),
     }
 }
 

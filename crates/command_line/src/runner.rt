@@ -85,6 +85,7 @@ fn explain_words<E: Write>(fault: &JobFault, err: &mut E) {
             "ledger: I has two bytes; one that isn't plain text is a backslash and two digits, as \\c1"
         ),
         JobFault::Flags => writeln!(err, "ledger: give --sync or --log, not both"),
+        JobFault::Kind => writeln!(err, "ledger: TYPE is prg, seq or usr"),
     };
 }
 

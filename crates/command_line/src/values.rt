@@ -7,7 +7,9 @@ ghost use Rattle.command_line.specs.Flags.{is_given as given};
 use clap::ArgMatches;
 
 /// The subcommand that was met, with its values.
-pub(crate) fn parsed_subcommand<'m, 'a>(matches: &'m ArgMatches<'a>) -> Option<(&'a str, &'m ArgMatches<'a>)>
+pub(crate) fn parsed_subcommand<'m, 'a>(
+    matches: &'m ArgMatches<'a>,
+) -> Option<(&'a str, &'m ArgMatches<'a>)>
     ensures { option_map (λ p. (p.0.now, rows_of (found_of p.1.now))) result
         ≡ subcommand_rows_of matches.now }
 {

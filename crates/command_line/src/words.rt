@@ -6,9 +6,11 @@ ghost use Rattle.ledger_jobs.specs.Jobs.{IsFit};
 ghost use Rattle.command_line.specs.Jobs.{IsHeard, IsJob, IsNoJob, IsParse, is_explained as explained};
 
 use crate::faults::JobFault;
-use crate::forms::{byte_form, effect, loss, name_form, record_form, serve_durability, unowned, way};
+use crate::forms::{
+    byte_form, effect, loss, name_form, record_form, serve_durability, unowned, way,
+};
 use crate::images::{checking, picturing, viewing};
-use crate::names::{deleting, empty_disk, making, renaming, storing, taking};
+use crate::names::{deleting, empty_disk, making, putting, renaming, storing, taking};
 use crate::numbers::{place_of, tills_of};
 use crate::shops::{formatting, playing};
 use crate::values::{is_given, parsed_subcommand, value_of};
@@ -62,6 +64,7 @@ fn job_of<'a>(alloc: Global, matches: &ArgMatches<'a>) -> Result<Job<'a>, JobFau
         "bytes" => taking(found, Taking::Bytes(byte_form(found)), image),
         "make" => making(found, image),
         "store" => storing(found, image),
+        "put" => putting(found, image),
         "rename" => renaming(found, image),
         "delete" => deleting(found, image),
         "new" => empty_disk(found, image),

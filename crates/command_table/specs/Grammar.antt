@@ -97,6 +97,11 @@ abbrev pub store : App
 store = with_rule (may_accept_loss (with_rule (with_rule (over_image (codes "store")) (required (codes "NAME")))
     (required (codes "RECORDS")))) (flag (codes "fields"))
 
+-- put IMAGE NAME FILE --type TYPE
+abbrev pub put : App
+put = with_rule (with_rule (with_rule (over_image (codes "put")) (required (codes "NAME"))) (required (codes "FILE")))
+    (required_behind (codes "type") (codes "TYPE"))
+
 -- rename IMAGE OLD NEW
 abbrev pub rename : App
 rename = with_rule (with_rule (over_image (codes "rename")) (required (codes "OLD"))) (required (codes "NEW"))
@@ -167,8 +172,8 @@ with_rescue a = with_command (with_command (with_command (with_command (with_com
 
 -- a program that has those that change the files of a disk too
 abbrev pub with_changes : App → App
-with_changes a = with_command (with_command (with_command (with_command (with_command
-    a new) make) store) rename) delete
+with_changes a = with_command (with_command (with_command (with_command (with_command (with_command
+    a new) make) store) put) rename) delete
 
 -- a program that has those that run a shop too
 abbrev pub with_shop : App → App

@@ -40,6 +40,19 @@ Exit status:
 
 Example: ledger store new.d64 ADDRESS address.csv";
 
+/// What `put` prints, its statuses, and an example.
+pub(crate) const PUT: &str = "\
+Prints PUT. An empty FILE gives a file with one byte, a carriage return.
+
+Exit status:
+  0  the file is on the disk
+  1  the disk isn't clean (LAYOUT: repair it first), SHORT, IMAGE SIZE, LOG,
+     FILE EXISTS, DISK FULL: nothing was done
+  2  NAME, TYPE
+  3  FILE, NO MEMORY, IN USE, DEVICE
+
+Example: ledger put new.d64 GAME game.prg --type prg";
+
 /// What `rename` prints, its statuses, and an example.
 pub(crate) const RENAME: &str = "\
 Prints RENAMED. It renames the first file that has the name OLD.

@@ -1,12 +1,13 @@
 //! The subcommands, a row each.
-use crate::change_texts::{DELETE, MAKE, NEW, RENAME, STORE};
+use crate::change_texts::{DELETE, MAKE, NEW, PUT, RENAME, STORE};
 use crate::look_texts::{CHECK, FREE, LIST, MAP, PICTURE, SECTOR};
 use crate::rescue_texts::{BYTES, EXTRACT, RECORDS, REPAIR, TRIM};
 use crate::shop_texts::{COPY, DRY, FORMAT, PLAY, SERVE, SHOW};
 use crate::values::{
-    ACCEPT_LOSS, ALL, COMPARE, COPY_PATH, DISK_ID, DISK_NAME, DRY_RUN, FIELDS, FOLDER,
-    FREE_SECTORS, IMAGE, IMAGES, IN_PLACE, JSON, LENGTH, LOG, MIXED, NAME, NEW_NAME, OLD_NAME,
-    ONLY_NEW, PLACE, RECORD_LINES, SCRIPT, SHEET, SVG, SYNC, TEXT, TILLS, UNSYNCED, Value,
+    ACCEPT_LOSS, ALL, COMPARE, COPY_PATH, DISK_ID, DISK_NAME, DRY_RUN, FIELDS, FILE, FILE_TYPE,
+    FOLDER, FREE_SECTORS, IMAGE, IMAGES, IN_PLACE, JSON, LENGTH, LOG, MIXED, NAME, NEW_NAME,
+    OLD_NAME, ONLY_NEW, PLACE, RECORD_LINES, SCRIPT, SHEET, SVG, SYNC, TEXT, TILLS, UNSYNCED,
+    Value,
 };
 
 /// A subcommand, and what help says of it: in a line, and below its words.
@@ -21,7 +22,7 @@ pub(crate) struct Subcommand {
 }
 
 /// All subcommands, in the order in which help lists them: by what they are for.
-pub(crate) const SUBCOMMANDS: [Subcommand; 22] = [
+pub(crate) const SUBCOMMANDS: [Subcommand; 23] = [
     // What looks at disks.
     // list IMAGE.. [--text] [--mixed]
     Subcommand {
@@ -122,6 +123,13 @@ pub(crate) const SUBCOMMANDS: [Subcommand; 22] = [
         about: "Stores records in a relative file, and prints those that changed",
         more: STORE,
         values: &[IMAGE, NAME, RECORD_LINES, ACCEPT_LOSS, FIELDS],
+    },
+    // put IMAGE NAME FILE --type TYPE
+    Subcommand {
+        name: "put",
+        about: "Puts a file of the host on the disk",
+        more: PUT,
+        values: &[IMAGE, NAME, FILE, FILE_TYPE],
     },
     // rename IMAGE OLD NEW
     Subcommand {

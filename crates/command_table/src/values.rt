@@ -63,6 +63,22 @@ pub(crate) const RECORD_LINES: Value = Value {
     help: "The records as `records` prints them, or /dev/stdin",
 };
 
+/// The file of the host whose bytes a new file gets.
+pub(crate) const FILE: Value = Value {
+    name: "FILE",
+    word: None,
+    count: Count::One,
+    help: "The path of the file whose bytes it gets, or /dev/stdin",
+};
+
+/// The type of a new file.
+pub(crate) const FILE_TYPE: Value = Value {
+    name: "TYPE",
+    word: Some("type"),
+    count: Count::One,
+    help: "The file's type: prg, seq or usr",
+};
+
 /// The flag of all subcommands, which may stand before the name of one too.
 pub(crate) const EXPLAIN: Value = Value {
     name: "explain",

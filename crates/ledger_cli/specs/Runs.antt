@@ -5,6 +5,7 @@ use Rattle.d64_image.specs.declared.mirror.Mirror.{Mirror}
 use Rattle.ledger_cli.specs.Making.{IsImageCopied, IsImageMade}
 use Rattle.ledger_cli.specs.Streams.{HandsSectors, IsBegun, WhyUnbegun, stream, stream_file}
 use Rattle.disk_layout.specs.declared.faults.Fault.{Fault}
+use Rattle.file_changes.specs.declared.file_type.FileType.{FileType}
 use Rattle.host_session.specs.runs.Outputs.{AppendsPart, written}
 use Rattle.shop_commands.specs.Plays.{IsUntouched}
 use Rattle.shop_commands.specs.Shops.{IsOpenRefusal}
@@ -18,9 +19,10 @@ use Rattle.ledger_jobs.specs.Ends.{Ended, EndsAs, JobEnd, as_drawn, as_job, end_
 use Rattle.ledger_jobs.specs.Keeping.{IsDryRepair, IsRepairOver}
 use Rattle.ledger_jobs.specs.Kept.{IsMakeOver, IsStoreOver}
 use Rattle.ledger_jobs.specs.Listings.{IsListingRun, as_listed}
-use Rattle.ledger_jobs.specs.Losses.{IsEndOf, IsGuarded, IsKeptEndOf, IsRepairedEndOf, IsTakingEnd}
+use Rattle.ledger_jobs.specs.Losses.{IsEditedEndOf, IsEndOf, IsGuarded, IsKeptEndOf, IsRepairedEndOf, IsTakingEnd}
 use Rattle.ledger_jobs.specs.Names.{name_bytes}
 use Rattle.ledger_jobs.specs.NewDisks.{IsNewImage}
+use Rattle.ledger_jobs.specs.Puts.{IsPutOver}
 use Rattle.shop_commands.specs.Images.{AreFreshBytes}
 use Rattle.ledger_jobs.specs.Runs.{IsPlayRun, IsReadingEnd}
 use Rattle.ledger_jobs.specs.Views.{IsViewRun, as_viewed}
@@ -31,6 +33,7 @@ use Rattle.ledger_jobs.specs.declared.jobs.Effect.TheVariants as effects
 use Rattle.ledger_jobs.specs.declared.jobs.Findings.{Findings}
 use Rattle.ledger_jobs.specs.declared.jobs.Findings.TheVariants as findings
 use Rattle.ledger_jobs.specs.declared.jobs.Loss.{Loss}
+use Rattle.ledger_jobs.specs.declared.jobs.Loss.TheVariants as losses
 use Rattle.ledger_jobs.specs.declared.jobs.Unowned.{Unowned}
 use Rattle.ledger_jobs.specs.declared.jobs.Unowned.TheVariants as unowned
 use Rattle.ledger_jobs.specs.declared.jobs.Reading.{Reading}
@@ -163,6 +166,13 @@ module _ {F : Type 0} (position : F → Option ℕ) (bytes contents : F → Opti
       (λ f left. IsEditEnd image name (IsUntouched f left old new)
       (IsDeleteOver (stream position bytes contents) told image name f left old new) end)
 
+  -- the putting of a file did
+  abbrev pub IsPut : (W → Option (List ℕ)) → (image name : List ℕ) → FileType → List ℕ → Option F → Option F → W → W
+      → JobEnd → Type 0
+  IsPut told image name kind given file after old new end = IsOverFile image file after old new end
+      (λ f left. IsGuarded image losses.Refused (IsUntouched f left old new)
+      (IsEditedEndOf (IsPutOver (stream position bytes contents) told image name kind given f left old new)) end)
+
   -- what comes of each job: its run over the bytes that it reads, and over the file that it writes
   abbrev pub IsJobRun : (W → Option (List ℕ)) → Job → (image script : List ℕ) → Option F → Option F → W → W → JobEnd
       → Type 0
@@ -197,6 +207,8 @@ module _ {F : Type 0} (position : F → Option ℕ) (bytes contents : F → Opti
       IsRenamed told image (name_bytes from) (name_bytes to) file after old new end
   IsJobRun told (jobs.Delete path name) image script file after old new end =
       IsDeleted told image (name_bytes name) file after old new end
+  IsJobRun told (jobs.Put path name source kind) image script file after old new end =
+      IsPut told image (name_bytes name) kind script file after old new end
   IsJobRun told (jobs.Store path name text c loss) image script file after old new end =
       IsStored told image (name_bytes name) script loss file after old new end
   IsJobRun told (jobs.Take what path name) image script file after old new end =

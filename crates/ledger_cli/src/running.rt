@@ -4,7 +4,7 @@ ghost use Rattle.ledger_cli.specs.Runs.{IsChecked, IsJobRun, IsRead, IsRun};
 ghost use Rattle.ledger_jobs.specs.Jobs.{IsFit};
 
 use crate::changing::{Ended, begin_disk, copy, format, make, play, repair, serve, store};
-use crate::editing::{delete, rename};
+use crate::editing::{delete, put, rename};
 use ledger_jobs::{
     Findings, Job, Reading, Refusal, comparing_run, drawing_run, drawn_end, end, job_end,
     listed_end, listing_run, reading_run, take_told, view_run, viewed_end,
@@ -68,9 +68,12 @@ fn obey<F: Write + Seek + Drop, W: Write>(
             ..
         } => make(alloc, image, name, length, loss, file, out),
         Job::Rename {
-            ref from, ref to, ..
+            ref from,
+            ref to,
+            ..
         } => rename(alloc, image, from, to, file, out),
         Job::Delete { ref name, .. } => delete(alloc, image, name, file, out),
+        Job::Put { ref name, kind, .. } => put(alloc, image, name, kind, script, file, out),
         Job::Store { ref name, loss, .. } => store(alloc, image, name, script, loss, file, out),
         Job::Take { what, ref name, .. } => {
             let ended = take_told(alloc, what, image, name.as_bytes(), out);
@@ -91,8 +94,8 @@ fn obey<F: Write + Seek + Drop, W: Write>(
 /// Does a job over the bytes of its files. Prints the job's output, reports in a line on `err` why it isn't done, and
 /// returns the exit status and the file.
 ///
-/// Bytes that the job doesn't read are empty. `image` has the bytes of IMAGE. `script` has those of SCRIPT or RECORDS,
-/// or of `serve`'s standard input. For `Compare` they have the first image and the second one. Lines with a column for
+/// Bytes that the job doesn't read are empty. `image` has the bytes of IMAGE. `script` has those of SCRIPT, RECORDS
+/// or FILE, or of `serve`'s standard input. For `Compare` they have the first image and the second one. Lines with a column for
 /// each field are made plain before the call (`plain_lines` of `keeper_commands`).
 ///
 /// `file` is IMAGE for writing, at its start, for a job that writes it, and the copy for `Copy`. If it is missing, such

@@ -22,14 +22,18 @@ module _ {F : Type 0} {G : Ghosts F} (start : KeptMirror F G) (sound : is_broken
   abbrev pub file_run : History (FileDisk G.keeps)
   file_run = in_run G.keeps start.file
 
-  pub changes_of_file : (n : ℕ) (P : Image → Type 0) → n < 1000 → Changes mirror start b n P
+  pub changes_of_run : (n : ℕ) (P : Image → Type 0) → n < 18446744073709551615 → Changes mirror start b n P
       → Changes file_run (file_disk start) (file_disk b) n P
-  changes_of_file n P few x = record {
+  changes_of_run n P few x = record {
     held = held_by_file start.file start b P x.held;
     writes =
         let taken : b.taken.n ≤ start.taken.n + n = x.writes in
         omega (arith, taken, untaken, x.held.reached.counted (omega (arith, taken, untaken, few)));
   }
+
+  pub changes_of_file : (n : ℕ) (P : Image → Type 0) → n < 1000 → Changes mirror start b n P
+      → Changes file_run (file_disk start) (file_disk b) n P
+  changes_of_file n P few x = changes_of_run n P (omega (arith, few)) x
 
   -- a file that was handed nothing is as it was
   pub same_file : WritesNothing mirror start b → (is_broken b → ⊥) → b.file ≡ start.file

@@ -19,6 +19,7 @@ pub mod Losses
 pub mod Names
 pub mod NewDisks
 pub mod Overviews
+pub mod Puts
 pub mod Runs
 pub mod Serves
 pub mod SheetPages

@@ -1,11 +1,12 @@
 -- What becomes of a disk that has lost a part of a file. All of it is our own.
 use Rattle.std.specs.Prelude.{◌≡◌, ◌⊎◌, List, ℕ, Option, Some, None, Result, Ok, Err, length}
 use Rattle.d64_image.specs.declared.place.Place.{Place}
+use Rattle.change_commands.specs.declared.faults.EditFault.{EditFault}
 use Rattle.cut_files.specs.Told.{IsCutShort, IsToldOfImage}
 use Rattle.keeper_commands.specs.declared.faults.KeepFault.{KeepFault}
 use Rattle.shop_commands.specs.declared.faults.RunFault.{RunFault}
 use Rattle.shop_commands.specs.declared.faults.RunFault.TheVariants as run
-use Rattle.ledger_jobs.specs.Ends.{JobEnd, as_job, as_kept, as_repaired, end_of, Ended}
+use Rattle.ledger_jobs.specs.Ends.{JobEnd, as_edited, as_job, as_kept, as_repaired, end_of, Ended}
 use Rattle.ledger_jobs.specs.Keeping.{IsTakingRun}
 use Rattle.ledger_jobs.specs.declared.jobs.Loss.{Loss}
 use Rattle.ledger_jobs.specs.declared.jobs.Loss.TheVariants as losses
@@ -51,6 +52,10 @@ IsEndOfRun IsRun end = (ended : Result Unit RunFault) × (end ≡ as_job (end_of
 -- a run over the files of an image that ended so is reported as this end
 abbrev pub IsKeptEndOf : (Result Unit KeepFault → Type 0) → JobEnd → Type 0
 IsKeptEndOf IsRun end = (ended : Result Unit KeepFault) × (end ≡ as_kept ended) × IsRun ended
+
+-- a change to the files of an image that ended so is reported as this end
+abbrev pub IsEditedEndOf : (Result Unit EditFault → Type 0) → JobEnd → Type 0
+IsEditedEndOf IsRun end = (ended : Result Unit EditFault) × (end ≡ as_edited ended) × IsRun ended
 
 -- a repair that ended so is reported as this end
 abbrev pub IsRepairedEndOf : (Result ℕ KeepFault → Type 0) → JobEnd → Type 0

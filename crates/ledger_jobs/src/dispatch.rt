@@ -21,6 +21,7 @@ use crate::new_disks::do_new;
 use crate::outcomes::{drawn_end, job_end, told};
 use crate::overviews::do_several;
 use crate::playing_logs::do_logged_playing;
+use crate::putting::do_put;
 use crate::readings::{do_reading, image_at};
 use crate::refusals::Refusal;
 use crate::serving_images::do_serving;
@@ -126,9 +127,9 @@ where
 /// `InUse` if another program has the image; `Log` if its log gives no image; `File` if a file couldn't be opened or
 /// read. The other faults are those of `reading_run`, `format_image`, `new_run`, `play_durably`, `play_logged`,
 /// `serve_guarded`, `serve_logged_guarded`, `copy_run`, `repair_guarded`, `make_guarded`, `rename_guarded`,
-/// `delete_guarded`, `store_guarded`, `take_told`, `extract_run`, `listing_run`, `drawing_run`, `comparing_run` and
-/// `view_run`. `Trim` ends with `File`, since it reports on standard error: call `do_trim`. What is wrong with one of
-/// several images is printed; only a failed output ends the job before the last of them.
+/// `delete_guarded`, `put_guarded`, `store_guarded`, `take_told`, `extract_run`, `listing_run`, `drawing_run`,
+/// `comparing_run` and `view_run`. `Trim` ends with `File`, since it reports on standard error: call `do_trim`. What is
+/// wrong with one of several images is printed; only a failed output ends the job before the last of them.
 pub fn do_job<F, R, W>(rt: &R, job: &Job<'_>, out: &mut W) -> Result<Option<Fault>, Refusal>
 where
     F: EndedFile + Read + Locks + OpenFile + Drop,
@@ -185,6 +186,12 @@ where
             ref to,
         } => do_rename(rt, image, from, to, out),
         Job::Delete { image, ref name } => do_delete(rt, image, name, out),
+        Job::Put {
+            image,
+            ref name,
+            file,
+            kind,
+        } => do_put(rt, image, name, file, kind, out),
         Job::Store {
             image,
             ref name,

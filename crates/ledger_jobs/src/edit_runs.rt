@@ -1,12 +1,14 @@
-//! A file renamed or deleted on the disk of an image, over the image's bytes and its file.
-ghost use Rattle.std.specs.Prelude.{◌≤◌, length};
+//! A file renamed, deleted or put on the disk of an image, over the image's bytes and its file.
+ghost use Rattle.std.specs.Prelude.{◌≡◌, ◌<◌, ◌≤◌, length};
 ghost use Rattle.d64_image.specs.Keeps.{Agrees};
 ghost use Rattle.d64_image.specs.Memory.{sectors_in};
 ghost use Rattle.ledger_jobs.specs.Edited.{IsDeleteOver, IsRenameOver};
+ghost use Rattle.ledger_jobs.specs.Puts.{IsPutOver};
 
 use crate::keeper_runs::file_of;
-use change_commands::{EditFault, delete_image, load, rename_image};
+use change_commands::{EditFault, delete_image, load, put_image, rename_image};
 use d64_image::{KeptMirror, SectorFile};
+use file_changes::FileType;
 use std::alloc::Global;
 use std::io::Write;
 
@@ -59,5 +61,43 @@ pub fn delete_run<F: SectorFile, W: Write>(
     };
     let mut mirror = KeptMirror::new(file, disk);
     let ended = delete_image(alloc, image, name, &mut mirror, out);
+    file_of(mirror, ended, EditFault::Device)
+}
+
+/// How many bytes these are. As of each slice the number has 64 bits.
+fn count_of(bytes: &[u8]) -> usize
+    ensures value { result ≡ length bytes.now }
+    ensures fits { length bytes.now < 18446744073709551616 }
+{
+    bytes.len()
+}
+
+/// Puts a new file of this name, type and data on the clean disk of the image that the file keeps, prints `PUT`, and hands
+/// the file back. Each sector is handed to the file before memory takes it.
+///
+/// `FileExists`, `DiskFull` and what is wrong with the image leave file and output as they were. `Device` if the file
+/// failed: the new file is there, whole, or not. `File` if the output failed: the new file is there.
+pub fn put_run<F: SectorFile, W: Write>(
+    alloc: Global,
+    image: &[u8],
+    name: &[u8],
+    kind: FileType,
+    data: &[u8],
+    file: F,
+    out: &mut W,
+) -> (F, Result<(), EditFault>)
+    requires name { length name.now ≤ 16 }
+    // if it is known what the file keeps, it is this image
+    requires agrees { Agrees (F.keeps.kept file) (sectors_in image.now) }
+    ensures run { IsPutOver F.keeps W.contents image.now name.now kind data.now file result.0 out.old out.new result.1 }
+{
+    let disk = match load(alloc, image) {
+        Ok(disk) => disk,
+        Err(fault) => return (file, Err(fault)),
+    };
+    // so that its sectors can be counted
+    let _ = count_of(data);
+    let mut mirror = KeptMirror::new(file, disk);
+    let ended = put_image(alloc, image, name, kind, data, &mut mirror, out);
     file_of(mirror, ended, EditFault::Device)
 }

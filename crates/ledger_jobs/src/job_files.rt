@@ -14,7 +14,7 @@ pub(crate) fn image_of<'a>(job: &Job<'a>) -> &'a str {
         Job::PlayLogged { image, .. } | Job::Serve { image, .. } => image,
         Job::Repair { image, .. } | Job::Take { image, .. } | Job::Draw { image, .. } => image,
         Job::Extract { image, .. } | Job::Rename { image, .. } | Job::Delete { image, .. } => image,
-        Job::View { image, .. } | Job::Trim { image } => image,
+        Job::View { image, .. } | Job::Trim { image } | Job::Put { image, .. } => image,
         Job::Make { image, .. } | Job::Store { image, .. } | Job::Copy { image, .. } => image,
         Job::Several { images, .. } | Job::Sheet { images } | Job::Describe { images } => {
             images.first().copied().unwrap_or("")
@@ -39,6 +39,7 @@ fn second_of<'a>(job: &Job<'a>) -> Option<&'a str> {
     match job {
         Job::Compare { after, .. } => Some(after),
         Job::Copy { copy, .. } => Some(copy),
+        Job::Put { file, .. } => Some(file),
         Job::Extract { folder, .. } => Some(folder),
         _ => text_of(job),
     }

@@ -1,6 +1,7 @@
 //! What the program can be asked to do.
 use crate::names::Name;
 use d64_image::Place;
+use file_changes::FileType;
 use keeper_commands::{ByteForm, RecordForm};
 use shop_commands::{Durability, NameForm};
 
@@ -254,6 +255,17 @@ pub enum Job<'a> {
         image: &'a str,
         /// The name of the file.
         name: Name,
+    },
+    /// A new file on the disk of an image, with the bytes of a file of the host.
+    Put {
+        /// The image's path.
+        image: &'a str,
+        /// The name of the new file, which a new file can have. The caller that makes a job ensures that.
+        name: Name,
+        /// The path of the file whose bytes it gets.
+        file: &'a str,
+        /// The type of the new file.
+        kind: FileType,
     },
     /// Records from the lines of a text, stored in a relative file of an image.
     Store {

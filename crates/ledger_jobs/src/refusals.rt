@@ -18,7 +18,7 @@ pub enum Refusal {
     Run(RunFault),
     /// A fault in a job over the files of an image.
     Keep(KeepFault),
-    /// A fault in a job that renames or deletes a file of an image.
+    /// A fault in a job that renames or deletes a file of an image, or puts one there.
     Edit(EditFault),
     /// A fault in a job that draws an image.
     Draw(PictureFault),

@@ -2,7 +2,7 @@
 use test_runtime::Stored;
 
 /// Changes of an image: a name, the place of the bytes, and the bytes.
-const HURTS: [(&[u8], u64, &[u8]); 21] = [
+const HURTS: [(&[u8], u64, &[u8]); 24] = [
     // 17/0 links to itself.
     (b"LOOP", 86016, b"\x11\x00"),
     // Track 1 has a free sector too few in the map at 18/0.
@@ -26,6 +26,15 @@ const HURTS: [(&[u8], u64, &[u8]); 21] = [
     (b"CARDS GONE", 91714, b"\0"),
     (b"CARDS LOCKED", 91714, b"\xC4"),
     (b"CARDS FREED", 91460, b"\x11\xF0\xFF\x1F"),
+    // The file HI of two bytes: its sector 17/4, whose last byte in use is byte 3; track 17 of the map without that sector,
+    // and with 16 free ones; and its entry of one block, the third one.
+    (b"HI IN 17/4", 87040, b"\x00\x03HI"),
+    (b"17/4 TAKEN", 91460, b"\x10\xE0\xFF\x1F"),
+    (
+        b"HI LISTED",
+        91714,
+        b"\x82\x11\x04HI\xA0\xA0\xA0\xA0\xA0\xA0\xA0\xA0\xA0\xA0\xA0\xA0\xA0\xA0\0\0\0\0\0\0\0\0\0\x01\0",
+    ),
     // 17/0, the only block of STOCK, with zeros alone.
     (b"STOCK LOST", 86016, &[0; 256]),
     (b"STICK FOR STOCK", 91653, b"STICK"),

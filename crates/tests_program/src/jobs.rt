@@ -1,6 +1,7 @@
 //! The job that words ask for, printed in a line.
 use crate::runs::texts_of;
 use command_line::command_line;
+use file_changes::FileType;
 use keeper_commands::{ByteForm, RecordForm};
 use ledger_cli::{Job, job};
 use ledger_jobs::{
@@ -20,6 +21,15 @@ type Row<'a> = (&'a str, &'a str, &'a str, u8);
 /// How many bytes a name has.
 fn bytes_of(name: &Name) -> u8 {
     name.as_bytes().len().min(255) as u8
+}
+
+/// The subcommand and the type of a file that is put on a disk.
+fn put_as(kind: FileType) -> &'static str {
+    match kind {
+        FileType::Prg => "put prg",
+        FileType::Seq => "put seq",
+        FileType::Usr => "put usr",
+    }
 }
 
 /// The row of a job.
@@ -63,6 +73,12 @@ fn row_of<'a>(job: &Job<'a>) -> Row<'a> {
             ..
         } => ("rename", image, "", bytes_of(from)),
         Job::Delete { image, ref name } => ("delete", image, "", bytes_of(name)),
+        Job::Put {
+            image,
+            ref name,
+            file,
+            kind,
+        } => (put_as(kind), image, file, bytes_of(name)),
         Job::Store {
             image,
             ref name,

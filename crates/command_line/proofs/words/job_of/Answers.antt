@@ -11,7 +11,7 @@ use Rattle.command_line.specs.Jobs.{IsJob, IsNoJob}
 use Rattle.command_line.specs.Flags.{is_given}
 use Rattle.command_line.specs.Numbers.{spelled_place}
 use Rattle.command_line.proofs.Pictures.{picturing-met}
-use Rattle.command_line.proofs.Named.{making-met, named-met, new-met, renaming-met, storing-met}
+use Rattle.command_line.proofs.Named.{making-met, named-met, new-met, putting-met, renaming-met, storing-met}
 use Rattle.command_line.proofs.Parses.{format-fit, format-met, met-has, met-is, play-met}
 use Rattle.command_line.proofs.Views.{checking-met, viewing-met}
 use Rattle.command_line.proofs.words.job_of.Goals as goal
@@ -140,6 +140,13 @@ returns-in-store c =
     let is = met-is c.parsed_subcommand.result _ c.in-Some.name c.in-Some.found _ c.parsed_subcommand.ensures c.in-Some.is c.in-store.is in
     let met = storing-met _ (rows_of (found_of c.in-Some.found.now)) c.value_of-image.result c.storing.result is c.value_of-image.ensures
     c.storing.ensures in
+    record { job = met.0; fit = met.1 }
+
+pub returns-in-put : goal.returns-in-put
+returns-in-put c =
+    let is = met-is c.parsed_subcommand.result _ c.in-Some.name c.in-Some.found _ c.parsed_subcommand.ensures c.in-Some.is c.in-put.is in
+    let met = putting-met _ (rows_of (found_of c.in-Some.found.now)) c.value_of-image.result c.putting.result is c.value_of-image.ensures
+    c.putting.ensures in
     record { job = met.0; fit = met.1 }
 
 pub returns-in-rename : goal.returns-in-rename

@@ -30,6 +30,6 @@ returns c =
     let at = c.loop-subcommand in
     let within = at.auto.subcommand-index-end in
     let past = c.loop-subcommand-test.false in
-    let all : at.subcommand-index ≡ 22 = omega arith in
+    let all : at.subcommand-index ≡ 23 = omega arith in
     let done = all_rows _ _ _ _ all at.invariant in
     done

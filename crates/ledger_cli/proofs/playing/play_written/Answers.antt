@@ -8,7 +8,7 @@ use Rattle.ledger_cli.proofs.playing.play_written.Goals as goal
 pub returns-in-Ok : goal.returns-in-Ok
 returns-in-Ok g c =
     let run : IsPlayRun g.F.SectorFile.keeps (written g.W.Write.contents) c.args.image.now c.args.script.now c.args.file
-        c.in-Ok.file c.args.out.now c.play_over.new.out (Ok None) = record { done = (refl, c.in-Ok.ensures.ok); fault = tt } in
+    c.in-Ok.file c.args.out.now c.play_over.new.out (Ok None) = record { done = (refl, c.in-Ok.ensures.ok); fault = tt } in
     record {
       run = run;
       reached = λ s is. played_reached g.F.SectorFile.keeps _ _ _ _ _ _ _ s is (Ok None) run;
@@ -17,8 +17,8 @@ returns-in-Ok g c =
 pub returns-in-Err : goal.returns-in-Err
 returns-in-Err g c =
     let run : IsPlayRun g.F.SectorFile.keeps (written g.W.Write.contents) c.args.image.now c.args.script.now c.args.file
-        c.in-Err.file c.args.out.now c.play_over.new.out (Err c.in-Err.fault) =
-        record { done = tt; fault = c.in-Err.ensures.err } in
+    c.in-Err.file c.args.out.now c.play_over.new.out (Err c.in-Err.fault) =
+    record { done = tt; fault = c.in-Err.ensures.err } in
     record {
       run = run;
       reached = λ s is. played_reached g.F.SectorFile.keeps _ _ _ _ _ _ _ s is (Err _) run;
