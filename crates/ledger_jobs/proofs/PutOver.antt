@@ -109,7 +109,7 @@ module _ {F : Type 0} {G : Ghosts F} (start : KeptMirror F G) (sound : is_broken
       clean = x.clean;
       moments = changes_weaker mirror start b 0 (sectors_for (length (stored bytes)) + 3) _ _ (omega arith) (λ c p. p)
           (no_write_change mirror start b (IsPutting (mirror_image start) x.layout name kind (stored bytes)) x.quiet
-          (inl (record { layout = x.clean.layout; files = refl; header = refl })));
+          (inl (record { layout = x.clean.layout; files = refl; header = refl }), λ w. w));
     }
 
     -- whatever a run over a mirror that broke ended with, it was one, and nothing was printed

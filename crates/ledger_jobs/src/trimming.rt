@@ -1,6 +1,6 @@
 //! Tracks 1 to 35 of an image of another size, over its bytes and over its file.
 ghost use Rattle.std.specs.Prelude.{◌≡◌};
-ghost use Rattle.ledger_jobs.specs.Overviews.{EndsAs};
+ghost use Rattle.ledger_jobs.specs.Ends.{EndsAs};
 ghost use Rattle.ledger_jobs.specs.Trims.{IsTrimRun, as_trimmed};
 
 use crate::files::STANDARD_INPUT;
