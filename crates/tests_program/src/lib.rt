@@ -43,6 +43,7 @@ mod logged_play_rows;
 mod moved_rows;
 #[cfg(test)]
 mod output_rows;
+#[cfg(test)]
 mod put_rows;
 #[cfg(test)]
 mod refusal_rows;
