@@ -262,7 +262,8 @@ def fits(printed, told):
 def see_steps(program, folder):
     """Runs each command of the guide, in order; gives how many there are."""
     disks.with_map_wrong(folder / "customers.d64").save(folder / "hurt.d64")
-    disks.call("cc1541", "-q", "-n", "new", folder / "new.d64")
+    # a program's load address and its end
+    (folder / "game.prg").write_bytes(b"\x01\x08\x00\x00")
     for command, told in steps():
         words = shlex.split(command)
         to_file = ">" in words
