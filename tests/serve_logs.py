@@ -45,10 +45,11 @@ class Logs:
         self.shop = None
 
     def fresh(self):
-        """A new shop; what stood there is gone."""
+        """A new shop beside a file CARDS; what stood there is gone."""
         for path in self.folder.iterdir():
             path.unlink()
         sure(self.program, "format", self.image, "--tills", TILLS)
+        sure(self.program, "make", self.image, "CARDS", "--length", 30)
         top = int(sure(self.program, "show", self.image)[0].removeprefix("TOP "))
         self.shop = Shop(TILLS, top)
 
@@ -60,8 +61,8 @@ class Logs:
         """The words that write an image, and what follows it; `format` last, which changes it."""
         empty = script(self.folder, [])
         return [["serve"], ["serve", "--in-place"], ["serve", "--unsynced"], ["play", empty], ["play", empty, "--sync"],
-                ["play", empty, "--log"], ["repair"], ["make", "CARDS", "--length", 30], ["store", "STOCK", empty],
-                ["put", "TEXT", empty, "--type", "seq"], ["rename", "CARDS", "NOTES"], ["delete", "NOTES"], ["format", "--tills", 4]]
+                ["play", empty, "--log"], ["repair"], ["make", "MORE", "--length", 30], ["store", "STOCK", empty],
+                ["put", "TEXT", empty, "--type", "seq"], ["rename", "CARDS", "NOTES"], ["delete", "CARDS"], ["format", "--tills", 4]]
 
     def line(self):
         """A next request of a till, a repeat, or a line that is none."""
