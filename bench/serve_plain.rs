@@ -101,6 +101,9 @@ fn serve(image: &str, syncs: bool) {
     let mut line = Vec::with_capacity(KEPT + 2);
     while read_line(&mut input, &mut line) {
         play_line(&mut shop, &line, 0, &mut out);
+        if std::fs::metadata(image).is_err() {
+            refuse("DEVICE");
+        }
         out.flush();
         let _ = out.inner.flush();
     }
