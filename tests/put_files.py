@@ -1,0 +1,107 @@
+#!/usr/bin/env python3
+"""Puts files of the host on disks, and reads them back by another program (Debian's package cbmconvert):
+
+    tests/put_files.py PROGRAM [DISKS] [SEED]
+
+PROGRAM is what `tools/program` prints. A disk gets files of 0 to 20,000 bytes and of each type until one is refused as `DISK FULL`.
+Some of them are renamed or deleted on the way. After each word `check` prints OK, and the number of free blocks is the one that the
+files leave. At the end `cbmconvert` takes the files out, and `bytes` prints each: both have the bytes that were put. The first
+difference ends the script with status 1."""
+
+import random
+import subprocess
+import sys
+import tempfile
+from pathlib import Path
+
+TYPES = ("prg", "seq", "usr")
+SIZES = (0, 1, 253, 254, 255, 508, 509, 20_000)
+
+
+def want(holds, what):
+    if not holds:
+        print(f"put_files: {what}")
+        sys.exit(1)
+
+
+def blocks_of(data):
+    """How many blocks a file has: 254 bytes lie in each, and an empty file has one byte."""
+    return max(1, -(-len(data) // 254))
+
+
+class Disk:
+    """A disk, and the files that it has to have."""
+
+    def __init__(self, program, folder, draw):
+        self.program, self.folder, self.draw = program, folder, draw
+        self.image, self.files, self.words = folder / "disk.d64", {}, 0
+        want(self.run("new", "--name", "PUT", "--id", "26") == (0, b"FORMATTED\n", b""), "new")
+
+    def run(self, word, *rest):
+        self.words += 1
+        done = subprocess.run([self.program, word, self.image, *rest], capture_output=True, timeout=60)
+        return done.returncode, done.stdout, done.stderr
+
+    def see(self, what):
+        """Checks the disk, and how many blocks are free."""
+        want(self.run("check") == (0, b"OK\n", b""), f"{what}: check isn't OK")
+        free = 664 - sum(blocks_of(data) for _, data in self.files.values())
+        want(self.run("list")[1].endswith(f"{free} BLOCKS FREE\n".encode()), f"{what}: {free} blocks aren't free")
+
+    def put(self, name):
+        """Puts a file; false if the disk has no room for it."""
+        kind = self.draw.choice(TYPES)
+        data = self.draw.randbytes(self.draw.choice([*SIZES, self.draw.randint(0, 20_000)]))
+        source = self.folder / "source"
+        source.write_bytes(data)
+        got = self.run("put", name, source, "--type", kind)
+        free = 664 - sum(blocks_of(it) for _, it in self.files.values())
+        if blocks_of(data) > free:
+            want(got == (1, b"", b"DISK FULL\n"), f"{name} of {len(data)} bytes on {free} blocks: {got}")
+            return False
+        want(got == (0, b"PUT\n", b""), f"{name} of {len(data)} bytes: {got}")
+        self.files[name] = (kind, data or b"\r")
+        self.see(f"put {name}")
+        return True
+
+    def change(self):
+        """Renames or deletes one of the files."""
+        name = self.draw.choice(sorted(self.files))
+        other = name.removeprefix("NEW ") if name.startswith("NEW ") else f"NEW {name}"
+        if self.draw.random() < 0.5:
+            want(self.run("rename", name, other) == (0, b"RENAMED\n", b""), f"rename {name}")
+            self.files[other] = self.files.pop(name)
+        else:
+            want(self.run("delete", name) == (0, b"DELETED\n", b""), f"delete {name}")
+            del self.files[name]
+        self.see(f"a change of {name}")
+
+    def read_back(self):
+        """Compares what `bytes` prints and what cbmconvert takes out."""
+        out = self.folder / "out"
+        out.mkdir()
+        subprocess.run(["cbmconvert", "-N", "-d", self.image], cwd=out, check=True, capture_output=True, timeout=60)
+        taken = {path.name.lower(): path.read_bytes() for path in out.iterdir()}
+        for name, (kind, data) in self.files.items():
+            want(self.run("bytes", name) == (0, data, b""), f"bytes prints another {name}")
+            want(taken.get(f"{name}.{kind}".lower()) == data, f"cbmconvert reads another {name}.{kind}: {sorted(taken)[:4]}")
+
+
+def main(program, disks=20, seed=1):
+    draw, files, words = random.Random(int(seed)), 0, 0
+    for _ in range(int(disks)):
+        with tempfile.TemporaryDirectory() as folder:
+            disk, number = Disk(str(Path(program).resolve()), Path(folder), draw), 1
+            while disk.put(f"FILE {number}"):
+                number += 1
+                if draw.random() < 0.2:
+                    disk.change()
+            disk.read_back()
+            files, words = files + number - 1, words + disk.words
+    print(f"put_files: {disks} disks filled with {files} files by {words} words, read back by cbmconvert: no difference")
+
+
+if __name__ == "__main__":
+    if len(sys.argv) < 2:
+        sys.exit(__doc__)
+    main(*sys.argv[1:])
