@@ -1,17 +1,17 @@
 #!/usr/bin/env python3
-"""Kills the built program while it repairs a disk, stores records, and makes, renames and deletes files, and looks at what
-it left:
+"""Kills the built program while it repairs a disk, stores records, and makes, puts, renames and deletes files, and looks at
+what it left:
 
     tests/keepers_kill.py PROGRAM [KILLS] [SEED] [FOLDER]
 
 PROGRAM is what `tools/program` prints. It is killed (SIGKILL) at random moments, a
-quarter of KILLS each in `repair --free`, in `store`, in `make`, and in `rename` or `delete`, on a disk with other files;
+quarter of KILLS each in `repair --free`, in `store`, in `make`, and in `put`, `rename` or `delete`, on a disk with other files;
 images lie in FOLDER (/var/tmp), which has to be on a disk, so that each sync takes its time. After each kill
 - `check` says OK, or `repair --free` makes it so, and is killed some times itself before; nobody is told IN USE. The disk
   to repair has side sectors that list more blocks than there are, so it is repaired with `--accept-loss`;
 - all other files are as they were, byte for byte;
 - `repair`: each sector is the old one or the mended one; `make`: the file isn't there, or has empty records;
-- `rename`: the file has the old name or the new one, and its records; `delete`: it is there with its records, or isn't;
+- `rename`: the file has the old name or the new one, and its records; `put` and `delete`: it is there whole, or isn't;
 - `store`: the records are those of before, grown by empty ones at the most, or some first lines are stored and the next
   record is the old one, the new one, or across two sectors in its first part the new one; what was printed is the
   beginning of the lines that change something, none of which isn't stored;
@@ -278,7 +278,7 @@ class Makes(Killer):
 
 
 class Edits(Killer):
-    """A relative file that is renamed or deleted."""
+    """A relative file that is renamed or deleted, or a program that is put."""
 
     def begin(self):
         disks = Disks(self.program, self.folder, self.draw)
@@ -286,13 +286,17 @@ class Edits(Killer):
         length = self.draw.randint(1, 254)
         disks.relative(self.image, NAME, length, [disks.record(length) for _ in range(self.draw.randint(1, 200))])
         self.before = self.held()
-        renamed = self.draw.random() < 0.5
-        self.words = ["rename", self.image, NAME, "RENAMED"] if renamed else ["delete", self.image, NAME]
-        self.said = "RENAMED" if renamed else "DELETED"
+        source = self.folder / "source"
+        source.write_bytes(self.draw.randbytes(self.draw.randint(1, 20_000)))
+        self.words, self.said, self.refusal, new, more = self.draw.choice([
+            (["rename", self.image, NAME, "RENAMED"], "RENAMED", "NO FILE", "RENAMED", 0),
+            (["delete", self.image, NAME], "DELETED", "NO FILE", NAME, -1),
+            (["put", self.image, "GAME", source, "--type", "prg"], "PUT", "FILE EXISTS", "GAME", 1)])
         _, self.seconds = self.timed(*self.words)
         self.right = self.held()
-        want(without(self.right, "RENAMED") == without(self.before, NAME), "another file was changed")
-        want(len(self.right.files()) == len(self.before.files()) - (not renamed), "the file wasn't changed")
+        old = self.before.files() if more == 1 else without(self.before, NAME)
+        want(without(self.right, new) == old, "another file was changed")
+        want(len(self.right.files()) == len(self.before.files()) + more, "the file wasn't changed")
 
     def state(self):
         """Whether the change is made; each file is as it was."""
@@ -311,7 +315,7 @@ class Edits(Killer):
         self.heal(self.seconds)
         want(self.state() == done, "a repair made the change, or took it back")
         ended = run(self.program, *self.words)
-        want(ended == ((1, [], "NO FILE") if done else (0, [self.said], "")), f"again: {ended}")
+        want(ended == ((1, [], self.refusal) if done else (0, [self.said], "")), f"again: {ended}")
         want(self.state(), "again, the files aren't those of a run without a kill")
         want(sure(self.program, "check", self.image) == ["OK"], "check isn't OK at the end")
 
