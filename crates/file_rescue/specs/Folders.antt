@@ -6,6 +6,7 @@ pub record NewFile : Type 0 where
   pub name : List ℕ
   pub bytes : List ℕ
 
+-- the file of this name and these bytes
 abbrev pub new_file : List ℕ → List ℕ → NewFile
 new_file name bytes = record { name = name; bytes = bytes }
 

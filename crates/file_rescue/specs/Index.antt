@@ -19,10 +19,11 @@ use Rattle.file_rescue.specs.declared.rows.Row.{Row}
 abbrev pub heading : List ℕ
 heading = codes "number,file,name,text,type,closed,locked,blocks,found,length,bytes,fault,shared\n"
 
--- bit 7 of a type byte says that the file is closed, bit 6 that it is locked
+-- whether the file is closed: bit 7 of its type byte
 abbrev pub closed_text : ℕ → List ℕ
 closed_text t = if nat_lt t 128 then codes "no" else codes "yes"
 
+-- whether it is locked: bit 6
 abbrev pub locked_text : ℕ → List ℕ
 locked_text t = if nat_eq (bit_at t 6) 1 then codes "yes" else codes "no"
 
@@ -30,11 +31,12 @@ locked_text t = if nat_eq (bit_at t 6) 1 then codes "yes" else codes "no"
 abbrev pub length_text : ℕ → ℕ → List ℕ
 length_text t length = if nat_eq (t % 16) 4 then decimal length else []
 
--- what ended the file's chain before its end, and the first of its blocks that several have; nothing otherwise
+-- what ended the file's chain before its end; nothing otherwise
 abbrev pub ended_text : Option Fault → List ℕ
 ended_text None = []
 ended_text (Some fault) = fault_text fault
 
+-- the first block of the file that several have; nothing otherwise
 abbrev pub shared_text : Option Place → List ℕ
 shared_text None = []
 shared_text (Some p) = place_text p

@@ -43,15 +43,16 @@ pub record AreRescued (img : Image) (slots : List Slot) (files : List Rescued) :
 abbrev pub bytes_in : Image → Rescued → List ℕ
 bytes_in img f = file_bytes img f.blocks.items f.last
 
--- The files that are made of entry n: one with its bytes, as 03-MEMBERS.rel; and if it has records, one with their lines,
--- as 03-MEMBERS.csv. The side sectors aren't needed for these.
+-- the file of these bytes that is made of entry n, with the ending: 03-MEMBERS.rel
 abbrev pub entry_file : ℕ → Rescued → Ending → List ℕ → NewFile
 entry_file n f ending bytes = new_file (file_name_of n (name_of f.slot) ending) bytes
 
+-- the one with the lines of its records, if they have a length: 03-MEMBERS.csv. The side sectors aren't needed for them
 abbrev pub line_files : ℕ → Rescued → List ℕ → Option ℕ → List NewFile
 line_files n f bytes None = []
 line_files n f bytes (Some L) = entry_file n f Records (records_text (records_of L bytes)) ∷ []
 
+-- all files that are made of entry n: one with its bytes, and one with its records
 unfoldable pub files_of : Image → ℕ → Rescued → List NewFile
 files_of img n f =
     entry_file n f (ending_of (type_byte f.slot)) (bytes_in img f)
@@ -87,10 +88,11 @@ index_of_files img directory files =
 abbrev pub all_files : Image → List Place → List Rescued → List NewFile
 all_files img directory files = files_from img 1 files ++ index_of_files img directory files ∷ []
 
--- why a file isn't whole: its chain has a fault; or it has a block that others have too; or it isn't closed
+-- the fault of an entry that isn't closed
 abbrev pub unclosed : Slot → Option Fault
 unclosed s = if nat_lt (type_byte s) 128 then Some (Unclosed s.sector) else None
 
+-- why a file isn't whole: its chain has a fault; or it has a block that others have too; or it isn't closed
 abbrev pub fault_of : Row → Option Fault
 fault_of r = option_or r.fault (option_or (shared_fault r.shared) (unclosed r.slot))
 
