@@ -19,6 +19,8 @@ import sys
 import tempfile
 from pathlib import Path
 
+from commands import CHANGES, COMMANDS, COPY, IMAGE, LOOKS, command, scene
+
 LIBRARY = r"""
 #include <fcntl.h>
 #include <stddef.h>
@@ -45,12 +47,10 @@ void *malloc(size_t size) { return refused() ? NULL : __libc_malloc(size); }
 void *realloc(void *old, size_t size) { return refused() ? NULL : __libc_realloc(old, size); }
 """
 
-SCRIPT = b"1,1,S,15,7\n1,1,S,15,7\n@3 1,2,S,30,4\n1,2,S,30,4\n2,1,M,15,3,30\n2,2,I,15,9\nhello\n"
-LINES = SCRIPT.replace(b"@3 ", b"")
-# records of a file CARDS: one that is there, one behind three blocks of growth, and one as a spreadsheet writes it
+DAY = b"1,1,S,15,7\n1,1,S,15,7\n@3 1,2,S,30,4\n1,2,S,30,4\n2,1,M,15,3,30\n2,2,I,15,9\nhello\n"
+LINES = DAY.replace(b"@3 ", b"")
+# records of a file NOTES: one that is there, one behind three blocks of growth, and one as a spreadsheet writes it
 RECORDS = b"1,\"MILK\\0d\"\n30,\"\\ffx\"\n2,EGGS\r\n"
-IMAGE = "shop.d64"
-NEW = "new.d64"
 MOST = 5000
 
 
@@ -100,6 +100,13 @@ class Trial:
         print(f"{words}: more than {MOST} requests for memory")
         sys.exit(1)
 
+    def sure(self, *words):
+        """Runs words that have to end with status 0."""
+        said, _ = self.run(words)
+        if said[0] != 0:
+            print(f"{words}: {said}")
+            sys.exit(1)
+
 
 def no_memory(said, same):
     return said == (3, b"", b"NO MEMORY\n") and same
@@ -115,43 +122,28 @@ def no_memory_for_a_day(said, same):
 
 
 class Disks:
-    """The images on which the words are run; each is made once."""
+    """The files on which the commands are run; each image is made once."""
 
     def __init__(self, trial, program):
         self.trial, self.program, self.made = trial, program, {}
 
-    def run(self, *words):
-        said, _ = self.trial.run([self.program, *words])
-        if said[0] != 0:
-            print(f"{words}: {said}")
-            sys.exit(1)
-
     def put(self, name, make):
-        """The image of this name, made by these words where it wasn't yet, with no log beside it."""
+        """The image of this name, made where it wasn't yet, with no log beside it and nothing that a command made."""
         image = self.trial.folder / IMAGE
         for log in self.trial.folder.glob(IMAGE + "-log*"):
             log.unlink()
         if name not in self.made:
-            image.unlink(missing_ok=True)
             make()
             self.made[name] = image.read_bytes()
         image.write_bytes(self.made[name])
 
-    def blank(self):
-        """A shop for two tills."""
-        self.put("blank", lambda: self.run("format", IMAGE, "--tills", "2"))
+    def scene(self):
+        """A shop for two tills, with an empty file NOTES."""
+        self.put("scene", lambda: None)
 
     def played(self):
         """The shop after a short day."""
-        self.put("played", lambda: (self.blank(), self.run("play", IMAGE, "script")))
-
-    def carded(self):
-        """A shop with an empty file CARDS."""
-        self.put("carded", lambda: (self.blank(), self.run("make", IMAGE, "CARDS", "--length", "30")))
-
-    def gone(self):
-        """No image where a new one is made."""
-        (self.trial.folder / NEW).unlink(missing_ok=True)
+        self.put("played", lambda: (self.scene(), self.trial.sure(self.program, "play", IMAGE, "day")))
 
     def wrong(self):
         """The shop after the day, with wrong counts of free sectors and of a file's blocks."""
@@ -168,33 +160,16 @@ MAP, DIRECTORY = 357 * 256, 358 * 256
 
 
 def lines_of(disks):
-    """Each word with its arguments, its image, what it reads, and its status."""
-    return [
-        (["check", IMAGE], disks.played, b"", 0),
-        (["list", IMAGE], disks.played, b"", 0),
-        (["dry", "lines"], disks.played, b"", 0),
-        (["format", IMAGE, "--tills", "3"], disks.played, b"", 0),
-        (["show", IMAGE], disks.played, b"", 0),
-        (["play", IMAGE, "script"], disks.blank, b"", 0),
-        (["play", IMAGE, "script", "--sync"], disks.blank, b"", 0),
-        (["serve", IMAGE], disks.blank, LINES, 0),
-        (["repair", IMAGE], disks.wrong, b"", 0),
-        (["records", IMAGE, "STOCK"], disks.played, b"", 0),
-        (["bytes", IMAGE, "STOCK"], disks.played, b"", 0),
-        (["make", IMAGE, "CARDS", "--length", "30"], disks.blank, b"", 0),
-        (["store", IMAGE, "CARDS", "records"], disks.carded, b"", 0),
-        (["put", IMAGE, "LINES", "records", "--type", "seq"], disks.blank, b"", 0),
-        (["rename", IMAGE, "CARDS", "NOTES"], disks.carded, b"", 0),
-        (["delete", IMAGE, "CARDS"], disks.carded, b"", 0),
-        (["new", NEW, "--name", "TOOLS", "--id", "01"], disks.gone, b"", 0),
-        (["map", IMAGE], disks.played, b"", 0),
-        (["free", IMAGE], disks.played, b"", 0),
-        (["sector", IMAGE, "17/0"], disks.played, b"", 0),
-        (["trim", IMAGE], disks.played, b"", 0),
-        (["picture", IMAGE], disks.played, b"", 0),
-        (["map", IMAGE], disks.wrong, b"", 1),
-        (["picture", IMAGE], disks.wrong, b"", 1),
-    ]
+    """Each command, the files on which it is run, and its status; then some over a shop after a day, and over a wrong map."""
+    for each in COMMANDS:
+        yield each, disks.scene, 0
+    for words in (f"check {IMAGE}", f"list {IMAGE}", f"show {IMAGE}", f"records {IMAGE} STOCK", f"copy {IMAGE} {COPY}"):
+        yield command(LOOKS, words, f"{words.split()[0]} of a played shop"), disks.played, 0
+    yield command(CHANGES, f"store {IMAGE} NOTES grown", "store of a file that grows"), disks.scene, 0
+    yield command(CHANGES, f"play {IMAGE} day", "play, a day with resets"), disks.scene, 0
+    yield command(CHANGES, f"repair {IMAGE}", "repair of a wrong map"), disks.wrong, 0
+    yield command(LOOKS, f"map {IMAGE}", "map of a wrong map"), disks.wrong, 1
+    yield command(LOOKS, f"picture {IMAGE}", "picture of a wrong map"), disks.wrong, 1
 
 
 def main():
@@ -205,16 +180,24 @@ def main():
         print("refused_memory: cc is not installed; nothing was tried")
         return
     with tempfile.TemporaryDirectory() as name:
+        scene(program, Path(name), script=LINES)
         trial = Trial(Path(name))
-        for file, text in (("script", SCRIPT), ("lines", LINES), ("records", RECORDS)):
+        for file, text in (("day", DAY), ("grown", RECORDS)):
             (trial.folder / file).write_bytes(text)
-        for words, begin, given, status in lines_of(Disks(trial, program)):
-            wanted = no_memory
-            if words[0] == "serve":
+        disks = Disks(trial, program)
+        for command, begin, status in lines_of(disks):
+            words, given, wanted = [program, *command.over()], command.given, no_memory
+
+            def anew():
                 begin()
-                wanted = no_memory_or_unlanded(trial.run([program, *words], given=given)[0][1])
-            count = trial.each([program, *words], begin, wanted, status, given)
-            print(f"{' '.join(words)}{' of a wrong map' if status else ''}: {count} requests for memory refused in turn", flush=True)
+                command.forget(trial.folder)
+
+            if command.words[0] == "serve":
+                given = LINES
+                anew()
+                wanted = no_memory_or_unlanded(trial.run(words, given=given)[0][1])
+            count = trial.each(words, anew, wanted, status, given)
+            print(f"{command.name}: {count} requests for memory refused in turn", flush=True)
         if len(sys.argv) > 2:
             count = trial.each([Path(sys.argv[2]).resolve(), "6", "1", "20"], lambda: None, no_memory_for_a_day)
             print(f"test_every_cut: {count} requests for memory refused in turn")

@@ -21,13 +21,22 @@ import sys
 import tempfile
 from pathlib import Path
 
+from commands import CHANGES, IMAGE, LOOKS, MAKES, PRINT_REFUSALS, TAKES, scene, those_that
 from served import Served, run, script, sure, want
 
 SYNTAX = "30,SYNTAX ERROR,00,00"
 # a request that grows STOCK, changes a card in two sectors, and is kept: nine writes
 GROWS = "1,1,S,15,7"
-# the words that only read an image, and what follows it
-READING = [["show"], ["check"], ["list"], ["records", "STOCK"], ["bytes", "STOCK"], ["map"], ["picture"], ["free"], ["sector", "17/0"], ["trim"]]
+# the commands that need the image
+OTHERS = [each for each in those_that(LOOKS, TAKES, CHANGES, MAKES) if IMAGE in each.words]
+
+
+def is_in_use(command, ended):
+    """Whether it ended so, and said nothing but that another program has the image."""
+    status, out, err = ended
+    if command.name in PRINT_REFUSALS:
+        return status == 3 and err == "" and "IN USE" in "".join(out)
+    return (status, out, err) == (3, [], "IN USE")
 
 
 class Ends:
@@ -46,12 +55,9 @@ class Ends:
     def served(self, stdin, *words, **more):
         return run(self.program, "serve", self.image, *self.way, *words, stdin=stdin, **more)
 
-    def writing(self):
-        """The words that write an image, and what follows it; `format` last, which changes it."""
-        empty = script(self.folder, [])
-        return [["serve"], ["serve", "--in-place"], ["play", empty], ["play", empty, "--sync"],
-                ["play", empty, "--log"], ["repair"], ["make", "CARDS", "--length", 30], ["store", "STOCK", empty],
-                ["put", "TEXT", empty, "--type", "seq"], ["rename", "CARDS", "NOTES"], ["delete", "NOTES"], ["format", "--tills", 8]]
+    def other(self, command):
+        """How a command ends that comes beside what has the image."""
+        return run(self.program, *command.over(self.folder), stdin=b"1,2,S,1,9\n")
 
     def show(self):
         return sure(self.program, "show", self.image)
@@ -128,15 +134,16 @@ class Ends:
     # ------------------------------------------------------------------------------------------------------
 
     def in_use(self):
-        """Every word beside a `serve` is refused, and changes nothing; when it has ended, or was killed, none is."""
-        self.fresh()
+        """Every command beside a `serve` is refused, and changes nothing; when it has ended, or was killed, none is."""
+        scene(self.program, self.folder, 4)
         holder = self.serve()
         want(holder.ask("1,1,S,1,1") == "1,1,DONE,1", "1,1,S,1,1 isn't answered")
-        held = self.image.read_bytes()
-        for word, *rest in [*READING, *self.writing()]:
-            got = run(self.program, word, self.image, *rest, stdin=b"1,2,S,1,9\n")
-            want(got == (3, [], "IN USE"), f"{word} beside a serve: {got}")
-            want(self.image.read_bytes() == held, f"{word} beside a serve has changed the image")
+        held, there = self.image.read_bytes(), set(self.folder.iterdir())
+        for command in OTHERS:
+            got = self.other(command)
+            want(is_in_use(command, got), f"{command.name} beside a serve: {got}")
+            want(self.image.read_bytes() == held, f"{command.name} beside a serve has changed the image")
+            want(set(self.folder.iterdir()) == there, f"{command.name} beside a serve has made something")
         want(holder.ask("1,2,R,1,1") == "1,2,DONE,2", "the holder doesn't serve on")
         want(holder.finish() == (0, [], ""), "the end isn't quiet")
         self.answered("1,2,R,1,1", "1,2,DONE,2")
@@ -148,15 +155,18 @@ class Ends:
     def readers(self):
         """Beside one that reads, the words that only read run and those that write are refused; beside one that
         writes, all are."""
-        self.fresh()
+        scene(self.program, self.folder, 4)
         for mode, refused in [(fcntl.LOCK_SH, False), (fcntl.LOCK_EX, True)]:
             with open(self.image, "rb") as other:
                 fcntl.flock(other, mode)
                 beside = "a writer" if refused else "a reader"
-                for words in [*READING, *self.writing()]:
-                    status, _, err = run(self.program, words[0], self.image, *words[1:])
-                    wanted = (3, "IN USE") if refused or words not in READING else (0, "")
-                    want((status, err) == wanted, f"{words[0]} beside {beside}: {status}, {err}")
+                for command in OTHERS:
+                    got = self.other(command)
+                    if refused or command.does in (CHANGES, MAKES):
+                        want(is_in_use(command, got), f"{command.name} beside {beside}: {got}")
+                    else:
+                        want(got[0::2] == (0, ""), f"{command.name} beside {beside}: {got}")
+                    command.forget(self.folder)
 
     # --- files
     # ---------------------------------------------------------------------------------------------------------

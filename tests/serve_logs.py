@@ -28,12 +28,13 @@ import sys
 import tempfile
 from pathlib import Path
 
-from served import Served, differs, run, script, sure, want
+from commands import CHANGES, IMAGE, LOOKS, MAKES, TAKES, scene, those_that
+from served import Served, differs, run, sure, want
 from shop_rule import Shop
 
 TILLS = 8
-# the words that only read an image, and what follows it
-READING = (["show"], ["check"], ["list"], ["records", "STOCK"], ["bytes", "STOCK"], ["map"], ["picture"], ["repair", "--dry-run"])
+LOOKING, CHANGING = those_that(LOOKS, TAKES), those_that(CHANGES)
+LOG = f"{IMAGE}-log"
 LOG_BYTES = 4198400
 CALLS = "openat,write,pwrite64,fsync,fdatasync,rename,renameat,renameat2,unlink,unlinkat,flock"
 
@@ -45,11 +46,8 @@ class Logs:
         self.shop = None
 
     def fresh(self):
-        """A new shop beside a file CARDS; what stood there is gone."""
-        for path in self.folder.iterdir():
-            path.unlink()
-        sure(self.program, "format", self.image, "--tills", TILLS)
-        sure(self.program, "make", self.image, "CARDS", "--length", 30)
+        """A new shop beside a file NOTES; what stood there is gone."""
+        scene(self.program, self.folder, TILLS, b"")
         top = int(sure(self.program, "show", self.image)[0].removeprefix("TOP "))
         self.shop = Shop(TILLS, top)
 
@@ -57,12 +55,9 @@ class Logs:
         """Each file of the folder with its bytes."""
         return {path.name: path.read_bytes() for path in self.folder.iterdir()}
 
-    def writing(self):
-        """The words that write an image, and what follows it; `format` last, which changes it."""
-        empty = script(self.folder, [])
-        return [["serve"], ["serve", "--in-place"], ["serve", "--unsynced"], ["play", empty], ["play", empty, "--sync"],
-                ["play", empty, "--log"], ["repair"], ["make", "MORE", "--length", 30], ["store", "STOCK", empty],
-                ["put", "TEXT", empty, "--type", "seq"], ["rename", "CARDS", "NOTES"], ["delete", "CARDS"], ["format", "--tills", 4]]
+    def run(self, command, given=b""):
+        """How a command ends over the image."""
+        return run(self.program, *command.over(self.folder), stdin=given)
 
     def line(self):
         """A next request of a till, a repeat, or a line that is none."""
@@ -118,9 +113,10 @@ class Logs:
         for number in range(self.bursts):
             self.ask(served, self.lines(self.draw.choice([1, 1, 2, 8, 64])))
             self.is_shown(self.image, "beside a service")
-            word = READING[number % len(READING)]
-            status, _, err = run(self.program, word[0], self.image, *word[1:])
-            want((status, err) == (0, ""), f"{word} beside a service: {status}, {err}")
+            command = LOOKING[number % len(LOOKING)]
+            status, _, err = self.run(command)
+            want((status, err) == (0, ""), f"{command.name} beside a service: {status}, {err}")
+            command.forget(self.folder)
             views += 2
         new = self.folder / "copy.d64"
         want(sure(self.program, "copy", self.image, new) == ["COPIED"], "copy doesn't say so")
@@ -128,10 +124,11 @@ class Logs:
         self.is_shown(new, "a copy")
         self.while_lines_come(served)
         held = self.files()
-        for words in self.writing():
-            got = run(self.program, words[0], self.image, *words[1:], stdin=b"1,1,S,1,9\n")
-            want(got == (3, [], "IN USE"), f"{words[0]} beside a service: {got}")
-        want({**held, **{"script.txt": b""}} == self.files(), "a word beside a service has changed a file")
+        for command in [*CHANGING, *those_that(MAKES)]:
+            if IMAGE in command.words:
+                got = self.run(command, b"1,1,S,1,9\n")
+                want(got == (3, [], "IN USE"), f"{command.name} beside a service: {got}")
+        want(held == self.files(), "a command beside a service has changed a file")
         want(served.finish() == (0, [], ""), "the end isn't quiet")
         want(not self.log.exists(), "the log is there behind a clean end")
         self.is_shown(self.image, "behind a clean end")
@@ -155,28 +152,29 @@ class Logs:
     # --- after a kill
 
     def after_a_kill(self):
-        """Each word behind a kill."""
-        for words in READING:
+        """Each command behind a kill."""
+        for command in LOOKING:
             self.killed()
             held = self.files()
-            status, _, err = run(self.program, words[0], self.image, *words[1:])
-            want((status, err) == (0, ""), f"{words[0]} behind a kill: {status}, {err}")
+            status, _, err = self.run(command)
+            want((status, err) == (0, ""), f"{command.name} behind a kill: {status}, {err}")
+            command.forget(self.folder)
             self.is_shown(self.image, "behind a kill")
             new = self.folder / "copy.d64"
             sure(self.program, "copy", self.image, new)
             self.is_shown(new, "a copy behind a kill")
             new.unlink()
-            want(self.files() == held, f"{words[0]} behind a kill has changed a file")
-        for words in self.writing()[:-1]:
+            want(self.files() == held, f"{command.name} behind a kill has changed a file")
+        for command in CHANGING:
             self.killed()
-            script(self.folder, [])
-            sure(self.program, words[0], self.image, *words[1:])
-            want(not self.log.exists(), f"the log is there behind {words[0]}")
-            self.is_shown(self.image, f"behind a kill and {words[0]}")
-            want(sure(self.program, "check", self.image) == ["OK"], f"check isn't OK behind {words[0]}")
+            status, _, err = self.run(command)
+            want((status, err) == (0, ""), f"{command.name} behind a kill: {status}, {err}")
+            want(not self.log.exists(), f"the log is there behind {command.name}")
+            self.is_shown(self.image, f"behind a kill and {command.name}")
+            want(sure(self.program, "check", self.image) == ["OK"], f"check isn't OK behind {command.name}")
         self.killed()
         sure(self.program, "format", self.image, "--tills", 4)
-        want(sorted(self.files()) == ["shop.d64"], "format has left a log")
+        want(LOG not in self.files(), "format has left a log")
         want(len(sure(self.program, "show", self.image)) == 1, "format has left a shop")
 
     def refused(self):
@@ -184,17 +182,15 @@ class Logs:
         for harm in (self.other_image, self.cut_log):
             self.killed()
             harm()
-            script(self.folder, [])
             held = self.files()
-            words = [*READING, *self.writing()[:-1], ["copy", self.folder / "copy.d64"]]
-            for word, *rest in words:
-                got = run(self.program, word, self.image, *rest, stdin=b"1,1,S,1,9\n")
-                want(got == (1, [], "LOG"), f"{word} beside a log that is refused: {got}")
-                want(self.files() == held, f"{word} has changed a file beside a log that is refused")
+            for command in [*LOOKING, *CHANGING]:
+                got = self.run(command, b"1,1,S,1,9\n")
+                want(got == (1, [], "LOG"), f"{command.name} beside a log that is refused: {got}")
+                want(self.files() == held, f"{command.name} has changed a file beside a log that is refused")
             said = run(self.program, "show", self.image, "--explain")[2]
             want("docs/LOG.md" in said, f"LOG is explained so: {said}")
             sure(self.program, "format", self.image, "--tills", 4)
-            want(sorted(self.files()) == ["script.txt", "shop.d64"], "format has left a log")
+            want(LOG not in self.files(), "format has left a log")
 
     def other_image(self):
         image = bytearray(self.image.read_bytes())

@@ -11,7 +11,10 @@ import resource
 import subprocess
 import sys
 import tempfile
+from dataclasses import replace
 from pathlib import Path
+
+from commands import CHANGES, COMMANDS, IMAGE, SCRIPT, SCRIPTS, command, scene
 
 TOP = Path(__file__).resolve().parent.parent
 DAY = str(TOP / "examples" / "day_with_power_cuts.txt")
@@ -33,49 +36,37 @@ def ended(words, kilobytes, lines):
     return ran.returncode
 
 
-def least(words, lines, shop):
-    """The fewest kB with which it ends as it does with 8 MB, over the same image each time, and that status."""
-    image = shop.read_bytes()
-    wanted = ended(words, 8192, lines)
+def least(program, command, folder):
+    """The fewest kB with which it ends as it does with 8 MB, over the same files each time, and that status."""
+    image = (folder / IMAGE).read_bytes()
+
+    def ends(kilobytes):
+        command.forget(folder)
+        (folder / IMAGE).write_bytes(image)
+        return ended([program, *command.over(folder, str(folder / IMAGE))], kilobytes, command.given)
+
+    wanted = ends(8192)
     low, high = 0, 8192
     while high - low > 4:
         middle = (low + high) // 8 * 4
-        shop.write_bytes(image)
-        if ended(words, middle, lines) == wanted:
+        if ends(middle) == wanted:
             high = middle
         else:
             low = middle
-    shop.write_bytes(image)
+    command.forget(folder)
+    (folder / IMAGE).write_bytes(image)
     return high, wanted
 
 
 def commands(program, folder):
-    """Each command over a shop, its words and its standard input; they are run over and over."""
-    shop, script, records = (str(folder / name) for name in ("shop.d64", "script.txt", "records.csv"))
-    subprocess.run([program, "format", shop, "--tills", "64"], check=True, stdout=subprocess.DEVNULL)
-    Path(script).write_text("".join(f"{1 + n % 64},{1 + n // 64},R,{1 + n},5\n" for n in range(600)))
-    subprocess.run([program, "play", shop, script], check=True, stdout=subprocess.DEVNULL)
-    subprocess.run([program, "make", shop, "NOTES", "--length", "30"], check=True, stdout=subprocess.DEVNULL)
-    with open(records, "w") as lines:
-        subprocess.run([program, "records", shop, "STOCK"], check=True, stdout=lines)
-    yield "format", ["format", str(folder / "new.d64"), "--tills", "64"], b""
-    yield "dry", ["dry", script], b""
-    for word in ("list", "check", "show", "map", "picture", "free", "trim"):
-        yield word, [word, shop], b""
-    yield "check --json", ["check", "--json", shop], b""
-    yield "play", ["play", shop, script], b""
-    yield "play --log", ["play", shop, script, "--log"], b""
-    yield "play, a day with resets", ["play", shop, DAY], b""
-    yield "serve", ["serve", shop], Path(script).read_bytes()
-    yield "repair", ["repair", shop], b""
-    yield "records", ["records", shop, "STOCK"], b""
-    yield "bytes", ["bytes", shop, "STOCK"], b""
-    yield "make", ["make", shop, "ADDRESS", "--length", "40"], b""
-    yield "store", ["store", shop, "STOCK", records], b""
-    yield "put", ["put", shop, "LINES", records, "--type", "seq"], b""
-    yield "rename", ["rename", shop, "NOTES", "CARDS"], b""
-    yield "delete", ["delete", shop, "NOTES"], b""
-    yield "--help", ["--help"], b""
+    """Each command over a shop of 64 tills in which 600 requests were played."""
+    script = "".join(f"{1 + n % 64},{1 + n // 64},R,{1 + n},5\n" for n in range(600)).encode()
+    scene(program, folder, 64, script)
+    subprocess.run([program, "play", IMAGE, SCRIPT], cwd=folder, check=True, stdout=subprocess.DEVNULL)
+    for each in COMMANDS:
+        yield replace(each, given=script) if each.words[0] == "serve" else each
+    yield command(CHANGES, f"play {IMAGE} {DAY}", "play, a day with resets")
+    yield command(SCRIPTS, "--help")
 
 
 def main():
@@ -83,9 +74,9 @@ def main():
         sys.exit(__doc__)
     program = str(Path(sys.argv[1]).resolve())
     with tempfile.TemporaryDirectory() as folder:
-        for name, words, lines in commands(program, Path(folder)):
-            kilobytes, status = least([program, *words], lines, Path(folder) / "shop.d64")
-            print(f"{name}: {kilobytes} kB (status {status})")
+        for each in commands(program, Path(folder)):
+            kilobytes, status = least(program, each, Path(folder))
+            print(f"{each.name}: {kilobytes} kB (status {status})")
 
 
 if __name__ == "__main__":
