@@ -1,5 +1,7 @@
 -- The definitions on small numbers: none is empty, and each says what its comment says.
 use Rattle.std.proofs.Common.{
+  inl,
+  inr,
   refl,
   [],
   ◌∷◌,
@@ -27,6 +29,7 @@ use Rattle.d64_image.specs.declared.place.Place.{Place}
 use Rattle.disk_layout.specs.Directory.{directory_start, is_used, map_place, slot_in}
 use Rattle.disk_layout.specs.Layout.{File, Layout}
 use Rattle.rel_records.specs.Others.{KeepsOthers}
+use Rattle.rel_records.specs.Puts.{IsPutSoFar, put_each}
 use Rattle.rel_records.specs.Written.{grown_by, patched, room_in_first, touched, with_written, written}
 use Rattle.rel_records.specs.creation.Made.{creation_writes}
 use Rattle.rel_records.specs.creation.Room.{IsFirstSlot, IsFullSector}
@@ -156,3 +159,8 @@ one_file_changes a bytes = record {
         let P : File → Type 0 = λ g. map (sector (put a stock_block bytes)) g.blocks ≡ map (sector a) g.blocks in
         subst P e (ap (λ s. s ∷ []) block)
     same (suc (suc k)) f ne at = cc
+
+-- two sectors put: both in the end, and the first one alone on the way
+puts : (img : Image) (p q : Place) (a b : Sector) → (put_each ((p, a) ∷ (q, b) ∷ []) img ≡ put (put img p a) q b)
+    × IsPutSoFar ((p, a) ∷ (q, b) ∷ []) img (put img p a)
+puts img p q a b = (refl, inr (inl refl))

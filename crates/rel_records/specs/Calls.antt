@@ -1,8 +1,8 @@
 -- What each call on a relative file promises, at Ok and at an error. All of it is our own.
-use Rattle.std.specs.Prelude.{ℕ, ◌≡◌, ◌≢◌, ◌⊎◌, ◌↔◌, ◌≤◌, ◌<◌, ◌+◌, ◌*◌, ◌-◌, Err, IfErr, IfOk, IsOk, List, OnErr, OnOk}
+use Rattle.std.specs.Prelude.{ℕ, ◌≡◌, ◌≢◌, ◌⊎◌, ◌↔◌, ◌≤◌, ◌<◌, ◌+◌, Err, IfErr, IfOk, IsOk, List, OnErr, OnOk}
 use Rattle.std.specs.Prelude.{Result, Some, length, slice_get}
-use Rattle.d64_image.specs.History.{Changes, HeldOnly, History, OldOr, OnlyReads, TellsFailure, WritesNothing}
-use Rattle.d64_image.specs.Images.{Image, Sector, put, sector}
+use Rattle.d64_image.specs.History.{Changes, History, OnlyReads, TellsFailure, WritesNothing}
+use Rattle.d64_image.specs.Images.{Image, Sector, sector}
 use Rattle.d64_image.specs.declared.faults.DeviceFault.{DeviceFault}
 use Rattle.d64_image.specs.declared.place.Place.{Place}
 use Rattle.disk_layout.specs.Clean.{IsClean}
@@ -72,18 +72,6 @@ pub record ReadsRecord {D : Type 0} (S : History D) (old new : D) (v : RelFile) 
   pub reads : OnlyReads S old new most
   pub failures : TellsRelFault S old new result
 
--- The sector at a place was written with these bytes, by one write, and at most this number of sectors were read. At an
--- error, which is the device's, the sector has these bytes or its old ones.
-pub record PutsSector {D T : Type 0} (S : History D) (old new : D) (p : Place) (bytes : Sector) (read : ℕ)
-    (result : Result T RelFault) : Type 0 where
-  pub ok : OnOk result (S.image new ≡ put (S.image old) p bytes)
-  pub err : IfErr result (λ e. e ≡ Device)
-  pub held : HeldOnly S old new (OldOr (S.image old) (put (S.image old) p bytes))
-  pub writes : S.writes new ≤ S.writes old + 1
-  pub uncounted : OnErr result (S.writes new ≡ S.writes old)
-  pub reads : S.reads new ≤ S.reads old + read
-  pub failures : TellsRelFault S old new result
-
 -- Record `number` of the file that v is of is there, and this is a position in it, counted from 1.
 pub record IsPosition (img : Image) (v : RelFile) (number position : ℕ) : Type 0 where
   pub clean : IsClean img
@@ -92,15 +80,6 @@ pub record IsPosition (img : Image) (v : RelFile) (number position : ℕ) : Type
   pub high : number ≤ records_in v
   pub position_low : 1 ≤ position
   pub position_high : position ≤ length_of v
-
--- The bytes of the record from the position on begin in the file's data block of this number, from 0, which is at this
--- place.
-pub record BeginsIn (img : Image) (v : RelFile) (number position block : ℕ) (place : Place) : Type 0 where
-  pub there : IsPosition img v number position
-  pub at : OfItsFile img v (λ l n f. slice_get f.blocks block ≡ Some place)
-  pub from : 254 * block ≤ (number - 1) * length_of v + (position - 1)
-  pub few : block < 720
-  pub large : number * length_of v ≤ 182880
 
 -- A text was written from a position on into a record of f, the file at place n of the layout l.
 pub record WritesOver {D : Type 0} (S : History D) (old new : D) (l : Layout) (n : ℕ) (f : File) (v : RelFile)

@@ -1,7 +1,8 @@
 //! Sectors read and written for relative files: a device's failure is returned as `Device`.
-ghost use Rattle.std.specs.Prelude.{◌≡◌};
+ghost use Rattle.std.specs.Prelude.{[], ◌∷◌, ◌≡◌};
 ghost use Rattle.d64_image.specs.Images.{sector};
-ghost use Rattle.rel_records.specs.Calls.{PutsSector, ReadsAtMost};
+ghost use Rattle.rel_records.specs.Calls.{ReadsAtMost};
+ghost use Rattle.rel_records.specs.Puts.{PutsEach};
 
 use crate::faults::RelFault;
 use d64_image::{Place, Sectors};
@@ -30,7 +31,7 @@ pub(crate) fn write<D: Sectors>(
     place: Place,
     from: &[u8; 256],
 ) -> Result<(), RelFault>
-    ensures { PutsSector D.history disk.old disk.new place from.now 0 result }
+    ensures { PutsEach D.history disk.old disk.new ((place, from.now) ∷ []) 0 result }
 {
     match write_sector(disk, place, from) {
         Ok(()) => Ok(()),

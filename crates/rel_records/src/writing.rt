@@ -1,10 +1,11 @@
 //! Records written: the bytes of one record, in the one or two blocks that they touch.
-ghost use Rattle.std.specs.Prelude.{◌≡◌, ◌+◌, ◌-◌, ◌*◌, ◌<◌, ◌≤◌, IfErr, IfOk, OnOk, length};
+ghost use Rattle.std.specs.Prelude.{[], ◌∷◌, ◌≡◌, ◌+◌, ◌<◌, ◌≤◌, IfErr, IfSome, IsSome, OnOk, length};
 ghost use Rattle.d64_image.specs.Images.{sector};
 ghost use Rattle.disk_layout.specs.Chain.{named_at};
 ghost use Rattle.disk_layout.specs.Clean.{IsClean};
-ghost use Rattle.rel_records.specs.Calls.{BeginsIn, IsPosition, PutsSector, WritesRecord, WritesThere};
+ghost use Rattle.rel_records.specs.Calls.{IsPosition, WritesRecord, WritesThere};
 ghost use Rattle.rel_records.specs.File.{IsOf, length_of};
+ghost use Rattle.rel_records.specs.Puts.{PutsEach, in_block, in_two};
 ghost use Rattle.rel_records.specs.Written.{patched, touched};
 ghost use Rattle.rel_records.specs.declared.faults.RelFault.TheVariants.{Overflow};
 
@@ -18,8 +19,7 @@ use d64_image::{Place, Sectors};
 use disk_layout::DATA;
 
 /// Writes the text over the data bytes from `start` to below `end` of the block at `place`, and zeros if it is shorter.
-/// Returns the block that it links to, if any.
-// In line: for a record in one block the link isn't used, and then the compiler leaves it out.
+/// `block` has the block's bytes after that.
 #[inline(always)]
 fn write_block<D: Sectors>(
     disk: &mut D,
@@ -27,68 +27,42 @@ fn write_block<D: Sectors>(
     start: usize,
     end: usize,
     text: &[u8],
-) -> Result<Option<Place>, RelFault>
+    block: &mut [u8; 256],
+) -> Result<(), RelFault>
     requires order { start ≤ end }
     requires inside { end ≤ 254 }
-    ensures put { PutsSector D.history disk.old disk.new place
-        (patched start end text.now (sector (D.history.image disk.old) place)) 1 result }
-    ensures next { IfOk result (λ next. next ≡ named_at (sector (D.history.image disk.old) place) 0) }
+    ensures put { PutsEach D.history disk.old disk.new
+        (in_block (D.history.image disk.old) place start end text.now ∷ []) 1 result }
+    ensures block { OnOk result (block.new ≡ patched start end text.now (sector (D.history.image disk.old) place)) }
 {
-    let mut block = [0; 256];
-    read(disk, place, &mut block)?;
-    patch(&mut block, start, end, text);
-    write(disk, place, &block)?;
-    Ok(Place::new(block[0], block[1]))
+    read(disk, place, block)?;
+    patch(block, start, end, text);
+    write(disk, place, block)
 }
 
-/// Writes the text into a record that is there. Its bytes from the position on are in the block at `place`, which has
-/// this number, from 0.
-fn write_in_block<D: Sectors>(
-    disk: &mut D,
-    file: &RelFile,
-    number: u32,
-    position: u8,
-    text: &[u8],
-    block: usize,
-    place: Place,
-) -> Result<(), RelFault>
-    requires begins { BeginsIn (D.history.image disk.old) file.now number position block place }
-    requires to { number * length_of file.now ≤ 254 * block + 254 }
-    ensures { WritesThere D.history disk.old disk.new file.now number position text.now 1 1 result }
-{
-    let size = file.size as usize;
-    let start = (number as usize - 1) * size + (position as usize - 1);
-    let end = number as usize * size;
-    write_block(disk, place, start - DATA * block, end - DATA * block, text)?;
-    Ok(())
-}
-
-/// Writes the text into a record that is there and goes on in the next block. The position is in the block at `place`,
-/// which has this number, from 0. First writes the part in that block, then the rest.
+/// Writes the text over the data bytes from `start` on of the block at `place`, and on to below `end` of the block to
+/// which it links, and zeros if it is shorter. The part in the first block is written first.
 // Out of line, since few records lie in two blocks.
 #[inline(never)]
 fn write_across<D: Sectors>(
     disk: &mut D,
-    file: &RelFile,
-    number: u32,
-    position: u8,
-    text: &[u8],
-    block: usize,
     place: Place,
+    start: usize,
+    end: usize,
+    text: &[u8],
 ) -> Result<(), RelFault>
-    requires begins { BeginsIn (D.history.image disk.old) file.now number position block place }
-    requires inside { (number - 1) * length_of file.now + (position - 1) < 254 * block + 254 }
-    requires over { 254 * block + 254 < number * length_of file.now }
-    ensures { WritesThere D.history disk.old disk.new file.now number position text.now 2 2 result }
+    requires start { start < 254 }
+    requires end { end ≤ 254 }
+    requires next { IsSome (named_at (sector (D.history.image disk.old) place) 0) }
+    ensures { IfSome (named_at (sector (D.history.image disk.old) place) 0) (λ next.
+        PutsEach D.history disk.old disk.new
+            (in_two (D.history.image disk.old) place next start end text.now) 2 result) }
 {
-    let size = file.size as usize;
-    let start = (number as usize - 1) * size + (position as usize - 1);
-    let end = number as usize * size;
-    let here = DATA * (block + 1);
-    let next = write_block(disk, place, start - DATA * block, DATA, text)?;
-    let rest = &text[text.len().min(here - start)..];
-    write_block(disk, next.unwrap(), 0, end - here, rest)?;
-    Ok(())
+    let mut block = [0; 256];
+    write_block(disk, place, start, DATA, text, &mut block)?;
+    let next = Place::known(block[0], block[1]);
+    let rest = &text[text.len().min(DATA - start)..];
+    write_block(disk, next, 0, end, rest, &mut block)
 }
 
 /// Writes the text into a record that is there, from the position on, as far as it fits; the rest of the record is
@@ -108,11 +82,12 @@ fn write_there<D: Sectors>(
     let start = (number as usize - 1) * size + (position as usize - 1);
     let end = number as usize * size;
     let block = start / DATA;
+    let begins = DATA * block;
     let place = block_at(disk, file, block)?;
-    if end <= DATA * (block + 1) {
-        return write_in_block(disk, file, number, position, text, block, place);
+    if end <= begins + DATA {
+        return write_block(disk, place, start - begins, end - begins, text, &mut [0; 256]);
     }
-    write_across(disk, file, number, position, text, block, place)
+    write_across(disk, place, start - begins, end - begins - DATA, text)
 }
 
 /// The result for a text that was written from the position on into a record of this size: `Overflow` if it was cut.

@@ -1,4 +1,5 @@
 -- Growth as a whole: what is read of the file, and what its steps leave together.
+pub mod Ends
 pub mod Gathered
 pub mod Gathers
 pub mod GrownTo

@@ -5,7 +5,6 @@ use Rattle.std.proofs.lemmas.List.{length-map}
 use Rattle.std.proofs.lemmas.List.Elements.{Contains-append_right}
 use Rattle.std.specs.Prelude.{Contains, Some, flat_map, slice_get, ◌++◌}
 use Rattle.d64_image.specs.Images.{Image, sector}
-use Rattle.d64_image.specs.declared.place.Place.{Place}
 use Rattle.disk_layout.proofs.lemmas.layouts.Exact.{get-lt}
 use Rattle.disk_layout.proofs.lemmas.layouts.Layouts.{IsLayout-one, get-contains}
 use Rattle.disk_layout.proofs.lemmas.lists.Lists.{get-some}

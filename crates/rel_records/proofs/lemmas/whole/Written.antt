@@ -2,7 +2,7 @@
 use Rattle.std.proofs.Common.{◌≡◌, ℕ, ◌+◌, ◌-◌, ◌*◌, ◌/◌, ◌<◌, ◌≤◌, inl, inr, List, [], ◌∷◌, ◌++◌, length, max, refl, sym}
 use Rattle.std.proofs.Common.{◌∙◌, ap, arith, subst, slice_index, length-append}
 use Rattle.std.proofs.Math.Nat.{div-mul-le_self}
-use Rattle.std.specs.Prelude.{Some, drop, min, slice_get, take, ◌||◌}
+use Rattle.std.specs.Prelude.{Some, drop, min, slice_get, ◌||◌}
 use Rattle.d64_image.proofs.Images.{is_sector, put_is_image, sector-put_other, sector-put_same}
 use Rattle.d64_image.proofs.Places.{same_or_other}
 use Rattle.d64_image.specs.Images.{Image, IsImage, Sector, put, sector}
@@ -130,23 +130,20 @@ module _ (img : Image) (l : Layout) (n : ℕ) (f : File) (v : RelFile) (w : IsIm
   half-whole = block-whole img l n f v block r p bytes w of clean at link index low high (omega (arith, over))
 
   -- in both of them
-  pub both-whole : (m : ℕ) (b : Image)
-      → m ≡ min (length text) (254 * (block + 1) - ((r - 1) * length_of v + (pos - 1))) → b ≡ put img p bytes
-      → IsWhole img → IsWhole (put b q (patched 0 (r * length_of v - 254 * (block + 1)) (take (length text - m)
-      (drop m text)) (sector b q)))
-  both-whole m b cut is whole =
+  pub both-whole : IsWhole img → IsWhole (put (put img p bytes) q (patched 0 (r * length_of v - 254 * block - 254)
+      (drop (min (length text) (254 - s)) text) (sector (put img p bytes) q)))
+  both-whole whole =
       let i : Image = put img p bytes in
       let u : IsImage i = put_is_image img p bytes w (patched-sector s 254 text (sector img p) (is_sector img p w) small
       order (omega arith)) in
       let still : IsCleanLayout i l = clean-block img l n f v block p bytes w of clean at link index in
       let now : IsFileOf i l n f v =
       record { layout = still.layout; there = of.there; rel = of.rel; shows = of.shows } in
-      let e : ℕ = r * length_of v - 254 * (block + 1) in
-      let rest : List ℕ = take (length text - m) (drop m text) in
+      let e : ℕ = r * length_of v - 254 * block - 254 in
+      let rest : List ℕ = drop (min (length text) (254 - s)) text in
       let short : e ≤ 254 = omega (arith, inside, one-more r (length_of v) low, v.size_high) in
       let long = sector-long i q u in
-      let P : Image → Type 0 = λ j. IsWhole (put j q (patched 0 e rest (sector j q))) in
-      subst P (sym is) (block-whole i l n f v (block + 1) r q (patched 0 e rest (sector i q)) u now still to
+      block-whole i l n f v (block + 1) r q (patched 0 e rest (sector i q)) u now still to
       (patched-low 0 e rest (sector i q) 0 long (omega arith) short (omega arith))
       (patched-low 0 e rest (sector i q) 1 long (omega arith) short (omega arith)) low high (omega (arith, over))
-      (half-whole whole))
+      (half-whole whole)

@@ -26,9 +26,7 @@ use Rattle.std.proofs.Common.{
 use Rattle.std.proofs.lemmas.Bool.{cases_lt}
 use Rattle.std.specs.Prelude.{slice_get}
 use Rattle.d64_image.proofs.Images.{is_sector, put_is_image}
-use Rattle.d64_image.proofs.Moments.{then, weaker, write_change}
-use Rattle.d64_image.specs.History.{Changes, HeldOnly, History, OldOr, OnlyReads}
-use Rattle.d64_image.specs.Images.{Image, IsImage, IsSector, Sector, put, sector}
+use Rattle.d64_image.specs.Images.{Image, IsImage, IsSector, put, sector}
 use Rattle.d64_image.specs.Places.{place_at}
 use Rattle.d64_image.specs.declared.place.Place.{Place}
 use Rattle.disk_layout.proofs.lemmas.records.Pieces.{row-le}
@@ -144,26 +142,6 @@ module _ (img after : Image) (l : Layout) (n : ℕ) (f : File) (v : RelFile) (r 
       let P : List (List ℕ)
       → Type 0 = λ rs. HasRecords img after l n (with_written (record_length f.slot) r pos text rs) in
       inr (inr (subst P (sym (append-nil (records img f))) (leaves_has img after l n _ v h), λ never. kept))
-
--- what is held while one block is written
-pub one-moments : {D : Type 0} (S : History D) (a b : D) (l : Layout) (n : ℕ) (f : File) (v : RelFile) (r pos : ℕ)
-    (text : List ℕ) (after : Image) → IsFileOf (S.image a) l n f v → HeldOnly S a b (OldOr (S.image a) after)
-    → S.writes b ≤ S.writes a + 1
-    → LeavesRecords (S.image a) after l n (with_written (record_length f.slot) r pos text (records (S.image a) f)) v
-    → (IsWhole (S.image a) → IsWhole after) → Changes S a b 1 (IsWriting (S.image a) l n f 0 r pos text)
-one-moments S a b l n f v r pos text after of held counted leaves kept =
-    write_change S a b (S.image a) after (IsWriting (S.image a) l n f 0 r pos text) held counted
-    (old-moment (S.image a) after l n f v r pos text of) (whole-moment (S.image a) after l n f v r pos text leaves
-    kept)
-
--- a block is read, and then written as it is to be
-pub patched-held : {D : Type 0} (S : History D) (a b c : D) (p : Place) (bytes new : Sector) → OnlyReads S a b 1
-    → new ≡ bytes → HeldOnly S b c (OldOr (S.image b) (put (S.image b) p new))
-    → HeldOnly S a c (OldOr (S.image a) (put (S.image a) p bytes))
-patched-held S a b c p bytes new reads same held =
-    let P : Image → Type 0 = λ i. HeldOnly S b c (OldOr i (put i p new)) in
-    let Q : Sector → Type 0 = λ s. HeldOnly S b c (OldOr (S.image a) (put (S.image a) p s)) in
-    then S a b c _ (weaker S a b _ _ (λ i e. inl e) reads.held) (subst Q same (subst P reads.image held))
 
 -- the link of a patched block is that of the block that was read
 pub patched-next : (s e : ℕ) (text read new bytes : List ℕ) → s ≤ e → e ≤ 254 → length read ≡ 256

@@ -1,85 +1,45 @@
--- Two blocks are written: the image before, the record with its first part new, and the record as it is to be.
-mod Failed
-mod Sums
-mod Written
-use Rattle.std.proofs.Common.{arith, refl}
-use Rattle.rel_records.proofs.lemmas.writing.OneBlock.{one-more}
-use Rattle.rel_records.proofs.lemmas.reading.Readings.{inside-of, next-some}
-use Rattle.rel_records.specs.File.{length_of}
+-- Two blocks are put, the second one where the first links to.
+use Rattle.std.proofs.Common.{List, ◌-◌, ap, arith, length-drop, refl, subst, sym, ℕ, ◌∙◌, ◌∷◌, ◌≡◌, []}
+use Rattle.std.proofs.lemmas.List.{take_all}
+use Rattle.std.specs.Prelude.{drop, length, take}
+use Rattle.d64_image.specs.Images.{Image, put, sector}
+use Rattle.d64_image.specs.declared.place.Place.{Place}
+use Rattle.disk_layout.proofs.lemmas.records.Joined.{sector-long}
+use Rattle.disk_layout.specs.Chain.{named_at}
+use Rattle.rel_records.proofs.lemmas.writing.OneBlock.{patched-next}
+use Rattle.rel_records.proofs.lemmas.writing.Puts.{passes, puts-stop, puts-then, if-some, some-then}
+use Rattle.rel_records.specs.Puts.{PutsEach, in_block, in_two}
+use Rattle.rel_records.specs.Written.{patched}
 use Rattle.rel_records.proofs.writing.write_across.Goals as goal
-use Rattle.rel_records.proofs.writing.write_across.Answers.Failed as failed
-use Rattle.rel_records.proofs.writing.write_across.Answers.Sums as sums
-use Rattle.rel_records.proofs.writing.write_across.Answers.Written as written
-
-pub unwrap-requires : goal.unwrap-requires
-unwrap-requires g c =
-    let S = g.D.Sectors.history in
-    let a = S.image c.args.disk.now in
-    let v = c.args.file.now in
-    let r = c.requires in
-    next-some a v c.args.block c.args.place _ c.in_ok-next.next r.begins.there.of r.begins.at
-    (omega (
-      arith,
-      r.over,
-      one-more c.args.number (length_of v) r.begins.there.low,
-      inside-of a v c.args.number
-          r.begins.there.of (S.whole c.args.disk.now) r.begins.there.low r.begins.there.high,
-    ))
-    refl c.in_ok-next.ensures.next
-
-pub returns-in_err-next : goal.returns-in_err-next
-returns-in_err-next = failed.returns-in_err-next
-
-pub returns-in_err-write_block : goal.returns-in_err-write_block
-returns-in_err-write_block = failed.returns-in_err-write_block
-
-pub overflow_sub-start : goal.overflow_sub-start
-overflow_sub-start = sums.overflow_sub-start
-
-pub overflow_mul-start : goal.overflow_mul-start
-overflow_mul-start = sums.overflow_mul-start
-
-pub overflow_sub-start-2 : goal.overflow_sub-start-2
-overflow_sub-start-2 = sums.overflow_sub-start-2
-
-pub overflow_add-start : goal.overflow_add-start
-overflow_add-start = sums.overflow_add-start
-
-pub overflow_mul-end : goal.overflow_mul-end
-overflow_mul-end = sums.overflow_mul-end
-
-pub overflow_add-here : goal.overflow_add-here
-overflow_add-here = sums.overflow_add-here
-
-pub overflow_mul-here : goal.overflow_mul-here
-overflow_mul-here = sums.overflow_mul-here
-
-pub overflow_mul-block : goal.overflow_mul-block
-overflow_mul-block = sums.overflow_mul-block
-
-pub overflow_sub-start-3 : goal.overflow_sub-start-3
-overflow_sub-start-3 = sums.overflow_sub-start-3
-
-pub write_block-requires-clause-order : goal.write_block-requires-clause-order
-write_block-requires-clause-order = sums.write_block-requires-clause-order
-
-pub write_block-requires-clause-inside : goal.write_block-requires-clause-inside
-write_block-requires-clause-inside = sums.write_block-requires-clause-inside
-
-pub overflow_sub-here : goal.overflow_sub-here
-overflow_sub-here = sums.overflow_sub-here
-
-pub slice_bounds-rest-count : goal.slice_bounds-rest-count
-slice_bounds-rest-count = sums.slice_bounds-rest-count
-
-pub overflow_sub-end : goal.overflow_sub-end
-overflow_sub-end = sums.overflow_sub-end
-
-pub write_block-requires-2-clause-order : goal.write_block-requires-2-clause-order
-write_block-requires-2-clause-order = sums.write_block-requires-2-clause-order
-
-pub write_block-requires-2-clause-inside : goal.write_block-requires-2-clause-inside
-write_block-requires-2-clause-inside = sums.write_block-requires-2-clause-inside
 
 pub returns : goal.returns
-returns = written.returns
+returns g c =
+    let S = g.D.Sectors.history in
+    let a = S.image c.args.disk.now in
+    let next = c.known-next.result in
+    let names = patched-next c.args.start 254 c.args.text.now (sector a c.args.place) _ (sector a c.args.place)
+    (omega (arith, c.requires.start)) (omega arith) (sector-long a c.args.place (S.whole c.args.disk.now)) c.in_ok-write_block.ensures.block
+    refl in
+    let first = c.in_ok-write_block.ensures.put in
+    let P : Image → List ℕ → Type 0 = λ i rest. PutsEach S c.write_block.new.disk c.write_block-2.new.disk
+    (in_block i next 0 c.args.end rest ∷ []) 1 c.write_block-2.result in
+    let half : Image = put a c.args.place (patched c.args.start 254 c.args.text.now (sector a c.args.place)) in
+    let m = c.min.result in
+    let all : take (length c.args.text.now - m) (drop m c.args.text.now) ≡ drop m c.args.text.now =
+    take_all (length c.args.text.now - m) (drop m c.args.text.now) (omega (arith, length-drop m c.args.text.now)) in
+    let rest = all ∙ ap (λ k. drop k c.args.text.now) c.min.ensures in
+    some-then _ next _ (sym names ∙ c.known-next.ensures)
+    (puts-then S c.args.disk.now c.write_block.new.disk c.write_block-2.new.disk (in_block a c.args.place c.args.start 254
+    c.args.text.now ∷ []) _ 1 1 c.write_block-2.result (omega arith) first
+    (subst (P half) rest (subst (λ i. P i (take (length c.args.text.now - m) (drop m c.args.text.now))) first.ok
+    c.write_block-2.ensures.put)))
+
+pub returns-in_err-write_block : goal.returns-in_err-write_block
+returns-in_err-write_block g c =
+    let S = g.D.Sectors.history in
+    let a = S.image c.args.disk.now in
+    let Q : Place → _ → Type 0 = λ next. PutsEach S c.args.disk.now c.write_block.new.disk (in_two a c.args.place next c.args.start
+    c.args.end c.args.text.now) 2 in
+    if-some (named_at (sector a c.args.place) 0) _ (λ next. passes (Q next) c.from_residual.result _
+    c.from_residual.ensures.1 (puts-stop S c.args.disk.now c.write_block.new.disk (in_block a c.args.place c.args.start 254
+    c.args.text.now ∷ []) _ 1 2 _ (omega arith) (omega arith) c.in_err-write_block.ensures.put))
