@@ -3,7 +3,7 @@
 
 Needs Python 3 alone. `log_model.py [SEED [COMMITS]]` makes a log of random commits, cuts the power during each of them
 at random, and checks that what is left stands for the image before the commit or after it. With `--rows` it prints the
-values that the rows of `crates/tests_log` compare with. It writes no file.
+values that the rows of `crates/tests_worked` compare with. It writes no file.
 """
 import hashlib
 import random

@@ -1,5 +1,6 @@
-//! Worked rows that need several crates at once: disks that are grown, written and cut, and then checked and mended.
-//! Tests only: no program stands on this crate.
+//! Worked rows of a disk's layers, the drive, a shop's sessions and the log. Some need several crates at once: disks that
+//! are grown, written and cut, and then checked and mended. Tests only: no program stands on this crate. They stand here
+//! and not in the crates that they test so that the gate proves those once.
 #![tactic(auto)]
 
 #[cfg(test)]
@@ -27,6 +28,10 @@ mod held_rows;
 #[cfg(test)]
 mod image_rows;
 #[cfg(test)]
+mod layers;
+#[cfg(test)]
+mod logged;
+#[cfg(test)]
 mod mirror_rows;
 #[cfg(test)]
 mod opening_rows;
@@ -44,5 +49,7 @@ mod sessions;
 mod side_rows;
 #[cfg(test)]
 mod stopped_rows;
+#[cfg(test)]
+mod surface;
 #[cfg(test)]
 mod till_rows;

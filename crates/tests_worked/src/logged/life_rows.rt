@@ -1,0 +1,210 @@
+//! The life of a log beside its image, in memory; the power may have failed at any point of it. docs/LOG.md says which
+//! image a folder gives.
+use crate::comparing::{same, same_at};
+use crate::logged::logs::{begun, change, commit, numbered, two_touched, without};
+use log_files::{LiveLog, LogFault, LogFolder, MemFolder, Misfit, land, land_in};
+use shop_log::{ImageLog, LogRoom, MemLog};
+use std::process::Abort;
+
+/// What is found in a folder.
+#[derive(Debug, Drop, PartialEq, Eq)]
+enum Found {
+    /// The image before the commit, and no log.
+    Before,
+    /// The one after it, and no log.
+    After,
+    /// Another image, or a log.
+    Other,
+    NoBase,
+    Foreign,
+    Failed,
+}
+
+/// An image of zeros.
+fn room(rt: &(impl Abort + AllocGlobal)) -> Vec<[u8; 256]> {
+    vec![in rt.alloc(); [0; 256]; 683].expect(rt, "there is memory")
+}
+
+/// The image after the commit.
+fn changed(rt: &(impl Abort + AllocGlobal)) -> Vec<[u8; 256]> {
+    let mut image = numbered(rt);
+    change(image.as_mut_slice());
+    image
+}
+
+/// The image before it, with one of its sectors torn and another one new.
+fn torn(rt: &(impl Abort + AllocGlobal)) -> Vec<[u8; 256]> {
+    let mut image = numbered(rt);
+    if image.len() == 683 {
+        image[357] = [0; 256];
+        image[682][255] = 255;
+    }
+    image
+}
+
+/// The bytes of a log that began with the numbered image and has the commit.
+fn logged(rt: &(impl Abort + AllocGlobal)) -> Vec<u8> {
+    let mut log = begun(rt, numbered(rt).as_slice()).expect(rt, "a log");
+    let done = commit(&mut log, changed(rt).as_slice(), &two_touched());
+    same(rt, done, true);
+    Vec::from_slice(rt.alloc(), log.file().bytes()).expect(rt, "there is memory")
+}
+
+/// The log with its mark.
+fn marked(rt: &(impl Abort + AllocGlobal), log: &[u8]) -> Vec<u8> {
+    let mut copy = Vec::from_slice(rt.alloc(), log).expect(rt, "there is memory");
+    if let Some(byte) = copy.get_mut(4_194_304) {
+        *byte = 1;
+    }
+    copy
+}
+
+/// What a folder has.
+fn held(rt: &(impl Abort + AllocGlobal), folder: &mut MemFolder) -> Found {
+    let mut image = room(rt);
+    if image.len() != 683 || folder.read_image(image.as_mut_slice()).is_err() {
+        return Found::Failed;
+    }
+    match folder.read_log() {
+        Ok(None) if image.as_slice() == numbered(rt).as_slice() => Found::Before,
+        Ok(None) if image.as_slice() == changed(rt).as_slice() => Found::After,
+        _ => Found::Other,
+    }
+}
+
+/// What is found in the folder of this image and log once it was landed.
+fn landed(rt: &(impl Abort + AllocGlobal), image: &[[u8; 256]], log: &[u8]) -> Found {
+    let (mut now, mut shop) = (room(rt), room(rt));
+    if image.len() != 683 || now.len() != 683 || shop.len() != 683 {
+        return Found::Failed;
+    }
+    let mut folder = MemFolder::with_log(rt.alloc(), image, log).expect(rt, "there is memory");
+    match land(&mut folder, now.as_mut_slice(), shop.as_mut_slice()) {
+        Ok(()) => held(rt, &mut folder),
+        Err(LogFault::Unfit(Misfit::NoBase)) => Found::NoBase,
+        Err(LogFault::Unfit(Misfit::Foreign)) => Found::Foreign,
+        Err(LogFault::File(_)) => Found::Failed,
+    }
+}
+
+/// After the commit; in the middle of it; in the middle of the mark, and of IMAGE; and after IMAGE.
+#[test]
+fn power_lost_on_the_way(rt: HostRuntime) {
+    let (old, half, new) = (numbered(&rt), torn(&rt), changed(&rt));
+    let log = logged(&rt);
+    let cut = without(&rt, log.as_slice(), 188_480);
+    let mark = marked(&rt, log.as_slice());
+    let cut_mark = marked(&rt, cut.as_slice());
+    same(
+        &rt,
+        landed(&rt, old.as_slice(), log.as_slice()),
+        Found::After,
+    );
+    same(
+        &rt,
+        landed(&rt, old.as_slice(), cut.as_slice()),
+        Found::Before,
+    );
+    same(
+        &rt,
+        landed(&rt, old.as_slice(), mark.as_slice()),
+        Found::After,
+    );
+    same(
+        &rt,
+        landed(&rt, half.as_slice(), mark.as_slice()),
+        Found::After,
+    );
+    same(
+        &rt,
+        landed(&rt, new.as_slice(), mark.as_slice()),
+        Found::After,
+    );
+    same(
+        &rt,
+        landed(&rt, half.as_slice(), cut_mark.as_slice()),
+        Found::Before,
+    );
+}
+
+/// A log without its mark beside an image that isn't its base; a log of zeros; one that is a byte short.
+#[test]
+fn logs_that_give_no_image(rt: HostRuntime) {
+    let (old, new) = (numbered(&rt), changed(&rt));
+    let log = logged(&rt);
+    same(
+        &rt,
+        landed(&rt, new.as_slice(), log.as_slice()),
+        Found::Foreign,
+    );
+    let zeros = vec![in rt.alloc(); 0; 4_198_400].expect(&rt, "there is memory");
+    same(
+        &rt,
+        landed(&rt, old.as_slice(), zeros.as_slice()),
+        Found::NoBase,
+    );
+    let mut short = logged(&rt);
+    let _ = short.pop();
+    same(
+        &rt,
+        landed(&rt, old.as_slice(), short.as_slice()),
+        Found::NoBase,
+    );
+}
+
+/// A service over this image, which was landed.
+fn service(
+    rt: &(impl Abort + AllocGlobal),
+    image: &[[u8; 256]],
+) -> Option<LiveLog<MemLog, MemFolder>> {
+    if image.len() != 683 {
+        return None;
+    }
+    let mut folder = MemFolder::new(rt.alloc(), image).ok()?;
+    let shop = land_in(rt.alloc(), &mut folder).ok()?;
+    let room = LogRoom::new(rt.alloc()).ok()?;
+    LiveLog::begin(rt.alloc(), folder, room, shop).ok()
+}
+
+/// A service of one commit.
+#[test]
+fn a_service_begins_and_ends(rt: HostRuntime) {
+    let new = changed(&rt);
+    let mut log = service(&rt, numbered(&rt).as_slice()).expect(&rt, "a log");
+    if new.len() == 683 {
+        same(
+            &rt,
+            log.commit(new.as_slice(), &two_touched()).is_ok(),
+            true,
+        );
+    }
+    let (mut folder, end) = log.end();
+    same(&rt, end.is_ok(), true);
+    same(&rt, held(&rt, &mut folder), Found::After);
+}
+
+/// After the base of 46 blocks and 933 commits of one block, fewer than 46 of the 1,024 are free: 1,000 commits need a
+/// second log.
+#[test]
+fn a_full_log_is_renewed(rt: HostRuntime) {
+    let mut image = numbered(&rt);
+    let mut log = service(&rt, image.as_slice()).expect(&rt, "a log");
+    for k in 0..1000u32 {
+        if image.len() == 683 {
+            image[357] = [(k % 256) as u8; 256];
+            let done = log.commit(image.as_slice(), &two_touched()).is_ok();
+            same_at(&rt, done, true, k);
+        }
+    }
+    change(image.as_mut_slice());
+    if image.len() == 683 {
+        same(
+            &rt,
+            log.commit(image.as_slice(), &two_touched()).is_ok(),
+            true,
+        );
+    }
+    let (mut folder, end) = log.end();
+    same(&rt, end.is_ok(), true);
+    same(&rt, held(&rt, &mut folder), Found::After);
+}
