@@ -49,8 +49,8 @@ IsViewIn rows (views.Sector place) = place_in rows ≡ Some place
 
 -- the subcommand that takes this out of an image
 abbrev pub word_of_taking : Taking → Text
-word_of_taking (takings.Records form) = codes "records"
-word_of_taking (takings.Bytes form) = codes "bytes"
+word_of_taking (takings.Records form candidates) = codes "records"
+word_of_taking (takings.Bytes form candidates) = codes "bytes"
 
 -- the words ask for more lines if the job isn't done, before the subcommand or after it
 abbrev pub is_explained : List Row → Option (Text × List Row) → Bool

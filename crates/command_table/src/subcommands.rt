@@ -67,19 +67,19 @@ pub(crate) const SUBCOMMANDS: [Subcommand; 23] = [
         values: &[IMAGE, PLACE],
     },
     // What rescues files and disks.
-    // records IMAGE NAME [--text] [--mixed] [--fields]
+    // records IMAGE NAME [--text] [--mixed] [--fields] [--unclosed]
     Subcommand {
         name: "records",
         about: "Prints the records of a relative file, a line each",
         more: RECORDS,
-        values: &[IMAGE, NAME, TEXT, MIXED, FIELDS],
+        values: &[IMAGE, NAME, TEXT, MIXED, FIELDS, UNCLOSED],
     },
-    // bytes IMAGE NAME [--text] [--mixed]
+    // bytes IMAGE NAME [--text] [--mixed] [--unclosed]
     Subcommand {
         name: "bytes",
         about: "Prints the bytes of a file of any type",
         more: BYTES,
-        values: &[IMAGE, NAME, TEXT, MIXED],
+        values: &[IMAGE, NAME, TEXT, MIXED, UNCLOSED],
     },
     // extract IMAGE FOLDER
     Subcommand {

@@ -95,6 +95,14 @@ pub(crate) const FIELDS: Value = Value {
     help: "A column for each field, which CR ends, instead of one column",
 };
 
+/// The flag of those that print a file that may be unclosed.
+pub(crate) const UNCLOSED: Value = Value {
+    name: "unclosed",
+    word: Some("unclosed"),
+    count: Count::Flag,
+    help: "Takes the first file with the name, closed or not",
+};
+
 /// The flag of those that print text of the disk.
 pub(crate) const TEXT: Value = Value {
     name: "text",

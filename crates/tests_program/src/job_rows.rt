@@ -71,6 +71,10 @@ job ledger bytes --text a.d64 A
 prints bytes, a.d64, , 1, text
 job ledger records a.d64 --fields ADD\\c1
 prints records, a.d64, , 4, fields
+job ledger records a.d64 ADD\\c1 --unclosed
+prints records, a.d64, , 4, unclosed
+job ledger bytes --unclosed a.d64 A --text
+prints bytes, a.d64, , 1, text, unclosed
 job ledger store a.d64 ADD\\c1 r.csv --fields --accept-loss
 prints store, a.d64, r.csv, 4, loss accepted, fields
 job ledger records a.d64 ADD\\c1
