@@ -8,6 +8,7 @@ use Rattle.ledger_jobs.specs.declared.jobs.Loss.{Loss}
 use Rattle.ledger_jobs.specs.declared.jobs.Taking.{Taking}
 use Rattle.ledger_jobs.specs.declared.jobs.Unowned.{Unowned}
 use Rattle.ledger_jobs.specs.declared.jobs.Way.{Way}
+use Rattle.file_rescue.specs.declared.choices.Choice.{Choice}
 use Rattle.keeper_commands.specs.declared.finding.Candidates.{Candidates}
 use Rattle.keeper_commands.specs.declared.forms.ByteForm.{ByteForm}
 use Rattle.keeper_commands.specs.declared.forms.RecordForm.{RecordForm}
@@ -67,6 +68,10 @@ byte_form_in rows = byte_form (set_in rows)
 -- which files may be found by their name: closed ones, but with --unclosed all
 abbrev pub candidates_in : List Row → Candidates
 candidates_in rows = if is_given (codes "unclosed") rows then All else Closed
+
+-- which entries are taken out: with --deleted the deleted ones too
+abbrev pub choice_in : List Row → Choice
+choice_in rows = record { deleted = is_given (codes "deleted") rows }
 
 -- the form of names that the flags ask for
 abbrev pub name_form_in : List Row → NameForm

@@ -69,9 +69,9 @@ serve = with_rule (may_accept_loss (with_rule (over_image (codes "serve")) (flag
 abbrev pub copy : App
 copy = with_rule (over_image (codes "copy")) (required (codes "NEW"))
 
--- extract IMAGE FOLDER
+-- extract IMAGE FOLDER [--deleted]
 abbrev pub extract : App
-extract = with_rule (over_image (codes "extract")) (required (codes "FOLDER"))
+extract = with_rule (with_rule (over_image (codes "extract")) (required (codes "FOLDER"))) (flag (codes "deleted"))
 
 -- repair IMAGE [--accept-loss] [--free] [--dry-run]
 abbrev pub repair : App

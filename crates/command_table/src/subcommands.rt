@@ -81,12 +81,12 @@ pub(crate) const SUBCOMMANDS: [Subcommand; 23] = [
         more: BYTES,
         values: &[IMAGE, NAME, TEXT, MIXED, UNCLOSED],
     },
-    // extract IMAGE FOLDER
+    // extract IMAGE FOLDER [--deleted]
     Subcommand {
         name: "extract",
         about: "Takes all files out of an image, as far as they can be read",
         more: EXTRACT,
-        values: &[IMAGE, FOLDER],
+        values: &[IMAGE, FOLDER, DELETED],
     },
     // repair IMAGE [--accept-loss] [--free] [--dry-run]
     Subcommand {

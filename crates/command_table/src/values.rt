@@ -143,6 +143,14 @@ pub(crate) const FOLDER: Value = Value {
     help: "The folder's path, where nothing may stand yet",
 };
 
+/// The flag that takes deleted files out too.
+pub(crate) const DELETED: Value = Value {
+    name: "deleted",
+    word: Some("deleted"),
+    count: Count::Flag,
+    help: "Takes out deleted files too, if no other file has a block of theirs",
+};
+
 /// A sector of the disk.
 pub(crate) const PLACE: Value = Value {
     name: "T/S",

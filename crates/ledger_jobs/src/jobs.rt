@@ -2,6 +2,7 @@
 use crate::names::Name;
 use d64_image::Place;
 use file_changes::FileType;
+use file_rescue::Choice;
 use keeper_commands::{ByteForm, Candidates, RecordForm};
 use shop_commands::{Durability, NameForm};
 
@@ -215,6 +216,8 @@ pub enum Job<'a> {
     },
     /// All files of an image that is read, made in a folder that isn't there yet.
     Extract {
+        /// Which entries are taken out.
+        choice: Choice,
         /// The image's path.
         image: &'a str,
         /// The folder's path.

@@ -2,6 +2,7 @@
 use crate::runs::texts_of;
 use command_line::command_line;
 use file_changes::FileType;
+use file_rescue::Choice;
 use keeper_commands::{ByteForm, Candidates, RecordForm};
 use ledger_cli::{Job, job};
 use ledger_jobs::{
@@ -54,7 +55,7 @@ fn row_of<'a>(job: &Job<'a>) -> Row<'a> {
         Job::PlayLogged { image, script } => ("play logged", image, script, 0),
         Job::Serve { image, .. } => ("serve", image, "", 0),
         Job::Copy { image, copy } => ("copy", image, copy, 0),
-        Job::Extract { image, folder } => ("extract", image, folder, 0),
+        Job::Extract { image, folder, .. } => ("extract", image, folder, 0),
         Job::Repair { image, .. } => ("repair", image, "", 0),
         Job::Take {
             what: Taking::Records(..),
@@ -176,6 +177,11 @@ fn taken_as(what: Taking) -> &'static str {
     }
 }
 
+/// What is said of the entries that are taken out.
+fn chosen_of(choice: Choice) -> &'static str {
+    if choice.deleted { ", deleted" } else { "" }
+}
+
 /// What is said of the files from which it is taken.
 fn taken_from(what: Taking) -> &'static str {
     match what {
@@ -238,6 +244,7 @@ fn chosen_by(job: &Job<'_>) -> [&'static str; 3] {
         Job::Make { loss, .. } => [said_of(*loss), "", ""],
         Job::Store { columns, loss, .. } => [said_of(*loss), stored_from(*columns), ""],
         Job::List { form, .. } => [names_of(*form), "", ""],
+        Job::Extract { choice, .. } => [chosen_of(*choice), "", ""],
         Job::Take { what, .. } => [taken_as(*what), taken_from(*what), ""],
         Job::Several { what, .. } => [viewed_as(*what), "", ""],
         _ => ["", "", ""],

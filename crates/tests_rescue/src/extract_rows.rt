@@ -2,8 +2,11 @@
 use crate::comparing::same_at;
 use d64_image::{MemDisk, Place, Sectors};
 use disk_layout::Fault;
-use file_rescue::{MemFolder, extract_image};
+use file_rescue::{Choice, MemFolder, extract_image};
 use std::process::Abort;
+
+/// Only the entries of the directory.
+const PLAIN: Choice = Choice { deleted: false };
 
 /// Bytes that are written: a sector, at which of its bytes they begin, and the bytes.
 type Written = (u8, u8, usize, &'static [u8]);
@@ -151,7 +154,7 @@ fn are_extracted(rt: &(impl Abort + AllocGlobal), rows: &[Row]) {
     for row in rows {
         let disk = written(rt, &DISK, row.0);
         let mut folder = MemFolder::new(rt.alloc());
-        let found = extract_image(rt.alloc(), disk.bytes(), &mut folder).expect(rt, "extracted");
+        let found = extract_image(rt.alloc(), PLAIN, disk.bytes(), &mut folder).expect(rt, "extracted");
         same_at(rt, found, fault_of(row.3), row.0);
         has_index(rt, &folder, row);
     }
@@ -174,16 +177,16 @@ fn has_files(rt: &(impl Abort + AllocGlobal), folder: &MemFolder, files: &[(&[u8
 fn files_are_extracted(rt: HostRuntime) {
     let disk = written(&rt, &DISK, SAME);
     let mut folder = MemFolder::new(rt.alloc());
-    let found = extract_image(rt.alloc(), disk.bytes(), &mut folder).expect(&rt, "extracted");
+    let found = extract_image(rt.alloc(), PLAIN, disk.bytes(), &mut folder).expect(&rt, "extracted");
     same_at(&rt, found, None, "the disk");
     has_files(&rt, &folder, &FILES);
     // the folder refuses files that it has, and keeps them
-    let again = extract_image(rt.alloc(), disk.bytes(), &mut folder);
+    let again = extract_image(rt.alloc(), PLAIN, disk.bytes(), &mut folder);
     same_at(&rt, again.is_err(), true, "the folder once more");
     same_at(&rt, folder.files().len(), 4, "the folder once more");
     // and an image of another size makes nothing
     let mut other = MemFolder::new(rt.alloc());
-    let refused = extract_image(rt.alloc(), b"short", &mut other);
+    let refused = extract_image(rt.alloc(), PLAIN, b"short", &mut other);
     same_at(&rt, refused.is_err(), true, "another size");
     same_at(&rt, other.files().len(), 0, "another size");
 }

@@ -99,7 +99,7 @@ returns-in-copy c = record {
 pub returns-in-extract : goal.returns-in-extract
 returns-in-extract c = record {
   job = met-has c.parsed_subcommand.result _ c.in-Some.name c.in-Some.found _ _ c.parsed_subcommand.ensures c.in-Some.is c.in-extract.is
-      (c.value_of-image.ensures, c.value_of-in-extract.ensures);
+      (c.value_of-image.ensures, c.value_of-in-extract.ensures, c.choice.ensures);
   fit = tt;
 }
 
