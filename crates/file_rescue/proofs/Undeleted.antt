@@ -100,8 +100,7 @@ undeleted-more img directory files [] s f found are slot rescued = (
 )
 undeleted-more img directory files (t ∷ ss) s f found (g, rest, same, reached, are, is) slot rescued =
     let o : Option Place = first_shared (owned directory (files ++ f ∷ [])) f.blocks.items in
-    let q : Option Place = first_shared (owned directory (files ++ g ∷ [])) g.blocks.items in
-    (
+    let q : Option Place = first_shared (owned directory (files ++ g ∷ [])) g.blocks.items in (
       g,
       rest ++ with_unshared o f [],
       same,

@@ -201,11 +201,7 @@ const UNCLOSED: [Row; 5] = [
     ),
     // it is closed, and stands before one that isn't
     (
-        &[
-            (18, 1, 66, GAME),
-            (18, 1, 98, OPEN),
-            (17, 6, 0, b"\0\x02A"),
-        ],
+        &[(18, 1, 66, GAME), (18, 1, 98, OPEN), (17, 6, 0, b"\0\x02A")],
         NAME,
         &[(b"A", 0)],
         "",

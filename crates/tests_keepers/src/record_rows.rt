@@ -155,7 +155,12 @@ fn records_that_can_be_reached_are_printed(rt: HostRuntime) {
 /// file of the name, closed or not.
 const UNCLOSED: [(&[Change], &[u8], bool, &str); 6] = [
     (&[CARD], b"STOCK", true, ""),
-    (&[CARD, (18, 1, 2, &[0x04])], b"STOCK", true, "LAYOUT UNCLOSED 18/1"),
+    (
+        &[CARD, (18, 1, 2, &[0x04])],
+        b"STOCK",
+        true,
+        "LAYOUT UNCLOSED 18/1",
+    ),
     // nothing else of the disk counts
     (&[CARD, LOST_SIDE, (17, 2, 0, &[17, 2])], b"STOCK", true, ""),
     (

@@ -49,6 +49,8 @@ job ledger copy a.d64 b.d64
 prints copy, a.d64, b.d64, 0
 job ledger extract a.d64 out
 prints extract, a.d64, out, 0
+job ledger extract --deleted a.d64 out
+prints extract, a.d64, out, 0, deleted
 job ledger repair a.d64
 prints repair, a.d64, , 0
 job ledger make a.d64 ADD\\c1 --length 30
