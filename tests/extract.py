@@ -12,7 +12,9 @@ The script compares
 - the names of the folder's files, which begin with a digit or are index.csv, and that nothing else was made or changed;
 - each file's bytes, the lines of its records, and the index, which Python's csv reads;
 - the status, standard output and standard error;
-- what `bytes` and `records` print of each closed entry (of random images the first two), and how they end.
+- what `bytes` and `records` print of each closed entry (of random images the first two), and how they end;
+- the same with `--unclosed`, of each entry.
+Each image is taken out a second time with `--deleted`.
 It ends at the first difference with status 1, and keeps the image."""
 
 import csv
@@ -88,15 +90,19 @@ def shown(byte):
 class Wanted:
     """The files that an image has to give, the faults in the order in which they are reported, and the chains."""
 
-    def __init__(self, image):
+    def __init__(self, image, deleted=False):
         sectors, fault = directory(image)
-        slots = [(place, sector(image, place)[at:at + 32]) for place in sectors for at in range(0, 256, 32)]
-        slots = [(place, slot) for place, slot in slots if slot[2]]
+        every = [(place, sector(image, place)[at:at + 32]) for place in sectors for at in range(0, 256, 32)]
+        slots = [(place, slot) for place, slot in every if slot[2]]
         chains = [self.reach(image, place, slot) for place, slot in slots]
+        if deleted:
+            for place, slot, blocks in self.deleted(image, every, {MAP, *sectors, *(block for reach in chains for block in reach[0])}):
+                slots.append((place, slot))
+                chains.append(blocks)
         owned = {}
         for place in [MAP, *sectors, *(block for blocks, _, _ in chains for block in blocks)]:
             owned[place] = owned.get(place, 0) + 1
-        self.files, self.faults, rows, self.closed = {}, [fault] if fault else [], [], []
+        self.files, self.faults, rows, self.named = {}, [fault] if fault else [], [], []
         for number, ((place, slot), (blocks, last, ended)) in enumerate(zip(slots, chains), 1):
             shared = next((block for block in blocks if owned[block] > 1), None)
             data = self.data(image, blocks, last)
@@ -105,16 +111,27 @@ class Wanted:
             if slot[2] % 16 == 4 and 1 <= slot[23] <= 254:
                 self.files[file_name(number, slot[5:21].rstrip(b"\xa0"), ".csv")] = self.lines(data, slot[23])
             told = ended or (f"OWNEDTWICE {shared[0]}/{shared[1]}" if shared else "")
-            told = told or ("" if slot[2] >= 128 else f"UNCLOSED {place[0]}/{place[1]}")
+            told = told or ("" if slot[2] >= 128 or slot[2] == 0 else f"UNCLOSED {place[0]}/{place[1]}")
             self.faults += [told] if told else []
-            if slot[2] >= 128:
-                own = fault or ended or (f"OWNEDTWICE {shared[0]}/{shared[1]}" if shared else "")
-                self.closed.append((slot[5:21].rstrip(b"\xa0"), slot, data, own))
+            self.named.append((slot[5:21].rstrip(b"\xa0"), slot, data, fault or told))
         self.rows = rows
 
+    def names(self, is_asked, most):
+        """The first names of entries that are asked for."""
+        return [name for name in dict.fromkeys(its for its, slot, _, _ in self.named if is_asked(slot)) if name][:most]
+
     def first(self, name, is_asked):
-        """The bytes of the first closed entry of this name that is asked for, its slot, and its fault."""
-        return next(((data, slot, own) for its, slot, data, own in self.closed if its == name and is_asked(slot)), None)
+        """The bytes of the first entry of this name that is asked for, its slot, and its fault."""
+        return next(((data, slot, own) for its, slot, data, own in self.named if its == name and is_asked(slot)), None)
+
+    @classmethod
+    def deleted(cls, image, every, owned):
+        """The deleted slots, and what can be reached of them, of which no block is among these."""
+        for place, slot in every:
+            if slot[2] == 0 and slot[5:21].rstrip(b"\xa0") and tuple(slot[3:5]) in INDEX:
+                reach = cls.reach(image, place, slot)
+                if not owned & set(reach[0]):
+                    yield place, slot, reach
 
     @staticmethod
     def reach(image, place, slot):
@@ -146,13 +163,13 @@ class Wanted:
                 f"{shared[0]}/{shared[1]}" if shared else ""]
 
 
-def extracted(program, folder, image):
+def extracted(program, folder, image, deleted):
     """Takes an image out, and compares all that came of it. Returns how many files there are, and the status."""
     path, out, beside = folder / "disk.d64", folder / "out", folder / "beside"
     path.write_bytes(image)
     beside.write_text("stays")
-    ran = subprocess.run([program, "extract", path, out], capture_output=True)
-    wanted = Wanted(image)
+    ran = subprocess.run([program, "extract", path, out, *(["--deleted"] if deleted else [])], capture_output=True)
+    wanted = Wanted(image, deleted)
     want("what stands beside the folder", sorted(entry.name for entry in folder.iterdir()), ["beside", "disk.d64", "out"])
     want("the file beside", (beside.read_text(), path.read_bytes() == image), ("stays", True))
     got = {entry.name: entry.read_bytes() for entry in out.iterdir()}
@@ -186,22 +203,34 @@ def has_records(slot):
 
 
 def taken(program, folder, image, most):
-    """Compares what `bytes` and `records` print of the first names of an image's closed entries."""
+    """Compares what `bytes` and `records` print of the first names of an image's entries, of closed ones and of all."""
     path, wanted = folder / "disk.d64", Wanted(image)
-    names = [name for name in dict.fromkeys(its for its, _, _, _ in wanted.closed) if name][:most]
+    path.write_bytes(image)
+    names = wanted.names(is_closed, most)
     found = subprocess.run([program, "check", path], capture_output=True).stdout.decode().strip() if names else ""
     for name in names:
-        data, _, own = wanted.first(name, lambda slot: True)
-        ran = subprocess.run([program, "bytes", path, "--", name_text(name)], capture_output=True)
-        want(f"the bytes of {name}", ran.stdout, data)
-        ends_with(f"the end of bytes {name}", ran, own, [])
-        first = wanted.first(name, has_records)
-        if first:
-            data, slot, own = first
-            ran = subprocess.run([program, "records", path, "--", name_text(name)], capture_output=True)
-            want(f"the records of {name}", ran.stdout, Wanted.lines(data, slot[23]))
-            ends_with(f"the end of records {name}", ran, own, [f"LAYOUT {found}\n"])
+        taken_of(program, path, wanted, name, is_closed, [f"LAYOUT {found}\n"])
+    for name in wanted.names(lambda slot: True, most):
+        taken_of(program, path, wanted, name, lambda slot: True, [], "--unclosed")
     return len(names)
+
+
+def taken_of(program, path, wanted, name, is_asked, others, *words):
+    """Compares what is printed of one name with these words."""
+    data, _, own = wanted.first(name, is_asked)
+    ran = subprocess.run([program, "bytes", path, *words, "--", name_text(name)], capture_output=True)
+    want(f"the bytes of {name} {words}", ran.stdout, data)
+    ends_with(f"the end of bytes {name} {words}", ran, own, [])
+    first = wanted.first(name, lambda slot: is_asked(slot) and has_records(slot))
+    if first:
+        data, slot, own = first
+        ran = subprocess.run([program, "records", path, *words, "--", name_text(name)], capture_output=True)
+        want(f"the records of {name} {words}", ran.stdout, Wanted.lines(data, slot[23]))
+        ends_with(f"the end of records {name} {words}", ran, own, others)
+
+
+def is_closed(slot):
+    return slot[2] >= 128
 
 
 def ends_with(what, ran, own, others):
@@ -281,7 +310,8 @@ def main():
         tried = chain_of(((image, 144) for image in tools_disks(Path(made))), ((image, 2) for image in random_disks(seed, count)))
         for image, most in tried:
             try:
-                had, status = extracted(program, Path(work), image)
+                extracted(program, Path(work), image, True)
+                had, status = extracted(program, Path(work), image, False)
                 names += taken(program, Path(work), image, most)
             except Differs as error:
                 Path("extract-differs.d64").write_bytes(image)

@@ -8,6 +8,8 @@ use Rattle.ledger_jobs.specs.declared.jobs.Loss.{Loss}
 use Rattle.ledger_jobs.specs.declared.jobs.Taking.{Taking}
 use Rattle.ledger_jobs.specs.declared.jobs.Unowned.{Unowned}
 use Rattle.ledger_jobs.specs.declared.jobs.Way.{Way}
+use Rattle.file_rescue.specs.declared.choices.Choice.{Choice}
+use Rattle.keeper_commands.specs.declared.finding.Candidates.{Candidates}
 use Rattle.keeper_commands.specs.declared.forms.ByteForm.{ByteForm}
 use Rattle.keeper_commands.specs.declared.forms.RecordForm.{RecordForm}
 use Rattle.ledger_jobs.specs.declared.jobs.Columns.{Columns}
@@ -23,6 +25,7 @@ use Rattle.ledger_jobs.specs.declared.jobs.Loss.TheVariants as losses
 use Rattle.ledger_jobs.specs.declared.jobs.Taking.TheVariants as takings
 use Rattle.ledger_jobs.specs.declared.jobs.Unowned.TheVariants as unowneds
 use Rattle.ledger_jobs.specs.declared.jobs.Way.TheVariants as ways
+use Rattle.keeper_commands.specs.declared.finding.Candidates.TheVariants.{All, Closed}
 use Rattle.keeper_commands.specs.declared.forms.ByteForm.TheVariants as bytes
 use Rattle.keeper_commands.specs.declared.forms.RecordForm.TheVariants as records
 use Rattle.ledger_jobs.specs.declared.jobs.Columns.TheVariants as columns
@@ -62,6 +65,14 @@ columns_in rows = if is_given (codes "fields") rows then columns.Fields else col
 abbrev pub byte_form_in : List Row → ByteForm
 byte_form_in rows = byte_form (set_in rows)
 
+-- which files may be found by their name: closed ones, but with --unclosed all
+abbrev pub candidates_in : List Row → Candidates
+candidates_in rows = if is_given (codes "unclosed") rows then All else Closed
+
+-- which entries are taken out: with --deleted the deleted ones too
+abbrev pub choice_in : List Row → Choice
+choice_in rows = record { deleted = is_given (codes "deleted") rows }
+
 -- the form of names that the flags ask for
 abbrev pub name_form_in : List Row → NameForm
 name_form_in rows = name_form (set_in rows)
@@ -90,10 +101,10 @@ unowned_in rows = if is_given (codes "free") rows then unowneds.Freed else unown
 abbrev pub effect_in : List Row → Effect
 effect_in rows = if is_given (codes "dry-run") rows then effects.Printed else effects.Written
 
--- the flags ask for what is taken in this form
+-- the flags ask for what is taken in this form, and of these files
 abbrev pub IsTakenBy : Taking → List Row → Type 0
-IsTakenBy (takings.Records form) rows = form ≡ record_form_in rows
-IsTakenBy (takings.Bytes form) rows = form ≡ byte_form_in rows
+IsTakenBy (takings.Records form candidates) rows = (form ≡ record_form_in rows) × (candidates ≡ candidates_in rows)
+IsTakenBy (takings.Bytes form candidates) rows = (form ≡ byte_form_in rows) × (candidates ≡ candidates_in rows)
 
 -- the flags ask for this overview; with --json `check` describes images in place of it
 abbrev pub IsViewedBy : Overview → List Row → Type 0

@@ -12,7 +12,7 @@ use Rattle.ledger_jobs.specs.Names.{IsNameOf, name_bytes}
 use Rattle.command_line.specs.declared.faults.JobFault.{JobFault}
 use Rattle.command_line.specs.Numbers.{tills_in, length_in, place_in}
 use Rattle.command_line.specs.Forms.{columns_in, way_in, serve_durability, loss_in, unowned_in, effect_in, IsTakenBy}
-use Rattle.command_line.specs.Forms.{IsViewedBy}
+use Rattle.command_line.specs.Forms.{IsViewedBy, choice_in}
 use Rattle.command_line.specs.Images.{word_of_drawing, AreCompared, AreOnSheet, IsNoPicture, IsDrawnBy}
 use Rattle.command_line.specs.Images.{word_of_overview, IsOnlyImage, AreImages, AreDescribed}
 use Rattle.command_line.specs.Names.{HasNoName, HasNoNewName, HasName, HasNewName, IsIdOf, HasNoId, HasNoRenaming, type_in}
@@ -49,8 +49,8 @@ IsViewIn rows (views.Sector place) = place_in rows ≡ Some place
 
 -- the subcommand that takes this out of an image
 abbrev pub word_of_taking : Taking → Text
-word_of_taking (takings.Records form) = codes "records"
-word_of_taking (takings.Bytes form) = codes "bytes"
+word_of_taking (takings.Records form candidates) = codes "records"
+word_of_taking (takings.Bytes form candidates) = codes "bytes"
 
 -- the words ask for more lines if the job isn't done, before the subcommand or after it
 abbrev pub is_explained : List Row → Option (Text × List Row) → Bool
@@ -98,8 +98,9 @@ IsJob found (jobs.Serve image way durability loss) = Has found (codes "serve")
     × (loss ≡ loss_in rows))
 IsJob found (jobs.Copy image copy) = Has found (codes "copy")
     (λ rows. (image.now ≡ value (codes "IMAGE") rows) × (copy.now ≡ value (codes "NEW") rows))
-IsJob found (jobs.Extract image folder) = Has found (codes "extract")
-    (λ rows. (image.now ≡ value (codes "IMAGE") rows) × (folder.now ≡ value (codes "FOLDER") rows))
+IsJob found (jobs.Extract choice image folder) = Has found (codes "extract")
+    (λ rows. (image.now ≡ value (codes "IMAGE") rows) × (folder.now ≡ value (codes "FOLDER") rows)
+    × (choice ≡ choice_in rows))
 IsJob found (jobs.Repair image loss unowned effect) = Has found (codes "repair")
     (λ rows. (image.now ≡ value (codes "IMAGE") rows) × (loss ≡ loss_in rows) × (unowned ≡ unowned_in rows)
     × (effect ≡ effect_in rows))

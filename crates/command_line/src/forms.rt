@@ -3,10 +3,12 @@ ghost use Rattle.std.specs.Prelude.{◌≡◌};
 ghost use Rattle.clap.specs.Words.{found_of, rows_of};
 ghost use Rattle.command_line.specs.Forms.{effect_in, loss_in, unowned_in, serve_durability as of_serve, way_in};
 ghost use Rattle.command_line.specs.Forms.{byte_form_in, columns_in, findings_in, name_form_in, record_form_in, set_in};
+ghost use Rattle.command_line.specs.Forms.{candidates_in, choice_in};
 
 use crate::values::is_given;
 use clap::ArgMatches;
-use keeper_commands::{ByteForm, RecordForm};
+use file_rescue::Choice;
+use keeper_commands::{ByteForm, Candidates, RecordForm};
 use ledger_jobs::{Columns, Effect, Findings, Loss, Unowned, Way};
 use petscii_text::CharacterSet;
 use shop_commands::{Durability, NameForm};
@@ -110,6 +112,26 @@ pub(crate) fn byte_form<'a>(matches: &ArgMatches<'a>) -> ByteForm
     match text_set(matches) {
         Some(set) => ByteForm::Text(set),
         None => ByteForm::Plain,
+    }
+}
+
+/// Which files may be found by their name.
+pub(crate) fn candidates<'a>(matches: &ArgMatches<'a>) -> Candidates
+    ensures { result ≡ candidates_in (rows_of (found_of matches.now)) }
+{
+    if is_given(matches, "unclosed") {
+        Candidates::All
+    } else {
+        Candidates::Closed
+    }
+}
+
+/// Which entries are taken out.
+pub(crate) fn choice<'a>(matches: &ArgMatches<'a>) -> Choice
+    ensures { result ≡ choice_in (rows_of (found_of matches.now)) }
+{
+    Choice {
+        deleted: is_given(matches, "deleted"),
     }
 }
 

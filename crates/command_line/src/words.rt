@@ -7,7 +7,8 @@ ghost use Rattle.command_line.specs.Jobs.{IsHeard, IsJob, IsNoJob, IsParse, is_e
 
 use crate::faults::JobFault;
 use crate::forms::{
-    byte_form, effect, loss, name_form, record_form, serve_durability, unowned, way,
+    byte_form, candidates, choice, effect, loss, name_form, record_form, serve_durability, unowned,
+    way,
 };
 use crate::images::{checking, picturing, viewing};
 use crate::names::{deleting, empty_disk, making, putting, renaming, storing, taking};
@@ -51,6 +52,7 @@ fn job_of<'a>(alloc: Global, matches: &ArgMatches<'a>) -> Result<Job<'a>, JobFau
             copy: value_of(found, "NEW"),
         }),
         "extract" => Ok(Job::Extract {
+            choice: choice(found),
             image,
             folder: value_of(found, "FOLDER"),
         }),
@@ -60,8 +62,14 @@ fn job_of<'a>(alloc: Global, matches: &ArgMatches<'a>) -> Result<Job<'a>, JobFau
             unowned: unowned(found),
             effect: effect(found),
         }),
-        "records" => taking(found, Taking::Records(record_form(found)), image),
-        "bytes" => taking(found, Taking::Bytes(byte_form(found)), image),
+        "records" => {
+            let what = Taking::Records(record_form(found), candidates(found));
+            taking(found, what, image)
+        }
+        "bytes" => {
+            let what = Taking::Bytes(byte_form(found), candidates(found));
+            taking(found, what, image)
+        }
         "make" => making(found, image),
         "store" => storing(found, image),
         "put" => putting(found, image),

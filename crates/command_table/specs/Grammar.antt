@@ -69,23 +69,27 @@ serve = with_rule (may_accept_loss (with_rule (over_image (codes "serve")) (flag
 abbrev pub copy : App
 copy = with_rule (over_image (codes "copy")) (required (codes "NEW"))
 
--- extract IMAGE FOLDER
+-- extract IMAGE FOLDER [--deleted]
 abbrev pub extract : App
-extract = with_rule (over_image (codes "extract")) (required (codes "FOLDER"))
+extract = with_rule (with_rule (over_image (codes "extract")) (required (codes "FOLDER"))) (flag (codes "deleted"))
 
 -- repair IMAGE [--accept-loss] [--free] [--dry-run]
 abbrev pub repair : App
 repair = with_rule (with_rule (may_accept_loss (over_image (codes "repair"))) (flag (codes "free")))
     (flag (codes "dry-run"))
 
--- records IMAGE NAME [--text] [--mixed] [--fields]
-abbrev pub records : App
-records = with_rule (may_be_text (with_rule (over_image (codes "records")) (required (codes "NAME"))))
-    (flag (codes "fields"))
+-- a subcommand that takes a file that isn't closed too, if --unclosed is given
+abbrev pub may_be_unclosed : App → App
+may_be_unclosed a = with_rule a (flag (codes "unclosed"))
 
--- bytes IMAGE NAME [--text] [--mixed]
+-- records IMAGE NAME [--text] [--mixed] [--fields] [--unclosed]
+abbrev pub records : App
+records = may_be_unclosed (with_rule (may_be_text (with_rule (over_image (codes "records")) (required (codes "NAME"))))
+    (flag (codes "fields")))
+
+-- bytes IMAGE NAME [--text] [--mixed] [--unclosed]
 abbrev pub bytes : App
-bytes = may_be_text (with_rule (over_image (codes "bytes")) (required (codes "NAME")))
+bytes = may_be_unclosed (may_be_text (with_rule (over_image (codes "bytes")) (required (codes "NAME"))))
 
 -- make IMAGE NAME --length L [--accept-loss]
 abbrev pub make : App

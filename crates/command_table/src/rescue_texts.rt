@@ -7,7 +7,8 @@ damaged, it prints what can be read, and then reports a fault.
 --text and --mixed print lines for people: `store` doesn't take them back.
 --fields prints a column for each field, which a CR ends: 1,\"MILK\",\"12\". A last
 column \\- says that the last field has no CR. `store --fields` takes these lines
-back. With --fields, --text and --mixed have no effect.
+back. With --fields, --text and --mixed have no effect. With --unclosed nothing
+of the disk but the file is checked.
 
 Exit status:
   0  the records were printed
@@ -22,7 +23,8 @@ Example: ledger records old.d64 ADDRESS > address.csv";
 pub(crate) const BYTES: &str = "\
 Prints the bytes of the first closed file with this name. If the file is
 damaged, it prints what can be read, and then reports the fault. With --text or
---mixed each CR ends a line.
+--mixed each CR ends a line. With --unclosed it takes the first file with this
+name, and reports UNCLOSED if that isn't closed.
 
 Exit status:
   0  the bytes were printed
@@ -38,7 +40,8 @@ pub(crate) const EXTRACT: &str = "\
 Makes FOLDER, and in it a file for each entry of the directory, for example
 01-LETTER 02.prg. A relative file also has its records as lines (.csv). What can
 be read of a damaged file is taken, and index.csv says what was found. Prints
-EXTRACTED if all files are whole.
+EXTRACTED if all files are whole. With --deleted deleted files come after all
+others (.del), if no block of theirs is also another file's.
 
 Exit status:
   0  all files are whole

@@ -4,10 +4,10 @@ use crate::look_texts::{CHECK, FREE, LIST, MAP, PICTURE, SECTOR};
 use crate::rescue_texts::{BYTES, EXTRACT, RECORDS, REPAIR, TRIM};
 use crate::shop_texts::{COPY, DRY, FORMAT, PLAY, SERVE, SHOW};
 use crate::values::{
-    ACCEPT_LOSS, ALL, COMPARE, COPY_PATH, DISK_ID, DISK_NAME, DRY_RUN, FIELDS, FILE, FILE_TYPE,
-    FOLDER, FREE_SECTORS, IMAGE, IMAGES, IN_PLACE, JSON, LENGTH, LOG, MIXED, NAME, NEW_NAME,
-    OLD_NAME, ONLY_NEW, PLACE, RECORD_LINES, SCRIPT, SHEET, SVG, SYNC, TEXT, TILLS, UNSYNCED,
-    Value,
+    ACCEPT_LOSS, ALL, COMPARE, COPY_PATH, DELETED, DISK_ID, DISK_NAME, DRY_RUN, FIELDS, FILE,
+    FILE_TYPE, FOLDER, FREE_SECTORS, IMAGE, IMAGES, IN_PLACE, JSON, LENGTH, LOG, MIXED, NAME,
+    NEW_NAME, OLD_NAME, ONLY_NEW, PLACE, RECORD_LINES, SCRIPT, SHEET, SVG, SYNC, TEXT, TILLS,
+    UNCLOSED, UNSYNCED, Value,
 };
 
 /// A subcommand, and what help says of it: in a line, and below its words.
@@ -67,26 +67,26 @@ pub(crate) const SUBCOMMANDS: [Subcommand; 23] = [
         values: &[IMAGE, PLACE],
     },
     // What rescues files and disks.
-    // records IMAGE NAME [--text] [--mixed] [--fields]
+    // records IMAGE NAME [--text] [--mixed] [--fields] [--unclosed]
     Subcommand {
         name: "records",
         about: "Prints the records of a relative file, a line each",
         more: RECORDS,
-        values: &[IMAGE, NAME, TEXT, MIXED, FIELDS],
+        values: &[IMAGE, NAME, TEXT, MIXED, FIELDS, UNCLOSED],
     },
-    // bytes IMAGE NAME [--text] [--mixed]
+    // bytes IMAGE NAME [--text] [--mixed] [--unclosed]
     Subcommand {
         name: "bytes",
         about: "Prints the bytes of a file of any type",
         more: BYTES,
-        values: &[IMAGE, NAME, TEXT, MIXED],
+        values: &[IMAGE, NAME, TEXT, MIXED, UNCLOSED],
     },
-    // extract IMAGE FOLDER
+    // extract IMAGE FOLDER [--deleted]
     Subcommand {
         name: "extract",
         about: "Takes all files out of an image, as far as they can be read",
         more: EXTRACT,
-        values: &[IMAGE, FOLDER],
+        values: &[IMAGE, FOLDER, DELETED],
     },
     // repair IMAGE [--accept-loss] [--free] [--dry-run]
     Subcommand {

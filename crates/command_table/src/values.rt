@@ -95,6 +95,14 @@ pub(crate) const FIELDS: Value = Value {
     help: "A column for each field, which CR ends, instead of one column",
 };
 
+/// The flag of those that print a file that may be unclosed.
+pub(crate) const UNCLOSED: Value = Value {
+    name: "unclosed",
+    word: Some("unclosed"),
+    count: Count::Flag,
+    help: "Takes the first file with the name, closed or not",
+};
+
 /// The flag of those that print text of the disk.
 pub(crate) const TEXT: Value = Value {
     name: "text",
@@ -133,6 +141,14 @@ pub(crate) const FOLDER: Value = Value {
     word: None,
     count: Count::One,
     help: "The folder's path, where nothing may stand yet",
+};
+
+/// The flag that takes deleted files out too.
+pub(crate) const DELETED: Value = Value {
+    name: "deleted",
+    word: Some("deleted"),
+    count: Count::Flag,
+    help: "Takes out deleted files too, if no other file has a block of theirs",
 };
 
 /// A sector of the disk.

@@ -10,23 +10,25 @@ use Rattle.disk_layout.specs.declared.slot.Slot.{Slot}
 use Rattle.keeper_commands.specs.declared.faults.KeepFault.{KeepFault}
 use Rattle.disk_entries.specs.Directories.{IsReadSoFar}
 use Rattle.file_rescue.specs.Folders.{AddsFiles, AddsPart, NewFile}
-use Rattle.file_rescue.specs.Rescues.{AreRescued, IsExtractFault, IsExtracted, IsExtractedPart, IsMakeFault, IsRescue, all_files, first_fault}
+use Rattle.file_rescue.specs.Rescues.{AreChosen, IsExtractFault, IsExtracted, IsExtractedPart, IsMakeFault, IsRescue, all_files, first_fault}
 use Rattle.file_rescue.specs.Sharing.{owned}
+use Rattle.file_rescue.specs.declared.choices.Choice.{Choice}
 use Rattle.file_rescue.specs.declared.rescuing.Rescued.{Rescued}
 
-module _ {F : Type 0} (files : F → Option (List NewFile)) (image : List ℕ) (old new : F) (first second third : Image)
-    (sectors shown : List Place) (entries listed : List Slot) (all lent : List Rescued) (found : Option Fault)
+module _ {F : Type 0} (files : F → Option (List NewFile)) (choice : Choice) (image : List ℕ) (old new : F)
+    (first second third : Image)
+    (sectors chosen shown : List Place) (entries : List Slot) (all lent : List Rescued) (found : Option Fault)
     (size : length image ≡ 174848) (is : first ≡ sectors_in image) (same : second ≡ first) (again : third ≡ second)
-    (read : IsReadSoFar first sectors entries found) (listed-is : listed ≡ entries)
-    (rescued : AreRescued second listed all) (shown-is : shown ≡ sectors) (lent-is : lent ≡ all)
+    (read : IsReadSoFar first sectors entries found) (chosen-is : chosen ≡ sectors)
+    (rescued : AreChosen choice second chosen all) (shown-is : shown ≡ sectors) (lent-is : lent ≡ all)
   where
-    rescue : IsRescue image sectors all found
+    rescue : IsRescue choice image sectors all found
     rescue = record {
       size = size;
       entries = entries;
       read = subst (λ (img : Image). IsReadSoFar img sectors entries found) is read;
-      rescued = subst (λ (es : List Slot). AreRescued (sectors_in image) es all) listed-is
-          (subst (λ (img : Image). AreRescued img listed all) (same ∙ is) rescued);
+      rescued = subst (λ (ps : List Place). AreChosen choice (sectors_in image) ps all) chosen-is
+          (subst (λ (img : Image). AreChosen choice img chosen all) (same ∙ is) rescued);
     }
 
     -- the files are those of the image
@@ -45,7 +47,7 @@ module _ {F : Type 0} (files : F → Option (List NewFile)) (image : List ℕ) (
 
     pub extracted : (r : Result (Option Fault) KeepFault)
         → IfOk r (λ fault. AddsFiles (files old) (files new) (all_files third shown lent)
-        × (fault ≡ first_fault third (owned shown lent) 1 found lent)) → IfOk r (IsExtracted files image old new)
+        × (fault ≡ first_fault third (owned shown lent) 1 found lent)) → IfOk r (IsExtracted files choice image old new)
     extracted r = IfOk-weaker r _ _ (λ fault holds. record {
       directory = sectors;
       rescued = all;
@@ -55,7 +57,7 @@ module _ {F : Type 0} (files : F → Option (List NewFile)) (image : List ℕ) (
       told = holds.1 ∙ fault-is;
     })
 
-    part : AddsPart (files old) (files new) (all_files third shown lent) → IsExtractedPart files image old new
+    part : AddsPart (files old) (files new) (all_files third shown lent) → IsExtractedPart files choice image old new
     part added = record {
       directory = sectors;
       rescued = all;
@@ -66,8 +68,8 @@ module _ {F : Type 0} (files : F → Option (List NewFile)) (image : List ℕ) (
 
     pub not-extracted : (r : Result (Option Fault) KeepFault)
         → IfErr r (λ fault. IsMakeFault fault × AddsPart (files old) (files new) (all_files third shown lent))
-        → IfErr r (IsExtractFault files image old new)
+        → IfErr r (IsExtractFault files choice image old new)
     not-extracted r = IfErr-weaker r _ _ (λ fault holds. elim holds.0 [
-      | inl file ↦ subst (IsExtractFault files image old new) (sym file) (size, part holds.1)
-      | inr memory ↦ subst (IsExtractFault files image old new) (sym memory) (size, inr (part holds.1))
+      | inl file ↦ subst (IsExtractFault files choice image old new) (sym file) (size, part holds.1)
+      | inr memory ↦ subst (IsExtractFault files choice image old new) (sym memory) (size, inr (part holds.1))
     ])

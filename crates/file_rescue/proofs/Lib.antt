@@ -4,3 +4,4 @@ pub mod Inside
 pub mod Made
 pub mod Parts
 pub mod Reached
+pub mod Undeleted

@@ -1,3 +1,4 @@
+pub mod Deleted
 pub mod Folders
 pub mod Index
 pub mod Memory

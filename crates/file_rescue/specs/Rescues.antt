@@ -1,20 +1,20 @@
 -- What is rescued of the files of a disk, and the files that are made of it. Our own.
 use Rattle.std.specs.Prelude.{◌≡◌, ◌≢◌, ◌⊎◌, ◌≤◌, ℕ, ◌+◌, ◌/◌, ◌%◌, ◌&&◌, Bool, List, [], ◌∷◌, ◌++◌, None, Option, Some, codes}
+use Rattle.std.specs.Prelude.{false, true}
 use Rattle.std.specs.Prelude.{if◌then◌else◌, length, map, nat_eq, nat_le, nat_lt}
 use Rattle.std.specs.List.{AllByRecursion}
 use Rattle.std.specs.Option.{option_or}
 use Rattle.d64_image.specs.Images.{Image}
 use Rattle.d64_image.specs.Memory.{sectors_in}
 use Rattle.d64_image.specs.declared.place.Place.{Place}
-use Rattle.disk_layout.specs.Directory.{type_byte}
+use Rattle.disk_layout.specs.Directory.{type_byte, used_slots}
 use Rattle.disk_layout.specs.Layout.{record_length}
 use Rattle.disk_layout.specs.declared.faults.Fault.{Fault}
-use Rattle.disk_layout.specs.declared.faults.Fault.TheVariants.{Unclosed}
 use Rattle.disk_layout.specs.declared.slot.Slot.{Slot}
 use Rattle.disk_rescue.specs.Reached.{IsReached}
 use Rattle.disk_rescue.specs.Sharing.{first_shared, shared_fault}
 use Rattle.keeper_commands.specs.Bytes.{file_bytes}
-use Rattle.keeper_commands.specs.Found.{records_length}
+use Rattle.keeper_commands.specs.Found.{records_length, unclosed}
 use Rattle.keeper_commands.specs.Records.{records_of, records_text}
 use Rattle.keeper_commands.specs.declared.faults.KeepFault.{KeepFault}
 use Rattle.keeper_commands.specs.declared.faults.KeepFault.TheVariants as keep
@@ -22,10 +22,12 @@ use Rattle.petscii_text.specs.FileNames.{ending_of, file_name_of}
 use Rattle.petscii_text.specs.declared.file_names.Ending.{Ending}
 use Rattle.petscii_text.specs.declared.file_names.Ending.TheVariants.{Records}
 use Rattle.disk_entries.specs.Directories.{IsReadSoFar}
+use Rattle.file_rescue.specs.Deleted.{deleted_slots}
 use Rattle.file_rescue.specs.Folders.{AddsFiles, AddsPart, NewFile, new_file}
 use Rattle.file_rescue.specs.Index.{heading, row_text}
 use Rattle.disk_entries.specs.Names.{name_of}
 use Rattle.file_rescue.specs.Sharing.{owned}
+use Rattle.file_rescue.specs.declared.choices.Choice.{Choice}
 use Rattle.file_rescue.specs.declared.rescuing.Rescued.{Rescued}
 use Rattle.file_rescue.specs.declared.rows.Row.{Row}
 
@@ -38,6 +40,34 @@ pub record IsRescued (img : Image) (f : Rescued) : Type 0 where
 pub record AreRescued (img : Image) (slots : List Slot) (files : List Rescued) : Type 0 where
   pub entries : map (λ f. f.slot) files ≡ slots
   pub reached : AllByRecursion (IsRescued img) files
+
+-- a file and those after it, or only those, if a block of it is shared
+abbrev pub with_unshared : (shared : Option Place) → Rescued → List Rescued → List Rescued
+with_unshared None f files = f ∷ files
+with_unshared (Some p) f files = files
+
+-- what was found of these deleted entries, in their order. Left out are those of which a block that can be reached is
+-- also the map's, the directory's, or that of one of these files
+abbrev pub AreUndeleted : Image → (directory : List Place) → (files : List Rescued) → List Slot → (found : List Rescued)
+    → Type 0
+AreUndeleted img directory files [] found = found ≡ []
+AreUndeleted img directory files (s ∷ ss) found = (f : Rescued) × (rest : List Rescued) × (f.slot ≡ s) × IsRescued img f
+    × AreUndeleted img directory files ss rest
+    × (found ≡ with_unshared (first_shared (owned directory (files ++ f ∷ [])) f.blocks.items) f rest)
+
+-- the same of the deleted entries of a directory, if they are chosen: otherwise there are none
+abbrev pub AreAdded : Bool → Image → (directory : List Place) → (files : List Rescued) → List Rescued → Type 0
+AreAdded true img directory files found = AreUndeleted img directory files (deleted_slots img directory) found
+AreAdded false img directory files found = found ≡ []
+
+-- this can be reached of the entries of a directory with these sectors, in their order, and then of the deleted ones that
+-- are chosen
+pub record AreChosen (choice : Choice) (img : Image) (directory : List Place) (files : List Rescued) : Type 0 where
+  pub used : List Rescued
+  pub found : List Rescued
+  pub all : files ≡ used ++ found
+  pub entries : AreRescued img (used_slots img directory) used
+  pub deleted : AreAdded choice.deleted img directory used found
 
 -- the bytes of the file that can be reached
 abbrev pub bytes_in : Image → Rescued → List ℕ
@@ -88,45 +118,47 @@ index_of_files img directory files =
 abbrev pub all_files : Image → List Place → List Rescued → List NewFile
 all_files img directory files = files_from img 1 files ++ index_of_files img directory files ∷ []
 
--- the fault of an entry that isn't closed
-abbrev pub unclosed : Slot → Option Fault
-unclosed s = if nat_lt (type_byte s) 128 then Some (Unclosed s.sector) else None
+-- the fault of an entry that isn't closed; a deleted one has none
+abbrev pub open_fault : Slot → Option Fault
+open_fault s = if nat_eq (type_byte s) 0 then None else unclosed s
 
 -- why a file isn't whole: its chain has a fault; or it has a block that others have too; or it isn't closed
 abbrev pub fault_of : Row → Option Fault
-fault_of r = option_or r.fault (option_or (shared_fault r.shared) (unclosed r.slot))
+fault_of r = option_or r.fault (option_or (shared_fault r.shared) (open_fault r.slot))
 
 -- the first fault: this one, or that of the first of these files that isn't whole
 unfoldable pub first_fault : Image → List Place → ℕ → Option Fault → List Rescued → Option Fault
 first_fault img all n found [] = found
 first_fault img all n found (f ∷ fs) = first_fault img all (n + 1) (option_or found (fault_of (row_of img all n f))) fs
 
--- the directory of an image as far as it can be read, and what can be reached of each of its entries
-pub record IsRescue (image : List ℕ) (directory : List Place) (files : List Rescued) (fault : Option Fault) : Type 0
+-- the directory of an image as far as it can be read, and what can be reached of each entry that is chosen
+pub record IsRescue (choice : Choice) (image : List ℕ) (directory : List Place) (files : List Rescued)
+    (fault : Option Fault) : Type 0
   where
     pub size : length image ≡ 174848
     pub entries : List Slot
     pub read : IsReadSoFar (sectors_in image) directory entries fault
-    pub rescued : AreRescued (sectors_in image) entries files
+    pub rescued : AreChosen choice (sectors_in image) directory files
 
--- All files of an image were made in a folder, and nothing else; and the first fault was returned.
-pub record IsExtracted {F : Type 0} (files : F → Option (List NewFile)) (image : List ℕ) (old new : F)
+-- All files of an image that are chosen were made in a folder, and nothing else; and the first fault was returned.
+pub record IsExtracted {F : Type 0} (files : F → Option (List NewFile)) (choice : Choice) (image : List ℕ) (old new : F)
     (result : Option Fault) : Type 0
   where
     pub directory : List Place
     pub rescued : List Rescued
     pub found : Option Fault
-    pub rescue : IsRescue image directory rescued found
+    pub rescue : IsRescue choice image directory rescued found
     pub made : AddsFiles (files old) (files new) (all_files (sectors_in image) directory rescued)
     pub told : result ≡ first_fault (sectors_in image) (owned directory rescued) 1 found rescued
 
 -- a beginning of them was made, and perhaps a part of the next one
-pub record IsExtractedPart {F : Type 0} (files : F → Option (List NewFile)) (image : List ℕ) (old new : F) : Type 0
+pub record IsExtractedPart {F : Type 0} (files : F → Option (List NewFile)) (choice : Choice) (image : List ℕ) (old new : F)
+    : Type 0
   where
     pub directory : List Place
     pub rescued : List Rescued
     pub found : Option Fault
-    pub rescue : IsRescue image directory rescued found
+    pub rescue : IsRescue choice image directory rescued found
     pub made : AddsPart (files old) (files new) (all_files (sectors_in image) directory rescued)
 
 -- the folder failed, or there was no memory
@@ -134,9 +166,9 @@ abbrev pub IsMakeFault : KeepFault → Type 0
 IsMakeFault fault = (fault ≡ keep.File) ⊎ (fault ≡ keep.NoMemory)
 
 -- why not all were made, and what was. Nothing is made of an image of another size
-abbrev pub IsExtractFault : {F : Type 0} → (F → Option (List NewFile)) → List ℕ → F → F → KeepFault → Type 0
-IsExtractFault files image old new keep.ImageSize = (length image ≢ 174848) × (new ≡ old)
-IsExtractFault files image old new keep.NoMemory =
-    (length image ≡ 174848) × ((new ≡ old) ⊎ IsExtractedPart files image old new)
-IsExtractFault files image old new keep.File = (length image ≡ 174848) × IsExtractedPart files image old new
-IsExtractFault files image old new _ = ⊥
+abbrev pub IsExtractFault : {F : Type 0} → (F → Option (List NewFile)) → Choice → List ℕ → F → F → KeepFault → Type 0
+IsExtractFault files choice image old new keep.ImageSize = (length image ≢ 174848) × (new ≡ old)
+IsExtractFault files choice image old new keep.NoMemory =
+    (length image ≡ 174848) × ((new ≡ old) ⊎ IsExtractedPart files choice image old new)
+IsExtractFault files choice image old new keep.File = (length image ≡ 174848) × IsExtractedPart files choice image old new
+IsExtractFault files choice image old new _ = ⊥

@@ -10,10 +10,12 @@ ghost use Rattle.file_rescue.specs.Rescues.{AreRescued, IsExtractFault, IsExtrac
 ghost use Rattle.file_rescue.specs.Rescues.{files_from, files_of, first_fault, row_of, rows_from};
 ghost use Rattle.file_rescue.specs.Sharing.{owned};
 
+use crate::choices::Choice;
+use crate::deleted::rescue_chosen;
 use crate::folders::NewFolder;
 use crate::making::{make, make_files};
 use crate::output::put;
-use crate::rescuing::{Rescued, rescue_all};
+use crate::rescuing::Rescued;
 use crate::rows::Row;
 use crate::sharing::owners_of;
 use arrayvec::ArrayVec;
@@ -128,21 +130,32 @@ fn extract_files<F: NewFolder>(
 /// first of these faults, the directory's before those of the entries in their order: `BadLink`, `Loop`, `OwnedTwice` or
 /// `Unclosed`.
 ///
+/// If they are chosen, deleted entries come after all others: those with a name and a first block, of which no block that
+/// can be reached is also the map's, the directory's or that of an entry that isn't deleted. `Unclosed` isn't returned for
+/// them.
+///
 /// Each name is that of a file in the folder, and no two are equal (`names_stay_inside`). `ImageSize`: nothing was made.
 /// `File` if the folder failed, or `NoMemory`: the folder has a prefix of the files, and perhaps a part of one more.
 pub fn extract_image<F: NewFolder>(
     alloc: Global,
+    choice: Choice,
     image: &[u8],
     folder: &mut F,
 ) -> Result<Option<Fault>, KeepFault>
-    ensures ok { IfOk result (IsExtracted F.files image.now folder.old folder.new) }
-    ensures err { IfErr result (IsExtractFault F.files image.now folder.old folder.new) }
+    ensures ok { IfOk result (IsExtracted F.files choice image.now folder.old folder.new) }
+    ensures err { IfErr result (IsExtractFault F.files choice image.now folder.old folder.new) }
 {
     let mut disk = load(alloc, image)?;
     let mut sectors = ArrayVec::new();
     let mut entries = ArrayVec::new();
     let found = read_so_far(&mut disk, &mut sectors, &mut entries);
-    let files = rescue_all(alloc, &mut disk, entries.as_slice())?;
+    let files = rescue_chosen(
+        alloc,
+        &mut disk,
+        choice,
+        sectors.as_slice(),
+        entries.as_slice(),
+    )?;
     extract_files(
         alloc,
         &mut disk,

@@ -1,6 +1,8 @@
 //! What can be rescued of the files of a 1541 disk, written to a folder that is new.
 #![tactic(auto)]
 
+mod choices;
+mod deleted;
 mod extracting;
 mod folders;
 mod laws;
@@ -11,6 +13,7 @@ mod rescuing;
 mod rows;
 mod sharing;
 
+pub use choices::Choice;
 pub use extracting::extract_image;
 pub use folders::NewFolder;
 pub use laws::names_stay_inside;

@@ -25,7 +25,7 @@ pub struct Rescued {
 }
 
 /// What can be reached of an entry's file, with room for its blocks. The only error is `NoMemory`.
-fn rescue(
+pub(crate) fn rescue(
     alloc: Global,
     disk: &mut MemDisk,
     slot: &Slot,

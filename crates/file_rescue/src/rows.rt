@@ -2,6 +2,7 @@
 ghost use Rattle.std.specs.Prelude.{◌≡◌, Some};
 ghost use Rattle.file_rescue.specs.Index.{closed_text, ended_text, entry_text, found_text, length_text, locked_text};
 ghost use Rattle.file_rescue.specs.Index.{naming_text, row_text, shared_text};
+ghost use Rattle.file_rescue.specs.Rescues as rescues;
 ghost use Rattle.file_rescue.specs.Rescues.{fault_of};
 
 use byte_text::Text;
@@ -29,9 +30,20 @@ pub struct Row {
     pub shared: Option<Place>,
 }
 
+/// The fault of an entry that isn't closed: `Unclosed` at its directory sector. A deleted one has none.
+fn open_fault(slot: &Slot) -> Option<Fault>
+    ensures { result ≡ rescues.open_fault slot.now }
+{
+    match slot.bytes[2] {
+        0 => None,
+        1..=127 => Some(Fault::Unclosed(slot.sector)),
+        _ => None,
+    }
+}
+
 impl Row {
     /// Why the file isn't whole: its chain's fault; or `OwnedTwice` at the first block that others have too; or `Unclosed`
-    /// at its directory sector.
+    /// at its directory sector, if it isn't deleted.
     pub fn fault(&self) -> Option<Fault>
         ensures { result ≡ fault_of self.now }
     {
@@ -39,12 +51,7 @@ impl Row {
             Some(place) => Some(Fault::OwnedTwice(place)),
             None => None,
         };
-        let unclosed = if self.slot.bytes[2] < 128 {
-            Some(Fault::Unclosed(self.slot.sector))
-        } else {
-            None
-        };
-        self.fault.or(shared.or(unclosed))
+        self.fault.or(shared.or(open_fault(&self.slot)))
     }
 }
 

@@ -13,12 +13,13 @@ use Rattle.keeper_commands.specs.Printed.{AreRecordsPrinted, IsReachedEnd, IsRec
 use Rattle.keeper_commands.specs.Records.{IsReachedFile}
 use Rattle.keeper_commands.specs.declared.faults.KeepFault.{KeepFault}
 use Rattle.keeper_commands.specs.declared.faults.KeepFault.TheVariants as keep
+use Rattle.keeper_commands.specs.declared.finding.Candidates.TheVariants.{Closed}
 use Rattle.keeper_commands.specs.declared.finding.Kind.TheVariants.{Records}
 use Rattle.keeper_commands.specs.declared.forms.RecordForm.{RecordForm}
 
 -- what is known of the file that was found
 abbrev pub reached-file : (img : Image) (name : List ℕ) (first : Fault) (s : Slot) (blocks : List Place) (last : ℕ)
-    (own : Option Fault) (fault : Fault) → Holds nowhere img first → IsHad img Records name s blocks last own
+    (own : Option Fault) (fault : Fault) → Holds nowhere img first → IsHad img (Records Closed) name s blocks last own
     → fault ≡ unwrap_or own first → IsReachedFile img name fault
 reached-file img name first s blocks last own fault holds had is = record {
   first = first;

@@ -7,22 +7,22 @@ use Rattle.disk_layout.specs.Records.{joined}
 use Rattle.disk_layout.specs.declared.faults.Fault.{Fault}
 use Rattle.disk_layout.specs.declared.slot.Slot.{Slot}
 use Rattle.keeper_commands.specs.Found.{HasNone, IsHad}
-use Rattle.keeper_commands.specs.declared.finding.Kind.TheVariants.{Any}
+use Rattle.keeper_commands.specs.declared.finding.Kind.{Kind}
 
 -- the bytes of a file with these blocks: 254 of each, but of the last those up to its last index
 unfoldable pub file_bytes : Image → List Place → ℕ → List ℕ
 file_bytes img blocks u = take (254 * (length blocks - 1) + max u 1 - 1) (joined img blocks)
 
--- these blocks can be reached of the image's first closed file of that name, up to the index `last` of the last one. This
+-- these blocks can be reached of the image's first file of that name and kind, up to the index `last` of the last one. This
 -- fault is in the way of more, or none is
-pub record HasFile (image name : List ℕ) (fault : Option Fault) : Type 0 where
+pub record HasFile (image : List ℕ) (kind : Kind) (name : List ℕ) (fault : Option Fault) : Type 0 where
   pub size : length image ≡ 174848
   pub slot : Slot
   pub blocks : List Place
   pub last : ℕ
-  pub had : IsHad (sectors_in image) Any name slot blocks last fault
+  pub had : IsHad (sectors_in image) kind name slot blocks last fault
 
--- the image has no closed file of that name, as far as its directory can be read, up to this fault
-pub record HasNoFile (image name : List ℕ) (ended : Option Fault) : Type 0 where
+-- the image has no file of that name and kind, as far as its directory can be read, up to this fault
+pub record HasNoFile (image : List ℕ) (kind : Kind) (name : List ℕ) (ended : Option Fault) : Type 0 where
   pub size : length image ≡ 174848
-  pub none : HasNone (sectors_in image) Any name ended
+  pub none : HasNone (sectors_in image) kind name ended

@@ -1,7 +1,7 @@
 -- What can be had of a file on a disk that may be hurt: of the first entry that is asked for, as far as the directory can
 -- be read. All of it is our own.
-use Rattle.std.specs.Prelude.{◌≡◌, ◌<◌, ◌≤◌, ◌%◌, ◌&&◌, ℕ, Bool, IsTrue, List, None, Option, Some}
-use Rattle.std.specs.Prelude.{if◌then◌else◌, nat_eq, nat_le, slice_get, slice_range}
+use Rattle.std.specs.Prelude.{◌≡◌, ◌<◌, ◌≤◌, ◌%◌, ◌&&◌, ⊤, ℕ, Bool, IsTrue, List, None, Option, Some}
+use Rattle.std.specs.Prelude.{if◌then◌else◌, nat_eq, nat_le, nat_lt, slice_get, slice_range}
 use Rattle.std.specs.Option.{option_or}
 use Rattle.d64_image.specs.Images.{Image}
 use Rattle.d64_image.specs.declared.place.Place.{Place}
@@ -10,15 +10,27 @@ use Rattle.disk_layout.specs.Directory.{type_byte}
 use Rattle.disk_layout.specs.Layout.{record_length}
 use Rattle.disk_layout.specs.Rest.{slot_name}
 use Rattle.disk_layout.specs.declared.faults.Fault.{Fault}
+use Rattle.disk_layout.specs.declared.faults.Fault.TheVariants.{Unclosed}
 use Rattle.disk_layout.specs.declared.slot.Slot.{Slot}
 use Rattle.disk_rescue.specs.Reached.{IsReached}
 use Rattle.disk_rescue.specs.Sharing.{IsOwned, first_shared, shared_fault}
+use Rattle.keeper_commands.specs.declared.finding.Candidates.{Candidates}
+use Rattle.keeper_commands.specs.declared.finding.Candidates.TheVariants.{All, Closed}
 use Rattle.keeper_commands.specs.declared.finding.Kind.{Kind}
 use Rattle.keeper_commands.specs.declared.finding.Kind.TheVariants as kinds
 
--- the entry is closed, of whatever type, and has this name
-abbrev pub IsClosedNamed : List ℕ → Slot → Type 0
-IsClosedNamed name s = (128 ≤ type_byte s) × (slice_range s.bytes 5 21 ≡ slot_name name)
+-- the entry may be found by its name: all may, or only those that are closed
+abbrev pub IsCandidate : Candidates → Slot → Type 0
+IsCandidate Closed s = 128 ≤ type_byte s
+IsCandidate All s = ⊤
+
+-- it may be found, of whatever type, and has this name
+abbrev pub IsNamedSo : Candidates → List ℕ → Slot → Type 0
+IsNamedSo candidates name s = IsCandidate candidates s × (slice_range s.bytes 5 21 ≡ slot_name name)
+
+-- the fault of an entry that isn't closed
+abbrev pub unclosed : Slot → Option Fault
+unclosed s = if nat_lt (type_byte s) 128 then Some (Unclosed s.sector) else None
 
 -- the file has records: it is relative, closed or not, and their length is one that there is
 abbrev pub has_records : Slot → Bool
@@ -28,10 +40,10 @@ has_records s = nat_eq (type_byte s % 16) 4 && (nat_le 1 (record_length s) && na
 abbrev pub records_length : Slot → Option ℕ
 records_length s = if has_records s then Some (record_length s) else None
 
--- the entry is asked for: it is closed and has the name; and it has records if these are asked for
+-- the entry is asked for: it may be found and has the name; and it has records if these are asked for
 abbrev pub IsAsked : Kind → List ℕ → Slot → Type 0
-IsAsked kinds.Any name s = IsClosedNamed name s
-IsAsked kinds.Records name s = IsClosedNamed name s × IsTrue (has_records s)
+IsAsked (kinds.Any candidates) name s = IsNamedSo candidates name s
+IsAsked (kinds.Records candidates) name s = IsNamedSo candidates name s × IsTrue (has_records s)
 
 -- none of these entries is
 abbrev pub HasNoneAsked : List Slot → Kind → List ℕ → Type 0
@@ -52,8 +64,8 @@ pub record HasNone (img : Image) (kind : Kind) (name : List ℕ) (ended : Option
   pub none : HasNoneAsked entries kind name
 
 -- The first entry that is asked for has a file, of which these blocks can be reached, up to the index `last` of the last
--- one. The fault is the first of these: what ends the directory early, what ends the file's chain early, and its first
--- block that is also the map's, the directory's or another entry's.
+-- one. The fault is the first of these: what ends the directory early, what ends the file's chain early, its first block
+-- that is also the map's, the directory's or another entry's, and that the entry isn't closed.
 pub record IsHad (img : Image) (kind : Kind) (name : List ℕ) (s : Slot) (blocks : List Place) (last : ℕ)
     (fault : Option Fault) : Type 0 where
   pub directory : List Place
@@ -67,4 +79,4 @@ pub record IsHad (img : Image) (kind : Kind) (name : List ℕ) (s : Slot) (block
   pub reached : IsReached img s blocks broken last
   pub all : List Place
   pub owned : IsOwned img directory entries all
-  pub fault_is : fault ≡ option_or (option_or ended broken) (shared_fault (first_shared all blocks))
+  pub fault_is : fault ≡ option_or (option_or (option_or ended broken) (shared_fault (first_shared all blocks))) (unclosed s)

@@ -15,6 +15,10 @@ use Rattle.keeper_commands.specs.Forms.{bytes_as, form_line, records_as}
 use Rattle.keeper_commands.specs.Records.{HasNoReached, HasNoRecordFile, IsReachedFile, IsRecordFile, records_of}
 use Rattle.keeper_commands.specs.declared.faults.KeepFault.{KeepFault}
 use Rattle.keeper_commands.specs.declared.faults.KeepFault.TheVariants as keep
+use Rattle.keeper_commands.specs.declared.finding.Candidates.{Candidates}
+use Rattle.keeper_commands.specs.declared.finding.Candidates.TheVariants.{All}
+use Rattle.keeper_commands.specs.declared.finding.Kind.{Kind}
+use Rattle.keeper_commands.specs.declared.finding.Kind.TheVariants.{Any, Records}
 use Rattle.keeper_commands.specs.declared.forms.ByteForm.{ByteForm}
 use Rattle.keeper_commands.specs.declared.forms.RecordForm.{RecordForm}
 
@@ -56,25 +60,45 @@ IsRecordsFault contents form image name old new keep.File = ((file : File) × Is
     ⊎ ((length image ≡ 174848) × IsReachedEnd contents form (sectors_in image) name old new keep.File)
 IsRecordsFault contents form image name old new _ = ⊥
 
--- the bytes that can be reached of the first closed file of that name, and nothing else, were; and this fault is in the
--- way of more, or none is
-pub record AreBytesPrinted {W : Type 0} (contents : W → Option (List ℕ)) (form : ByteForm) (image name : List ℕ)
-    (fault : Option Fault) (old new : W) : Type 0 where
-  pub file : HasFile image name fault
+-- the bytes that can be reached of the first file of that name, and nothing else, were; and this fault is in the way of
+-- more, or none is
+pub record AreBytesPrinted {W : Type 0} (contents : W → Option (List ℕ)) (form : ByteForm) (candidates : Candidates)
+    (image name : List ℕ) (old new : W) (fault : Option Fault) : Type 0 where
+  pub file : HasFile image (Any candidates) name fault
   pub printed : Appends (contents old) (contents new)
       (bytes_as form (file_bytes (sectors_in image) file.blocks file.last))
 
--- Why not all bytes of a file are printed. With a fault of the layout those that can be reached are. If the output
--- failed, there is such a file
-abbrev pub IsBytesFault : {W : Type 0} → (W → Option (List ℕ)) → ByteForm → (image name : List ℕ) → W → W → KeepFault
-    → Type 0
-IsBytesFault contents form image name old new keep.ImageSize = (length image ≢ 174848) × (new ≡ old)
-IsBytesFault contents form image name old new keep.NoMemory = (length image ≡ 174848) × (new ≡ old)
-IsBytesFault contents form image name old new (keep.Layout fault) =
-    (HasNoFile image name (Some fault) × (new ≡ old)) ⊎ AreBytesPrinted contents form image name (Some fault) old new
-IsBytesFault contents form image name old new keep.NoFile = HasNoFile image name None × (new ≡ old)
-IsBytesFault contents form image name old new keep.File = (fault : Option Fault) × HasFile image name fault
-IsBytesFault contents form image name old new _ = ⊥
+-- the records among the bytes that can be reached of the first file of that name that has records, closed or not, and
+-- nothing else, were; and this fault is in the way of more, or none is
+pub record AreUnclosedPrinted {W : Type 0} (contents : W → Option (List ℕ)) (form : RecordForm) (image name : List ℕ)
+    (old new : W) (fault : Option Fault) : Type 0 where
+  pub file : HasFile image (Records All) name fault
+  pub printed : Appends (contents old) (contents new) (records_as form
+      (records_of (record_length file.slot) (file_bytes (sectors_in image) file.blocks file.last)))
+
+-- Why not all of a file of that name and kind is printed. With a fault of the layout what can be reached is, as `Printed`
+-- says. If the output failed, there is such a file
+abbrev pub IsFileFault : {W : Type 0} → (image : List ℕ) → Kind → (name : List ℕ) → (Printed : Option Fault → Type 0)
+    → W → W → KeepFault → Type 0
+IsFileFault image kind name Printed old new keep.ImageSize = (length image ≢ 174848) × (new ≡ old)
+IsFileFault image kind name Printed old new keep.NoMemory = (length image ≡ 174848) × (new ≡ old)
+IsFileFault image kind name Printed old new (keep.Layout fault) =
+    (HasNoFile image kind name (Some fault) × (new ≡ old)) ⊎ Printed (Some fault)
+IsFileFault image kind name Printed old new keep.NoFile = HasNoFile image kind name None × (new ≡ old)
+IsFileFault image kind name Printed old new keep.File = (fault : Option Fault) × HasFile image kind name fault
+IsFileFault image kind name Printed old new _ = ⊥
+
+-- why not all bytes of a file are printed
+abbrev pub IsBytesFault : {W : Type 0} → (W → Option (List ℕ)) → ByteForm → Candidates → (image name : List ℕ) → W → W
+    → KeepFault → Type 0
+IsBytesFault contents form candidates image name old new fault = IsFileFault image (Any candidates) name
+    (AreBytesPrinted contents form candidates image name old new) old new fault
+
+-- why not all records of a file that may be unclosed are
+abbrev pub IsUnclosedFault : {W : Type 0} → (W → Option (List ℕ)) → RecordForm → (image name : List ℕ) → W → W
+    → KeepFault → Type 0
+IsUnclosedFault contents form image name old new fault = IsFileFault image (Records All) name
+    (AreUnclosedPrinted contents form image name old new) old new fault
 
 -- The line of one record of a file was handed to an output that held `before` and holds `after`. The image that the disk
 -- holds stays.

@@ -19,6 +19,7 @@ use Rattle.rel_records.specs.reading.Kept.{IsKept}
 use Rattle.keeper_commands.specs.Found.{HasNone, IsHad}
 use Rattle.keeper_commands.specs.declared.faults.KeepFault.{KeepFault}
 use Rattle.keeper_commands.specs.declared.faults.KeepFault.TheVariants as keep
+use Rattle.keeper_commands.specs.declared.finding.Candidates.TheVariants.{Closed}
 use Rattle.keeper_commands.specs.declared.finding.Kind.TheVariants.{Records}
 
 -- the lines of the first n of these records, record 1 first
@@ -74,11 +75,11 @@ pub record IsReachedFile (img : Image) (name : List ℕ) (fault : Fault) : Type 
   pub blocks : List Place
   pub last : ℕ
   pub own : Option Fault
-  pub had : IsHad img Records name slot blocks last own
+  pub had : IsHad img (Records Closed) name slot blocks last own
   pub fault_is : fault ≡ unwrap_or own first
 
 -- the disk isn't sound, by this fault, and no such file can be found
 pub record HasNoReached (img : Image) (name : List ℕ) (fault : Fault) : Type 0 where
   pub holds : Holds nowhere img fault
   pub ended : Option Fault
-  pub none : HasNone img Records name ended
+  pub none : HasNone img (Records Closed) name ended

@@ -5,7 +5,7 @@ ghost use Rattle.keeper_commands.specs.Printed.{AreBytesPrinted, IsBytesFault};
 
 use crate::chains::put_file;
 use crate::faults::KeepFault;
-use crate::finding::{Kind, find_file};
+use crate::finding::{Candidates, Kind, find_file};
 use crate::forms::ByteForm;
 use crate::loading::load;
 use crate::output::flush;
@@ -15,7 +15,7 @@ use std::alloc::Global;
 use std::io::Write;
 
 /// How a job over a file ends that has this fault, or none.
-fn ended(fault: Option<Fault>) -> Result<(), KeepFault>
+pub(crate) fn ended(fault: Option<Fault>) -> Result<(), KeepFault>
     ensures { result ≡ keep_ended fault }
 {
     match fault {
@@ -25,7 +25,7 @@ fn ended(fault: Option<Fault>) -> Result<(), KeepFault>
 }
 
 /// Why there is no file, in a directory that ends early with this fault, or doesn't.
-fn no_file(ended: Option<Fault>) -> KeepFault
+pub(crate) fn no_file(ended: Option<Fault>) -> KeepFault
     ensures { result ≡ keep_none ended }
 {
     match ended {
@@ -34,30 +34,31 @@ fn no_file(ended: Option<Fault>) -> KeepFault
     }
 }
 
-/// Prints the bytes of the first closed entry of this name, whatever its type is, in this form. There are 254 of each of
-/// its blocks, and of the last one those up to its last index. `name` has no shifted spaces at its end; one of more than
+/// Prints the bytes of the first entry of this name among the candidates, whatever its type is, in this form. There are
+/// 254 of each of its blocks, and of the last one those up to its last index. `name` has no shifted spaces at its end; one of more than
 /// sixteen bytes is never found.
 ///
 /// On a damaged disk it prints what can be reached. The directory is read as far as its links lead, and so are the file's
 /// blocks. Then the error is `Layout` with the first of these faults: `BadLink` or `Loop` in the directory; `BadLink` or
 /// `Loop` in the file's chain; `OwnedTwice` at the file's first block that the map, the directory or another entry has
-/// too. Nothing else is checked.
+/// too; `Unclosed` at the entry's directory sector. Nothing else is checked.
 ///
-/// Nothing was printed after `ImageSize`, `NoMemory`, and `NoFile` if no closed entry has the name; nor after `Layout`
-/// if none has it in a directory that ends early. After `File` the output failed, which may have a part.
+/// Nothing was printed after `ImageSize`, `NoMemory`, and `NoFile` if no candidate has the name; nor after `Layout` if
+/// none has it in a directory that ends early. After `File` the output failed, which may have a part.
 pub fn bytes_image<W: Write>(
     alloc: Global,
     image: &[u8],
+    candidates: Candidates,
     name: &[u8],
     form: ByteForm,
     out: &mut W,
 ) -> Result<(), KeepFault>
-    ensures ok { OnOk result (AreBytesPrinted W.contents form image.now name.now None out.old out.new) }
-    ensures err { IfErr result (IsBytesFault W.contents form image.now name.now out.old out.new) }
+    ensures ok { OnOk result (AreBytesPrinted W.contents form candidates image.now name.now out.old out.new None) }
+    ensures err { IfErr result (IsBytesFault W.contents form candidates image.now name.now out.old out.new) }
 {
     let mut disk = load(alloc, image)?;
     let mut blocks = ArrayVec::new();
-    let file = match find_file(&mut disk, Kind::Any, name, &mut blocks) {
+    let file = match find_file(&mut disk, Kind::Any(candidates), name, &mut blocks) {
         Ok(file) => file,
         Err(ended) => return Err(no_file(ended)),
     };

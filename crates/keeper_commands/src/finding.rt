@@ -3,7 +3,7 @@ ghost use Rattle.std.specs.Prelude.{◌≡◌, ◌↔◌, IfErr, IfOk, IsTrue, M
 ghost use Rattle.d64_image.specs.Memory.{disk_image};
 ghost use Rattle.disk_rescue.specs.Sharing as sharing;
 ghost use Rattle.keeper_commands.specs.Found as found;
-ghost use Rattle.keeper_commands.specs.Found.{HasNone, HasNoneAsked, IsAsked, IsClosedNamed, IsFirstAsked, IsHad};
+ghost use Rattle.keeper_commands.specs.Found.{HasNone, HasNoneAsked, IsAsked, IsCandidate, IsFirstAsked, IsHad, IsNamedSo};
 
 use arrayvec::ArrayVec;
 use d64_image::{MemDisk, Place};
@@ -11,13 +11,22 @@ use disk_entries::read_so_far;
 use disk_layout::{EntryView, Fault, MOST_BLOCKS, Slot, padded_name};
 use disk_rescue::{owners_of, reach_file};
 
+/// Which entries may be found by their name.
+#[derive(Clone, Copy, Debug, PartialEq, Eq)]
+pub enum Candidates {
+    /// Only those that are closed.
+    Closed,
+    /// All, closed or not.
+    All,
+}
+
 /// Which entries of a name are asked for.
 #[derive(Clone, Copy, Debug, PartialEq, Eq)]
 pub enum Kind {
     /// Those of any type.
-    Any,
+    Any(Candidates),
     /// Relative ones whose records have a length that there is.
-    Records,
+    Records(Candidates),
 }
 
 /// The file of an entry as far as it can be reached.
@@ -38,11 +47,21 @@ fn has_padded_name(slot: &Slot, padded: &[u8; 16]) -> bool
     &slot.bytes[5..21] == &padded[..]
 }
 
-/// Whether the entry is closed, of whatever type, and has this name.
-fn is_named(slot: &Slot, name: &[u8]) -> bool
-    ensures { IsTrue result ↔ IsClosedNamed name.now slot.now }
+/// Whether the entry may be found by its name.
+fn is_candidate(slot: &Slot, candidates: Candidates) -> bool
+    ensures { IsTrue result ↔ IsCandidate candidates slot.now }
 {
-    if name.len() > 16 || slot.bytes[2] < 128 {
+    match candidates {
+        Candidates::Closed => slot.bytes[2] >= 128,
+        Candidates::All => true,
+    }
+}
+
+/// Whether the entry may be found, of whatever type, and has this name.
+fn is_named(slot: &Slot, candidates: Candidates, name: &[u8]) -> bool
+    ensures { IsTrue result ↔ IsNamedSo candidates name.now slot.now }
+{
+    if name.len() > 16 || !is_candidate(slot, candidates) {
         return false;
     }
     has_padded_name(slot, &padded_name(name))
@@ -61,13 +80,15 @@ pub fn length_of_records(slot: &Slot) -> Option<u8>
     }
 }
 
-/// Whether the entry is asked for: it is closed, has this name, and is of this kind.
+/// Whether the entry is asked for: it has this name, and is of this kind.
 fn is_asked(slot: &Slot, kind: Kind, name: &[u8]) -> bool
     ensures { IsTrue result ↔ IsAsked kind name.now slot.now }
 {
     match kind {
-        Kind::Any => is_named(slot, name),
-        Kind::Records => is_named(slot, name) && length_of_records(slot).is_some(),
+        Kind::Any(candidates) => is_named(slot, candidates, name),
+        Kind::Records(candidates) => {
+            is_named(slot, candidates, name) && length_of_records(slot).is_some()
+        }
     }
 }
 
@@ -93,12 +114,23 @@ fn shared_fault(shared: Option<Place>) -> Option<Fault>
     }
 }
 
-/// Fills `blocks` with those that can be reached of the first closed entry of this name and kind, in a directory that is
-/// read as far as its links lead.
+/// The fault of an entry that isn't closed.
+fn unclosed_fault(slot: &Slot) -> Option<Fault>
+    ensures { result ≡ found.unclosed slot.now }
+{
+    if slot.bytes[2] < 128 {
+        Some(Fault::Unclosed(slot.sector))
+    } else {
+        None
+    }
+}
+
+/// Fills `blocks` with those that can be reached of the first entry of this name and kind, in a directory that is read as
+/// far as its links lead.
 ///
 /// Its fault is the first of these: what ends the directory early; what ends the file's chain early; `OwnedTwice` at its
-/// first block that the map, the directory or another entry has too. Without such an entry the error is what ends the
-/// directory early, or none.
+/// first block that the map, the directory or another entry has too; `Unclosed` at its directory sector. Without such an
+/// entry the error is what ends the directory early, or none.
 pub(crate) fn find_file(
     disk: &mut MemDisk,
     kind: Kind,
@@ -124,6 +156,9 @@ pub(crate) fn find_file(
     Ok(FoundFile {
         slot,
         last: reach.last,
-        fault: ended.or(reach.fault).or(shared_fault(shared)),
+        fault: ended
+            .or(reach.fault)
+            .or(shared_fault(shared))
+            .or(unclosed_fault(&slot)),
     })
 }

@@ -22,12 +22,13 @@ mod reached_records;
 mod record_printing;
 mod record_storing;
 mod storing;
+mod unclosed_records;
 
 pub use byte_printing::bytes_image;
 pub use chains::{put_file, read_file};
 pub use column_lines::plain_lines;
 pub use faults::KeepFault;
-pub use finding::length_of_records;
+pub use finding::{Candidates, length_of_records};
 pub use forms::{ByteForm, RecordForm};
 pub use laws::{
     fields_come_back, last_lines_count, printed_records_are_stored, records_come_back,
@@ -39,3 +40,4 @@ pub use mending::repair_image;
 pub use piece_printing::put_pieces;
 pub use record_printing::records_image;
 pub use record_storing::store_image;
+pub use unclosed_records::unclosed_records_image;

@@ -13,7 +13,7 @@ ghost use Rattle.keeper_commands.specs.declared.faults.KeepFault.TheVariants as 
 
 use crate::chains::read_file;
 use crate::faults::KeepFault;
-use crate::finding::{FoundFile, Kind, find_file};
+use crate::finding::{Candidates, FoundFile, Kind, find_file};
 use crate::forms::RecordForm;
 use crate::output::flush;
 use crate::piece_printing::put_pieces;
@@ -25,7 +25,7 @@ use std::io::Write;
 
 /// Prints the records among the bytes of a file with these blocks. `File` if the output failed; or `NoMemory`, and then
 /// nothing was printed.
-fn put_reached<W: Write>(
+pub(crate) fn put_reached<W: Write>(
     alloc: Global,
     disk: &mut MemDisk,
     file: FoundFile,
@@ -62,7 +62,7 @@ pub(crate) fn reached_records<W: Write>(
     ensures { IsErrAnd result (IsReachedEnd W.contents form (disk_image disk.old) name.now out.old out.new) }
 {
     let mut blocks = ArrayVec::new();
-    let Ok(file) = find_file(disk, Kind::Records, name, &mut blocks) else {
+    let Ok(file) = find_file(disk, Kind::Records(Candidates::Closed), name, &mut blocks) else {
         return Err(KeepFault::Layout(first));
     };
     put_reached(alloc, disk, file, blocks.as_slice(), form, out)?;

@@ -227,7 +227,7 @@ module _ {F : Type 0} (position : F → Option ℕ) (bytes contents : F → Opti
       (after ≡ file) × (new ≡ old) × (end ≡ Err (refusals.Run run.File))
   IsJobRun told (jobs.Describe paths) image script file after old new end =
       (after ≡ file) × (new ≡ old) × (end ≡ Err (refusals.Run run.File))
-  IsJobRun told (jobs.Extract path folder) image script file after old new end =
+  IsJobRun told (jobs.Extract choice path folder) image script file after old new end =
       (after ≡ file) × (new ≡ old) × (end ≡ Err (refusals.Run run.File))
 
 -- what is reported of a job's end: nothing if it is done; otherwise its line, or a first part of that

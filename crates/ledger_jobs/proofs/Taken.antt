@@ -1,10 +1,13 @@
 -- What comes of what is asked for of a file, from what its command says.
-use Rattle.std.proofs.Common.{◌≡◌, ◌≢◌, ℕ, List, None, Option, Result, Ok, Err, arith, inl, inr, length, refl}
+use Rattle.std.proofs.Common.{◌≡◌, ◌≢◌, ℕ, List, None, Option, Result, Some, Ok, Err, arith, inl, inr, length, refl}
 use Rattle.std.specs.Prelude.{IfErr, OnOk}
-use Rattle.keeper_commands.specs.Printed.{AreBytesPrinted, AreRecordsPrinted, IsBytesFault, IsRecordsFault}
+use Rattle.disk_layout.specs.declared.faults.Fault.{Fault}
+use Rattle.keeper_commands.specs.Bytes.{HasFile}
+use Rattle.keeper_commands.specs.Printed.{AreRecordsPrinted, IsFileFault, IsRecordsFault}
 use Rattle.keeper_commands.specs.declared.faults.KeepFault.{KeepFault}
 use Rattle.keeper_commands.specs.declared.faults.KeepFault.TheVariants as keep
-use Rattle.keeper_commands.specs.declared.forms.ByteForm.{ByteForm}
+use Rattle.keeper_commands.specs.declared.finding.Candidates.TheVariants.{Closed}
+use Rattle.keeper_commands.specs.declared.finding.Kind.{Kind}
 use Rattle.keeper_commands.specs.declared.forms.RecordForm.{RecordForm}
 use Rattle.ledger_jobs.specs.Keeping.{IsTaken, IsTakingFault, IsTakingRun, keep_end}
 use Rattle.ledger_jobs.specs.declared.jobs.Taking.{Taking}
@@ -45,21 +48,21 @@ module _ {W : Type 0} (contents : W → Option (List ℕ)) (what : Taking) (imag
 module _ {W : Type 0} (contents : W → Option (List ℕ)) (image name : List ℕ) (old new : W) where
   pub records-run : (form : RecordForm) (r : Result Unit KeepFault) → OnOk r (AreRecordsPrinted contents form image name old new)
       → IfErr r (IsRecordsFault contents form image name old new)
-      → IsTakingRun contents (takings.Records form) image name old new r
+      → IsTakingRun contents (takings.Records form Closed) image name old new r
   records-run form (Ok x) ok err =
-      taken contents (takings.Records form) image name old new (Ok x) refl ok.is_file.size ok tt
-  records-run form (Err keep.ImageSize) ok err = refused contents (takings.Records form) image name old new _ refl
+      taken contents (takings.Records form Closed) image name old new (Ok x) refl ok.is_file.size ok tt
+  records-run form (Err keep.ImageSize) ok err = refused contents (takings.Records form Closed) image name old new _ refl
       (λ _. err.1) err
-  records-run form (Err (keep.Layout fault)) ok err = refused contents (takings.Records form) image name old new _ refl
+  records-run form (Err (keep.Layout fault)) ok err = refused contents (takings.Records form Closed) image name old new _ refl
       (λ other. absurd (other err.0)) err
-  records-run form (Err keep.NoFile) ok err = refused contents (takings.Records form) image name old new _ refl
+  records-run form (Err keep.NoFile) ok err = refused contents (takings.Records form Closed) image name old new _ refl
       (λ other. absurd (other err.0.size)) err
-  records-run form (Err keep.File) ok err = stopped contents (takings.Records form) image name old new _ refl
+  records-run form (Err keep.File) ok err = stopped contents (takings.Records form Closed) image name old new _ refl
       (elim err [
         | inl file ↦ file.1.size
         | inr reached ↦ reached.0
       ]) err
-  records-run form (Err keep.NoMemory) ok err = stopped contents (takings.Records form) image name old new _ refl err.0 err
+  records-run form (Err keep.NoMemory) ok err = stopped contents (takings.Records form Closed) image name old new _ refl err.0 err
   records-run form (Err keep.Device) ok err = absurd err
   records-run form (Err keep.FileExists) ok err = absurd err
   records-run form (Err (keep.BadLine line)) ok err = absurd err
@@ -67,25 +70,32 @@ module _ {W : Type 0} (contents : W → Option (List ℕ)) (image name : List �
   records-run form (Err keep.Geos) ok err = absurd err
   records-run form (Err keep.Format) ok err = absurd err
 
-  pub bytes-run : (form : ByteForm) (r : Result Unit KeepFault)
-      → OnOk r (AreBytesPrinted contents form image name None old new)
-      → IfErr r (IsBytesFault contents form image name old new)
-      → IsTakingRun contents (takings.Bytes form) image name old new r
-  bytes-run form (Ok x) ok err = taken contents (takings.Bytes form) image name old new (Ok x) refl ok.file.size ok tt
-  bytes-run form (Err keep.ImageSize) ok err = refused contents (takings.Bytes form) image name old new _ refl
-      (λ _. err.1) err
-  bytes-run form (Err (keep.Layout fault)) ok err = refused contents (takings.Bytes form) image name old new _ refl
+  -- what a fault says of a file of this kind is what is said of what was asked for
+  pub file-run : (what : Taking) (kind : Kind) (Printed : Option Fault → Type 0)
+      → ((fault : KeepFault) → IsFileFault image kind name Printed old new fault
+      → IsTakingFault contents what image name old new fault)
+      → (Printed None → IsTaken contents what image name old new)
+      → ((fault : Option Fault) → Printed fault → HasFile image kind name fault) → (r : Result Unit KeepFault)
+      → OnOk r (Printed None) → IfErr r (IsFileFault image kind name Printed old new)
+      → IsTakingRun contents what image name old new r
+  file-run what kind Printed say all has (Ok x) ok err =
+      taken contents what image name old new (Ok x) refl (has None ok).size (all ok) tt
+  file-run what kind Printed say all has (Err keep.ImageSize) ok err = refused contents what image name old new _ refl
+      (λ _. err.1) (say _ err)
+  file-run what kind Printed say all has (Err (keep.Layout fault)) ok err = refused contents what image name old new _ refl
       (λ other. elim err [
         | inl none ↦ absurd (other none.0.size)
-        | inr part ↦ absurd (other part.file.size)
-      ]) err
-  bytes-run form (Err keep.NoFile) ok err = refused contents (takings.Bytes form) image name old new _ refl
-      (λ other. absurd (other err.0.size)) err
-  bytes-run form (Err keep.File) ok err = stopped contents (takings.Bytes form) image name old new _ refl err.1.size err
-  bytes-run form (Err keep.NoMemory) ok err = stopped contents (takings.Bytes form) image name old new _ refl err.0 err
-  bytes-run form (Err keep.Device) ok err = absurd err
-  bytes-run form (Err keep.FileExists) ok err = absurd err
-  bytes-run form (Err (keep.BadLine line)) ok err = absurd err
-  bytes-run form (Err keep.DiskFull) ok err = absurd err
-  bytes-run form (Err keep.Geos) ok err = absurd err
-  bytes-run form (Err keep.Format) ok err = absurd err
+        | inr part ↦ absurd (other (has (Some fault) part).size)
+      ]) (say _ err)
+  file-run what kind Printed say all has (Err keep.NoFile) ok err = refused contents what image name old new _ refl
+      (λ other. absurd (other err.0.size)) (say _ err)
+  file-run what kind Printed say all has (Err keep.File) ok err =
+      stopped contents what image name old new _ refl err.1.size (say _ err)
+  file-run what kind Printed say all has (Err keep.NoMemory) ok err =
+      stopped contents what image name old new _ refl err.0 (say _ err)
+  file-run what kind Printed say all has (Err keep.Device) ok err = absurd err
+  file-run what kind Printed say all has (Err keep.FileExists) ok err = absurd err
+  file-run what kind Printed say all has (Err (keep.BadLine line)) ok err = absurd err
+  file-run what kind Printed say all has (Err keep.DiskFull) ok err = absurd err
+  file-run what kind Printed say all has (Err keep.Geos) ok err = absurd err
+  file-run what kind Printed say all has (Err keep.Format) ok err = absurd err

@@ -5,6 +5,7 @@ use Rattle.d64_image.specs.declared.place.Place.{Place}
 use Rattle.disk_layout.specs.declared.faults.Fault.{Fault}
 use Rattle.file_rescue.specs.Folders.{NewFile}
 use Rattle.file_rescue.specs.Rescues.{IsExtractFault, IsExtracted}
+use Rattle.file_rescue.specs.declared.choices.Choice.{Choice}
 use Rattle.host_session.specs.runs.Outputs.{AppendsPart}
 use Rattle.keeper_commands.specs.declared.faults.KeepFault.{KeepFault}
 use Rattle.keeper_commands.specs.declared.faults.KeepFault.TheVariants as keep
@@ -32,12 +33,12 @@ IsExtractTold contents None old new end =
     ((end ≡ Ok None) × Appends (contents old) (contents new) (codes "EXTRACTED\n"))
     ⊎ ((end ≡ Err (refusals.Run run.File)) × AppendsPart (contents old) (contents new) (codes "EXTRACTED\n"))
 
--- All files of the image were made in the folder, or not all for a fault. That was reported, with what is seen of files
+-- The chosen files of the image were made in the folder, or not all for a fault. That was reported, with what is seen of files
 -- that are cut short. Or there was no memory to see that, and nothing was done.
-abbrev pub IsExtractEnd : {F W : Type 0} → (F → Option (List NewFile)) → (W → Option (List ℕ)) → (image : List ℕ) → F → F
-    → W → W → JobEnd → Type 0
-IsExtractEnd files contents image folder left old new end =
+abbrev pub IsExtractEnd : {F W : Type 0} → (F → Option (List NewFile)) → (W → Option (List ℕ)) → Choice → (image : List ℕ)
+    → F → F → W → W → JobEnd → Type 0
+IsExtractEnd files contents choice image folder left old new end =
     ((end ≡ Err (refusals.Run run.NoMemory)) × (left ≡ folder) × (new ≡ old))
     ⊎ ((ended : Result (Option Fault) KeepFault) × (cut : Option Place)
-    × MatchResult ended (IsExtracted files image folder left) (IsExtractFault files image folder left)
+    × MatchResult ended (IsExtracted files choice image folder left) (IsExtractFault files choice image folder left)
     × IsSeen image None cut × IsExtractTold contents (refusal_of ended cut) old new end)

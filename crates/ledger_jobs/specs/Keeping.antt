@@ -10,11 +10,13 @@ use Rattle.disk_layout.specs.Directory.{map_place}
 use Rattle.disk_layout.specs.Fault.{Holds, nowhere}
 use Rattle.disk_layout.specs.Layout.{IsSound}
 use Rattle.keeper_commands.specs.Faults.{keep_status}
-use Rattle.keeper_commands.specs.Printed.{AreBytesPrinted, AreRecordsPrinted, IsBytesFault, IsRecordsFault}
+use Rattle.keeper_commands.specs.Printed.{AreBytesPrinted, AreRecordsPrinted, AreUnclosedPrinted, IsBytesFault, IsRecordsFault}
+use Rattle.keeper_commands.specs.Printed.{IsUnclosedFault}
 use Rattle.keeper_commands.specs.Kinds.{HasFormatByte, HasGeosSign, IsPlainDisk}
 use Rattle.keeper_commands.specs.Repairs.{IsMendedDisk, IsRepairDone, IsRepairFault, IsRepairRun}
 use Rattle.keeper_commands.specs.declared.faults.KeepFault.{KeepFault}
 use Rattle.keeper_commands.specs.declared.faults.KeepFault.TheVariants as keep
+use Rattle.keeper_commands.specs.declared.finding.Candidates.TheVariants.{All, Closed}
 use Rattle.shop_commands.specs.Plays.{IsTakenUp, IsUnfailed, IsUntouched}
 use Rattle.ledger_jobs.specs.declared.jobs.Taking.{Taking}
 use Rattle.ledger_jobs.specs.declared.jobs.Taking.TheVariants as takings
@@ -26,16 +28,20 @@ keep_end (Err fault) = keep_status fault
 
 -- what was asked for of the file of this name was printed
 abbrev pub IsTaken : {W : Type 0} → (W → Option (List ℕ)) → Taking → (image name : List ℕ) → W → W → Type 0
-IsTaken contents (takings.Records form) image name old new = AreRecordsPrinted contents form image name old new
-IsTaken contents (takings.Bytes form) image name old new = AreBytesPrinted contents form image name None old new
+IsTaken contents (takings.Records form Closed) image name old new = AreRecordsPrinted contents form image name old new
+IsTaken contents (takings.Records form All) image name old new = AreUnclosedPrinted contents form image name old new None
+IsTaken contents (takings.Bytes form candidates) image name old new =
+    AreBytesPrinted contents form candidates image name old new None
 
 -- why it wasn't, or not surely all of it
 abbrev pub IsTakingFault : {W : Type 0} → (W → Option (List ℕ)) → Taking → (image name : List ℕ) → W → W → KeepFault
     → Type 0
-IsTakingFault contents (takings.Records form) image name old new fault =
+IsTakingFault contents (takings.Records form Closed) image name old new fault =
     IsRecordsFault contents form image name old new fault
-IsTakingFault contents (takings.Bytes form) image name old new fault =
-    IsBytesFault contents form image name old new fault
+IsTakingFault contents (takings.Records form All) image name old new fault =
+    IsUnclosedFault contents form image name old new fault
+IsTakingFault contents (takings.Bytes form candidates) image name old new fault =
+    IsBytesFault contents form candidates image name old new fault
 
 -- what was asked for of the file of a name ended so
 pub record IsTakingRun {W : Type 0} (contents : W → Option (List ℕ)) (what : Taking) (image name : List ℕ) (old new : W)

@@ -167,7 +167,11 @@ where
             Way::InPlace => do_serving(rt, image, durability, loss, out),
         },
         Job::Copy { image, copy } => do_copying(rt, image, copy, out),
-        Job::Extract { image, folder } => do_extracting(rt, image, folder, out),
+        Job::Extract {
+            choice,
+            image,
+            folder,
+        } => do_extracting(rt, choice, image, folder, out),
         Job::Repair {
             image,
             loss,

@@ -7,7 +7,7 @@ use crate::readings::image_at;
 use crate::refusals::Refusal;
 use d64_image::Place;
 use disk_layout::Fault;
-use file_rescue::{NewFolder, extract_image};
+use file_rescue::{Choice, NewFolder, extract_image};
 use keeper_commands::KeepFault;
 use shop_commands::{EndedFile, Locks, put_whole};
 use std::alloc::Global;
@@ -118,26 +118,28 @@ fn tell_extracted<W: Write>(refused: Option<Refusal>, out: &mut W) -> Result<Opt
     run_end(put_whole(out, b"EXTRACTED\n"))
 }
 
-/// Makes all files of an image in a folder, as `extract_image` does, and prints `EXTRACTED` if all are whole. Otherwise
+/// Makes the chosen files of an image in a folder, as `extract_image` does, and prints `EXTRACTED` if all are whole. Otherwise
 /// nothing is printed. `Keep` has the first fault of a file or of the directory, or why the files aren't made. `Short`: a
 /// file of a sound disk is cut short. `File` if the output failed; `NoMemory`.
 pub fn extract_run<N: NewFolder, W: Write>(
     alloc: Global,
+    choice: Choice,
     image: &[u8],
     folder: &mut N,
     out: &mut W,
 ) -> Result<Option<Fault>, Refusal>
-    ensures { IsExtractEnd N.files W.contents image.now folder.old folder.new out.old out.new result }
+    ensures { IsExtractEnd N.files W.contents choice image.now folder.old folder.new out.old out.new result }
 {
     let cut = cut_in(alloc, image, None)?;
-    let ended = extract_image(alloc, image, folder);
+    let ended = extract_image(alloc, choice, image, folder);
     tell_extracted(extract_refusal(ended, cut), out)
 }
 
-/// Makes all files of the image at a path, as its shop is now, in a folder at another path, at which there must be
+/// Makes the chosen files of the image at a path, as its shop is now, in a folder at another path, at which there must be
 /// nothing.
 pub(crate) fn do_extracting<F, R, W>(
     rt: &R,
+    choice: Choice,
     path: &str,
     folder: &str,
     out: &mut W,
@@ -149,7 +151,7 @@ where
 {
     let image = image_at(rt, path)?;
     let mut files = SystemFolder::new(rt, folder);
-    let ended = extract_run(rt.alloc(), image.as_slice(), &mut files, out);
+    let ended = extract_run(rt.alloc(), choice, image.as_slice(), &mut files, out);
     match files.refused {
         Some(refusal) => Err(refusal),
         None => ended,

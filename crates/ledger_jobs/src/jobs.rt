@@ -2,7 +2,8 @@
 use crate::names::Name;
 use d64_image::Place;
 use file_changes::FileType;
-use keeper_commands::{ByteForm, RecordForm};
+use file_rescue::Choice;
+use keeper_commands::{ByteForm, Candidates, RecordForm};
 use shop_commands::{Durability, NameForm};
 
 /// What is asked of the bytes of one file, which isn't written.
@@ -21,10 +22,10 @@ pub enum Reading {
 /// What is taken out of an image, of the first file of a name.
 #[derive(Clone, Copy, Debug, PartialEq, Eq)]
 pub enum Taking {
-    /// The records of a closed relative file, a line each, in this form.
-    Records(RecordForm),
-    /// The bytes of a closed file of any type, in this form.
-    Bytes(ByteForm),
+    /// The records of a relative file among the candidates, a line each, in this form.
+    Records(RecordForm, Candidates),
+    /// The bytes of a file of any type among them, in this form.
+    Bytes(ByteForm, Candidates),
 }
 
 /// How the records of a text stand in its lines.
@@ -215,6 +216,8 @@ pub enum Job<'a> {
     },
     /// All files of an image that is read, made in a folder that isn't there yet.
     Extract {
+        /// Which entries are taken out.
+        choice: Choice,
         /// The image's path.
         image: &'a str,
         /// The folder's path.

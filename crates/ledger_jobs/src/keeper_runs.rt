@@ -11,7 +11,8 @@ ghost use Rattle.rel_records.specs.File.{IsLength};
 use crate::jobs::Taking;
 use d64_image::{KeptMirror, SectorFile};
 use keeper_commands::{
-    KeepFault, bytes_image, load, make_image, records_image, repair_image, store_image,
+    Candidates, KeepFault, bytes_image, load, make_image, records_image, repair_image, store_image,
+    unclosed_records_image,
 };
 use std::alloc::Global;
 use std::io::Write;
@@ -27,8 +28,11 @@ pub fn taking_run<W: Write>(
     ensures run { IsTakingRun W.contents what image.now name.now out.old out.new result }
 {
     match what {
-        Taking::Records(form) => records_image(alloc, image, name, form, out),
-        Taking::Bytes(form) => bytes_image(alloc, image, name, form, out),
+        Taking::Records(form, Candidates::Closed) => records_image(alloc, image, name, form, out),
+        Taking::Records(form, Candidates::All) => {
+            unclosed_records_image(alloc, image, name, form, out)
+        }
+        Taking::Bytes(form, candidates) => bytes_image(alloc, image, candidates, name, form, out),
     }
 }
 

@@ -3,7 +3,7 @@
 use crate::comparing::same_at;
 use crate::disks::{Change, changed};
 use crate::outputs::{Full, is_told};
-use keeper_commands::{ByteForm, KeepFault, bytes_image};
+use keeper_commands::{ByteForm, Candidates, KeepFault, bytes_image};
 use std::io::Write;
 use std::process::Abort;
 
@@ -182,14 +182,71 @@ const MISSING: [Row; 2] = [
     ),
 ];
 
+/// `GAME` that isn't closed, in 17/7.
+const OPEN: &[u8] = b"\x02\x11\x07GAME\xA0,8,1\xA0\xA0\xA0\xA0\xA0\xA0\xA0";
+
+/// The first file of the name, closed or not.
+const UNCLOSED: [Row; 5] = [
+    // it isn't closed, and stands before one that is
+    (
+        &[
+            (18, 1, 66, OPEN),
+            (18, 1, 98, GAME),
+            (17, 6, 0, b"\0\x02A"),
+            (17, 7, 0, b"\0\x03xy"),
+        ],
+        NAME,
+        &[(b"xy", 0)],
+        "LAYOUT UNCLOSED 18/1",
+    ),
+    // it is closed, and stands before one that isn't
+    (
+        &[(18, 1, 66, GAME), (18, 1, 98, OPEN), (17, 6, 0, b"\0\x02A")],
+        NAME,
+        &[(b"A", 0)],
+        "",
+    ),
+    // what ends its chain comes before that it isn't closed, and so does a block that another has
+    (
+        &[(18, 1, 66, OPEN), (17, 7, 0, b"\x24\0AB")],
+        NAME,
+        &[(b"AB", 252)],
+        "LAYOUT BADLINK 17/7",
+    ),
+    (
+        &[
+            (18, 1, 66, OPEN),
+            (18, 1, 98, OTHER),
+            (17, 7, 0, b"\0\x03xy"),
+        ],
+        NAME,
+        &[(b"xy", 0)],
+        "LAYOUT OWNEDTWICE 17/7",
+    ),
+    // a slot without a type is no entry
+    (
+        &[(18, 1, 66, GAME), (18, 1, 66, b"\0")],
+        NAME,
+        &[],
+        "NO FILE",
+    ),
+];
+
 /// Sees that these bytes are printed, and this is reported.
-fn are_printed(rt: &(impl Abort + AllocGlobal), rows: &[Row]) {
+fn are_printed(rt: &(impl Abort + AllocGlobal), candidates: Candidates, rows: &[Row]) {
     for &(changes, name, pieces, told) in rows {
         let disk = changed(rt, changes);
         let mut out = Vec::new(rt.alloc());
         is_told(
             rt,
-            bytes_image(rt.alloc(), disk.bytes(), name, ByteForm::Plain, &mut out),
+            bytes_image(
+                rt.alloc(),
+                disk.bytes(),
+                candidates,
+                name,
+                ByteForm::Plain,
+                &mut out,
+            ),
             told,
         );
         let mut wanted = Vec::new(rt.alloc());
@@ -205,23 +262,29 @@ fn are_printed(rt: &(impl Abort + AllocGlobal), rows: &[Row]) {
 
 #[test]
 fn bytes_are_printed(rt: HostRuntime) {
-    are_printed(&rt, &WHOLE);
+    are_printed(&rt, Candidates::Closed, &WHOLE);
 }
 
 #[test]
 fn bytes_that_can_be_reached_are_printed(rt: HostRuntime) {
-    are_printed(&rt, &HURT);
+    are_printed(&rt, Candidates::Closed, &HURT);
+}
+
+#[test]
+fn bytes_of_unclosed_files_are_printed(rt: HostRuntime) {
+    are_printed(&rt, Candidates::All, &UNCLOSED);
 }
 
 // An image of another size is refused before its name is looked for; an output that fails is reported.
 #[test]
 fn bytes_are_refused(rt: HostRuntime) {
-    are_printed(&rt, &MISSING);
+    are_printed(&rt, Candidates::Closed, &MISSING);
     let disk = changed(&rt, &[]);
     let mut out = Vec::new(rt.alloc());
     let ended = bytes_image(
         rt.alloc(),
         &disk.bytes()[1..],
+        Candidates::Closed,
         b"NONE",
         ByteForm::Plain,
         &mut out,
@@ -233,6 +296,7 @@ fn bytes_are_refused(rt: HostRuntime) {
         bytes_image(
             rt.alloc(),
             disk.bytes(),
+            Candidates::Closed,
             b"STOCK",
             ByteForm::Plain,
             &mut full,

@@ -3,7 +3,7 @@
 use crate::comparing::same_at;
 use crate::disks::{Change, changed};
 use crate::outputs::{Full, is_told};
-use keeper_commands::{ByteForm, KeepFault, RecordForm, bytes_image, records_image};
+use keeper_commands::{ByteForm, Candidates, KeepFault, RecordForm, bytes_image, records_image};
 use petscii_text::CharacterSet;
 use std::process::Abort;
 
@@ -92,7 +92,14 @@ fn are_read(rt: &(impl Abort + AllocGlobal), rows: &[(CharacterSet, &str)]) {
         let disk = changed(rt, LETTER);
         let form = ByteForm::Text(set);
         let mut out = Vec::new(rt.alloc());
-        let ended = bytes_image(rt.alloc(), disk.bytes(), b"LETTER", form, &mut out);
+        let ended = bytes_image(
+            rt.alloc(),
+            disk.bytes(),
+            Candidates::Closed,
+            b"LETTER",
+            form,
+            &mut out,
+        );
         is_told(rt, ended, "");
         same_at(rt, out.as_slice(), text.as_bytes(), text);
     }
@@ -104,6 +111,13 @@ fn bytes_are_readable(rt: HostRuntime) {
     let disk = changed(&rt, LETTER);
     let mut full = Full { room: 5 };
     let form = ByteForm::Text(CharacterSet::Graphics);
-    let ended = bytes_image(rt.alloc(), disk.bytes(), b"LETTER", form, &mut full);
+    let ended = bytes_image(
+        rt.alloc(),
+        disk.bytes(),
+        Candidates::Closed,
+        b"LETTER",
+        form,
+        &mut full,
+    );
     is_told(&rt, ended, "FILE");
 }

@@ -3,7 +3,7 @@
 use crate::comparing::same_at;
 use crate::disks::{Change, changed, with_record};
 use crate::outputs::{Full, is_told};
-use keeper_commands::{KeepFault, RecordForm, records_image};
+use keeper_commands::{KeepFault, RecordForm, records_image, unclosed_records_image};
 use std::io::Write;
 use std::process::Abort;
 
@@ -148,6 +148,48 @@ fn records_that_can_be_reached_are_printed(rt: HostRuntime) {
         RecordForm::Lines,
         &mut full,
     );
+    is_told(&rt, ended, "FILE");
+}
+
+/// Changes of the blank disk, the name that is asked for, its printed record or none, and what is reported, of the first
+/// file of the name, closed or not.
+const UNCLOSED: [(&[Change], &[u8], bool, &str); 6] = [
+    (&[CARD], b"STOCK", true, ""),
+    (
+        &[CARD, (18, 1, 2, &[0x04])],
+        b"STOCK",
+        true,
+        "LAYOUT UNCLOSED 18/1",
+    ),
+    // nothing else of the disk counts
+    (&[CARD, LOST_SIDE, (17, 2, 0, &[17, 2])], b"STOCK", true, ""),
+    (
+        &[CARD, (18, 1, 2, &[0x04]), (17, 0, 0, b"\xFF\xFF")],
+        b"STOCK",
+        true,
+        "LAYOUT BADLINK 17/0",
+    ),
+    // an unclosed program, and records of no length
+    (&[CARD, (18, 1, 2, &[0x02])], b"STOCK", false, "NO FILE"),
+    (&[CARD, (18, 1, 23, &[0])], b"STOCK", false, "NO FILE"),
+];
+
+#[test]
+fn records_of_unclosed_files_are_printed(rt: HostRuntime) {
+    let all = lines(&rt, 14, 2, "CARD");
+    for (changes, name, printed, told) in UNCLOSED {
+        let disk = changed(&rt, changes);
+        let mut out = Vec::new(rt.alloc());
+        let form = RecordForm::Lines;
+        let ended = unclosed_records_image(rt.alloc(), disk.bytes(), name, form, &mut out);
+        is_told(&rt, ended, told);
+        let wanted = if printed { all.as_slice() } else { b"" };
+        same_at(&rt, out.as_slice(), wanted, told);
+    }
+    let disk = changed(&rt, &[]);
+    let mut full = Full { room: 20 };
+    let form = RecordForm::Lines;
+    let ended = unclosed_records_image(rt.alloc(), disk.bytes(), b"STOCK", form, &mut full);
     is_told(&rt, ended, "FILE");
 }
 

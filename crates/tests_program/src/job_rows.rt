@@ -49,6 +49,8 @@ job ledger copy a.d64 b.d64
 prints copy, a.d64, b.d64, 0
 job ledger extract a.d64 out
 prints extract, a.d64, out, 0
+job ledger extract --deleted a.d64 out
+prints extract, a.d64, out, 0, deleted
 job ledger repair a.d64
 prints repair, a.d64, , 0
 job ledger make a.d64 ADD\\c1 --length 30
@@ -71,6 +73,10 @@ job ledger bytes --text a.d64 A
 prints bytes, a.d64, , 1, text
 job ledger records a.d64 --fields ADD\\c1
 prints records, a.d64, , 4, fields
+job ledger records a.d64 ADD\\c1 --unclosed
+prints records, a.d64, , 4, unclosed
+job ledger bytes --unclosed a.d64 A --text
+prints bytes, a.d64, , 1, text, unclosed
 job ledger store a.d64 ADD\\c1 r.csv --fields --accept-loss
 prints store, a.d64, r.csv, 4, loss accepted, fields
 job ledger records a.d64 ADD\\c1

@@ -2,7 +2,8 @@
 use crate::runs::texts_of;
 use command_line::command_line;
 use file_changes::FileType;
-use keeper_commands::{ByteForm, RecordForm};
+use file_rescue::Choice;
+use keeper_commands::{ByteForm, Candidates, RecordForm};
 use ledger_cli::{Job, job};
 use ledger_jobs::{
     Columns, Drawing, Effect, Findings, Loss, Name, Overview, Taking, Unowned, View, Way,
@@ -54,15 +55,15 @@ fn row_of<'a>(job: &Job<'a>) -> Row<'a> {
         Job::PlayLogged { image, script } => ("play logged", image, script, 0),
         Job::Serve { image, .. } => ("serve", image, "", 0),
         Job::Copy { image, copy } => ("copy", image, copy, 0),
-        Job::Extract { image, folder } => ("extract", image, folder, 0),
+        Job::Extract { image, folder, .. } => ("extract", image, folder, 0),
         Job::Repair { image, .. } => ("repair", image, "", 0),
         Job::Take {
-            what: Taking::Records(_),
+            what: Taking::Records(..),
             image,
             ref name,
         } => ("records", image, "", bytes_of(name)),
         Job::Take {
-            what: Taking::Bytes(_),
+            what: Taking::Bytes(..),
             image,
             ref name,
         } => ("bytes", image, "", bytes_of(name)),
@@ -168,9 +169,24 @@ fn names_of(form: NameForm) -> &'static str {
 /// What is said of the form in which something is taken out of an image.
 fn taken_as(what: Taking) -> &'static str {
     match what {
-        Taking::Records(RecordForm::Text(set)) | Taking::Bytes(ByteForm::Text(set)) => set_of(set),
-        Taking::Records(RecordForm::Fields) => ", fields",
-        Taking::Records(RecordForm::Lines) | Taking::Bytes(ByteForm::Plain) => "",
+        Taking::Records(RecordForm::Text(set), _) | Taking::Bytes(ByteForm::Text(set), _) => {
+            set_of(set)
+        }
+        Taking::Records(RecordForm::Fields, _) => ", fields",
+        Taking::Records(RecordForm::Lines, _) | Taking::Bytes(ByteForm::Plain, _) => "",
+    }
+}
+
+/// What is said of the entries that are taken out.
+fn chosen_of(choice: Choice) -> &'static str {
+    if choice.deleted { ", deleted" } else { "" }
+}
+
+/// What is said of the files from which it is taken.
+fn taken_from(what: Taking) -> &'static str {
+    match what {
+        Taking::Records(_, Candidates::Closed) | Taking::Bytes(_, Candidates::Closed) => "",
+        Taking::Records(_, Candidates::All) | Taking::Bytes(_, Candidates::All) => ", unclosed",
     }
 }
 
@@ -228,7 +244,8 @@ fn chosen_by(job: &Job<'_>) -> [&'static str; 3] {
         Job::Make { loss, .. } => [said_of(*loss), "", ""],
         Job::Store { columns, loss, .. } => [said_of(*loss), stored_from(*columns), ""],
         Job::List { form, .. } => [names_of(*form), "", ""],
-        Job::Take { what, .. } => [taken_as(*what), "", ""],
+        Job::Extract { choice, .. } => [chosen_of(*choice), "", ""],
+        Job::Take { what, .. } => [taken_as(*what), taken_from(*what), ""],
         Job::Several { what, .. } => [viewed_as(*what), "", ""],
         _ => ["", "", ""],
     }

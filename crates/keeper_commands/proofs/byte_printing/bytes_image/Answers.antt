@@ -6,9 +6,11 @@ use Rattle.std.specs.Io.KnownBytes.{Appends}
 use Rattle.d64_image.specs.Images.{Image}
 use Rattle.d64_image.specs.Memory.{disk_image}
 use Rattle.d64_image.specs.declared.place.Place.{Place}
-use Rattle.keeper_commands.proofs.Files.{bytes-end, file-there}
+use Rattle.keeper_commands.proofs.Files.{file-there, printed-end}
 use Rattle.keeper_commands.specs.Bytes.{file_bytes}
 use Rattle.keeper_commands.specs.Forms.{bytes_as}
+use Rattle.keeper_commands.specs.Printed.{AreBytesPrinted}
+use Rattle.keeper_commands.specs.declared.finding.Kind.TheVariants.{Any}
 use Rattle.keeper_commands.proofs.byte_printing.bytes_image.Goals as goal
 
 pub returns-in_err-put_file : goal.returns-in_err-put_file
@@ -19,8 +21,9 @@ returns-in_err-put_file g c =
       ok = rw (p.1 ∙ ap Err p.2) tt;
       err = rw (p.1 ∙ ap Err (p.2 ∙ c.in_err-put_file.ensures.err)) (
         c.in-Ok.file.fault,
-        file-there c.args.image.now c.args.name.now (disk_image c.in_ok-disk.disk) c.in-Ok.file.slot
-            c.find_file.new.blocks.items c.in-Ok.file.last c.in-Ok.file.fault loaded.0 loaded.1 c.in-Ok.ensures.ok,
+        file-there c.args.image.now (Any c.args.candidates) c.args.name.now (disk_image c.in_ok-disk.disk)
+            c.in-Ok.file.slot c.find_file.new.blocks.items c.in-Ok.file.last c.in-Ok.file.fault loaded.0 loaded.1
+            c.in-Ok.ensures.ok,
       );
     }
 
@@ -32,8 +35,9 @@ returns-in_err-flush g c =
       ok = rw (p.1 ∙ ap Err p.2) tt;
       err = rw (p.1 ∙ ap Err (p.2 ∙ c.in_err-flush.ensures.err)) (
         c.in-Ok.file.fault,
-        file-there c.args.image.now c.args.name.now (disk_image c.in_ok-disk.disk) c.in-Ok.file.slot
-            c.find_file.new.blocks.items c.in-Ok.file.last c.in-Ok.file.fault loaded.0 loaded.1 c.in-Ok.ensures.ok,
+        file-there c.args.image.now (Any c.args.candidates) c.args.name.now (disk_image c.in_ok-disk.disk)
+            c.in-Ok.file.slot c.find_file.new.blocks.items c.in-Ok.file.last c.in-Ok.file.fault loaded.0 loaded.1
+            c.in-Ok.ensures.ok,
       );
     }
 
@@ -43,10 +47,12 @@ returns g c =
     let before = g.W.Write.contents c.args.out.now in
     let after = g.W.Write.contents c.flush.new.out in
     let printed = Appends-kept _ _ _ _ c.in_ok-put_file.ensures.ok c.flush.ensures.kept in
-    let file = file-there c.args.image.now c.args.name.now (disk_image c.in_ok-disk.disk) c.in-Ok.file.slot
-    c.find_file.new.blocks.items c.in-Ok.file.last c.in-Ok.file.fault loaded.0 loaded.1 c.in-Ok.ensures.ok in
-    let both = bytes-end g.W.Write.contents c.args.form c.args.image.now c.args.name.now c.args.out.now c.flush.new.out
-    c.in-Ok.file.fault c.ended.result c.ended.ensures (record {
+    let file = file-there c.args.image.now (Any c.args.candidates) c.args.name.now (disk_image c.in_ok-disk.disk)
+    c.in-Ok.file.slot c.find_file.new.blocks.items c.in-Ok.file.last c.in-Ok.file.fault loaded.0 loaded.1
+    c.in-Ok.ensures.ok in
+    let both = printed-end c.args.image.now (Any c.args.candidates) c.args.name.now
+    (AreBytesPrinted g.W.Write.contents c.args.form c.args.candidates c.args.image.now c.args.name.now c.args.out.now
+    c.flush.new.out) c.args.out.now c.flush.new.out c.in-Ok.file.fault c.ended.result c.ended.ensures (record {
       file = file;
       printed = subst (λ (img : Image). Appends before after
           (bytes_as c.args.form (file_bytes img c.find_file.new.blocks.items c.in-Ok.file.last)))

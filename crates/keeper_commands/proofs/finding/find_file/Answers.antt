@@ -5,8 +5,9 @@ use Rattle.std.proofs.lemmas.Option.{slice_get_within}
 use Rattle.d64_image.specs.Memory.{disk_image}
 use Rattle.d64_image.specs.declared.place.Place.{Place}
 use Rattle.disk_layout.specs.declared.faults.Fault.{Fault}
-use Rattle.disk_rescue.specs.Sharing.{first_shared}
+use Rattle.disk_rescue.specs.Sharing.{first_shared, shared_fault}
 use Rattle.keeper_commands.proofs.Files.{find-had}
+use Rattle.keeper_commands.specs.Found.{unclosed}
 use Rattle.keeper_commands.proofs.finding.find_file.Goals as goal
 
 pub returns-clause-ok : goal.returns-clause-ok
@@ -21,6 +22,9 @@ returns-clause-ok c =
     c.reach_file-reach.new.blocks.items c.reach_file-reach.result.fault c.reach_file-reach.result.last
     c.reach_file-reach.ensures.reached (disk_image c.reach_file-reach.new.disk) same c.as_slice.result.now
     c.as_slice.ensures.value all owned c.first_shared-shared.result
-    (c.first_shared-shared.ensures all counts ∙ ap (first_shared all) c.as_slice-2.ensures.value) c.or-2.result
-    (c.or-2.ensures ∙ ap (λ (o : Option Fault). option_or o c.shared_fault.result) c.or.ensures
+    (c.first_shared-shared.ensures all counts ∙ ap (first_shared all) c.as_slice-2.ensures.value) c.or-3.result
+    (c.or-3.ensures ∙ ap (λ (o : Option Fault). option_or o c.unclosed_fault.result) (c.or-2.ensures
+    ∙ ap (λ (o : Option Fault). option_or o c.shared_fault.result) c.or.ensures
     ∙ ap (option_or (option_or c.read_so_far-ended.result c.reach_file-reach.result.fault)) c.shared_fault.ensures)
+    ∙ ap (option_or (option_or (option_or c.read_so_far-ended.result c.reach_file-reach.result.fault)
+    (shared_fault c.first_shared-shared.result))) c.unclosed_fault.ensures)
