@@ -1,5 +1,6 @@
 -- The columns that the words ask for. Our own.
-use Rattle.std.specs.Prelude.{◌≡◌, ◌≤◌, ℕ, All, List, Option, Some, None, Result, Ok, Err, codes, decimal, false, map, true, ⊤, ⊥}
+use Rattle.std.specs.Prelude.{◌≡◌, ◌≤◌, ℕ, List, Option, Some, None, Result, Ok, Err, codes, decimal, false, map, true}
+use Rattle.std.specs.List.{AllByRecursion}
 use Rattle.clap.specs.Words.{Row, Text, first_of}
 use Rattle.request_cards.specs.Texts.{commas}
 use Rattle.record_columns.specs.Positions.{ArePositions, starts}
@@ -12,7 +13,7 @@ use Rattle.command_line.specs.declared.faults.JobFault.TheVariants as faults
 -- A text lists these positions: numbers of 1 to 254 without leading zeros, with a comma between two.
 pub record AreListed (text : Text) (ps : List ℕ) : Type 0 where
   pub is : text ≡ commas (map decimal ps)
-  pub small : All (λ p. p ≤ 254) ps
+  pub small : AllByRecursion (λ p. (1 ≤ p) × (p ≤ 254)) ps
   pub are : ArePositions ps
 
 -- the words ask for no columns

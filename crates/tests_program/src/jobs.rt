@@ -2,7 +2,7 @@
 use crate::runs::texts_of;
 use command_line::command_line;
 use file_changes::FileType;
-use keeper_commands::{ByteForm, RecordForm};
+use keeper_commands::{ByteForm, ColumnForm, RecordForm};
 use ledger_cli::{Job, job};
 use ledger_jobs::{
     Columns, Drawing, Effect, Findings, Loss, Name, Overview, Taking, Unowned, View, Way,
@@ -165,11 +165,24 @@ fn names_of(form: NameForm) -> &'static str {
     }
 }
 
+/// What is said of the columns of records.
+fn columns_of(form: ColumnForm) -> &'static str {
+    match form {
+        ColumnForm::Fields => ", fields",
+        ColumnForm::At(positions) => match positions.as_slice() {
+            [1] => ", at 1",
+            [1, 25, 49] => ", at 1,25,49",
+            [1, 254] => ", at 1,254",
+            _ => ", at others",
+        },
+    }
+}
+
 /// What is said of the form in which something is taken out of an image.
 fn taken_as(what: Taking) -> &'static str {
     match what {
         Taking::Records(RecordForm::Text(set)) | Taking::Bytes(ByteForm::Text(set)) => set_of(set),
-        Taking::Records(RecordForm::Fields) => ", fields",
+        Taking::Records(RecordForm::Columns(form)) => columns_of(form),
         Taking::Records(RecordForm::Lines) | Taking::Bytes(ByteForm::Plain) => "",
     }
 }
@@ -178,7 +191,7 @@ fn taken_as(what: Taking) -> &'static str {
 fn stored_from(columns: Columns) -> &'static str {
     match columns {
         Columns::One => "",
-        Columns::Fields => ", fields",
+        Columns::Several(form) => columns_of(form),
     }
 }
 
