@@ -58,22 +58,31 @@ alone : (q n : ℕ) (rest behind : List ℕ) → q ≤ 254 → rest ≡ list_tex
 alone q n rest behind few is before =
     has-comma (decimal n) behind (subst (Lacks 44) (sym is ∙ before) (decimal_lacks q (omega (arith, few))))
 
+-- the parts of what was read
+number-of : Option (ℕ × List ℕ) → ℕ
+number-of None = 0
+number-of (Some p) = p.0
+
+behind-of : Option (ℕ × List ℕ) → List ℕ
+behind-of None = []
+behind-of (Some p) = p.1
+
 more-rest : (rest behind list ps : List ℕ) (n : ℕ) → number_before 1 254 rest ≡ Some (n, behind) → HasRest rest list ps
     → HasRest behind (list ++ n ∷ []) ps
+unfolding number-of behind-of
 more-rest rest behind list ps n read has = here has.others has.some has.is has.small has.text
   where
-    spelled = before_spells 1 254 rest (n, behind) read
     here : (qs : List ℕ) → 1 ≤ length qs → ps ≡ list ++ qs → AreSmall qs → rest ≡ list_text qs
         → HasRest behind (list ++ n ∷ []) ps
     here [] some is small text = absurd (omega (arith, some))
-    here (q ∷ []) some is small text = absurd (alone q n rest behind small.0.1 text spelled.1.1)
+    here (q ∷ []) some is small text = absurd (alone q n rest behind small.0.1 text (before_spells 1 254 rest (n, behind) read).1.1)
     here (q ∷ (r ∷ qs)) some is small text =
         let found : number_before 1 254 rest ≡ Some (q, list_text (r ∷ qs)) =
         ap (number_before 1 254) text
         ∙ number_text 1 254 q (list_text (r ∷ qs)) (omega (arith, small.0.1)) small.0.0 small.0.1 in
         let both : Some (q, list_text (r ∷ qs)) ≡ Some (n, behind) = sym found ∙ read in
-        let same : q ≡ n = cc in
-        let left : list_text (r ∷ qs) ≡ behind = cc in
+        let same : q ≡ n = ap number-of both in
+        let left : list_text (r ∷ qs) ≡ behind = ap behind-of both in
         record {
           others = r ∷ qs;
           some = omega arith;
@@ -95,6 +104,11 @@ one-read text rest behind list next n read is are =
       all = λ ps some small text_is. more-rest rest behind list ps n read (are.all ps some small text_is);
       small = both-small list (n ∷ []) are.small ((spelled.0, spelled.1.0), tt);
     })
+
+pub shorter : (rest behind : List ℕ) (n : ℕ) → number_before 1 254 rest ≡ Some (n, behind) → length behind < length rest
+shorter rest behind n read =
+    let spelled = before_spells 1 254 rest (n, behind) read in
+    omega (arith, ap length spelled.1.1, length-append (decimal n) (44 ∷ behind))
 
 -- positions are some numbers
 some-positions : (ps : List ℕ) → ArePositions ps → 1 ≤ length ps

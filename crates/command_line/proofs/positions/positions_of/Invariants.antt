@@ -3,8 +3,8 @@ use Rattle.std.proofs.Common.{length}
 use Rattle.command_line.proofs.Listed.{AreRead}
 use Rattle.command_line.proofs.positions.positions_of.Given as goal
 
-abbrev pub invariant-loop-rest : goal.invariant-loop-rest
-invariant-loop-rest l = AreRead l.text l.rest l.list.items
+abbrev pub invariant-loop-start : goal.invariant-loop-start
+invariant-loop-start l = AreRead l.text l.rest l.list.items
 
-abbrev pub decreases-loop-rest : goal.decreases-loop-rest
-decreases-loop-rest l = length l.rest
+abbrev pub decreases-loop-start : goal.decreases-loop-start
+decreases-loop-start l = length l.rest
