@@ -1,9 +1,8 @@
 -- The positions that a text lists, number by number.
-use Rattle.std.proofs.Common.{◌≡◌, ◌<◌, ◌≤◌, ◌+◌, ◌^◌, ◌∙◌, ℕ, List, [], ◌∷◌, ◌++◌, None, Option, Some, ap, arith, length, length-append}
+use Rattle.std.proofs.Common.{◌≡◌, ◌<◌, ◌≤◌, ◌+◌, ◌∙◌, ℕ, List, [], ◌∷◌, ◌++◌, None, Option, Some, ap, arith, length, length-append}
 use Rattle.std.proofs.Common.{map, refl, subst, sym}
-use Rattle.std.specs.Prelude.{decimal, slice_index}
+use Rattle.std.specs.Prelude.{decimal}
 use Rattle.std.specs.List.{AllByRecursion}
-use Rattle.std.proofs.lemmas.Fmt.{decimal_injective}
 use Rattle.std.proofs.lemmas.List.{append_assoc}
 use Rattle.record_columns.specs.Positions.{ArePositions}
 use Rattle.request_cards.proofs.Fields.{Lacks, before_spells, decimal_lacks, number_in_found, number_in_spells, number_text}
@@ -35,7 +34,7 @@ pub record AreRead (text rest list : List ℕ) : Type 0 where
 pub none-read : (text : List ℕ) → AreRead text text []
 none-read text = record {
   back = λ qs some is. is;
-  all = λ ps some small is. record { others = ps; some = some; is = refl; small = small; text = is; };
+  all = λ ps some small is. record { others = ps; some = some; is = refl; small = small; text = is };
   small = tt;
 }
 

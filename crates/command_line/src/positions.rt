@@ -49,7 +49,11 @@ pub(crate) fn columns_asked<'a>(matches: &ArgMatches<'a>) -> Result<Option<Colum
 {
     let fields = is_given(matches, "fields");
     let Some(text) = optional_value(matches, "P") else {
-        return Ok(if fields { Some(ColumnForm::Fields) } else { None });
+        return Ok(if fields {
+            Some(ColumnForm::Fields)
+        } else {
+            None
+        });
     };
     if fields {
         return Err(JobFault::Flags);

@@ -6,9 +6,7 @@ ghost use Rattle.ledger_jobs.specs.Jobs.{IsFit};
 ghost use Rattle.command_line.specs.Jobs.{IsHeard, IsJob, IsNoJob, IsParse, is_explained as explained};
 
 use crate::faults::JobFault;
-use crate::forms::{
-    byte_form, effect, loss, name_form, serve_durability, unowned, way,
-};
+use crate::forms::{byte_form, effect, loss, name_form, serve_durability, unowned, way};
 use crate::images::{checking, picturing, viewing};
 use crate::names::{
     deleting, empty_disk, making, putting, renaming, storing, taking, taking_records,

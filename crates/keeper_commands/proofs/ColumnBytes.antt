@@ -1,12 +1,12 @@
 -- The bytes of a record's columns: no LF, no CR at their end, and the record.
-use Rattle.std.proofs.Common.{◌≡◌, ◌≢◌, ◌≤◌, ◌-◌, ◌∙◌, ℕ, List, [], ◌∷◌, ◌++◌, Bool, true, false, ap, arith, length, map, refl, sym}
+use Rattle.std.proofs.Common.{◌≡◌, ◌≤◌, ◌-◌, ◌∙◌, ℕ, List, [], ◌∷◌, ◌++◌, Bool, true, false, ap, arith, length, map, refl, sym}
 use Rattle.std.specs.Prelude.{◌==◌, codes, if◌then◌else◌, nat_eq, slice_index}
 use Rattle.std.proofs.lemmas.Bool.{eqb-true}
 use Rattle.std.proofs.lemmas.List.{append_assoc}
 use Rattle.byte_text.specs.Texts.{byte_text, is_plain, text_of, trimmed}
 use Rattle.record_columns.proofs.Open.{all-back, last-mark}
 use Rattle.record_columns.proofs.PiecesBack.{pieces-back}
-use Rattle.record_columns.specs.Columns.{IsEnded, all_columns, columns_of, columns_of_fields, is_empty, open_columns, piece}
+use Rattle.record_columns.specs.Columns.{IsEnded, columns_of, columns_of_fields, is_empty, open_columns, piece}
 use Rattle.record_columns.specs.Columns.{quoted, rest_of_columns}
 use Rattle.record_columns.specs.Pieces.{piece_columns, pieces}
 use Rattle.record_columns.specs.Positions.{starts}
@@ -80,7 +80,7 @@ all-end false bytes is = record {
 
 quoted-end : (field : List ℕ) (fields : List (List ℕ)) → Ends (columns_of_fields (field ∷ fields))
 unfolding columns_of_fields
-quoted-end field [] = record { front = 34 ∷ text_of field; last = 34; is = refl; other = refl; }
+quoted-end field [] = record { front = 34 ∷ text_of field; last = 34; is = refl; other = refl }
 quoted-end field (next ∷ fields) = let e = quoted-end next fields in record {
   front = quoted field ++ 44 ∷ e.front;
   last = e.last;

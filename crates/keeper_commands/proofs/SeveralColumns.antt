@@ -1,19 +1,18 @@
 -- The text of a file's records with several columns each, made one with one column for each.
-use Rattle.std.proofs.Common.{◌≡◌, ◌≢◌, ◌≤◌, ◌+◌, ◌-◌, ◌∙◌, ℕ, zero, suc, List, [], ◌∷◌, ◌++◌, Bool, true, false, ap, ap₂, arith}
-use Rattle.std.proofs.Common.{get_or, length, ne_eqb, refl, subst, sym, take}
-use Rattle.std.specs.Prelude.{◌==◌, codes, decimal, flat_map, if◌then◌else◌, nat_eq, slice_index}
+use Rattle.std.proofs.Common.{◌≡◌, ◌≤◌, ◌+◌, ◌-◌, ◌∙◌, ℕ, zero, suc, List, [], ◌∷◌, ◌++◌, Bool, ap, ap₂, arith}
+use Rattle.std.proofs.Common.{get_or, length, ne_eqb, refl, sym, take}
+use Rattle.std.specs.Prelude.{◌==◌, decimal, flat_map, if◌then◌else◌, slice_index}
 use Rattle.std.specs.Str.Parse.{AllDigits}
-use Rattle.std.proofs.lemmas.Bool.{eqb-true}
 use Rattle.std.proofs.lemmas.Fmt.{decimal_is_IsNumeral}
 use Rattle.std.proofs.lemmas.List.{append_assoc, append-nil}
 use Rattle.std.proofs.lemmas.Str.Parse.{digit_from_value}
-use Rattle.byte_text.specs.Texts.{byte_text, is_plain, record_line, text_of, trimmed}
+use Rattle.byte_text.specs.Texts.{record_line}
 use Rattle.script_lines.proofs.Lines.{Lacks, split_piece}
 use Rattle.script_lines.specs.Lines.{ended, lines, split, without_cr}
 use Rattle.keeper_commands.proofs.ColumnBytes.{Ends, columns-back, columns-end, form-lacks}
-use Rattle.keeper_commands.proofs.Lined.{digits-lack, ended-more, lacks-both, last-is, line-ended, line_at}
+use Rattle.keeper_commands.proofs.Lined.{digits-lack, ended-more, lacks-both, last-is, line-ended}
 use Rattle.keeper_commands.proofs.Lined.{some-piece, text-is, text_from}
-use Rattle.keeper_commands.specs.ColumnLines.{ended_line, one_column, plain_line, plain_text, record_text}
+use Rattle.keeper_commands.specs.ColumnLines.{ended_line, one_column, plain_line, plain_text}
 use Rattle.keeper_commands.specs.Forms.{HasPositions, columns_as, columns_line, form_lines_to, records_as}
 use Rattle.keeper_commands.specs.Records.{records_text}
 use Rattle.keeper_commands.specs.declared.forms.ColumnForm.{ColumnForm}

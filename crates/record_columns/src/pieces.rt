@@ -1,5 +1,5 @@
 //! Records cut at fixed positions, written as columns.
-ghost use Rattle.std.specs.Prelude.{◌≡◌, ◌-◌, OnOk, drop, slice_range, take};
+ghost use Rattle.std.specs.Prelude.{◌≡◌, ◌-◌, OnOk, drop, slice_range};
 ghost use Rattle.std.specs.Io.KnownBytes.{Appends};
 ghost use Rattle.byte_text.specs.Texts.{trimmed};
 ghost use Rattle.record_columns.specs.Columns.{quoted};

@@ -1,5 +1,5 @@
 //! Positions of the pieces of a record.
-ghost use Rattle.std.specs.Prelude.{◌≡◌, ◌≤◌, ℕ, List, IfSome, IsFalse, IsNone, IsTrue, slice_index};
+ghost use Rattle.std.specs.Prelude.{◌≡◌, IfSome, IsFalse, IsNone, IsTrue, slice_index};
 ghost use Rattle.record_columns.specs.Positions.{ArePositions, AreRising};
 ghost use Rattle.record_columns.specs.Positions as positions;
 

@@ -28,7 +28,8 @@ fn printed(rt: &(impl Abort + AllocGlobal), image: &[u8], form: RecordForm) -> V
 }
 
 /// The first lines with columns at positions 1, 5 and 12.
-const PIECES: &str = "1,\"KING\",\"\\0dLEEDS,\",\" A\\0d\"\n2,\"KING\",\"\",\"\"\n3,\"\",\"\",\"\"\n4,\"\\ff\",\"\",\"\"\n";
+const PIECES: &str =
+    "1,\"KING\",\"\\0dLEEDS,\",\" A\\0d\"\n2,\"KING\",\"\",\"\"\n3,\"\",\"\",\"\"\n4,\"\\ff\",\"\",\"\"\n";
 
 /// Checks what is printed in this form. Stored on the same disk the lines change nothing, and on a blank one they give the
 /// same records.
