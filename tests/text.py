@@ -7,7 +7,7 @@ The characters are those that cc1541 (Debian, 4.0) prints, but for the bytes tha
 `characters.py` beside it compares them; lines are read by Python's `csv`. The disks are made here, by the D64 layout: in each
 round a directory with names of any bytes, a relative file and a sequential one, both of any bytes. The columns that
 `records --fields` prints are also saved anew by `csv`, as a spreadsheet saves them, and stored on a blank disk that `cc1541`
-made: they give the same records. Not part of the gate."""
+made: they give the same records. So are those of `records --at` at positions of any kind. Not part of the gate."""
 
 import csv
 import io
@@ -166,18 +166,40 @@ def come_back(program, folder, rng):
     want(status == 0, f"records --fields: {status}, {err}")
     rows = list(csv.reader(io.StringIO(out.decode(), newline="")))
     want(rows[: len(records)] == [[str(n), *fields_of(r)] for n, r in enumerate(records, 1)], "the fields")
+    are_stored(program, folder, image, length, ["--fields"], out, rows)
+    pieces_come_back(program, folder, rng, image, length, records)
+    image.unlink()
+
+
+def are_stored(program, folder, image, length, flags, out, rows):
+    """The lines change nothing in this image, and give the same records on a blank disk."""
     for text in (out.decode(), saved_again(rows)):
-        lines = folder / "fields.csv"
+        lines = folder / "columns.csv"
         lines.write_text(text, newline="")
-        want(printed(program, "store", "--fields", image, "RECS", lines) == (0, b"", ""), "nothing changes")
+        want(printed(program, "store", *flags, image, "RECS", lines) == (0, b"", ""), "nothing changes")
         other = folder / "c.d64"
         other.unlink(missing_ok=True)
         subprocess.run(["cc1541", "-q", "-n", "t", other], check=True, stdout=subprocess.DEVNULL)
         printed(program, "make", other, "RECS", "--length", length)
-        want(printed(program, "store", "--fields", other, "RECS", lines)[0] == 0, "store --fields")
-        again = printed(program, "records", "--fields", other, "RECS")
+        want(printed(program, "store", *flags, other, "RECS", lines)[0] == 0, f"store {flags}")
+        again = printed(program, "records", *flags, other, "RECS")
         want(again[1][: len(out)] == out, "the same records")
-    image.unlink()
+
+
+def pieces_come_back(program, folder, rng, image, length, records):
+    """Records in columns at positions, also beyond their length. A line with a column more is refused."""
+    starts = [1, *sorted(rng.sample(range(2, 255), rng.randint(0, 31)))]
+    flags = ["--at", ",".join(map(str, starts))]
+    status, out, err = printed(program, "records", *flags, image, "RECS")
+    want(status == 0, f"records --at: {status}, {err}")
+    rows = list(csv.reader(io.StringIO(out.decode(), newline="")))
+    ends = [*(it - 1 for it in starts[1:]), 254]
+    pieces = [[byte_text(r[a - 1 : b].rstrip(b"\0")) for a, b in zip(starts, ends)] for r in records]
+    want(rows[: len(records)] == [[str(n), *it] for n, it in enumerate(pieces, 1)], "the pieces")
+    are_stored(program, folder, image, length, flags, out, rows)
+    lines = folder / "more.csv"
+    lines.write_text(out.decode().replace("\n", ',"A"\n', 1), newline="")
+    want(printed(program, "store", *flags, image, "RECS", lines) == (1, b"", "RECORDS LINE 1\n"), "a column too many")
 
 
 def main():

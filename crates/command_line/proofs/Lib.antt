@@ -1,3 +1,4 @@
+pub mod Listed
 pub mod Named
 pub mod Parses
 pub mod Pictures

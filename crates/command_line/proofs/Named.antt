@@ -1,14 +1,20 @@
 -- The jobs of files with their names, where their words are parsed.
 use Rattle.std.proofs.Common.{◌≡◌, Bor, List, Option, Some, inl, inr, refl, subst, sym, []}
-use Rattle.std.specs.Prelude.{IfOk, MatchResult, Result, codes}
+use Rattle.std.specs.Prelude.{Err, IfOk, MatchResult, Result, codes}
 use Rattle.clap.specs.Words.{Row, Text}
 use Rattle.command_table.specs.Grammar.{value}
 use Rattle.ledger_jobs.specs.Jobs.{IsFit}
 use Rattle.ledger_jobs.specs.Names.{IsNameOf, name_bytes}
 use Rattle.ledger_jobs.specs.declared.jobs.Job.{Job}
 use Rattle.ledger_jobs.specs.declared.names.Name.{Name}
-use Rattle.command_line.specs.Jobs.{IsJob, IsNoJob, IsRefusedName}
-use Rattle.command_line.specs.Names.{HasNoName, IsMakingJob, IsNamedJob, IsNewDiskJob, IsPuttingJob, IsRenamingJob, IsStoringJob}
+use Rattle.command_line.specs.Jobs.{AreRefusedColumns, IsJob, IsNoJob, IsRefusedName}
+use Rattle.command_line.specs.Forms.{candidates_in}
+use Rattle.command_line.specs.Positions.{HasNoColumns}
+use Rattle.ledger_jobs.specs.declared.jobs.Job.TheVariants as jobs
+use Rattle.ledger_jobs.specs.declared.jobs.Taking.TheVariants as takings
+use Rattle.command_line.specs.declared.faults.JobFault.TheVariants as faults
+use Rattle.command_line.specs.Names.{HasNoName, IsMakingJob, IsNamedJob, IsNewDiskJob, IsPuttingJob, IsRecordsJob}
+use Rattle.command_line.specs.Names.{IsRenamingJob, IsStoringJob}
 use Rattle.command_line.specs.declared.faults.JobFault.{JobFault}
 
 -- the job that is made of the name is that of the subcommand, or its name is none
@@ -23,16 +29,45 @@ named-met found rows make r job fit none (inr (same, missing)) =
     let P : Result Job JobFault → Type 0 = λ j. MatchResult j (IsJob found) (IsNoJob [] found) × IfOk j IsFit in
     subst P (sym same) ((refl, none missing), tt)
 
+-- there is no job without columns
+refused : (found : Option (Text × List Row)) (rows : List Row) (fault : JobFault) → HasNoColumns rows fault
+    → AreRefusedColumns found fault → IsNoJob [] found fault
+refused found rows faults.Flags none has = (refl, inr has)
+refused found rows faults.Positions none has = (refl, has)
+refused found rows _ none has = absurd none
+
+no-columns : (found : Option (Text × List Row)) (rows : List Row) (r : Result Job JobFault) (fault : JobFault)
+    → r ≡ Err fault → AreRefusedColumns found fault → HasNoColumns rows fault
+    → MatchResult r (IsJob found) (IsNoJob [] found) × IfOk r IsFit
+no-columns found rows r fault same has none =
+    let P : Result Job JobFault → Type 0 = λ j. MatchResult j (IsJob found) (IsNoJob [] found) × IfOk j IsFit in
+    subst P (sym same) (refused found rows fault none has, tt)
+
 -- what stores records in a file is the job of `store`, or its name is none
 pub storing-met : (found : Option (Text × List Row)) (rows : List Row) (image : Bor Text) (r : Result Job JobFault)
     → found ≡ Some (codes "store", rows) → image.now ≡ value (codes "IMAGE") rows
     → IsStoringJob rows image r → MatchResult r (IsJob found) (IsNoJob [] found) × IfOk r IsFit
-storing-met found rows image r is by-image (records, by-records, named) =
+storing-met found rows image r is by-image (inl (records, columns, by-records, by-columns, named)) =
     named-met found rows _ r
-    (λ name at. record { rows = rows; is = is; holds = (by-image, at, by-records, refl, refl) })
+    (λ name at. record { rows = rows; is = is; holds = (by-image, at, by-records, by-columns, refl) })
     (λ name. tt)
     (λ missing. inr (inl (record { rows = rows; is = is; holds = missing })))
     named
+storing-met found rows image r is by-image (inr (fault, same, none)) =
+    no-columns found rows r fault same (inr (record { rows = rows; is = is; holds = none })) none
+
+-- what takes records out of a file is that of `records`, or its words give none
+pub records-met : (found : Option (Text × List Row)) (rows : List Row) (image : Bor Text) (r : Result Job JobFault)
+    → found ≡ Some (codes "records", rows) → image.now ≡ value (codes "IMAGE") rows
+    → IsRecordsJob rows image r → MatchResult r (IsJob found) (IsNoJob [] found) × IfOk r IsFit
+records-met found rows image r is by-image (inl (form, by-form, named)) =
+    named-met found rows (jobs.Take (takings.Records form (candidates_in rows)) image) r
+    (λ name at. record { rows = rows; is = is; holds = (by-image, at, (by-form, refl)) })
+    (λ name. tt)
+    (λ missing. inl (takings.Records form (candidates_in rows), record { rows = rows; is = is; holds = missing }))
+    named
+records-met found rows image r is by-image (inr (fault, same, none)) =
+    no-columns found rows r fault same (inl (record { rows = rows; is = is; holds = none })) none
 
 -- what makes a relative file is that of `make`, or its words give none
 pub making-met : (found : Option (Text × List Row)) (rows : List Row) (image : Bor Text) (r : Result Job JobFault)

@@ -1,5 +1,5 @@
 -- What a job is where its words are parsed.
-use Rattle.std.proofs.Common.{◌≡◌, Bor, List, Option, Some, true, refl, ap, sym, ◌∙◌, subst, []}
+use Rattle.std.proofs.Common.{inl, ◌≡◌, Bor, List, Option, Some, true, refl, ap, sym, ◌∙◌, subst, []}
 use Rattle.std.specs.Prelude.{◌≤◌, ℕ, Bool, false, if◌then◌else◌}
 use Rattle.std.specs.Prelude.{Result, Ok, Err, IfErr, IfOk, MatchResult, codes, option_map}
 use Rattle.clap.specs.Words.{App, FailsBy, HasKind, HasMatchesOf, Kinds, Row, Text, fault_of, found_of, is_simple}
@@ -101,7 +101,7 @@ pub play-met : (found : Option (Text × List Row)) (rows : List Row) (image scri
     else (if logged then Ok (jobs.PlayLogged image script) else Ok (jobs.Play image script)) in
     MatchResult r (IsJob found) (IsNoJob [] found) × IfOk r IsFit
 play-met found rows image script true true sync log is by-image by-script =
-    ((refl, record { rows = rows; is = is; holds = (sync, log) }), tt)
+    ((refl, inl (record { rows = rows; is = is; holds = (sync, log) })), tt)
 play-met found rows image script true false sync log is by-image by-script =
     (record { rows = rows; is = is; holds = (by-image, by-script, sync, log) }, tt)
 play-met found rows image script false true sync log is by-image by-script =
@@ -121,3 +121,4 @@ heard-as-asked (Err faults.Sector) asked heard same = same
 heard-as-asked (Err faults.Id) asked heard same = same
 heard-as-asked (Err faults.Flags) asked heard same = same
 heard-as-asked (Err faults.Kind) asked heard same = same
+heard-as-asked (Err faults.Positions) asked heard same = same

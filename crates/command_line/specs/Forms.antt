@@ -1,5 +1,5 @@
 -- The forms that the words ask for. Our own.
-use Rattle.std.specs.Prelude.{◌≡◌, false, List, Option, Some, None, codes, if◌then◌else◌, ⊤}
+use Rattle.std.specs.Prelude.{◌≡◌, false, List, Option, Some, None, Result, Ok, Err, codes, if◌then◌else◌, ⊤}
 use Rattle.clap.specs.Words.{Row}
 use Rattle.shop_commands.specs.declared.durability.Durability.{Durability}
 use Rattle.ledger_jobs.specs.declared.jobs.Effect.{Effect}
@@ -18,6 +18,8 @@ use Rattle.petscii_text.specs.declared.characters.CharacterSet.{CharacterSet}
 use Rattle.petscii_text.specs.declared.characters.CharacterSet.TheVariants.{Graphics, Mixed}
 use Rattle.shop_commands.specs.declared.texts.NameForm.{NameForm}
 use Rattle.command_line.specs.Flags.{is_given}
+use Rattle.command_line.specs.Positions.{AsksForColumns, AsksForNone, HasNoColumns}
+use Rattle.command_line.specs.declared.faults.JobFault.{JobFault}
 use Rattle.shop_commands.specs.declared.durability.Durability.TheVariants as durabilities
 use Rattle.ledger_jobs.specs.declared.jobs.Effect.TheVariants as effects
 use Rattle.ledger_jobs.specs.declared.jobs.Overview.TheVariants as overviews
@@ -53,13 +55,25 @@ abbrev pub name_form : Option CharacterSet → NameForm
 name_form None = names.Ascii
 name_form (Some set) = names.Text set
 
--- the form of records that the flags ask for: with --fields they have a column for each field, and are no text
-abbrev pub record_form_in : List Row → RecordForm
-record_form_in rows = if is_given (codes "fields") rows then records.Fields else record_form (set_in rows)
+-- the words ask for this form of records: with several columns, or without, and then maybe as text
+abbrev pub IsRecordForm : List Row → RecordForm → Type 0
+IsRecordForm rows (records.Columns form) = AsksForColumns rows form
+IsRecordForm rows form = AsksForNone rows × (form ≡ record_form (set_in rows))
 
 -- the columns that records are read in
-abbrev pub columns_in : List Row → Columns
-columns_in rows = if is_given (codes "fields") rows then columns.Fields else columns.One
+abbrev pub AreColumns : List Row → Columns → Type 0
+AreColumns rows columns.One = AsksForNone rows
+AreColumns rows (columns.Several form) = AsksForColumns rows form
+
+-- the form of records that the words ask for, or why there is none
+abbrev pub IsAskedForm : List Row → Result RecordForm JobFault → Type 0
+IsAskedForm rows (Ok form) = IsRecordForm rows form
+IsAskedForm rows (Err fault) = HasNoColumns rows fault
+
+-- the columns that records are read in, or why there are none
+abbrev pub AreAskedColumns : List Row → Result Columns JobFault → Type 0
+AreAskedColumns rows (Ok columns) = AreColumns rows columns
+AreAskedColumns rows (Err fault) = HasNoColumns rows fault
 
 -- the form of bytes that the flags ask for
 abbrev pub byte_form_in : List Row → ByteForm
@@ -103,7 +117,7 @@ effect_in rows = if is_given (codes "dry-run") rows then effects.Printed else ef
 
 -- the flags ask for what is taken in this form, and of these files
 abbrev pub IsTakenBy : Taking → List Row → Type 0
-IsTakenBy (takings.Records form candidates) rows = (form ≡ record_form_in rows) × (candidates ≡ candidates_in rows)
+IsTakenBy (takings.Records form candidates) rows = IsRecordForm rows form × (candidates ≡ candidates_in rows)
 IsTakenBy (takings.Bytes form candidates) rows = (form ≡ byte_form_in rows) × (candidates ≡ candidates_in rows)
 
 -- the flags ask for this overview; with --json `check` describes images in place of it

@@ -11,12 +11,13 @@ use Rattle.ledger_jobs.specs.declared.jobs.View.{View}
 use Rattle.ledger_jobs.specs.Names.{IsNameOf, name_bytes}
 use Rattle.command_line.specs.declared.faults.JobFault.{JobFault}
 use Rattle.command_line.specs.Numbers.{tills_in, length_in, place_in}
-use Rattle.command_line.specs.Forms.{columns_in, way_in, serve_durability, loss_in, unowned_in, effect_in, IsTakenBy}
+use Rattle.command_line.specs.Forms.{AreColumns, way_in, serve_durability, loss_in, unowned_in, effect_in, IsTakenBy}
 use Rattle.command_line.specs.Forms.{IsViewedBy, choice_in}
 use Rattle.command_line.specs.Images.{word_of_drawing, AreCompared, AreOnSheet, IsNoPicture, IsDrawnBy}
 use Rattle.command_line.specs.Images.{word_of_overview, IsOnlyImage, AreImages, AreDescribed}
 use Rattle.command_line.specs.Names.{HasNoName, HasNoNewName, HasName, HasNewName, IsIdOf, HasNoId, HasNoRenaming, type_in}
 use Rattle.command_line.specs.Flags.{is_given}
+use Rattle.command_line.specs.Positions.{HasNoColumns}
 use Rattle.ledger_jobs.specs.declared.jobs.Job.TheVariants as jobs
 use Rattle.ledger_jobs.specs.declared.jobs.Overview.TheVariants as overviews
 use Rattle.ledger_jobs.specs.declared.jobs.Taking.TheVariants as takings
@@ -112,7 +113,7 @@ IsJob found (jobs.Make image name length loss) = Has found (codes "make")
     × (length_in rows ≡ Some length) × (loss ≡ loss_in rows))
 IsJob found (jobs.Store image name records columns loss) = Has found (codes "store")
     (λ rows. (image.now ≡ value (codes "IMAGE") rows) × IsNameOf (value (codes "NAME") rows) (name_bytes name)
-    × (records.now ≡ value (codes "RECORDS") rows) × (columns ≡ columns_in rows) × (loss ≡ loss_in rows))
+    × (records.now ≡ value (codes "RECORDS") rows) × AreColumns rows columns × (loss ≡ loss_in rows))
 IsJob found (jobs.Rename image from to) = Has found (codes "rename")
     (λ rows. (image.now ≡ value (codes "IMAGE") rows) × IsNameOf (value (codes "OLD") rows) (name_bytes from)
     × IsNameOf (value (codes "NEW") rows) (name_bytes to))
@@ -135,8 +136,14 @@ IsRefusedName found =
     ⊎ (Has found (codes "delete") (HasNoName (codes "NAME")) ⊎ (Has found (codes "rename") HasNoRenaming
     ⊎ (Has found (codes "new") (HasNoName (codes "N")) ⊎ Has found (codes "put") (HasNoNewName (codes "NAME")))))))
 
+-- the subcommand has columns, and its words give none
+abbrev pub AreRefusedColumns : Option (Text × List Row) → JobFault → Type 0
+AreRefusedColumns found fault = Has found (codes "records") (λ rows. HasNoColumns rows fault)
+    ⊎ Has found (codes "store") (λ rows. HasNoColumns rows fault)
+
 -- why there is none: the words are refused for one of these kinds, or memory ran out. Or the number of tills, a name, the
--- length of a record, the sector, the ID of a disk or the type of a file isn't valid, or two flags exclude one another
+-- length of a record, the sector, the ID of a disk, the type of a file or a list of positions isn't valid, or two flags
+-- exclude one another
 abbrev pub IsNoJob : Kinds → Option (Text × List Row) → JobFault → Type 0
 IsNoJob kinds found (faults.Words e) = HasKind kinds e
 IsNoJob kinds found faults.Tills = (kinds ≡ []) × Has found (codes "format") (λ rows. tills_in rows ≡ None)
@@ -149,5 +156,7 @@ IsNoJob kinds found faults.Id =
     (kinds ≡ []) × Has found (codes "new") (λ rows. HasName (codes "N") rows × HasNoId rows)
 IsNoJob kinds found faults.Kind =
     (kinds ≡ []) × Has found (codes "put") (λ rows. HasNewName (codes "NAME") rows × (type_in rows ≡ None))
-IsNoJob kinds found faults.Flags = (kinds ≡ [])
-    × Has found (codes "play") (λ rows. (is_given (codes "sync") rows ≡ true) × (is_given (codes "log") rows ≡ true))
+IsNoJob kinds found faults.Flags = (kinds ≡ []) × (Has found (codes "play")
+    (λ rows. (is_given (codes "sync") rows ≡ true) × (is_given (codes "log") rows ≡ true))
+    ⊎ AreRefusedColumns found faults.Flags)
+IsNoJob kinds found faults.Positions = (kinds ≡ []) × AreRefusedColumns found faults.Positions

@@ -5,4 +5,5 @@ pub mod Images
 pub mod Jobs
 pub mod Names
 pub mod Numbers
+pub mod Positions
 pub mod Shops

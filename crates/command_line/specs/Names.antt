@@ -14,7 +14,11 @@ use Rattle.ledger_jobs.specs.Names.{IsNameOf, name_bytes}
 use Rattle.command_line.specs.declared.faults.JobFault.{JobFault}
 use Rattle.ledger_jobs.specs.declared.names.Name.{Name}
 use Rattle.command_line.specs.Numbers.{length_in}
-use Rattle.command_line.specs.Forms.{columns_in, loss_in}
+use Rattle.command_line.specs.Forms.{AreColumns, IsRecordForm, candidates_in, loss_in}
+use Rattle.command_line.specs.Positions.{HasNoColumns}
+use Rattle.keeper_commands.specs.declared.forms.RecordForm.{RecordForm}
+use Rattle.ledger_jobs.specs.declared.jobs.Columns.{Columns}
+use Rattle.ledger_jobs.specs.declared.jobs.Taking.TheVariants as takings
 use Rattle.ledger_jobs.specs.declared.jobs.Job.TheVariants as jobs
 use Rattle.command_line.specs.declared.faults.JobFault.TheVariants as faults
 
@@ -49,10 +53,21 @@ IsNamedJob rows make result =
     ((name : Name) × (result ≡ Ok (make name)) × IsNameOf (value (codes "NAME") rows) (name_bytes name))
     ⊎ ((result ≡ Err faults.Name) × HasNoName (codes "NAME") rows)
 
--- the job that stores records in a file of that name; or they give none
+-- no columns are made, and so there is no job
+abbrev pub IsColumnFault : List Row → Result Job JobFault → Type 0
+IsColumnFault rows result = (fault : JobFault) × (result ≡ Err fault) × HasNoColumns rows fault
+
+-- the job that takes records out of the file of that name; or there is no name, or no columns
+abbrev pub IsRecordsJob : List Row → Bor Text → Result Job JobFault → Type 0
+IsRecordsJob rows image result = ((form : RecordForm) × IsRecordForm rows form
+    × IsNamedJob rows (jobs.Take (takings.Records form (candidates_in rows)) image) result) ⊎ IsColumnFault rows result
+
+-- the job that stores records in a file of that name; or there is no name, or no columns
 abbrev pub IsStoringJob : List Row → Bor Text → Result Job JobFault → Type 0
-IsStoringJob rows image result = (records : Bor Text) × (records.now ≡ value (codes "RECORDS") rows)
-    × IsNamedJob rows (λ name. jobs.Store image name records (columns_in rows) (loss_in rows)) result
+IsStoringJob rows image result = ((records : Bor Text) × (columns : Columns)
+    × (records.now ≡ value (codes "RECORDS") rows) × AreColumns rows columns
+    × IsNamedJob rows (λ name. jobs.Store image name records columns (loss_in rows)) result)
+    ⊎ IsColumnFault rows result
 
 -- the job that makes a relative file; or there is no name for it, or no length of its records
 abbrev pub IsMakingJob : List Row → Bor Text → Result Job JobFault → Type 0

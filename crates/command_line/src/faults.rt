@@ -31,17 +31,21 @@ pub enum JobFault {
     /// The ID of a disk isn't the text of two bytes.
     #[error("ID")]
     Id,
-    /// Two flags are given that exclude one another: `--sync` and `--log`.
+    /// Two flags are given that exclude one another: `--sync` and `--log`, or `--fields` and `--at`.
     #[error("FLAGS")]
     Flags,
     /// The type of a file isn't `prg`, `seq` or `usr`.
     #[error("TYPE")]
     Kind,
+    /// The positions aren't numbers of 1 to 254, in decimal digits without leading zeros and with a comma between two, of
+    /// which the first is 1 and each is greater than the one before; or they are more than 32.
+    #[error("POSITIONS")]
+    Positions,
 }
 
 impl JobFault {
     /// The fault's number: 1 for `Words`, 2 for `Tills`, 3 for `Name`, 4 for `Length`, 5 for `Images`, 6
-    /// for `Sector`, 7 for `Id`, 8 for `Flags`, 9 for `Kind`.
+    /// for `Sector`, 7 for `Id`, 8 for `Flags`, 9 for `Kind`, 10 for `Positions`.
     pub fn number(&self) -> u8
         ensures { result ≡ job_number self.now }
     {
@@ -55,6 +59,7 @@ impl JobFault {
             JobFault::Id => 7,
             JobFault::Flags => 8,
             JobFault::Kind => 9,
+            JobFault::Positions => 10,
         }
     }
 
@@ -71,6 +76,7 @@ impl JobFault {
             JobFault::Tills | JobFault::Name | JobFault::Length => 2,
             JobFault::Images | JobFault::Sector => 2,
             JobFault::Id | JobFault::Flags | JobFault::Kind => 2,
+            JobFault::Positions => 2,
         }
     }
 }

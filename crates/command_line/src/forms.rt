@@ -1,10 +1,13 @@
 //! The forms that the flags ask for.
 ghost use Rattle.std.specs.Prelude.{◌≡◌};
 ghost use Rattle.clap.specs.Words.{found_of, rows_of};
+ghost use Rattle.command_line.specs.Forms.{record_form as of_set};
 ghost use Rattle.command_line.specs.Forms.{effect_in, loss_in, unowned_in, serve_durability as of_serve, way_in};
-ghost use Rattle.command_line.specs.Forms.{byte_form_in, columns_in, findings_in, name_form_in, record_form_in, set_in};
+ghost use Rattle.command_line.specs.Forms.{AreAskedColumns, IsAskedForm, byte_form_in, findings_in, name_form_in, set_in};
 ghost use Rattle.command_line.specs.Forms.{candidates_in, choice_in};
 
+use crate::faults::JobFault;
+use crate::positions::columns_asked;
 use crate::values::is_given;
 use clap::ArgMatches;
 use file_rescue::Choice;
@@ -82,26 +85,34 @@ fn text_set<'a>(matches: &ArgMatches<'a>) -> Option<CharacterSet>
 }
 
 /// How the lines of a text have the records.
-pub(crate) fn columns<'a>(matches: &ArgMatches<'a>) -> Columns
-    ensures { result ≡ columns_in (rows_of (found_of matches.now)) }
+pub(crate) fn columns<'a>(matches: &ArgMatches<'a>) -> Result<Columns, JobFault>
+    ensures { AreAskedColumns (rows_of (found_of matches.now)) result }
 {
-    if is_given(matches, "fields") {
-        Columns::Fields
-    } else {
-        Columns::One
+    match columns_asked(matches) {
+        Ok(Some(form)) => Ok(Columns::Several(form)),
+        Ok(None) => Ok(Columns::One),
+        Err(fault) => Err(fault),
+    }
+}
+
+/// How records are printed if no columns are asked for.
+fn plain_form<'a>(matches: &ArgMatches<'a>) -> RecordForm
+    ensures { result ≡ of_set (set_in (rows_of (found_of matches.now))) }
+{
+    match text_set(matches) {
+        Some(set) => RecordForm::Text(set),
+        None => RecordForm::Lines,
     }
 }
 
 /// How records are printed.
-pub(crate) fn record_form<'a>(matches: &ArgMatches<'a>) -> RecordForm
-    ensures { result ≡ record_form_in (rows_of (found_of matches.now)) }
+pub(crate) fn record_form<'a>(matches: &ArgMatches<'a>) -> Result<RecordForm, JobFault>
+    ensures { IsAskedForm (rows_of (found_of matches.now)) result }
 {
-    if is_given(matches, "fields") {
-        return RecordForm::Fields;
-    }
-    match text_set(matches) {
-        Some(set) => RecordForm::Text(set),
-        None => RecordForm::Lines,
+    match columns_asked(matches) {
+        Ok(Some(form)) => Ok(RecordForm::Columns(form)),
+        Ok(None) => Ok(plain_form(matches)),
+        Err(fault) => Err(fault),
     }
 }
 

@@ -6,6 +6,7 @@ mod forms;
 mod images;
 mod names;
 mod numbers;
+mod positions;
 mod progress;
 mod runner;
 mod shops;

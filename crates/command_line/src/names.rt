@@ -1,21 +1,25 @@
 //! The jobs of files with their names.
-ghost use Rattle.std.specs.Prelude.{◌≡◌, ℕ, IfSome, IsNone, List};
+ghost use Rattle.std.specs.Prelude.{◌≡◌, ℕ, IfSome, IsNone, List, codes};
+ghost use Rattle.std.specs.Borrow.{Bor};
+ghost use Rattle.clap.specs.Words.{Text};
+ghost use Rattle.command_table.specs.Grammar.{value};
+ghost use Rattle.command_line.specs.Forms.{loss_in};
 ghost use Rattle.clap.specs.Words.{found_of, rows_of};
 ghost use Rattle.byte_text.specs.Texts.{AreBytes};
 ghost use Rattle.keeper_commands.specs.Makes.{IsNewName};
 ghost use Rattle.ledger_jobs.specs.Names.{IsNameOf, name_bytes};
-ghost use Rattle.command_line.specs.Names.{IsMakingJob, IsStoringJob, IsNamedJob, IsRenamingJob, IsNewDiskJob, IsIdOf};
+ghost use Rattle.command_line.specs.Names.{IsMakingJob, IsStoringJob, IsNamedJob, IsRecordsJob, IsRenamingJob, IsNewDiskJob, IsIdOf};
 ghost use Rattle.command_line.specs.Names.{IsPuttingJob, type_named as named_type};
 ghost use Rattle.ledger_jobs.specs.declared.jobs.Job.TheVariants as jobs;
 
 use crate::faults::JobFault;
-use crate::forms::{columns, loss};
+use crate::forms::{candidates, columns, loss, record_form};
 use crate::numbers::length_of;
 use crate::values::value_of;
 use byte_text::read_text;
 use clap::ArgMatches;
 use file_changes::FileType;
-use ledger_jobs::{Job, Name, Taking};
+use ledger_jobs::{Columns, Job, Name, Taking};
 
 /// The job that takes this out of an image, of the file of a name.
 pub(crate) fn taking<'a>(
@@ -28,6 +32,19 @@ pub(crate) fn taking<'a>(
     match Name::read(value_of(matches, "NAME")) {
         Some(name) => Ok(Job::Take { what, image, name }),
         None => Err(JobFault::Name),
+    }
+}
+
+/// The job that takes records out of an image, of the file of a name.
+pub(crate) fn taking_records<'a>(
+    matches: &ArgMatches<'a>,
+    image: &'a str,
+) -> Result<Job<'a>, JobFault>
+    ensures { IsRecordsJob (rows_of (found_of matches.now)) image.entry result }
+{
+    match record_form(matches) {
+        Ok(form) => taking(matches, Taking::Records(form, candidates(matches)), image),
+        Err(fault) => Err(fault),
     }
 }
 
@@ -61,9 +78,15 @@ pub(crate) fn making<'a>(matches: &ArgMatches<'a>, image: &'a str) -> Result<Job
     }
 }
 
-/// The job that stores records in a relative file of an image.
-pub(crate) fn storing<'a>(matches: &ArgMatches<'a>, image: &'a str) -> Result<Job<'a>, JobFault>
-    ensures { IsStoringJob (rows_of (found_of matches.now)) image.entry result }
+/// The job that stores records from lines with these columns.
+fn storing_in<'a>(
+    matches: &ArgMatches<'a>,
+    image: &'a str,
+    columns: Columns,
+) -> Result<Job<'a>, JobFault>
+    ensures { (records : Bor Text) × (records.now ≡ value (codes "RECORDS") (rows_of (found_of matches.now)))
+        × IsNamedJob (rows_of (found_of matches.now)) (λ name.
+        jobs.Store image.entry name records columns (loss_in (rows_of (found_of matches.now)))) result }
 {
     let records = value_of(matches, "RECORDS");
     match Name::read(value_of(matches, "NAME")) {
@@ -71,10 +94,20 @@ pub(crate) fn storing<'a>(matches: &ArgMatches<'a>, image: &'a str) -> Result<Jo
             image,
             name,
             records,
-            columns: columns(matches),
+            columns,
             loss: loss(matches),
         }),
         None => Err(JobFault::Name),
+    }
+}
+
+/// The job that stores records in a relative file of an image.
+pub(crate) fn storing<'a>(matches: &ArgMatches<'a>, image: &'a str) -> Result<Job<'a>, JobFault>
+    ensures { IsStoringJob (rows_of (found_of matches.now)) image.entry result }
+{
+    match columns(matches) {
+        Ok(columns) => storing_in(matches, image, columns),
+        Err(fault) => Err(fault),
     }
 }
 

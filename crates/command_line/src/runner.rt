@@ -84,8 +84,15 @@ fn explain_words<E: Write>(fault: &JobFault, err: &mut E) {
             err,
             "ledger: I has two bytes; one that isn't plain text is a backslash and two digits, as \\c1"
         ),
-        JobFault::Flags => writeln!(err, "ledger: give --sync or --log, not both"),
+        JobFault::Flags => writeln!(
+            err,
+            "ledger: give --sync or --log, and --fields or --at, not both"
+        ),
         JobFault::Kind => writeln!(err, "ledger: TYPE is prg, seq or usr"),
+        JobFault::Positions => writeln!(
+            err,
+            "ledger: P is up to 32 numbers of 1 to 254, which rise from 1, such as 1,25,49"
+        ),
     };
 }
 

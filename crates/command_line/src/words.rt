@@ -7,11 +7,12 @@ ghost use Rattle.command_line.specs.Jobs.{IsHeard, IsJob, IsNoJob, IsParse, is_e
 
 use crate::faults::JobFault;
 use crate::forms::{
-    byte_form, candidates, choice, effect, loss, name_form, record_form, serve_durability, unowned,
-    way,
+    byte_form, candidates, choice, effect, loss, name_form, serve_durability, unowned, way,
 };
 use crate::images::{checking, picturing, viewing};
-use crate::names::{deleting, empty_disk, making, putting, renaming, storing, taking};
+use crate::names::{
+    deleting, empty_disk, making, putting, renaming, storing, taking, taking_records,
+};
 use crate::numbers::{place_of, tills_of};
 use crate::shops::{formatting, playing};
 use crate::values::{is_given, parsed_subcommand, value_of};
@@ -62,10 +63,7 @@ fn job_of<'a>(alloc: Global, matches: &ArgMatches<'a>) -> Result<Job<'a>, JobFau
             unowned: unowned(found),
             effect: effect(found),
         }),
-        "records" => {
-            let what = Taking::Records(record_form(found), candidates(found));
-            taking(found, what, image)
-        }
+        "records" => taking_records(found, image),
         "bytes" => {
             let what = Taking::Bytes(byte_form(found), candidates(found));
             taking(found, what, image)
@@ -158,7 +156,7 @@ pub fn job<'a>(alloc: Global, words: &'a [&'a str]) -> Result<Job<'a>, JobFault>
     ensures fit { IfOk result IsFit }
     // Words are refused for one of the reasons that the command line gives, or because memory ran out. If nothing else is
     // wrong, they are refused for one of these: a number of tills that isn't 1 to 64, a name or an ID that no file or disk
-    // has, a length that no record has, or flags that exclude one another.
+    // has, a length that no record has, positions that no columns have, or flags that exclude one another.
     ensures err { let texts = map (λ word. word.now) words.entry.now in
         IfErr result (IsNoJob (fault_of ledger texts) (subcommand_of ledger texts)) }
 {

@@ -22,6 +22,14 @@ required_behind word id = record (required id) { long = Some word }
 abbrev pub flag : Text → Rule
 flag word = record (new_rule word) { long = Some word; action = Some SetTrue }
 
+-- a value after a word with two hyphens, which may stand there or not: --at 1,25,49
+abbrev pub optional_behind : Text → Text → Rule
+optional_behind word id = record (new_rule id) { long = Some word }
+
+-- a subcommand that has columns for fields, if --fields is given, or at positions
+abbrev pub may_have_columns : App → App
+may_have_columns a = with_rule (with_rule a (flag (codes "fields"))) (optional_behind (codes "at") (codes "P"))
+
 -- a subcommand over an image: check IMAGE
 abbrev pub over_image : Text → App
 over_image name = with_rule (new_app name) (required (codes "IMAGE"))
@@ -82,10 +90,9 @@ repair = with_rule (with_rule (may_accept_loss (over_image (codes "repair"))) (f
 abbrev pub may_be_unclosed : App → App
 may_be_unclosed a = with_rule a (flag (codes "unclosed"))
 
--- records IMAGE NAME [--text] [--mixed] [--fields] [--unclosed]
+-- records IMAGE NAME [--text] [--mixed] [--fields] [--at P] [--unclosed]
 abbrev pub records : App
-records = may_be_unclosed (with_rule (may_be_text (with_rule (over_image (codes "records")) (required (codes "NAME"))))
-    (flag (codes "fields")))
+records = may_be_unclosed (may_have_columns (may_be_text (with_rule (over_image (codes "records")) (required (codes "NAME")))))
 
 -- bytes IMAGE NAME [--text] [--mixed] [--unclosed]
 abbrev pub bytes : App
@@ -96,10 +103,10 @@ abbrev pub make : App
 make = may_accept_loss (with_rule (with_rule (over_image (codes "make")) (required (codes "NAME")))
     (required_behind (codes "length") (codes "L")))
 
--- store IMAGE NAME RECORDS [--accept-loss] [--fields]
+-- store IMAGE NAME RECORDS [--accept-loss] [--fields] [--at P]
 abbrev pub store : App
-store = with_rule (may_accept_loss (with_rule (with_rule (over_image (codes "store")) (required (codes "NAME")))
-    (required (codes "RECORDS")))) (flag (codes "fields"))
+store = may_have_columns (may_accept_loss (with_rule (with_rule (over_image (codes "store"))
+    (required (codes "NAME"))) (required (codes "RECORDS"))))
 
 -- put IMAGE NAME FILE --type TYPE
 abbrev pub put : App

@@ -13,11 +13,13 @@ use Rattle.command_table.specs.declared.values.Value.{Value}
 abbrev pub is_required : Count → Bool
 is_required counts.One = true
 is_required counts.Several = true
+is_required counts.Optional = false
 is_required counts.Flag = false
 
 -- what each use of it does: the values of several are gathered, and a flag is set
 abbrev pub action : Count → Option ArgAction
 action counts.One = None
+action counts.Optional = None
 action counts.Several = Some Append
 action counts.Flag = Some SetTrue
 

@@ -28,14 +28,16 @@ Example: ledger make new.d64 ADDRESS --length 40";
 /// What `store` prints, its statuses, and an example.
 pub(crate) const STORE: &str = "\
 Prints the line of each record that changed. The file grows as far as the
-greatest record number. With --fields a CR ends each column after the number;
-otherwise a line has one column.
+greatest record number. With --fields a CR ends each column after the number.
+With --at 1,25,49 each column goes to its position, with zeros between them; a
+column that goes beyond the next position is refused. Otherwise a line has one
+column.
 
 Exit status:
   0  the records were stored
   1  the disk isn't clean (LAYOUT: repair it first), SHORT, IMAGE SIZE, LOG,
      NO FILE, RECORDS LINE n, DISK FULL: nothing was done
-  2  NAME
+  2  NAME, POSITIONS, FLAGS
   3  FILE, NO MEMORY, IN USE, DEVICE
 
 Example: ledger store new.d64 ADDRESS address.csv";

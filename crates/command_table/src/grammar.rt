@@ -34,6 +34,7 @@ fn arg_of<'a>(alloc: Global, value: &Value) -> Arg<'a>
     };
     match value.count {
         Count::One => arg.required(true),
+        Count::Optional => arg,
         Count::Several => arg.required(true).action(ArgAction::Append),
         Count::Flag => arg.action(ArgAction::SetTrue),
     }

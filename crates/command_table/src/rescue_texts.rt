@@ -6,15 +6,16 @@ Prints a line for each record, for example 1,\"MILK\\0d\". If the file is
 damaged, it prints what can be read, and then reports a fault.
 --text and --mixed print lines for people: `store` doesn't take them back.
 --fields prints a column for each field, which a CR ends: 1,\"MILK\",\"12\". A last
-column \\- says that the last field has no CR. `store --fields` takes these lines
-back. With --fields, --text and --mixed have no effect. With --unclosed nothing
-of the disk but the file is checked.
+column \\- says that the last field has no CR. --at 1,25,49 prints the bytes from
+each position up to the next one, without the zeros at their end. `store` with
+the same flag takes these lines back. With --fields or --at, --text and --mixed
+have no effect. With --unclosed nothing of the disk but the file is checked.
 
 Exit status:
   0  the records were printed
   1  LAYOUT and a fault, or SHORT (the file has lost its end): what can be read
      was printed; or NO FILE, IMAGE SIZE, LOG: nothing was
-  2  NAME
+  2  NAME, POSITIONS, FLAGS
   3  FILE, NO MEMORY, IN USE
 
 Example: ledger records old.d64 ADDRESS > address.csv";

@@ -6,8 +6,8 @@ use crate::shop_texts::{COPY, DRY, FORMAT, PLAY, SERVE, SHOW};
 use crate::values::{
     ACCEPT_LOSS, ALL, COMPARE, COPY_PATH, DELETED, DISK_ID, DISK_NAME, DRY_RUN, FIELDS, FILE,
     FILE_TYPE, FOLDER, FREE_SECTORS, IMAGE, IMAGES, IN_PLACE, JSON, LENGTH, LOG, MIXED, NAME,
-    NEW_NAME, OLD_NAME, ONLY_NEW, PLACE, RECORD_LINES, SCRIPT, SHEET, SVG, SYNC, TEXT, TILLS,
-    UNCLOSED, UNSYNCED, Value,
+    NEW_NAME, OLD_NAME, ONLY_NEW, PLACE, POSITIONS, RECORD_LINES, SCRIPT, SHEET, SVG, SYNC, TEXT,
+    TILLS, UNCLOSED, UNSYNCED, Value,
 };
 
 /// A subcommand, and what help says of it: in a line, and below its words.
@@ -67,12 +67,12 @@ pub(crate) const SUBCOMMANDS: [Subcommand; 23] = [
         values: &[IMAGE, PLACE],
     },
     // What rescues files and disks.
-    // records IMAGE NAME [--text] [--mixed] [--fields] [--unclosed]
+    // records IMAGE NAME [--text] [--mixed] [--fields] [--at P] [--unclosed]
     Subcommand {
         name: "records",
         about: "Prints the records of a relative file, a line each",
         more: RECORDS,
-        values: &[IMAGE, NAME, TEXT, MIXED, FIELDS, UNCLOSED],
+        values: &[IMAGE, NAME, TEXT, MIXED, FIELDS, POSITIONS, UNCLOSED],
     },
     // bytes IMAGE NAME [--text] [--mixed] [--unclosed]
     Subcommand {
@@ -117,12 +117,12 @@ pub(crate) const SUBCOMMANDS: [Subcommand; 23] = [
         more: MAKE,
         values: &[IMAGE, NAME, LENGTH, ACCEPT_LOSS],
     },
-    // store IMAGE NAME RECORDS [--accept-loss] [--fields]
+    // store IMAGE NAME RECORDS [--accept-loss] [--fields] [--at P]
     Subcommand {
         name: "store",
         about: "Stores records in a relative file, and prints those that changed",
         more: STORE,
-        values: &[IMAGE, NAME, RECORD_LINES, ACCEPT_LOSS, FIELDS],
+        values: &[IMAGE, NAME, RECORD_LINES, ACCEPT_LOSS, FIELDS, POSITIONS],
     },
     // put IMAGE NAME FILE --type TYPE
     Subcommand {

@@ -7,6 +7,8 @@ pub(crate) enum Count {
     One,
     /// Once or more often. No other value without a word of its own may stand after it.
     Several,
+    /// Never or once, after its word.
+    Optional,
     /// It is a flag: never or once, and it has no value of its own.
     Flag,
 }
@@ -101,6 +103,14 @@ pub(crate) const UNCLOSED: Value = Value {
     word: Some("unclosed"),
     count: Count::Flag,
     help: "Takes the first file with the name, closed or not",
+};
+
+/// The positions of those that print records or store them.
+pub(crate) const POSITIONS: Value = Value {
+    name: "P",
+    word: Some("at"),
+    count: Count::Optional,
+    help: "A column from each of these positions on, for example 1,25,49",
 };
 
 /// The flag of those that print text of the disk.

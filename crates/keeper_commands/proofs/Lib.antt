@@ -1,10 +1,10 @@
 pub mod Again
 pub mod Blocks
+pub mod ColumnBytes
 pub mod ColumnLines
 pub mod Composed
 pub mod Entries
 pub mod FileRecords
-pub mod FieldLines
 pub mod Files
 pub mod Folds
 pub mod Judged
@@ -24,5 +24,6 @@ pub mod ReachedRecords
 pub mod Repairs
 pub mod Returned
 pub mod SameRepairs
+pub mod SeveralColumns
 pub mod TextGrown
 pub mod TextStored

@@ -85,7 +85,7 @@ chosen-lacks false b plain =
     let digits : Lacks 10 (digit (b / 16) ∷ digit (b % 16) ∷ []) = (digit-not (b / 16), (digit-not (b % 16), tt)) in
     ((λ is. omega (arith, is)), digits)
 
-text-lacks : (bs : List ℕ) → Lacks 10 (text_of bs)
+pub text-lacks : (bs : List ℕ) → Lacks 10 (text_of bs)
 text-lacks [] = tt
 text-lacks (b ∷ bs) = lacks-both (byte_text b) (text_of bs) (chosen-lacks (is_plain b) b refl) (text-lacks bs)
 

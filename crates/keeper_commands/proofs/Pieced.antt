@@ -48,7 +48,7 @@ all-as : (form : RecordForm) (rs : List (List ℕ)) → form_lines_to form rs (l
 unfolding records_text
 all-as forms.Lines rs = plain-to rs (length rs)
 all-as (forms.Text set) rs = refl
-all-as forms.Fields rs = refl
+all-as (forms.Columns form) rs = refl
 
 -- the lines of all of them
 pub pieces-all : (a b : Option (List ℕ)) (form : RecordForm) (L k : ℕ) (bytes : List ℕ) → k ≡ length bytes / L

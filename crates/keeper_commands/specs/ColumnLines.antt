@@ -1,21 +1,30 @@
 -- Lines with several columns as lines of records. Our own.
 use Rattle.std.specs.Prelude.{ℕ, List, [], ◌∷◌, ◌++◌, flat_map, if◌then◌else◌, nat_eq}
 use Rattle.record_columns.specs.Columns.{columns_text}
+use Rattle.record_columns.specs.Pieces.{pieces_text}
+use Rattle.record_columns.specs.Positions.{starts}
 use Rattle.script_lines.specs.Lines.{lines}
+use Rattle.keeper_commands.specs.declared.forms.ColumnForm.{ColumnForm}
+use Rattle.keeper_commands.specs.declared.forms.ColumnForm.TheVariants as forms
+
+-- the text of the record that has these columns: its fields, or its pieces at positions
+abbrev pub record_text : ColumnForm → List ℕ → List ℕ
+record_text forms.Fields columns = columns_text columns
+record_text (forms.At positions) columns = pieces_text (starts positions) columns
 
 -- after the number: one column between quotation marks
-abbrev pub one_column : List ℕ → List ℕ
-one_column columns = 44 ∷ 34 ∷ (columns_text columns ++ 34 ∷ [])
+abbrev pub one_column : ColumnForm → List ℕ → List ℕ
+one_column form columns = 44 ∷ 34 ∷ (record_text form columns ++ 34 ∷ [])
 
--- a line without its end; the first comma stands after the number. 3,KING,LEEDS is 3,"KING\0dLEEDS\0d"
-unfoldable pub plain_line : List ℕ → List ℕ
-plain_line [] = []
-plain_line (b ∷ rest) = if nat_eq b 44 then one_column rest else b ∷ plain_line rest
+-- a line without its end; the first comma stands after the number. By fields 3,KING,LEEDS is 3,"KING\0dLEEDS\0d"
+unfoldable pub plain_line : ColumnForm → List ℕ → List ℕ
+plain_line form [] = []
+plain_line form (b ∷ rest) = if nat_eq b 44 then one_column form rest else b ∷ plain_line form rest
 
 -- and its end
-abbrev pub ended_line : List ℕ → List ℕ
-ended_line line = plain_line line ++ 10 ∷ []
+abbrev pub ended_line : ColumnForm → List ℕ → List ℕ
+ended_line form line = plain_line form line ++ 10 ∷ []
 
 -- all lines of a text
-abbrev pub plain_text : List ℕ → List ℕ
-plain_text text = flat_map ended_line (lines text)
+abbrev pub plain_text : ColumnForm → List ℕ → List ℕ
+plain_text form text = flat_map (ended_line form) (lines text)

@@ -1,13 +1,17 @@
 -- How what is taken out of an image is printed. All of it is our own.
-use Rattle.std.specs.Prelude.{ℕ, zero, suc, ◌+◌, ◌++◌, List, [], codes, decimal, get_or, length}
+use Rattle.std.specs.Prelude.{ℕ, zero, suc, ◌+◌, ◌++◌, List, [], codes, decimal, get_or, length, ⊤}
 use Rattle.byte_text.specs.Texts.{record_line, trimmed}
 use Rattle.petscii_text.specs.Characters.{readable}
 use Rattle.petscii_text.specs.declared.characters.CharacterSet.{CharacterSet}
 use Rattle.quoted_text.specs.Quoted.{quoted}
 use Rattle.record_columns.specs.Columns.{all_columns}
+use Rattle.record_columns.specs.Pieces.{piece_columns}
+use Rattle.record_columns.specs.Positions.{ArePositions, starts}
 use Rattle.keeper_commands.specs.Records.{records_text}
 use Rattle.keeper_commands.specs.declared.forms.ByteForm.{ByteForm}
 use Rattle.keeper_commands.specs.declared.forms.ByteForm.TheVariants as bytes
+use Rattle.keeper_commands.specs.declared.forms.ColumnForm.{ColumnForm}
+use Rattle.keeper_commands.specs.declared.forms.ColumnForm.TheVariants as columns
 use Rattle.keeper_commands.specs.declared.forms.RecordForm.{RecordForm}
 use Rattle.keeper_commands.specs.declared.forms.RecordForm.TheVariants as forms
 
@@ -16,15 +20,25 @@ use Rattle.keeper_commands.specs.declared.forms.RecordForm.TheVariants as forms
 abbrev pub text_line : CharacterSet → ℕ → List ℕ → List ℕ
 text_line set n r = decimal n ++ (codes "," ++ (quoted set (trimmed r) ++ codes "\n"))
 
--- a record's line with a column for each field. Record 3 of KING, CR, LEEDS, CR and zeros is 3,"KING","LEEDS"
-abbrev pub fields_line : ℕ → List ℕ → List ℕ
-fields_line n r = decimal n ++ (codes "," ++ (all_columns (trimmed r) ++ codes "\n"))
+-- a record as columns: its fields, or its pieces at positions
+abbrev pub columns_as : ColumnForm → List ℕ → List ℕ
+columns_as columns.Fields r = all_columns (trimmed r)
+columns_as (columns.At positions) r = piece_columns (starts positions) r
+
+-- the first column has a position, and so has each other one
+abbrev pub HasPositions : ColumnForm → Type 0
+HasPositions columns.Fields = ⊤
+HasPositions (columns.At positions) = ArePositions (starts positions)
+
+-- a record's line with several columns. Record 3 of KING, CR, LEEDS, CR and zeros is, by fields, 3,"KING","LEEDS"
+abbrev pub columns_line : ColumnForm → ℕ → List ℕ → List ℕ
+columns_line form n r = decimal n ++ (codes "," ++ (columns_as form r ++ codes "\n"))
 
 -- a record's line in each form
 abbrev pub form_line : RecordForm → ℕ → List ℕ → List ℕ
 form_line forms.Lines n r = record_line n r
 form_line (forms.Text set) n r = text_line set n r
-form_line forms.Fields n r = fields_line n r
+form_line (forms.Columns form) n r = columns_line form n r
 
 -- the lines of the first n of these records in a form, record 1 first
 abbrev pub form_lines_to : RecordForm → List (List ℕ) → ℕ → List ℕ
@@ -35,7 +49,7 @@ form_lines_to form rs (suc n) = form_lines_to form rs n ++ form_line form (n + 1
 abbrev pub records_as : RecordForm → List (List ℕ) → List ℕ
 records_as forms.Lines rs = records_text rs
 records_as (forms.Text set) rs = form_lines_to (forms.Text set) rs (length rs)
-records_as forms.Fields rs = form_lines_to forms.Fields rs (length rs)
+records_as (forms.Columns form) rs = form_lines_to (forms.Columns form) rs (length rs)
 
 -- the bytes of a file in each form
 abbrev pub bytes_as : ByteForm → List ℕ → List ℕ

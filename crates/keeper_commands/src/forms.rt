@@ -1,5 +1,15 @@
 //! How what is taken out of an image is printed.
 use petscii_text::CharacterSet;
+use record_columns::Positions;
+
+/// What the columns of a record's line are.
+#[derive(Clone, Copy, Debug, PartialEq, Eq)]
+pub enum ColumnForm {
+    /// Its fields, which a carriage return ends.
+    Fields,
+    /// Its pieces, which begin at these positions.
+    At(Positions),
+}
 
 /// How the records of a relative file are printed.
 #[derive(Clone, Copy, Debug, PartialEq, Eq)]
@@ -8,8 +18,8 @@ pub enum RecordForm {
     Lines,
     /// As lines that people read, in the characters of this set. They aren't read back.
     Text(CharacterSet),
-    /// As lines with a column for each field, which `plain_lines` makes lines that `store_image` reads.
-    Fields,
+    /// As lines with several columns, which `plain_lines` makes lines that `store_image` reads.
+    Columns(ColumnForm),
 }
 
 /// How the bytes of a file are printed.

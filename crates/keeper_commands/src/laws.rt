@@ -8,10 +8,11 @@ ghost use Rattle.d64_image.specs.Memory.{sectors_in};
 ghost use Rattle.disk_layout.specs.Layout.{File, record_length};
 ghost use Rattle.disk_layout.specs.Records.{records};
 ghost use Rattle.keeper_commands.specs.ColumnLines.{plain_text};
-ghost use Rattle.keeper_commands.specs.Forms.{records_as};
+ghost use Rattle.keeper_commands.specs.Forms.{HasPositions, records_as};
 ghost use Rattle.keeper_commands.specs.Printed.{AreRecordsPrinted};
 ghost use Rattle.keeper_commands.specs.Records.{IsRecordFile, records_text};
-ghost use Rattle.keeper_commands.specs.declared.forms.RecordForm.TheVariants.{Fields, Lines};
+ghost use Rattle.keeper_commands.specs.declared.forms.RecordForm.TheVariants.{Columns, Lines};
+ghost use Rattle.keeper_commands.specs.declared.forms.ColumnForm.{ColumnForm};
 ghost use Rattle.keeper_commands.specs.Repairs.{IsMendedAs, mended_text};
 ghost use Rattle.keeper_commands.specs.Stores.{
   AreApart,
@@ -92,10 +93,12 @@ pub fn records_come_back<D: Sectors, W: Write>()
         → put_over rs (D.history.image d) f ≡ rs }
 {}
 
-/// `plain_lines` turns what `records_image` prints of a file with a column for each field into what it prints of that
-/// file with one column for each record. So `store_image` stores the one as the other (`records_come_back`).
-pub fn fields_come_back()
-    ensures { (rs : List (List ℕ)) → length rs ≤ 182880 → plain_text (records_as Fields rs) ≡ records_text rs }
+/// `plain_lines` turns what `records_image` prints of a file with several columns into what it prints of that file with one
+/// column for each record: with a column for each field, and with columns at any positions. So `store_image` stores the
+/// one as the other (`records_come_back`).
+pub fn columns_come_back()
+    ensures { (form : ColumnForm) (rs : List (List ℕ)) → HasPositions form → length rs ≤ 182880
+        → plain_text form (records_as (Columns form) rs) ≡ records_text rs }
 {}
 
 /// Two repairs of one image print one text, and leave as many sectors: what a repair of a copy prints, one of the disk

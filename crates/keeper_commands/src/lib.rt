@@ -29,9 +29,9 @@ pub use chains::{put_file, read_file};
 pub use column_lines::plain_lines;
 pub use faults::KeepFault;
 pub use finding::{Candidates, length_of_records};
-pub use forms::{ByteForm, RecordForm};
+pub use forms::{ByteForm, ColumnForm, RecordForm};
 pub use laws::{
-    fields_come_back, last_lines_count, printed_records_are_stored, records_come_back,
+    columns_come_back, last_lines_count, printed_records_are_stored, records_come_back,
     repairs_print_the_same, stored_again_is_quiet, stored_records_are_so,
 };
 pub use loading::load;

@@ -11,14 +11,14 @@ ghost use Rattle.rel_records.specs.File.{IsOf, OfItsFile};
 ghost use Rattle.rel_records.specs.reading.Kept.{IsKept};
 
 use crate::faults::KeepFault;
-use crate::forms::RecordForm;
+use crate::forms::{ColumnForm, RecordForm};
 use arrayvec::ArrayVec;
 use byte_text::{trim, write_line};
 use d64_image::MemDisk;
 use disk_layout::DATA;
 use petscii_text::CharacterSet;
 use quoted_text::Quoted;
-use record_columns::write_all_columns;
+use record_columns::{write_all_columns, write_pieces};
 use rel_records::{LastBlock, RelFile, read_next, records};
 use std::io::{self, Write};
 
@@ -35,12 +35,28 @@ fn write_text_line<W: Write>(
     writeln!(out, "{number},{}", Quoted { set, bytes })
 }
 
-/// Writes the line of a record with a column for each field.
-fn write_fields_line<W: Write>(out: &mut W, number: u32, bytes: &[u8]) -> io::Result<()>
-    ensures { OnOk result (Appends (W.contents out.old) (W.contents out.new) (forms.fields_line number bytes.now)) }
+/// Writes a record as columns.
+fn write_columns<W: Write>(out: &mut W, form: ColumnForm, bytes: &[u8]) -> io::Result<()>
+    ensures { OnOk result (Appends (W.contents out.old) (W.contents out.new) (forms.columns_as form bytes.now)) }
+{
+    match form {
+        ColumnForm::Fields => write_all_columns(out, trim(bytes)),
+        ColumnForm::At(positions) => write_pieces(out, positions.as_slice(), bytes),
+    }
+}
+
+/// Writes the line of a record with several columns.
+fn write_columns_line<W: Write>(
+    out: &mut W,
+    form: ColumnForm,
+    number: u32,
+    bytes: &[u8],
+) -> io::Result<()>
+    ensures { OnOk result (Appends (W.contents out.old) (W.contents out.new)
+        (forms.columns_line form number bytes.now)) }
 {
     write!(out, "{number},")?;
-    write_all_columns(out, trim(bytes))?;
+    write_columns(out, form, bytes)?;
     out.write_all(b"\n")
 }
 
@@ -57,7 +73,7 @@ pub(crate) fn write_form_line<W: Write>(
     match form {
         RecordForm::Lines => write_line(out, number, bytes),
         RecordForm::Text(set) => write_text_line(out, set, number, bytes.as_slice()),
-        RecordForm::Fields => write_fields_line(out, number, bytes.as_slice()),
+        RecordForm::Columns(columns) => write_columns_line(out, columns, number, bytes.as_slice()),
     }
 }
 

@@ -110,7 +110,7 @@ fn put_records_as<W: Write>(
     match form {
         RecordForm::Lines => put_records(out, disk, file),
         RecordForm::Text(_) => print_lines(out, disk, file, form),
-        RecordForm::Fields => print_lines(out, disk, file, form),
+        RecordForm::Columns(_) => print_lines(out, disk, file, form),
     }
 }
 

@@ -7,4 +7,4 @@ use Rattle.ledger_jobs.specs.declared.jobs.Columns.TheVariants as columns
 -- the text with one column for each record
 abbrev pub text_in : Columns → List ℕ → List ℕ
 text_in columns.One text = text
-text_in columns.Fields text = plain_text text
+text_in (columns.Several form) text = plain_text form text

@@ -3,7 +3,7 @@ use crate::names::Name;
 use d64_image::Place;
 use file_changes::FileType;
 use file_rescue::Choice;
-use keeper_commands::{ByteForm, Candidates, RecordForm};
+use keeper_commands::{ByteForm, Candidates, ColumnForm, RecordForm};
 use shop_commands::{Durability, NameForm};
 
 /// What is asked of the bytes of one file, which isn't written.
@@ -33,8 +33,8 @@ pub enum Taking {
 pub enum Columns {
     /// One column for each record.
     One,
-    /// One for each field of a record.
-    Fields,
+    /// Several for each record, in this form.
+    Several(ColumnForm),
 }
 
 /// How an image is drawn: which sector is whose, and what a check of it reports.

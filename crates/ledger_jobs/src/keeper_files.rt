@@ -119,7 +119,7 @@ fn one_column(alloc: Global, columns: Columns, text: Vec<u8>) -> Result<Vec<u8>,
 {
     match columns {
         Columns::One => Ok(text),
-        Columns::Fields => match plain_lines(alloc, text.as_slice()) {
+        Columns::Several(form) => match plain_lines(alloc, form, text.as_slice()) {
             Ok(plain) => Ok(plain),
             Err(_) => Err(Refusal::Run(RunFault::NoMemory)),
         },

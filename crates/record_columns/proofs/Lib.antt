@@ -1,3 +1,10 @@
-pub mod Joined
+pub mod Cut
+pub mod CutBack
+pub mod CutPieces
 pub mod Fields
+pub mod Joined
 pub mod Open
+pub mod PiecesBack
+pub mod Places
+pub mod Refused
+pub mod Zeros

@@ -1,7 +1,7 @@
 //! Laws of columns, each the contract of a function that does nothing: what is written is read back.
-ghost use Rattle.std.specs.Prelude.{◌≡◌, ◌≢◌, ℕ, List, [], flat_map};
+ghost use Rattle.std.specs.Prelude.{◌≡◌, ◌≢◌, ◌<◌, ℕ, List, [], false, flat_map, length};
 ghost use Rattle.std.specs.List.{AllByRecursion};
-ghost use Rattle.byte_text.specs.Texts.{text_of};
+ghost use Rattle.byte_text.specs.Texts.{text_of, trimmed};
 ghost use Rattle.record_columns.specs.Columns.{
   IsEnded,
   IsField,
@@ -12,6 +12,8 @@ ghost use Rattle.record_columns.specs.Columns.{
   ended,
   one_text,
 };
+ghost use Rattle.record_columns.specs.Pieces.{cut, piece_columns, pieces_text};
+ghost use Rattle.record_columns.specs.Positions.{ArePositions};
 ghost use Rattle.record_columns.specs.declared.reading.Column.TheVariants.{Start};
 
 /// The columns that are written of a record that ends with a carriage return are read as that record. They stand for its
@@ -29,4 +31,15 @@ pub fn all_columns_come_back()
 pub fn columns_have_fields()
     ensures { (fields : List (List ℕ)) → AllByRecursion IsField fields → fields ≢ []
         → columns_of (flat_map ended fields) ≡ columns_of_fields fields }
+{}
+
+/// The columns that are written of a record's pieces are read as that record, whatever positions these have and however
+/// long it is: its text is that of its bytes up to the last one that isn't 0.
+pub fn positions_come_back()
+    ensures { (ps bytes : List ℕ) → ArePositions ps → pieces_text ps (piece_columns ps bytes) ≡ text_of (trimmed bytes) }
+{}
+
+/// No bytes have the text of a line that has more columns than there are positions.
+pub fn more_columns_are_refused()
+    ensures { (ps line bytes : List ℕ) → length ps < length (cut false line) → pieces_text ps line ≢ text_of bytes }
 {}

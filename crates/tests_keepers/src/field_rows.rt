@@ -1,9 +1,11 @@
-//! Records printed with a column for each field, and stored from such lines: those that Python's `csv` writes of the fields.
+//! Records printed with several columns, and stored from such lines: those that Python's `csv` writes of the fields, and of
+//! the pieces.
 use crate::comparing::same_at;
 use crate::disks::{Change, changed};
 use crate::outputs::is_told;
 use crate::storing_rows::stored;
-use keeper_commands::{RecordForm, plain_lines, records_image};
+use keeper_commands::{ColumnForm, RecordForm, plain_lines, records_image};
+use record_columns::Positions;
 use std::process::Abort;
 
 /// Records of `STOCK`, which has 18 bytes a record: two fields, one without its carriage return, and no bytes. The other
@@ -25,26 +27,34 @@ fn printed(rt: &(impl Abort + AllocGlobal), image: &[u8], form: RecordForm) -> V
     out
 }
 
-// Stored on the same disk the lines change nothing, and on a blank one they give the same records.
-#[test]
-fn fields_come_back(rt: HostRuntime) {
-    let disk = changed(&rt, RECORDS);
-    let lines = printed(&rt, disk.bytes(), RecordForm::Fields);
-    same_at(
-        &rt,
-        lines.as_slice().starts_with(LINES.as_bytes()),
-        true,
-        "first",
-    );
-    let plain = plain_lines(rt.alloc(), lines.as_slice()).expect(&rt, "memory");
-    let wanted = printed(&rt, disk.bytes(), RecordForm::Lines);
-    same_at(&rt, plain.as_slice(), wanted.as_slice(), "plain");
+/// The first lines with columns at positions 1, 5 and 12.
+const PIECES: &str =
+    "1,\"KING\",\"\\0dLEEDS,\",\" A\\0d\"\n2,\"KING\",\"\",\"\"\n3,\"\",\"\",\"\"\n4,\"\\ff\",\"\",\"\"\n";
+
+/// Checks what is printed in this form. Stored on the same disk the lines change nothing, and on a blank one they give the
+/// same records.
+fn come_back(rt: &(impl Abort + AllocGlobal), columns: ColumnForm, first: &str) {
+    let form = RecordForm::Columns(columns);
+    let disk = changed(rt, RECORDS);
+    let lines = printed(rt, disk.bytes(), form);
+    let begun = lines.as_slice().starts_with(first.as_bytes());
+    same_at(rt, begun, true, "first");
+    let plain = plain_lines(rt.alloc(), columns, lines.as_slice()).expect(rt, "memory");
+    let wanted = printed(rt, disk.bytes(), RecordForm::Lines);
+    same_at(rt, plain.as_slice(), wanted.as_slice(), "plain");
     let mut out = Vec::new(rt.alloc());
-    let blank = changed(&rt, &[]);
-    let (ended, after) = stored(&rt, blank.bytes(), b"STOCK", plain.as_slice(), &mut out);
-    is_told(&rt, ended, "");
-    let again = printed(&rt, after.bytes(), RecordForm::Fields);
-    same_at(&rt, again.as_slice(), lines.as_slice(), "again");
+    let blank = changed(rt, &[]);
+    let (ended, after) = stored(rt, blank.bytes(), b"STOCK", plain.as_slice(), &mut out);
+    is_told(rt, ended, "");
+    let again = printed(rt, after.bytes(), form);
+    same_at(rt, again.as_slice(), lines.as_slice(), "again");
+}
+
+#[test]
+fn columns_come_back(rt: HostRuntime) {
+    come_back(&rt, ColumnForm::Fields, LINES);
+    let positions = Positions::new(&[1, 5, 12]).expect(&rt, "positions");
+    come_back(&rt, ColumnForm::At(positions), PIECES);
 }
 
 /// Lines as a spreadsheet saves them, and as one column: without marks, with CR LF, without an end, and such as are of no
@@ -63,7 +73,8 @@ const PLAIN: [(&str, &str); 5] = [
 /// Checks that each is made so.
 fn are_plain(rt: &(impl Abort + AllocGlobal), rows: &[(&str, &str)]) {
     for &(lines, wanted) in rows {
-        let plain = plain_lines(rt.alloc(), lines.as_bytes()).expect(rt, "memory");
+        let form = ColumnForm::Fields;
+        let plain = plain_lines(rt.alloc(), form, lines.as_bytes()).expect(rt, "memory");
         same_at(rt, plain.as_slice(), wanted.as_bytes(), lines);
     }
 }

@@ -79,6 +79,12 @@ job ledger bytes --unclosed a.d64 A --text
 prints bytes, a.d64, , 1, text, unclosed
 job ledger store a.d64 ADD\\c1 r.csv --fields --accept-loss
 prints store, a.d64, r.csv, 4, loss accepted, fields
+job ledger records a.d64 --at 1,25,49 ADD\\c1 --text
+prints records, a.d64, , 4, at 1,25,49
+job ledger records a.d64 --at=1 ADD\\c1
+prints records, a.d64, , 4, at 1
+job ledger store a.d64 ADD\\c1 r.csv --at 1,254
+prints store, a.d64, r.csv, 4, at 1,254
 job ledger records a.d64 ADD\\c1
 prints records, a.d64, , 4
 job ledger bytes a.d64 GAME\\a0,8,1
@@ -204,6 +210,12 @@ job ledger new a.d64 --name A
 prints fault 1, status 2
 job ledger play a.d64 s.txt --log --sync
 prints fault 8, status 2
+job ledger store a.d64 A r.csv --fields --at 1
+prints fault 8, status 2
+job ledger records a.d64 A --at 01,5
+prints fault 10, status 2
+job ledger store a.d64 A r.csv --at 5,1
+prints fault 10, status 2
 job ledger store a.d64 A r.txt s.txt
 prints fault 1, status 2
 job ledger records a.d64

@@ -3,7 +3,7 @@ use crate::runs::texts_of;
 use command_line::command_line;
 use file_changes::FileType;
 use file_rescue::Choice;
-use keeper_commands::{ByteForm, Candidates, RecordForm};
+use keeper_commands::{ByteForm, Candidates, ColumnForm, RecordForm};
 use ledger_cli::{Job, job};
 use ledger_jobs::{
     Columns, Drawing, Effect, Findings, Loss, Name, Overview, Taking, Unowned, View, Way,
@@ -166,13 +166,26 @@ fn names_of(form: NameForm) -> &'static str {
     }
 }
 
+/// What is said of the columns of records.
+fn columns_of(form: ColumnForm) -> &'static str {
+    match form {
+        ColumnForm::Fields => ", fields",
+        ColumnForm::At(positions) => match positions.as_slice() {
+            [1] => ", at 1",
+            [1, 25, 49] => ", at 1,25,49",
+            [1, 254] => ", at 1,254",
+            _ => ", at others",
+        },
+    }
+}
+
 /// What is said of the form in which something is taken out of an image.
 fn taken_as(what: Taking) -> &'static str {
     match what {
         Taking::Records(RecordForm::Text(set), _) | Taking::Bytes(ByteForm::Text(set), _) => {
             set_of(set)
         }
-        Taking::Records(RecordForm::Fields, _) => ", fields",
+        Taking::Records(RecordForm::Columns(form), _) => columns_of(form),
         Taking::Records(RecordForm::Lines, _) | Taking::Bytes(ByteForm::Plain, _) => "",
     }
 }
@@ -194,7 +207,7 @@ fn taken_from(what: Taking) -> &'static str {
 fn stored_from(columns: Columns) -> &'static str {
     match columns {
         Columns::One => "",
-        Columns::Fields => ", fields",
+        Columns::Several(form) => columns_of(form),
     }
 }
 

@@ -69,7 +69,13 @@ ends 2
 no script
 image
 person ledger_cli play a.d64 s.txt --sync --log
-tells FLAGS|ledger: give --sync or --log, not both|
+tells FLAGS|ledger: give --sync or --log, and --fields or --at, not both|
+ends 2
+
+no script
+image
+person ledger_cli records a.d64 A --at 25,49
+tells POSITIONS|ledger: P is up to 32 numbers of 1 to 254, which rise from 1, such as 1,25,49|
 ends 2
 
 no script

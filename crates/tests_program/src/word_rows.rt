@@ -98,6 +98,43 @@ tells FLAGS|
 ends 2
 size 0
 
+# Two kinds of columns.
+no image
+no script
+$ ledger_cli records a.d64 A --fields --at 1,25
+tells FLAGS|
+ends 2
+size 0
+
+# No position, one that isn't greater than the one before, one without a number.
+no image
+no script
+$ ledger_cli records a.d64 A --at ''
+tells POSITIONS|
+ends 2
+size 0
+
+no image
+no script
+$ ledger_cli store a.d64 A r.csv --at 1,25,25
+tells POSITIONS|
+ends 2
+size 0
+
+no image
+no script
+$ ledger_cli records a.d64 A --at 1,255
+tells POSITIONS|
+ends 2
+size 0
+
+no image
+no script
+$ ledger_cli records a.d64 A --at 1,
+tells POSITIONS|
+ends 2
+size 0
+
 # The version.
 no image
 no script

@@ -9,6 +9,8 @@ mod comparing;
 #[cfg(test)]
 mod extract_rows;
 #[cfg(test)]
+mod piece_rows;
+#[cfg(test)]
 mod quoted_rows;
 #[cfg(test)]
 mod reaching_rows;

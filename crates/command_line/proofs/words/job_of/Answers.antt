@@ -11,7 +11,8 @@ use Rattle.command_line.specs.Jobs.{IsJob, IsNoJob}
 use Rattle.command_line.specs.Flags.{is_given}
 use Rattle.command_line.specs.Numbers.{spelled_place}
 use Rattle.command_line.proofs.Pictures.{picturing-met}
-use Rattle.command_line.proofs.Named.{making-met, named-met, new-met, putting-met, renaming-met, storing-met}
+use Rattle.command_line.proofs.Named.{making-met, named-met, new-met, putting-met, records-met, renaming-met}
+use Rattle.command_line.proofs.Named.{storing-met}
 use Rattle.command_line.proofs.Parses.{format-fit, format-met, met-has, met-is, play-met}
 use Rattle.command_line.proofs.Views.{checking-met, viewing-met}
 use Rattle.command_line.proofs.words.job_of.Goals as goal
@@ -114,9 +115,8 @@ pub returns-in-records : goal.returns-in-records
 returns-in-records c =
     let rows = rows_of (found_of c.in-Some.found.now) in
     let is = met-is c.parsed_subcommand.result _ c.in-Some.name c.in-Some.found _ c.parsed_subcommand.ensures c.in-Some.is c.in-records.is in
-    let met = named-met _ rows (jobs.Take (takings.Records c.record_form.result c.candidates.result) c.value_of-image.result) c.taking.result
-    (λ name at. record { rows = rows; is = is; holds = (c.value_of-image.ensures, at, (c.record_form.ensures, c.candidates.ensures)) }) (λ name. tt)
-    (λ missing. inl (takings.Records c.record_form.result c.candidates.result, record { rows = rows; is = is; holds = missing })) c.taking.ensures in
+    let met = records-met _ rows c.value_of-image.result c.taking_records.result is c.value_of-image.ensures
+    c.taking_records.ensures in
     record { job = met.0; fit = met.1 }
 
 pub returns-in-bytes : goal.returns-in-bytes

@@ -5,7 +5,7 @@ use Rattle.keeper_commands.specs.ColumnLines.{plain_text}
 use Rattle.keeper_commands.proofs.column_lines.plain_lines.Given as goal
 
 abbrev pub invariant-loop-line : goal.invariant-loop-line
-invariant-loop-line l = vec_items l.plain ++ plain_text l.rest ≡ plain_text l.text
+invariant-loop-line l = vec_items l.plain ++ plain_text l.form l.rest ≡ plain_text l.form l.text
 
 abbrev pub decreases-loop-line : goal.decreases-loop-line
 decreases-loop-line l = length l.rest

@@ -12,17 +12,17 @@ returns-then-byte-eq44 c =
     let rest = c.loop-rest.rest.now in
     let here : get_or rest 0 0 ≡ 44 = omega (arith, c.if-byte-eq44.true) in
     on_ok_weaker c.push_column.result
-    (λ done. done ∙ ap (λ (xs : List ℕ). vec_items c.loop-rest.text ++ one_column xs) (take_rest rest 1)
-    ∙ line-columns _ rest _ c.in-len1-up.len_at_least (ap (λ (n : ℕ). nat_eq n 44) here) c.loop-rest.invariant)
+    (λ done. done ∙ ap (λ (xs : List ℕ). vec_items c.loop-rest.text ++ one_column c.args.form xs) (take_rest rest 1)
+    ∙ line-columns c.args.form _ rest _ c.in-len1-up.len_at_least (ap (λ (n : ℕ). nat_eq n 44) here) c.loop-rest.invariant)
     c.push_column.ensures
 
 pub loop-rest-preserved : goal.loop-rest-preserved
 loop-rest-preserved c =
     let rest = c.loop-rest.rest.now in
     rw (take_rest rest 1)
-    (ap (λ (xs : List ℕ). xs ++ plain_line (drop 1 rest)) c.in_ok-push.ensures.items
-    ∙ line-next _ rest _ c.in-len1-up.len_at_least
+    (ap (λ (xs : List ℕ). xs ++ plain_line c.args.form (drop 1 rest)) c.in_ok-push.ensures.items
+    ∙ line-next c.args.form _ rest _ c.in-len1-up.len_at_least
     (ne_eqb (get_or rest 0 0) 44 (λ comma. omega (arith, comma, c.if-byte-eq44.false))) c.loop-rest.invariant)
 
 pub returns : goal.returns
-returns c = line-end _ c.loop-rest.rest.now _ c.in_default.len_below c.loop-rest.invariant
+returns c = line-end c.args.form _ c.loop-rest.rest.now _ c.in_default.len_below c.loop-rest.invariant

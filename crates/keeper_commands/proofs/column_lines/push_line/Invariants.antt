@@ -5,7 +5,7 @@ use Rattle.keeper_commands.specs.ColumnLines.{plain_line}
 use Rattle.keeper_commands.proofs.column_lines.push_line.Given as goal
 
 abbrev pub invariant-loop-rest : goal.invariant-loop-rest
-invariant-loop-rest l = vec_items l.text ++ plain_line l.rest ≡ vec_items l.fn.text ++ plain_line l.line
+invariant-loop-rest l = vec_items l.text ++ plain_line l.form l.rest ≡ vec_items l.fn.text ++ plain_line l.form l.line
 
 abbrev pub decreases-loop-rest : goal.decreases-loop-rest
 decreases-loop-rest l = length l.rest

@@ -23,9 +23,9 @@ returns-in-Text-clause-ok g c = λ l n f of. on_ok_weaker c.print_lines.result
     (as-lines c.args.form (forms.Text c.in-Text.field-0) _ c.in-Text.is refl) printed)
     (c.print_lines.ensures.ok l n f of)
 
-pub returns-in-Fields-clause-ok : goal.returns-in-Fields-clause-ok
-returns-in-Fields-clause-ok g c = λ l n f of. on_ok_weaker c.print_lines-in-Fields.result
+pub returns-in-Columns-clause-ok : goal.returns-in-Columns-clause-ok
+returns-in-Columns-clause-ok g c = λ l n f of. on_ok_weaker c.print_lines-in-Columns.result
     (λ printed. subst (λ (text : List ℕ). Appends (g.W.Write.contents c.args.out.now)
-    (g.W.Write.contents c.print_lines-in-Fields.new.out) text)
-    (as-lines c.args.form forms.Fields _ c.in-Fields.is refl) printed)
-    (c.print_lines-in-Fields.ensures.ok l n f of)
+    (g.W.Write.contents c.print_lines-in-Columns.new.out) text)
+    (as-lines c.args.form (forms.Columns c.in-Columns.field-0) _ c.in-Columns.is refl) printed)
+    (c.print_lines-in-Columns.ensures.ok l n f of)

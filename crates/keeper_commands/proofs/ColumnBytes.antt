@@ -1,0 +1,112 @@
+-- The bytes of a record's columns: no LF, no CR at their end, and the record.
+use Rattle.std.proofs.Common.{◌≡◌, ◌≤◌, ◌-◌, ◌∙◌, ℕ, List, [], ◌∷◌, ◌++◌, Bool, true, false, ap, arith, length, map, refl, sym}
+use Rattle.std.specs.Prelude.{◌==◌, codes, if◌then◌else◌, nat_eq, slice_index}
+use Rattle.std.proofs.lemmas.Bool.{eqb-true}
+use Rattle.std.proofs.lemmas.List.{append_assoc}
+use Rattle.byte_text.specs.Texts.{byte_text, is_plain, text_of, trimmed}
+use Rattle.record_columns.proofs.Open.{all-back, last-mark}
+use Rattle.record_columns.proofs.PiecesBack.{pieces-back}
+use Rattle.record_columns.specs.Columns.{IsEnded, columns_of, columns_of_fields, is_empty, open_columns, piece}
+use Rattle.record_columns.specs.Columns.{quoted, rest_of_columns}
+use Rattle.record_columns.specs.Pieces.{piece_columns, pieces}
+use Rattle.record_columns.specs.Positions.{starts}
+use Rattle.script_lines.proofs.Lines.{Lacks}
+use Rattle.keeper_commands.proofs.Lined.{chosen-lacks, lacks-both, text-lacks}
+use Rattle.keeper_commands.specs.ColumnLines.{record_text}
+use Rattle.keeper_commands.specs.Forms.{HasPositions, columns_as}
+use Rattle.keeper_commands.specs.declared.forms.ColumnForm.{ColumnForm}
+use Rattle.keeper_commands.specs.declared.forms.ColumnForm.TheVariants as forms
+
+piece-lacks : (p : Bool) (b : ℕ) (last : Bool)
+    → Lacks 10 (if p then (if last then 34 ∷ [] else 34 ∷ 44 ∷ 34 ∷ []) else byte_text b)
+piece-lacks true b true = ((λ is. omega (arith, is)), tt)
+piece-lacks true b false = ((λ is. omega (arith, is)), ((λ is. omega (arith, is)), ((λ is. omega (arith, is)), tt)))
+piece-lacks false b last = chosen-lacks (is_plain b) b refl
+
+rest-lacks : (bytes : List ℕ) → Lacks 10 (rest_of_columns bytes)
+unfolding rest_of_columns
+rest-lacks [] = tt
+rest-lacks (b ∷ bytes) = lacks-both (piece b (is_empty bytes)) (rest_of_columns bytes)
+    (piece-lacks (nat_eq b 13) b (is_empty bytes)) (rest-lacks bytes)
+
+columns-lack : (bytes : List ℕ) → Lacks 10 (columns_of bytes)
+columns-lack bytes = ((λ is. omega (arith, is)), rest-lacks bytes)
+
+all-lack : (p : Bool) (bytes : List ℕ) → Lacks 10 (if p then columns_of bytes else open_columns bytes)
+all-lack true bytes = columns-lack bytes
+all-lack false bytes = lacks-both (columns_of (bytes ++ 13 ∷ [])) (codes ",\\-") (columns-lack (bytes ++ 13 ∷ []))
+    ((λ is. omega (arith, is)), ((λ is. omega (arith, is)), ((λ is. omega (arith, is)), tt)))
+
+-- the columns of pieces likewise
+mark-lacks : (xs : List ℕ) → Lacks 10 xs → Lacks 10 (34 ∷ (xs ++ 34 ∷ []))
+mark-lacks xs lacks = ((λ is. omega (arith, is)), lacks-both xs (34 ∷ []) lacks ((λ is. omega (arith, is)), tt))
+
+quoted-lacks : (fields : List (List ℕ)) → Lacks 10 (columns_of_fields fields)
+unfolding columns_of_fields
+quoted-lacks [] = tt
+quoted-lacks (field ∷ []) = mark-lacks (text_of field) (text-lacks field)
+quoted-lacks (field ∷ (next ∷ fields)) = lacks-both (quoted field) (44 ∷ columns_of_fields (next ∷ fields))
+    (mark-lacks (text_of field) (text-lacks field)) ((λ is. omega (arith, is)), quoted-lacks (next ∷ fields))
+
+pub form-lacks : (form : ColumnForm) (r : List ℕ) → Lacks 10 (columns_as form r)
+form-lacks forms.Fields r = all-lack (nat_eq (slice_index (trimmed r) (length (trimmed r) - 1)) 13) (trimmed r)
+form-lacks (forms.At positions) r = quoted-lacks (map trimmed (pieces (starts positions) r))
+
+-- what is the last byte of columns, and no CR
+pub record Ends (line : List ℕ) : Type 0 where
+  pub front : List ℕ
+  pub last : ℕ
+  pub is : line ≡ front ++ last ∷ []
+  pub other : (last == 13) ≡ false
+
+ended-ends : (bytes : List ℕ) → IsEnded bytes → Ends (columns_of bytes)
+ended-ends [] is = absurd (omega (arith, is))
+ended-ends (b ∷ bytes) is = let back = last-mark b bytes is in record {
+  front = 34 ∷ back.0;
+  last = 34;
+  is = ap (λ (t : List ℕ). 34 ∷ t) back.1;
+  other = refl;
+}
+
+all-end : (p : Bool) (bytes : List ℕ) → nat_eq (slice_index bytes (length bytes - 1)) 13 ≡ p
+    → Ends (if p then columns_of bytes else open_columns bytes)
+all-end true bytes is = ended-ends bytes (eqb-true (slice_index bytes (length bytes - 1)) 13 is)
+all-end false bytes is = record {
+  front = columns_of (bytes ++ 13 ∷ []) ++ 44 ∷ 92 ∷ [];
+  last = 45;
+  is = sym (append_assoc (columns_of (bytes ++ 13 ∷ [])) (44 ∷ 92 ∷ []) (45 ∷ []));
+  other = refl;
+}
+
+quoted-end : (field : List ℕ) (fields : List (List ℕ)) → Ends (columns_of_fields (field ∷ fields))
+unfolding columns_of_fields
+quoted-end field [] = record { front = 34 ∷ text_of field; last = 34; is = refl; other = refl }
+quoted-end field (next ∷ fields) = let e = quoted-end next fields in record {
+  front = quoted field ++ 44 ∷ e.front;
+  last = e.last;
+  is = ap (λ (t : List ℕ). quoted field ++ 44 ∷ t) e.is ∙ sym (append_assoc (quoted field) (44 ∷ e.front) (e.last ∷ []));
+  other = e.other;
+}
+
+some-end : (fields : List (List ℕ)) → 1 ≤ length fields → Ends (columns_of_fields fields)
+some-end [] some = absurd (omega (arith, some))
+some-end (field ∷ fields) some = quoted-end field fields
+
+some-piece : (p : ℕ) (ps r : List ℕ) → 1 ≤ length (map trimmed (pieces (p ∷ ps) r))
+unfolding pieces
+some-piece p [] r = omega arith
+some-piece p (q ∷ ps) r = omega arith
+
+placed-end : (ps r : List ℕ) → slice_index ps 0 ≡ 1 → Ends (piece_columns ps r)
+placed-end [] r first = absurd (omega (arith, first))
+placed-end (p ∷ ps) r first = some-end (map trimmed (pieces (p ∷ ps) r)) (some-piece p ps r)
+
+pub columns-end : (form : ColumnForm) (r : List ℕ) → HasPositions form → Ends (columns_as form r)
+columns-end forms.Fields r has = let t : List ℕ = trimmed r in all-end (nat_eq (slice_index t (length t - 1)) 13) t refl
+columns-end (forms.At positions) r has = placed-end (starts positions) r has.first
+
+-- they are read as the record
+pub columns-back : (form : ColumnForm) (r : List ℕ) → HasPositions form
+    → record_text form (columns_as form r) ≡ text_of (trimmed r)
+columns-back forms.Fields r has = all-back (trimmed r)
+columns-back (forms.At positions) r has = pieces-back (starts positions) r has.first has.rising
