@@ -83,10 +83,6 @@ pub full-not-too-large : {X T : Type 0} → ◌≡◌ {A = Result T RelFault} (E
 full-not-too-large e = cc
 
 -- at an error
-pub at-error : {T E : Type 0} (r : Result T E) (P : Type 0) → P → OnErr r P
-at-error (Ok x) P h = tt
-at-error (Err e) P h = h
-
 pub error-then : {T E : Type 0} (r : Result T E) (P Q : Type 0) → (P → Q) → OnErr r P → OnErr r Q
 error-then (Ok x) P Q f h = tt
 error-then (Err e) P Q f h = f h

@@ -7,6 +7,7 @@ pub mod InSlot
 pub mod Made
 pub mod NewClean
 pub mod NewFiles
+pub mod NewSectorHeld
 pub mod NewWrites
 pub mod Sites
 pub mod StillClean

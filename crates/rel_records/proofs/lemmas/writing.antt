@@ -1,6 +1,7 @@
 -- A record is written, in one block or across two.
 pub mod Across
 pub mod Bytes
+pub mod Composed
 pub mod Grown
 pub mod OneBlock
 pub mod Patches

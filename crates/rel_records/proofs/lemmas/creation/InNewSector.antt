@@ -1,13 +1,11 @@
--- A new file whose entry goes into a new directory sector: its sectors and that one are written, then the link to it.
+-- A new file whose entry goes into a new directory sector: what the image has when its link is written.
 use Rattle.std.proofs.Common.{◌≡◌, ◌≢◌, ℕ, ◌+◌, ◌<◌, ◌≤◌, inl, inr, true, false, List, [], ◌∷◌, ◌++◌, ap}
 use Rattle.std.proofs.Common.{append-nil, arith, length, map, refl, slice_index, subst, sym, ◌∙◌, ◌*◌, IsTrue}
 use Rattle.std.specs.Prelude.{Contains, Some, flat_map, nat_eq, not, slice_get}
 use Rattle.std.proofs.lemmas.List.{length-map}
 use Rattle.std.proofs.lemmas.List.Elements.{Contains-append_left, Contains-append_right}
-use Rattle.d64_image.proofs.Images.{put_is_image, sector-put_other}
-use Rattle.d64_image.proofs.Moments.{at_end, changes_weaker, one_write_more}
-use Rattle.d64_image.specs.History.{Changes, HeldOnly, History, OldOr}
-use Rattle.d64_image.specs.Images.{Image, IsImage, IsSector, Sector, put, sector}
+use Rattle.d64_image.proofs.Images.{sector-put_other}
+use Rattle.d64_image.specs.Images.{Image, IsImage, Sector, put, sector}
 use Rattle.d64_image.specs.declared.place.Place.{Place}
 use Rattle.disk_layout.proofs.lemmas.chains.Chains.{AgreeAt}
 use Rattle.disk_layout.proofs.lemmas.counts.CountWrites.{slot-byte}
@@ -33,17 +31,17 @@ use Rattle.rel_records.proofs.lemmas.creation.InSector.{linked-adds, linked-clea
 use Rattle.rel_records.proofs.lemmas.creation.Unowned.{once-linked, two-unowned}
 use Rattle.rel_records.proofs.lemmas.creation.NewClean.{file-more, is-new, map-same, three-among}
 use Rattle.rel_records.proofs.lemmas.creation.NewFiles.{IsNewFile, new-exact, new-is_file, new_file, owners-new}
-use Rattle.rel_records.proofs.lemmas.creation.NewWrites.{before-same, files-before}
-use Rattle.rel_records.proofs.lemmas.whole.Created.{before-whole, fresh-long, linked-stays, more-whole}
-use Rattle.rel_records.specs.creation.Made.{HasFilesOf, IsCreating}
+use Rattle.rel_records.proofs.lemmas.creation.NewWrites.{files-before}
+use Rattle.rel_records.proofs.lemmas.whole.Created.{fresh-long, linked-stays, more-whole}
+use Rattle.rel_records.specs.creation.Made.{HasFilesOf}
 use Rattle.rel_records.specs.creation.NewFile.{ChangesOnly, HasNewSectors, IsLinkedTo, IsNewDirectory}
 use Rattle.rel_records.specs.creation.NewFile.{IsTakenForDirectory}
 use Rattle.rel_records.specs.growth.Next.{IsFresh}
-use Rattle.rel_records.specs.creation.Site.{HasFileAt, IsSectorEntry, IsSectorSite}
+use Rattle.rel_records.specs.creation.Site.{HasFileAt, IsSectorSite}
 use Rattle.rel_records.specs.declared.creation.site.Site.{Site}
 
 -- none of the three was owned
-unowned-three : (a : Image) (l : Layout) (new_map : Sector) (block side fresh : Place)
+pub unowned-three : (a : Image) (l : Layout) (new_map : Sector) (block side fresh : Place)
     → IsTakenForDirectory a l new_map block side fresh → (q : Place) → Contains (fresh ∷ block ∷ side ∷ []) q
     → ¬ (Contains (owners l) q)
 unowned-three a l new_map block side fresh taken q c own = elim (Contains-cases q fresh (block ∷ side ∷ []) c) [
@@ -204,48 +202,3 @@ module _ (a c : Image) (l : Layout) (st : Site) (fresh : Place) (first_bytes byt
       (linked-adds c l st.place bytes wc.size relinked a was.layout was is_last fresh k refl linked.link
       (ap (λ x. slice_index x 0) there ∙ made.ends) h.taken.on_18 h.taken.no_fresh used free now-file once)
       (inr (h.full.full, (h.lowest, (refl, refl)))) at-entry refl (sym h.number) refl
-
-module _ {D : Type 0} (S : History D) (d e : D) (l : Layout) (st : Site) (fresh : Place) (first_bytes bytes : Sector)
-    (name : List ℕ) (L : ℕ)
-    (h : IsSectorSite (S.image d) l st fresh) (is_for : IsSectorEntry name L st fresh first_bytes bytes) (low : 1 ≤ L)
-    (high : L ≤ 254)
-    (prepared : Changes S d e 4 (ChangesOnly (S.image d) st.map.bytes (fresh ∷ st.block ∷ st.side ∷ []))) where
-  -- while its sectors are written the files are there as before
-  still : (c : Image) → ChangesOnly (S.image d) st.map.bytes (fresh ∷ st.block ∷ st.side ∷ []) c
-      → IsCreating (S.image d) l name L c
-  still c x =
-      let three = fresh ∷ st.block ∷ st.side ∷ [] in
-      let unowned = unowned-three (S.image d) l st.map.bytes st.block st.side fresh h.taken in
-      let layout = h.taken.clean.layout in
-      let was = files-before (S.image d) c st.map.bytes three l layout unowned h.taken.header x in (
-        inl was,
-        before-whole (S.image d) c l h.taken.clean was.layout (before-same (S.image d) c st.map.bytes three l
-            layout unowned x),
-      )
-
-  pub directory-moments : Changes S d e 5 (IsCreating (S.image d) l name L)
-  directory-moments = changes_weaker S d e 4 5 _ _ (omega arith) still prepared
-
-  module _ (has : HasNewSectors st.map.bytes st.block st.side L (S.image e))
-      (there : sector (S.image e) fresh ≡ first_bytes) (sized : IsSector bytes) where
-    pub link-more : HasFileAt (S.image d) l name L st fresh (put (S.image e) st.place bytes)
-    link-more =
-        let P : Sector → Type 0 = λ x. IsLinkedTo x bytes fresh in
-        sector-more (S.image d) (S.image e) l st fresh first_bytes bytes name L h (at_end S d e _ prepared.held) has
-        there
-        (S.whole e) (put_is_image (S.image e) st.place bytes (S.whole e) sized) (subst P h.bytes is_for.linked)
-        is_for.made is_for.few low high
-
-    link-whole : IsWhole (S.image d) → IsWhole (put (S.image e) st.place bytes)
-    link-whole =
-        let P : Sector → Type 0 = λ x. IsLinkedTo x bytes fresh in
-        sector-whole (S.image d) (S.image e) l st fresh first_bytes bytes name L h (at_end S d e _ prepared.held) has
-        there (S.whole e) (put_is_image (S.image e) st.place bytes (S.whole e) sized) (subst P h.bytes is_for.linked)
-        is_for.made is_for.few low high
-
-    pub link-moments : (f : D) → HeldOnly S e f (OldOr (S.image e) (put (S.image e) st.place bytes))
-        → S.writes f ≤ S.writes e + 1 → Changes S d f 5 (IsCreating (S.image d) l name L)
-    link-moments f held counted =
-        let before = changes_weaker S d e 4 4 _ (IsCreating (S.image d) l name L) (omega arith) still prepared in
-        one_write_more S d e f 4 (S.image e) (put (S.image e) st.place bytes) _ before held counted
-        (at_end S d e _ before.held) (inr link-more.more, link-whole)

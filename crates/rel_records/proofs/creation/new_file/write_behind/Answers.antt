@@ -6,7 +6,7 @@ use Rattle.d64_image.specs.Images.{Image}
 use Rattle.d64_image.specs.declared.place.Place.{Place}
 use Rattle.disk_layout.proofs.lemmas.lists.Once.{Contains-here}
 use Rattle.disk_layout.specs.Layout.{owners}
-use Rattle.rel_records.proofs.lemmas.creation.InNewSector.{directory-moments, link-more, link-moments}
+use Rattle.rel_records.proofs.lemmas.creation.NewSectorHeld.{directory-moments, link-more, link-moments}
 use Rattle.rel_records.proofs.lemmas.steps.Sided.{counted_once}
 use Rattle.rel_records.specs.creation.Site.{HasFileAt}
 use Rattle.rel_records.proofs.lemmas.Told.{not-done, tells-after, tells-failed}
