@@ -56,7 +56,7 @@ fn write_across<D: Sectors>(
     requires next { IsSome (named_at (sector (D.history.image disk.old) place) 0) }
     ensures { IfSome (named_at (sector (D.history.image disk.old) place) 0) (λ next.
         PutsEach D.history disk.old disk.new
-            (in_two (D.history.image disk.old) place next start end text.now) 2 result) }
+        (in_two (D.history.image disk.old) place next start end text.now) 2 result) }
 {
     let mut block = [0; 256];
     write_block(disk, place, start, DATA, text, &mut block)?;
@@ -85,7 +85,14 @@ fn write_there<D: Sectors>(
     let begins = DATA * block;
     let place = block_at(disk, file, block)?;
     if end <= begins + DATA {
-        return write_block(disk, place, start - begins, end - begins, text, &mut [0; 256]);
+        return write_block(
+            disk,
+            place,
+            start - begins,
+            end - begins,
+            text,
+            &mut [0; 256],
+        );
     }
     write_across(disk, place, start - begins, end - begins - DATA, text)
 }
