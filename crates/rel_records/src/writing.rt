@@ -40,8 +40,8 @@ fn write_block<D: Sectors>(
     write(disk, place, block)
 }
 
-/// Writes the text over the data bytes from `start` on of the block at `place`, and on to below `end` of the block to
-/// which it links, and zeros if it is shorter. The part in the first block is written first.
+/// Writes the text over the data bytes of the block at `place` from `start` on, and then over those of the block to which
+/// it links, to below `end`. If the text is shorter, the rest is zeros.
 // Out of line, since few records lie in two blocks.
 #[inline(never)]
 fn write_across<D: Sectors>(
@@ -56,7 +56,7 @@ fn write_across<D: Sectors>(
     requires next { IsSome (named_at (sector (D.history.image disk.old) place) 0) }
     ensures { IfSome (named_at (sector (D.history.image disk.old) place) 0) (λ next.
         PutsEach D.history disk.old disk.new
-            (in_two (D.history.image disk.old) place next start end text.now) 2 result) }
+        (in_two (D.history.image disk.old) place next start end text.now) 2 result) }
 {
     let mut block = [0; 256];
     write_block(disk, place, start, DATA, text, &mut block)?;
@@ -85,7 +85,14 @@ fn write_there<D: Sectors>(
     let begins = DATA * block;
     let place = block_at(disk, file, block)?;
     if end <= begins + DATA {
-        return write_block(disk, place, start - begins, end - begins, text, &mut [0; 256]);
+        return write_block(
+            disk,
+            place,
+            start - begins,
+            end - begins,
+            text,
+            &mut [0; 256],
+        );
     }
     write_across(disk, place, start - begins, end - begins - DATA, text)
 }

@@ -118,8 +118,11 @@ module _ {D : Type 0} (S : History D) (a b c : D) (v w : RelFile) (r pos : ℕ) 
         };
     ok = on_ok_weaker told (λ x. omega (arith, x, g.same)) fit;
     overflow = IfErr-weaker told _ _ (λ e o is. omega (arith, o.1, g.same)) over;
-    there = λ done. let j = (g.file l0 n0 f0 of0).ok in (g.there, placed (S.image b) w r (j.layout, n0, j.file, j.of)
-        (S.whole b) low g.there);
+    there = λ done. let j = (g.file l0 n0 f0 of0).ok in (
+      g.there,
+      placed (S.image b) w r (j.layout, n0, j.file, j.of)
+          (S.whole b) low g.there,
+    );
     same = λ done. g.same;
     told = IfErr-weaker told _ _ (λ e o. inl o.0) over;
     refused = IfErr-weaker told _ _ (λ e o ne not. absurd (not o.0)) over;

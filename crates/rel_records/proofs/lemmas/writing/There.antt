@@ -89,7 +89,7 @@ module _ {D : Type 0} (S : History D) (a b : D) (v : RelFile) (r pos block : ℕ
         let (q, to, put) = both l n f of in
         let clean = clean-of i l of.layout there.clean in
         let P : Image → Type 0 = λ j. LeavesRecords i j l n (with_written
-              (record_length f.slot) r pos text (records i f)) v in
+        (record_length f.slot) r pos text (records i f)) v in
         let half = leaves-half i l n f v (S.whole a) of clean block r pos p q text small (at l n f of) to there.low there.high
         there.position_low there.position_high from inside over in
         let all = leaves-both i l n f v (S.whole a) of clean block r pos p q text small (at l n f of) to there.low there.high
@@ -119,8 +119,13 @@ module _ {D : Type 0} (S : History D) (a b : D) (v : RelFile) (r pos block : ℕ
       both : OfItsFile (S.image a) v (λ l n f. (q : Place) × (slice_get f.blocks (block + 1) ≡ Some q)
           × PutsTwo q)
       both l n f of =
-          let more : block + 1 < length f.blocks = omega (arith, over, of.shows.blocks, one-more r (length_of v) there.low,
-          inside-of (S.image a) v r there.of (S.whole a) there.low there.high) in
+          let more : block + 1 < length f.blocks = omega (
+            arith,
+            over,
+            of.shows.blocks,
+            one-more r (length_of v) there.low,
+            inside-of (S.image a) v r there.of (S.whole a) there.low there.high,
+          ) in
           let (q, to) = block-there (S.image a) l n f v of (block + 1) p more in
           let link = link-named (S.image a) l n f v of block p q (sector (S.image a) p) (at l n f of) to refl in
           (q, to, subst (λ o. IfSome o PutsTwo) link puts)

@@ -57,8 +57,12 @@ write_across-requires-clause-next g c =
     subst (λ i. IsSome (named_at (sector i c.in_ok-place.place) 0)) (sym c.in_ok-place.ensures.reads.image)
     (next-some a v (((r - 1) * length_of v + (c.args.position - 1)) / 254) c.in_ok-place.place _ _ c.requires.of
     c.in_ok-place.ensures.ok
-    (omega (arith, c.if-end-begins.false, one-more r (length_of v) c.requires.low,
-    inside-of a v r c.requires.of (S.whole c.args.disk.now) c.requires.low c.requires.high)) refl refl)
+    (omega (
+      arith,
+      c.if-end-begins.false,
+      one-more r (length_of v) c.requires.low,
+      inside-of a v r c.requires.of (S.whole c.args.disk.now) c.requires.low c.requires.high,
+    )) refl refl)
 
 pub returns-then-end-begins : goal.returns-then-end-begins
 returns-then-end-begins g c =
