@@ -35,8 +35,7 @@ pub record PutsEach {D : Type 0} (S : History D) (old new : D) (puts : List (Pla
 abbrev pub in_block : Image → Place → ℕ → ℕ → List ℕ → Place × Sector
 in_block img p start end text = (p, patched start end text (sector img p))
 
--- a text put into the block at p, over its data bytes from start on, and then the rest of it into the block at q, over
--- those to below end
+-- a text put into the block at p, over its data bytes from start on, and then its rest into the block at q, to below end
 abbrev pub in_two : Image → Place → Place → ℕ → ℕ → List ℕ → List (Place × Sector)
 in_two img p q start end text =
     let first : Image = put img p (patched start 254 text (sector img p)) in

@@ -40,8 +40,8 @@ fn write_block<D: Sectors>(
     write(disk, place, block)
 }
 
-/// Writes the text over the data bytes from `start` on of the block at `place`, and on to below `end` of the block to
-/// which it links, and zeros if it is shorter. The part in the first block is written first.
+/// Writes the text over the data bytes of the block at `place` from `start` on, and then over those of the block to which
+/// it links, to below `end`. If the text is shorter, the rest is zeros.
 // Out of line, since few records lie in two blocks.
 #[inline(never)]
 fn write_across<D: Sectors>(
