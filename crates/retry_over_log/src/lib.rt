@@ -4,8 +4,6 @@
 
 mod log_loss;
 mod power;
-#[cfg(test)]
-mod tests;
 
 pub use log_loss::retry_after_log_loss;
 pub use power::PowerLoss;

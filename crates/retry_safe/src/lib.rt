@@ -2,7 +2,5 @@
 #![tactic(auto)]
 
 mod power_loss;
-#[cfg(test)]
-mod tests;
 
 pub use power_loss::{ask, retry_after_power_loss};

@@ -1,10 +1,12 @@
-//! Worked rows of bytes as text, of records as lines, of what is printed of an image's files, and of its map and its
-//! picture. Tests only: no program stands on this crate. They stand here and not in the crates that they test so that
-//! the gate proves those once.
+//! Worked rows of what keepers do with an image: bytes as text, records as lines, what is printed of an image's files, its
+//! map and its picture, what can be rescued, and changes to files. Tests only: no program stands on this crate. They
+//! stand here and not in the crates that they test so that the gate proves those once.
 #![tactic(auto)]
 
 #[cfg(test)]
 mod byte_rows;
+#[cfg(test)]
+mod changes;
 #[cfg(test)]
 mod comparing;
 #[cfg(test)]
@@ -35,6 +37,8 @@ mod readable_rows;
 mod record_rows;
 #[cfg(test)]
 mod repair_rows;
+#[cfg(test)]
+mod rescue;
 #[cfg(test)]
 mod returning_rows;
 #[cfg(test)]

@@ -38,6 +38,8 @@ mod opening_rows;
 #[cfg(test)]
 mod output_rows;
 #[cfg(test)]
+mod promise_rows;
+#[cfg(test)]
 mod record_rows;
 #[cfg(test)]
 mod records;

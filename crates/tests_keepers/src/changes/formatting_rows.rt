@@ -1,6 +1,6 @@
 //! Empty disks.
+use crate::changes::disks::{blank, clean};
 use crate::comparing::{differs_in, same_at};
-use crate::disks::{blank, clean};
 use d64_image::MemDisk;
 use file_changes::{format_disk, new_disk};
 

@@ -1,6 +1,6 @@
 //! Files deleted.
+use crate::changes::disks::{blank, clean, with_type};
 use crate::comparing::{differs_in, same_at};
-use crate::disks::{blank, clean, with_type};
 use file_changes::{ChangeFault, delete};
 use std::process::Abort;
 

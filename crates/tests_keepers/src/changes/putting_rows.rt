@@ -1,6 +1,6 @@
 //! Files put on a disk.
+use crate::changes::disks::{blank, clean};
 use crate::comparing::{differs_in, same_at};
-use crate::disks::{blank, clean};
 use d64_image::MemDisk;
 use file_changes::{ChangeFault, FileType, put_file};
 use std::process::Abort;

@@ -1,6 +1,6 @@
 //! Entries that get another name.
+use crate::changes::disks::{blank, sound};
 use crate::comparing::{differs_in, same_at};
-use crate::disks::{blank, sound};
 use file_changes::{ChangeFault, rename};
 use std::process::Abort;
 

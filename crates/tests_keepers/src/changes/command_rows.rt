@@ -1,6 +1,6 @@
 //! Changes of an image as commands: what they print, and what they refuse.
+use crate::changes::disks::{blank, with_type};
 use crate::comparing::{differs_in, same_at};
-use crate::disks::{blank, with_type};
 use change_commands::{EditFault, delete_image, put_image, rename_image};
 use d64_image::MemDisk;
 use file_changes::FileType;

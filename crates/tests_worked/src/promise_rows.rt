@@ -1,0 +1,64 @@
+//! The promise as one call, on a disk in memory, with power that goes after each number of writes that a first set can
+//! take. The expected replies come from the trade rule, by hand.
+use crate::comparing::{holds, same_at};
+use crate::disks::fresh;
+use d64_image::Meter;
+use host_session::Event;
+use request_cards::Reply;
+use retry_safe::retry_after_power_loss;
+use std::process::Abort;
+
+/// A first set.
+const SET: [Event<'static>; 1] = [Event {
+    message: b"1,1,S,15,7",
+    cut: None,
+}];
+
+/// The reply to the message that is sent again, how many of its item the shop then has, and how many sectors were written
+/// in all, if power goes after so many writes of the first time and then in these openings.
+fn asked_again(
+    rt: &(impl Abort + AllocGlobal),
+    power: u32,
+    recoveries: &[u32],
+) -> (Reply, Option<u32>, u64) {
+    let mut replies: Vec<Reply> = Vec::new(rt.alloc());
+    let disk = Meter::new(fresh(rt));
+    let ran = retry_after_power_loss(disk, &SET, power, recoveries, b"1,1,S,15,7", &mut replies);
+    let Ok((session, reply)) = ran else {
+        panic!(rt; "not opened");
+    };
+    let on_hand = session.card(15).unwrap_or(None);
+    (reply, on_hand, session.close().writes())
+}
+
+#[test]
+fn a_repeat_hears_the_kept_answer_wherever_power_goes(rt: HostRuntime) {
+    for power in 0..12 {
+        let (reply, on_hand, _) = asked_again(&rt, power, &[1, 0, 2]);
+        same_at(
+            &rt,
+            reply.print().as_slice(),
+            b"1,1,DONE,7".as_slice(),
+            power,
+        );
+        same_at(&rt, on_hand, Some(7), power);
+    }
+}
+
+/// How many sectors are written in all, if power goes after each number of a first set's writes, and then in these
+/// openings.
+fn written(rt: &(impl Abort + AllocGlobal), recoveries: &[u32]) -> u64 {
+    let mut all: u64 = 0;
+    for power in 0..12 {
+        let (_, _, writes) = asked_again(rt, power, recoveries);
+        all = all.wrapping_add(writes);
+    }
+    all
+}
+
+#[test]
+fn each_listed_opening_is_made(rt: HostRuntime) {
+    let without = written(&rt, &[]);
+    // what it wrote before power went is written once more
+    holds(&rt, written(&rt, &[1]) > without, "one more opening");
+}
