@@ -83,9 +83,9 @@ byte_form_in rows = byte_form (set_in rows)
 abbrev pub candidates_in : List Row → Candidates
 candidates_in rows = if is_given (codes "unclosed") rows then All else Closed
 
--- which entries are taken out: with --deleted the deleted ones too
+-- which entries are taken out: with --scan those of other sectors too, with --deleted the deleted ones too
 abbrev pub choice_in : List Row → Choice
-choice_in rows = record { deleted = is_given (codes "deleted") rows }
+choice_in rows = record { scanned = is_given (codes "scan") rows; deleted = is_given (codes "deleted") rows }
 
 -- the form of names that the flags ask for
 abbrev pub name_form_in : List Row → NameForm

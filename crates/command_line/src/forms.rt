@@ -142,6 +142,7 @@ pub(crate) fn choice<'a>(matches: &ArgMatches<'a>) -> Choice
     ensures { result ≡ choice_in (rows_of (found_of matches.now)) }
 {
     Choice {
+        scanned: is_given(matches, "scan"),
         deleted: is_given(matches, "deleted"),
     }
 }

@@ -77,9 +77,10 @@ serve = with_rule (may_accept_loss (with_rule (over_image (codes "serve")) (flag
 abbrev pub copy : App
 copy = with_rule (over_image (codes "copy")) (required (codes "NEW"))
 
--- extract IMAGE FOLDER [--deleted]
+-- extract IMAGE FOLDER [--deleted] [--scan]
 abbrev pub extract : App
-extract = with_rule (with_rule (over_image (codes "extract")) (required (codes "FOLDER"))) (flag (codes "deleted"))
+extract = with_rule (with_rule (with_rule (over_image (codes "extract")) (required (codes "FOLDER")))
+    (flag (codes "deleted"))) (flag (codes "scan"))
 
 -- repair IMAGE [--accept-loss] [--free] [--dry-run]
 abbrev pub repair : App

@@ -42,7 +42,8 @@ Makes FOLDER, and in it a file for each entry of the directory, for example
 01-LETTER 02.prg. A relative file also has its records as lines (.csv). What can
 be read of a damaged file is taken, and index.csv says what was found. Prints
 EXTRACTED if all files are whole. With --deleted deleted files come after all
-others (.del), if no block of theirs is also another file's.
+others (.del), if no block of theirs is also another file's. With --scan the
+other sectors of track 18 are read too that look like those of a directory.
 
 Exit status:
   0  all files are whole

@@ -6,8 +6,8 @@ use crate::shop_texts::{COPY, DRY, FORMAT, PLAY, SERVE, SHOW};
 use crate::values::{
     ACCEPT_LOSS, ALL, COMPARE, COPY_PATH, DELETED, DISK_ID, DISK_NAME, DRY_RUN, FIELDS, FILE,
     FILE_TYPE, FOLDER, FREE_SECTORS, IMAGE, IMAGES, IN_PLACE, JSON, LENGTH, LOG, MIXED, NAME,
-    NEW_NAME, OLD_NAME, ONLY_NEW, PLACE, POSITIONS, RECORD_LINES, SCRIPT, SHEET, SVG, SYNC, TEXT,
-    TILLS, UNCLOSED, UNSYNCED, Value,
+    NEW_NAME, OLD_NAME, ONLY_NEW, PLACE, POSITIONS, RECORD_LINES, SCAN, SCRIPT, SHEET, SVG, SYNC,
+    TEXT, TILLS, UNCLOSED, UNSYNCED, Value,
 };
 
 /// A subcommand, and what help says of it: in a line, and below its words.
@@ -81,12 +81,12 @@ pub(crate) const SUBCOMMANDS: [Subcommand; 23] = [
         more: BYTES,
         values: &[IMAGE, NAME, TEXT, MIXED, UNCLOSED],
     },
-    // extract IMAGE FOLDER [--deleted]
+    // extract IMAGE FOLDER [--deleted] [--scan]
     Subcommand {
         name: "extract",
         about: "Takes all files out of an image, as far as they can be read",
         more: EXTRACT,
-        values: &[IMAGE, FOLDER, DELETED],
+        values: &[IMAGE, FOLDER, DELETED, SCAN],
     },
     // repair IMAGE [--accept-loss] [--free] [--dry-run]
     Subcommand {

@@ -153,6 +153,14 @@ pub(crate) const FOLDER: Value = Value {
     help: "The folder's path, where nothing may stand yet",
 };
 
+/// The flag that looks for sectors of a lost directory.
+pub(crate) const SCAN: Value = Value {
+    name: "scan",
+    word: Some("scan"),
+    count: Count::Flag,
+    help: "Reads other sectors of track 18 too that look like the directory's",
+};
+
 /// The flag that takes deleted files out too.
 pub(crate) const DELETED: Value = Value {
     name: "deleted",

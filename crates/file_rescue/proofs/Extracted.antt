@@ -10,23 +10,26 @@ use Rattle.disk_layout.specs.declared.slot.Slot.{Slot}
 use Rattle.keeper_commands.specs.declared.faults.KeepFault.{KeepFault}
 use Rattle.disk_entries.specs.Directories.{IsReadSoFar}
 use Rattle.file_rescue.specs.Folders.{AddsFiles, AddsPart, NewFile}
-use Rattle.file_rescue.specs.Rescues.{AreChosen, IsExtractFault, IsExtracted, IsExtractedPart, IsMakeFault, IsRescue, all_files, first_fault}
+use Rattle.file_rescue.specs.Rescues.{AreChosen, IsExtractFault, IsExtracted, IsExtractedPart, IsMakeFault, IsRescue, all_files, first_fault, sectors_of}
 use Rattle.file_rescue.specs.Sharing.{owned}
 use Rattle.file_rescue.specs.declared.choices.Choice.{Choice}
 use Rattle.file_rescue.specs.declared.rescuing.Rescued.{Rescued}
 
 module _ {F : Type 0} (files : F → Option (List NewFile)) (choice : Choice) (image : List ℕ) (old new : F)
     (first second third : Image)
-    (sectors chosen shown : List Place) (entries : List Slot) (all lent : List Rescued) (found : Option Fault)
+    (chain sectors chosen shown : List Place) (entries : List Slot) (all lent : List Rescued) (found : Option Fault)
     (size : length image ≡ 174848) (is : first ≡ sectors_in image) (same : second ≡ first) (again : third ≡ second)
-    (read : IsReadSoFar first sectors entries found) (chosen-is : chosen ≡ sectors)
+    (read : IsReadSoFar first chain entries found) (grown : sectors ≡ sectors_of choice first chain)
+    (chosen-is : chosen ≡ sectors)
     (rescued : AreChosen choice second chosen all) (shown-is : shown ≡ sectors) (lent-is : lent ≡ all)
   where
     rescue : IsRescue choice image sectors all found
     rescue = record {
       size = size;
+      chain = chain;
       entries = entries;
-      read = subst (λ (img : Image). IsReadSoFar img sectors entries found) is read;
+      read = subst (λ (img : Image). IsReadSoFar img chain entries found) is read;
+      sectors = grown ∙ ap (λ (img : Image). sectors_of choice img chain) is;
       rescued = subst (λ (ps : List Place). AreChosen choice (sectors_in image) ps all) chosen-is
           (subst (λ (img : Image). AreChosen choice img chosen all) (same ∙ is) rescued);
     }

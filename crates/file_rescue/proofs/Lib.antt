@@ -4,4 +4,5 @@ pub mod Inside
 pub mod Made
 pub mod Parts
 pub mod Reached
+pub mod Scanned
 pub mod Undeleted

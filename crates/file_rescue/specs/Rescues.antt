@@ -1,7 +1,7 @@
 -- What is rescued of the files of a disk, and the files that are made of it. Our own.
 use Rattle.std.specs.Prelude.{◌≡◌, ◌≢◌, ◌⊎◌, ◌≤◌, ℕ, ◌+◌, ◌/◌, ◌%◌, ◌&&◌, Bool, List, [], ◌∷◌, ◌++◌, None, Option, Some, codes}
 use Rattle.std.specs.Prelude.{false, true}
-use Rattle.std.specs.Prelude.{if◌then◌else◌, length, map, nat_eq, nat_le, nat_lt}
+use Rattle.std.specs.Prelude.{if◌then◌else◌, length, map, nat_eq, nat_le}
 use Rattle.std.specs.List.{AllByRecursion}
 use Rattle.std.specs.Option.{option_or}
 use Rattle.d64_image.specs.Images.{Image}
@@ -26,6 +26,7 @@ use Rattle.file_rescue.specs.Deleted.{deleted_slots}
 use Rattle.file_rescue.specs.Folders.{AddsFiles, AddsPart, NewFile, new_file}
 use Rattle.file_rescue.specs.Index.{heading, row_text}
 use Rattle.disk_entries.specs.Names.{name_of}
+use Rattle.file_rescue.specs.Scanned.{with_scanned}
 use Rattle.file_rescue.specs.Sharing.{owned}
 use Rattle.file_rescue.specs.declared.choices.Choice.{Choice}
 use Rattle.file_rescue.specs.declared.rescuing.Rescued.{Rescued}
@@ -131,13 +132,20 @@ unfoldable pub first_fault : Image → List Place → ℕ → Option Fault → L
 first_fault img all n found [] = found
 first_fault img all n found (f ∷ fs) = first_fault img all (n + 1) (option_or found (fault_of (row_of img all n f))) fs
 
+-- the sectors that are read for entries, of a directory that has these: others that look like a directory's come after
+-- them if they are chosen
+abbrev pub sectors_of : Choice → Image → List Place → List Place
+sectors_of choice img chain = if choice.scanned then with_scanned img chain 18 else chain
+
 -- the directory of an image as far as it can be read, and what can be reached of each entry that is chosen
 pub record IsRescue (choice : Choice) (image : List ℕ) (directory : List Place) (files : List Rescued)
     (fault : Option Fault) : Type 0
   where
     pub size : length image ≡ 174848
+    pub chain : List Place
     pub entries : List Slot
-    pub read : IsReadSoFar (sectors_in image) directory entries fault
+    pub read : IsReadSoFar (sectors_in image) chain entries fault
+    pub sectors : directory ≡ sectors_of choice (sectors_in image) chain
     pub rescued : AreChosen choice (sectors_in image) directory files
 
 -- All files of an image that are chosen were made in a folder, and nothing else; and the first fault was returned.

@@ -1,9 +1,8 @@
 //! Deleted entries, and what can be reached of their files.
 ghost use Rattle.std.specs.Prelude.{◌≡◌, ◌≤◌, ◌+◌, ◌++◌, [], ◌∷◌, IfErr, IfOk, List, OnOk, filter, length};
 ghost use Rattle.arrayvec.specs.ArrayVec.{array_vec_len};
-ghost use Rattle.d64_image.specs.Images.{sector};
 ghost use Rattle.d64_image.specs.Memory.{disk_image};
-ghost use Rattle.disk_layout.specs.Directory.{slots_in, used_slots};
+ghost use Rattle.disk_layout.specs.Directory.{slots_in};
 ghost use Rattle.disk_rescue.specs.Sharing as sharing;
 ghost use Rattle.file_rescue.specs.Deleted as deleted;
 ghost use Rattle.file_rescue.specs.Rescues.{AreChosen, AreUndeleted, with_unshared};
@@ -14,8 +13,9 @@ ghost use Rattle.keeper_commands.specs.declared.faults.KeepFault.TheVariants as 
 use crate::choices::Choice;
 use crate::rescuing::{Rescued, rescue, rescue_all};
 use crate::sharing::owners_of;
+use crate::slots::{read_sector, used_of};
 use arrayvec::ArrayVec;
-use d64_image::{MemDisk, Place, Sectors};
+use d64_image::{MemDisk, Place};
 use disk_entries::{Entries, entry_name};
 use disk_layout::{EntryView, Slot};
 use keeper_commands::KeepFault;
@@ -30,16 +30,6 @@ fn is_deleted(slot: &Slot) -> bool
         return false;
     }
     entry.first_block().is_some()
-}
-
-/// The bytes of a sector. A disk in memory gives each.
-fn read_sector(disk: &mut MemDisk, place: Place) -> [u8; 256]
-    ensures bytes { result ≡ sector (disk_image disk.old) place }
-    ensures same { disk_image disk.new ≡ disk_image disk.old }
-{
-    let mut bytes = [0; 256];
-    let _ = disk.read(place, &mut bytes);
-    bytes
 }
 
 /// Adds the deleted entries of the directory sector at `place`, which holds these bytes.
@@ -125,23 +115,22 @@ fn add_undeleted(
     Ok(())
 }
 
-/// What can be reached of the files of these entries, which are those of a directory with these sectors, and of the
-/// deleted ones that are chosen. The only error is `NoMemory`.
+/// What can be reached of the files of the entries of these directory sectors, and of the deleted ones that are chosen.
+/// The only error is `NoMemory`.
 pub(crate) fn rescue_chosen(
     alloc: Global,
     disk: &mut MemDisk,
     choice: Choice,
     directory: &[Place],
-    entries: &[Slot],
 ) -> Result<Vec<Rescued>, KeepFault>
-    requires few { length directory.now ≤ 18 }
-    requires entries { entries.now ≡ used_slots (disk_image disk.old) directory.now }
+    requires { length directory.now ≤ 18 }
     ensures ok { IfOk result (λ files. AreChosen choice (disk_image disk.old) directory.now files.items) }
     ensures few { IfOk result (λ files. length files.items ≤ 144) }
     ensures err { IfErr result (λ fault. fault ≡ faults.NoMemory) }
     ensures same { disk_image disk.new ≡ disk_image disk.old }
 {
-    let mut files = rescue_all(alloc, disk, entries)?;
+    let entries = used_of(disk, directory);
+    let mut files = rescue_all(alloc, disk, entries.as_slice())?;
     if choice.deleted {
         add_undeleted(alloc, disk, directory, &mut files)?;
     }

@@ -6,7 +6,7 @@ ghost use Rattle.d64_image.specs.declared.place.Place.{Place};
 ghost use Rattle.file_rescue.specs.Folders.{AddsFiles, AddsPart};
 ghost use Rattle.file_rescue.specs.Index.{row_text};
 ghost use Rattle.disk_rescue.specs.Owned.{CountsAll};
-ghost use Rattle.file_rescue.specs.Rescues.{AreRescued, IsExtractFault, IsExtracted, IsMakeFault, IsRescued, all_files};
+ghost use Rattle.file_rescue.specs.Rescues.{IsExtractFault, IsExtracted, IsMakeFault, IsRescued, all_files};
 ghost use Rattle.file_rescue.specs.Rescues.{files_from, files_of, first_fault, row_of, rows_from};
 ghost use Rattle.file_rescue.specs.Sharing.{owned};
 
@@ -17,6 +17,7 @@ use crate::making::{make, make_files};
 use crate::output::put;
 use crate::rescuing::Rescued;
 use crate::rows::Row;
+use crate::scanning::add_chosen;
 use crate::sharing::owners_of;
 use arrayvec::ArrayVec;
 use d64_image::{MemDisk, Place};
@@ -130,6 +131,9 @@ fn extract_files<F: NewFolder>(
 /// first of these faults, the directory's before those of the entries in their order: `BadLink`, `Loop`, `OwnedTwice` or
 /// `Unclosed`.
 ///
+/// If they are chosen, the entries of other sectors of track 18 come after those of the directory, by the numbers of
+/// the sectors. These have a link as a directory sector has, slots that a drive may have written, and an entry.
+///
 /// If they are chosen, deleted entries come after all others: those with a name and a first block, of which no block that
 /// can be reached is also the map's, the directory's or that of an entry that isn't deleted. `Unclosed` isn't returned for
 /// them.
@@ -149,13 +153,8 @@ pub fn extract_image<F: NewFolder>(
     let mut sectors = ArrayVec::new();
     let mut entries = ArrayVec::new();
     let found = read_so_far(&mut disk, &mut sectors, &mut entries);
-    let files = rescue_chosen(
-        alloc,
-        &mut disk,
-        choice,
-        sectors.as_slice(),
-        entries.as_slice(),
-    )?;
+    add_chosen(&mut disk, choice, &mut sectors);
+    let files = rescue_chosen(alloc, &mut disk, choice, sectors.as_slice())?;
     extract_files(
         alloc,
         &mut disk,

@@ -11,7 +11,9 @@ mod mem_folder;
 mod output;
 mod rescuing;
 mod rows;
+mod scanning;
 mod sharing;
+mod slots;
 
 pub use choices::Choice;
 pub use extracting::extract_image;

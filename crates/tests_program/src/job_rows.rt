@@ -51,6 +51,10 @@ job ledger extract a.d64 out
 prints extract, a.d64, out, 0
 job ledger extract --deleted a.d64 out
 prints extract, a.d64, out, 0, deleted
+job ledger extract --scan a.d64 out
+prints extract, a.d64, out, 0, scanned
+job ledger extract a.d64 out --deleted --scan
+prints extract, a.d64, out, 0, scanned, deleted
 job ledger repair a.d64
 prints repair, a.d64, , 0
 job ledger make a.d64 ADD\\c1 --length 30

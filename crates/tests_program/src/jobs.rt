@@ -191,8 +191,10 @@ fn taken_as(what: Taking) -> &'static str {
 }
 
 /// What is said of the entries that are taken out.
-fn chosen_of(choice: Choice) -> &'static str {
-    if choice.deleted { ", deleted" } else { "" }
+fn chosen_of(choice: Choice) -> [&'static str; 3] {
+    let scanned = if choice.scanned { ", scanned" } else { "" };
+    let deleted = if choice.deleted { ", deleted" } else { "" };
+    [scanned, deleted, ""]
 }
 
 /// What is said of the files from which it is taken.
@@ -257,7 +259,7 @@ fn chosen_by(job: &Job<'_>) -> [&'static str; 3] {
         Job::Make { loss, .. } => [said_of(*loss), "", ""],
         Job::Store { columns, loss, .. } => [said_of(*loss), stored_from(*columns), ""],
         Job::List { form, .. } => [names_of(*form), "", ""],
-        Job::Extract { choice, .. } => [chosen_of(*choice), "", ""],
+        Job::Extract { choice, .. } => chosen_of(*choice),
         Job::Take { what, .. } => [taken_as(*what), taken_from(*what), ""],
         Job::Several { what, .. } => [viewed_as(*what), "", ""],
         _ => ["", "", ""],

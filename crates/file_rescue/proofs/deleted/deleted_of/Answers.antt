@@ -1,9 +1,8 @@
 -- The entries of one sector more.
-use Rattle.std.proofs.Common.{ap, arith, length, refl, subst, sym, List, ◌≡◌, ◌∙◌}
+use Rattle.std.proofs.Common.{ap, arith, length, refl, sym, ◌∙◌}
 use Rattle.std.proofs.lemmas.List.{take_all}
 use Rattle.d64_image.specs.Images.{Image, sector}
 use Rattle.d64_image.specs.Memory.{disk_image}
-use Rattle.d64_image.specs.declared.place.Place.{Place}
 use Rattle.file_rescue.proofs.Undeleted.{deleted-more}
 use Rattle.file_rescue.specs.Deleted.{deleted_slots}
 use Rattle.file_rescue.proofs.deleted.deleted_of.Goals as goal

@@ -1,5 +1,5 @@
 -- The file's own blocks are counted too.
-use Rattle.std.proofs.Common.{ap, sym, ◌++◌, ◌∷◌, [], ◌∙◌, List}
+use Rattle.std.proofs.Common.{ap, ◌++◌, ◌∷◌, [], ◌∙◌}
 use Rattle.disk_rescue.specs.Sharing.{first_shared}
 use Rattle.file_rescue.proofs.Undeleted.{counted-one}
 use Rattle.file_rescue.specs.Sharing.{owned}

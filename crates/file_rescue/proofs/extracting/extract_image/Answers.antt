@@ -1,34 +1,40 @@
 -- The directory was read, the blocks were found, and the files were made.
-use Rattle.std.proofs.Common.{ap, sym, ◌∙◌, List}
+use Rattle.std.proofs.Common.{ap, ◌∙◌}
 use Rattle.d64_image.specs.Images.{Image}
 use Rattle.d64_image.specs.Memory.{disk_image}
-use Rattle.d64_image.specs.declared.place.Place.{Place}
-use Rattle.disk_layout.specs.Directory.{used_slots}
-use Rattle.file_rescue.proofs.Undeleted.{chosen-rescued}
 use Rattle.file_rescue.proofs.Extracted.{extracted, not-extracted}
+use Rattle.file_rescue.proofs.Undeleted.{chosen-rescued}
+use Rattle.file_rescue.specs.Rescues.{sectors_of}
 use Rattle.file_rescue.proofs.extracting.extract_image.Goals as goal
 
-pub returns-clause-ok : goal.returns-clause-ok
-returns-clause-ok g c = extracted g.F.NewFolder.files c.args.choice c.args.image.now c.args.folder.now c.extract_files.new.folder _ _ _ _ _
-    _ _ _ _ _ c.in_ok-disk.ensures.ok.0 c.in_ok-disk.ensures.ok.1 c.read_so_far-found.ensures.same
-    c.in_ok-files.ensures.same c.read_so_far-found.ensures.read c.as_slice.ensures.value c.in_ok-files.ensures.ok
-    c.as_slice-3.ensures.value c.as_slice-4.ensures.value c.extract_files.result c.extract_files.ensures.ok
-
-pub returns-clause-err : goal.returns-clause-err
-returns-clause-err g c = not-extracted g.F.NewFolder.files c.args.choice c.args.image.now c.args.folder.now c.extract_files.new.folder _ _
-    _ _ _ _ _ _ _ _ c.in_ok-disk.ensures.ok.0 c.in_ok-disk.ensures.ok.1 c.read_so_far-found.ensures.same
-    c.in_ok-files.ensures.same c.read_so_far-found.ensures.read c.as_slice.ensures.value c.in_ok-files.ensures.ok
-    c.as_slice-3.ensures.value c.as_slice-4.ensures.value c.extract_files.result c.extract_files.ensures.err
-
-pub rescue_chosen-requires : goal.rescue_chosen-requires
-rescue_chosen-requires g c = record {
-  few = c.as_slice.ensures.fits;
-  entries = c.as_slice-2.ensures.value ∙ c.read_so_far-found.ensures.read.slots
-      ∙ ap (λ (img : Image). used_slots img c.read_so_far-found.new.sectors.items) (sym c.read_so_far-found.ensures.same)
-      ∙ ap (λ (ps : List Place). used_slots (disk_image c.read_so_far-found.new.disk) ps) (sym c.as_slice.ensures.value);
+pub add_chosen-requires : goal.add_chosen-requires
+add_chosen-requires g c = record {
+  once = c.read_so_far-found.ensures.read.once;
+  on_track = c.read_so_far-found.ensures.read.on_track;
 }
 
+pub rescue_chosen-requires : goal.rescue_chosen-requires
+rescue_chosen-requires g c = c.as_slice.ensures.fits
+
 pub extract_files-requires-clause-rescued : goal.extract_files-requires-clause-rescued
-extract_files-requires-clause-rescued g c = chosen-rescued c.args.choice (disk_image c.read_so_far-found.new.disk)
-    (disk_image c.rescue_chosen.new.disk) c.as_slice.result.now c.in_ok-files.files.items c.as_slice-4.result.now
-    c.in_ok-files.ensures.ok c.in_ok-files.ensures.same c.as_slice-4.ensures.value
+extract_files-requires-clause-rescued g c = chosen-rescued c.args.choice (disk_image c.add_chosen.new.disk)
+    (disk_image c.rescue_chosen.new.disk) c.as_slice.result.now c.in_ok-files.files.items c.as_slice-3.result.now
+    c.in_ok-files.ensures.ok c.in_ok-files.ensures.same c.as_slice-3.ensures.value
+
+pub returns-clause-ok : goal.returns-clause-ok
+returns-clause-ok g c = extracted g.F.NewFolder.files c.args.choice c.args.image.now c.args.folder.now
+    c.extract_files.new.folder _ _ _ _ _ _ _ _ _ _ _ c.in_ok-disk.ensures.ok.0 c.in_ok-disk.ensures.ok.1
+    (c.add_chosen.ensures.same ∙ c.read_so_far-found.ensures.same) c.in_ok-files.ensures.same
+    c.read_so_far-found.ensures.read
+    (c.add_chosen.ensures.items ∙ ap (λ (img : Image). sectors_of c.args.choice img c.read_so_far-found.new.sectors.items)
+    c.read_so_far-found.ensures.same) c.as_slice.ensures.value c.in_ok-files.ensures.ok c.as_slice-2.ensures.value
+    c.as_slice-3.ensures.value c.extract_files.result c.extract_files.ensures.ok
+
+pub returns-clause-err : goal.returns-clause-err
+returns-clause-err g c = not-extracted g.F.NewFolder.files c.args.choice c.args.image.now c.args.folder.now
+    c.extract_files.new.folder _ _ _ _ _ _ _ _ _ _ _ c.in_ok-disk.ensures.ok.0 c.in_ok-disk.ensures.ok.1
+    (c.add_chosen.ensures.same ∙ c.read_so_far-found.ensures.same) c.in_ok-files.ensures.same
+    c.read_so_far-found.ensures.read
+    (c.add_chosen.ensures.items ∙ ap (λ (img : Image). sectors_of c.args.choice img c.read_so_far-found.new.sectors.items)
+    c.read_so_far-found.ensures.same) c.as_slice.ensures.value c.in_ok-files.ensures.ok c.as_slice-2.ensures.value
+    c.as_slice-3.ensures.value c.extract_files.result c.extract_files.ensures.err

@@ -7,7 +7,6 @@ use Rattle.d64_image.specs.declared.place.Place.{Place}
 use Rattle.disk_layout.specs.declared.faults.Fault.{Fault}
 use Rattle.disk_rescue.specs.Sharing.{first_shared, shared_fault}
 use Rattle.keeper_commands.proofs.Files.{find-had}
-use Rattle.keeper_commands.specs.Found.{unclosed}
 use Rattle.keeper_commands.proofs.finding.find_file.Goals as goal
 
 pub returns-clause-ok : goal.returns-clause-ok

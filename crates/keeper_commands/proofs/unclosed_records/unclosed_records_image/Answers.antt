@@ -1,5 +1,5 @@
 -- The file was found, and the records among its bytes were printed; or the output failed, or there was no memory.
-use Rattle.std.proofs.Common.{◌∙◌, Err, List, ap, inl, inr, subst}
+use Rattle.std.proofs.Common.{◌∙◌, Err, List, ap, subst}
 use Rattle.std.proofs.KnownBytes.{Appends-kept}
 use Rattle.std.proofs.lemmas.Result.{err_from_is_err_and}
 use Rattle.std.specs.Io.KnownBytes.{Appends}
