@@ -1,5 +1,5 @@
 -- What comes of a rebuilding.
-use Rattle.std.proofs.Common.{inl, inr, refl}
+use Rattle.std.proofs.Common.{◌≡◌, inl, inr, refl}
 use Rattle.std.specs.Prelude.{Err, Ok, OnOk, Result, ⊤}
 use Rattle.d64_image.proofs.Moments.{start, weaker}
 use Rattle.d64_image.specs.History.{History}
@@ -18,6 +18,7 @@ module _ {D : Type 0} (S : History D) where
     ok = rebuilt-none (S.image d) sound;
     err = tt;
     moments = start S d _ (inl refl);
+    unfailed = refl;
     quiet = λ same. refl;
   }
 
@@ -29,6 +30,7 @@ module _ {D : Type 0} (S : History D) where
     err = told r h.failures;
     moments = weaker S c d (IsMix (S.image c) b) _ (λ i mix. inr (on-the-way (S.image c) b i re mix))
         (h.nears begin).moments;
+    unfailed = counted r h.failures;
     quiet = λ sound. absurd (unsound sound);
   }
     where
@@ -39,6 +41,10 @@ module _ {D : Type 0} (S : History D) where
           → OnOk r (IsRebuilt (S.image c) (S.image d))
       done (Ok x) taken = rebuilt-all (S.image c) b (S.image d) re (λ p. taken begin p tt)
       done (Err f) taken = tt
+
+      counted : (r : Result (Unit {0}) Fault) → TellsDevice S c d r → OnOk r (S.failures d ≡ S.failures c)
+      counted (Ok x) tells = tells
+      counted (Err f) tells = tt
 
       told : (r : Result (Unit {0}) Fault) → TellsDevice S c d r → RefusesSides S c d r
       told (Ok x) tells = tt

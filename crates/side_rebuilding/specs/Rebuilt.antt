@@ -72,5 +72,6 @@ pub record RebuildsSides {D : Type 0} (S : History D) (old new : D) (result : Re
   pub ok : OnOk result (IsRebuilt (S.image old) (S.image new))
   pub err : RefusesSides S old new result
   pub moments : HeldOnly S old new (λ c. (c ≡ S.image old) ⊎ IsUnderRebuilding (S.image old) c)
+  pub unfailed : OnOk result (S.failures new ≡ S.failures old)
   -- a sound disk isn't written
   pub quiet : IsSound (S.image old) → new ≡ old
