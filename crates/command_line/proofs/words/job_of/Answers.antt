@@ -123,9 +123,9 @@ pub returns-in-bytes : goal.returns-in-bytes
 returns-in-bytes c =
     let rows = rows_of (found_of c.in-Some.found.now) in
     let is = met-is c.parsed_subcommand.result _ c.in-Some.name c.in-Some.found _ c.parsed_subcommand.ensures c.in-Some.is c.in-bytes.is in
-    let met = named-met _ rows (jobs.Take (takings.Bytes c.byte_form.result c.candidates-in-bytes.result) c.value_of-image.result) c.taking-in-bytes.result
-    (λ name at. record { rows = rows; is = is; holds = (c.value_of-image.ensures, at, (c.byte_form.ensures, c.candidates-in-bytes.ensures)) }) (λ name. tt)
-    (λ missing. inl (takings.Bytes c.byte_form.result c.candidates-in-bytes.result, record { rows = rows; is = is; holds = missing })) c.taking-in-bytes.ensures in
+    let met = named-met _ rows (jobs.Take (takings.Bytes c.byte_form.result c.candidates.result) c.value_of-image.result) c.taking.result
+    (λ name at. record { rows = rows; is = is; holds = (c.value_of-image.ensures, at, (c.byte_form.ensures, c.candidates.ensures)) }) (λ name. tt)
+    (λ missing. inl (takings.Bytes c.byte_form.result c.candidates.result, record { rows = rows; is = is; holds = missing })) c.taking.ensures in
     record { job = met.0; fit = met.1 }
 
 pub returns-in-make : goal.returns-in-make
