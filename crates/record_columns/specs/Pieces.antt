@@ -1,6 +1,6 @@
 -- Records cut at fixed positions as columns, and back. Positions count from 1. All of it is our own.
-use Rattle.std.specs.Prelude.{◌-◌, ◌+◌, ◌&&◌, ℕ, zero, suc, Bool, List, [], ◌∷◌, ◌++◌, Option, Some, None, drop, false, length}
-use Rattle.std.specs.Prelude.{if◌then◌else◌, map, nat_eq, nat_le, nat_lt, not, replicate, slice_index, slice_range}
+use Rattle.std.specs.Prelude.{◌<◌, ◌≤◌, ◌-◌, ◌+◌, ◌&&◌, ℕ, zero, suc, Bool, List, [], ◌∷◌, ◌++◌, Option, Some, None, drop, false, get_or}
+use Rattle.std.specs.Prelude.{if◌then◌else◌, length, map, nat_eq, nat_le, nat_lt, not, replicate, slice_index, slice_range}
 use Rattle.std.specs.Borrow.{Bor}
 use Rattle.byte_text.specs.Texts.{text_of, trimmed}
 use Rattle.record_columns.specs.Columns.{columns_of_fields}
@@ -75,6 +75,17 @@ joined_at end (p ∷ ps) [] = if nat_lt end p then [] else 34 ∷ []
 joined_at end (p ∷ ps) (text ∷ texts) =
     if nat_lt end p then placed end p text ++ joined_at (end_after end p text) ps texts else 34 ∷ []
 
+-- the texts of a line's columns
+abbrev pub texts_of : List ℕ → List (List ℕ)
+texts_of line = map without_marks (cut false line)
+
+-- The column of this index has bytes beyond the position of the next one.
+pub record IsTooLong (ps line : List ℕ) (k : ℕ) : Type 0 where
+  pub next : suc k < length ps
+  pub column : k < length (texts_of line)
+  pub some : 1 ≤ length (get_or (texts_of line) k [])
+  pub beyond : get_or ps (suc k) 0 ≤ get_or ps k 0 - 1 + byte_count 0 (get_or (texts_of line) k [])
+
 -- Columns as the text of one record. At 1,5 the line "KING",42 is KING42, and "HE",42 is HE\00\0042
 abbrev pub pieces_text : List ℕ → List ℕ → List ℕ
-pieces_text ps line = joined_at 0 ps (map without_marks (cut false line))
+pieces_text ps line = joined_at 0 ps (texts_of line)

@@ -12,7 +12,7 @@ ghost use Rattle.record_columns.specs.Columns.{
   ended,
   one_text,
 };
-ghost use Rattle.record_columns.specs.Pieces.{cut, piece_columns, pieces_text};
+ghost use Rattle.record_columns.specs.Pieces.{IsTooLong, cut, piece_columns, pieces_text};
 ghost use Rattle.record_columns.specs.Positions.{ArePositions};
 ghost use Rattle.record_columns.specs.declared.reading.Column.TheVariants.{Start};
 
@@ -42,4 +42,9 @@ pub fn positions_come_back()
 /// No bytes have the text of a line that has more columns than there are positions.
 pub fn more_columns_are_refused()
     ensures { (ps line bytes : List ℕ) → length ps < length (cut false line) → pieces_text ps line ≢ text_of bytes }
+{}
+
+/// No bytes have the text of a line with a column that goes beyond the position of the next one.
+pub fn long_columns_are_refused()
+    ensures { (ps line bytes : List ℕ) (k : ℕ) → IsTooLong ps line k → pieces_text ps line ≢ text_of bytes }
 {}

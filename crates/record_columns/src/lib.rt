@@ -11,8 +11,8 @@ mod writing;
 
 pub use joining::push_columns;
 pub use laws::{
-    all_columns_come_back, columns_come_back, columns_have_fields, more_columns_are_refused,
-    positions_come_back,
+    all_columns_come_back, columns_come_back, columns_have_fields, long_columns_are_refused,
+    more_columns_are_refused, positions_come_back,
 };
 pub use pieces::write_pieces;
 pub use placing::push_pieces;
