@@ -1,10 +1,23 @@
 //! Side sectors of the blank disk for two tills, built anew: STOCK has the block 17/0 and the side sector 17/1.
+ghost use Rattle.std.specs.Prelude.{◌≡◌};
+ghost use Rattle.d64_image.specs.Memory.{disk_image};
+
 use crate::planning::Shortened;
 use crate::rebuilding::rebuild_sides;
 use arrayvec::ArrayVec;
 use d64_image::{MemDisk, Place, Sectors};
 use disk_layout::{blank_image, side_bytes};
 use std::process::Abort;
+
+/// A copy of a disk.
+fn copy_of(rt: &(impl Abort + AllocGlobal), disk: &MemDisk) -> MemDisk
+    ensures { disk_image result ≡ disk_image disk.now }
+{
+    match MemDisk::load(rt.alloc(), disk.bytes()) {
+        Ok(copy) => copy,
+        Err(fault) => panic!(rt; "no copy: {fault:?}"),
+    }
+}
 
 /// The blank disk with bytes of a sector changed, from an index on.
 fn changed(rt: &(impl Abort + AllocGlobal), sector: u8, at: usize, bytes: &[u8]) -> MemDisk {
@@ -15,8 +28,9 @@ fn changed(rt: &(impl Abort + AllocGlobal), sector: u8, at: usize, bytes: &[u8])
     let mut all = [0; 256];
     let _ = disk.read(place, &mut all);
     for (i, &byte) in bytes.iter().enumerate() {
-        if at + i < 256 {
-            all[at + i] = byte;
+        let index = at.saturating_add(i);
+        if index < 256 {
+            all[index] = byte;
         }
     }
     let _ = disk.write(place, &all);
@@ -25,9 +39,9 @@ fn changed(rt: &(impl Abort + AllocGlobal), sector: u8, at: usize, bytes: &[u8])
 
 /// Whether the side sectors of that disk are rebuilt, and the disk is the blank one then.
 fn comes_back(rt: &(impl Abort + AllocGlobal), sector: u8, at: usize, bytes: &[u8]) -> bool {
-    let mut before = changed(rt, sector, at, bytes);
-    let mut after = changed(rt, sector, at, bytes);
     let mut disk = changed(rt, sector, at, bytes);
+    let mut before = copy_of(rt, &disk);
+    let mut after = copy_of(rt, &disk);
     let blank = changed(rt, 1, 0, &[]);
     rebuild_sides(&mut before, &mut after, Shortened::Refused, &mut disk).is_ok()
         && disk.bytes() == blank.bytes()
@@ -89,9 +103,9 @@ fn with_two(rt: &(impl Abort + AllocGlobal), zeroed: usize) -> MemDisk {
 fn two_side_sectors_keep_their_places(rt: HostRuntime) {
     let whole = with_two(&rt, 2);
     for zeroed in [0, 1, 2] {
-        let mut before = with_two(&rt, zeroed);
-        let mut after = with_two(&rt, zeroed);
         let mut disk = with_two(&rt, zeroed);
+        let mut before = copy_of(&rt, &disk);
+        let mut after = copy_of(&rt, &disk);
         assert!(rt; rebuild_sides(&mut before, &mut after, Shortened::Refused, &mut disk).is_ok());
         assert!(rt; disk.bytes() == whole.bytes());
     }
