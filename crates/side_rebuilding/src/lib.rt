@@ -9,6 +9,8 @@ mod readable;
 mod rebuilding;
 mod sectors;
 mod taken;
+#[cfg(test)]
+mod tests;
 mod writing;
 
 pub use planning::Shortened;
