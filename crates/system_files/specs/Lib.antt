@@ -1,3 +1,4 @@
 pub mod Remains
 pub mod Replacing
+pub mod Rights
 pub mod Streams
