@@ -1,6 +1,6 @@
 -- What may be done with the log of an image, by its path. Our own.
 use Rattle.std.specs.Prelude.{◌≡◌, ℕ, List, ◌++◌, codes, true}
-use Rattle.system_files.specs.Rights.{Look, Make, May, MayRead, MayWrite, Remove, Replace, Rights}
+use Rattle.host_files.specs.Rights.{Look, Make, May, MayRead, MayWrite, Remove, Replace, Rights}
 
 -- the paths of the log of an image, and of a log in the making: both beside the image
 abbrev pub log_of : List ℕ → List ℕ

@@ -13,7 +13,8 @@ use std::cell::Cell;
 use std::fs::OpenFile;
 use std::io::{self, Read, Seek, SeekFrom};
 use std::os::unix::fs::MetadataExt;
-use system_files::{EndedFile, HostFiles, opened_to_change, opened_to_read, regular};
+use host_files::{HostFiles, opened_to_change, opened_to_read, regular};
+use system_files::EndedFile;
 
 /// An image's open file, and the names of its log beside it. The file is read, written, synced and closed. It isn't
 /// locked: the caller does that. Nothing is known of what it holds: it is trusted to satisfy the contract of `LogFolder`.

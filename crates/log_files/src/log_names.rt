@@ -1,11 +1,11 @@
 //! The names of an image, of its log, and of a log in the making.
 ghost use Rattle.std.specs.Prelude.{◌≡◌, ◌++◌, IfOk, string_bytes, true};
 ghost use Rattle.log_files.specs.LogRights.{MayForget, log_of, making_of};
-ghost use Rattle.system_files.specs.Rights.{Look, May, Remove};
+ghost use Rattle.host_files.specs.Rights.{Look, May, Remove};
 
 use std::alloc::Global;
 use std::io;
-use system_files::HostFiles;
+use host_files::HostFiles;
 
 /// The paths of an image, of its log `IMAGE-log` and of a log in the making, `IMAGE-log.new`. If the image's path is a
 /// symbolic link, the two logs stand beside the file that it leads to. So an image has one log, whatever its path.

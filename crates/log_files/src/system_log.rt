@@ -1,13 +1,14 @@
 //! A log's file of the system.
 ghost use Rattle.log_files.specs.Unknown.{unknown_file};
 ghost use Rattle.std.proofs.Props.{props};
-ghost use Rattle.system_files.specs.Rights.{Look, May};
+ghost use Rattle.host_files.specs.Rights.{Look, May};
 
 use shop_log::LogFile;
 use std::cell::Cell;
 use std::fs::OpenFile;
 use std::io;
-use system_files::{EndedFile, FileName, HostFiles, Stays};
+use host_files::{FileName, HostFiles, Stays};
+use system_files::EndedFile;
 
 /// A log's file, open. Once it has the name of the log, each sync checks that the name still leads to it. Nothing is known
 /// of what it holds: that it satisfies the contract of `LogFile` is trusted.

@@ -1,4 +1,3 @@
 pub mod Remains
 pub mod Replacing
-pub mod Rights
 pub mod Streams

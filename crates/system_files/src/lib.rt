@@ -3,7 +3,6 @@
 //! image.
 #![tactic(auto)]
 
-mod host_files;
 mod names;
 mod opening;
 mod overwritten_file;
@@ -12,7 +11,6 @@ mod replacing;
 mod shown_paths;
 mod streams;
 
-pub use host_files::HostFiles;
 pub use names::{FileName, Stays};
 pub use opening::{opened_to_change, opened_to_read, regular, regular_at};
 pub use overwritten_file::{OpensFile, OverwrittenFile};

@@ -1,11 +1,10 @@
 //! Files that can be opened without waiting, and that are no devices.
 ghost use Rattle.std.specs.Prelude.{IfOk};
 ghost use Rattle.std.specs.Fs.{IsFile, file_type};
-ghost use Rattle.system_files.specs.Rights.{Look, May, MayRead, MayWrite};
 
-use crate::host_files::HostFiles;
-use std::fs::Metadata;
+use std::fs::{File, Metadata, OpenOptions};
 use std::io;
+use std::rt::Files;
 
 /// Passes on the metadata of a regular file. An error if it is a pipe, a device or a folder: opening such a thing may
 /// block, and writing to it may do harm.
@@ -21,26 +20,21 @@ pub fn regular(found: io::Result<Metadata>) -> io::Result<Metadata>
 }
 
 /// The metadata of the file at a path, which isn't opened. An error if it isn't a regular file, or there is none.
-pub fn regular_at<R: HostFiles>(rt: &R, path: &str) -> io::Result<Metadata>
-    requires { May R.rights rt.now Look path.now }
+pub fn regular_at<R: Files>(rt: &R, path: &str) -> io::Result<Metadata>
     ensures { IfOk result (λ found. IsFile (file_type found)) }
 {
-    regular(rt.look_at(path))
+    regular(rt.metadata(path))
 }
 
 /// The regular file at a path, opened for reading. Anything else isn't opened, and returns an error.
-pub fn opened_to_read<R: HostFiles>(rt: &R, path: &str) -> io::Result<R::File>
-    requires { MayRead R.rights rt.now path.now }
-{
+pub fn opened_to_read<R: Files>(rt: &R, path: &str) -> io::Result<R::File> {
     regular_at(rt, path)?;
-    rt.open_to_read(path)
+    File::open(rt, path)
 }
 
 /// The regular file at a path, opened for reading and writing. It is neither made nor cut. Anything else isn't opened,
 /// and returns an error.
-pub fn opened_to_change<R: HostFiles>(rt: &R, path: &str) -> io::Result<R::File>
-    requires { MayWrite R.rights rt.now path.now }
-{
+pub fn opened_to_change<R: Files>(rt: &R, path: &str) -> io::Result<R::File> {
     regular_at(rt, path)?;
-    rt.open_to_change(path)
+    OpenOptions::new().read(true).write(true).open(rt, path)
 }

@@ -1,6 +1,6 @@
 //! The files of a host, by their paths.
 ghost use Rattle.std.specs.Prelude.{◌≡◌, Bool, IfOk, List, ℕ, string_bytes, true};
-ghost use Rattle.system_files.specs.Rights.{Look, Make, May, Read as ToRead, Remove, Replace, Rights, Use, Write as ToWrite};
+ghost use Rattle.host_files.specs.Rights.{Look, Make, May, Read as ToRead, Remove, Replace, Rights, Use, Write as ToWrite};
 
 use std::alloc::Global;
 use std::fs::{File, Metadata, OpenFile, OpenOptions};
