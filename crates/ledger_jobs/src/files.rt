@@ -7,11 +7,11 @@ ghost use Rattle.host_files.specs.Rights.{Look, May};
 
 use crate::image_logs::is_there;
 use crate::refusals::Refusal;
+use host_files::{HostFiles, regular, regular_at};
 use log_files::{LogNames, forget_log};
 use shop_commands::{EndedFile, Locks, OpensFile, RunFault, read_script};
 use std::fs::OpenFile;
 use std::io;
-use host_files::{HostFiles, regular, regular_at};
 
 /// The name under which standard input is read. It is read as it is, since the program may not be allowed to open it
 /// again.
@@ -138,8 +138,9 @@ where
 {
     /// The file, opened or made, which this program has alone; no log stands beside it.
     fn locked(&mut self) -> io::Result<F> {
+        let rt = self.rt;
         // before the file is made, since memory may be refused
-        let names = LogNames::of(self.rt, self.rt.alloc(), self.path)?;
+        let names = LogNames::of(rt, rt.alloc(), self.path)?;
         let mut file = self.opened(&names)?;
         // another thing may stand there by now
         regular(OpenFile::metadata(&file))?;
@@ -147,7 +148,7 @@ where
             return Err(self.refuse(Refusal::of_lock(&error), io::Error::from(error)));
         }
         // a log that was there would win over the new image
-        forget_log(self.rt, &names)?;
+        forget_log(rt, &names)?;
         Ok(file)
     }
 }

@@ -9,11 +9,11 @@ ghost use Rattle.host_files.specs.Rights.{Look, May, MayRead, MayWrite};
 use crate::locks::lock_exclusive;
 use crate::outcomes::told;
 use crate::refusals::Refusal;
+use host_files::{HostFiles, opened_to_change, opened_to_read};
 use log_files::{ImageFolder, ImageView, LogFault, LogNames, land_in, sync_names, view_in};
 use shop_commands::{Durability, EndedFile, Locks, RunFault};
 use std::fs::OpenFile;
 use std::io::{self, ErrorKind};
-use host_files::{HostFiles, opened_to_change, opened_to_read};
 
 /// How many bytes an image has.
 const IMAGE_BYTES: u64 = 174_848;
