@@ -137,6 +137,30 @@ where
     landed_end(log, served_end(ended, answers.is_gone()))
 }
 
+/// Serves the shop of this image over a log that was begun with it, to an input, and prints the replies while the file of
+/// this name stays.
+fn serve_printed<L, D, N, I, W>(
+    alloc: Global,
+    image: &[u8],
+    log: LiveLog<L, D>,
+    loss: Loss,
+    input: &mut I,
+    name: N,
+    out: &mut W,
+) -> Result<Option<Fault>, Refusal>
+where
+    L: LogFile,
+    D: LogFolder<L> + Drop,
+    N: Stays + Drop,
+    I: BatchSource,
+    W: Write,
+{
+    let mut printer = Printer::new(out);
+    let mut answers = WhileThere::new(name, &mut printer);
+    let (_, ended) = serve_begun(alloc, image, log, loss, input, &mut answers);
+    ended
+}
+
 /// The end of a job over a log that couldn't be made, or renewed. What was made of a further log is removed, since it
 /// would keep the disk full. This is done only while the path leads to the image's file, which only this program may
 /// write.
@@ -231,8 +255,6 @@ where
     let name = name_of(rt, path, &image)?;
     let names = told(LogNames::of(rt, alloc, path))?;
     let (bytes, log) = begun_beside(rt, path, &names, &mut image, durability, loss)?;
-    let mut printer = Printer::new(out);
-    let mut answers = WhileThere::new(name, &mut printer);
-    let (_, ended) = serve_begun(alloc, bytes.as_slice(), log, loss, &mut input, &mut answers);
+    let ended = serve_printed(alloc, bytes.as_slice(), log, loss, &mut input, name, out);
     cleared_end(rt, path, &image, &names, ended)
 }
