@@ -1,6 +1,5 @@
 //! The log beside an image: it is landed before the image is written, and read in the place of the image.
-ghost use Rattle.std.specs.Prelude.{◌≡◌};
-ghost use Rattle.std.specs.Prelude.{string_bytes};
+ghost use Rattle.std.specs.Prelude.{◌≡◌, IfOk, string_bytes};
 ghost use Rattle.ledger_jobs.specs.Ends.{log_refusal as refusal_of};
 ghost use Rattle.ledger_jobs.specs.Rights.{MayChangeImage, MayReadFile};
 ghost use Rattle.log_files.specs.LogRights.{MayKeepLog, MayKeepLogOf, MayReadLog};
@@ -51,6 +50,7 @@ where
     F: Locks + Drop,
     R: HostFiles<File = F>,
     requires { MayWrite R.rights rt.now path.now }
+    ensures owned { IfOk result F.IsOwned }
 {
     let mut file = told(opened_to_change(rt, path))?;
     lock_exclusive(&mut file, Durability::AtEnd)?;
@@ -74,14 +74,19 @@ where
     }
 }
 
-/// Ensures that no log stands beside the image at a path, which this program has alone. A log that stands there is
-/// landed, and its removal is synced. A program that came before may have been killed after it removed the log.
-fn settle_log<F, R>(rt: &R, path: &str) -> Result<(), Refusal>
+/// Ensures that no log stands beside the image at a path, whose file this program has alone. A log that stands there is
+/// landed, and its removal is synced. A program that came before may have been killed after it removed the log. A file of
+/// another size is no image, and its log is left alone.
+fn settle_log<F, R>(rt: &R, path: &str, image: &F) -> Result<(), Refusal>
 where
-    F: EndedFile + OpenFile + Drop,
+    F: EndedFile + Locks + OpenFile + Drop,
     R: HostFiles<File = F> + AllocGlobal,
-    requires { MayChangeImage R.rights rt.now path.now }
+    requires owned { F.IsOwned image.now }
+    requires rights { MayChangeImage R.rights rt.now path.now }
 {
+    if !is_sized(image)? {
+        return Ok(());
+    }
     let names = told(LogNames::of(rt, rt.alloc(), path))?;
     if told(is_there(rt, names.log()))? {
         return land_beside(rt, &names, path);
@@ -97,11 +102,10 @@ where
     F: EndedFile + Locks + OpenFile + Drop,
     R: HostFiles<File = F> + AllocGlobal,
     requires { MayChangeImage R.rights rt.now path.now }
+    ensures owned { IfOk result F.IsOwned }
 {
     let image = opened_alone(rt, path)?;
-    if is_sized(&image)? {
-        settle_log(rt, path)?;
-    }
+    settle_log(rt, path, &image)?;
     Ok(image)
 }
 

@@ -187,6 +187,7 @@ where
     F: Locks + OpenFile + Drop,
     R: HostFiles<File = F>,
     requires { MayWrite R.rights rt.now path.now }
+    ensures owned { IfOk result F.IsOwned }
 {
     let image = opened_alone(rt, path)?;
     if is_sized(&image)? {
@@ -208,6 +209,7 @@ pub(crate) fn begun_beside<'a, F, R>(
 where
     F: EndedFile + Locks + OpenFile + Drop,
     R: HostFiles<File = F> + AllocGlobal,
+    requires owned { F.IsOwned image.old }
     requires image { MayWrite R.rights rt.now path.now }
     requires log { MayKeepLogOf R.rights rt.now (string_bytes names.now.image) }
 {
