@@ -79,7 +79,7 @@ fn copied(alloc: Global, path: &str) -> io::Result<String> {
 impl<R: Files> HostFiles for R {
     type File = R::File;
 
-    ghost rights = { record { may = λ _ _ _. true; leads = λ _ _ _. true; } };
+    ghost rights = { record { may = λ _ _ _. true; leads = λ _ _ _. true } };
 
     fn look_at(&self, path: &str) -> io::Result<Metadata> {
         self.metadata(path)
@@ -112,7 +112,10 @@ impl<R: Files> HostFiles for R {
     }
 
     fn make_file(&self, path: &str) -> io::Result<R::File> {
-        OpenOptions::new().write(true).create_new(true).open(self, path)
+        OpenOptions::new()
+            .write(true)
+            .create_new(true)
+            .open(self, path)
     }
 
     fn make_folder(&self, path: &str) -> io::Result<()> {

@@ -132,6 +132,8 @@ where
 /// locked before anything of it is read or changed; if it is written, this program has it alone. If a log stands beside
 /// it, the log is landed before the image is written; otherwise it is read in the place of the image.
 ///
+/// It touches the files that the job's words name, and the log beside its image, in the ways for which it asks rights.
+///
 /// `InUse` if another program has the image; `Log` if its log gives no image; `File` if a file couldn't be opened or
 /// read. The other faults are those of `reading_run`, `format_image`, `new_run`, `play_durably`, `play_logged`,
 /// `serve_guarded`, `serve_logged_guarded`, `copy_run`, `repair_guarded`, `make_guarded`, `rename_guarded`,

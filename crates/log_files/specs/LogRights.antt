@@ -17,7 +17,7 @@ module _ {H : Type 0} (rights : Rights H) (host : H) where
   -- the log of this image, and one in the making, may be removed, and that may be synced
   abbrev pub MayForget : List ℕ → Type 0
   MayForget image = May rights host Look image × May rights host Remove (log_of image)
-    × May rights host Remove (making_of image)
+      × May rights host Remove (making_of image)
 
   -- the log of this image may be read
   abbrev pub MayReadLogOf : List ℕ → Type 0
@@ -26,7 +26,7 @@ module _ {H : Type 0} (rights : Rights H) (host : H) where
   -- it may be read, written, made beside and put in its place, and removed
   abbrev pub MayKeepLogOf : List ℕ → Type 0
   MayKeepLogOf image = MayForget image × MayRead rights host (log_of image) × MayWrite rights host (log_of image)
-    × May rights host Make (making_of image) × May rights host Replace (log_of image)
+      × May rights host Make (making_of image) × May rights host Replace (log_of image)
 
   -- the path may be asked where it leads, and the log beside that file read
   abbrev pub MayReadLog : List ℕ → Type 0
@@ -39,4 +39,4 @@ module _ {H : Type 0} (rights : Rights H) (host : H) where
   -- or looked for, and removed
   abbrev pub MayForgetLog : List ℕ → Type 0
   MayForgetLog path = May rights host Look path
-    × WhereItLeads (λ image. MayForget image × May rights host Look (log_of image)) path
+      × WhereItLeads (λ image. MayForget image × May rights host Look (log_of image)) path

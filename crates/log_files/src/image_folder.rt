@@ -8,12 +8,12 @@ use crate::judging::LOG_BYTES;
 use crate::log_folder::LogFolder;
 use crate::log_names::{LogNames, forget_making, sync_names};
 use crate::system_log::SystemLog;
+use host_files::{HostFiles, opened_to_change, opened_to_read, regular};
 use std::alloc::Global;
 use std::cell::Cell;
 use std::fs::OpenFile;
 use std::io::{self, Read, Seek, SeekFrom};
 use std::os::unix::fs::MetadataExt;
-use host_files::{HostFiles, opened_to_change, opened_to_read, regular};
 use system_files::EndedFile;
 
 /// An image's open file, and the names of its log beside it. The file is read, written, synced and closed. It isn't

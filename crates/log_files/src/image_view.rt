@@ -7,11 +7,11 @@ ghost use Rattle.log_files.specs.Views.{unseen};
 use crate::image_folder::{log_bytes, log_to_read, read_sectors};
 use crate::log_names::LogNames;
 use crate::viewing::ViewsImage;
+use host_files::HostFiles;
 use shop_log::{BLOCK, BLOCKS};
 use std::alloc::Global;
 use std::fs::OpenFile;
 use std::io::{self, Read, Seek, SeekFrom};
-use host_files::HostFiles;
 
 /// An image's open file, and its log, which is opened when it is read and stays open. Nothing is written. The log is
 /// synced when it is read, so that what is shown stays if the power fails. Nothing is known of what the two hold: they

@@ -3,9 +3,9 @@ ghost use Rattle.std.specs.Prelude.{◌≡◌, ◌++◌, IfOk, string_bytes, tru
 ghost use Rattle.log_files.specs.LogRights.{MayForget, log_of, making_of};
 ghost use Rattle.host_files.specs.Rights.{Look, May, Remove};
 
+use host_files::HostFiles;
 use std::alloc::Global;
 use std::io;
-use host_files::HostFiles;
 
 /// The paths of an image, of its log `IMAGE-log` and of a log in the making, `IMAGE-log.new`. If the image's path is a
 /// symbolic link, the two logs stand beside the file that it leads to. So an image has one log, whatever its path.

@@ -42,7 +42,7 @@ impl<'a> Input for ReadOnly<'a> {
 impl<'a> HostFiles for ReadOnly<'a> {
     type File = Opened<'a>;
 
-    ghost rights = { record { may = λ _ how _. only_reads how; leads = λ _ _ _. true; } };
+    ghost rights = { record { may = λ _ how _. only_reads how; leads = λ _ _ _. true } };
 
     fn look_at(&self, path: &str) -> io::Result<Metadata> {
         self.0.look_at(path)
