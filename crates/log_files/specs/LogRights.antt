@@ -2,10 +2,11 @@
 use Rattle.std.specs.Prelude.{◌≡◌, ℕ, List, ◌++◌, codes, true}
 use Rattle.host_files.specs.Rights.{Look, Make, May, MayRead, MayWrite, Remove, Replace, Rights}
 
--- the paths of the log of an image, and of a log in the making: both beside the image
+-- the path of the log of an image, beside it
 abbrev pub log_of : List ℕ → List ℕ
 log_of image = image ++ codes "-log"
 
+-- the path of a log in the making, beside it too
 abbrev pub making_of : List ℕ → List ℕ
 making_of image = image ++ codes "-log.new"
 
