@@ -74,8 +74,8 @@ class Trial:
         return (done.returncode, done.stdout, done.stderr), self.mark.exists()
 
     def files(self):
-        """The images. An empty file counts as none: `new` may leave one if memory is refused after it was made."""
-        return {path.name: path.read_bytes() for path in self.folder.glob("*.d64") if path.stat().st_size}
+        """The images."""
+        return {path.name: path.read_bytes() for path in self.folder.glob("*.d64")}
 
     def each(self, words, begin, wanted, status=0, given=b""):
         """Runs the words with each request refused in turn, each time on the files that `begin` makes; with all memory they

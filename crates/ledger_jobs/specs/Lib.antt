@@ -20,6 +20,7 @@ pub mod Names
 pub mod NewDisks
 pub mod Overviews
 pub mod Puts
+pub mod Rights
 pub mod Runs
 pub mod Serves
 pub mod SheetPages

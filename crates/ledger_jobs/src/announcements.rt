@@ -1,4 +1,6 @@
 //! What a person at a terminal reads before a job is done, and after a check.
+ghost use Rattle.ledger_jobs.specs.Rights.{MayExplain, MayReadImage};
+
 use crate::explanations::CUT_SHORT;
 use crate::files::STANDARD_INPUT;
 use crate::job_files::size_of;
@@ -6,10 +8,10 @@ use crate::jobs::Job;
 use crate::losses::cut_in;
 use crate::readings::image_of_file;
 use d64_image::Place;
+use host_files::HostFiles;
 use shop_commands::Locks;
 use std::fs::OpenFile;
 use std::io::{Read, Write};
-use std::rt::Files;
 use system_files::ShownPath;
 
 /// The sector where the first file of the image at a path is cut short, as its shop is now. None also if another program
@@ -17,7 +19,8 @@ use system_files::ShownPath;
 fn cut_at<F, R>(rt: &R, path: &str) -> Option<Place>
 where
     F: Read + Locks + OpenFile + Drop,
-    R: Files<File = F> + AllocGlobal,
+    R: HostFiles<File = F> + AllocGlobal,
+    requires { MayReadImage R.rights rt.now path.now }
 {
     if path == STANDARD_INPUT {
         return None;
@@ -32,8 +35,9 @@ where
 pub fn tell_cut<F, R, E>(rt: &R, job: &Job<'_>, err: &mut E)
 where
     F: Read + Locks + OpenFile + Drop,
-    R: Files<File = F> + AllocGlobal,
+    R: HostFiles<File = F> + AllocGlobal,
     E: Write,
+    requires { MayExplain R.rights rt.now job.now }
 {
     let Job::Check { image, .. } = job else {
         return;
@@ -47,8 +51,9 @@ where
 fn warn_of_cut<F, R, E>(rt: &R, image: &str, err: &mut E)
 where
     F: Read + Locks + OpenFile + Drop,
-    R: Files<File = F> + AllocGlobal,
+    R: HostFiles<File = F> + AllocGlobal,
     E: Write,
+    requires { MayReadImage R.rights rt.now image.now }
 {
     if let Some(place) = cut_at(rt, image) {
         let (track, sector) = (place.track(), place.sector());
@@ -63,8 +68,9 @@ where
 pub fn announce<F, R, E>(rt: &R, job: &Job<'_>, err: &mut E)
 where
     F: Read + Locks + OpenFile + Drop,
-    R: Files<File = F> + AllocGlobal,
+    R: HostFiles<File = F> + AllocGlobal,
     E: Write,
+    requires { MayExplain R.rights rt.now job.now }
 {
     match job {
         Job::Format { image, .. } => {

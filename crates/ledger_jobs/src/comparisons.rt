@@ -1,16 +1,17 @@
 //! Two images compared, each read as if it were alone.
 ghost use Rattle.ledger_jobs.specs.Comparisons.{IsComparingRun};
+ghost use Rattle.ledger_jobs.specs.Rights.{MayReadImage};
 
 use crate::outcomes::drawn_end;
 use crate::readings::image_at;
 use crate::refusals::Refusal;
 use disk_layout::Fault;
 use disk_pictures::{PictureFault, compare_images};
+use host_files::HostFiles;
 use shop_commands::Locks;
 use std::alloc::Global;
 use std::fs::OpenFile;
 use std::io::{Read, Write};
-use std::rt::Files;
 
 /// Draws the second of two images with what differs from the first one, and returns the fault that a check of the second one
 /// reports. `ImageSize`; `Layout` if the directory's sectors aren't a chain on track 18, of either image; `NoMemory`: nothing
@@ -35,8 +36,10 @@ pub(crate) fn do_comparing<F, R, W>(
 ) -> Result<Option<Fault>, Refusal>
 where
     F: Read + Locks + OpenFile + Drop,
-    R: Files<File = F> + Input + AllocGlobal,
+    R: HostFiles<File = F> + Input + AllocGlobal,
     W: Write,
+    requires before { MayReadImage R.rights rt.now before.now }
+    requires after { MayReadImage R.rights rt.now after.now }
 {
     let first = image_at(rt, before)?;
     let second = image_at(rt, after)?;

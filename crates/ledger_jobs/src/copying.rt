@@ -1,15 +1,16 @@
 //! Copies of images, as their shops are now.
 ghost use Rattle.ledger_jobs.specs.Copies.{IsCopied};
+ghost use Rattle.ledger_jobs.specs.Rights.{MayMakeImage, MayReadImage};
 
 use crate::files::{AtPath, Older};
 use crate::outcomes::job_end;
 use crate::readings::image_at;
 use crate::refusals::Refusal;
 use disk_layout::Fault;
+use host_files::HostFiles;
 use shop_commands::{EndedFile, Locks, OverwrittenFile, RunFault, put_whole};
 use std::fs::OpenFile;
 use std::io::{Read, Write};
-use std::rt::Files;
 use system_files::replace_image;
 
 /// How many bytes an image has.
@@ -52,8 +53,10 @@ pub(crate) fn do_copying<F, R, W>(
 ) -> Result<Option<Fault>, Refusal>
 where
     F: EndedFile + Read + Locks + OpenFile + Drop,
-    R: Files<File = F> + Input + AllocGlobal,
+    R: HostFiles<File = F> + Input + AllocGlobal,
     W: Write,
+    requires image { MayReadImage R.rights rt.now path.now }
+    requires copy { MayMakeImage R.rights rt.now copy.now }
 {
     let image = image_at(rt, path)?;
     let mut file = OverwrittenFile::new(AtPath::new(rt, copy, Older::Kept));

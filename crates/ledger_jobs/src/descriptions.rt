@@ -1,20 +1,24 @@
 //! Images that are read, each described by an object of JSON.
+ghost use Rattle.std.specs.Prelude.{All};
+ghost use Rattle.ledger_jobs.specs.Rights.{MayLook, MayReadImage};
+
 use crate::job_files::size_of;
 use crate::readings::image_at;
 use crate::refusals::Refusal;
 use disk_faults::{DescribeFault, describe_image, describe_refusal};
 use disk_layout::Fault;
+use host_files::HostFiles;
 use shop_commands::{Locks, RunFault};
 use std::fs::OpenFile;
 use std::io::{Read, Write};
-use std::rt::Files;
 
 /// Prints the object of the image at a path that is refused, with what the command would print of it alone. Returns its
 /// exit status.
 fn put_refusal<R, W>(rt: &R, path: &str, refusal: Refusal, out: &mut W) -> Result<u8, RunFault>
 where
-    R: Files + AllocGlobal,
+    R: HostFiles + AllocGlobal,
     W: Write,
+    requires { MayLook R.rights rt.now path.now }
 {
     let Ok(why) = format!(in rt.alloc(); "{refusal}") else {
         return Err(RunFault::NoMemory);
@@ -29,8 +33,9 @@ where
 fn put_object_at<F, R, W>(rt: &R, path: &str, out: &mut W) -> Result<u8, RunFault>
 where
     F: Read + Locks + OpenFile + Drop,
-    R: Files<File = F> + Input + AllocGlobal,
+    R: HostFiles<File = F> + Input + AllocGlobal,
     W: Write,
+    requires { MayReadImage R.rights rt.now path.now }
 {
     let image = match image_at(rt, path) {
         Ok(image) => image,
@@ -58,8 +63,9 @@ pub(crate) fn do_describing<F, R, W>(
 ) -> Result<Option<Fault>, Refusal>
 where
     F: Read + Locks + OpenFile + Drop,
-    R: Files<File = F> + Input + AllocGlobal,
+    R: HostFiles<File = F> + Input + AllocGlobal,
     W: Write,
+    requires { All (λ path. MayReadImage R.rights rt.now path.now) paths.now }
 {
     let mut greatest = 0;
     for path in paths {

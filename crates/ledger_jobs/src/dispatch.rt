@@ -1,6 +1,8 @@
 //! Doing a job: its files are opened and read, and what is printed goes to an output.
-ghost use Rattle.std.specs.Prelude.{◌≤◌};
+ghost use Rattle.std.specs.Prelude.{◌≡◌, ◌≤◌};
 ghost use Rattle.ledger_jobs.specs.Jobs.{IsFit};
+ghost use Rattle.ledger_jobs.specs.declared.files.Older.TheVariants.{Replaced};
+ghost use Rattle.ledger_jobs.specs.Rights.{MayChangeImage, MayDo, MayMakeImage, MayOverwrite, MayReadImage, MayReadText};
 
 use crate::comparisons::do_comparing;
 use crate::copying::do_copying;
@@ -30,11 +32,11 @@ use crate::sheets::do_sheet;
 use crate::shop_runs::ended;
 use crate::viewing::do_viewing;
 use disk_layout::Fault;
+use host_files::HostFiles;
 use host_session::Printer;
 use shop_commands::{Durability, EndedFile, Locks, OverwrittenFile, RunFault, format_image};
 use std::fs::OpenFile;
 use std::io::{Read, Write};
-use std::rt::Files;
 
 /// Makes the image at a path.
 fn do_format<F, R, W>(
@@ -46,8 +48,10 @@ fn do_format<F, R, W>(
 ) -> Result<Option<Fault>, Refusal>
 where
     F: EndedFile + Locks + OpenFile + Drop,
-    R: Files<File = F> + AllocGlobal,
+    R: HostFiles<File = F> + AllocGlobal,
     W: Write,
+    requires makes { MayMakeImage R.rights rt.now path.now }
+    requires overwrites { older ≡ Replaced → MayOverwrite R.rights rt.now path.now }
     requires some { 1 ≤ tills }
     requires few { tills ≤ 64 }
 {
@@ -69,8 +73,10 @@ fn do_playing<F, R, W>(
 ) -> Result<Option<Fault>, Refusal>
 where
     F: EndedFile + Locks + OpenFile + Drop,
-    R: Files<File = F> + Input + AllocGlobal,
+    R: HostFiles<File = F> + Input + AllocGlobal,
     W: Write,
+    requires image { MayChangeImage R.rights rt.now path.now }
+    requires script { MayReadText R.rights rt.now script.now }
 {
     let mut file = opened_and_landed(rt, path)?;
     let image = own_image(rt.alloc(), &mut file, durability)?;
@@ -97,8 +103,9 @@ fn do_taking<F, R, W>(
 ) -> Result<Option<Fault>, Refusal>
 where
     F: Read + Locks + OpenFile + Drop,
-    R: Files<File = F> + Input + AllocGlobal,
+    R: HostFiles<File = F> + Input + AllocGlobal,
     W: Write,
+    requires { MayReadImage R.rights rt.now path.now }
 {
     let image = image_at(rt, path)?;
     take_told(rt.alloc(), what, image.as_slice(), name.as_bytes(), out)
@@ -113,8 +120,9 @@ fn do_drawing<F, R, W>(
 ) -> Result<Option<Fault>, Refusal>
 where
     F: Read + Locks + OpenFile + Drop,
-    R: Files<File = F> + Input + AllocGlobal,
+    R: HostFiles<File = F> + Input + AllocGlobal,
     W: Write,
+    requires { MayReadImage R.rights rt.now path.now }
 {
     let image = image_at(rt, path)?;
     drawn_end(drawing_run(rt.alloc(), what, image.as_slice(), out))
@@ -123,6 +131,8 @@ where
 /// Opens or reads the job's files and does it. What is printed goes to `out`, which is flushed at the end. An image is
 /// locked before anything of it is read or changed; if it is written, this program has it alone. If a log stands beside
 /// it, the log is landed before the image is written; otherwise it is read in the place of the image.
+///
+/// It touches the files that the job's words name, and the log beside its image, in the ways for which it asks rights.
 ///
 /// `InUse` if another program has the image; `Log` if its log gives no image; `File` if a file couldn't be opened or
 /// read. The other faults are those of `reading_run`, `format_image`, `new_run`, `play_durably`, `play_logged`,
@@ -133,9 +143,10 @@ where
 pub fn do_job<F, R, W>(rt: &R, job: &Job<'_>, out: &mut W) -> Result<Option<Fault>, Refusal>
 where
     F: EndedFile + Read + Locks + OpenFile + Drop,
-    R: Files<File = F> + Input + AllocGlobal,
+    R: HostFiles<File = F> + Input + AllocGlobal,
     W: Write,
-    requires { IsFit job.now }
+    requires rights { MayDo R.rights rt.now job.now }
+    requires fit { IsFit job.now }
 {
     match *job {
         Job::Format { image, tills } => do_format(rt, image, tills, Older::Replaced, out),

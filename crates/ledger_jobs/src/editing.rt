@@ -7,6 +7,7 @@ ghost use Rattle.keeper_commands.specs.Makes.{IsNewName};
 ghost use Rattle.ledger_jobs.specs.Edited.{IsDeleteOver, IsRenameOver};
 ghost use Rattle.ledger_jobs.specs.EditRefusals.{IsEditEnd, IsEditJudged};
 ghost use Rattle.ledger_jobs.specs.Names.{name_bytes};
+ghost use Rattle.ledger_jobs.specs.Rights.{MayChangeImage};
 
 use crate::edit_runs::{delete_run, rename_run};
 use crate::jobs::Loss;
@@ -18,11 +19,11 @@ use crate::refusals::Refusal;
 use change_commands::has_shop_file;
 use d64_image::SectorFile;
 use disk_layout::Fault;
+use host_files::HostFiles;
 use shop_commands::{EndedFile, Locks};
 use std::alloc::Global;
 use std::fs::OpenFile;
 use std::io::Write;
-use std::rt::Files;
 
 /// Why the entry of this name isn't changed: `Short` if a file of the image is cut short, `ShopFile` if the file of the name
 /// is one of a shop's two. It is also a refusal that there was no memory to see that, or that the image has another size.
@@ -95,8 +96,9 @@ pub(crate) fn do_rename<F, R, W>(
 ) -> Result<Option<Fault>, Refusal>
 where
     F: EndedFile + Locks + OpenFile + Drop,
-    R: Files<File = F> + AllocGlobal,
+    R: HostFiles<File = F> + AllocGlobal,
     W: Write,
+    requires image { MayChangeImage R.rights rt.now path.now }
     requires to { IsNewName (name_bytes to.now) }
 {
     let (image, file) = image_to_keep(rt, path)?;
@@ -114,8 +116,9 @@ pub(crate) fn do_delete<F, R, W>(
 ) -> Result<Option<Fault>, Refusal>
 where
     F: EndedFile + Locks + OpenFile + Drop,
-    R: Files<File = F> + AllocGlobal,
+    R: HostFiles<File = F> + AllocGlobal,
     W: Write,
+    requires image { MayChangeImage R.rights rt.now path.now }
 {
     let (image, file) = image_to_keep(rt, path)?;
     let (_, ended) = delete_guarded(rt.alloc(), image.as_slice(), name.as_bytes(), file, out);

@@ -1,20 +1,23 @@
 //! The line that a person at a terminal reads below a refusal: which file it is about, what the system said of it, and what
 //! to do.
+ghost use Rattle.std.specs.Prelude.{IfSome};
+ghost use Rattle.ledger_jobs.specs.Rights.{MayExplain, MayLook};
+
 use crate::files::STANDARD_INPUT;
-use crate::job_files::{image_of, size_of, text_of};
+use crate::job_files::{first_file, image_of, size_of, text_of};
 use crate::jobs::Job;
 use crate::near_names::tell_name;
 use crate::refusals::Refusal;
 use change_commands::EditFault;
 use disk_pictures::PictureFault;
+use host_files::{HostFiles, regular_at};
 use keeper_commands::KeepFault;
 use noted_files::Failure;
 use shop_commands::{Locks, RunFault};
 use std::fmt::Display;
 use std::fs::OpenFile;
 use std::io::{self, ErrorKind, Read, Write};
-use std::rt::Files;
-use system_files::{ShownPath, regular_at};
+use system_files::ShownPath;
 
 /// What a refusal is about.
 enum About {
@@ -169,34 +172,44 @@ fn tell_failure<E: Write>(err: &mut E, failure: &Failure<'_>, said: &str) {
     };
 }
 
-/// Whether this is the path of a job's image, and not of a script or of standard input.
-fn is_image(job: &Job<'_>, path: &str) -> bool {
-    match job {
-        Job::Dry { .. } => false,
-        _ => path != STANDARD_INPUT,
+/// What is wrong with a path at which something else than a regular file stands. Standard input isn't looked at.
+fn fault_at<'a, R: HostFiles>(rt: &R, path: &'a str) -> Option<(&'a str, io::Error)>
+    requires { MayLook R.rights rt.now path.now }
+{
+    if path == STANDARD_INPUT {
+        return None;
+    }
+    match regular_at(rt, path) {
+        Ok(_) => None,
+        Err(error) => Some((path, error)),
     }
 }
 
-/// The first image of a job at whose path stands something else than a regular file, and what is wrong with that.
-fn image_at_fault<'a, R: Files>(rt: &R, job: &Job<'a>) -> Option<(&'a str, io::Error)> {
-    let after = match job {
-        Job::Compare { after, .. } => Some(*after),
-        _ => None,
-    };
-    for path in [Some(image_of(job)), after] {
-        let path = path?;
-        if is_image(job, path) {
-            if let Err(error) = regular_at(rt, path) {
-                return Some((path, error));
-            }
-        }
+/// The first image of a job at whose path stands something else than a regular file, and what is wrong with that. None of
+/// a job over a script, or over several images.
+fn image_at_fault<'a, R: HostFiles>(rt: &R, job: &Job<'a>) -> Option<(&'a str, io::Error)>
+    requires { MayExplain R.rights rt.now job.now }
+{
+    match job {
+        Job::Dry { .. } => None,
+        Job::Compare { before, after } => match fault_at(rt, before) {
+            None => fault_at(rt, after),
+            fault => fault,
+        },
+        _ => fault_at(rt, first_file(job)?),
     }
-    None
 }
 
 /// Prints why a file couldn't be opened, read or written: what the system said of it. If it said nothing, something else
 /// than a regular file stands where an image is wanted.
-fn tell_files<R: Files, E: Write>(rt: &R, job: &Job<'_>, cause: Option<Failure<'_>>, err: &mut E) {
+fn tell_files<R: HostFiles, E: Write>(
+    rt: &R,
+    job: &Job<'_>,
+    cause: Option<Failure<'_>>,
+    err: &mut E,
+)
+    requires { MayExplain R.rights rt.now job.now }
+{
     if let Some(failure) = cause {
         return tell_failure(err, &failure, "");
     }
@@ -222,15 +235,26 @@ fn tell_device<E: Write>(job: &Job<'_>, cause: Option<Failure<'_>>, err: &mut E)
 }
 
 /// The image of a job that has another size than a disk: of two the first one, unless it has that size.
-fn missized_of<'a, R: Files>(rt: &R, job: &Job<'a>) -> &'a str {
+fn missized_of<'a, R: HostFiles>(rt: &R, job: &Job<'a>) -> Option<&'a str>
+    requires { MayExplain R.rights rt.now job.now }
+    ensures { IfSome result (λ path. MayLook R.rights rt.now path.now) }
+{
     match job {
-        Job::Compare { before, after } if size_of(rt, before) == Some(174_848) => after,
-        _ => image_of(job),
+        Job::Compare { before, after } => {
+            if size_of(rt, before) == Some(174_848) {
+                Some(after)
+            } else {
+                Some(before)
+            }
+        }
+        _ => first_file(job),
     }
 }
 
 /// Prints how many bytes an image has, which format has that many, and how to get one of 35 tracks without error bytes.
-fn tell_size<R: Files, E: Write>(rt: &R, image: &str, err: &mut E) {
+fn tell_size<R: HostFiles, E: Write>(rt: &R, image: &str, err: &mut E)
+    requires { MayLook R.rights rt.now image.now }
+{
     const WANTED: &str = "an image of 35 tracks without error bytes has 174848";
     const ERROR_BYTES: &str =
         "35 tracks and error bytes; `ledger trim OLD > NEW` leaves the error bytes out";
@@ -268,7 +292,7 @@ fn tell_made<E: Write>(job: &Job<'_>, err: &mut E) {
         Job::Extract { folder, .. } => {
             tell_of(err, folder, "it is there already; choose another name");
         }
-        Job::New { image, .. } => {
+        Job::New { image, .. } | Job::Format { image, .. } => {
             tell_of(
                 err,
                 image,
@@ -296,16 +320,25 @@ pub fn explain<F, R, E>(
 )
 where
     F: Read + Locks + OpenFile + Drop,
-    R: Files<File = F> + AllocGlobal,
+    R: HostFiles<File = F> + AllocGlobal,
     E: Write,
+    requires { MayExplain R.rights rt.now job.now }
 {
     let image = image_of(job);
     match subject_of(refusal) {
         About::Files => tell_files(rt, job, cause, err),
-        About::Size => tell_size(rt, missized_of(rt, job), err),
+        About::Size => {
+            if let Some(image) = missized_of(rt, job) {
+                tell_size(rt, image, err);
+            }
+        }
         About::Device => tell_device(job, cause, err),
         About::Image(said) => tell_of_image(err, job, said),
-        About::Name => tell_name(rt, job, image, err),
+        About::Name => {
+            if let Some(image) = first_file(job) {
+                tell_name(rt, job, image, err);
+            }
+        }
         About::Text(said) => tell_of(err, text_of(job).unwrap_or(image), said),
         About::Made => tell_made(job, err),
         About::Nothing => {}

@@ -1,6 +1,9 @@
 //! All files of an image, taken out to a folder that is new.
-ghost use Rattle.std.specs.Prelude.{◌≡◌};
+ghost use Rattle.std.specs.Prelude.{◌≡◌, IfOk, string_bytes};
+ghost use Rattle.std.proofs.Props.{props};
 ghost use Rattle.ledger_jobs.specs.Extracts.{IsExtractEnd, IsExtractTold, refusal_found, refusal_of};
+ghost use Rattle.ledger_jobs.specs.Rights.{MayFill, MayReadImage};
+ghost use Rattle.ledger_jobs.specs.Rights as specs;
 
 use crate::losses::{cut_in, run_end};
 use crate::readings::image_at;
@@ -8,25 +11,29 @@ use crate::refusals::Refusal;
 use d64_image::Place;
 use disk_layout::Fault;
 use file_rescue::{Choice, NewFolder, extract_image};
+use host_files::HostFiles;
 use keeper_commands::KeepFault;
 use shop_commands::{EndedFile, Locks, put_whole};
 use std::alloc::Global;
-use std::fs::{OpenFile, OpenOptions};
+use std::fs::OpenFile;
 use std::io::{self, Read, Write};
-use std::rt::Files;
 
 /// A folder of the system, which is made when the first file in it is.
 #[derive(Drop)]
-struct SystemFolder<'a, R> {
+struct SystemFolder<'a, R: HostFiles> {
     rt: &'a R,
     path: &'a str,
     is_made: bool,
     refused: Option<Refusal>,
+    // it may be made, and files in it
+    ghost fills: { MayFill R.rights rt.now path.now } by { Prim.hlevel props },
 }
 
-impl<'a, R> SystemFolder<'a, R> {
+impl<'a, R: HostFiles> SystemFolder<'a, R> {
     /// The folder at this path, which isn't made yet.
-    fn new(rt: &'a R, path: &'a str) -> SystemFolder<'a, R> {
+    fn new(rt: &'a R, path: &'a str) -> SystemFolder<'a, R>
+        requires { MayFill R.rights rt.now path.now }
+    {
         SystemFolder {
             rt,
             path,
@@ -36,13 +43,13 @@ impl<'a, R> SystemFolder<'a, R> {
     }
 }
 
-impl<R: Files> SystemFolder<'_, R> {
+impl<R: HostFiles> SystemFolder<'_, R> {
     /// Checks that the folder is made. An error, and a refusal, if something stood at its path before.
     fn see_made(&mut self) -> io::Result<()> {
         if self.is_made {
             return Ok(());
         }
-        match self.rt.create_dir(self.path) {
+        match self.rt.make_folder(self.path) {
             Ok(()) => {
                 self.is_made = true;
                 Ok(())
@@ -58,7 +65,9 @@ impl<R: Files> SystemFolder<'_, R> {
 }
 
 /// The path of the file of this name in a folder.
-fn path_in(alloc: Global, folder: &str, name: &[u8]) -> io::Result<String> {
+fn path_in(alloc: Global, folder: &str, name: &[u8]) -> io::Result<String>
+    ensures { IfOk result (λ path. string_bytes path ≡ specs.path_in folder.now name.now) }
+{
     let Ok(name) = std::str::from_utf8(name) else {
         return Err(io::ErrorKind::InvalidInput.into());
     };
@@ -72,14 +81,12 @@ fn path_in(alloc: Global, folder: &str, name: &[u8]) -> io::Result<String> {
 impl<F, R> NewFolder for SystemFolder<'_, R>
 where
     F: EndedFile + Drop,
-    R: Files<File = F> + AllocGlobal,
+    R: HostFiles<File = F> + AllocGlobal,
 {
     fn make(&mut self, name: &[u8], bytes: &[u8]) -> io::Result<()> {
         self.see_made()?;
         let path = path_in(self.rt.alloc(), self.path, name)?;
-        let mut how = OpenOptions::new();
-        how.write(true).create_new(true);
-        let mut file = how.open(self.rt, path.as_str())?;
+        let mut file = self.rt.make_file(path.as_str())?;
         file.put_over(bytes, 0)
     }
 }
@@ -146,8 +153,10 @@ pub(crate) fn do_extracting<F, R, W>(
 ) -> Result<Option<Fault>, Refusal>
 where
     F: EndedFile + Read + Locks + OpenFile + Drop,
-    R: Files<File = F> + Input + AllocGlobal,
+    R: HostFiles<File = F> + Input + AllocGlobal,
     W: Write,
+    requires image { MayReadImage R.rights rt.now path.now }
+    requires folder { MayFill R.rights rt.now folder.now }
 {
     let image = image_at(rt, path)?;
     let mut files = SystemFolder::new(rt, folder);

@@ -1,12 +1,17 @@
 //! The files that a job names, opened and read.
-use crate::image_logs::has_log;
+ghost use Rattle.std.specs.Prelude.{◌≡◌, IfOk, string_bytes, true};
+ghost use Rattle.std.proofs.Props.{props};
+ghost use Rattle.ledger_jobs.specs.Rights.{MayMakeImage, MayOverwrite, MayReadText};
+ghost use Rattle.ledger_jobs.specs.declared.files.Older.TheVariants.{Kept, Replaced};
+ghost use Rattle.host_files.specs.Rights.{Look, May};
+
+use crate::image_logs::is_there;
 use crate::refusals::Refusal;
+use host_files::{HostFiles, regular, regular_at};
 use log_files::{LogNames, forget_log};
 use shop_commands::{EndedFile, Locks, OpensFile, RunFault, read_script};
-use std::fs::{File, OpenFile, OpenOptions};
+use std::fs::OpenFile;
 use std::io;
-use std::rt::Files;
-use system_files::{regular, regular_at};
 
 /// The name under which standard input is read. It is read as it is, since the program may not be allowed to open it
 /// again.
@@ -24,30 +29,28 @@ pub(crate) fn room_for<F: OpenFile>(opened: &io::Result<F>) -> usize {
 }
 
 /// All bytes of a script's file, or of standard input.
-pub(crate) fn script_at<R: Files + Input + AllocGlobal>(rt: &R, path: &str) -> io::Result<Vec<u8>> {
+pub(crate) fn script_at<R: HostFiles + Input + AllocGlobal>(
+    rt: &R,
+    path: &str,
+) -> io::Result<Vec<u8>>
+    requires { MayReadText R.rights rt.now path.now }
+{
     if path == STANDARD_INPUT {
         return read_script(rt.alloc(), rt.reader(), 0);
     }
-    let opened = File::open(rt, path);
+    let opened = rt.open_to_read(path);
     let room = room_for(&opened);
     read_script(rt.alloc(), opened?, room)
 }
 
-/// Checks that nothing stands at a path but a regular file, or nothing at all, before a file is made there.
-fn see_replaceable<R: Files>(rt: &R, path: &str) -> io::Result<()> {
+/// Whether a regular file stands at a path. An error if another thing does.
+fn is_file_at<R: HostFiles>(rt: &R, path: &str) -> io::Result<bool>
+    requires { May R.rights rt.now Look path.now }
+{
     match regular_at(rt, path) {
-        Ok(_) => Ok(()),
-        Err(error) if error.kind() == io::ErrorKind::NotFound => Ok(()),
+        Ok(_) => Ok(true),
+        Err(error) if error.kind() == io::ErrorKind::NotFound => Ok(false),
         Err(error) => Err(error),
-    }
-}
-
-/// The folder in which the file at a path stands.
-fn folder_of(path: &str) -> &str {
-    match path.rsplit_once('/') {
-        None => ".",
-        Some(("", _)) => "/",
-        Some((folder, _)) => folder,
     }
 }
 
@@ -62,16 +65,23 @@ pub(crate) enum Older {
 
 /// The file at a path, which is made or written over; and why it isn't, if no error of the system says that.
 #[derive(Drop)]
-pub(crate) struct AtPath<'a, R> {
+pub(crate) struct AtPath<'a, R: HostFiles> {
     rt: &'a R,
     path: &'a str,
     older: Older,
     refused: Option<Refusal>,
+    // it may be made
+    ghost makes: { MayMakeImage R.rights rt.now path.now } by { Prim.hlevel props },
+    // or written over
+    ghost overwrites: { older ≡ Replaced → MayOverwrite R.rights rt.now path.now } by { Prim.hlevel props },
 }
 
-impl<'a, R> AtPath<'a, R> {
+impl<'a, R: HostFiles> AtPath<'a, R> {
     /// The file at this path, which isn't opened yet.
-    pub(crate) fn new(rt: &'a R, path: &'a str, older: Older) -> AtPath<'a, R> {
+    pub(crate) fn new(rt: &'a R, path: &'a str, older: Older) -> AtPath<'a, R>
+        requires makes { MayMakeImage R.rights rt.now path.now }
+        requires overwrites { older ≡ Replaced → MayOverwrite R.rights rt.now path.now }
+    {
         AtPath {
             rt,
             path,
@@ -93,43 +103,52 @@ impl<'a, R> AtPath<'a, R> {
     }
 }
 
-impl<R: Files + AllocGlobal> AtPath<'_, R> {
-    /// The file, opened, or made. If only a log is there, none is made: the log may be all that is left of a shop.
-    fn made(&mut self) -> io::Result<R::File> {
-        let mut how = OpenOptions::new();
-        how.write(true);
-        if self.older == Older::Replaced {
-            see_replaceable(self.rt, self.path)?;
-            return how.create(true).truncate(false).open(self.rt, self.path);
-        }
-        if has_log(self.rt, self.path)? {
+impl<R: HostFiles + AllocGlobal> AtPath<'_, R> {
+    /// The file, made where none was. If only a log is there, none is made: the log may be all that is left of a shop.
+    fn made(&mut self, names: &LogNames) -> io::Result<R::File>
+        requires { R.rights.leads self.old.rt.now self.old.path.now (string_bytes names.now.image) ≡ true }
+    {
+        if self.older == Older::Kept && is_there(self.rt, names.log())? {
             let error = io::Error::from(io::ErrorKind::AlreadyExists);
             return Err(self.refuse(Refusal::Exists, error));
         }
-        match how.create_new(true).open(self.rt, self.path) {
+        match self.rt.make_file(self.path) {
             Err(error) if error.kind() == io::ErrorKind::AlreadyExists => {
                 Err(self.refuse(Refusal::Exists, error))
             }
             made => made,
         }
     }
+
+    /// The file, opened, or made.
+    fn opened(&mut self, names: &LogNames) -> io::Result<R::File>
+        requires { R.rights.leads self.old.rt.now self.old.path.now (string_bytes names.now.image) ≡ true }
+    {
+        if self.older == Older::Replaced && is_file_at(self.rt, self.path)? {
+            return self.rt.open_to_write(self.path);
+        }
+        self.made(names)
+    }
 }
 
 impl<F, R> AtPath<'_, R>
 where
     F: EndedFile + Locks + OpenFile + Drop,
-    R: Files<File = F> + AllocGlobal,
+    R: HostFiles<File = F> + AllocGlobal,
 {
     /// The file, opened or made, which this program has alone; no log stands beside it.
     fn locked(&mut self) -> io::Result<F> {
-        let mut file = self.made()?;
+        let rt = self.rt;
+        // before the file is made, since memory may be refused
+        let names = LogNames::of(rt, rt.alloc(), self.path)?;
+        let mut file = self.opened(&names)?;
         // another thing may stand there by now
         regular(OpenFile::metadata(&file))?;
         if let Err(error) = file.lock_alone() {
             return Err(self.refuse(Refusal::of_lock(&error), io::Error::from(error)));
         }
         // a log that was there would win over the new image
-        forget_log(self.rt, &LogNames::of(self.rt, self.rt.alloc(), self.path)?)?;
+        forget_log(rt, &names)?;
         Ok(file)
     }
 }
@@ -137,7 +156,7 @@ where
 impl<F, R> OpensFile for AtPath<'_, R>
 where
     F: EndedFile + Locks + OpenFile + Drop,
-    R: Files<File = F> + AllocGlobal,
+    R: HostFiles<File = F> + AllocGlobal,
 {
     type File = F;
 
@@ -151,6 +170,6 @@ where
     }
 
     fn sync_folder(&mut self) -> io::Result<()> {
-        File::open(self.rt, folder_of(self.path))?.sync_all()
+        self.rt.sync_folder_of(self.path)
     }
 }

@@ -1,16 +1,18 @@
 //! The log beside an image: it is landed before the image is written, and read in the place of the image.
-ghost use Rattle.std.specs.Prelude.{◌≡◌};
+ghost use Rattle.std.specs.Prelude.{◌≡◌, IfOk, string_bytes};
 ghost use Rattle.ledger_jobs.specs.Ends.{log_refusal as refusal_of};
+ghost use Rattle.ledger_jobs.specs.Rights.{MayChangeImage, MayReadFile};
+ghost use Rattle.log_files.specs.LogRights.{MayKeepLog, MayKeepLogOf, MayReadLog};
+ghost use Rattle.host_files.specs.Rights.{Look, May, MayRead, MayWrite};
 
 use crate::locks::lock_exclusive;
 use crate::outcomes::told;
 use crate::refusals::Refusal;
-use log_files::{ImageFolder, ImageView, LogFault, LogNames, land_in, view_in};
+use host_files::{HostFiles, opened_to_change, opened_to_read};
+use log_files::{ImageFolder, ImageView, LogFault, LogNames, land_in, sync_names, view_in};
 use shop_commands::{Durability, EndedFile, Locks, RunFault};
-use std::fs::{File, OpenFile};
+use std::fs::OpenFile;
 use std::io::{self, ErrorKind};
-use std::rt::Files;
-use system_files::{opened_to_change, opened_to_read};
 
 /// How many bytes an image has.
 const IMAGE_BYTES: u64 = 174_848;
@@ -32,8 +34,10 @@ pub(crate) fn is_sized<F: OpenFile>(file: &F) -> Result<bool, Refusal> {
 }
 
 /// Whether anything stands at a path.
-fn is_there<R: Files>(rt: &R, path: &str) -> io::Result<bool> {
-    match rt.metadata(path) {
+pub(crate) fn is_there<R: HostFiles>(rt: &R, path: &str) -> io::Result<bool>
+    requires { May R.rights rt.now Look path.now }
+{
+    match rt.look_at(path) {
         Ok(_) => Ok(true),
         Err(error) if error.kind() == ErrorKind::NotFound => Ok(false),
         Err(error) => Err(error),
@@ -44,7 +48,9 @@ fn is_there<R: Files>(rt: &R, path: &str) -> io::Result<bool> {
 pub(crate) fn opened_alone<F, R>(rt: &R, path: &str) -> Result<F, Refusal>
 where
     F: Locks + Drop,
-    R: Files<File = F>,
+    R: HostFiles<File = F>,
+    requires { MayWrite R.rights rt.now path.now }
+    ensures owned { IfOk result F.IsOwned }
 {
     let mut file = told(opened_to_change(rt, path))?;
     lock_exclusive(&mut file, Durability::AtEnd)?;
@@ -56,7 +62,9 @@ where
 fn land_beside<F, R>(rt: &R, names: &LogNames, path: &str) -> Result<(), Refusal>
 where
     F: EndedFile + OpenFile + Drop,
-    R: Files<File = F> + AllocGlobal,
+    R: HostFiles<File = F> + AllocGlobal,
+    requires image { MayWrite R.rights rt.now path.now }
+    requires log { MayKeepLogOf R.rights rt.now (string_bytes names.now.image) }
 {
     let image = told(opened_to_change(rt, path))?;
     let mut folder = told(ImageFolder::new(rt, rt.alloc(), names, image, true))?;
@@ -66,19 +74,24 @@ where
     }
 }
 
-/// Ensures that no log stands beside the image at a path, which this program has alone. A log that stands there is
-/// landed, and its removal is synced. A program that came before may have been killed after it removed the log.
-fn settle_log<F, R>(rt: &R, path: &str) -> Result<(), Refusal>
+/// Ensures that no log stands beside the image at a path, whose file this program has alone. A log that stands there is
+/// landed, and its removal is synced. A program that came before may have been killed after it removed the log. A file of
+/// another size is no image, and its log is left alone.
+fn settle_log<F, R>(rt: &R, path: &str, image: &F) -> Result<(), Refusal>
 where
-    F: EndedFile + OpenFile + Drop,
-    R: Files<File = F> + AllocGlobal,
+    F: EndedFile + Locks + OpenFile + Drop,
+    R: HostFiles<File = F> + AllocGlobal,
+    requires owned { F.IsOwned image.now }
+    requires rights { MayChangeImage R.rights rt.now path.now }
 {
+    if !is_sized(image)? {
+        return Ok(());
+    }
     let names = told(LogNames::of(rt, rt.alloc(), path))?;
     if told(is_there(rt, names.log()))? {
         return land_beside(rt, &names, path);
     }
-    let folder = told(File::open(rt, names.folder()))?;
-    told(folder.sync_all())
+    told(sync_names(rt, &names))
 }
 
 /// The image's file at a path, which this program has alone and which is going to be written: a log that stood beside it
@@ -87,12 +100,12 @@ where
 pub(crate) fn opened_and_landed<F, R>(rt: &R, path: &str) -> Result<F, Refusal>
 where
     F: EndedFile + Locks + OpenFile + Drop,
-    R: Files<File = F> + AllocGlobal,
+    R: HostFiles<File = F> + AllocGlobal,
+    requires { MayChangeImage R.rights rt.now path.now }
+    ensures owned { IfOk result F.IsOwned }
 {
     let image = opened_alone(rt, path)?;
-    if is_sized(&image)? {
-        settle_log(rt, path)?;
-    }
+    settle_log(rt, path, &image)?;
     Ok(image)
 }
 
@@ -105,7 +118,8 @@ pub(crate) fn logged_image<F, R>(
 ) -> Result<Option<Vec<[u8; 256]>>, Refusal>
 where
     F: OpenFile + Drop,
-    R: Files<File = F> + AllocGlobal,
+    R: HostFiles<File = F> + AllocGlobal,
+    requires { MayReadFile R.rights rt.now path.now }
 {
     if !is_sized(image)? {
         return Ok(None);
@@ -117,10 +131,4 @@ where
         Ok(seen) => Ok(seen),
         Err(fault) => Err(log_refusal(&fault)),
     }
-}
-
-/// Whether a file stands where the log of an image at this path would.
-pub(crate) fn has_log<R: Files + AllocGlobal>(rt: &R, path: &str) -> io::Result<bool> {
-    let names = LogNames::of(rt, rt.alloc(), path)?;
-    is_there(rt, names.log())
 }

@@ -1,27 +1,41 @@
 //! The files that a job names: its words for them, and their sizes.
+ghost use Rattle.std.specs.Prelude.{◌≡◌, option_map};
+ghost use Rattle.ledger_jobs.specs.Rights as specs;
+ghost use Rattle.ledger_jobs.specs.Rights.{MayLook};
+
 use crate::files::STANDARD_INPUT;
 use crate::jobs::Job;
 use arrayvec::ArrayVec;
-use std::rt::Files;
-use system_files::regular_at;
+use host_files::{HostFiles, regular_at};
 
-/// The file that a job reads or writes first.
-pub(crate) fn image_of<'a>(job: &Job<'a>) -> &'a str {
+/// The file that a job reads or writes first. None of a job over several images.
+pub(crate) fn first_file<'a>(job: &Job<'a>) -> Option<&'a str>
+    ensures { option_map (λ path. path.now) result ≡ specs.first_file job.now }
+{
     match job {
-        Job::Format { image, .. } | Job::FormatNew { image, .. } | Job::New { image, .. } => image,
-        Job::List { image, .. } | Job::Check { image, .. } | Job::Show { image } => image,
-        Job::Play { image, .. } | Job::PlaySynced { image, .. } => image,
-        Job::PlayLogged { image, .. } | Job::Serve { image, .. } => image,
-        Job::Repair { image, .. } | Job::Take { image, .. } | Job::Draw { image, .. } => image,
-        Job::Extract { image, .. } | Job::Rename { image, .. } | Job::Delete { image, .. } => image,
-        Job::View { image, .. } | Job::Trim { image } | Job::Put { image, .. } => image,
-        Job::Make { image, .. } | Job::Store { image, .. } | Job::Copy { image, .. } => image,
-        Job::Several { images, .. } | Job::Sheet { images } | Job::Describe { images } => {
-            images.first().copied().unwrap_or("")
-        }
-        Job::Compare { before, .. } => before,
-        Job::Dry { script } => script,
+        Job::Format { image, .. } | Job::FormatNew { image, .. } | Job::New { image, .. } => Some(
+            image,
+        ),
+        Job::List { image, .. } | Job::Check { image, .. } | Job::Show { image } => Some(image),
+        Job::Play { image, .. } | Job::PlaySynced { image, .. } => Some(image),
+        Job::PlayLogged { image, .. } | Job::Serve { image, .. } => Some(image),
+        Job::Repair { image, .. } | Job::Take { image, .. } | Job::Draw { image, .. } => Some(
+            image,
+        ),
+        Job::Extract { image, .. } | Job::Rename { image, .. } | Job::Delete { image, .. } => Some(
+            image,
+        ),
+        Job::View { image, .. } | Job::Trim { image } | Job::Put { image, .. } => Some(image),
+        Job::Make { image, .. } | Job::Store { image, .. } | Job::Copy { image, .. } => Some(image),
+        Job::Several { .. } | Job::Sheet { .. } | Job::Describe { .. } => None,
+        Job::Compare { before, .. } => Some(before),
+        Job::Dry { script } => Some(script),
     }
+}
+
+/// The path of that file; an empty text for several images.
+pub(crate) fn image_of<'a>(job: &Job<'a>) -> &'a str {
+    first_file(job).unwrap_or("")
 }
 
 /// The script or the records that a job reads after its first file.
@@ -48,11 +62,10 @@ fn second_of<'a>(job: &Job<'a>) -> Option<&'a str> {
 /// The words of a job that name files: those that a failure of the system can be about. None of a job over several
 /// images, which prints what is wrong with each.
 pub fn files_of<'a>(job: &Job<'a>) -> ArrayVec<&'a str, 2> {
-    if let Job::Several { .. } | Job::Sheet { .. } | Job::Describe { .. } = job {
+    let Some(image) = first_file(job) else {
         return ArrayVec::new();
-    }
+    };
     let mut files = ArrayVec::new();
-    let image = image_of(job);
     if image != STANDARD_INPUT {
         files.push(image);
     }
@@ -65,7 +78,9 @@ pub fn files_of<'a>(job: &Job<'a>) -> ArrayVec<&'a str, 2> {
 
 /// The number of bytes of the regular file at a path. None of standard input, and if the system doesn't say. No file is
 /// opened.
-pub(crate) fn size_of<R: Files>(rt: &R, path: &str) -> Option<u64> {
+pub(crate) fn size_of<R: HostFiles>(rt: &R, path: &str) -> Option<u64>
+    requires { MayLook R.rights rt.now path.now }
+{
     if path == STANDARD_INPUT {
         return None;
     }

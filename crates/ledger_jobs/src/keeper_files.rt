@@ -9,6 +9,7 @@ ghost use Rattle.ledger_jobs.specs.Columns.{text_in};
 ghost use Rattle.ledger_jobs.specs.Names.{name_bytes};
 ghost use Rattle.ledger_jobs.specs.declared.refusals.Refusal.TheVariants as refusals;
 ghost use Rattle.rel_records.specs.File.{IsLength};
+ghost use Rattle.ledger_jobs.specs.Rights.{MayChangeImage, MayReadText, MayRepair};
 
 use crate::files::script_at;
 use crate::image_logs::opened_and_landed;
@@ -20,19 +21,20 @@ use crate::outcomes::told;
 use crate::readings::image_at;
 use crate::refusals::Refusal;
 use disk_layout::Fault;
+use host_files::HostFiles;
 use keeper_commands::plain_lines;
 use shop_commands::{Durability, EndedFile, ImageFile, Locks, RunFault};
 use std::alloc::Global;
 use std::fs::OpenFile;
 use std::io::{Read, Write};
-use std::rt::Files;
 
 /// The file at a path that a keeper's job writes, and its bytes. It is this program's alone, and what it holds was
 /// synced. Each sector is synced before the next is written.
 pub(crate) fn image_to_keep<F, R>(rt: &R, path: &str) -> Result<(Vec<u8>, ImageFile<F>), Refusal>
 where
     F: EndedFile + Locks + OpenFile + Drop,
-    R: Files<File = F> + AllocGlobal,
+    R: HostFiles<File = F> + AllocGlobal,
+    requires image { MayChangeImage R.rights rt.now path.now }
     ensures synced { IfOk result (λ taken. length (vec_items taken.0) ≡ 174848 → is_synced taken.1) }
     ensures agrees { IfOk result (λ taken. Agrees (placed.kept taken.1) (sectors_in (vec_items taken.0))) }
 {
@@ -53,8 +55,9 @@ fn do_written_repair<F, R, W>(
 ) -> Result<Option<Fault>, Refusal>
 where
     F: EndedFile + Locks + OpenFile + Drop,
-    R: Files<File = F> + AllocGlobal,
+    R: HostFiles<File = F> + AllocGlobal,
     W: Write,
+    requires image { MayChangeImage R.rights rt.now path.now }
 {
     let (image, file) = image_to_keep(rt, path)?;
     let (_, ended) = repair_guarded(rt.alloc(), image.as_slice(), free, file, loss, out);
@@ -72,8 +75,9 @@ pub(crate) fn do_repair<F, R, W>(
 ) -> Result<Option<Fault>, Refusal>
 where
     F: EndedFile + Read + Locks + OpenFile + Drop,
-    R: Files<File = F> + Input + AllocGlobal,
+    R: HostFiles<File = F> + Input + AllocGlobal,
     W: Write,
+    requires image { MayRepair R.rights rt.now effect path.now }
 {
     let free = unowned == Unowned::Freed;
     if effect == Effect::Written {
@@ -94,8 +98,9 @@ pub(crate) fn do_make<F, R, W>(
 ) -> Result<Option<Fault>, Refusal>
 where
     F: EndedFile + Locks + OpenFile + Drop,
-    R: Files<File = F> + AllocGlobal,
+    R: HostFiles<File = F> + AllocGlobal,
     W: Write,
+    requires image { MayChangeImage R.rights rt.now path.now }
     requires name { IsNewName (name_bytes name.now) }
     requires length { IsLength length }
 {
@@ -138,8 +143,10 @@ pub(crate) fn do_store<F, R, W>(
 ) -> Result<Option<Fault>, Refusal>
 where
     F: EndedFile + Read + Locks + OpenFile + Drop,
-    R: Files<File = F> + Input + AllocGlobal,
+    R: HostFiles<File = F> + Input + AllocGlobal,
     W: Write,
+    requires image { MayChangeImage R.rights rt.now path.now }
+    requires records { MayReadText R.rights rt.now records.now }
 {
     let (image, file) = image_to_keep(rt, path)?;
     let text = one_column(rt.alloc(), columns, told(script_at(rt, records))?)?;

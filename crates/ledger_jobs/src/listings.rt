@@ -3,16 +3,17 @@ ghost use Rattle.std.specs.Prelude.{◌≡◌, IfErr};
 ghost use Rattle.std.specs.Io.KnownBytes.{Keeps};
 ghost use Rattle.disk_faults.specs.declared.faults.DescribeFault.TheVariants as faults;
 ghost use Rattle.ledger_jobs.specs.Listings.{IsListingRun, as_listed};
+ghost use Rattle.ledger_jobs.specs.Rights.{MayReadImage};
 
 use crate::readings::image_at;
 use crate::refusals::Refusal;
 use disk_faults::{DescribeFault, list_faults};
 use disk_layout::Fault;
+use host_files::HostFiles;
 use shop_commands::{Locks, RunFault};
 use std::alloc::Global;
 use std::fs::OpenFile;
 use std::io::{Read, Write};
-use std::rt::Files;
 
 /// Hands on what the output still holds back. `File` if it failed.
 fn flush<W: Write>(out: &mut W) -> Result<(), DescribeFault>
@@ -54,8 +55,9 @@ pub fn listed_end(ended: Result<Option<Fault>, DescribeFault>) -> Result<Option<
 pub(crate) fn do_listing<F, R, W>(rt: &R, path: &str, out: &mut W) -> Result<Option<Fault>, Refusal>
 where
     F: Read + Locks + OpenFile + Drop,
-    R: Files<File = F> + Input + AllocGlobal,
+    R: HostFiles<File = F> + Input + AllocGlobal,
     W: Write,
+    requires { MayReadImage R.rights rt.now path.now }
 {
     let image = image_at(rt, path)?;
     listed_end(listing_run(rt.alloc(), image.as_slice(), out))

@@ -1,13 +1,15 @@
 //! What is printed for a person if an image has no file of a name: which names are near.
+ghost use Rattle.ledger_jobs.specs.Rights.{MayReadImage};
+
 use crate::files::STANDARD_INPUT;
 use crate::jobs::Job;
 use crate::names::Name;
 use crate::readings::image_of_file;
 use disk_faults::print_near_names;
+use host_files::HostFiles;
 use shop_commands::Locks;
 use std::fs::OpenFile;
 use std::io::{Read, Write};
-use std::rt::Files;
 use system_files::ShownPath;
 
 /// What is printed if no name is near.
@@ -27,7 +29,8 @@ fn name_of<'j>(job: &'j Job<'_>) -> Option<&'j Name> {
 fn near_names_of<F, R>(rt: &R, job: &Job<'_>, path: &str) -> Option<Vec<u8>>
 where
     F: Read + Locks + OpenFile + Drop,
-    R: Files<File = F> + AllocGlobal,
+    R: HostFiles<File = F> + AllocGlobal,
+    requires { MayReadImage R.rights rt.now path.now }
 {
     let name = name_of(job)?;
     if path == STANDARD_INPUT {
@@ -43,8 +46,9 @@ where
 pub(crate) fn tell_name<F, R, E>(rt: &R, job: &Job<'_>, path: &str, err: &mut E)
 where
     F: Read + Locks + OpenFile + Drop,
-    R: Files<File = F> + AllocGlobal,
+    R: HostFiles<File = F> + AllocGlobal,
     E: Write,
+    requires { MayReadImage R.rights rt.now path.now }
 {
     let image = ShownPath(path);
     match near_names_of(rt, job, path) {

@@ -5,6 +5,7 @@ ghost use Rattle.file_changes.specs.Formats.{IsNewDisk};
 ghost use Rattle.shop_commands.specs.declared.faults.RunFault.TheVariants as faults;
 ghost use Rattle.ledger_jobs.specs.Names.{name_bytes};
 ghost use Rattle.ledger_jobs.specs.NewDisks.{IsNewMade};
+ghost use Rattle.ledger_jobs.specs.Rights.{MayMakeImage};
 
 use crate::files::{AtPath, Older};
 use crate::names::Name;
@@ -14,11 +15,11 @@ use crate::shop_runs::ended;
 use d64_image::MemDisk;
 use disk_layout::Fault;
 use file_changes::new_disk;
+use host_files::HostFiles;
 use shop_commands::{EndedFile, Locks, OverwrittenFile, RunFault, put_whole};
 use std::alloc::Global;
 use std::fs::OpenFile;
 use std::io::Write;
-use std::rt::Files;
 use system_files::replace_image;
 
 /// The empty disk of this name and this id. `NoMemory` if there is none for it.
@@ -66,8 +67,9 @@ pub(crate) fn do_new<F, R, W>(
 ) -> Result<Option<Fault>, Refusal>
 where
     F: EndedFile + Locks + OpenFile + Drop,
-    R: Files<File = F> + AllocGlobal,
+    R: HostFiles<File = F> + AllocGlobal,
     W: Write,
+    requires image { MayMakeImage R.rights rt.now path.now }
     requires name { length (name_bytes name.now) ≤ 16 }
 {
     let mut file = OverwrittenFile::new(AtPath::new(rt, path, Older::Kept));

@@ -1,11 +1,12 @@
 //! Several images, each read as if it were alone. What is printed of each stands after its name.
-ghost use Rattle.std.specs.Prelude.{◌≡◌, IfErr, IfOk, OnOk, Some, vec_items};
+ghost use Rattle.std.specs.Prelude.{◌≡◌, IfErr, IfOk, OnOk, Some, vec_items, All};
 ghost use Rattle.std.specs.Io.KnownBytes.{Appends};
 ghost use Rattle.shop_commands.specs.declared.faults.RunFault.TheVariants as faults;
 ghost use Rattle.ledger_jobs.specs.Ends.{EndsAs, as_job};
 ghost use Rattle.ledger_jobs.specs.Overviews.{IsOneOfSeveral, IsOverview, IsToldAs};
 ghost use Rattle.ledger_jobs.specs.Runs.{IsReadingEnd};
 ghost use Rattle.named_lines.specs.Named.{named};
+ghost use Rattle.ledger_jobs.specs.Rights.{MayReadImage};
 
 use crate::drawing::drawing_run;
 use crate::endings::end;
@@ -16,12 +17,12 @@ use crate::readings::image_at;
 use crate::refusals::Refusal;
 use crate::shop_runs::reading_run;
 use disk_layout::Fault;
+use host_files::HostFiles;
 use named_lines::put_named;
 use shop_commands::{Locks, RunFault};
 use std::alloc::Global;
 use std::fs::OpenFile;
 use std::io::{Read, Write};
-use std::rt::Files;
 use system_files::ShownPath;
 
 /// How many bytes memory is taken for at once for what one image prints: more than a directory or a map has.
@@ -112,8 +113,9 @@ pub fn overview_run<W: Write>(
 fn do_one<F, R, W>(rt: &R, what: Overview, path: &str, out: &mut W) -> Result<u8, RunFault>
 where
     F: Read + Locks + OpenFile + Drop,
-    R: Files<File = F> + Input + AllocGlobal,
+    R: HostFiles<File = F> + Input + AllocGlobal,
     W: Write,
+    requires { MayReadImage R.rights rt.now path.now }
 {
     let Ok(name) = format!(in rt.alloc(); "{}", ShownPath(path)) else {
         return Err(RunFault::NoMemory);
@@ -137,8 +139,9 @@ pub(crate) fn do_several<F, R, W>(
 ) -> Result<Option<Fault>, Refusal>
 where
     F: Read + Locks + OpenFile + Drop,
-    R: Files<File = F> + Input + AllocGlobal,
+    R: HostFiles<File = F> + Input + AllocGlobal,
     W: Write,
+    requires { All (λ path. MayReadImage R.rights rt.now path.now) paths.now }
 {
     let mut greatest = 0;
     for path in paths {

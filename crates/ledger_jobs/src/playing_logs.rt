@@ -8,6 +8,7 @@ ghost use Rattle.ledger_jobs.specs.Losses.{IsEndOfRun};
 ghost use Rattle.log_files.specs.LiveLogs.{of_live};
 ghost use Rattle.log_server.specs.Serves.{shop_behind};
 ghost use Rattle.script_lines.specs.Lines.{first_reset, lines};
+ghost use Rattle.ledger_jobs.specs.Rights.{MayChangeImage, MayReadText};
 
 use crate::files::script_at;
 use crate::jobs::Loss;
@@ -19,6 +20,7 @@ use crate::serving_images::name_of;
 use crate::serving_logs::{begun_beside, cleared_end, landed_end, opened_image};
 use crate::watched_files::served_end;
 use disk_layout::Fault;
+use host_files::{HostFiles, Stays};
 use host_session::Printer;
 use log_files::{LiveLog, LogFolder, LogNames};
 use log_server::Reports;
@@ -28,8 +30,6 @@ use shop_log::LogFile;
 use std::alloc::Global;
 use std::fs::OpenFile;
 use std::io::Write;
-use std::rt::Files;
-use system_files::Stays;
 
 /// Plays a script without resets on the shop of this image, over a log that was begun with it. Then the log is landed,
 /// and the folder returned; but it is left where it is if the image's file has gone, or a commit failed.
@@ -61,7 +61,8 @@ where
 }
 
 /// The bytes of the script at a path. `BadLine` if a line begins with `@`: the first such line.
-fn plain_script<R: Files + Input + AllocGlobal>(rt: &R, path: &str) -> Result<Vec<u8>, Refusal>
+fn plain_script<R: HostFiles + Input + AllocGlobal>(rt: &R, path: &str) -> Result<Vec<u8>, Refusal>
+    requires { MayReadText R.rights rt.now path.now }
     ensures { IfOk result (λ script. first_reset (lines script.items) ≡ None) }
 {
     let script = told(script_at(rt, path))?;
@@ -83,8 +84,10 @@ pub(crate) fn do_logged_playing<F, R, W>(
 ) -> Result<Option<Fault>, Refusal>
 where
     F: EndedFile + Locks + OpenFile + Drop,
-    R: Files<File = F> + Input + AllocGlobal,
+    R: HostFiles<File = F> + Input + AllocGlobal,
     W: Write,
+    requires image { MayChangeImage R.rights rt.now path.now }
+    requires script { MayReadText R.rights rt.now script.now }
 {
     let alloc = rt.alloc();
     let mut image = opened_image(rt, path)?;

@@ -8,6 +8,7 @@ ghost use Rattle.ledger_jobs.specs.Losses.{IsEditedEndOf, IsGuarded};
 ghost use Rattle.ledger_jobs.specs.Names.{name_bytes};
 ghost use Rattle.ledger_jobs.specs.Puts.{IsPutOver};
 ghost use Rattle.ledger_jobs.specs.declared.jobs.Loss.TheVariants as losses;
+ghost use Rattle.ledger_jobs.specs.Rights.{MayChangeImage, MayReadText};
 
 use crate::edit_runs::put_run;
 use crate::files::script_at;
@@ -20,11 +21,11 @@ use crate::refusals::Refusal;
 use d64_image::SectorFile;
 use disk_layout::Fault;
 use file_changes::FileType;
+use host_files::HostFiles;
 use shop_commands::{EndedFile, Locks};
 use std::alloc::Global;
 use std::fs::OpenFile;
 use std::io::{Read, Write};
-use std::rt::Files;
 
 /// Puts a file on the disk of the image that the file keeps, as `put_run` does. If a file of the disk is cut short, the
 /// error is `Short`, and nothing was printed or changed.
@@ -62,8 +63,10 @@ pub(crate) fn do_put<F, R, W>(
 ) -> Result<Option<Fault>, Refusal>
 where
     F: EndedFile + Read + Locks + OpenFile + Drop,
-    R: Files<File = F> + Input + AllocGlobal,
+    R: HostFiles<File = F> + Input + AllocGlobal,
     W: Write,
+    requires image { MayChangeImage R.rights rt.now path.now }
+    requires file { MayReadText R.rights rt.now source.now }
     requires name { IsNewName (name_bytes name.now) }
 {
     let (image, file) = image_to_keep(rt, path)?;

@@ -4,6 +4,7 @@ ghost use Rattle.std.specs.IoError.{error_kind};
 ghost use Rattle.shop_commands.specs.Faults.{io_fault};
 ghost use Rattle.ledger_jobs.specs.Jobs.{needed};
 ghost use Rattle.ledger_jobs.specs.Runs.{IsReadingEnd, IsReadingOf};
+ghost use Rattle.ledger_jobs.specs.Rights.{MayReadFile, MayReadFileFor, MayReadFor, MayReadImage};
 
 use crate::files::{STANDARD_INPUT, room_for};
 use crate::image_logs::logged_image;
@@ -13,12 +14,11 @@ use crate::outcomes::{job_end, told};
 use crate::refusals::Refusal;
 use crate::shop_runs::reading_run;
 use disk_layout::Fault;
+use host_files::{HostFiles, opened_to_read};
 use shop_commands::{Locks, RunFault, read_image, read_script};
 use std::alloc::Global;
-use std::fs::{File, OpenFile};
+use std::fs::OpenFile;
 use std::io::{self, Read, Write};
-use std::rt::Files;
-use system_files::opened_to_read;
 
 /// What is needed of the bytes that a reader has: of an image 174,849 at most, and a script whole. `room` is how many
 /// bytes memory is taken for at once for a script.
@@ -81,9 +81,11 @@ fn lock_opened<F: Locks>(what: Reading, opened: &mut io::Result<F>) -> Result<()
 }
 
 /// The file that is read for this. An image is a regular file; a script may be a pipe.
-fn opened_for<R: Files>(rt: &R, what: Reading, path: &str) -> io::Result<R::File> {
+fn opened_for<R: HostFiles>(rt: &R, what: Reading, path: &str) -> io::Result<R::File>
+    requires { MayReadFileFor R.rights rt.now what path.now }
+{
     match what {
-        Reading::Dry => File::open(rt, path),
+        Reading::Dry => rt.open_to_read(path),
         Reading::List(_) | Reading::Check | Reading::Show => opened_to_read(rt, path),
     }
 }
@@ -97,7 +99,8 @@ fn opened_log<F, R>(
 ) -> Result<Option<Vec<[u8; 256]>>, Refusal>
 where
     F: OpenFile + Drop,
-    R: Files<File = F> + AllocGlobal,
+    R: HostFiles<File = F> + AllocGlobal,
+    requires { MayReadFileFor R.rights rt.now what path.now }
 {
     match (what, opened) {
         (Reading::Dry, _) | (_, Err(_)) => Ok(None),
@@ -114,8 +117,9 @@ pub(crate) fn do_reading<F, R, W>(
 ) -> Result<Option<Fault>, Refusal>
 where
     F: Read + Locks + OpenFile + Drop,
-    R: Files<File = F> + Input + AllocGlobal,
+    R: HostFiles<File = F> + Input + AllocGlobal,
     W: Write,
+    requires { MayReadFor R.rights rt.now what path.now }
 {
     if path == STANDARD_INPUT {
         return job_end(do_over(rt.alloc(), what, Ok(rt.reader()), 0, out));
@@ -135,7 +139,8 @@ where
 pub(crate) fn image_of_file<F, R>(rt: &R, path: &str) -> Result<Vec<u8>, Refusal>
 where
     F: Read + Locks + OpenFile + Drop,
-    R: Files<File = F> + AllocGlobal,
+    R: HostFiles<File = F> + AllocGlobal,
+    requires { MayReadFile R.rights rt.now path.now }
 {
     let mut file = told(opened_to_read(rt, path))?;
     lock_shared(&mut file)?;
@@ -149,7 +154,8 @@ where
 pub(crate) fn image_at<F, R>(rt: &R, path: &str) -> Result<Vec<u8>, Refusal>
 where
     F: Read + Locks + OpenFile + Drop,
-    R: Files<File = F> + Input + AllocGlobal,
+    R: HostFiles<File = F> + Input + AllocGlobal,
+    requires { MayReadImage R.rights rt.now path.now }
 {
     if path == STANDARD_INPUT {
         return told(read_image(rt.alloc(), rt.reader()));

@@ -1,6 +1,8 @@
 //! Serving the shop of the image at a path, over its file.
 ghost use Rattle.std.specs.Prelude.{◌≡◌, IfSome, take};
 ghost use Rattle.shop_commands.specs.Durable.{IsSynced};
+ghost use Rattle.ledger_jobs.specs.Rights.{MayChangeImage};
+ghost use Rattle.host_files.specs.Rights.{Look, May};
 
 use crate::image_logs::opened_and_landed;
 use crate::jobs::Loss;
@@ -10,12 +12,11 @@ use crate::outcomes::told;
 use crate::refusals::Refusal;
 use crate::watched_files::{WhileThere, served_end};
 use disk_layout::Fault;
+use host_files::{FileName, HostFiles, Stays};
 use host_session::Printer;
 use shop_commands::{Durability, EndedFile, Locks, RunFault, WritesAt};
 use std::fs::OpenFile;
 use std::io::{BufReader, Write};
-use std::rt::Files;
-use system_files::{FileName, Stays};
 
 /// Serves the shop of this image, over its file, to what comes on standard input, while the file's name leads to it.
 fn serve_input<F, N, R, W>(
@@ -52,11 +53,13 @@ where
 }
 
 /// The name of the file that was opened at a path. `Device` if the path leads elsewhere by now.
-pub(crate) fn name_of<'a, F: OpenFile, R: Files<File = F>>(
+pub(crate) fn name_of<'a, F: OpenFile, R: HostFiles<File = F>>(
     rt: &'a R,
     path: &'a str,
     file: &F,
-) -> Result<FileName<'a, R>, Refusal> {
+) -> Result<FileName<'a, R>, Refusal>
+    requires { May R.rights rt.now Look path.now }
+{
     let name = told(FileName::of(rt, path, file))?;
     if !name.is_there() {
         return Err(Refusal::Run(RunFault::Device));
@@ -75,8 +78,9 @@ pub(crate) fn do_serving<F, R, W>(
 ) -> Result<Option<Fault>, Refusal>
 where
     F: EndedFile + Locks + OpenFile + Drop,
-    R: Files<File = F> + Input + AllocGlobal,
+    R: HostFiles<File = F> + Input + AllocGlobal,
     W: Write,
+    requires { MayChangeImage R.rights rt.now path.now }
 {
     let mut file = opened_and_landed(rt, path)?;
     let image = own_image(rt.alloc(), &mut file, durability)?;

@@ -1,5 +1,5 @@
 //! Serving the shop of the image at a path, over a log beside it.
-ghost use Rattle.std.specs.Prelude.{◌≡◌, IfOk, length};
+ghost use Rattle.std.specs.Prelude.{◌≡◌, IfOk, length, string_bytes};
 ghost use Rattle.ledger_jobs.specs.Ends.{landing_fault, unlanded as unlanded_end};
 ghost use Rattle.ledger_jobs.specs.LandedRuns.{IsDoneAndLanded, IsLandedEnd};
 ghost use Rattle.ledger_jobs.specs.LoggedRuns.{IsLoggedRun, IsUnlogged};
@@ -7,6 +7,9 @@ ghost use Rattle.ledger_jobs.specs.Losses.{IsEndOfRun, IsGuarded};
 ghost use Rattle.ledger_jobs.specs.WatchedFiles.{while_there};
 ghost use Rattle.log_files.specs.LiveLogs.{of_live};
 ghost use Rattle.log_server.specs.Reporting.{of_output};
+ghost use Rattle.ledger_jobs.specs.Rights.{MayChangeImage};
+ghost use Rattle.host_files.specs.Rights.{Look, May, MayWrite, Remove};
+ghost use Rattle.log_files.specs.LogRights.{MayKeepLogOf, making_of};
 
 use crate::image_logs::{is_sized, log_refusal, opened_alone};
 use crate::jobs::Loss;
@@ -17,6 +20,7 @@ use crate::serving_images::name_of;
 use crate::watched_files::{WhileThere, served_end};
 use d64_image::MemDisk;
 use disk_layout::Fault;
+use host_files::{HostFiles, Stays, opened_to_change};
 use host_session::Printer;
 use line_server::{Answers, BatchSource};
 use log_files::{
@@ -27,8 +31,6 @@ use shop_log::{LogFile, LogRoom, TouchedDisk};
 use std::alloc::Global;
 use std::fs::OpenFile;
 use std::io::{BufReader, Write};
-use std::rt::Files;
-use system_files::{Stays, opened_to_change};
 
 /// The folder of the image at a path, which this program has alone.
 fn folder_of<'a, F, R>(
@@ -39,7 +41,9 @@ fn folder_of<'a, F, R>(
 ) -> Result<ImageFolder<'a, R>, Refusal>
 where
     F: EndedFile + OpenFile + Drop,
-    R: Files<File = F> + AllocGlobal,
+    R: HostFiles<File = F> + AllocGlobal,
+    requires image { MayWrite R.rights rt.now path.now }
+    requires log { MayKeepLogOf R.rights rt.now (string_bytes names.now.image) }
 {
     let image = told(opened_to_change(rt, path))?;
     let synced = durability == Durability::EachSector;
@@ -133,16 +137,42 @@ where
     landed_end(log, served_end(ended, answers.is_gone()))
 }
 
+/// Serves the shop of this image over a log that was begun with it, to an input, and prints the replies while the file of
+/// this name stays.
+fn serve_printed<L, D, N, I, W>(
+    alloc: Global,
+    image: &[u8],
+    log: LiveLog<L, D>,
+    loss: Loss,
+    input: &mut I,
+    name: N,
+    out: &mut W,
+) -> Result<Option<Fault>, Refusal>
+where
+    L: LogFile,
+    D: LogFolder<L> + Drop,
+    N: Stays + Drop,
+    I: BatchSource,
+    W: Write,
+{
+    let mut printer = Printer::new(out);
+    let mut answers = WhileThere::new(name, &mut printer);
+    let (_, ended) = serve_begun(alloc, image, log, loss, input, &mut answers);
+    ended
+}
+
 /// The end of a job over a log that couldn't be made, or renewed. What was made of a further log is removed, since it
 /// would keep the disk full. This is done only while the path leads to the image's file, which only this program may
 /// write.
-pub(crate) fn cleared_end<F: OpenFile, R: Files<File = F>, T>(
+pub(crate) fn cleared_end<F: OpenFile, R: HostFiles<File = F>, T>(
     rt: &R,
     path: &str,
     image: &F,
     names: &LogNames,
     ended: Result<T, Refusal>,
 ) -> Result<T, Refusal>
+    requires image { May R.rights rt.now Look path.now }
+    requires log { May R.rights rt.now Remove (making_of (string_bytes names.now.image)) }
     ensures { result ≡ ended }
 {
     if ended.is_err() && name_of(rt, path, image).is_ok() {
@@ -155,7 +185,9 @@ pub(crate) fn cleared_end<F: OpenFile, R: Files<File = F>, T>(
 pub(crate) fn opened_image<F, R>(rt: &R, path: &str) -> Result<F, Refusal>
 where
     F: Locks + OpenFile + Drop,
-    R: Files<File = F>,
+    R: HostFiles<File = F>,
+    requires { MayWrite R.rights rt.now path.now }
+    ensures owned { IfOk result F.IsOwned }
 {
     let image = opened_alone(rt, path)?;
     if is_sized(&image)? {
@@ -176,7 +208,10 @@ pub(crate) fn begun_beside<'a, F, R>(
 ) -> Result<(Vec<u8>, LiveLog<SystemLog<'a, R>, ImageFolder<'a, R>>), Refusal>
 where
     F: EndedFile + Locks + OpenFile + Drop,
-    R: Files<File = F> + AllocGlobal,
+    R: HostFiles<File = F> + AllocGlobal,
+    requires owned { F.IsOwned image.old }
+    requires image { MayWrite R.rights rt.now path.now }
+    requires log { MayKeepLogOf R.rights rt.now (string_bytes names.now.image) }
 {
     let alloc = rt.alloc();
     let mut folder = folder_of(rt, names, path, durability)?;
@@ -211,8 +246,9 @@ pub(crate) fn do_logged_serving<F, R, W>(
 ) -> Result<Option<Fault>, Refusal>
 where
     F: EndedFile + Locks + OpenFile + Drop,
-    R: Files<File = F> + Input + AllocGlobal,
+    R: HostFiles<File = F> + Input + AllocGlobal,
     W: Write,
+    requires { MayChangeImage R.rights rt.now path.now }
 {
     let alloc = rt.alloc();
     let mut image = opened_image(rt, path)?;
@@ -221,8 +257,6 @@ where
     let name = name_of(rt, path, &image)?;
     let names = told(LogNames::of(rt, alloc, path))?;
     let (bytes, log) = begun_beside(rt, path, &names, &mut image, durability, loss)?;
-    let mut printer = Printer::new(out);
-    let mut answers = WhileThere::new(name, &mut printer);
-    let (_, ended) = serve_begun(alloc, bytes.as_slice(), log, loss, &mut input, &mut answers);
+    let ended = serve_printed(alloc, bytes.as_slice(), log, loss, &mut input, name, out);
     cleared_end(rt, path, &image, &names, ended)
 }

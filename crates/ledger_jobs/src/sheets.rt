@@ -1,24 +1,29 @@
 //! A contact sheet of images, each read as if it were alone.
-ghost use Rattle.std.specs.Prelude.{IfOk, List, map, ℕ};
+ghost use Rattle.std.specs.Prelude.{IfOk, List, map, ℕ, All};
 ghost use Rattle.ledger_jobs.specs.SheetPages.{AreTiles, IsSheetPrinted, IsTileFrom, IsTileOf, IsUnreadTile, Loaded, as_loaded};
+ghost use Rattle.ledger_jobs.specs.Rights.{MayReadImage};
 
 use crate::readings::image_at;
 use crate::refusals::Refusal;
 use disk_layout::Fault;
 use disk_pictures::{PictureFault, sheet_begin, sheet_finish, sheet_refusal, sheet_tile};
+use host_files::HostFiles;
 use shop_commands::Locks;
 use std::alloc::Global;
 use std::fs::OpenFile;
 use std::io::{Read, Write};
-use std::rt::Files;
 
 /// Where the images of a sheet are read from.
 trait ImageSource {
     /// What may be read at a path: an image's bytes, or why there are none.
     ghost gives: { Self → List ℕ → Loaded → Type 0 };
 
+    /// Whether it may be read there.
+    ghost may_give: { Self → List ℕ → Type 0 };
+
     /// Reads the image at a path.
     fn image(&self, path: &str) -> Result<Vec<u8>, Refusal>
+        requires { may_give self.now path.now }
         ensures { gives self.now path.now (as_loaded result) };
 }
 
@@ -29,9 +34,11 @@ struct FileImages<'a, R>(&'a R);
 impl<F, R> ImageSource for FileImages<'_, R>
 where
     F: Read + Locks + OpenFile + Drop,
-    R: Files<File = F> + Input + AllocGlobal,
+    R: HostFiles<File = F> + Input + AllocGlobal,
 {
     ghost gives = { λ _ _ _. Unit };
+
+    ghost may_give = { λ files path. MayReadImage R.rights files.0.now path };
 
     fn image(&self, path: &str) -> Result<Vec<u8>, Refusal> {
         image_at(self.0, path)
@@ -78,6 +85,7 @@ fn put_tile_at<S: ImageSource, W: Write>(
     path: &str,
     out: &mut W,
 ) -> Result<u8, PictureFault>
+    requires { S.may_give source.now path.now }
     ensures ok { IfOk result (IsTileFrom (S.gives source.now) W.contents path.now out.old out.new) }
 {
     put_tile_of(alloc, path, source.image(path), out)
@@ -90,6 +98,7 @@ fn put_tiles<S: ImageSource, W: Write>(
     paths: &[&str],
     out: &mut W,
 ) -> Result<u8, PictureFault>
+    requires { All (λ path. S.may_give source.now path.now) paths.now }
     ensures ok { IfOk result
         (AreTiles (S.gives source.now) W.contents (map (λ path. path.now) paths.now) out.old out.new) }
 {
@@ -108,6 +117,7 @@ fn put_sheet<S: ImageSource, W: Write>(
     paths: &[&str],
     out: &mut W,
 ) -> Result<u8, PictureFault>
+    requires { All (λ path. S.may_give source.now path.now) paths.now }
     ensures ok { IfOk result
         (IsSheetPrinted (S.gives source.now) W.contents (map (λ path. path.now) paths.now) out.old out.new) }
 {
@@ -128,8 +138,9 @@ pub(crate) fn do_sheet<F, R, W>(
 ) -> Result<Option<Fault>, Refusal>
 where
     F: Read + Locks + OpenFile + Drop,
-    R: Files<File = F> + Input + AllocGlobal,
+    R: HostFiles<File = F> + Input + AllocGlobal,
     W: Write,
+    requires { All (λ path. MayReadImage R.rights rt.now path.now) paths.now }
 {
     match put_sheet(rt.alloc(), &FileImages(rt), paths, out) {
         Ok(0) => Ok(None),

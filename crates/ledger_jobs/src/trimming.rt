@@ -2,6 +2,7 @@
 ghost use Rattle.std.specs.Prelude.{◌≡◌};
 ghost use Rattle.ledger_jobs.specs.Ends.{EndsAs};
 ghost use Rattle.ledger_jobs.specs.Trims.{IsTrimRun, as_trimmed};
+ghost use Rattle.ledger_jobs.specs.Rights.{MayReadImage};
 
 use crate::files::STANDARD_INPUT;
 use crate::image_logs::logged_image;
@@ -10,12 +11,11 @@ use crate::outcomes::told;
 use crate::refusals::Refusal;
 use disk_layout::Fault;
 use disk_pictures::{PictureFault, trim_image};
+use host_files::{HostFiles, opened_to_read};
 use shop_commands::{Locks, read_script};
 use std::alloc::Global;
 use std::fs::OpenFile;
 use std::io::{self, Read, Write};
-use std::rt::Files;
-use system_files::opened_to_read;
 
 /// The greatest number of bytes of an image that are read: one more than one of 40 tracks with error bytes has.
 const IMAGE_BYTES: u64 = 197_377;
@@ -54,7 +54,8 @@ fn read_long<R: Read + Drop>(alloc: Global, reader: R) -> io::Result<Vec<u8>> {
 fn long_image_at<F, R>(rt: &R, path: &str) -> Result<Vec<u8>, Refusal>
 where
     F: Read + Locks + OpenFile + Drop,
-    R: Files<File = F> + Input + AllocGlobal,
+    R: HostFiles<File = F> + Input + AllocGlobal,
+    requires { MayReadImage R.rights rt.now path.now }
 {
     if path == STANDARD_INPUT {
         return told(read_long(rt.alloc(), rt.reader()));
@@ -76,9 +77,10 @@ pub fn do_trim<F, R, W, E>(
 ) -> Result<Option<Fault>, Refusal>
 where
     F: Read + Locks + OpenFile + Drop,
-    R: Files<File = F> + Input + AllocGlobal,
+    R: HostFiles<File = F> + Input + AllocGlobal,
     W: Write,
     E: Write,
+    requires { MayReadImage R.rights rt.now path.now }
 {
     let image = long_image_at(rt, path)?;
     trim_run(rt.alloc(), image.as_slice(), out, err)

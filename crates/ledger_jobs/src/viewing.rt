@@ -1,17 +1,18 @@
 //! What is printed of an image that isn't checked, done over its bytes and its file.
 ghost use Rattle.std.specs.Prelude.{◌≡◌};
 ghost use Rattle.ledger_jobs.specs.Views.{IsViewRun, as_viewed};
+ghost use Rattle.ledger_jobs.specs.Rights.{MayReadImage};
 
 use crate::jobs::View;
 use crate::readings::image_at;
 use crate::refusals::Refusal;
 use disk_layout::Fault;
 use disk_pictures::{PictureFault, free_image, sector_image};
+use host_files::HostFiles;
 use shop_commands::Locks;
 use std::alloc::Global;
 use std::fs::OpenFile;
 use std::io::{Read, Write};
-use std::rt::Files;
 
 /// Prints what is asked of an image. `ImageSize`, `NoMemory`: nothing was printed then. `File` if the output failed.
 pub fn view_run<W: Write>(
@@ -47,8 +48,9 @@ pub(crate) fn do_viewing<F, R, W>(
 ) -> Result<Option<Fault>, Refusal>
 where
     F: Read + Locks + OpenFile + Drop,
-    R: Files<File = F> + Input + AllocGlobal,
+    R: HostFiles<File = F> + Input + AllocGlobal,
     W: Write,
+    requires { MayReadImage R.rights rt.now path.now }
 {
     let image = image_at(rt, path)?;
     viewed_end(view_run(rt.alloc(), what, image.as_slice(), out))

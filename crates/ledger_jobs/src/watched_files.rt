@@ -7,11 +7,11 @@ ghost use Rattle.ledger_jobs.specs.declared.refusals.Refusal.TheVariants.{Run};
 use crate::refusals::Refusal;
 use d64_image::Sectors;
 use disk_layout::Fault;
+use host_files::Stays;
 use host_session::{NotTaken, ReplySink};
 use line_server::Answers;
 use request_cards::{Reply, Word};
 use shop_commands::RunFault;
-use system_files::Stays;
 
 /// What is passed in the place of a reply if the file has gone: MEDIA to its request. The reply to a message that is no
 /// request is MEDIA too.

@@ -3,6 +3,7 @@ pub mod Faults
 pub mod FolderCalls
 pub mod Folders
 pub mod LiveLogs
+pub mod LogRights
 pub mod MemFolders
 pub mod Serving
 pub mod Shops

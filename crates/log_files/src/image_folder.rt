@@ -1,28 +1,32 @@
 //! The folder of an image, of the system.
 ghost use Rattle.log_files.specs.Unknown.{unknown_folder};
-ghost use Rattle.std.specs.Prelude.{◌≡◌, ◌<◌, length};
+ghost use Rattle.log_files.specs.LogRights.{MayKeepLogOf, MayReadLogOf};
+ghost use Rattle.std.specs.Prelude.{◌≡◌, ◌<◌, length, string_bytes};
+ghost use Rattle.std.proofs.Props.{props};
 
 use crate::judging::LOG_BYTES;
 use crate::log_folder::LogFolder;
 use crate::log_names::{LogNames, forget_making, sync_names};
 use crate::system_log::SystemLog;
+use host_files::{HostFiles, opened_to_change, opened_to_read, regular};
 use std::alloc::Global;
 use std::cell::Cell;
-use std::fs::{OpenFile, OpenOptions};
+use std::fs::OpenFile;
 use std::io::{self, Read, Seek, SeekFrom};
 use std::os::unix::fs::MetadataExt;
-use std::rt::Files;
-use system_files::{EndedFile, opened_to_change, opened_to_read, regular};
+use system_files::EndedFile;
 
 /// An image's open file, and the names of its log beside it. The file is read, written, synced and closed. It isn't
 /// locked: the caller does that. Nothing is known of what it holds: it is trusted to satisfy the contract of `LogFolder`.
 #[derive(Drop)]
-pub struct ImageFolder<'a, R: Files> {
+pub struct ImageFolder<'a, R: HostFiles> {
     rt: &'a R,
     alloc: Global,
     names: &'a LogNames,
     image: R::File,
     synced: bool,
+    // the log may be kept
+    ghost keeps: { MayKeepLogOf R.rights rt.now (string_bytes names.now.image) } by { Prim.hlevel props },
 }
 
 /// The bytes of a log: all of them, or one more than a log has.
@@ -33,7 +37,9 @@ pub(crate) fn log_bytes<F: Read + Drop>(alloc: Global, file: &mut F) -> io::Resu
 }
 
 /// The log's file, open to be read. None if there is no log.
-pub(crate) fn log_to_read<R: Files>(rt: &R, names: &LogNames) -> io::Result<Option<R::File>> {
+pub(crate) fn log_to_read<R: HostFiles>(rt: &R, names: &LogNames) -> io::Result<Option<R::File>>
+    requires { MayReadLogOf R.rights rt.now (string_bytes names.now.image) }
+{
     match opened_to_read(rt, names.log()) {
         Ok(file) => Ok(Some(file)),
         Err(error) if error.kind() == io::ErrorKind::NotFound => Ok(None),
@@ -49,7 +55,7 @@ pub(crate) fn read_sectors<F: Read + Seek>(file: &mut F, image: &mut [[u8; 256]]
     file.read_exact(image.as_flattened_mut())
 }
 
-impl<'a, R: Files> ImageFolder<'a, R>
+impl<'a, R: HostFiles> ImageFolder<'a, R>
 where
     R::File: EndedFile + OpenFile,
 {
@@ -62,7 +68,9 @@ where
         names: &'a LogNames,
         image: R::File,
         synced: bool,
-    ) -> io::Result<ImageFolder<'a, R>> {
+    ) -> io::Result<ImageFolder<'a, R>>
+        requires { MayKeepLogOf R.rights rt.now (string_bytes names.now.image) }
+    {
         if regular(OpenFile::metadata(&image))?.nlink() > 1 {
             return Err(io::ErrorKind::InvalidInput.into());
         }
@@ -87,7 +95,7 @@ where
     }
 }
 
-impl<'a, R: Files> LogFolder<SystemLog<'a, R>> for ImageFolder<'a, R>
+impl<'a, R: HostFiles> LogFolder<SystemLog<'a, R>> for ImageFolder<'a, R>
 where
     R::File: EndedFile + OpenFile,
 {
@@ -124,9 +132,7 @@ where
 
     fn make_log(&mut self) -> io::Result<SystemLog<'a, R>> {
         forget_making(self.rt, self.names)?;
-        let mut how = OpenOptions::new();
-        how.write(true).create_new(true);
-        let file = how.open(self.rt, self.names.making())?;
+        let file = self.rt.make_file(self.names.making())?;
         Ok(self.log_of(file, self.synced))
     }
 
@@ -135,13 +141,13 @@ where
     }
 
     fn name_log(&mut self, file: &SystemLog<'a, R>) -> io::Result<()> {
-        self.rt.rename(self.names.making(), self.names.log())?;
+        self.rt.give_name(self.names.making(), self.names.log())?;
         file.named.set(true);
         Ok(())
     }
 
     fn remove_log(&mut self) -> io::Result<()> {
-        self.rt.remove_file(self.names.log())
+        self.rt.take_name(self.names.log())
     }
 
     fn sync_folder(&mut self) -> io::Result<()> {

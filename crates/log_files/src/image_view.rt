@@ -1,30 +1,37 @@
 //! An image and its log, of the system, as a reader sees them.
+ghost use Rattle.std.specs.Prelude.{string_bytes};
+ghost use Rattle.std.proofs.Props.{props};
+ghost use Rattle.log_files.specs.LogRights.{MayReadLogOf};
 ghost use Rattle.log_files.specs.Views.{unseen};
 
 use crate::image_folder::{log_bytes, log_to_read, read_sectors};
 use crate::log_names::LogNames;
 use crate::viewing::ViewsImage;
+use host_files::HostFiles;
 use shop_log::{BLOCK, BLOCKS};
 use std::alloc::Global;
 use std::fs::OpenFile;
 use std::io::{self, Read, Seek, SeekFrom};
-use std::rt::Files;
 
 /// An image's open file, and its log, which is opened when it is read and stays open. Nothing is written. The log is
 /// synced when it is read, so that what is shown stays if the power fails. Nothing is known of what the two hold: they
 /// are trusted to satisfy the contract of `ViewsImage`.
 #[derive(Drop)]
-pub struct ImageView<'a, R: Files> {
+pub struct ImageView<'a, R: HostFiles> {
     rt: &'a R,
     alloc: Global,
     names: &'a LogNames,
     image: R::File,
     log: Option<R::File>,
+    // the log may be read
+    ghost reads: { MayReadLogOf R.rights rt.now (string_bytes names.now.image) } by { Prim.hlevel props },
 }
 
-impl<'a, R: Files> ImageView<'a, R> {
+impl<'a, R: HostFiles> ImageView<'a, R> {
     /// The image whose file this is, open to be read. The caller has a shared lock on it.
-    pub fn new(rt: &'a R, alloc: Global, names: &'a LogNames, image: R::File) -> ImageView<'a, R> {
+    pub fn new(rt: &'a R, alloc: Global, names: &'a LogNames, image: R::File) -> ImageView<'a, R>
+        requires { MayReadLogOf R.rights rt.now (string_bytes names.now.image) }
+    {
         ImageView {
             rt,
             alloc,
@@ -43,7 +50,7 @@ fn byte_behind<F: Read + Seek>(file: &mut F) -> io::Result<u8> {
     Ok(byte[0])
 }
 
-impl<R: Files> ViewsImage for ImageView<'_, R>
+impl<R: HostFiles> ViewsImage for ImageView<'_, R>
 where
     R::File: OpenFile,
 {

@@ -27,7 +27,7 @@ pub use judging::{Misfit, judge};
 pub use landing::{LogFault, land};
 pub use live_log::LiveLog;
 pub use log_folder::LogFolder;
-pub use log_names::{LogNames, forget_log, forget_making};
+pub use log_names::{LogNames, forget_log, forget_making, sync_names};
 pub use mem_folder::{FolderCall, MemFolder};
 pub use memory::{land_in, view_in};
 pub use system_log::SystemLog;

@@ -1,17 +1,19 @@
 //! A log's file of the system.
 ghost use Rattle.log_files.specs.Unknown.{unknown_file};
+ghost use Rattle.std.proofs.Props.{props};
+ghost use Rattle.host_files.specs.Rights.{Look, May};
 
+use host_files::{FileName, HostFiles, Stays};
 use shop_log::LogFile;
 use std::cell::Cell;
 use std::fs::OpenFile;
 use std::io;
-use std::rt::Files;
-use system_files::{EndedFile, FileName, Stays};
+use system_files::EndedFile;
 
 /// A log's file, open. Once it has the name of the log, each sync checks that the name still leads to it. Nothing is known
 /// of what it holds: that it satisfies the contract of `LogFile` is trusted.
 #[derive(Drop)]
-pub struct SystemLog<'a, R: Files> {
+pub struct SystemLog<'a, R: HostFiles> {
     pub(crate) rt: &'a R,
     // the log's name
     pub(crate) name: &'a str,
@@ -20,9 +22,11 @@ pub struct SystemLog<'a, R: Files> {
     pub(crate) named: Cell<bool>,
     // whether it is synced once it has the name
     pub(crate) synced: bool,
+    // the log's name may be looked at
+    ghost looks: { May R.rights rt.now Look name.now } by { Prim.hlevel props },
 }
 
-impl<R: Files> SystemLog<'_, R>
+impl<R: HostFiles> SystemLog<'_, R>
 where
     R::File: OpenFile,
 {
@@ -35,7 +39,7 @@ where
     }
 }
 
-impl<R: Files> LogFile for SystemLog<'_, R>
+impl<R: HostFiles> LogFile for SystemLog<'_, R>
 where
     R::File: EndedFile + OpenFile,
 {

@@ -5,11 +5,13 @@
 mod given;
 mod memory;
 mod opened;
+mod read_only;
 mod runtime;
 mod stored;
 
 pub use given::Given;
 pub use memory::{Errors, Memory};
 pub use opened::Opened;
+pub use read_only::ReadOnly;
 pub use runtime::Runtime;
 pub use stored::{Kind, Others, Stored};

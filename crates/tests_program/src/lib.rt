@@ -48,6 +48,8 @@ mod put_rows;
 #[cfg(test)]
 mod refusal_rows;
 #[cfg(test)]
+mod right_rows;
+#[cfg(test)]
 mod run_rows;
 #[cfg(test)]
 mod runs;

@@ -1,10 +1,11 @@
 //! Files that can be opened without waiting, and that are no devices.
 ghost use Rattle.std.specs.Prelude.{IfOk};
 ghost use Rattle.std.specs.Fs.{IsFile, file_type};
+ghost use Rattle.host_files.specs.Rights.{Look, May, MayRead, MayWrite};
 
-use std::fs::{File, Metadata, OpenOptions};
+use crate::host::HostFiles;
+use std::fs::Metadata;
 use std::io;
-use std::rt::Files;
 
 /// Passes on the metadata of a regular file. An error if it is a pipe, a device or a folder: opening such a thing may
 /// block, and writing to it may do harm.
@@ -20,21 +21,26 @@ pub fn regular(found: io::Result<Metadata>) -> io::Result<Metadata>
 }
 
 /// The metadata of the file at a path, which isn't opened. An error if it isn't a regular file, or there is none.
-pub fn regular_at<R: Files>(rt: &R, path: &str) -> io::Result<Metadata>
+pub fn regular_at<R: HostFiles>(rt: &R, path: &str) -> io::Result<Metadata>
+    requires { May R.rights rt.now Look path.now }
     ensures { IfOk result (λ found. IsFile (file_type found)) }
 {
-    regular(rt.metadata(path))
+    regular(rt.look_at(path))
 }
 
 /// The regular file at a path, opened for reading. Anything else isn't opened, and returns an error.
-pub fn opened_to_read<R: Files>(rt: &R, path: &str) -> io::Result<R::File> {
+pub fn opened_to_read<R: HostFiles>(rt: &R, path: &str) -> io::Result<R::File>
+    requires { MayRead R.rights rt.now path.now }
+{
     regular_at(rt, path)?;
-    File::open(rt, path)
+    rt.open_to_read(path)
 }
 
 /// The regular file at a path, opened for reading and writing. It is neither made nor cut. Anything else isn't opened,
 /// and returns an error.
-pub fn opened_to_change<R: Files>(rt: &R, path: &str) -> io::Result<R::File> {
+pub fn opened_to_change<R: HostFiles>(rt: &R, path: &str) -> io::Result<R::File>
+    requires { MayWrite R.rights rt.now path.now }
+{
     regular_at(rt, path)?;
-    OpenOptions::new().read(true).write(true).open(rt, path)
+    rt.open_to_change(path)
 }
