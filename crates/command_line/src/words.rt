@@ -6,9 +6,7 @@ ghost use Rattle.ledger_jobs.specs.Jobs.{IsFit};
 ghost use Rattle.command_line.specs.Jobs.{IsHeard, IsJob, IsNoJob, IsParse, is_explained as explained};
 
 use crate::faults::JobFault;
-use crate::forms::{
-    byte_form, effect, loss, name_form, record_form, serve_durability, unowned, way,
-};
+use crate::forms::{byte_form, loss, name_form, record_form, repairing, serve_durability, way};
 use crate::images::{checking, picturing, viewing};
 use crate::names::{deleting, empty_disk, making, putting, renaming, storing, taking};
 use crate::numbers::{place_of, tills_of};
@@ -54,12 +52,7 @@ fn job_of<'a>(alloc: Global, matches: &ArgMatches<'a>) -> Result<Job<'a>, JobFau
             image,
             folder: value_of(found, "FOLDER"),
         }),
-        "repair" => Ok(Job::Repair {
-            image,
-            loss: loss(found),
-            unowned: unowned(found),
-            effect: effect(found),
-        }),
+        "repair" => Ok(repairing(found, image)),
         "records" => taking(found, Taking::Records(record_form(found)), image),
         "bytes" => taking(found, Taking::Bytes(byte_form(found)), image),
         "make" => making(found, image),

@@ -73,10 +73,10 @@ copy = with_rule (over_image (codes "copy")) (required (codes "NEW"))
 abbrev pub extract : App
 extract = with_rule (over_image (codes "extract")) (required (codes "FOLDER"))
 
--- repair IMAGE [--accept-loss] [--free] [--dry-run]
+-- repair IMAGE [--accept-loss] [--free] [--dry-run] [--sides]
 abbrev pub repair : App
-repair = with_rule (with_rule (may_accept_loss (over_image (codes "repair"))) (flag (codes "free")))
-    (flag (codes "dry-run"))
+repair = with_rule (with_rule (with_rule (may_accept_loss (over_image (codes "repair"))) (flag (codes "free")))
+    (flag (codes "dry-run"))) (flag (codes "sides"))
 
 -- records IMAGE NAME [--text] [--mixed] [--fields]
 abbrev pub records : App

@@ -6,7 +6,8 @@ use crate::shop_texts::{COPY, DRY, FORMAT, PLAY, SERVE, SHOW};
 use crate::values::{
     ACCEPT_LOSS, ALL, COMPARE, COPY_PATH, DISK_ID, DISK_NAME, DRY_RUN, FIELDS, FILE, FILE_TYPE,
     FOLDER, FREE_SECTORS, IMAGE, IMAGES, IN_PLACE, JSON, LENGTH, LOG, MIXED, NAME, NEW_NAME,
-    OLD_NAME, ONLY_NEW, PLACE, RECORD_LINES, SCRIPT, SHEET, SVG, SYNC, TEXT, TILLS, UNSYNCED,
+    OLD_NAME, ONLY_NEW, PLACE, RECORD_LINES, SCRIPT, SHEET, SIDES, SVG, SYNC, TEXT, TILLS,
+    UNSYNCED,
     Value,
 };
 
@@ -88,12 +89,12 @@ pub(crate) const SUBCOMMANDS: [Subcommand; 23] = [
         more: EXTRACT,
         values: &[IMAGE, FOLDER],
     },
-    // repair IMAGE [--accept-loss] [--free] [--dry-run]
+    // repair IMAGE [--accept-loss] [--free] [--dry-run] [--sides]
     Subcommand {
         name: "repair",
         about: "Corrects the map, the side sectors and the block counts of a disk",
         more: REPAIR,
-        values: &[IMAGE, ACCEPT_LOSS, FREE_SECTORS, DRY_RUN],
+        values: &[IMAGE, ACCEPT_LOSS, FREE_SECTORS, DRY_RUN, SIDES],
     },
     // trim IMAGE
     Subcommand {

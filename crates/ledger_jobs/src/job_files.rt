@@ -13,6 +13,7 @@ pub(crate) fn image_of<'a>(job: &Job<'a>) -> &'a str {
         Job::Play { image, .. } | Job::PlaySynced { image, .. } => image,
         Job::PlayLogged { image, .. } | Job::Serve { image, .. } => image,
         Job::Repair { image, .. } | Job::Take { image, .. } | Job::Draw { image, .. } => image,
+        Job::RepairSides { image, .. } => image,
         Job::Extract { image, .. } | Job::Rename { image, .. } | Job::Delete { image, .. } => image,
         Job::View { image, .. } | Job::Trim { image } | Job::Put { image, .. } => image,
         Job::Make { image, .. } | Job::Store { image, .. } | Job::Copy { image, .. } => image,

@@ -38,6 +38,8 @@ mod repair_rows;
 #[cfg(test)]
 mod returning_rows;
 #[cfg(test)]
+mod side_rows;
+#[cfg(test)]
 mod storing_rows;
 #[cfg(test)]
 mod text_rows;
