@@ -21,6 +21,7 @@ pub mod Pieced
 pub mod Printing
 pub mod Reached
 pub mod ReachedRecords
+pub mod Rebuilds
 pub mod Repairs
 pub mod Returned
 pub mod SameRepairs

@@ -6,6 +6,7 @@ pub mod Found
 pub mod Kinds
 pub mod Makes
 pub mod Printed
+pub mod Rebuilds
 pub mod Records
 pub mod Refusals
 pub mod Repairs

@@ -55,6 +55,10 @@ kept_text n = if nat_eq n 0 then codes "OK\n" else codes "KEPT " ++ decimal n ++
 unfoldable pub mended_text : Image → Image → ℕ → List ℕ
 mended_text old new n = up_to 35 (mended_on old new (sector old map_place) (sector new map_place)) ++ kept_text n
 
+-- a line for each sector that the two images have otherwise, or that became free by their maps
+unfoldable pub changed_text : Image → Image → List ℕ
+changed_text old new = up_to 35 (mended_on old new (sector old map_place) (sector new map_place))
+
 -- only the output is reported as File, and only a failure of the device as Device
 abbrev pub TellsKeep : {D T : Type 0} → History D → D → D → Result T KeepFault → Type 0
 TellsKeep S old new (Ok _) = S.failures new ≡ S.failures old

@@ -6,9 +6,9 @@ ghost use Rattle.d64_image.specs.Images.{sector};
 ghost use Rattle.d64_image.specs.Memory.{disk_image, sectors_in};
 ghost use Rattle.d64_image.specs.Places.{place_at};
 ghost use Rattle.disk_layout.specs.Directory.{map_place};
-ghost use Rattle.keeper_commands.specs.Repairs.{IsRepairDone, IsRepairFault, MendsAs, TellsKeep, freed_at, kept_text};
+ghost use Rattle.keeper_commands.specs.Repairs.{IsRepairDone, IsRepairFault, MendsAs, TellsKeep, changed_text, freed_at};
 ghost use Rattle.keeper_commands.specs.Repairs.{is_freed as freed, mended_at, mended_on, mended_text, repair_fault};
-ghost use Rattle.keeper_commands.specs.Repairs.{up_to};
+ghost use Rattle.keeper_commands.specs.Repairs.{kept_text, up_to};
 ghost use Rattle.keeper_commands.specs.declared.faults.KeepFault.TheVariants as faults;
 
 use crate::faults::KeepFault;
@@ -175,6 +175,21 @@ fn put_kept<W: Write>(out: &mut W, kept: u16) -> Result<(), KeepFault>
     Ok(())
 }
 
+/// Prints a line for each sector that the two disks have otherwise or that became free by their maps.
+pub(crate) fn put_changed<D: Sectors, W: Write>(
+    out: &mut W,
+    before: &mut MemDisk,
+    after: &mut D,
+) -> Result<(), KeepFault>
+    ensures ok { OnOk result (Appends (W.contents out.old) (W.contents out.new)
+        (changed_text (disk_image before.old) (D.history.image after.old))) }
+    ensures quiet { WritesNothing D.history after.old after.new }
+    ensures told { TellsKeep D.history after.old after.new result }
+{
+    let maps = maps_of(before, after)?;
+    put_tracks(out, before, after, &maps)
+}
+
 /// Prints what was mended and what is left, and hands it over.
 fn put_mended<D: Sectors, W: Write>(
     out: &mut W,
@@ -194,7 +209,7 @@ fn put_mended<D: Sectors, W: Write>(
 }
 
 /// What is reported if a repair ends with this fault.
-fn refusal(fault: Fault) -> KeepFault
+pub(crate) fn refusal(fault: Fault) -> KeepFault
     ensures { result ≡ repair_fault fault }
 {
     match fault {

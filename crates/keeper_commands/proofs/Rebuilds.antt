@@ -1,0 +1,130 @@
+-- What comes of rebuilding the side sectors of a disk.
+use Rattle.std.proofs.Common.{◌≡◌, ◌⊎◌, ℕ, List, Option, Result, Ok, Err, inl, inr, length, refl, subst, sym}
+use Rattle.std.specs.Io.KnownBytes.{Appends}
+use Rattle.std.specs.Prelude.{IfErr, OnOk}
+use Rattle.d64_image.proofs.Moments.{at_end, failed_later, then, weaker}
+use Rattle.d64_image.specs.History.{History, WritesNothing}
+use Rattle.d64_image.specs.Images.{Image, Sector, sector}
+use Rattle.disk_layout.specs.Directory.{map_place}
+use Rattle.disk_layout.specs.Fault.{Holds, nowhere}
+use Rattle.disk_layout.specs.declared.faults.Fault.{Fault}
+use Rattle.disk_layout.specs.declared.faults.Fault.TheVariants as faults
+use Rattle.keeper_commands.specs.Faults.{IsLoadFault}
+use Rattle.keeper_commands.specs.Kinds.{IsKindFault, IsPlainDisk}
+use Rattle.keeper_commands.specs.Rebuilds.{IsRebuildDone, IsRebuildFault, IsRebuildRun, IsRebuiltDisk}
+use Rattle.keeper_commands.specs.Repairs.{TellsKeep, changed_text, mended_on, repair_fault, up_to}
+use Rattle.keeper_commands.specs.declared.faults.KeepFault.{KeepFault}
+use Rattle.keeper_commands.specs.declared.faults.KeepFault.TheVariants as keep
+use Rattle.side_rebuilding.specs.Rebuilt.{IsRebuilt, IsUnderRebuilding, RebuildsSides, RefusesSides}
+
+-- the lines of the tracks are all that is printed of two disks
+pub all-changed : (a b : Option (List ℕ)) (old new old' new' : Image) (had has : Sector) → old' ≡ old → new' ≡ new
+    → had ≡ sector old map_place → has ≡ sector new map_place
+    → Appends a b (up_to 35 (mended_on old' new' had has)) → Appends a b (changed_text old new)
+unfolding changed_text
+all-changed a b old new old' new' had has same same' was is tracks =
+    subst (λ (x : Sector). Appends a b (up_to 35 (mended_on old new (sector old map_place) x))) is
+    (subst (λ (x : Sector). Appends a b (up_to 35 (mended_on old new x has))) was
+    (subst (λ (img : Image). Appends a b (up_to 35 (mended_on img new had has))) same
+    (subst (λ (img : Image). Appends a b (up_to 35 (mended_on old' img had has))) same' tracks)))
+
+module _ {D : Type 0} (S : History D) (image : List ℕ) (a : D) where
+  module _ {W : Type 0} (w : W) where
+    -- the image wasn't taken into memory
+    pub load-unrebuilt : (fault : KeepFault) → IsLoadFault image fault → IsRebuildFault S image a a w w fault
+    load-unrebuilt keep.ImageSize told = (told, refl, refl)
+    load-unrebuilt keep.NoMemory told = (told, refl, refl)
+    load-unrebuilt (keep.Layout fault) told = absurd told
+    load-unrebuilt keep.NoFile told = absurd told
+    load-unrebuilt keep.FileExists told = absurd told
+    load-unrebuilt (keep.BadLine n) told = absurd told
+    load-unrebuilt keep.DiskFull told = absurd told
+    load-unrebuilt keep.File told = absurd told
+    load-unrebuilt keep.Device told = absurd told
+    load-unrebuilt keep.Geos told = absurd told
+    load-unrebuilt keep.Format told = absurd told
+
+    -- the disk is of another kind
+    pub kind-unrebuilt : (fault : KeepFault) → length image ≡ 174848 → IsKindFault (sector (S.image a) map_place) fault
+        → IsRebuildFault S image a a w w fault
+    kind-unrebuilt keep.Geos size told = (size, told, refl, refl)
+    kind-unrebuilt keep.Format size told = (size, told, refl, refl)
+    kind-unrebuilt keep.ImageSize size told = absurd told
+    kind-unrebuilt keep.NoMemory size told = absurd told
+    kind-unrebuilt (keep.Layout fault) size told = absurd told
+    kind-unrebuilt keep.NoFile size told = absurd told
+    kind-unrebuilt keep.FileExists size told = absurd told
+    kind-unrebuilt (keep.BadLine n) size told = absurd told
+    kind-unrebuilt keep.DiskFull size told = absurd told
+    kind-unrebuilt keep.File size told = absurd told
+    kind-unrebuilt keep.Device size told = absurd told
+
+  module _ (size : length image ≡ 174848) (plain : IsPlainDisk (sector (S.image a) map_place)) (b : D)
+      (r : Result (Unit {0}) Fault) (h : RebuildsSides S a b r) where
+    run-rebuilt : IsRebuildRun S image a b
+    run-rebuilt = record { size = size; plain = plain; moments = h.moments }
+
+    -- a fault that holds, and then nothing was written; or the device failed
+    left : {W : Type 0} (w : W) (fault : Fault) → (b ≡ a) × Holds nowhere (S.image a) fault
+        → IsRebuildFault S image a b w w (repair_fault fault)
+    left w (faults.BadLink p) (same, holds) = (size, plain, holds, same, refl)
+    left w (faults.Loop p) (same, holds) = (size, plain, holds, same, refl)
+    left w (faults.OwnedTwice p) (same, holds) = (size, plain, holds, same, refl)
+    left w (faults.BadType p) (same, holds) = (size, plain, holds, same, refl)
+    left w (faults.Unclosed p) (same, holds) = (size, plain, holds, same, refl)
+    left w (faults.BadSide p) (same, holds) = (size, plain, holds, same, refl)
+    left w (faults.BadLength p) (same, holds) = (size, plain, holds, same, refl)
+    left w (faults.CountWrong p) (same, holds) = absurd holds
+    left w (faults.MapWrong p) (same, holds) = absurd holds
+    left w (faults.Device p) (same, holds) = absurd holds
+
+    pub unrebuilt : {W : Type 0} (w : W) (fault : Fault) → RefusesSides S a b (Err fault)
+        → IsRebuildFault S image a b w w (repair_fault fault)
+    unrebuilt w fault (inl refused) = left w fault refused
+    unrebuilt w fault (inr (failed, (p, is, there))) =
+        subst (λ (f : Fault). IsRebuildFault S image a b w w (repair_fault f)) (sym is) (run-rebuilt, failed)
+
+    -- and then the lines were printed
+    pub rebuilt-quiet : IsRebuilt (S.image a) (S.image b) → (c : D) → WritesNothing S b c → IsRebuiltDisk S image a c
+    rebuilt-quiet rebuilt c quiet = record {
+      run = record {
+        size = size;
+        plain = plain;
+        moments = then S a b c P h.moments (weaker S b c (λ i. i ≡ S.image b) P
+            (λ i e. subst P (sym e) (at_end S a b P h.moments)) quiet.held);
+      };
+      rebuilt = subst (λ (img : Image). IsRebuilt (S.image a) img) (sym quiet.image) rebuilt;
+    }
+      where
+        P : Image → Type 0
+        P i = (i ≡ S.image a) ⊎ IsUnderRebuilding (S.image a) i
+
+    pub print-unrebuilt : {W : Type 0} (v w : W) → IsRebuilt (S.image a) (S.image b) → S.failures b ≡ S.failures a
+        → (c : D) → WritesNothing S b c → (end : Result (Unit {0}) KeepFault) → TellsKeep S b c end
+        → IfErr end (IsRebuildFault S image a c v w)
+    print-unrebuilt v w rebuilt same c quiet (Ok x) told = tt
+    print-unrebuilt v w rebuilt same c quiet (Err keep.File) told = rebuilt-quiet rebuilt c quiet
+    print-unrebuilt v w rebuilt same c quiet (Err keep.Device) told =
+        ((rebuilt-quiet rebuilt c quiet).run, failed_later S a b c same told)
+    print-unrebuilt v w rebuilt same c quiet (Err keep.ImageSize) told = absurd told
+    print-unrebuilt v w rebuilt same c quiet (Err (keep.Layout fault)) told = absurd told
+    print-unrebuilt v w rebuilt same c quiet (Err keep.NoFile) told = absurd told
+    print-unrebuilt v w rebuilt same c quiet (Err keep.FileExists) told = absurd told
+    print-unrebuilt v w rebuilt same c quiet (Err (keep.BadLine n)) told = absurd told
+    print-unrebuilt v w rebuilt same c quiet (Err keep.DiskFull) told = absurd told
+    print-unrebuilt v w rebuilt same c quiet (Err keep.NoMemory) told = absurd told
+    print-unrebuilt v w rebuilt same c quiet (Err keep.Geos) told = absurd told
+    print-unrebuilt v w rebuilt same c quiet (Err keep.Format) told = absurd told
+
+    -- what was printed is of the disk as it is left
+    pub done-rebuilt : {W : Type 0} (contents : W → Option (List ℕ)) (v w : W) → IsRebuilt (S.image a) (S.image b)
+        → (c : D) → WritesNothing S b c → (before : Image) → before ≡ S.image a → (end : Result (Unit {0}) KeepFault)
+        → OnOk end (Appends (contents v) (contents w) (changed_text before (S.image b)))
+        → OnOk end (IsRebuildDone S contents image a c v w)
+    done-rebuilt contents v w rebuilt c quiet before same (Ok x) printed = record {
+      disk = rebuilt-quiet rebuilt c quiet;
+      printed = subst (λ (img : Image). Appends (contents v) (contents w) (changed_text (S.image a) img))
+          (sym quiet.image) (subst (λ (img : Image). Appends (contents v) (contents w) (changed_text img (S.image b)))
+          same printed);
+    }
+    done-rebuilt contents v w rebuilt c quiet before same (Err fault) printed = tt

@@ -1,0 +1,47 @@
+-- The side sectors were rebuilt and what changed was printed; or why not.
+use Rattle.std.proofs.Common.{Err, ap, sym, subst, ◌∙◌}
+use Rattle.std.proofs.lemmas.Result.{err_from_is_err_and}
+use Rattle.d64_image.specs.Images.{Image, sector}
+use Rattle.disk_layout.specs.Directory.{map_place}
+use Rattle.keeper_commands.specs.Kinds.{IsKindFault, IsPlainDisk}
+use Rattle.keeper_commands.proofs.Rebuilds.{done-rebuilt, kind-unrebuilt, load-unrebuilt, print-unrebuilt, unrebuilt}
+use Rattle.keeper_commands.proofs.rebuilding.rebuild_image.Goals as goal
+
+pub returns-in_err-before : goal.returns-in_err-before
+returns-in_err-before g c =
+    let p = err_from_is_err_and c.from_residual.result c.from_residual.ensures.1 in
+    record {
+      ok = rw (p.1 ∙ ap Err p.2) tt;
+      err = rw (p.1 ∙ ap Err p.2) (load-unrebuilt g.D.Sectors.history c.args.image.now c.args.disk.now c.args.out.now _
+          c.in_err-before.ensures.err);
+    }
+
+pub returns-in_err-judge_kind : goal.returns-in_err-judge_kind
+returns-in_err-judge_kind g c =
+    let loaded = c.in_ok-before.ensures.ok in
+    let p = err_from_is_err_and c.from_residual-in_err-judge_kind.result
+    c.from_residual-in_err-judge_kind.ensures.1 in
+    record {
+      ok = rw (p.1 ∙ ap Err p.2) tt;
+      err = rw (p.1 ∙ ap Err p.2) (kind-unrebuilt g.D.Sectors.history c.args.image.now c.args.disk.now c.args.out.now _
+          loaded.0 (subst (λ (img : Image). IsKindFault (sector img map_place) c.in_err-judge_kind.field-0.0)
+          (loaded.1 ∙ sym c.requires.holds) c.in_err-judge_kind.ensures.other));
+    }
+
+pub returns-in_err-after : goal.returns-in_err-after
+returns-in_err-after g c =
+    let p = err_from_is_err_and c.from_residual-in_err-after.result c.from_residual-in_err-after.ensures.1 in
+    record {
+      ok = rw (p.1 ∙ ap Err p.2) tt;
+      err = rw (p.1 ∙ ap Err p.2) (load-unrebuilt g.D.Sectors.history c.args.image.now c.args.disk.now c.args.out.now _
+          c.in_err-after.ensures.err);
+    }
+
+pub returns-in-Err-clause-err : goal.returns-in-Err-clause-err
+returns-in-Err-clause-err g c =
+    let loaded = c.in_ok-before.ensures.ok in
+    let plain = subst (λ (img : Image). IsPlainDisk (sector img map_place)) (loaded.1 ∙ sym c.requires.holds)
+    c.in_ok-judge_kind.ensures.plain in
+    rw c.refusal.ensures (unrebuilt g.D.Sectors.history c.args.image.now c.args.disk.now loaded.0 plain
+    c.rebuild_sides.new.disk (Err c.in-Err.fault) c.in-Err.ensures.rebuilds c.args.out.now c.in-Err.fault
+    c.in-Err.ensures.rebuilds.err)
