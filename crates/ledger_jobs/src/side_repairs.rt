@@ -2,6 +2,7 @@
 ghost use Rattle.std.specs.Prelude.{◌≡◌, IfOk};
 ghost use Rattle.d64_image.specs.Keeps.{Agrees};
 ghost use Rattle.d64_image.specs.Memory.{disk_image, sectors_in};
+ghost use Rattle.ledger_jobs.specs.Rights.{MayChangeImage, MayRepair};
 
 use crate::jobs::{Effect, Loss, Unowned};
 use crate::keeper_files::image_to_keep;
@@ -53,7 +54,7 @@ fn judge_sides(alloc: Global, image: &[u8], loss: Loss) -> Result<(), Refusal> {
 
 /// Rebuilds the side sectors on the disk of the image that the file keeps, as `rebuild_image` does. Each sector is
 /// handed to the file before memory takes it. Returns the file, and the disk that it keeps. `Device` if the file failed.
-fn write_rebuilt<F: SectorFile, W: Write>(
+fn write_rebuilt<F: SectorFile + Drop, W: Write>(
     alloc: Global,
     image: &[u8],
     loss: Loss,
@@ -90,6 +91,7 @@ where
     F: EndedFile + Locks + OpenFile + Drop,
     R: HostFiles<File = F> + AllocGlobal,
     W: Write,
+    requires image { MayChangeImage R.rights rt.now path.now }
 {
     let (image, file) = image_to_keep(rt, path)?;
     judge_sides(rt.alloc(), image.as_slice(), loss)?;
@@ -116,6 +118,7 @@ where
     F: EndedFile + Read + Locks + OpenFile + Drop,
     R: HostFiles<File = F> + Input + AllocGlobal,
     W: Write,
+    requires image { MayRepair R.rights rt.now effect path.now }
 {
     let free = unowned == Unowned::Freed;
     if effect == Effect::Written {
