@@ -2,7 +2,7 @@
 use Rattle.std.proofs.Common.{◌≡◌, ◌⊎◌, ℕ, List, Option, Result, Ok, Err, inl, inr, length, refl, subst, sym}
 use Rattle.std.specs.Io.KnownBytes.{Appends}
 use Rattle.std.specs.Prelude.{IfErr, OnOk}
-use Rattle.d64_image.proofs.Moments.{at_end, failed_later, then, weaker}
+use Rattle.d64_image.proofs.Moments.{at_end, failed_later, no_write, then, weaker}
 use Rattle.d64_image.specs.History.{History, WritesNothing}
 use Rattle.d64_image.specs.Images.{Image, Sector, sector}
 use Rattle.disk_layout.specs.Directory.{map_place}
@@ -62,7 +62,12 @@ module _ {D : Type 0} (S : History D) (image : List ℕ) (a : D) where
   module _ (size : length image ≡ 174848) (plain : IsPlainDisk (sector (S.image a) map_place)) (b : D)
       (r : Result (Unit {0}) Fault) (h : RebuildsSides S a b r) where
     run-rebuilt : IsRebuildRun S image a b
-    run-rebuilt = record { size = size; plain = plain; moments = h.moments }
+    run-rebuilt = record {
+      size = size;
+      plain = plain;
+      moments = h.moments;
+      quiet = λ sound. subst (λ (d : D). WritesNothing S a d) (sym (h.quiet sound)) (no_write S a);
+    }
 
     -- a fault that holds, and then nothing was written; or the device failed
     left : {W : Type 0} (w : W) (fault : Fault) → (b ≡ a) × Holds nowhere (S.image a) fault
@@ -92,6 +97,7 @@ module _ {D : Type 0} (S : History D) (image : List ℕ) (a : D) where
         plain = plain;
         moments = then S a b c P h.moments (weaker S b c (λ i. i ≡ S.image b) P
             (λ i e. subst P (sym e) (at_end S a b P h.moments)) quiet.held);
+        quiet = λ sound. subst (λ (d : D). WritesNothing S d c) (h.quiet sound) quiet;
       };
       rebuilt = subst (λ (img : Image). IsRebuilt (S.image a) img) (sym quiet.image) rebuilt;
     }

@@ -1,10 +1,11 @@
 -- What comes of rebuilding the side sectors of a disk, and what is printed of it. Our own.
 use Rattle.std.specs.Prelude.{◌≡◌, ◌≢◌, ◌⊎◌, ℕ, List, Option, length}
 use Rattle.std.specs.Io.KnownBytes.{Appends}
-use Rattle.d64_image.specs.History.{Failed, HeldOnly, History}
+use Rattle.d64_image.specs.History.{Failed, HeldOnly, History, WritesNothing}
 use Rattle.d64_image.specs.Images.{sector}
 use Rattle.disk_layout.specs.Directory.{map_place}
 use Rattle.disk_layout.specs.Fault.{Holds, nowhere}
+use Rattle.disk_layout.specs.Layout.{IsSound}
 use Rattle.keeper_commands.specs.Kinds.{HasFormatByte, HasGeosSign, IsPlainDisk}
 use Rattle.keeper_commands.specs.Repairs.{changed_text}
 use Rattle.keeper_commands.specs.declared.faults.KeepFault.{KeepFault}
@@ -17,6 +18,8 @@ pub record IsRebuildRun {D : Type 0} (S : History D) (image : List ℕ) (old new
   pub size : length image ≡ 174848
   pub plain : IsPlainDisk (sector (S.image old) map_place)
   pub moments : HeldOnly S old new (λ c. (c ≡ S.image old) ⊎ IsUnderRebuilding (S.image old) c)
+  -- a sound disk isn't written
+  pub quiet : IsSound (S.image old) → WritesNothing S old new
 
 -- And the disk is sound.
 pub record IsRebuiltDisk {D : Type 0} (S : History D) (image : List ℕ) (old new : D) : Type 0 where

@@ -47,8 +47,8 @@ fn if_unowned(unowned: &[Place], chosen: &[Place], place: Option<Place>) -> Opti
     }
 }
 
-/// A place for side sector `number` of a file: where the entry names the first; where it can be read; where `list`, the
-/// bytes of another side sector, lists it; or else where the map calls a sector free.
+/// A place for the next side sector of a file. The entry names the place of the first one. Otherwise it is where the side
+/// sector can be read; where `list`, the bytes of another side sector, lists it; or where the map calls a sector free.
 fn choose_place(
     disk: &mut MemDisk,
     unowned: &[Place],
@@ -99,8 +99,8 @@ pub(crate) fn choose_places(
     true
 }
 
-/// Whether a file with these blocks had more: a side sector of it that can be read lists two more, its block count is
-/// greater than one block more needs, or its last block holds nothing but zeros.
+/// Whether a file with these blocks had more: a side sector of it that can be read lists two more, or its last block holds
+/// nothing but zeros. Another sign is a block count greater than one block more needs.
 pub(crate) fn is_shortened(
     disk: &mut MemDisk,
     unowned: &[Place],

@@ -20,8 +20,8 @@ use layout_check::survey;
 /// disk holds on the way. Block counts and the map aren't made right.
 ///
 /// The error is a fault that holds of the disk if something else is wrong than its side sectors. It is also such a fault
-/// if nobody can tell where the first side sector of a file is, if no sector is left, or if a file is shorter than its
-/// side sectors or its block count say; the last is passed over if `shortened` is `Accepted`. Then nothing was written.
+/// if an entry doesn't say where its first side sector is, or if no sector is left. So it is if a file is shorter than its
+/// side sectors or its block count say, unless `shortened` is `Accepted`. Then nothing was written.
 /// `Device` if the device failed: what was written until then stays. A sound disk isn't written.
 pub fn rebuild_sides<D: Sectors>(
     before: &mut MemDisk,

@@ -2,7 +2,7 @@
 //! refused. STOCK has the block 17/0 and the side sector 17/1.
 use crate::comparing::same_at;
 use crate::disks::{Change, changed};
-use crate::outputs::is_told;
+use crate::outputs::{Full, is_told};
 use keeper_commands::rebuild_image;
 use side_rebuilding::Shortened;
 use std::process::Abort;
@@ -15,8 +15,9 @@ const NINE_COUNTED: Change = (18, 1, 30, &[9]);
 
 /// Changes, what is printed, what is reported, and the changes that are left. A sound disk; a side sector of zeros, one
 /// with another number, one that lists no side sector. Then an entry that names none, one that names a block of
-/// REQUESTS, and a loop; a file whose entry counts more, and one whose side sector lists two blocks more.
-const REBUILT: [(&[Change], &str, &str, &[Change]); 9] = [
+/// REQUESTS, and a loop; a file whose entry counts more, and one whose side sector lists two blocks more. At the end a disk
+/// of GEOS, and one of another format.
+const REBUILT: [(&[Change], &str, &str, &[Change]); 11] = [
     (&[], "", "", &[]),
     (&[ZEROED], "MENDED 17/1\n", "", &[]),
     (&[(17, 1, 2, &[5])], "MENDED 17/1\n", "", &[]),
@@ -51,6 +52,18 @@ const REBUILT: [(&[Change], &str, &str, &[Change]); 9] = [
         "LAYOUT BADSIDE 17/1",
         &[(17, 1, 4, &[0, 0]), (17, 1, 18, &[17, 9, 17, 10])],
     ),
+    (
+        &[ZEROED, (18, 0, 173, b"GEOS format V1.0")],
+        "",
+        "GEOS",
+        &[ZEROED, (18, 0, 173, b"GEOS format V1.0")],
+    ),
+    (
+        &[ZEROED, (18, 0, 2, &[0x42])],
+        "",
+        "FORMAT",
+        &[ZEROED, (18, 0, 2, &[0x42])],
+    ),
 ];
 
 /// Checks that this is printed and reported of a disk with these changes, and that it becomes that with those.
@@ -67,7 +80,12 @@ fn becomes(
     let ended = rebuild_image(rt.alloc(), before.bytes(), shortened, &mut disk, &mut out);
     is_told(rt, ended, told);
     same_at(rt, out.as_slice(), printed.as_bytes(), told);
-    same_at(rt, disk.bytes() == changed(rt, wanted).bytes(), true, printed);
+    same_at(
+        rt,
+        disk.bytes() == changed(rt, wanted).bytes(),
+        true,
+        printed,
+    );
 }
 
 #[test]
@@ -81,5 +99,28 @@ fn side_sectors_are_built_anew(rt: HostRuntime) {
 #[test]
 fn shortened_files_are_taken_as_they_are(rt: HostRuntime) {
     let accepted = Shortened::Accepted;
-    becomes(&rt, accepted, &[ZEROED, NINE_COUNTED], ("MENDED 17/1\n", ""), &[NINE_COUNTED]);
+    becomes(
+        &rt,
+        accepted,
+        &[ZEROED, NINE_COUNTED],
+        ("MENDED 17/1\n", ""),
+        &[NINE_COUNTED],
+    );
+}
+
+// If the output fails at the first line, the side sectors are rebuilt.
+#[test]
+fn failed_output_leaves_rebuilt_sides(rt: HostRuntime) {
+    let before = changed(&rt, &[ZEROED]);
+    let mut out = Full { room: 0 };
+    let mut disk = changed(&rt, &[ZEROED]);
+    let ended = rebuild_image(
+        rt.alloc(),
+        before.bytes(),
+        Shortened::Refused,
+        &mut disk,
+        &mut out,
+    );
+    is_told(&rt, ended, "FILE");
+    same_at(&rt, disk.bytes() == changed(&rt, &[]).bytes(), true, "FILE");
 }

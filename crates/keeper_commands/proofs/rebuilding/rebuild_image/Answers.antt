@@ -1,5 +1,5 @@
 -- The side sectors were rebuilt and what changed was printed; or why not.
-use Rattle.std.proofs.Common.{Err, ap, sym, subst, ◌∙◌}
+use Rattle.std.proofs.Common.{Err, Ok, ap, sym, subst, ◌∙◌}
 use Rattle.std.proofs.lemmas.Result.{err_from_is_err_and}
 use Rattle.d64_image.specs.Images.{Image, sector}
 use Rattle.disk_layout.specs.Directory.{map_place}
@@ -45,3 +45,25 @@ returns-in-Err-clause-err g c =
     rw c.refusal.ensures (unrebuilt g.D.Sectors.history c.args.image.now c.args.disk.now loaded.0 plain
     c.rebuild_sides.new.disk (Err c.in-Err.fault) c.in-Err.ensures.rebuilds c.args.out.now c.in-Err.fault
     c.in-Err.ensures.rebuilds.err)
+
+pub returns-clause-ok : goal.returns-clause-ok
+returns-clause-ok g c =
+    let S = g.D.Sectors.history in
+    let loaded = c.in_ok-before.ensures.ok in
+    let same = c.in-Ok.ensures.same ∙ c.in_ok-judge_kind.ensures.same ∙ loaded.1 ∙ sym c.requires.holds in
+    let plain = subst (λ (img : Image). IsPlainDisk (sector img map_place)) (loaded.1 ∙ sym c.requires.holds)
+    c.in_ok-judge_kind.ensures.plain in
+    done-rebuilt S c.args.image.now c.args.disk.now loaded.0 plain c.rebuild_sides.new.disk (Ok c.in-Ok.field-0)
+    c.in-Ok.ensures.rebuilds g.W.Write.contents c.args.out.now c.put_changed.new.out c.in-Ok.ensures.rebuilds.ok
+    c.put_changed.new.after c.put_changed.ensures.quiet _ same c.put_changed.result c.put_changed.ensures.ok
+
+pub returns-clause-err : goal.returns-clause-err
+returns-clause-err g c =
+    let S = g.D.Sectors.history in
+    let loaded = c.in_ok-before.ensures.ok in
+    let plain = subst (λ (img : Image). IsPlainDisk (sector img map_place)) (loaded.1 ∙ sym c.requires.holds)
+    c.in_ok-judge_kind.ensures.plain in
+    print-unrebuilt S c.args.image.now c.args.disk.now loaded.0 plain c.rebuild_sides.new.disk (Ok c.in-Ok.field-0)
+    c.in-Ok.ensures.rebuilds c.args.out.now c.put_changed.new.out c.in-Ok.ensures.rebuilds.ok
+    c.in-Ok.ensures.rebuilds.unfailed c.put_changed.new.after c.put_changed.ensures.quiet c.put_changed.result
+    c.put_changed.ensures.told
