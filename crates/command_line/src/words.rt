@@ -6,7 +6,9 @@ ghost use Rattle.ledger_jobs.specs.Jobs.{IsFit};
 ghost use Rattle.command_line.specs.Jobs.{IsHeard, IsJob, IsNoJob, IsParse, is_explained as explained};
 
 use crate::faults::JobFault;
-use crate::forms::{byte_form, candidates, choice, loss, name_form, repairing, serve_durability, way};
+use crate::forms::{
+    byte_form, candidates, choice, loss, name_form, repairing, serve_durability, way,
+};
 use crate::images::{checking, picturing, viewing};
 use crate::names::{
     deleting, empty_disk, making, putting, renaming, storing, taking, taking_records,
