@@ -84,6 +84,7 @@ COMMANDS = [
     command(TAKES, f"copy {IMAGE} {COPY}"),
     command(CHANGES, f"repair {IMAGE}"),
     command(CHANGES, f"repair {IMAGE} --free"),
+    command(CHANGES, f"repair {IMAGE} --sides"),
     command(CHANGES, f"make {IMAGE} ADDRESS --length 40"),
     command(CHANGES, f"store {IMAGE} NOTES {RECORDS}"),
     command(CHANGES, f"store {IMAGE} NOTES {RECORDS} --fields"),

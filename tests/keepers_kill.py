@@ -4,11 +4,11 @@ what it left:
 
     tests/keepers_kill.py PROGRAM [KILLS] [SEED] [FOLDER]
 
-PROGRAM is what `tools/program` prints. It is killed (SIGKILL) at random moments, a
-quarter of KILLS each in `repair --free`, in `store`, in `make`, and in `put`, `rename` or `delete`, on a disk with other files;
-images lie in FOLDER (/var/tmp), which has to be on a disk, so that each sync takes its time. After each kill
+PROGRAM is what `tools/program` prints. It is killed (SIGKILL) at random moments, a fifth of KILLS each in `repair --free`,
+in `repair --sides --free`, in `store`, in `make`, and in `put`, `rename` or `delete`, on a disk with other files; images lie in FOLDER (/var/tmp), which has to be on a disk, so that each sync takes its time. After each kill
 - `check` says OK, or `repair --free` makes it so, and is killed some times itself before; nobody is told IN USE. The disk
-  to repair has side sectors that list more blocks than there are, so it is repaired with `--accept-loss`;
+  to repair has side sectors that list more blocks than there are, so it is repaired with `--accept-loss`. That of
+  `repair --sides` has side sectors of zeros;
 - all other files are as they were, byte for byte;
 - `repair`: each sector is the old one or the mended one; `make`: the file isn't there, or has empty records;
 - `rename`: the file has the old name or the new one, and its records; `put` and `delete`: it is there whole, or isn't;
@@ -40,6 +40,9 @@ class Killer:
         self.image = folder / "disk.d64"
         self.kills = self.amid = self.healings = self.repairs_killed = 0
 
+    # how a disk is repaired
+    mends = ("repair", "--free", "--accept-loss")
+
     def timed(self, *words):
         started = time.monotonic()
         lines = sure(self.program, *words)
@@ -60,16 +63,16 @@ class Killer:
         return Disk(self.image.read_bytes())
 
     def heal(self, seconds):
-        """`check` says OK, or `repair --free` makes it so."""
+        """`check` says OK, or the repair makes it so."""
         status, out, err = run(self.program, "check", self.image)
         if (status, out) == (0, ["OK"]):
             return
         self.healings += 1
         want(status == 1 and not err, f"check ends with {status}, {err}")
         for _ in range(self.draw.choice([0, 0, 1, 2])):
-            _, dead = self.killed(seconds, "repair", "--free", "--accept-loss", self.image)
+            _, dead = self.killed(seconds, *self.mends, self.image)
             self.repairs_killed += dead
-        want(sure(self.program, "repair", "--free", "--accept-loss", self.image)[-1:] == ["OK"], "repair doesn't end in OK")
+        want(sure(self.program, *self.mends, self.image)[-1:] == ["OK"], "repair doesn't end in OK")
         want(sure(self.program, "check", self.image) == ["OK"], "check isn't OK behind a repair")
 
 
@@ -113,18 +116,25 @@ class Repairs(Killer):
         self.hurt = Disk(self.right.image)
         for entry in self.right.entries():
             if entry.kind == RELATIVE:
-                self.hurt.put(entry.place, entry.at + 30, self.draw.randbytes(2))
-                sides = self.right.sides(entry)
-                used = min(POINTERS, len(self.right.chain(entry.first)[0]))
-                self.hurt.put(sides[0], 16 + 2 * used, self.draw.randbytes(8))
+                self.hurt_file(entry)
         for track in range(1, 36):
             sector = self.draw.randrange(sectors_of(track))
             self.hurt.put((18, 0), 4 * track + 1 + sector // 8, self.draw.randbytes(1))
         self.image.write_bytes(self.hurt.image)
-        _, self.seconds = self.timed("repair", "--free", "--accept-loss", self.image)
+        _, self.seconds = self.timed(*self.mends, self.image)
         want(self.without_spare(self.held()) == self.without_spare(self.right), "the mended disk isn't that of before")
         self.right = self.held()
         self.moved = self.right.moved(self.hurt)
+
+    def hurt_file(self, entry):
+        """A wrong count, and bytes behind the blocks that the first side sector lists."""
+        self.hurt.put(entry.place, entry.at + 30, self.draw.randbytes(2))
+        used = min(POINTERS, len(self.right.chain(entry.first)[0]))
+        self.hurt.put(self.right.sides(entry)[0], 16 + 2 * used, self.draw.randbytes(8))
+
+    def is_printed(self, out, left):
+        """Whether this may be printed while these sectors are to be mended: nothing, until all are."""
+        return not out or not left
 
     def without_spare(self, disk):
         """The image, with the map's bits of sectors that there aren't cleared."""
@@ -137,21 +147,34 @@ class Repairs(Killer):
 
     def kill(self):
         self.image.write_bytes(self.hurt.image)
-        out, dead = self.killed(1.1 * self.seconds, "repair", "--free", "--accept-loss", self.image)
+        out, dead = self.killed(1.1 * self.seconds, *self.mends, self.image)
         held = self.held()
         done = [place for place in self.moved if held.sector(place) == self.right.sector(place)]
         want(all(held.sector(place) == self.hurt.sector(place) for place in self.moved if place not in done),
              "a sector is neither the old nor the mended one")
         left = held.moved(self.right)
         want(set(left) <= set(self.moved), "another sector was written")
-        want(not out or not left, f"printed {out} before all was mended")
+        want(self.is_printed(out, left), f"printed {out} before {left} were mended")
         want(held.files() == self.right.files(), "a repair changed a file")
         self.kills += dead
         self.amid += dead and 0 < len(done) < len(self.moved)
         self.heal(self.seconds)
-        again = sure(self.program, "repair", "--free", "--accept-loss", self.image)
+        again = sure(self.program, *self.mends, self.image)
         want(again == ["OK"], f"repair again prints {again}")
         want(self.held().image == self.right.image, f"repaired again, {left} aren't as of a run without a kill")
+
+
+class Sides(Repairs):
+    """A disk with a wrong map and no side sectors."""
+
+    mends = ("repair", "--sides", "--free", "--accept-loss")
+
+    def hurt_file(self, entry):
+        self.hurt.put(self.right.sides(entry)[0], 0, bytes(256))
+
+    def is_printed(self, out, left):
+        """Only side sectors, once all of them are built; the map is mended behind them."""
+        return not out or set(left) <= {(18, 0)}
 
 
 class Stores(Killer):
@@ -328,10 +351,10 @@ def main():
     draw = random.Random(int(sys.argv[3]) if len(sys.argv) > 3 else 1541)
     above = sys.argv[4] if len(sys.argv) > 4 else "/var/tmp"
     told = []
-    for what in (Repairs, Stores, Makes, Edits):
+    for what in (Repairs, Sides, Stores, Makes, Edits):
         with tempfile.TemporaryDirectory(dir=above) as folder:
             killer = what(program, Path(folder), draw)
-            while killer.kills < kills // 4:
+            while killer.kills < kills // 5:
                 killer.begin()
                 for _ in range(20):
                     killer.kill()

@@ -9,6 +9,7 @@ use Rattle.clap.specs.declared.parser.matches.ArgMatches.{ArgMatches}
 use Rattle.command_table.specs.Grammar.{ledger, value}
 use Rattle.command_line.specs.Jobs.{Has, IsHeard, IsJob, IsNoJob, IsParse}
 use Rattle.command_line.specs.Flags.{is_given}
+use Rattle.command_line.specs.Forms.{effect_in, loss_in, unowned_in}
 use Rattle.command_line.specs.Numbers.{tills_in}
 use Rattle.ledger_jobs.specs.Jobs.{IsFit}
 use Rattle.ledger_jobs.specs.declared.jobs.Job.{Job}
@@ -91,6 +92,22 @@ pub format-fit : (image : Bor Text) (tills : ℕ) (new : Bool) → (1 ≤ tills)
     → IsFit (if new then jobs.FormatNew image tills else jobs.Format image tills)
 format-fit image tills true fit = fit
 format-fit image tills false fit = fit
+
+-- that of `repair`: with --sides the side sectors are built anew first
+pub repair-met : (found : Option (Text × List Row)) (rows : List Row) (image : Bor Text) (sides : Bool)
+    → is_given (codes "sides") rows ≡ sides → found ≡ Some (codes "repair", rows) → image.now ≡ value (codes "IMAGE") rows
+    → IsJob found (if sides then jobs.RepairSides image (loss_in rows) (unowned_in rows) (effect_in rows)
+    else jobs.Repair image (loss_in rows) (unowned_in rows) (effect_in rows))
+repair-met found rows image true given is by-image =
+    record { rows = rows; is = is; holds = (by-image, refl, refl, refl, given) }
+repair-met found rows image false given is by-image =
+    record { rows = rows; is = is; holds = (by-image, refl, refl, refl, given) }
+
+pub repair-fit : (rows : List Row) (image : Bor Text) (sides : Bool)
+    → IsFit (if sides then jobs.RepairSides image (loss_in rows) (unowned_in rows) (effect_in rows)
+    else jobs.Repair image (loss_in rows) (unowned_in rows) (effect_in rows))
+repair-fit rows image true = tt
+repair-fit rows image false = tt
 
 -- and with --sync, with --log or without both that of `play`; with both there is none
 pub play-met : (found : Option (Text × List Row)) (rows : List Row) (image script : Bor Text) (synced logged : Bool)

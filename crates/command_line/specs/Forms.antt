@@ -1,8 +1,10 @@
 -- The forms that the words ask for. Our own.
 use Rattle.std.specs.Prelude.{◌≡◌, false, List, Option, Some, None, Result, Ok, Err, codes, if◌then◌else◌, ⊤}
-use Rattle.clap.specs.Words.{Row}
+use Rattle.std.specs.Borrow.{Bor}
+use Rattle.clap.specs.Words.{Row, Text}
 use Rattle.shop_commands.specs.declared.durability.Durability.{Durability}
 use Rattle.ledger_jobs.specs.declared.jobs.Effect.{Effect}
+use Rattle.ledger_jobs.specs.declared.jobs.Job.{Job}
 use Rattle.ledger_jobs.specs.declared.jobs.Overview.{Overview}
 use Rattle.ledger_jobs.specs.declared.jobs.Loss.{Loss}
 use Rattle.ledger_jobs.specs.declared.jobs.Taking.{Taking}
@@ -22,6 +24,7 @@ use Rattle.command_line.specs.Positions.{AsksForColumns, AsksForNone, HasNoColum
 use Rattle.command_line.specs.declared.faults.JobFault.{JobFault}
 use Rattle.shop_commands.specs.declared.durability.Durability.TheVariants as durabilities
 use Rattle.ledger_jobs.specs.declared.jobs.Effect.TheVariants as effects
+use Rattle.ledger_jobs.specs.declared.jobs.Job.TheVariants as jobs
 use Rattle.ledger_jobs.specs.declared.jobs.Overview.TheVariants as overviews
 use Rattle.ledger_jobs.specs.declared.jobs.Loss.TheVariants as losses
 use Rattle.ledger_jobs.specs.declared.jobs.Taking.TheVariants as takings
@@ -114,6 +117,12 @@ unowned_in rows = if is_given (codes "free") rows then unowneds.Freed else unown
 -- whether it writes the image: it does, but with --dry-run it only prints
 abbrev pub effect_in : List Row → Effect
 effect_in rows = if is_given (codes "dry-run") rows then effects.Printed else effects.Written
+
+-- the job that repairs an image: with --sides its side sectors are built anew first
+abbrev pub repair_job : List Row → Bor Text → Job
+repair_job rows image =
+    if is_given (codes "sides") rows then jobs.RepairSides image (loss_in rows) (unowned_in rows) (effect_in rows)
+    else jobs.Repair image (loss_in rows) (unowned_in rows) (effect_in rows)
 
 -- the flags ask for what is taken in this form, and of these files
 abbrev pub IsTakenBy : Taking → List Row → Type 0

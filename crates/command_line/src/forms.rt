@@ -2,7 +2,7 @@
 ghost use Rattle.std.specs.Prelude.{◌≡◌};
 ghost use Rattle.clap.specs.Words.{found_of, rows_of};
 ghost use Rattle.command_line.specs.Forms.{record_form as of_set};
-ghost use Rattle.command_line.specs.Forms.{effect_in, loss_in, unowned_in, serve_durability as of_serve, way_in};
+ghost use Rattle.command_line.specs.Forms.{effect_in, loss_in, repair_job, unowned_in, serve_durability as of_serve, way_in};
 ghost use Rattle.command_line.specs.Forms.{AreAskedColumns, IsAskedForm, byte_form_in, findings_in, name_form_in, set_in};
 ghost use Rattle.command_line.specs.Forms.{candidates_in, choice_in};
 
@@ -12,7 +12,7 @@ use crate::values::is_given;
 use clap::ArgMatches;
 use file_rescue::Choice;
 use keeper_commands::{ByteForm, Candidates, RecordForm};
-use ledger_jobs::{Columns, Effect, Findings, Loss, Unowned, Way};
+use ledger_jobs::{Columns, Effect, Findings, Job, Loss, Unowned, Way};
 use petscii_text::CharacterSet;
 use shop_commands::{Durability, NameForm};
 
@@ -50,7 +50,7 @@ pub(crate) fn loss<'a>(matches: &ArgMatches<'a>) -> Loss
 }
 
 /// What a repair does with sectors that are taken and no file's.
-pub(crate) fn unowned<'a>(matches: &ArgMatches<'a>) -> Unowned
+fn unowned<'a>(matches: &ArgMatches<'a>) -> Unowned
     ensures { result ≡ unowned_in (rows_of (found_of matches.now)) }
 {
     if is_given(matches, "free") {
@@ -61,13 +61,35 @@ pub(crate) fn unowned<'a>(matches: &ArgMatches<'a>) -> Unowned
 }
 
 /// Whether a repair writes the image.
-pub(crate) fn effect<'a>(matches: &ArgMatches<'a>) -> Effect
+fn effect<'a>(matches: &ArgMatches<'a>) -> Effect
     ensures { result ≡ effect_in (rows_of (found_of matches.now)) }
 {
     if is_given(matches, "dry-run") {
         Effect::Printed
     } else {
         Effect::Written
+    }
+}
+
+/// The job that repairs an image.
+pub(crate) fn repairing<'a>(matches: &ArgMatches<'a>, image: &'a str) -> Job<'a>
+    ensures { result ≡ repair_job (rows_of (found_of matches.now)) image.entry }
+{
+    let (loss, unowned, effect) = (loss(matches), unowned(matches), effect(matches));
+    if is_given(matches, "sides") {
+        Job::RepairSides {
+            image,
+            loss,
+            unowned,
+            effect,
+        }
+    } else {
+        Job::Repair {
+            image,
+            loss,
+            unowned,
+            effect,
+        }
     }
 }
 

@@ -7,7 +7,7 @@ ghost use Rattle.command_line.specs.Jobs.{IsHeard, IsJob, IsNoJob, IsParse, is_e
 
 use crate::faults::JobFault;
 use crate::forms::{
-    byte_form, candidates, choice, effect, loss, name_form, serve_durability, unowned, way,
+    byte_form, candidates, choice, loss, name_form, repairing, serve_durability, way,
 };
 use crate::images::{checking, picturing, viewing};
 use crate::names::{
@@ -57,12 +57,7 @@ fn job_of<'a>(alloc: Global, matches: &ArgMatches<'a>) -> Result<Job<'a>, JobFau
             image,
             folder: value_of(found, "FOLDER"),
         }),
-        "repair" => Ok(Job::Repair {
-            image,
-            loss: loss(found),
-            unowned: unowned(found),
-            effect: effect(found),
-        }),
+        "repair" => Ok(repairing(found, image)),
         "records" => taking_records(found, image),
         "bytes" => {
             let what = Taking::Bytes(byte_form(found), candidates(found));

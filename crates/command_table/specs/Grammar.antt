@@ -82,10 +82,10 @@ abbrev pub extract : App
 extract = with_rule (with_rule (with_rule (over_image (codes "extract")) (required (codes "FOLDER")))
     (flag (codes "deleted"))) (flag (codes "scan"))
 
--- repair IMAGE [--accept-loss] [--free] [--dry-run]
+-- repair IMAGE [--accept-loss] [--free] [--dry-run] [--sides]
 abbrev pub repair : App
-repair = with_rule (with_rule (may_accept_loss (over_image (codes "repair"))) (flag (codes "free")))
-    (flag (codes "dry-run"))
+repair = with_rule (with_rule (with_rule (may_accept_loss (over_image (codes "repair"))) (flag (codes "free")))
+    (flag (codes "dry-run"))) (flag (codes "sides"))
 
 -- a subcommand that takes a file that isn't closed too, if --unclosed is given
 abbrev pub may_be_unclosed : App → App

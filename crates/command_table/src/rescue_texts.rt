@@ -58,7 +58,8 @@ pub(crate) const REPAIR: &str = "\
 Prints MENDED and the sector for each sector that it changed, then OK. No file
 changes. Sectors that are marked as taken and belong to no file stay taken:
 KEPT and their number instead of OK. With --free it prints FREED and the sector
-for each of them.
+for each of them. With --sides it first builds the side sectors of relative
+files anew from their chains, where they disagree, and prints MENDED for each.
 
 Exit status:
   0  the disk is clean

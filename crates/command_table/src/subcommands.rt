@@ -6,8 +6,8 @@ use crate::shop_texts::{COPY, DRY, FORMAT, PLAY, SERVE, SHOW};
 use crate::values::{
     ACCEPT_LOSS, ALL, COMPARE, COPY_PATH, DELETED, DISK_ID, DISK_NAME, DRY_RUN, FIELDS, FILE,
     FILE_TYPE, FOLDER, FREE_SECTORS, IMAGE, IMAGES, IN_PLACE, JSON, LENGTH, LOG, MIXED, NAME,
-    NEW_NAME, OLD_NAME, ONLY_NEW, PLACE, POSITIONS, RECORD_LINES, SCAN, SCRIPT, SHEET, SVG, SYNC,
-    TEXT, TILLS, UNCLOSED, UNSYNCED, Value,
+    NEW_NAME, OLD_NAME, ONLY_NEW, PLACE, POSITIONS, RECORD_LINES, SCAN, SCRIPT, SHEET, SIDES, SVG,
+    SYNC, TEXT, TILLS, UNCLOSED, UNSYNCED, Value,
 };
 
 /// A subcommand, and what help says of it: in a line, and below its words.
@@ -88,12 +88,12 @@ pub(crate) const SUBCOMMANDS: [Subcommand; 23] = [
         more: EXTRACT,
         values: &[IMAGE, FOLDER, DELETED, SCAN],
     },
-    // repair IMAGE [--accept-loss] [--free] [--dry-run]
+    // repair IMAGE [--accept-loss] [--free] [--dry-run] [--sides]
     Subcommand {
         name: "repair",
         about: "Corrects the map, the side sectors and the block counts of a disk",
         more: REPAIR,
-        values: &[IMAGE, ACCEPT_LOSS, FREE_SECTORS, DRY_RUN],
+        values: &[IMAGE, ACCEPT_LOSS, FREE_SECTORS, DRY_RUN, SIDES],
     },
     // trim IMAGE
     Subcommand {

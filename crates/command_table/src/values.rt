@@ -297,6 +297,14 @@ pub(crate) const DRY_RUN: Value = Value {
     help: "Prints the same lines, and writes nothing",
 };
 
+/// The flag that builds side sectors anew.
+pub(crate) const SIDES: Value = Value {
+    name: "sides",
+    word: Some("sides"),
+    count: Count::Flag,
+    help: "Builds side sectors that disagree with their files anew first",
+};
+
 /// The flag for a poster.
 pub(crate) const SVG: Value = Value {
     name: "svg",

@@ -227,6 +227,8 @@ module _ {F : Type 0} (position : F → Option ℕ) (bytes contents : F → Opti
       (after ≡ file) × (new ≡ old) × (end ≡ Err (refusals.Run run.File))
   IsJobRun told (jobs.Describe paths) image script file after old new end =
       (after ≡ file) × (new ≡ old) × (end ≡ Err (refusals.Run run.File))
+  IsJobRun told (jobs.RepairSides path loss unowned effect) image script file after old new end =
+      (after ≡ file) × (new ≡ old) × (end ≡ Err (refusals.Run run.File))
   IsJobRun told (jobs.Extract choice path folder) image script file after old new end =
       (after ≡ file) × (new ≡ old) × (end ≡ Err (refusals.Run run.File))
 

@@ -86,8 +86,8 @@ fn obey<F: Write + Seek + Drop, W: Write>(
         Job::Several { .. } | Job::Sheet { .. } | Job::Describe { .. } | Job::Trim { .. } => {
             (file, Err(Refusal::Run(RunFault::File)))
         }
-        // it needs a folder
-        Job::Extract { .. } => (file, Err(Refusal::Run(RunFault::File))),
+        // two steps over one file, or a folder
+        Job::RepairSides { .. } | Job::Extract { .. } => (file, Err(Refusal::Run(RunFault::File))),
     }
 }
 
@@ -102,9 +102,10 @@ fn obey<F: Write + Seek + Drop, W: Write>(
 /// a job ends with 3 and `FILE`, and nothing is printed. A job that only reads leaves it as it was. There are no logs:
 /// `Serve` and `PlayLogged` write the image itself.
 ///
-/// Three kinds of job end with 3 and `FILE`:
+/// Four kinds of job end with 3 and `FILE`:
 /// - a job over several images, since only one has its bytes here: call `overview_run` for each;
 /// - `Extract`, since there is no folder: call `extract_run` over one;
+/// - `RepairSides`: call `rebuild_image` of `keeper_commands`, and then `repair_image`;
 /// - `Trim`, which reports on standard error: call `trim_run`.
 ///
 /// The file is handed each sector at 256 times its index, before memory takes it, and nothing else; `Format`, `New` and

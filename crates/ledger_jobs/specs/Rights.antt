@@ -33,6 +33,7 @@ first_file (jobs.Dry script) = Some script.now
 first_file (jobs.Serve image way durability loss) = Some image.now
 first_file (jobs.Copy image copy) = Some image.now
 first_file (jobs.Repair image loss unowned effect) = Some image.now
+first_file (jobs.RepairSides image loss unowned effect) = Some image.now
 first_file (jobs.Extract choice image folder) = Some image.now
 first_file (jobs.Take what image name) = Some image.now
 first_file (jobs.Make image name size loss) = Some image.now
@@ -109,6 +110,7 @@ module _ {H : Type 0} (rights : Rights H) (host : H) where
   MayDo (jobs.Serve image way durability loss) = MayChangeImage image.now
   MayDo (jobs.Copy image copy) = MayReadImage image.now × MayMakeImage copy.now
   MayDo (jobs.Repair image loss unowned effect) = MayRepair effect image.now
+  MayDo (jobs.RepairSides image loss unowned effect) = MayRepair effect image.now
   MayDo (jobs.Extract choice image folder) = MayReadImage image.now × MayFill folder.now
   MayDo (jobs.Take what image name) = MayReadImage image.now
   MayDo (jobs.Make image name size loss) = MayChangeImage image.now

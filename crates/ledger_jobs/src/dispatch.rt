@@ -30,6 +30,7 @@ use crate::serving_images::do_serving;
 use crate::serving_logs::do_logged_serving;
 use crate::sheets::do_sheet;
 use crate::shop_runs::ended;
+use crate::side_repairs::do_repair_sides;
 use crate::viewing::do_viewing;
 use disk_layout::Fault;
 use host_files::HostFiles;
@@ -136,7 +137,7 @@ where
 ///
 /// `InUse` if another program has the image; `Log` if its log gives no image; `File` if a file couldn't be opened or
 /// read. The other faults are those of `reading_run`, `format_image`, `new_run`, `play_durably`, `play_logged`,
-/// `serve_guarded`, `serve_logged_guarded`, `copy_run`, `repair_guarded`, `make_guarded`, `rename_guarded`,
+/// `serve_guarded`, `serve_logged_guarded`, `copy_run`, `repair_guarded`, `rebuild_image`, `make_guarded`, `rename_guarded`,
 /// `delete_guarded`, `put_guarded`, `store_guarded`, `take_told`, `extract_run`, `listing_run`, `drawing_run`,
 /// `comparing_run` and `view_run`. `Trim` ends with `File`, since it reports on standard error: call `do_trim`. What is
 /// wrong with one of several images is printed; only a failed output ends the job before the last of them.
@@ -189,6 +190,12 @@ where
             unowned,
             effect,
         } => do_repair(rt, image, unowned, effect, loss, out),
+        Job::RepairSides {
+            image,
+            loss,
+            unowned,
+            effect,
+        } => do_repair_sides(rt, image, unowned, effect, loss, out),
         Job::Make {
             image,
             ref name,

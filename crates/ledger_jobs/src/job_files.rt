@@ -22,6 +22,7 @@ pub(crate) fn first_file<'a>(job: &Job<'a>) -> Option<&'a str>
         Job::Repair { image, .. } | Job::Take { image, .. } | Job::Draw { image, .. } => Some(
             image,
         ),
+        Job::RepairSides { image, .. } => Some(image),
         Job::Extract { image, .. } | Job::Rename { image, .. } | Job::Delete { image, .. } => Some(
             image,
         ),

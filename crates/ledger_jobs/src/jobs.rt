@@ -214,6 +214,17 @@ pub enum Job<'a> {
         /// Whether the image is written.
         effect: Effect,
     },
+    /// The same of an image whose side sectors are built anew first, from the chains of their files.
+    RepairSides {
+        /// The image's path.
+        image: &'a str,
+        /// What is done if the disk has lost a part of a file.
+        loss: Loss,
+        /// What is done with sectors that are taken and no file's.
+        unowned: Unowned,
+        /// Whether the image is written.
+        effect: Effect,
+    },
     /// All files of an image that is read, made in a folder that isn't there yet.
     Extract {
         /// Which entries are taken out.

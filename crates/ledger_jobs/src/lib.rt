@@ -39,6 +39,7 @@ mod serving_logs;
 mod serving_runs;
 mod sheets;
 mod shop_runs;
+mod side_repairs;
 mod trimming;
 mod viewing;
 mod watched_files;

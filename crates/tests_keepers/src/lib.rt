@@ -42,6 +42,8 @@ mod rescue;
 #[cfg(test)]
 mod returning_rows;
 #[cfg(test)]
+mod side_rows;
+#[cfg(test)]
 mod storing_rows;
 #[cfg(test)]
 mod text_rows;

@@ -2,7 +2,7 @@
 use test_runtime::Stored;
 
 /// Changes of an image: a name, the place of the bytes, and the bytes.
-const HURTS: [(&[u8], u64, &[u8]); 24] = [
+const HURTS: [(&[u8], u64, &[u8]); 26] = [
     // 17/0 links to itself.
     (b"LOOP", 86016, b"\x11\x00"),
     // Track 1 has a free sector too few in the map at 18/0.
@@ -14,6 +14,8 @@ const HURTS: [(&[u8], u64, &[u8]); 24] = [
     (b"FORMAT", 91394, b"B"),
     // The entry of STOCK in 18/1 has a block too many.
     (b"COUNT", 91678, b"\x03"),
+    // And two blocks too many.
+    (b"MORE COUNTED", 91678, b"\x04"),
     // 18/1 links to a sector outside track 18, so that the directory's sectors are no chain on it.
     (b"NO DIRECTORY", 91648, b"\x13\x00"),
     // 18/1 links to itself.
@@ -37,6 +39,8 @@ const HURTS: [(&[u8], u64, &[u8]); 24] = [
     ),
     // 17/0, the only block of STOCK, with zeros alone.
     (b"STOCK LOST", 86016, &[0; 256]),
+    // 17/1, the only side sector of STOCK, with zeros alone.
+    (b"SIDE LOST", 86272, &[0; 256]),
     (b"STICK FOR STOCK", 91653, b"STICK"),
     (b"RESTS FOR REQUESTS", 91685, b"RESTS"),
     (b"CARD 1", 86018, b"K,00002,000000001\r"),

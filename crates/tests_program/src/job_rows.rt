@@ -131,6 +131,10 @@ job ledger repair --dry-run a.d64
 prints repair, a.d64, , 0, printed
 job ledger repair a.d64 --dry-run --free --accept-loss
 prints repair, a.d64, , 0, loss accepted, freed, printed
+job ledger repair --sides a.d64
+prints repair sides, a.d64, , 0
+job ledger repair a.d64 --free --sides --dry-run --accept-loss
+prints repair sides, a.d64, , 0, loss accepted, freed, printed
 job ledger make a.d64 A --length 30 --accept-loss
 prints make, a.d64, , 30, loss accepted
 job ledger store a.d64 --accept-loss A r.txt
@@ -197,6 +201,10 @@ prints fault 1, status 2
 job ledger --new format a.d64 --tills 2
 prints fault 1, status 2
 job ledger repair a.d64 --free --free
+prints fault 1, status 2
+job ledger repair a.d64 --sides --sides
+prints fault 1, status 2
+job ledger check a.d64 --sides
 prints fault 1, status 2
 job ledger make a.d64 A
 prints fault 1, status 2

@@ -57,6 +57,7 @@ fn row_of<'a>(job: &Job<'a>) -> Row<'a> {
         Job::Copy { image, copy } => ("copy", image, copy, 0),
         Job::Extract { image, folder, .. } => ("extract", image, folder, 0),
         Job::Repair { image, .. } => ("repair", image, "", 0),
+        Job::RepairSides { image, .. } => ("repair sides", image, "", 0),
         Job::Take {
             what: Taking::Records(..),
             image,
@@ -241,6 +242,12 @@ fn chosen_by(job: &Job<'_>) -> [&'static str; 3] {
             [said_of(*loss), unsynced, in_place]
         }
         Job::Repair {
+            loss,
+            unowned,
+            effect,
+            ..
+        }
+        | Job::RepairSides {
             loss,
             unowned,
             effect,

@@ -60,6 +60,8 @@ mod several_rows;
 #[cfg(test)]
 mod sheet_rows;
 #[cfg(test)]
+mod side_rows;
+#[cfg(test)]
 mod size_rows;
 #[cfg(test)]
 mod stored_rows;

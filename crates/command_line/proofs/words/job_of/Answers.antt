@@ -14,6 +14,7 @@ use Rattle.command_line.proofs.Pictures.{picturing-met}
 use Rattle.command_line.proofs.Named.{making-met, named-met, new-met, putting-met, records-met, renaming-met}
 use Rattle.command_line.proofs.Named.{storing-met}
 use Rattle.command_line.proofs.Parses.{format-fit, format-met, met-has, met-is, play-met}
+use Rattle.command_line.proofs.Parses.{repair-fit, repair-met}
 use Rattle.command_line.proofs.Views.{checking-met, viewing-met}
 use Rattle.command_line.proofs.words.job_of.Goals as goal
 
@@ -105,11 +106,15 @@ returns-in-extract c = record {
 }
 
 pub returns-in-repair : goal.returns-in-repair
-returns-in-repair c = record {
-  job = met-has c.parsed_subcommand.result _ c.in-Some.name c.in-Some.found _ _ c.parsed_subcommand.ensures c.in-Some.is c.in-repair.is
-      (c.value_of-image.ensures, c.loss-in-repair.ensures, c.unowned.ensures, c.effect.ensures);
-  fit = tt;
-}
+returns-in-repair c =
+    let rows = rows_of (found_of c.in-Some.found.now) in
+    let sides = is_given (codes "sides") rows in
+    let is = met-is c.parsed_subcommand.result _ c.in-Some.name c.in-Some.found _ c.parsed_subcommand.ensures c.in-Some.is c.in-repair.is in
+    record {
+      job = subst (IsJob _) (sym c.repairing.ensures) (repair-met _ rows c.value_of-image.result sides refl is
+          c.value_of-image.ensures);
+      fit = subst IsFit (sym c.repairing.ensures) (repair-fit rows c.value_of-image.result sides);
+    }
 
 pub returns-in-records : goal.returns-in-records
 returns-in-records c =

@@ -1,0 +1,133 @@
+//! The repair of an image whose side sectors are built anew first, over its file or over a copy of it in memory.
+ghost use Rattle.std.specs.Prelude.{◌≡◌, IfOk};
+ghost use Rattle.d64_image.specs.Keeps.{Agrees};
+ghost use Rattle.d64_image.specs.Memory.{disk_image, sectors_in};
+ghost use Rattle.ledger_jobs.specs.Rights.{MayChangeImage, MayRepair};
+
+use crate::jobs::{Effect, Loss, Unowned};
+use crate::keeper_files::image_to_keep;
+use crate::losses::{dry_repair_guarded, loss_refusal, repair_guarded};
+use crate::readings::image_at;
+use crate::refusals::Refusal;
+use d64_image::{KeptMirror, MemDisk, SectorFile};
+use disk_layout::Fault;
+use host_files::HostFiles;
+use keeper_commands::{KeepFault, load, rebuild_image};
+use shop_commands::{EndedFile, Locks};
+use side_rebuilding::Shortened;
+use std::alloc::Global;
+use std::fs::OpenFile;
+use std::io::{Read, Write};
+
+/// What is done with a file that is shorter than its side sectors or its block count say.
+fn shortened(loss: Loss) -> Shortened {
+    match loss {
+        Loss::Refused => Shortened::Refused,
+        Loss::Accepted => Shortened::Accepted,
+    }
+}
+
+/// The disk of an image with its side sectors rebuilt, in memory. What `rebuild_image` prints goes to `out`.
+fn rebuilt_copy<W: Write>(
+    alloc: Global,
+    image: &[u8],
+    loss: Loss,
+    out: &mut W,
+) -> Result<MemDisk, KeepFault> {
+    let mut copy = load(alloc, image)?;
+    rebuild_image(alloc, image, shortened(loss), &mut copy, out)?;
+    Ok(copy)
+}
+
+/// Judges in memory, before anything is written or printed, that the side sectors can be rebuilt, and that no file of
+/// the disk is cut short then, unless a loss is accepted.
+fn judge_sides(alloc: Global, image: &[u8], loss: Loss) -> Result<(), Refusal> {
+    let mut lines = Vec::new(alloc);
+    match rebuilt_copy(alloc, image, loss, &mut lines) {
+        Err(fault) => Err(Refusal::Keep(fault)),
+        Ok(copy) => match loss_refusal(alloc, copy.bytes(), loss) {
+            Some(refusal) => Err(refusal),
+            None => Ok(()),
+        },
+    }
+}
+
+/// Rebuilds the side sectors on the disk of the image that the file keeps, as `rebuild_image` does. Each sector is
+/// handed to the file before memory takes it. Returns the file, and the disk that it keeps. `Device` if the file failed.
+fn write_rebuilt<F: SectorFile + Drop, W: Write>(
+    alloc: Global,
+    image: &[u8],
+    loss: Loss,
+    file: F,
+    out: &mut W,
+) -> Result<(F, MemDisk), KeepFault>
+    // if it is known what the file keeps, it is this image
+    requires agrees { Agrees (F.keeps.kept file) (sectors_in image.now) }
+    // and then it is that of the disk
+    ensures kept { IfOk result (λ left. Agrees (F.keeps.kept left.0) (disk_image left.1)) }
+{
+    let disk = load(alloc, image)?;
+    let mut mirror = KeptMirror::new(file, disk);
+    let ended = rebuild_image(alloc, image, shortened(loss), &mut mirror, out);
+    if mirror.is_broken() {
+        return Err(KeepFault::Device);
+    }
+    let left = mirror.into_inner();
+    match ended {
+        Ok(()) => Ok(left),
+        Err(fault) => Err(fault),
+    }
+}
+
+/// Rebuilds the side sectors of the image at a path, and then repairs it, over its file.
+fn do_written_repair<F, R, W>(
+    rt: &R,
+    path: &str,
+    free: bool,
+    loss: Loss,
+    out: &mut W,
+) -> Result<Option<Fault>, Refusal>
+where
+    F: EndedFile + Locks + OpenFile + Drop,
+    R: HostFiles<File = F> + AllocGlobal,
+    W: Write,
+    requires image { MayChangeImage R.rights rt.now path.now }
+{
+    let (image, file) = image_to_keep(rt, path)?;
+    judge_sides(rt.alloc(), image.as_slice(), loss)?;
+    match write_rebuilt(rt.alloc(), image.as_slice(), loss, file, out) {
+        Err(fault) => Err(Refusal::Keep(fault)),
+        Ok((file, disk)) => {
+            let (_, ended) = repair_guarded(rt.alloc(), disk.bytes(), free, file, loss, out);
+            ended
+        }
+    }
+}
+
+/// Rebuilds the side sectors of the image at a path, and then repairs it, over its file, or only a copy of it in memory.
+/// Nothing is written or printed if the side sectors can't be rebuilt, or if a file is cut short and no loss is accepted.
+pub(crate) fn do_repair_sides<F, R, W>(
+    rt: &R,
+    path: &str,
+    unowned: Unowned,
+    effect: Effect,
+    loss: Loss,
+    out: &mut W,
+) -> Result<Option<Fault>, Refusal>
+where
+    F: EndedFile + Read + Locks + OpenFile + Drop,
+    R: HostFiles<File = F> + Input + AllocGlobal,
+    W: Write,
+    requires image { MayRepair R.rights rt.now effect path.now }
+{
+    let free = unowned == Unowned::Freed;
+    if effect == Effect::Written {
+        return do_written_repair(rt, path, free, loss, out);
+    }
+    let image = image_at(rt, path)?;
+    judge_sides(rt.alloc(), image.as_slice(), loss)?;
+    match rebuilt_copy(rt.alloc(), image.as_slice(), loss, out) {
+        Ok(copy) => dry_repair_guarded(rt.alloc(), copy.bytes(), free, loss, out),
+        Err(fault) => Err(Refusal::Keep(fault)),
+    }
+}

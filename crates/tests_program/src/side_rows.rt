@@ -1,0 +1,132 @@
+//! Side sectors that are built anew by `repair --sides`. STOCK has the block 17/0 and the side sector 17/1.
+use crate::scenes::each;
+
+/// Images that are repaired: each sector is synced before the next is written, and before the first is read. Then those
+/// that are refused. They have a loop, or a file that was cut short: its entry counts two blocks more than there are, and
+/// the repair may accept that, or its block has zeros alone.
+const WRITTEN: &[u8] = b"
+hurt SIDE LOST
+$ ledger_cli check a.d64
+prints BADSIDE 17/1|
+ends 1
+
+hurt SIDE LOST
+$ ledger_cli repair a.d64
+tells LAYOUT BADSIDE 17/1|
+ends 1
+synced
+syncs 1
+reads-behind 1 sync
+
+hurt SIDE LOST
+$ ledger_cli repair --sides a.d64
+prints MENDED 17/1|OK|
+leaves the shop
+synced
+syncs 2
+reads-behind 1 sync
+size 174848
+
+hurt SIDE LOST
+hurt WRONG MAP
+$ ledger_cli repair a.d64 --sides
+prints MENDED 17/1|MENDED 18/0|OK|
+leaves the shop
+synced
+syncs 3
+reads-behind 1 sync
+
+$ ledger_cli repair --sides a.d64
+prints OK|
+synced
+syncs 1
+reads-behind 1 sync
+
+hurt LOOP
+$ ledger_cli repair --sides a.d64
+tells LAYOUT LOOP 17/0|
+ends 1
+synced
+syncs 1
+reads-behind 1 sync
+
+hurt SIDE LOST
+hurt MORE COUNTED
+$ ledger_cli repair --sides a.d64
+tells LAYOUT BADSIDE 17/1|
+ends 1
+synced
+syncs 1
+reads-behind 1 sync
+
+hurt SIDE LOST
+hurt MORE COUNTED
+$ ledger_cli repair --sides --accept-loss a.d64
+prints MENDED 17/1|MENDED 18/1|OK|
+leaves the shop
+synced
+syncs 3
+reads-behind 1 sync
+
+hurt STOCK LOST
+$ ledger_cli repair --sides a.d64
+tells SHORT 17/0|
+ends 1
+synced
+syncs 1
+reads-behind 1 sync
+
+hurt SIDE LOST
+hurt GEOS
+$ ledger_cli repair --sides a.d64
+tells GEOS|
+ends 1
+synced
+syncs 1
+reads-behind 1 sync
+
+hurt SIDE LOST
+sync 2 fails
+$ ledger_cli repair --sides a.d64
+tells DEVICE|
+ends 3
+leaves the shop
+synced
+syncs 2
+reads-behind 1 sync
+
+resize 174847
+$ ledger_cli repair --sides a.d64
+tells IMAGE SIZE|
+ends 1
+";
+
+#[test]
+fn side_sectors_are_built_anew(rt: HostRuntime) {
+    each(&rt, WRITTEN);
+}
+
+/// What is printed alone, of images that aren't written.
+const PRINTED: &[u8] = b"
+hurt SIDE LOST
+hurt UNOWNED
+$ ledger_cli repair --sides --dry-run a.d64
+prints MENDED 17/1|KEPT 1|
+ends 1
+
+hurt SIDE LOST
+hurt UNOWNED
+$ ledger_cli repair --sides --dry-run --free a.d64
+prints MENDED 17/1|FREED 2/5|MENDED 18/0|OK|
+
+hurt SIDE LOST
+hurt MORE COUNTED
+$ ledger_cli repair --sides --dry-run a.d64
+tells LAYOUT BADSIDE 17/1|
+ends 1
+";
+
+#[test]
+fn side_sectors_are_built_anew_in_memory(rt: HostRuntime) {
+    each(&rt, PRINTED);
+}
