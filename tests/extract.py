@@ -14,7 +14,7 @@ The script compares
 - the status, standard output and standard error;
 - what `bytes` and `records` print of each closed entry (of random images the first two), and how they end;
 - the same with `--unclosed`, of each entry.
-Each image is taken out a second time with `--deleted`.
+Each image is taken out again with `--deleted`, and with `--scan --deleted`.
 It ends at the first difference with status 1, and keeps the image."""
 
 import csv
@@ -77,6 +77,23 @@ def directory(image):
         place = link
 
 
+def looks_like_a_directory(data):
+    """Whether a sector has a link and eight slots as a directory's have, one of them used."""
+    if tuple(data[:2]) != (0, 255) and not (data[0] == 18 and 1 <= data[1] <= 18):
+        return False
+    slots = [data[at:at + 32] for at in range(0, 256, 32)]
+    return all(map(is_slot, slots)) and any(slot[2] for slot in slots)
+
+
+def is_slot(slot):
+    """Whether a drive may have written it."""
+    if slot[2] == 0:
+        return True
+    if slot[2] % 32 > 4:
+        return False
+    return tuple(slot[3:5]) in INDEX if slot[3] else slot[2] not in (0x84, 0xC4)
+
+
 def file_name(number, name, ending):
     kept = "".join(chr(byte) if 32 <= byte <= 122 and byte not in b'"*/:<>?\\' else "_" for byte in name)
     return f"{number:02}-{kept}{ending}"
@@ -90,8 +107,11 @@ def shown(byte):
 class Wanted:
     """The files that an image has to give, the faults in the order in which they are reported, and the chains."""
 
-    def __init__(self, image, deleted=False):
+    def __init__(self, image, deleted=False, scan=False):
         sectors, fault = directory(image)
+        if scan:
+            others = [(18, number) for number in range(1, 19) if (18, number) not in sectors]
+            sectors = [*sectors, *(place for place in others if looks_like_a_directory(sector(image, place)))]
         every = [(place, sector(image, place)[at:at + 32]) for place in sectors for at in range(0, 256, 32)]
         slots = [(place, slot) for place, slot in every if slot[2]]
         chains = [self.reach(image, place, slot) for place, slot in slots]
@@ -163,13 +183,13 @@ class Wanted:
                 f"{shared[0]}/{shared[1]}" if shared else ""]
 
 
-def extracted(program, folder, image, deleted):
+def extracted(program, folder, image, *flags):
     """Takes an image out, and compares all that came of it. Returns how many files there are, and the status."""
     path, out, beside = folder / "disk.d64", folder / "out", folder / "beside"
     path.write_bytes(image)
     beside.write_text("stays")
-    ran = subprocess.run([program, "extract", path, out, *(["--deleted"] if deleted else [])], capture_output=True)
-    wanted = Wanted(image, deleted)
+    ran = subprocess.run([program, "extract", path, out, *flags], capture_output=True)
+    wanted = Wanted(image, "--deleted" in flags, "--scan" in flags)
     want("what stands beside the folder", sorted(entry.name for entry in folder.iterdir()), ["beside", "disk.d64", "out"])
     want("the file beside", (beside.read_text(), path.read_bytes() == image), ("stays", True))
     got = {entry.name: entry.read_bytes() for entry in out.iterdir()}
@@ -310,8 +330,9 @@ def main():
         tried = chain_of(((image, 144) for image in tools_disks(Path(made))), ((image, 2) for image in random_disks(seed, count)))
         for image, most in tried:
             try:
-                extracted(program, Path(work), image, True)
-                had, status = extracted(program, Path(work), image, False)
+                extracted(program, Path(work), image, "--deleted")
+                extracted(program, Path(work), image, "--scan", "--deleted")
+                had, status = extracted(program, Path(work), image)
                 names += taken(program, Path(work), image, most)
             except Differs as error:
                 Path("extract-differs.d64").write_bytes(image)
