@@ -5,8 +5,9 @@ what it left:
     tests/keepers_kill.py PROGRAM [KILLS] [SEED] [FOLDER]
 
 PROGRAM is what `tools/program` prints. It is killed (SIGKILL) at random moments, a fifth of KILLS each in `repair --free`,
-in `repair --sides --free`, in `store`, in `make`, and in `put`, `rename` or `delete`, on a disk with other files; images lie in FOLDER (/var/tmp), which has to be on a disk, so that each sync takes its time. After each kill
-- `check` says OK, or `repair --free` makes it so, and is killed some times itself before; nobody is told IN USE. The disk
+in `repair --sides --free`, in `store`, in `make`, and in `put`, `rename` or `delete`, on a disk with other files;
+images lie in FOLDER (/var/tmp), which has to be on a disk, so that each sync takes its time. After each kill
+- `check` says OK, or the repair makes it so, and is killed some times itself before; nobody is told IN USE. The disk
   to repair has side sectors that list more blocks than there are, so it is repaired with `--accept-loss`. That of
   `repair --sides` has side sectors of zeros;
 - all other files are as they were, byte for byte;
