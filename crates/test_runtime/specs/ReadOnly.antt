@@ -1,9 +1,9 @@
 -- What may be done with files that nobody may write. Our own.
-use Rattle.std.specs.Prelude.{Bool, false, true}
+use Rattle.std.specs.Prelude.{ℕ, Bool, List, bytes_eq, codes, true}
 use Rattle.host_files.specs.Rights.{Look, Read, Use}
 
--- a file may be looked at and read, and nothing else
-abbrev pub only_reads : Use → Bool
-only_reads Look = true
-only_reads Read = true
-only_reads _ = false
+-- every file may be looked at and read; the rest may be done with the one that is named `scratch`
+abbrev pub may_use : Use → List ℕ → Bool
+may_use Look path = true
+may_use Read path = true
+may_use _ path = bytes_eq path (codes "scratch")

@@ -1,6 +1,6 @@
-//! A runtime over whose files only those jobs are proved that write none.
+//! A runtime over whose files only those jobs are proved that write none of them.
 ghost use Rattle.std.specs.Prelude.{true};
-ghost use Rattle.test_runtime.specs.ReadOnly.{only_reads};
+ghost use Rattle.test_runtime.specs.ReadOnly.{may_use};
 
 use crate::given::Given;
 use crate::opened::Opened;
@@ -11,7 +11,8 @@ use std::alloc::{Allocator, Global};
 use std::fs::Metadata;
 use std::io::{self, BufRead, ErrorKind, Lines};
 
-/// A runtime whose files may be read, and not written, made or removed: what would do that is refused.
+/// A runtime whose files may be read, and not written, made or removed, except for one named `scratch`. What would do that
+/// is refused.
 #[derive(Clone, Copy)]
 pub struct ReadOnly<'a>(pub Runtime<'a>);
 
@@ -42,7 +43,7 @@ impl<'a> Input for ReadOnly<'a> {
 impl<'a> HostFiles for ReadOnly<'a> {
     type File = Opened<'a>;
 
-    ghost rights = { record { may = λ _ how _. only_reads how; leads = λ _ _ _. true } };
+    ghost rights = { record { may = λ _ how path. may_use how path; leads = λ _ _ _. true } };
 
     fn look_at(&self, path: &str) -> io::Result<Metadata> {
         self.0.look_at(path)
