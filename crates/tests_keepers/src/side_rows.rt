@@ -3,8 +3,10 @@
 use crate::comparing::same_at;
 use crate::disks::{Change, changed};
 use crate::outputs::{Full, is_told};
-use keeper_commands::rebuild_image;
+use d64_image::MemDisk;
+use keeper_commands::{KeepFault, rebuild_image};
 use side_rebuilding::Shortened;
+use std::io::Write;
 use std::process::Abort;
 
 /// STOCK's side sector, with nothing but zeros.
@@ -66,6 +68,23 @@ const REBUILT: [(&[Change], &str, &str, &[Change]); 11] = [
     ),
 ];
 
+/// Rebuilds a disk in memory that holds this image: how that ends, and the disk.
+fn rebuilt<W: Write>(
+    rt: &(impl Abort + AllocGlobal),
+    image: &[u8],
+    shortened: Shortened,
+    out: &mut W,
+) -> (Result<(), KeepFault>, MemDisk) {
+    match MemDisk::load(rt.alloc(), image) {
+        Ok(disk) => {
+            let mut disk = disk;
+            let ended = rebuild_image(rt.alloc(), image, shortened, &mut disk, out);
+            (ended, disk)
+        }
+        Err(fault) => panic!(rt; "the image isn't taken: {fault:?}"),
+    }
+}
+
 /// Checks that this is printed and reported of a disk with these changes, and that it becomes that with those.
 fn becomes(
     rt: &(impl Abort + AllocGlobal),
@@ -76,8 +95,7 @@ fn becomes(
 ) {
     let before = changed(rt, changes);
     let mut out = Vec::new(rt.alloc());
-    let mut disk = changed(rt, changes);
-    let ended = rebuild_image(rt.alloc(), before.bytes(), shortened, &mut disk, &mut out);
+    let (ended, disk) = rebuilt(rt, before.bytes(), shortened, &mut out);
     is_told(rt, ended, told);
     same_at(rt, out.as_slice(), printed.as_bytes(), told);
     same_at(
@@ -113,14 +131,7 @@ fn shortened_files_are_taken_as_they_are(rt: HostRuntime) {
 fn failed_output_leaves_rebuilt_sides(rt: HostRuntime) {
     let before = changed(&rt, &[ZEROED]);
     let mut out = Full { room: 0 };
-    let mut disk = changed(&rt, &[ZEROED]);
-    let ended = rebuild_image(
-        rt.alloc(),
-        before.bytes(),
-        Shortened::Refused,
-        &mut disk,
-        &mut out,
-    );
+    let (ended, disk) = rebuilt(&rt, before.bytes(), Shortened::Refused, &mut out);
     is_told(&rt, ended, "FILE");
     same_at(&rt, disk.bytes() == changed(&rt, &[]).bytes(), true, "FILE");
 }
