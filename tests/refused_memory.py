@@ -5,8 +5,8 @@
 
 PROGRAM is what `tools/program` prints, and CUTS what `tools/program test_every_cut` prints. Each of its words is run over and
 over: the first request for memory is refused, then the second, and so on, until a run has none left to refuse. Each time
-- it ends with status 3 and `NO MEMORY`, with nothing printed and no image changed; `serve` may have printed all replies, if it
-  was refused the memory to land its log, which stays;
+- it ends with status 3 and `NO MEMORY`, with nothing printed and no image changed; `serve` and `play --log` may have printed all
+  replies, if they were refused the memory to land the log, which stays. `extract` may report `FILE`;
 - or, where it can do without, it does and prints what it does with all its memory.
 CUTS plays a short day: it says so where memory is wanted, with status 1, and never that something differs. A small library
 that is loaded before the program refuses the memory; it is made with `cc`. It prints how much was tried. The status is 1 at
@@ -19,7 +19,7 @@ import sys
 import tempfile
 from pathlib import Path
 
-from commands import CHANGES, COMMANDS, COPY, IMAGE, LOOKS, command, scene
+from commands import CHANGES, COMMANDS, COPY, IMAGE, LOOKS, PRINT_REFUSALS, command, scene
 
 LIBRARY = r"""
 #include <fcntl.h>
@@ -112,6 +112,17 @@ def no_memory(said, same):
     return said == (3, b"", b"NO MEMORY\n") and same
 
 
+def no_memory_printed(said, same):
+    """The refusal stands in the output of a command that prints it."""
+    status, out, err = said
+    return same and status == 3 and (no_memory(said, same) or (err == b"" and b"NO MEMORY" in out))
+
+
+def no_memory_or_file(said, same):
+    """`extract` reports `FILE` if it is refused memory while it makes a file of the folder."""
+    return no_memory(said, same) or (said == (3, b"", b"FILE\n") and same)
+
+
 def no_memory_or_unlanded(replies):
     """The same, but the replies may have been printed."""
     return lambda said, same: no_memory((said[0], b"" if said[1] == replies else said[1], said[2]), same)
@@ -186,14 +197,17 @@ def main():
             (trial.folder / file).write_bytes(text)
         disks = Disks(trial, program)
         for command, begin, status in lines_of(disks):
-            words, given, wanted = [program, *command.over()], command.given, no_memory
+            words, given = [program, *command.over()], command.given
+            wanted = no_memory_printed if command.name in PRINT_REFUSALS else no_memory
+            if command.words[0] == "extract":
+                wanted = no_memory_or_file
 
             def anew():
                 begin()
                 command.forget(trial.folder)
 
-            if command.words[0] == "serve":
-                given = LINES
+            if command.words[0] == "serve" or "--log" in command.words:
+                given = LINES if command.given else b""
                 anew()
                 wanted = no_memory_or_unlanded(trial.run(words, given=given)[0][1])
             count = trial.each(words, anew, wanted, status, given)

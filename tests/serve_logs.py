@@ -28,7 +28,7 @@ import sys
 import tempfile
 from pathlib import Path
 
-from commands import CHANGES, IMAGE, LOOKS, MAKES, TAKES, scene, those_that
+from commands import CHANGES, IMAGE, LOOKS, MAKES, PRINT_REFUSALS, TAKES, scene, those_that
 from served import Served, differs, run, sure, want
 from shop_rule import Shop
 
@@ -184,8 +184,9 @@ class Logs:
             harm()
             held = self.files()
             for command in [*LOOKING, *CHANGING]:
-                got = self.run(command, b"1,1,S,1,9\n")
-                want(got == (1, [], "LOG"), f"{command.name} beside a log that is refused: {got}")
+                status, out, err = got = self.run(command, b"1,1,S,1,9\n")
+                printed = command.name in PRINT_REFUSALS and err == "" and "LOG" in "".join(out)
+                want(status == 1 and (printed or (out, err) == ([], "LOG")), f"{command.name} beside a log that is refused: {got}")
                 want(self.files() == held, f"{command.name} has changed a file beside a log that is refused")
             said = run(self.program, "show", self.image, "--explain")[2]
             want("docs/LOG.md" in said, f"LOG is explained so: {said}")
