@@ -20,7 +20,7 @@ returns-clause-marked c = (
   c.args.place ∷ [],
   marked-one c.args.map.now c.args.owners.now c.set.new.self c.args.place
       (c.if-not-is_stray.ensures.stray refl).0 (c.if-not-is_stray.ensures.stray refl).1
-      (λ e. let wrong : 253 ≡ 255 = sym c.set.ensures.here ∙ e in omega (arith, wrong))
+      c.set.ensures.here
       (λ p ne. c.set.ensures.there p ne),
   refl,
 )
