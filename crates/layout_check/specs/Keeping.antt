@@ -1,5 +1,5 @@
 -- Sectors that are taken in the map but owned by nobody, and a repair that leaves them taken. Our own.
-use Rattle.std.specs.Prelude.{ℕ, ◌≡◌, ◌≢◌, ◌↔◌, ◌⊎◌, ◌≤◌, ◌+◌, ◌*◌, ◌++◌, ◌∷◌, List, Contains, IfErr, IfOk, IsOk, IsTrue}
+use Rattle.std.specs.Prelude.{ℕ, ◌≡◌, ◌≢◌, ◌↔◌, ◌≤◌, ◌+◌, ◌*◌, ◌++◌, ◌∷◌, List, Contains, IfErr, IfOk, IsOk, IsTrue}
 use Rattle.std.specs.Prelude.{OnOk, Result, length}
 use Rattle.std.specs.List.{AllByRecursion}
 use Rattle.d64_image.specs.History.{Changes, History, NeverFailed, OnlyReads, WritesNothing}

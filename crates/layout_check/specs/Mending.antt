@@ -5,7 +5,7 @@ use Rattle.d64_image.specs.Images.{sector}
 use Rattle.d64_image.specs.declared.place.Place.{Place}
 use Rattle.disk_layout.specs.Directory.{map_place}
 use Rattle.disk_layout.specs.InOrder.{AreMade, GoesOver, WritesOther}
-use Rattle.disk_layout.specs.Layout.{File, IsLayout, Layout, file_owns, owners}
+use Rattle.disk_layout.specs.Layout.{File, IsLayout, Layout, file_owns}
 use Rattle.disk_layout.specs.declared.faults.Fault.{Fault}
 use Rattle.disk_layout.specs.declared.slot.Slot.{Slot}
 use Rattle.layout_check.specs.Exact.{AreExactSides, HasMapBut}

@@ -1,5 +1,5 @@
 -- The sector had to be marked, or not.
-use Rattle.std.proofs.Common.{[], ◌∷◌, ◌∙◌, arith, inl, inr, refl, subst, sym, ◌⊎◌, ◌≡◌, ◌≢◌}
+use Rattle.std.proofs.Common.{[], ◌∷◌, refl, subst, sym, ◌⊎◌, ◌≡◌, ◌≢◌}
 use Rattle.d64_image.specs.declared.place.Place.{Place}
 use Rattle.disk_layout.specs.Map.{IsFree}
 use Rattle.layout_check.specs.Owners.{owner_of}

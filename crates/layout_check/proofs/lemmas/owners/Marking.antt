@@ -13,14 +13,14 @@ use Rattle.d64_image.specs.declared.place.Place.{Place}
 use Rattle.disk_layout.proofs.lemmas.chains.Names.{past-track}
 use Rattle.disk_layout.proofs.lemmas.lists.Once.{Contains-cases, Contains-here, Contains-nil, EachOnce-join}
 use Rattle.disk_layout.specs.Directory.{map_place}
-use Rattle.disk_layout.specs.Layout.{IsLayout, Layout, owners}
+use Rattle.disk_layout.specs.Layout.{owners}
 use Rattle.disk_layout.specs.Map.{IsFree, map_bit}
 use Rattle.layout_check.proofs.lemmas.judging.Verdict.{marks-of}
 use Rattle.layout_check.proofs.lemmas.owners.Claims.{claim-push}
 use Rattle.layout_check.proofs.lemmas.owners.Numbers.{numbers-claimed}
-use Rattle.layout_check.specs.Keeping.{AreMarked, AreStray, IsTakenTable, MarksTaken}
+use Rattle.layout_check.specs.Keeping.{AreMarked, IsTakenTable, MarksTaken}
 use Rattle.layout_check.specs.Owners.{owner_of}
-use Rattle.layout_check.specs.Survey.{IsSurveyOf, IsToldBy}
+use Rattle.layout_check.specs.Survey.{IsToldBy}
 use Rattle.layout_check.specs.declared.survey_outcome.Survey.{Survey}
 use Rattle.layout_check.specs.declared.owners.Owners.{Owners}
 

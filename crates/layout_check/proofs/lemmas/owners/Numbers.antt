@@ -4,21 +4,19 @@ use Rattle.std.proofs.Common.{arith, subst, refl, Bool, true, false}
 use Rattle.std.specs.Prelude.{Contains, Some, flat_map, nat_eq, slice_get}
 use Rattle.std.proofs.lemmas.Bool.{eqb-true, false≢true}
 use Rattle.std.proofs.lemmas.Bool.Decides.{Decides-eqb}
-use Rattle.std.proofs.lemmas.List.Elements.{Contains-append_cases, Contains-append_left}
+use Rattle.std.proofs.lemmas.List.Elements.{Contains-append_cases}
 use Rattle.std.proofs.lemmas.Option.{slice_get_within}
 use Rattle.d64_image.proofs.Places.{place_of}
-use Rattle.d64_image.specs.Places.{index_of}
 use Rattle.d64_image.specs.declared.place.Place.{Place}
 use Rattle.disk_layout.proofs.lemmas.counts.Recount.{flat_map-out}
-use Rattle.disk_layout.proofs.lemmas.layouts.Layouts.{get-contains}
 use Rattle.disk_layout.proofs.lemmas.lists.Lists.{contains-get}
 use Rattle.disk_layout.proofs.lemmas.lists.Once.{Contains-cases, Contains-here, Contains-nil, Contains-there}
-use Rattle.disk_layout.proofs.lemmas.lists.Once.{EachOnce-left, EachOnce-right, flat_map-in}
+use Rattle.disk_layout.proofs.lemmas.lists.Once.{EachOnce-left, EachOnce-right}
 use Rattle.disk_layout.specs.Chain.{EachOnce}
 use Rattle.disk_layout.specs.Directory.{map_place}
 use Rattle.disk_layout.specs.Layout.{File, Layout, file_owns, owners}
 use Rattle.layout_check.specs.Owners.{AreOwnedWith, IsClaimed, NumbersFiles, owner_of}
-use Rattle.layout_check.specs.Survey.{IsSurveyOf, taken}
+use Rattle.layout_check.specs.Survey.{IsSurveyOf}
 use Rattle.layout_check.specs.declared.owners.Owners.{Owners}
 use Rattle.layout_check.specs.declared.survey_outcome.Survey.{Survey}
 use Rattle.layout_check.proofs.lemmas.mending.Ones.{bit-small}

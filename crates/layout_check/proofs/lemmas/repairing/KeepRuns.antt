@@ -1,5 +1,5 @@
 -- A repair that leaves the strays taken, behind the reads that found them.
-use Rattle.std.proofs.Common.{ℕ, ◌≡◌, ◌+◌, ◌*◌, ◌≤◌, List, Result, length, refl, sym, subst}
+use Rattle.std.proofs.Common.{ℕ, ◌+◌, ◌*◌, List, Result, length, refl, sym, subst}
 use Rattle.std.specs.Prelude.{OnOk}
 use Rattle.std.proofs.lemmas.Result.{on_ok_weaker}
 use Rattle.d64_image.proofs.Moments.{no_write_then, reads_no_write}

@@ -1,9 +1,9 @@
 -- How many reads the calls of a repair make, one after another.
-use Rattle.std.proofs.Common.{ℕ, ◌≡◌, ◌<◌, ◌≤◌, ◌+◌, ◌*◌, true, List, Result, Ok, Err, length, get_or, take}
+use Rattle.std.proofs.Common.{ℕ, ◌≡◌, ◌≤◌, ◌+◌, ◌*◌, List, Result, Ok, Err, length, take}
 use Rattle.std.proofs.Common.{sym, ◌∙◌, ap, arith, subst, length-append, IsTrue}
 use Rattle.std.specs.Prelude.{Contains, OnOk, Some, slice_get}
-use Rattle.d64_image.specs.History.{Changes, History, OnlyReads}
-use Rattle.d64_image.specs.Images.{Image, sector}
+use Rattle.d64_image.specs.History.{History, OnlyReads}
+use Rattle.d64_image.specs.Images.{Image}
 use Rattle.d64_image.specs.declared.place.Place.{Place}
 use Rattle.disk_layout.proofs.lemmas.layouts.Layouts.{IsLayout-one}
 use Rattle.disk_layout.specs.Layout.{File, IsLayout, Layout, file_owns, is_rel, owners}

@@ -1,35 +1,5 @@
 -- One slot of a directory sector: its block count read, judged, and written.
-use Rattle.std.proofs.Common.{
-  ℕ,
-  ◌≡◌,
-  ◌≢◌,
-  ◌<◌,
-  ◌≤◌,
-  ◌+◌,
-  ◌*◌,
-  ◌%◌,
-  ◌/◌,
-  ◌⊎◌,
-  List,
-  [],
-  ◌∷◌,
-  ◌++◌,
-  length,
-  length-append,
-  take,
-  drop,
-  sym,
-  ◌∙◌,
-  ap,
-  ap₂,
-  refl,
-  arith,
-  rules,
-  subst,
-  inl,
-  inr,
-  slice_index,
-}
+use Rattle.std.proofs.Common.{ℕ, ◌≡◌, ◌≢◌, ◌<◌, ◌≤◌, ◌+◌, ◌*◌, ◌/◌, ◌⊎◌, List, [], ◌∷◌, ◌++◌, length, length-append, sym, ◌∙◌, ap, arith, subst, inl, inr, slice_index}
 use Rattle.std.specs.Prelude.{Contains, IsTrue, nat_eq, slice_range, ◌||◌}
 use Rattle.std.proofs.lemmas.Bool.{cases_lt}
 use Rattle.std.proofs.lemmas.Bool.Decides.{nat_tests}

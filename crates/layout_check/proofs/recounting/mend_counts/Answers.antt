@@ -1,7 +1,7 @@
 -- Sector by sector of the directory.
 mod Failed
 mod Returned
-use Rattle.std.proofs.Common.{Ok, ap, arith, length, ◌∙◌}
+use Rattle.std.proofs.Common.{ap, arith, length, ◌∙◌}
 use Rattle.d64_image.proofs.Moments.{at_end, reads_no_write}
 use Rattle.disk_layout.proofs.lemmas.layouts.Layouts.{get-contains}
 use Rattle.disk_layout.specs.Layout.{IsLayout, Layout}

@@ -3,7 +3,6 @@ use Rattle.std.proofs.Common.{Err, ◌∙◌, ◌+◌, ◌*◌, arith, length}
 use Rattle.std.proofs.lemmas.Result.{err_from_is_err_and, on_ok_weaker}
 use Rattle.d64_image.proofs.Moments.{at_end, no_write_then}
 use Rattle.layout_check.proofs.lemmas.mending.MapMends.{device_later, mends_then}
-use Rattle.disk_layout.specs.Layout.{owners}
 use Rattle.layout_check.specs.Reads.{owned_by}
 use Rattle.layout_check.specs.RepairOrder.{IsRight, IsRightBut, sides_of}
 use Rattle.layout_check.proofs.lemmas.repairing.OwnedSums.{length-owners}

@@ -1,7 +1,6 @@
 -- So many of the sectors so far have its number.
-use Rattle.std.proofs.Common.{◌≡◌, ◌≤◌}
+use Rattle.std.proofs.Common.{◌≤◌}
 use Rattle.layout_check.proofs.lemmas.owners.Numbers.{IsCountWith}
-use Rattle.layout_check.specs.Owners.{owner_of}
 use Rattle.layout_check.proofs.owners.Owners.owned_with.Given as goal
 
 abbrev pub invariant-loop-number : goal.invariant-loop-number
