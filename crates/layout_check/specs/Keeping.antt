@@ -1,5 +1,5 @@
 -- Sectors that are taken in the map but owned by nobody, and a repair that leaves them taken. Our own.
-use Rattle.std.specs.Prelude.{ℕ, ◌≡◌, ◌≢◌, ◌↔◌, ◌⊎◌, ◌≤◌, ◌+◌, ◌*◌, ◌++◌, ◌∷◌, List, Contains, IfErr, IfOk, IsOk, IsTrue}
+use Rattle.std.specs.Prelude.{ℕ, ◌≡◌, ◌≢◌, ◌↔◌, ◌≤◌, ◌+◌, ◌*◌, ◌++◌, ◌∷◌, List, Contains, IfErr, IfOk, IsOk, IsTrue}
 use Rattle.std.specs.Prelude.{OnOk, Result, length}
 use Rattle.std.specs.List.{AllByRecursion}
 use Rattle.d64_image.specs.History.{Changes, History, NeverFailed, OnlyReads, WritesNothing}
@@ -16,7 +16,7 @@ use Rattle.disk_layout.specs.Same.{SameFiles}
 use Rattle.disk_layout.specs.Whole.{HoldsWhole}
 use Rattle.disk_layout.specs.declared.faults.Fault.{Fault}
 use Rattle.layout_check.specs.Mended.{TellsDevice}
-use Rattle.layout_check.specs.Owners.{owner_of}
+use Rattle.layout_check.specs.Owners.{IsClaimed, NumbersFiles, owner_of}
 use Rattle.layout_check.specs.Reads.{ReadsFew}
 use Rattle.layout_check.specs.RepairOrder.{ClearsSpare, IsRightBut, repair_order}
 use Rattle.layout_check.specs.Repaired.{MendsFrom}
@@ -47,20 +47,21 @@ FreesNothing old new = (p : Place) → IsFree (sector new map_place) p → IsFre
 abbrev pub MarksTaken : Owners → Layout → List Place → Type 0
 MarksTaken t l strays = (p : Place) → (owner_of t p ≢ 255) ↔ Contains (strays ++ map_place ∷ owners l) p
 
--- from the one table to the other these sectors got an owner: those among the ones looked at that are taken in the map
--- and had none
+-- from the one table to the other these sectors got the number 253: those among the ones looked at that are taken in
+-- the map and had no owner
 pub record AreMarked (map : Sector) (old new : Owners) (Looked : Place → Type 0) (ps : List Place) : Type 0 where
   pub once : EachOnce ps
   pub those : (p : Place) → Contains ps p ↔ (Looked p × ¬ (IsFree map p) × (owner_of old p ≡ 255))
-  pub table : (p : Place) → (owner_of new p ≢ 255) ↔ ((owner_of old p ≢ 255) ⊎ Contains ps p)
+  pub table : IsClaimed old new 253 ps
 
--- a table of what a sound image owns and of its n stray sectors
+-- a table of what a sound image owns, by numbers of the files, and of its n stray sectors
 pub record IsTakenTable (img : Image) (t : Owners) (n : ℕ) : Type 0 where
   pub layout : Layout
   pub sound : IsLayout img layout
   pub strays : List Place
   pub are : AreStray img layout strays
   pub marks : MarksTaken t layout strays
+  pub numbers : NumbersFiles t layout
   pub count : n ≡ length strays
 
 -- the new image is clean except for these sectors, and has the files of the old one
@@ -84,7 +85,7 @@ pub record MakesCleanBut {D T : Type 0} (strays : List Place) (S : History D) (o
   pub failures : TellsDevice S old new result
   -- a disk that is clean in this way isn't written
   pub quiet : (l : Layout) → IsCleanBut strays (S.image old) l → WritesNothing S old new
-  pub reads : (l : Layout) → IsLayout (S.image old) l → ReadsFew S old new (19 + 5 * length (owners l)) result
+  pub reads : (l : Layout) → IsLayout (S.image old) l → ReadsFew S old new (19 + 3 * length (owners l)) result
 
 -- the new image has the files of the old one, and its n stray sectors are taken in the map; except for these it is
 -- clean
@@ -124,7 +125,7 @@ pub record RepairsKeeping {D : Type 0} (S : History D) (old new : D) (result : R
       → IsCleanBut strays (S.image old) l → WritesNothing S old new
   pub failures : TellsFault S old new result
   -- on any disk, whatever the result
-  pub reads : S.reads new ≤ S.reads old + 5544
-  -- and at Ok at most seven for each sector of the directory or a file
+  pub reads : S.reads new ≤ S.reads old + 4180
+  -- and at Ok at most five for each sector of the directory or a file
   pub few_reads : OnOk result ((l : Layout) → IsLayout (S.image old) l
-      → S.reads new ≤ S.reads old + (38 + 7 * length (owners l)))
+      → S.reads new ≤ S.reads old + (38 + 5 * length (owners l)))

@@ -5,13 +5,13 @@ use Rattle.d64_image.specs.Images.{sector}
 use Rattle.d64_image.specs.declared.place.Place.{Place}
 use Rattle.disk_layout.specs.Directory.{map_place}
 use Rattle.disk_layout.specs.InOrder.{AreMade, GoesOver, WritesOther}
-use Rattle.disk_layout.specs.Layout.{File, IsLayout, Layout, file_owns, owners}
+use Rattle.disk_layout.specs.Layout.{File, IsLayout, Layout, file_owns}
 use Rattle.disk_layout.specs.declared.faults.Fault.{Fault}
 use Rattle.disk_layout.specs.declared.slot.Slot.{Slot}
 use Rattle.layout_check.specs.Exact.{AreExactSides, HasMapBut}
 use Rattle.layout_check.specs.Mended.{AreExactFor, IsExactFor, KeepsBeside, KeepsLayouts, Mends, SameMap, TellsDevice}
 use Rattle.layout_check.specs.Recounted.{AreCounted, AreRightIn, KeepsButCounts, OldOrMended}
-use Rattle.layout_check.specs.Reads.{ReadsFew, is_in, owned_by, owned_if}
+use Rattle.layout_check.specs.Reads.{ReadsFew, owned_by}
 use Rattle.layout_check.specs.RepairOrder.{ClearsSpare, IsRightBut, sides_of}
 
 -- at most n sectors are written, and each image held is mended from the old one; at Ok the layout is the same
@@ -90,8 +90,7 @@ pub record MendsSector {D T : Type 0} (S : History D) (old new : D) (p : Place) 
     -- a sector whose counts are right is not written
     pub quiet : AreRightIn (S.image old) p (sector (S.image old) p) → WritesNothing S old new
     pub failures : TellsDevice S old new result
-    -- the sector, and twice what its entries own
-    pub reads : (l : Layout) → IsLayout (S.image old) l → ReadsFew S old new (1 + 2 * owned_if (is_in p) l.files) result
+    pub reads : S.reads new ≤ S.reads old + 1
 
 -- all block counts were made right
 pub record MendsCounts {D T : Type 0} (S : History D) (old new : D) (result : Result T Fault) : Type 0 where
@@ -102,4 +101,5 @@ pub record MendsCounts {D T : Type 0} (S : History D) (old new : D) (result : Re
   pub right : (l : Layout) → IsLayout (S.image old) l → PutsRight S old new l l.directory result
   pub quiet : AreCounted (S.image old) → WritesNothing S old new
   pub failures : TellsDevice S old new result
-  pub reads : (l : Layout) → IsLayout (S.image old) l → ReadsFew S old new (2 * length (owners l)) result
+  -- each sector of the directory twice
+  pub reads : (l : Layout) → IsLayout (S.image old) l → ReadsFew S old new (2 * length l.directory) result

@@ -5,15 +5,10 @@ use Rattle.d64_image.specs.declared.place.Place.{Place}
 use Rattle.disk_layout.specs.Directory.{slot_in}
 use Rattle.disk_layout.specs.Layout.{File, IsLayout, IsSound, Layout, count_field, is_rel, sides_for}
 use Rattle.disk_layout.specs.Same.{IsCountByte, SameFiles}
-use Rattle.disk_layout.specs.declared.slot.Slot.{Slot}
 
 -- how many sectors the file owns: its data blocks, and the side sectors that these need
 abbrev pub owned_count : File → ℕ
 owned_count f = length f.blocks + sides_for (length f.blocks)
-
--- n is what the block count of this slot is to be
-abbrev pub IsCountOf : Image → Slot → ℕ → Type 0
-IsCountOf img s n = (l : Layout) (f : File) → IsLayout img l → Contains l.files f → f.slot ≡ s → n ≡ owned_count f
 
 -- the file is relative, and its slot is number n of the directory sector at p
 pub record IsRelAt (l : Layout) (p : Place) (n : ℕ) (f : File) : Type 0 where

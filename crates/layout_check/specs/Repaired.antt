@@ -48,7 +48,7 @@ pub record Repairs {D : Type 0} (S : History D) (old new : D) (result : Result S
   pub quiet : IsClean (S.image old) → WritesNothing S old new
   pub failures : TellsFault S old new result
   -- on any disk, whatever the result
-  pub reads : S.reads new ≤ S.reads old + 5543
-  -- and at Ok seven a sector of the directory or a file
+  pub reads : S.reads new ≤ S.reads old + 4179
+  -- and at Ok five a sector of the directory or a file
   pub few_reads : OnOk result ((l : Layout) → IsLayout (S.image old) l
-      → S.reads new ≤ S.reads old + (37 + 7 * length (owners l)))
+      → S.reads new ≤ S.reads old + (37 + 5 * length (owners l)))

@@ -19,10 +19,11 @@ pub(crate) struct Owners {
 }
 
 impl Owners {
-    ghost use Rattle.std.specs.Prelude.{◌≢◌, ◌<◌, ◌↔◌, Contains, IfErr, IsTrue, OnOk, slice_index};
+    ghost use Rattle.std.specs.Prelude.{◌≢◌, ◌<◌, ◌↔◌, Contains, IfErr, IsTrue, List, OnOk, slice_index};
     ghost use Rattle.d64_image.specs.Places.{index_of};
+    ghost use Rattle.d64_image.specs.declared.place.Place.{Place};
     ghost use Rattle.disk_layout.specs.Chain.{EachOnce};
-    ghost use Rattle.layout_check.specs.Owners.{IsClaimed, IsOwned, IsSystem, owner_of};
+    ghost use Rattle.layout_check.specs.Owners.{AreOwnedWith, IsClaimed, IsOwned, IsSystem, owner_of};
 
     /// Nobody owns a sector.
     fn new() -> Owners
@@ -57,6 +58,18 @@ impl Owners {
         ensures { IsTrue result ↔ (owner_of self.now place ≢ 255) }
     {
         self.owner(place) != NOBODY
+    }
+
+    /// How many sectors have the owner that this one has.
+    pub(crate) fn owned_with(&self, place: Place) -> u16
+        ensures { (ps : List Place) → AreOwnedWith self.now place ps → result ≡ length ps }
+    {
+        let owner = self.owner(place);
+        let mut count = 0;
+        for &number in self.numbers.iter() {
+            count += u16::from(number == owner);
+        }
+        count
     }
 
     /// The numbers of the owners of all sectors, in the order of their indices.

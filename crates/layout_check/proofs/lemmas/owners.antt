@@ -4,3 +4,4 @@ pub mod Clashes
 pub mod Counting
 pub mod Ranks
 pub mod Marking
+pub mod Numbers

@@ -1,5 +1,5 @@
 -- The sector had to be marked, or not.
-use Rattle.std.proofs.Common.{[], ◌∷◌, ◌∙◌, arith, inl, inr, refl, subst, sym, ◌⊎◌, ◌≡◌, ◌≢◌}
+use Rattle.std.proofs.Common.{[], ◌∷◌, refl, subst, sym, ◌⊎◌, ◌≡◌, ◌≢◌}
 use Rattle.d64_image.specs.declared.place.Place.{Place}
 use Rattle.disk_layout.specs.Map.{IsFree}
 use Rattle.layout_check.specs.Owners.{owner_of}
@@ -20,7 +20,7 @@ returns-clause-marked c = (
   c.args.place ∷ [],
   marked-one c.args.map.now c.args.owners.now c.set.new.self c.args.place
       (c.if-not-is_stray.ensures.stray refl).0 (c.if-not-is_stray.ensures.stray refl).1
-      (λ e. let wrong : 253 ≡ 255 = sym c.set.ensures.here ∙ e in omega (arith, wrong))
+      c.set.ensures.here
       (λ p ne. c.set.ensures.there p ne),
   refl,
 )

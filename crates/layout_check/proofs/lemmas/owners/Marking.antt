@@ -5,7 +5,7 @@ use Rattle.std.specs.Prelude.{Contains}
 use Rattle.std.proofs.Math.Decide.{dec_lt}
 use Rattle.std.proofs.lemmas.Bool.{cases_eq}
 use Rattle.std.proofs.lemmas.List.Elements.{Contains-append_cases, Contains-append_left, Contains-append_right}
-use Rattle.d64_image.proofs.Places.{place_at-some, same_or_other, same_place, sector_small, track_fits}
+use Rattle.d64_image.proofs.Places.{place_at-some, same_place, sector_small, track_fits}
 use Rattle.d64_image.specs.Geometry.{sectors_on}
 use Rattle.d64_image.specs.Images.{Image, Sector, sector}
 use Rattle.d64_image.specs.Places.{place_at}
@@ -13,12 +13,14 @@ use Rattle.d64_image.specs.declared.place.Place.{Place}
 use Rattle.disk_layout.proofs.lemmas.chains.Names.{past-track}
 use Rattle.disk_layout.proofs.lemmas.lists.Once.{Contains-cases, Contains-here, Contains-nil, EachOnce-join}
 use Rattle.disk_layout.specs.Directory.{map_place}
-use Rattle.disk_layout.specs.Layout.{IsLayout, Layout, owners}
-use Rattle.disk_layout.specs.Map.{IsFree}
+use Rattle.disk_layout.specs.Layout.{owners}
+use Rattle.disk_layout.specs.Map.{IsFree, map_bit}
 use Rattle.layout_check.proofs.lemmas.judging.Verdict.{marks-of}
-use Rattle.layout_check.specs.Keeping.{AreMarked, AreStray, IsTakenTable, MarksTaken}
+use Rattle.layout_check.proofs.lemmas.owners.Claims.{claim-push}
+use Rattle.layout_check.proofs.lemmas.owners.Numbers.{numbers-claimed}
+use Rattle.layout_check.specs.Keeping.{AreMarked, IsTakenTable, MarksTaken}
 use Rattle.layout_check.specs.Owners.{owner_of}
-use Rattle.layout_check.specs.Survey.{IsSurveyOf, IsToldBy}
+use Rattle.layout_check.specs.Survey.{IsToldBy}
 use Rattle.layout_check.specs.declared.survey_outcome.Survey.{Survey}
 use Rattle.layout_check.specs.declared.owners.Owners.{Owners}
 
@@ -35,11 +37,11 @@ module _ (map : Sector) where
       λ c. absurd (Contains-nil p c),
       λ h. absurd (elim (other p h.0) [ inl free ↦ h.1 free | inr owned ↦ owned h.2 ]),
     );
-    table = λ p. (λ ne. inl ne, λ h. elim h [ inl ne ↦ ne | inr c ↦ absurd (Contains-nil p c) ]);
+    table = λ p. (λ c. absurd (Contains-nil p c), λ out. refl);
   }
 
   -- one sector got an owner
-  pub marked-one : (a b : Owners) (q : Place) → ¬ (IsFree map q) → ¬ (owner_of a q ≢ 255) → owner_of b q ≢ 255
+  pub marked-one : (a b : Owners) (q : Place) → ¬ (IsFree map q) → ¬ (owner_of a q ≢ 255) → owner_of b q ≡ 253
       → ((p : Place) → q ≢ p → owner_of b p ≡ owner_of a p) → AreMarked map a b (λ p. p ≡ q) (q ∷ [])
   marked-one a b q taken free here there = record {
     once = (Contains-nil q, tt);
@@ -52,17 +54,8 @@ module _ (map : Sector) where
       ],
       λ h. let P : Place → Type 0 = λ x. Contains (q ∷ []) x in subst P (sym h.0) (Contains-here q []),
     );
-    table = λ p. elim (same_or_other q p) [
-      | inl e ↦ let P : Place → Type 0 = λ x. (owner_of b x ≢ 255) ↔ ((owner_of a x ≢ 255) ⊎ Contains (q ∷ []) x) in
-          subst P e (λ ne. inr (Contains-here q []), λ h. here)
-      | inr ne ↦ (
-        λ owned. inl (λ e. owned (there p ne ∙ e)),
-        λ h. elim h [
-          | inl owned ↦ λ e. owned (sym (there p ne) ∙ e)
-          | inr c ↦ absurd (elim (Contains-cases p q [] c) [ inl e ↦ ne e | inr none ↦ Contains-nil p none ])
-        ],
-      )
-    ];
+    table = claim-push a a b 253 [] q (λ p. (λ c. absurd (Contains-nil p c), λ out. refl)) (Contains-nil q)
+        (unowned a q free) here there;
   }
 
   -- so many were looked at as well
@@ -82,14 +75,14 @@ module _ (map : Sector) where
       → ((p : Place) → A p → ¬ (B p)) → AreMarked map a b A ps → AreMarked map b c B qs
       → AreMarked map a c C (ps ++ qs)
   marked-then a b c A B C ps qs cover apart h k = record {
-    once = EachOnce-join ps qs h.once k.once (λ p x y. apart p ((h.those p).0 x).0 ((k.those p).0 y).0);
+    once = EachOnce-join ps qs h.once k.once out;
     those = λ p. (
       λ d. elim (Contains-append_cases ps qs p d) [
         | inl x ↦ let g = (h.those p).0 x in ((cover p).1 (inl g.0), g.1, g.2)
         | inr y ↦ let g = (k.those p).0 y in (
           (cover p).1 (inr g.0),
           g.1,
-          unowned a p (λ ne. (h.table p).1 (inl ne) g.2),
+          sym ((h.table p).1 (λ x. out p x y)) ∙ g.2,
         )
       ],
       λ g. elim ((cover p).0 g.0) [
@@ -97,30 +90,22 @@ module _ (map : Sector) where
         | inr y ↦ Contains-append_right ps qs p ((k.those p).1 (
           y,
           g.1,
-          unowned b p (λ ne. elim ((h.table p).0 ne) [
-            | inl old ↦ old g.2
-            | inr mine ↦ apart p ((h.those p).0 mine).0 y
-          ]),
+          (h.table p).1 (λ mine. apart p ((h.those p).0 mine).0 y) ∙ g.2,
         ))
       ],
     );
     table = λ p. (
-      λ ne. elim ((k.table p).0 ne) [
-        | inl before ↦ elim ((h.table p).0 before) [
-          | inl old ↦ inl old
-          | inr x ↦ inr (Contains-append_left ps qs p x)
-        ]
-        | inr y ↦ inr (Contains-append_right ps qs p y)
+      λ d. elim (Contains-append_cases ps qs p d) [
+        | inl x ↦ (((h.table p).0 x).0, (k.table p).1 (out p x) ∙ ((h.table p).0 x).1)
+        | inr y ↦ (sym ((h.table p).1 (λ x. out p x y)) ∙ ((k.table p).0 y).0, ((k.table p).0 y).1)
       ],
-      λ g. (k.table p).1 (elim g [
-        | inl old ↦ inl ((h.table p).1 (inl old))
-        | inr d ↦ elim (Contains-append_cases ps qs p d) [
-          | inl x ↦ inl ((h.table p).1 (inr x))
-          | inr y ↦ inr y
-        ]
-      ]),
+      λ none. (k.table p).1 (λ y. none (Contains-append_right ps qs p y))
+          ∙ (h.table p).1 (λ x. none (Contains-append_left ps qs p x)),
     );
   }
+    where
+      out : (p : Place) → Contains ps p → ¬ (Contains qs p)
+      out p x y = apart p ((h.those p).0 x).0 ((k.those p).0 y).0
 
   -- the sectors of a track below n
   abbrev pub On : (track n : ℕ) → Place → Type 0
@@ -209,14 +194,18 @@ taken-of img s map t ps n (l, is, of) read h long =
         );
       };
       marks = λ p. (
-        λ ne. elim ((h.table p).0 ne) [
-          | inl old ↦ Contains-append_right ps (map_place ∷ owners l) p ((marks p).0 old)
-          | inr mine ↦ Contains-append_left ps (map_place ∷ owners l) p mine
+        λ ne. elim (cases_eq (owner_of s.owners p) 255) [
+          | inl none ↦ elim (cases_eq (map_bit map p.track p.sector) 1) [
+            | inl free ↦ absurd (ne ((h.table p).1 (λ c. ((h.those p).0 c).1 free) ∙ none))
+            | inr taken ↦ Contains-append_left ps (map_place ∷ owners l) p ((h.those p).1 (track_fits p, taken, none))
+          ]
+          | inr old ↦ Contains-append_right ps (map_place ∷ owners l) p ((marks p).0 old)
         ],
-        λ c. (h.table p).1 (elim (Contains-append_cases ps (map_place ∷ owners l) p c) [
-          | inl mine ↦ inr mine
-          | inr own ↦ inl ((marks p).1 own)
-        ]),
+        λ c e. elim (Contains-append_cases ps (map_place ∷ owners l) p c) [
+          | inl mine ↦ omega (arith, e, ((h.table p).0 mine).1)
+          | inr own ↦ (marks p).1 own (sym ((h.table p).1 (λ mine. (marks p).1 own ((h.table p).0 mine).0)) ∙ e)
+        ],
       );
+      numbers = numbers-claimed l s t ps of h.table;
       count = long;
     }

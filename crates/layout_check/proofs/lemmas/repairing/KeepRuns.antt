@@ -1,5 +1,5 @@
 -- A repair that leaves the strays taken, behind the reads that found them.
-use Rattle.std.proofs.Common.{ℕ, ◌≡◌, ◌+◌, ◌*◌, ◌≤◌, List, Result, length, refl, sym, subst}
+use Rattle.std.proofs.Common.{ℕ, ◌+◌, ◌*◌, List, Result, length, refl, sym, subst}
 use Rattle.std.specs.Prelude.{OnOk}
 use Rattle.std.proofs.lemmas.Result.{on_ok_weaker}
 use Rattle.d64_image.proofs.Moments.{no_write_then, reads_no_write}
@@ -39,7 +39,7 @@ pub record IsKeepRun {D : Type 0} (S : History D) (a b c : D) (result : Result (
   pub spare : ClearsSpare (S.image a) (S.image c)
   pub quiet : (l : Layout) (strays : List Place) → AreStray (S.image a) l strays
       → IsCleanBut strays (S.image a) l → WritesNothing S a c
-  pub reads : (l : Layout) → IsLayout (S.image a) l → ReadsFew S b c (19 + 5 * length (owners l)) result
+  pub reads : (l : Layout) → IsLayout (S.image a) l → ReadsFew S b c (19 + 3 * length (owners l)) result
 
 -- a repaired image, by its table
 pub kept_of : (old new : Image) (t : Owners) (n : ℕ) → (table : IsTakenTable old t n)

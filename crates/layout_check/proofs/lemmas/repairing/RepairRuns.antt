@@ -16,6 +16,8 @@ use Rattle.layout_check.proofs.lemmas.mending.Mendings.{mended-start, mended-the
 use Rattle.layout_check.proofs.lemmas.repairing.Repairs.{clean-after, clean-counts, clean-sides, survey-same}
 use Rattle.layout_check.specs.Exact.{HasMapBut}
 use Rattle.layout_check.specs.Keeping.{IsCleanBut, IsMendedBut, MarksTaken}
+use Rattle.layout_check.proofs.lemmas.owners.Numbers.{numbers-of}
+use Rattle.layout_check.specs.Owners.{NumbersFiles}
 use Rattle.layout_check.specs.Mended.{AreExactFor, IsMended, KeepsLayouts, Mends, SameMap, TellsDevice}
 use Rattle.layout_check.specs.Recounted.{AreCounted, KeepsButCounts}
 use Rattle.layout_check.specs.Repaired.{IsRepaired, MendsFrom}
@@ -98,11 +100,12 @@ module _ {D : Type 0} (S : History D) where
   mended_after strays a b c k reads h = let P : Image → Type 0 = λ i. IsMendedBut strays i (S.image c) in
       subst P reads.image h
 
-  -- the table of a survey calls what is owned taken, after the reads too
+  -- the table of a survey calls what is owned taken, and numbers the files, after the reads too
   pub marked_after : (a b : D) (s : Survey) (k : ℕ) → OnlyReads S a b k → (told : IsToldBy (S.image a) s)
-      → IsLayout (S.image b) told.0 × MarksTaken s.owners told.0 []
+      → IsLayout (S.image b) told.0 × MarksTaken s.owners told.0 [] × NumbersFiles s.owners told.0
   marked_after a b s k reads (l, is, of) =
-      ((let P : Image → Type 0 = λ i. IsLayout i l in subst P (sym reads.image) is), marks-of l s of)
+      let P : Image → Type 0 = λ i. IsLayout i l in
+      (subst P (sym reads.image) is, marks-of l s of, numbers-of l s of)
 
   -- a failure of the device behind calls that met none
   pub device_holds : (a b : D) (img : Image) (f : Fault) → TellsDevice {T = Unit {0}} S a b (Err f)

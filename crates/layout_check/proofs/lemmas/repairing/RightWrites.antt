@@ -15,17 +15,20 @@ use Rattle.disk_layout.proofs.lemmas.kept.Orders.{made_none, made_then, once-nex
 use Rattle.disk_layout.proofs.lemmas.kept.Orders.{over_then}
 use Rattle.disk_layout.specs.Chain.{EachOnce}
 use Rattle.disk_layout.specs.InOrder.{AreMade, GoesOver, WritesOther}
-use Rattle.disk_layout.specs.Layout.{IsLayout, IsSound, Layout}
-use Rattle.disk_layout.proofs.lemmas.counts.Recounts.{reread_layout}
+use Rattle.disk_layout.proofs.lemmas.lists.Once.{map-in}
+use Rattle.disk_layout.specs.Layout.{File, IsLayout, IsSound, Layout, file_owns}
+use Rattle.disk_layout.proofs.lemmas.counts.Recounts.{reread, reread_layout}
 use Rattle.layout_check.proofs.lemmas.repairing.RightCounts.{all-counted, reread-layout, recount-mended, recount-none}
 use Rattle.layout_check.proofs.lemmas.repairing.RightCounts.{recount-put}
 use Rattle.layout_check.proofs.lemmas.repairing.RightCounts.{recount-then}
 use Rattle.layout_check.proofs.lemmas.repairing.RightDirectory.{mended-made, right-counts, sector-made}
 use Rattle.layout_check.proofs.lemmas.repairing.RightSlots.{counted-right}
 use Rattle.layout_check.proofs.lemmas.repairing.Rights.{directory-once}
+use Rattle.layout_check.specs.Owners.{AreOwnedWith, NumbersEach, NumbersFiles}
 use Rattle.layout_check.specs.RepairOrder.{IsRight}
-use Rattle.layout_check.specs.Recounted.{AreCounted, AreRightIn, IsCountedAs, IsInDirectory, IsMendedAt, IsRecountOf}
+use Rattle.layout_check.specs.Recounted.{AreCounted, AreRightIn, GetsCounts, IsInDirectory, IsMendedAt, IsRecountOf}
 use Rattle.layout_check.specs.Recounted.{KeepsButCounts, OldOrMended}
+use Rattle.layout_check.specs.declared.owners.Owners.{Owners}
 
 pub few-of : (img : Image) (ps : List Place) → IsSound img → ((l : Layout) → IsLayout img l → ps ≡ l.directory)
     → length ps ≤ 18
@@ -47,6 +50,16 @@ module _ (a b : Image) (ps : List Place) (full : length a ≡ 683) (l : Layout) 
       let Q : List Place → Type 0 = λ xs. Contains xs p in
       subst P (sym one) (subst Q same c)
 
+-- the table numbers its files too
+pub numbers-in : (a b : Image) (ps : List Place) (t : Owners) → length a ≡ 683 → (l : Layout) → IsLayout a l
+    → ps ≡ l.directory → IsRecountOf a b ps → NumbersFiles t l → NumbersEach t b
+numbers-in a b ps t full l h same r of m is f p own there =
+    let now = reread-layout a b l full h (on a b ps full l h same r) in
+    let P : Layout → Type 0 = λ x. Contains x.files f in
+    let (g, c, e) = map-in (reread b) l.files f (subst P (IsLayout-one b m (reread_layout b l) is now) own) in
+    let Q : File → Type 0 = λ x. Contains (file_owns x) p → AreOwnedWith t p (file_owns x) in
+    subst Q e (of g p c) there
+
 pub mended-of : (a b : Image) (ps : List Place) → length a ≡ 683 → ((l : Layout) → IsLayout a l → ps ≡ l.directory)
     → IsRecountOf a b ps → KeepsButCounts a b
 mended-of a b ps full same r l h = recount-mended a b l full h (on a b ps full l h (same l h) r)
@@ -66,12 +79,13 @@ pub counted-of : (a b : Image) (ps : List Place) → length a ≡ 683 → IsSoun
 counted-of a b ps full (l, h) same r made = all-counted a b l full h (on a b ps full l h (same l h) r)
     (λ p c. right-counts a l h p (sector b p) ((made l h).right p c))
 
-mended-put : (a : Image) (p : Place) (bytes : Sector) → IsImage a → IsCountedAs (sector a p) bytes
-    → (AreRightIn a p (sector a p) → bytes ≡ sector a p) → AreRightIn a p bytes → IsMendedAt a p (put a p bytes)
-mended-put a p bytes whole h kept right = record {
-  counts = recount-put a p bytes whole h;
-  kept = λ x. sector-put_same a p bytes whole.size ∙ kept x;
-  right = let P : Sector → Type 0 = λ x. AreRightIn a p x in subst P (sym (sector-put_same a p bytes whole.size)) right;
+pub mended-put : (a : Image) (p : Place) (bytes : Sector) → IsImage a
+    → GetsCounts (AreRightIn a p) (sector a p) bytes → IsMendedAt a p (put a p bytes)
+mended-put a p bytes whole gets = record {
+  counts = recount-put a p bytes whole gets.counts;
+  kept = λ x. sector-put_same a p bytes whole.size ∙ gets.kept x;
+  right = let P : Sector → Type 0 = λ x. AreRightIn a p x in
+      subst P (sym (sector-put_same a p bytes whole.size)) gets.right;
 }
 
 module _ {D : Type 0} (S : History D) where
@@ -99,30 +113,12 @@ module _ {D : Type 0} (S : History D) where
     omega (arith, one, r.writes),
   )
 
-  pub right_written : (a b : D) (c : Image) (p : Place) (bytes : Sector) → S.image b ≡ S.image a
-      → c ≡ put (S.image b) p bytes → AreRightIn (S.image b) p bytes → AreRightIn (S.image a) p (sector c p)
-  right_written a b c p bytes same e right =
+  pub right_written : (a b : D) (c : Image) (p : Place) (bytes : Sector) → c ≡ put (S.image b) p bytes
+      → AreRightIn (S.image a) p bytes → AreRightIn (S.image a) p (sector c p)
+  right_written a b c p bytes e right =
       let there : sector c p ≡ bytes = ap (λ i. sector i p) e ∙ sector-put_same (S.image b) p bytes (S.whole b).size in
       let P : Sector → Type 0 = λ x. AreRightIn (S.image a) p x in
-      let Q : Image → Type 0 = λ i. AreRightIn i p bytes in
-      subst P (sym there) (subst Q same right)
-
-  pub right_read : (a b : D) (p : Place) (old : Sector) → S.image b ≡ S.image a → old ≡ sector (S.image a) p
-      → AreRightIn (S.image a) p (sector (S.image a) p) → AreRightIn (S.image b) p old
-  right_read a b p old same read right =
-      let P : Sector → Type 0 = λ x. AreRightIn (S.image a) p x in
-      let Q : Image → Type 0 = λ i. AreRightIn i p old in
-      subst Q (sym same) (subst P (sym read) right)
-
-  -- the bytes that were read were made right, or were right already
-  pub mended-read : (a b : D) (p : Place) (old bytes : Sector) → S.image b ≡ S.image a → old ≡ sector (S.image a) p
-      → IsCountedAs old bytes → (AreRightIn (S.image b) p old → bytes ≡ old) → AreRightIn (S.image b) p bytes
-      → IsMendedAt (S.image a) p (put (S.image a) p bytes)
-  mended-read a b p old bytes same read counted kept right =
-      let P : Sector → Type 0 = λ x. IsCountedAs x bytes in
-      let Q : Image → Type 0 = λ i. AreRightIn i p bytes in
-      mended-put (S.image a) p bytes (S.whole a) (subst P read counted) (λ x. kept (right_read a b p old same read x)
-      ∙ read) (subst Q same right)
+      subst P (sym there) right
 
   -- one sector more of the directory
   pub step_moments : (a b c : D) (ps : List Place) (k : ℕ) (p : Place) → Contains ps p

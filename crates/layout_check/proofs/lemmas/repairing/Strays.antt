@@ -1,6 +1,6 @@
 -- Runs over side sectors and the directory, told beside strays in the map: these say nothing of such sectors.
 use Rattle.std.proofs.Common.{ℕ, ◌≡◌, ◌≢◌, ◌≤◌, ◌+◌, List, [], ◌∷◌, ◌++◌, sym, inl, inr, subst, refl, arith}
-use Rattle.std.specs.Prelude.{Contains, OnOk, Result}
+use Rattle.std.specs.Prelude.{Contains, Result}
 use Rattle.std.proofs.lemmas.Bool.{cases_eq}
 use Rattle.std.proofs.lemmas.Result.{on_ok_weaker}
 use Rattle.std.proofs.lemmas.List.Elements.{Contains-append_cases, Contains-append_left, Contains-append_right}

@@ -1,13 +1,12 @@
 -- Sector by sector of the directory.
 mod Failed
 mod Returned
-use Rattle.std.proofs.Common.{Ok, ap, arith, length, ◌∙◌}
+use Rattle.std.proofs.Common.{ap, arith, length, ◌∙◌}
 use Rattle.d64_image.proofs.Moments.{at_end, reads_no_write}
 use Rattle.disk_layout.proofs.lemmas.layouts.Layouts.{get-contains}
 use Rattle.disk_layout.specs.Layout.{IsLayout, Layout}
 use Rattle.disk_layout.proofs.lemmas.lists.Lists.{read-there}
-use Rattle.layout_check.proofs.lemmas.repairing.RepairReads.{sector_reads}
-use Rattle.layout_check.proofs.lemmas.repairing.RightWrites.{first_moments, in-of}
+use Rattle.layout_check.proofs.lemmas.repairing.RightWrites.{first_moments, in-of, numbers-in}
 use Rattle.layout_check.proofs.lemmas.repairing.RightWrites.{made_start, made_step, over_start, over_step, sound-of}
 use Rattle.layout_check.proofs.lemmas.repairing.RightWrites.{step_moments, step_quiet}
 use Rattle.layout_check.specs.Recounted.{IsRecountOf}
@@ -16,7 +15,7 @@ use Rattle.layout_check.proofs.recounting.mend_counts.Answers.Failed as failed
 use Rattle.layout_check.proofs.recounting.mend_counts.Answers.Returned as returned
 
 pub find_directory-requires : goal.find_directory-requires
-find_directory-requires g c = let (l, h) = c.requires in (l.directory, _, h.directory)
+find_directory-requires g c = let (l, h, numbers) = c.requires in (l.directory, _, h.directory)
 
 pub loop-place-init : goal.loop-place-init
 loop-place-init g c =
@@ -33,11 +32,7 @@ loop-place-init g c =
           c.find_directory.new.disk found.reads.image;
       quiet = λ all. reads_no_write S c.args.disk.now c.find_directory.new.disk _ found.reads;
       failures = found.failures;
-      reads = λ l h. omega (
-        arith,
-        found.reads.reads,
-        ap length (c.in_ok-find_directory.ensures.directory l.directory _ h.directory),
-      );
+      reads = omega (arith, found.reads.reads, ap length c.as_slice-place-items.ensures.value);
     }
 
 pub mend_sector-requires : goal.mend_sector-requires
@@ -53,10 +48,14 @@ mend_sector-requires g c =
     let held = at_end S c.args.disk.now c.loop-place.disk (λ i. IsRecountOf old i items)
     c.loop-place.invariant.moments.held in
     let there = read-there items k c.place-item.result c.loop-place-test.true c.place-item.is in
+    let (l, is, numbers) = c.requires in
     record {
-      sound = sound-of old now items size c.requires same held;
-      own = in-of old now items c.place-item.result size c.requires same held
-          (get-contains items k c.place-item.result there);
+      here = record {
+        sound = sound-of old now items size (l, is) same held;
+        own = in-of old now items c.place-item.result size (l, is) same held
+            (get-contains items k c.place-item.result there);
+      };
+      numbers = numbers-in old now items c.args.owners.now size l is (same l is) held numbers;
     }
 
 pub loop-place-preserved : goal.loop-place-preserved
@@ -80,10 +79,7 @@ loop-place-preserved g c =
       quiet = step_quiet S c.args.disk.now c.loop-place.disk c.mend_sector.new.disk c.place-item.result old.quiet
           now.quiet;
       failures = now.failures ∙ old.failures;
-      reads = λ l h. (sector_reads S c.args.disk.now l h items (c.as_slice-place-items.ensures.value
-          ∙ c.in_ok-find_directory.ensures.directory l.directory _ h.directory) c.loop-place.disk c.mend_sector.new.disk
-          k c.place-item.result (Ok tt) c.loop-place-test.true c.place-item.is old.moments (old.reads l h)
-          now.reads).ok;
+      reads = omega (arith, old.reads, now.reads);
     }
 
 pub returns-in_err-find_directory : goal.returns-in_err-find_directory

@@ -1,10 +1,8 @@
 -- The sectors so far were gone over, and the image differs in counts alone.
-use Rattle.std.proofs.Common.{◌≡◌, ◌≤◌, ◌+◌, ◌*◌, length, take}
+use Rattle.std.proofs.Common.{◌≡◌, ◌≤◌, ◌+◌, length, take}
 use Rattle.d64_image.specs.History.{Changes, WritesNothing}
 use Rattle.disk_layout.specs.InOrder.{AreMade, GoesOver}
 use Rattle.disk_layout.specs.Layout.{IsLayout, Layout}
-use Rattle.layout_check.proofs.lemmas.repairing.OwnedSums.{is_among}
-use Rattle.layout_check.specs.Reads.{owned_if}
 use Rattle.layout_check.specs.RepairOrder.{IsRight}
 use Rattle.layout_check.specs.Recounted.{AreCounted, IsRecountOf}
 use Rattle.layout_check.proofs.recounting.mend_counts.Given as goal
@@ -20,6 +18,5 @@ invariant-loop-place g l =
           → AreMade (IsRight m) (take l.place-index l.place-items) (S.image l.fn.disk) (S.image l.disk);
       quiet : AreCounted (S.image l.fn.disk) → WritesNothing S l.fn.disk l.disk;
       failures : S.failures l.disk ≡ S.failures l.fn.disk;
-      reads : (m : Layout) → IsLayout (S.image l.fn.disk) m → S.reads l.disk ≤ S.reads l.fn.disk
-          + (length m.directory + l.place-index + 2 * owned_if (is_among (take l.place-index l.place-items)) m.files);
+      reads : S.reads l.disk ≤ S.reads l.fn.disk + (length l.place-items + l.place-index);
     }

@@ -3,7 +3,6 @@ use Rattle.std.proofs.Common.{Err, ◌∙◌, ◌+◌, ◌*◌, arith, length}
 use Rattle.std.proofs.lemmas.Result.{err_from_is_err_and, on_ok_weaker}
 use Rattle.d64_image.proofs.Moments.{at_end, no_write_then}
 use Rattle.layout_check.proofs.lemmas.mending.MapMends.{device_later, mends_then}
-use Rattle.disk_layout.specs.Layout.{owners}
 use Rattle.layout_check.specs.Reads.{owned_by}
 use Rattle.layout_check.specs.RepairOrder.{IsRight, IsRightBut, sides_of}
 use Rattle.layout_check.proofs.lemmas.repairing.OwnedSums.{length-owners}
@@ -19,14 +18,15 @@ use Rattle.layout_check.proofs.repairing.mend.Goals as goal
 
 -- the disk stays sound
 pub mend_entries-requires : goal.mend_entries-requires
-mend_entries-requires g c = let (l, strays, is, marks) = c.requires in
+mend_entries-requires g c = let (l, strays, is, marks, numbers) = c.requires in
     (l, (c.in_ok-mend_map.ensures l strays is marks).mending.layouts l is)
 
 pub mend_counts-requires : goal.mend_counts-requires
-mend_counts-requires g c = let (l, strays, is, marks) = c.requires in (
+mend_counts-requires g c = let (l, strays, is, marks, numbers) = c.requires in (
   l,
   c.in_ok-mend_entries.ensures.mending.layouts l
       ((c.in_ok-mend_map.ensures l strays is marks).mending.layouts l is),
+  numbers,
 )
 
 pub returns-in_err-mend_map : goal.returns-in_err-mend_map
@@ -136,7 +136,7 @@ returns g c l strays is marks =
           (c.mend_counts.ensures.quiet (counts-at strays _ _ m (second.image ∙ first.image) clean));
       reads = λ m also.
           let after_map = mapped.mending.layouts m also in
-          few_after S first c.mend_entries.new.disk last (19 + 3 * owned_by m.files) (2 * length (owners m)) _
+          few_after S first c.mend_entries.new.disk last (19 + 3 * owned_by m.files) (2 * length m.directory) _
           c.mend_counts.result (omega (arith, length-owners m))
           (omega (arith, map.reads, (c.in_ok-mend_entries.ensures.reads m after_map).ok))
           (c.mend_counts.ensures.reads m (c.in_ok-mend_entries.ensures.mending.layouts m after_map));

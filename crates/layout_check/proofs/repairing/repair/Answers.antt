@@ -26,8 +26,8 @@ use Rattle.layout_check.proofs.repairing.repair.Goals as goal
 
 pub mend-requires : goal.mend-requires
 mend-requires g c = let (l, is, of, reads) = c.in_ok-found.ensures.ok in
-    let (now, marks) = marked_after g.D.Sectors.history _ _ _ 2114 c.survey.ensures.reads (l, is, of) in
-    (l, [], now, rw c.owners.ensures marks)
+    let (now, marks, numbers) = marked_after g.D.Sectors.history _ _ _ 2114 c.survey.ensures.reads (l, is, of) in
+    (l, [], now, rw c.owners.ensures marks, rw c.owners.ensures numbers)
 
 pub returns-in_err-found : goal.returns-in_err-found
 returns-in_err-found g c =
@@ -54,7 +54,7 @@ pub returns : goal.returns
 returns g c =
     let S = g.D.Sectors.history in
     let (l, is, of, few) = c.in_ok-found.ensures.ok in
-    let (now, marks) = marked_after S _ _ _ 2114 c.survey.ensures.reads (l, is, of) in
+    let (now, marks, numbers) = marked_after S _ _ _ 2114 c.survey.ensures.reads (l, is, of) in
     let mends = c.mend.ensures l [] now (rw c.owners.ensures marks) in
     let mended = c.in_ok-mend.ensures l [] now (rw c.owners.ensures marks) in
     record {
@@ -84,7 +84,7 @@ pub returns-in_err-mend : goal.returns-in_err-mend
 returns-in_err-mend g c =
     let S = g.D.Sectors.history in
     let (l, is, of, few) = c.in_ok-found.ensures.ok in
-    let (now, marks) = marked_after S _ _ _ 2114 c.survey.ensures.reads (l, is, of) in
+    let (now, marks, numbers) = marked_after S _ _ _ 2114 c.survey.ensures.reads (l, is, of) in
     let mends = c.mend.ensures l [] now (rw c.owners.ensures marks) in
     let mended = c.in_err-mend.ensures l [] now (rw c.owners.ensures marks) in
     let p = err_from_is_err_and c.from_residual-in_err-mend.result c.from_residual-in_err-mend.ensures.1 in

@@ -29,7 +29,7 @@ pub mend-requires : goal.mend-requires
 mend-requires g c =
     let t = c.in_ok-taken.ensures.table in
     let P : Image → Type 0 = λ i. IsLayout i t.layout in
-    (t.layout, t.strays, subst P (sym c.taken_sectors.ensures.reads.image) t.sound, t.marks)
+    (t.layout, t.strays, subst P (sym c.taken_sectors.ensures.reads.image) t.sound, t.marks, t.numbers)
 
 pub returns-in_err-found : goal.returns-in_err-found
 returns-in_err-found g c =
