@@ -1,6 +1,7 @@
 //! The files of a host, by their paths.
-ghost use Rattle.std.specs.Prelude.{◌≡◌, Bool, IfOk, List, ℕ, string_bytes, true};
+ghost use Rattle.std.specs.Prelude.{◌≡◌, Bool, IfOk, IsErr, List, ℕ, string_bytes, true};
 ghost use Rattle.host_files.specs.Rights.{Look, Make, May, Read as ToRead, Remove, Replace, Rights, Use, Write as ToWrite};
+ghost use Rattle.host_files.specs.Standing.{AreOf, IsMissing, Stands, Unsaid};
 
 use std::alloc::Global;
 use std::fs::{File, Metadata, OpenFile, OpenOptions};
@@ -16,9 +17,13 @@ pub trait HostFiles {
     // what may be done with its files
     ghost rights: { Rights Self };
 
+    // what stands at its paths, if it says that
+    ghost stands: { Self → List ℕ → Stands } = { λ _ _. Unsaid };
+
     /// What stands at a path.
     fn look_at(&self, path: &str) -> io::Result<Metadata>
-        requires { May rights self.now Look path.now };
+        requires { May rights self.now Look path.now }
+        ensures { IsMissing stands self.now path.now → IsErr result };
 
     /// The path of the file to which a path leads. It is the path itself if there is no file, or if the host doesn't know.
     fn resolve(&self, alloc: Global, path: &str) -> io::Result<String>
@@ -31,11 +36,15 @@ pub trait HostFiles {
 
     /// Opens the file at a path to read it.
     fn open_to_read(&self, path: &str) -> io::Result<Self::File>
-        requires { May rights self.now ToRead path.now };
+        requires { May rights self.now ToRead path.now }
+        ensures missing { IsMissing stands self.now path.now → IsErr result }
+        ensures bytes { IfOk result (λ file. AreOf stands self.now path.now (Self.File.Read.remaining file)) };
 
     /// Opens the file at a path to read and write it. It is neither made nor cut.
     fn open_to_change(&self, path: &str) -> io::Result<Self::File>
-        requires { May rights self.now ToWrite path.now };
+        requires { May rights self.now ToWrite path.now }
+        ensures missing { IsMissing stands self.now path.now → IsErr result }
+        ensures bytes { IfOk result (λ file. AreOf stands self.now path.now (Self.File.Read.remaining file)) };
 
     /// Opens the file at a path to write it; it needn't be readable. It is neither made nor cut.
     fn open_to_write(&self, path: &str) -> io::Result<Self::File>

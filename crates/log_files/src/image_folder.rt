@@ -1,7 +1,8 @@
 //! The folder of an image, of the system.
 ghost use Rattle.log_files.specs.Unknown.{unknown_folder};
-ghost use Rattle.log_files.specs.LogRights.{MayKeepLogOf, MayReadLogOf};
-ghost use Rattle.std.specs.Prelude.{◌≡◌, ◌<◌, length, string_bytes};
+ghost use Rattle.log_files.specs.LogRights.{MayKeepLogOf, MayReadLogOf, log_of};
+ghost use Rattle.host_files.specs.Standing.{IsMissing};
+ghost use Rattle.std.specs.Prelude.{◌≡◌, ◌<◌, IfOk, IsNone, length, string_bytes};
 ghost use Rattle.std.proofs.Props.{props};
 
 use crate::judging::LOG_BYTES;
@@ -39,6 +40,7 @@ pub(crate) fn log_bytes<F: Read + Drop>(alloc: Global, file: &mut F) -> io::Resu
 /// The log's file, open to be read. None if there is no log.
 pub(crate) fn log_to_read<R: HostFiles>(rt: &R, names: &LogNames) -> io::Result<Option<R::File>>
     requires { MayReadLogOf R.rights rt.now (string_bytes names.now.image) }
+    ensures { IsMissing R.stands rt.now (log_of (string_bytes names.now.image)) → IfOk result IsNone }
 {
     match opened_to_read(rt, names.log()) {
         Ok(file) => Ok(Some(file)),

@@ -1,7 +1,8 @@
 //! An image and its log, of the system, as a reader sees them.
 ghost use Rattle.std.specs.Prelude.{string_bytes};
 ghost use Rattle.std.proofs.Props.{props};
-ghost use Rattle.log_files.specs.LogRights.{MayReadLogOf};
+ghost use Rattle.log_files.specs.LogRights.{MayReadLogOf, log_of};
+ghost use Rattle.host_files.specs.Standing.{IsMissing};
 ghost use Rattle.log_files.specs.Views.{unseen};
 
 use crate::image_folder::{log_bytes, log_to_read, read_sectors};
@@ -55,6 +56,8 @@ where
     R::File: OpenFile,
 {
     ghost seen = { unseen };
+
+    ghost HasNoLog = { λ view. IsMissing R.stands view.rt.now (log_of (string_bytes view.names.now.image)) };
 
     fn read_log(&mut self) -> io::Result<Option<Vec<u8>>> {
         let Some(mut file) = log_to_read(self.rt, self.names)? else {

@@ -1,5 +1,5 @@
 //! Functions that take the memory for their images.
-ghost use Rattle.std.specs.Prelude.{◌≡◌, IfErr, IfOk, IfSome, List, None, Some, length};
+ghost use Rattle.std.specs.Prelude.{◌≡◌, IfErr, IfOk, IfSome, IsNone, List, None, Some, length};
 ghost use Rattle.d64_image.specs.Images.{Image};
 ghost use Rattle.log_files.specs.Bringing.{RestsAlone};
 ghost use Rattle.log_files.specs.Faults.{IsMisfit};
@@ -60,6 +60,7 @@ pub fn view_in<V: ViewsImage>(
     ensures none { IfOk result (λ seen. seen ≡ None → (s : Seen) → V.seen folder.old ≡ Some s → s.log ≡ None) }
     ensures refused { IfErr result (λ e. IsMisfit e → (s : Seen) → V.seen folder.old ≡ Some s
         → (given : Image) → SeenGives s given → ⊥) }
+    ensures without { V.HasNoLog folder.old → IfOk result IsNone }
 {
     let mut now = image_room(alloc)?;
     let mut shop = image_room(alloc)?;

@@ -1,5 +1,5 @@
 //! What a reader sees of an image and its log, also while a writer is at work.
-ghost use Rattle.std.specs.Prelude.{◌≡◌, ◌+◌, ◌≤◌, IfErr, IfOk, OnOk, Option, Some, option_map, length};
+ghost use Rattle.std.specs.Prelude.{◌≡◌, ◌+◌, ◌≤◌, IfErr, IfOk, IsNone, OnOk, Option, Some, false, option_map, length};
 ghost use Rattle.d64_image.specs.Images.{Image};
 ghost use Rattle.log_files.specs.Faults.{IsMisfit};
 ghost use Rattle.log_files.specs.Views.{Goes, GoesTo, IsMarkOf, IsViewed, Seen, SeenGives, marked_if};
@@ -16,8 +16,12 @@ pub trait ViewsImage {
     /// What stands there now, if that is known.
     ghost seen: { Self → Option Seen };
 
+    // it is known that there is no log
+    ghost HasNoLog: { Self → Type 0 } = { λ _. ⊥ };
+
     /// Opens the log, and reads all of it; None if there is none.
     fn read_log(&mut self) -> io::Result<Option<Vec<u8>>>
+        ensures none { HasNoLog self.old → IfOk result IsNone }
         ensures log { IfOk result (λ log. (s : Seen) → seen self.old ≡ Some s
             → option_map (λ bytes. bytes.items) log ≡ s.log) }
         ensures goes { (s : Seen) → seen self.old ≡ Some s → GoesTo seen s self.new };
@@ -92,6 +96,7 @@ pub fn view<V: ViewsImage>(
         → IsViewed V.seen s folder.new there shop.new) }
     ensures refused { IfErr result (λ e. IsMisfit e → (s : Seen) → V.seen folder.old ≡ Some s
         → (given : Image) → SeenGives s given → ⊥) }
+    ensures without { V.HasNoLog folder.old → IfOk result (λ there. there ≡ false) }
 {
     let log = folder.read_log()?;
     match log {
