@@ -106,7 +106,7 @@ def names_of_documents():
         others.update(re.findall(rf"\b(?:fn|ensures|requires|ghost|mod|struct|enum|trait) ({WORD})", file.read_text()))
     for file in TOP.glob("crates/*/specs/**/*.antt"):
         others.update(re.findall(rf"(?m)^ +pub «?({WORD})»? :", file.read_text()))
-    subcommands = (TOP / "crates/command_table/src/subcommands.rt").read_text()
+    subcommands = "".join(it.read_text() for it in (TOP / "crates/command_table/src").glob("*.rt"))
     return words - others - set(re.findall(r'name: "([a-z-]+)"', subcommands))
 
 

@@ -149,7 +149,7 @@ def unknown_code(text, known):
 
 def unnamed_words(text):
     """Subcommands and flags of the program's grammar that the README doesn't name."""
-    table = (TOP / "crates/command_table/src/subcommands.rt").read_text()
+    table = "".join(it.read_text() for it in sorted((TOP / "crates/command_table/src").glob("*.rt")))
     commands = re.findall(r'name: "([a-z-]+)",\s*about:', table)
     flags = [f"--{it}" for it in re.findall(r'word: Some\("([a-z-]+)"\)', table)]
     named = set(re.findall(r"--[a-z-]+|[a-z-]+", " ".join(re.findall(r"`([^`\n]+)`", text))))

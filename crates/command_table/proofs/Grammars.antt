@@ -1,11 +1,14 @@
 -- What a command has that got a value, or a subcommand.
 use Rattle.std.proofs.Common.{◌≡◌, ◌<◌, ◌+◌, ℕ, List, length, get_or, take, fold, ap₂, ◌∙◌, ap, subst, sym}
 use Rattle.std.proofs.lemmas.List.Sums.{fold_more}
-use Rattle.std.specs.Prelude.{◌||◌, Bool, false}
+use Rattle.std.specs.Prelude.{◌||◌, Bool, Err, IfOk, Ok, Result, false}
+use Rattle.std.specs.declared.alloc.AllocError.{AllocError}
 use Rattle.clap.specs.Words.{AddsArg, AddsSubcommand, App, Rule, app_of, rule_of, with_rule, with_subcommand}
 use Rattle.clap.specs.declared.builder.arg.Arg.{Arg}
 use Rattle.clap.specs.declared.builder.command.Command.{Command}
 use Rattle.command_table.specs.Grammar.{IsSubcommand}
+use Rattle.command_table.specs.Rows.{HasRows, with_row}
+use Rattle.command_table.specs.declared.subcommands.Subcommand.{Subcommand}
 
 -- a subcommand has a value of this rule more, which no other has
 pub arg-made : (old : Command) (a : Arg) (new : Command) (before : App) (rule : Rule) → IsSubcommand before old
@@ -25,3 +28,14 @@ subcommand-made old sub new before app known is adds = adds.shape is.own
 pub one-more : {A B : Type 0} (f : B → A → B) (start : B) (xs : List A) (i : ℕ) (d : A) (P : B → Type 0) → i < length xs
     → P (f (fold f start (take i xs)) (get_or xs i d)) → P (fold f start (take (i + 1) xs))
 one-more f start xs i d P h = subst P (sym (fold_more f start xs i d h))
+
+-- which program one with these rows more is, where that before them is known
+pub rows-after : (before known : App) (rows : List Subcommand) (c : Command) → before ≡ known → HasRows before rows c
+    → app_of c ≡ fold with_row known rows
+rows-after before known rows c same has = subst (λ a. app_of c ≡ fold with_row a rows) same has.is
+
+-- and which one is made, if memory is there
+pub rows-made : (before known : App) (rows : List Subcommand) (made : Result Command AllocError) → before ≡ known
+    → IfOk made (HasRows before rows) → IfOk made (λ c. app_of c ≡ fold with_row known rows)
+rows-made before known rows (Ok c) same has = rows-after before known rows c same has
+rows-made before known rows (Err e) same has = tt

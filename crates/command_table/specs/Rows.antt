@@ -1,6 +1,7 @@
 -- What the table of subcommands says of the words (our own).
-use Rattle.std.specs.Prelude.{Bool, None, Option, Some, false, fold, option_map, true}
-use Rattle.clap.specs.Words.{App, Rule, new_app, new_rule, with_rule}
+use Rattle.std.specs.Prelude.{◌≡◌, Bool, List, None, Option, Some, false, fold, option_map, true}
+use Rattle.clap.specs.Words.{App, Rule, app_of, new_app, new_rule, with_rule}
+use Rattle.clap.specs.declared.builder.command.Command.{Command}
 use Rattle.clap.specs.declared.builder.action.ArgAction.{ArgAction}
 use Rattle.clap.specs.declared.builder.action.ArgAction.TheVariants.{Append, SetTrue}
 use Rattle.command_table.specs.Grammar.{with_command}
@@ -42,3 +43,7 @@ app s = fold with_value (new_app s.name.now) s.values.now
 -- the program with a subcommand more
 abbrev pub with_row : App → Subcommand → App
 with_row a s = with_command a (app s)
+
+-- this program is that one with these subcommands more, in their order
+pub record HasRows (before : App) (subcommands : List Subcommand) (c : Command) : Type 0 where
+  pub is : app_of c ≡ fold with_row before subcommands

@@ -5,8 +5,12 @@ ghost use Rattle.clap.specs.declared.builder.command.Command.TheViews.{out-Comma
 ghost use Rattle.command_table.specs.Grammar as grammar;
 ghost use Rattle.command_table.specs.Rows as rows;
 
+use crate::changes::CHANGES;
 use crate::help_texts::MORE;
-use crate::subcommands::{SUBCOMMANDS, Subcommand};
+use crate::looks::LOOKS;
+use crate::rescues::RESCUES;
+use crate::shops::SHOPS;
+use crate::subcommands::Subcommand;
 use crate::values::{Count, EXPLAIN, Value};
 use clap::{Arg, ArgAction, Command};
 use std::alloc::{AllocError, Global};
@@ -76,13 +80,27 @@ fn bare<'a>(alloc: Global) -> Result<Command<'a>, AllocError>
         .arg(arg_of(alloc, &EXPLAIN))
 }
 
+/// The program with the subcommands of a group more, in their order.
+fn with_group<'a>(
+    alloc: Global,
+    before: Command<'a>,
+    group: &'static [Subcommand],
+) -> Result<Command<'a>, AllocError>
+    ensures { IfOk result (rows.HasRows (app_of before.entry) group.entry.now) }
+{
+    let mut program = before;
+    for subcommand in group {
+        program = program.subcommand(explainable_of(alloc, subcommand)?)?;
+    }
+    Ok(program)
+}
+
 /// The program's command line.
 pub fn ledger_command<'a>(alloc: Global) -> Result<Command<'a>, AllocError>
     ensures { IfOk result (λ c. app_of c ≡ grammar.ledger) }
 {
-    let mut program = bare(alloc)?;
-    for subcommand in &SUBCOMMANDS {
-        program = program.subcommand(explainable_of(alloc, subcommand)?)?;
-    }
-    Ok(program)
+    let program = with_group(alloc, bare(alloc)?, LOOKS)?;
+    let program = with_group(alloc, program, RESCUES)?;
+    let program = with_group(alloc, program, CHANGES)?;
+    with_group(alloc, program, SHOPS)
 }

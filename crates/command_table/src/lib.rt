@@ -1,12 +1,12 @@
 //! The command line that the program takes, for `clap`, and what its help says.
 #![tactic(auto)]
 
-mod change_texts;
+mod changes;
 mod grammar;
 mod help_texts;
-mod look_texts;
-mod rescue_texts;
-mod shop_texts;
+mod looks;
+mod rescues;
+mod shops;
 mod subcommands;
 mod values;
 

@@ -1,7 +1,15 @@
-//! What help says below the words of the subcommands that look at disks, at most 80 columns wide.
+//! The subcommands that look at disks: the words of each, and what help says of it, at most 80 columns wide.
+use crate::subcommands::Subcommand;
+use crate::values::{Count, IMAGE, IMAGES, MIXED, TEXT, Value};
 
-/// What `list` prints, its statuses, and an example.
-pub(crate) const LIST: &str = "\
+/// The subcommands that look at disks, in the order in which help lists them.
+pub(crate) const LOOKS: &[Subcommand] = &[LIST, CHECK, MAP, PICTURE, FREE, SECTOR];
+
+/// `list IMAGE.. [--text] [--mixed]`
+const LIST: Subcommand = Subcommand {
+    name: "list",
+    about: "Prints the directory of an image, or of several",
+    more: "\
 Prints the disk's name, a line for each entry, and how many blocks are free. `*`
 before the type: the file wasn't closed. `<` after it: the file is locked.
 `?` stands for a byte that ASCII lacks; with --text or --mixed its character.
@@ -13,10 +21,31 @@ Exit status:
   1  the image is refused (IMAGE SIZE, LAYOUT, LOG)
   3  FILE, NO MEMORY, IN USE
 
-Example: ledger list old.d64";
+Example: ledger list old.d64",
+    values: &[IMAGES, TEXT, MIXED],
+};
 
-/// What `check` prints, its statuses, and an example.
-pub(crate) const CHECK: &str = "\
+/// The flag that describes images by objects.
+const JSON: Value = Value {
+    name: "json",
+    word: Some("json"),
+    count: Count::Flag,
+    help: "Prints an object of JSON for each image, in a line",
+};
+
+/// The flag that prints every fault.
+const ALL: Value = Value {
+    name: "all",
+    word: Some("all"),
+    count: Count::Flag,
+    help: "Prints every fault, each with the files that it concerns",
+};
+
+/// `check IMAGE.. [--json] [--all]`
+const CHECK: Subcommand = Subcommand {
+    name: "check",
+    about: "Checks the layout of images: prints OK, or a fault and its sector",
+    more: "\
 Prints OK, or a fault and its sector, for example LOOP 17/0:
   MAPWRONG    the map of free sectors (BAM) is wrong about this sector; at 18/0:
               about the number of free sectors of a track
@@ -43,10 +72,15 @@ Exit status:
   1  a fault, IMAGE SIZE, LOG
   3  FILE, NO MEMORY, IN USE
 
-Example: ledger check ./*.[dD]64";
+Example: ledger check ./*.[dD]64",
+    values: &[IMAGES, JSON, ALL],
+};
 
-/// What `map` prints, its statuses, and an example.
-pub(crate) const MAP: &str = "\
+/// `map IMAGE..`
+const MAP: Subcommand = Subcommand {
+    name: "map",
+    about: "Prints the owner of each sector, the files, and the result of a check",
+    more: "\
 Draws a damaged disk too, as far as its links can be followed:
   *  the map of free sectors (BAM)      .  free
   =  the directory                      ?  taken, but in no file
@@ -60,10 +94,39 @@ Exit status:
   1  a fault, or the image is refused
   3  FILE, NO MEMORY, IN USE
 
-Example: ledger map old.d64";
+Example: ledger map old.d64",
+    values: &[IMAGES],
+};
 
-/// What `picture` prints, its statuses, and an example.
-pub(crate) const PICTURE: &str = "\
+/// The flag for a poster.
+const SVG: Value = Value {
+    name: "svg",
+    word: Some("svg"),
+    count: Count::Flag,
+    help: "Prints a poster, as an SVG file of its own",
+};
+
+/// The flag for a sheet of several images.
+const SHEET: Value = Value {
+    name: "sheet",
+    word: Some("sheet"),
+    count: Count::Flag,
+    help: "Prints a page with a small drawing of each image, at most 400",
+};
+
+/// The flag that compares two images.
+const COMPARE: Value = Value {
+    name: "compare",
+    word: Some("compare"),
+    count: Count::Flag,
+    help: "Prints a page of the second of two images, with what differs from the first",
+};
+
+/// `picture IMAGE.. [--svg] [--sheet] [--compare]`
+const PICTURE: Subcommand = Subcommand {
+    name: "picture",
+    about: "Prints a drawing of the disk as an HTML page, or as a poster",
+    more: "\
 Draws a damaged disk too, as far as its links can be followed. The page loads
 nothing and has no script, and neither does the poster (297 by 420 mm).
 A sheet has a tile for each image, also for one that is refused, and ends with
@@ -78,10 +141,15 @@ Exit status:
      two of --svg, --sheet and --compare
   3  FILE, NO MEMORY, IN USE
 
-Example: ledger picture --sheet ./*.d64 > all.html";
+Example: ledger picture --sheet ./*.d64 > all.html",
+    values: &[IMAGES, SVG, SHEET, COMPARE],
+};
 
-/// What `free` prints, its statuses, and an example.
-pub(crate) const FREE: &str = "\
+/// `free IMAGE`
+const FREE: Subcommand = Subcommand {
+    name: "free",
+    about: "Prints how many sectors of each track are free",
+    more: "\
 Prints a line for each track, for example TRACK 17 FREE 21, and how many blocks
 are free for files. The numbers are those of the disk's map, right or wrong.
 
@@ -90,10 +158,23 @@ Exit status:
   1  the image is refused (IMAGE SIZE, LOG)
   3  FILE, NO MEMORY, IN USE
 
-Example: ledger free old.d64";
+Example: ledger free old.d64",
+    values: &[IMAGE],
+};
 
-/// What `sector` prints, its statuses, and an example.
-pub(crate) const SECTOR: &str = "\
+/// A sector of the disk.
+const PLACE: Value = Value {
+    name: "T/S",
+    word: None,
+    count: Count::One,
+    help: "The sector, for example 17/4: sector 4 of track 17",
+};
+
+/// `sector IMAGE T/S`
+const SECTOR: Subcommand = Subcommand {
+    name: "sector",
+    about: "Prints a sector in hexadecimal digits, its owner and its link",
+    more: "\
 Prints the sector's bytes, sixteen in a line, with the characters that a C64
 shows for them; then OWNER and the file's line as `map` prints it, and LINK and
 the sector that comes next. After LINK END stands the number of the last byte of
@@ -105,4 +186,6 @@ Exit status:
   2  SECTOR: the disk has no such sector
   3  FILE, NO MEMORY, IN USE
 
-Example: ledger sector old.d64 18/0";
+Example: ledger sector old.d64 18/0",
+    values: &[IMAGE, PLACE],
+};

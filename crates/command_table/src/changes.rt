@@ -1,0 +1,181 @@
+//! The subcommands that change the files of a disk: the words of each, and what help says of it, at most 80 columns wide.
+use crate::subcommands::Subcommand;
+use crate::values::{ACCEPT_LOSS, Count, FIELDS, IMAGE, NAME, POSITIONS, Value};
+
+/// The subcommands that change the files of a disk, in the order in which help lists them.
+pub(crate) const CHANGES: &[Subcommand] = &[NEW, MAKE, STORE, PUT, RENAME, DELETE];
+
+/// The name of a new disk.
+const DISK_NAME: Value = Value {
+    name: "N",
+    word: Some("name"),
+    count: Count::One,
+    help: "The disk's name, at most 16 bytes",
+};
+
+/// The ID of a new disk.
+const DISK_ID: Value = Value {
+    name: "I",
+    word: Some("id"),
+    count: Count::One,
+    help: "The disk's ID, two bytes",
+};
+
+/// `new IMAGE --name N --id I`
+const NEW: Subcommand = Subcommand {
+    name: "new",
+    about: "Makes the image of an empty disk",
+    more: "\
+Prints FORMATTED once the image is on the disk. The disk has no file.
+
+Exit status:
+  0  the image was made
+  1  FILE EXISTS: IMAGE or its log exists, and nothing was done
+  2  NAME: more than 16 bytes; ID: not two bytes
+  3  FILE (the file, its folder or the output failed), NO MEMORY
+
+Example: ledger new work.d64 --name WORK --id 01",
+    values: &[IMAGE, DISK_NAME, DISK_ID],
+};
+
+/// The length of the records of a new file.
+const LENGTH: Value = Value {
+    name: "L",
+    word: Some("length"),
+    count: Count::One,
+    help: "How many bytes a record has, 1 to 254",
+};
+
+/// `make IMAGE NAME --length L [--accept-loss]`
+const MAKE: Subcommand = Subcommand {
+    name: "make",
+    about: "Makes a relative file with a block of empty records",
+    more: "\
+Prints MADE.
+
+Exit status:
+  0  the file was made
+  1  the disk isn't clean (LAYOUT: repair it first), SHORT, IMAGE SIZE, LOG,
+     FILE EXISTS, DISK FULL: nothing was done
+  2  NAME, LENGTH
+  3  FILE, NO MEMORY, IN USE, DEVICE
+
+Example: ledger make new.d64 ADDRESS --length 40",
+    values: &[IMAGE, NAME, LENGTH, ACCEPT_LOSS],
+};
+
+/// The text of records of a subcommand.
+const RECORD_LINES: Value = Value {
+    name: "RECORDS",
+    word: None,
+    count: Count::One,
+    help: "The records as `records` prints them, or /dev/stdin",
+};
+
+/// `store IMAGE NAME RECORDS [--accept-loss] [--fields] [--at P]`
+const STORE: Subcommand = Subcommand {
+    name: "store",
+    about: "Stores records in a relative file, and prints those that changed",
+    more: "\
+Prints the line of each record that changed. The file grows as far as the
+greatest record number. With --fields a CR ends each column after the number.
+With --at 1,25,49 each column goes to its position, with zeros between them; a
+column that goes beyond the next position is refused. Otherwise a line has one
+column.
+
+Exit status:
+  0  the records were stored
+  1  the disk isn't clean (LAYOUT: repair it first), SHORT, IMAGE SIZE, LOG,
+     NO FILE, RECORDS LINE n, DISK FULL: nothing was done
+  2  NAME, POSITIONS, FLAGS
+  3  FILE, NO MEMORY, IN USE, DEVICE
+
+Example: ledger store new.d64 ADDRESS address.csv",
+    values: &[IMAGE, NAME, RECORD_LINES, ACCEPT_LOSS, FIELDS, POSITIONS],
+};
+
+/// The file of the host whose bytes a new file gets.
+const FILE: Value = Value {
+    name: "FILE",
+    word: None,
+    count: Count::One,
+    help: "The path of the file whose bytes it gets, or /dev/stdin",
+};
+
+/// The type of a new file.
+const FILE_TYPE: Value = Value {
+    name: "TYPE",
+    word: Some("type"),
+    count: Count::One,
+    help: "The file's type: prg, seq or usr",
+};
+
+/// `put IMAGE NAME FILE --type TYPE`
+const PUT: Subcommand = Subcommand {
+    name: "put",
+    about: "Puts a file of the host on the disk",
+    more: "\
+Prints PUT. An empty FILE gives a file with one byte, a carriage return.
+
+Exit status:
+  0  the file is on the disk
+  1  the disk isn't clean (LAYOUT: repair it first), SHORT, IMAGE SIZE, LOG,
+     FILE EXISTS, DISK FULL: nothing was done
+  2  NAME, TYPE
+  3  FILE, NO MEMORY, IN USE, DEVICE
+
+Example: ledger put new.d64 GAME game.prg --type prg",
+    values: &[IMAGE, NAME, FILE, FILE_TYPE],
+};
+
+/// The name of a file that gets another.
+const OLD_NAME: Value = Value {
+    name: "OLD",
+    word: None,
+    count: Count::One,
+    help: "The file's name; \\c1 is the byte with these two hex digits",
+};
+
+/// The name that it gets.
+const NEW_NAME: Value = Value {
+    name: "NEW",
+    word: None,
+    count: Count::One,
+    help: "The name that it gets, which no other file may have",
+};
+
+/// `rename IMAGE OLD NEW`
+const RENAME: Subcommand = Subcommand {
+    name: "rename",
+    about: "Gives a file another name",
+    more: "\
+Prints RENAMED. It renames the first file that has the name OLD.
+
+Exit status:
+  0  the file was renamed
+  1  the disk is damaged (LAYOUT: repair it first), SHORT, IMAGE SIZE, LOG,
+     NO FILE, FILE EXISTS (NEW): nothing was done
+  2  NAME
+  3  FILE, NO MEMORY, IN USE, DEVICE
+
+Example: ledger rename old.d64 LETTER 'LETTER 1'",
+    values: &[IMAGE, OLD_NAME, NEW_NAME],
+};
+
+/// `delete IMAGE NAME`
+const DELETE: Subcommand = Subcommand {
+    name: "delete",
+    about: "Deletes a file, and frees its sectors",
+    more: "\
+Prints DELETED. It deletes the first file of this name, and frees its sectors.
+
+Exit status:
+  0  the file was deleted
+  1  the disk isn't clean (LAYOUT: repair it first), SHORT, IMAGE SIZE, LOG,
+     NO FILE, LOCKED: nothing was done
+  2  NAME
+  3  FILE, NO MEMORY, IN USE, DEVICE
+
+Example: ledger delete old.d64 LETTER",
+    values: &[IMAGE, NAME],
+};

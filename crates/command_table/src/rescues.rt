@@ -1,0 +1,170 @@
+//! The subcommands that rescue files and disks: the words of each, and what help says of it, at most 80 columns wide.
+use crate::subcommands::Subcommand;
+use crate::values::{ACCEPT_LOSS, Count, FIELDS, IMAGE, MIXED, NAME, POSITIONS, TEXT, Value};
+
+/// The subcommands that rescue files and disks, in the order in which help lists them.
+pub(crate) const RESCUES: &[Subcommand] = &[RECORDS, BYTES, EXTRACT, REPAIR, TRIM];
+
+/// The flag of those that print a file that may be unclosed.
+const UNCLOSED: Value = Value {
+    name: "unclosed",
+    word: Some("unclosed"),
+    count: Count::Flag,
+    help: "Takes the first file with the name, closed or not",
+};
+
+/// `records IMAGE NAME [--text] [--mixed] [--fields] [--at P] [--unclosed]`
+const RECORDS: Subcommand = Subcommand {
+    name: "records",
+    about: "Prints the records of a relative file, a line each",
+    more: "\
+Prints a line for each record, for example 1,\"MILK\\0d\". If the file is
+damaged, it prints what can be read, and then reports a fault.
+--text and --mixed print lines for people: `store` doesn't take them back.
+--fields prints a column for each field, which a CR ends: 1,\"MILK\",\"12\". A last
+column \\- says that the last field has no CR. --at 1,25,49 prints the bytes from
+each position up to the next one, without the zeros at their end. `store` with
+the same flag takes these lines back. With --fields or --at, --text and --mixed
+have no effect. With --unclosed nothing of the disk but the file is checked.
+
+Exit status:
+  0  the records were printed
+  1  LAYOUT and a fault, or SHORT (the file has lost its end): what can be read
+     was printed; or NO FILE, IMAGE SIZE, LOG: nothing was
+  2  NAME, POSITIONS, FLAGS
+  3  FILE, NO MEMORY, IN USE
+
+Example: ledger records old.d64 ADDRESS > address.csv",
+    values: &[IMAGE, NAME, TEXT, MIXED, FIELDS, POSITIONS, UNCLOSED],
+};
+
+/// `bytes IMAGE NAME [--text] [--mixed] [--unclosed]`
+const BYTES: Subcommand = Subcommand {
+    name: "bytes",
+    about: "Prints the bytes of a file of any type",
+    more: "\
+Prints the bytes of the first closed file with this name. If the file is
+damaged, it prints what can be read, and then reports the fault. With --text or
+--mixed each CR ends a line. With --unclosed it takes the first file with this
+name, and reports UNCLOSED if that isn't closed.
+
+Exit status:
+  0  the bytes were printed
+  1  LAYOUT and a fault, or SHORT (the file has lost its end): what can be read
+     was printed; or NO FILE, IMAGE SIZE, LOG: nothing was
+  2  NAME
+  3  FILE, NO MEMORY, IN USE
+
+Example: ledger bytes old.d64 'ADD\\c1' > add.prg",
+    values: &[IMAGE, NAME, TEXT, MIXED, UNCLOSED],
+};
+
+/// The folder that files are taken out to.
+const FOLDER: Value = Value {
+    name: "FOLDER",
+    word: None,
+    count: Count::One,
+    help: "The folder's path, where nothing may stand yet",
+};
+
+/// The flag that takes deleted files out too.
+const DELETED: Value = Value {
+    name: "deleted",
+    word: Some("deleted"),
+    count: Count::Flag,
+    help: "Takes out deleted files too, if no other file has a block of theirs",
+};
+
+/// The flag that looks for sectors of a lost directory.
+const SCAN: Value = Value {
+    name: "scan",
+    word: Some("scan"),
+    count: Count::Flag,
+    help: "Reads other sectors of track 18 too that look like the directory's",
+};
+
+/// `extract IMAGE FOLDER [--deleted] [--scan]`
+const EXTRACT: Subcommand = Subcommand {
+    name: "extract",
+    about: "Takes all files out of an image, as far as they can be read",
+    more: "\
+Makes FOLDER, and in it a file for each entry of the directory, for example
+01-LETTER 02.prg. A relative file also has its records as lines (.csv). What can
+be read of a damaged file is taken, and index.csv says what was found. Prints
+EXTRACTED if all files are whole. With --deleted deleted files come after all
+others (.del), if no block of theirs is also another file's. With --scan the
+other sectors of track 18 are read too that look like those of a directory.
+
+Exit status:
+  0  all files are whole
+  1  a file or the directory isn't (LAYOUT and the first fault, SHORT); or
+     IMAGE SIZE, LOG, FILE EXISTS: nothing was done
+  3  FILE, NO MEMORY, IN USE
+
+Example: ledger extract old.d64 old",
+    values: &[IMAGE, FOLDER, DELETED, SCAN],
+};
+
+/// The flag that frees sectors that no file owns.
+const FREE_SECTORS: Value = Value {
+    name: "free",
+    word: Some("free"),
+    count: Count::Flag,
+    help: "Frees the sectors that are taken and belong to no file",
+};
+
+/// The flag that writes nothing.
+const DRY_RUN: Value = Value {
+    name: "dry-run",
+    word: Some("dry-run"),
+    count: Count::Flag,
+    help: "Prints the same lines, and writes nothing",
+};
+
+/// The flag that builds side sectors anew.
+const SIDES: Value = Value {
+    name: "sides",
+    word: Some("sides"),
+    count: Count::Flag,
+    help: "Builds side sectors that disagree with their files anew first",
+};
+
+/// `repair IMAGE [--accept-loss] [--free] [--dry-run] [--sides]`
+const REPAIR: Subcommand = Subcommand {
+    name: "repair",
+    about: "Corrects the map, the side sectors and the block counts of a disk",
+    more: "\
+Prints MENDED and the sector for each sector that it changed, then OK. No file
+changes. Sectors that are marked as taken and belong to no file stay taken:
+KEPT and their number instead of OK. With --free it prints FREED and the sector
+for each of them. With --sides it first builds the side sectors of relative
+files anew from their chains, where they disagree, and prints MENDED for each.
+
+Exit status:
+  0  the disk is clean
+  1  KEPT; or the disk is refused (LAYOUT, SHORT, GEOS, FORMAT, IMAGE SIZE, LOG)
+     and untouched
+  3  FILE, NO MEMORY, IN USE, DEVICE
+
+Example: ledger repair --dry-run old.d64",
+    values: &[IMAGE, ACCEPT_LOSS, FREE_SECTORS, DRY_RUN, SIDES],
+};
+
+/// `trim IMAGE`
+const TRIM: Subcommand = Subcommand {
+    name: "trim",
+    about: "Prints tracks 1 to 35 of an image with 40, or with error bytes",
+    more: "\
+Prints an image of 174848 bytes, as every other command takes it, from one of 35
+or 40 tracks with or without error bytes. On standard error it prints a line for
+each sector that the drive couldn't read, for example ERROR 23 17/4. A file that
+goes on past track 35 has one too: BEYOND and the sector whose link leads there.
+
+Exit status:
+  0  all of the image is there
+  1  such a line was printed, or the image is refused (IMAGE SIZE, LOG)
+  3  FILE, NO MEMORY, IN USE
+
+Example: ledger trim old40.d64 > old.d64",
+    values: &[IMAGE],
+};

@@ -1,0 +1,179 @@
+//! The subcommands that run a shop: the words of each, and what help says of it, at most 80 columns wide.
+use crate::subcommands::Subcommand;
+use crate::values::{ACCEPT_LOSS, Count, IMAGE, Value};
+
+/// The subcommands that run a shop, in the order in which help lists them.
+pub(crate) const SHOPS: &[Subcommand] = &[FORMAT, SHOW, PLAY, DRY, SERVE, COPY];
+
+/// The number of tills of a new shop.
+const TILLS: Value = Value {
+    name: "T",
+    word: Some("tills"),
+    count: Count::One,
+    help: "How many tills the shop has, 1 to 64",
+};
+
+/// The flag that keeps an image that exists.
+const ONLY_NEW: Value = Value {
+    name: "new",
+    word: Some("new"),
+    count: Count::Flag,
+    help: "Refuses to replace an image that exists",
+};
+
+/// `format IMAGE --tills T [--new]`
+const FORMAT: Subcommand = Subcommand {
+    name: "format",
+    about: "Makes the image of an empty shop, or replaces it",
+    more: "\
+Prints FORMATTED once the image is on the disk. Without --new it replaces IMAGE
+if that exists, and removes its log first.
+
+Exit status:
+  0  the image was made
+  1  FILE EXISTS, with --new: IMAGE or its log exists, and nothing was done
+  2  TILLS: T isn't 1 to 64
+  3  FILE (the file, its folder or the output failed), NO MEMORY, IN USE
+
+Example: ledger format --new shop.d64 --tills 4",
+    values: &[IMAGE, TILLS, ONLY_NEW],
+};
+
+/// `show IMAGE`
+const SHOW: Subcommand = Subcommand {
+    name: "show",
+    about: "Prints the cards, and the last two requests of each till",
+    more: "\
+Prints TOP (the greatest item that has room), a CARD for each item, and for each
+till its last two requests as TILL and PRIOR.
+
+Exit status:
+  0  the shop was printed
+  1  the image isn't a shop, or LOG
+  3  FILE, NO MEMORY, IN USE
+
+Example: ledger show shop.d64",
+    values: &[IMAGE],
+};
+
+/// The script of a subcommand.
+const SCRIPT: Value = Value {
+    name: "SCRIPT",
+    word: None,
+    count: Count::One,
+    help: "The script, a line each message; /dev/stdin is standard input",
+};
+
+/// The flag that syncs each sector by itself.
+const SYNC: Value = Value {
+    name: "sync",
+    word: Some("sync"),
+    count: Count::Flag,
+    help: "Syncs each sector before the next is written",
+};
+
+/// The flag that plays over a log.
+const LOG: Value = Value {
+    name: "log",
+    word: Some("log"),
+    count: Count::Flag,
+    help: "Plays over a log beside the image, as `serve` does; not with --sync",
+};
+
+/// `play IMAGE SCRIPT [--sync] [--log]`
+const PLAY: Subcommand = Subcommand {
+    name: "play",
+    about: "Plays the messages of a script on the image, and prints the replies",
+    more: "\
+Prints a reply for each line, for example 1,1,DONE,40. In a line such as
+\"@2 1,1,R,7,5\" the power fails after two writes; --log refuses such a line.
+With --log the requests are synced in IMAGE-log first, and come to IMAGE at the
+end.
+
+Exit status:
+  0  all lines were played
+  1  the script (SCRIPT LINE n) or the image is refused: nothing was done
+  2  FLAGS: --sync and --log
+  3  FILE, NO MEMORY, IN USE; or DEVICE: check a copy on another disk, and go
+     on there
+
+Example: ledger play shop.d64 day.txt",
+    values: &[IMAGE, SCRIPT, SYNC, LOG],
+};
+
+/// `dry SCRIPT`
+const DRY: Subcommand = Subcommand {
+    name: "dry",
+    about: "Prints the replies to a script on an empty shop, without a disk",
+    more: "\
+Prints the replies that a fresh disk with 64 tills would give.
+
+Exit status:
+  0  the replies were printed
+  1  SCRIPT LINE n: nothing was printed
+  3  FILE, NO MEMORY
+
+Example: ledger dry day.txt",
+    values: &[SCRIPT],
+};
+
+/// The flag that syncs nothing.
+const UNSYNCED: Value = Value {
+    name: "unsynced",
+    word: Some("unsynced"),
+    count: Count::Flag,
+    help: "Leaves it to the system when replies are on the disk",
+};
+
+/// The flag that serves without a log.
+const IN_PLACE: Value = Value {
+    name: "in-place",
+    word: Some("in-place"),
+    count: Count::Flag,
+    help: "Uses no log: writes and syncs each sector in IMAGE itself",
+};
+
+/// `serve IMAGE [--unsynced] [--accept-loss] [--in-place]`
+const SERVE: Subcommand = Subcommand {
+    name: "serve",
+    about: "Answers the messages on standard input, over a log beside the image",
+    more: "\
+Takes the lines at hand, 512 at most, syncs once, and prints their replies. What
+they changed is in IMAGE-log until the input ends; other commands read it there.
+With --in-place it writes IMAGE itself, and prints each reply before it reads
+the next line.
+
+Exit status:
+  0  the input ended
+  1  the image isn't a shop, a file of the disk has lost its end (SHORT), LOG:
+     nothing was done
+  3  FILE, NO MEMORY, IN USE, DEVICE (also if IMAGE no longer names the file
+     that is served)
+
+Example: ledger serve shop.d64 < messages.txt",
+    values: &[IMAGE, UNSYNCED, ACCEPT_LOSS, IN_PLACE],
+};
+
+/// The path of a copy.
+const COPY_PATH: Value = Value {
+    name: "NEW",
+    word: None,
+    count: Count::One,
+    help: "The copy's path, where no file may stand yet",
+};
+
+/// `copy IMAGE NEW`
+const COPY: Subcommand = Subcommand {
+    name: "copy",
+    about: "Copies the image as it is now, also while it is served",
+    more: "\
+Prints COPIED once the copy is on the disk. The copy needs no log.
+
+Exit status:
+  0  the image was copied
+  1  IMAGE SIZE, LOG, or FILE EXISTS (NEW, or its log): nothing was done
+  3  FILE, NO MEMORY, IN USE
+
+Example: ledger copy shop.d64 backup.d64",
+    values: &[IMAGE, COPY_PATH],
+};

@@ -1,0 +1,62 @@
+//! A disk from which files are taken out, by hand from the bytes that are written on it.
+use d64_image::{MemDisk, Place, Sectors};
+use disk_layout::Fault;
+use std::process::Abort;
+
+/// Bytes that are written: a sector, at which of its bytes they begin, and the bytes.
+pub(crate) type Written = (u8, u8, usize, &'static [u8]);
+
+/// A program of one block, and a locked relative file with records of two bytes, whose side sector is missing.
+pub(crate) const DISK: [Written; 5] = [
+    (
+        18,
+        1,
+        0,
+        b"\x00\xff\x82\x11\x00A/\"\xa0\xa0\xa0\xa0\xa0\xa0\xa0\xa0\xa0\xa0\xa0\xa0\xa0",
+    ),
+    (18, 1, 30, b"\x01\x00"),
+    (
+        18,
+        1,
+        34,
+        b"\xc4\x11\x02\xc1\xa0B\xa0\xa0\xa0\xa0\xa0\xa0\xa0\xa0\xa0\xa0\xa0\xa0\xa0\x11\x01\x02\x00\x00\x00\x00\x00\x00\x03\x00",
+    ),
+    (17, 0, 0, b"\x00\x03HI"),
+    (17, 2, 0, b"\x00\x06ABC\x00D"),
+];
+
+/// A change that changes nothing.
+pub(crate) const SAME: Written = (17, 0, 0, b"\x00\x03");
+
+/// A disk of zeros with these bytes, and with this change.
+pub(crate) fn written(rt: &(impl Abort + AllocGlobal), parts: &[Written], change: Written) -> MemDisk {
+    let mut disk = MemDisk::zeroed(rt.alloc()).expect(rt, "a disk of zeros");
+    for part in parts {
+        put(&mut disk, *part);
+    }
+    put(&mut disk, change);
+    disk
+}
+
+/// Writes these bytes.
+pub(crate) fn put(disk: &mut MemDisk, (track, sector, at, part): Written) {
+    let place = Place::new(track, sector).unwrap_or_default();
+    let mut bytes = [0; 256];
+    let _ = disk.read(place, &mut bytes);
+    for (room, byte) in bytes.iter_mut().skip(at).zip(part) {
+        *room = *byte;
+    }
+    let _ = disk.write(place, &bytes);
+}
+
+/// The fault of a row: 0 none, 1 `BadLink`, 2 `Loop`, 3 `OwnedTwice`, 4 `Unclosed`, and its sector.
+pub(crate) fn fault_of((kind, track, sector): (u8, u8, u8)) -> Option<Fault> {
+    let place = Place::new(track, sector).unwrap_or_default();
+    match kind {
+        1 => Some(Fault::BadLink(place)),
+        2 => Some(Fault::Loop(place)),
+        3 => Some(Fault::OwnedTwice(place)),
+        4 => Some(Fault::Unclosed(place)),
+        _ => None,
+    }
+}
