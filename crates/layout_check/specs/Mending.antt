@@ -8,8 +8,8 @@ use Rattle.disk_layout.specs.InOrder.{AreMade, GoesOver, WritesOther}
 use Rattle.disk_layout.specs.Layout.{File, IsLayout, Layout, file_owns}
 use Rattle.disk_layout.specs.declared.faults.Fault.{Fault}
 use Rattle.disk_layout.specs.declared.slot.Slot.{Slot}
-use Rattle.layout_check.specs.Exact.{AreExactSides, HasMapBut}
-use Rattle.layout_check.specs.Mended.{AreExactFor, IsExactFor, KeepsBeside, KeepsLayouts, Mends, SameMap, TellsDevice}
+use Rattle.layout_check.specs.Exact.{HasMapBut}
+use Rattle.layout_check.specs.Mended.{KeepsLayouts, Mends, TellsDevice}
 use Rattle.layout_check.specs.Recounted.{AreCounted, AreRightIn, KeepsButCounts, OldOrMended}
 use Rattle.layout_check.specs.Reads.{ReadsFew, owned_by}
 use Rattle.layout_check.specs.RepairOrder.{ClearsSpare, IsOnlyRight, IsRight, IsRightBut, sides_of}

@@ -4,27 +4,26 @@ use Rattle.std.specs.Prelude.{Contains, Some, slice_get}
 use Rattle.std.proofs.lemmas.List.{length-append, take-append-drop, take_all}
 use Rattle.std.proofs.lemmas.List.Elements.{Contains-append_left, Contains-append_right}
 use Rattle.std.proofs.lemmas.Result.{on_ok_weaker}
-use Rattle.d64_image.proofs.Moments.{no_reads, no_write_then, reads_no_write, weaker}
+use Rattle.d64_image.proofs.Moments.{no_write_then, reads_no_write, weaker}
 use Rattle.d64_image.specs.History.{Changes, History, OldOr, OnlyReads, WritesNothing}
 use Rattle.d64_image.specs.Calls.{WritesSector}
 use Rattle.d64_image.specs.Images.{Image, Sector, put, sector}
 use Rattle.d64_image.specs.declared.place.Place.{Place}
-use Rattle.disk_layout.proofs.lemmas.kept.Orders.{made_none, made_put, made_then, once-next, over_more, over_none}
+use Rattle.disk_layout.proofs.lemmas.kept.Orders.{made_put, made_then, once-next, over_more, over_none}
 use Rattle.disk_layout.proofs.lemmas.kept.Orders.{over_read, over_then, over_write}
 use Rattle.disk_layout.proofs.lemmas.kept.OtherWrites.{write_changes}
-use Rattle.disk_layout.proofs.lemmas.layouts.Layouts.{IsLayout-one}
 use Rattle.disk_layout.proofs.lemmas.lists.Count.{places-few}
 use Rattle.disk_layout.proofs.lemmas.lists.Lists.{take-get}
 use Rattle.disk_layout.proofs.lemmas.lists.Once.{Contains-here, Contains-nil}
 use Rattle.disk_layout.specs.Chain.{EachOnce}
-use Rattle.disk_layout.specs.InOrder.{AreMade, GoesOver, WritesOther}
+use Rattle.disk_layout.specs.InOrder.{AreMade, WritesOther}
 use Rattle.disk_layout.specs.Layout.{File, IsLayout, Layout}
 use Rattle.disk_layout.specs.declared.faults.Fault.{Fault}
 use Rattle.disk_layout.specs.declared.faults.Fault.TheVariants.{Device}
 use Rattle.layout_check.proofs.lemmas.repairing.Rights.{files-once, sides-once}
 use Rattle.layout_check.proofs.lemmas.repairing.SidesMade.{made-exact, made-layout, made-map, made-mended}
 use Rattle.layout_check.proofs.lemmas.repairing.RightSides.{sides-apart, sides-next, sides-split}
-use Rattle.layout_check.specs.Mended.{AreExactFor, IsMended, KeepsLayouts, Mends, SameMap}
+use Rattle.layout_check.specs.Mended.{AreExactFor, KeepsLayouts, Mends, SameMap}
 use Rattle.layout_check.specs.Mending.{MakesRight}
 use Rattle.layout_check.specs.RepairOrder.{IsOnlyRight, IsRight, sides_of}
 
@@ -165,8 +164,12 @@ sides_mend S a b r makes i m h =
       held = weaker S a b _ _ (λ c way. made-mended (S.image a) l h.sound way.done (λ p d. let P : List Place
           → Type 0 = λ xs. Contains xs p in
           subst P (sym way.split) (Contains-append_left way.done way.left p d)) c way.made i m h refl) right.puts.over.held;
-      writes = omega (arith, right.writes, places-few (sides_of l.files) (sides-once l.files
-          (files-once (S.image a) l h.sound)));
+      writes = omega (
+        arith,
+        right.writes,
+        places-few (sides_of l.files) (sides-once l.files
+            (files-once (S.image a) l h.sound)),
+      );
     }
 
 -- what all of them put right leave

@@ -6,20 +6,16 @@ use Rattle.std.proofs.lemmas.Bool.{cases_eq}
 use Rattle.std.proofs.lemmas.Grind.{flat_map-append}
 use Rattle.std.proofs.lemmas.List.{append-nil, length-map, take-append-drop, take_all}
 use Rattle.std.proofs.lemmas.List.Elements.{Contains-append_right}
-use Rattle.d64_image.specs.History.{Changes, History, OldOr, OnlyReads}
-use Rattle.d64_image.specs.Images.{Image, Sector, put, sector}
+use Rattle.d64_image.specs.Images.{Image, Sector, sector}
 use Rattle.d64_image.specs.declared.place.Place.{Place}
 use Rattle.disk_layout.proofs.lemmas.counts.Recount.{slot-there}
 use Rattle.disk_layout.proofs.lemmas.counts.Recounts.{slot-of}
-use Rattle.disk_layout.proofs.lemmas.kept.Orders.{made_put, made_then, once-next, over_more, over_read, over_then}
-use Rattle.disk_layout.proofs.lemmas.kept.Orders.{over_write}
 use Rattle.disk_layout.proofs.lemmas.layouts.Layouts.{IsDirectory-one, get-contains}
 use Rattle.disk_layout.proofs.lemmas.layouts.Twice.{files-apart, file-once}
 use Rattle.disk_layout.proofs.lemmas.lists.Lists.{contains-get, take-get, get-once, read-there}
-use Rattle.disk_layout.proofs.lemmas.lists.Once.{Contains-nil, EachOnce-left, EachOnce-right, all-in, flat_map-in}
+use Rattle.disk_layout.proofs.lemmas.lists.Once.{EachOnce-left, EachOnce-right, all-in, flat_map-in}
 use Rattle.disk_layout.specs.Chain.{EachOnce}
 use Rattle.disk_layout.specs.Directory.{IsDirectory}
-use Rattle.disk_layout.specs.InOrder.{AreMade, GoesOver, WritesOther}
 use Rattle.disk_layout.specs.Layout.{File, IsFile, IsLayout, Layout, is_rel, record_length}
 use Rattle.disk_layout.specs.Side.{side_sector}
 use Rattle.disk_layout.specs.declared.slot.Slot.{Slot}

@@ -2,7 +2,6 @@
 use Rattle.std.proofs.Common.{ℕ, ◌≡◌, ◌≤◌, ◌++◌, List, length, drop, take, true, false, Bool, sym, ◌∙◌, ap, refl, arith, subst, inl, inr}
 use Rattle.std.proofs.Common.{IsTrue, slice_index}
 use Rattle.std.specs.Prelude.{Contains, Some, slice_get}
-use Rattle.std.proofs.lemmas.List.Elements.{Contains-append_left, Contains-append_right}
 use Rattle.d64_image.specs.Images.{Image, sector}
 use Rattle.d64_image.specs.declared.place.Place.{Place}
 use Rattle.disk_layout.proofs.lemmas.counts.Recount.{flat_map-out}
