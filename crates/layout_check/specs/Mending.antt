@@ -1,16 +1,16 @@
 -- What each call that mends a sound disk promises. Our own.
 use Rattle.std.specs.Prelude.{ℕ, ◌≡◌, ◌≤◌, ◌+◌, ◌*◌, [], ◌∷◌, Contains, List, OnOk, Result, length}
 use Rattle.d64_image.specs.History.{Changes, History, WritesNothing}
-use Rattle.d64_image.specs.Images.{Sector, sector}
+use Rattle.d64_image.specs.Images.{Image, Sector, sector}
 use Rattle.d64_image.specs.declared.place.Place.{Place}
 use Rattle.disk_layout.specs.Directory.{map_place}
-use Rattle.disk_layout.specs.InOrder.{AreMade, GoesOver, WritesOther}
+use Rattle.disk_layout.specs.InOrder.{AreMade, GoesOver}
 use Rattle.disk_layout.specs.Layout.{File, IsLayout, Layout, file_owns}
 use Rattle.disk_layout.specs.declared.faults.Fault.{Fault}
 use Rattle.disk_layout.specs.declared.slot.Slot.{Slot}
 use Rattle.layout_check.specs.Exact.{HasMapBut}
 use Rattle.layout_check.specs.Mended.{KeepsLayouts, Mends, TellsDevice}
-use Rattle.layout_check.specs.Recounted.{AreCounted, AreRightIn, KeepsButCounts, OldOrMended}
+use Rattle.layout_check.specs.Recounted.{AreCounted, KeepsButCounts, OldOrRecounted}
 use Rattle.layout_check.specs.Reads.{ReadsFew, owned_by}
 use Rattle.layout_check.specs.RepairOrder.{ClearsSpare, IsOnlyRight, IsRight, IsRightBut, sides_of}
 
@@ -81,26 +81,22 @@ pub record MendsEntries {D T : Type 0} (S : History D) (old new : D) (result : R
   -- the directory, and each entry
   pub reads : (l : Layout) → IsLayout (S.image old) l → ReadsFew S old new (18 + 3 * owned_by l.files) result
 
--- the block counts in the directory sector at p were made right
-pub record MendsSector {D T : Type 0} (S : History D) (old new : D) (p : Place) (result : Result T Fault) : Type 0
-  where
-    pub right : OnOk result (AreRightIn (S.image old) p (sector (S.image new) p))
-    -- each image held is the old one, or has right counts in this sector
-    pub moments : Changes S old new 1 (OldOrMended (S.image old) p)
-    pub once : WritesOther S old new p
-    -- a sector whose counts are right is not written
-    pub quiet : AreRightIn (S.image old) p (sector (S.image old) p) → WritesNothing S old new
-    pub failures : TellsDevice S old new result
-    pub reads : S.reads new ≤ S.reads old + 1
+-- the block counts in the sector at p, which is one of this image's directory, were made right
+pub record MendsSector {D T : Type 0} (S : History D) (old new : D) (img : Image) (p : Place)
+    (result : Result T Fault) : Type 0 where
+  pub right : (l : Layout) → IsLayout img l → MakesRight S old new l (p ∷ []) result
+  -- each image held is the old one, or has other counts in this sector
+  pub moments : Changes S old new 1 (OldOrRecounted (S.image old) p)
+  pub failures : TellsDevice S old new result
+  pub reads : S.reads new ≤ S.reads old + 1
 
 -- all block counts were made right
 pub record MendsCounts {D T : Type 0} (S : History D) (old new : D) (result : Result T Fault) : Type 0 where
   pub counted : OnOk result (AreCounted (S.image new))
   -- every image held, the last one too, has the same files
   pub moments : Changes S old new 18 (KeepsButCounts (S.image old))
-  -- a sector is written if a count in it is wrong, in the order of the directory
-  pub right : (l : Layout) → IsLayout (S.image old) l → PutsRight S old new l l.directory result
-  pub quiet : AreCounted (S.image old) → WritesNothing S old new
+  -- in the order of the directory
+  pub right : (l : Layout) → IsLayout (S.image old) l → MakesRight S old new l l.directory result
   pub failures : TellsDevice S old new result
   -- each sector of the directory twice
   pub reads : (l : Layout) → IsLayout (S.image old) l → ReadsFew S old new (2 * length l.directory) result

@@ -31,8 +31,6 @@ file-sector img s bs ss n h =
     ∙ ap (λ (xs : List Place). side_sector n bs xs (record_length h.file.slot)) h.sides_are
     ∙ ap (λ (x : Slot). side_sector n bs ss (record_length x)) h.slot
 
-module _ {D : Type 0} (S : History D) where
-
 -- on a sound image nothing but a failure of the device is told
 pub sound-device : {D : Type 0} (S : History D) (T : Type 0) (a b : D) (n : ℕ) (f : Fault) → IsSound (S.image a)
     → TellsUnsound S a b n f → TellsDevice {T = T} S a b (Err f)

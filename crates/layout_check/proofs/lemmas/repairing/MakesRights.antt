@@ -25,7 +25,7 @@ use Rattle.layout_check.proofs.lemmas.repairing.SidesMade.{made-exact, made-layo
 use Rattle.layout_check.proofs.lemmas.repairing.RightSides.{sides-apart, sides-next, sides-split}
 use Rattle.layout_check.specs.Mended.{AreExactFor, KeepsLayouts, Mends, SameMap}
 use Rattle.layout_check.specs.Mending.{MakesRight}
-use Rattle.layout_check.specs.RepairOrder.{IsOnlyRight, IsRight, sides_of}
+use Rattle.layout_check.specs.RepairOrder.{IsRight, sides_of}
 
 module _ {D : Type 0} (S : History D) (l : Layout) where
   -- reads alone, at an error
@@ -98,36 +98,38 @@ module _ {D : Type 0} (S : History D) (l : Layout) where
         writes = omega (arith, h.writes, length-append ps qs);
       })
 
-  pub makes_first : (ps : List Place) (k : ℕ) (a b : D) (e : Fault)
-      → MakesRight {T = Unit {0}} S a b l (take k ps) (Err e) → MakesRight {T = Unit {0}} S a b l ps (Err e)
-  makes_first ps k a b e h = makes_more (take k ps) (drop k ps) ps a b e (take-append-drop k ps) h
+  pub makes_first : (ps all : List Place) (k : ℕ) (a b : D) (e : Fault) → ps ≡ all
+      → MakesRight {T = Unit {0}} S a b l (take k ps) (Err e) → MakesRight {T = Unit {0}} S a b l all (Err e)
+  makes_first ps all k a b e same h = makes_more (take k ps) (drop k ps) all a b e (take-append-drop k ps ∙ same) h
 
   pub makes_all : (ps : List Place) (k : ℕ) (a b : D) (r : Result (Unit {0}) Fault) → length ps ≤ k
       → MakesRight {T = Unit {0}} S a b l (take k ps) r → MakesRight {T = Unit {0}} S a b l ps r
   makes_all ps k a b r all h = let P : List Place → Type 0 = λ xs. MakesRight {T = Unit {0}} S a b l xs r in
       subst P (take_all k ps all) h
 
-  -- a read, and then a write if the sector has other bytes than the only right ones
-  pub makes_one : (p : Place) (bytes had : Sector) (a b c : D) (r : Result (Unit {0}) Fault)
-      → IsOnlyRight l p bytes → OnlyReads S a b 1 → had ≡ sector (S.image a) p
+  -- a read, and then a write if the right bytes aren't those that the sector has
+  pub makes_one : (p : Place) (bytes had : Sector) (a b c : D) (r : Result (Unit {0}) Fault) → IsRight l p bytes
+      → (IsRight l p had → bytes ≡ had) → OnlyReads S a b 1 → had ≡ sector (S.image a) p
       → WritesSector S b c p bytes (Device p) r → WritesOther S b c p → (had ≡ bytes → WritesNothing S b c)
       → MakesRight {T = Unit {0}} S a c l (p ∷ []) r
-  makes_one p bytes had a b c r right reads read write once quiet = record {
+  makes_one p bytes had a b c r right only reads read write once quiet = record {
     puts = record {
       over = over_read S (IsRight l) (p ∷ []) a b c 1 (Contains-nil p, tt) reads (over_write S (IsRight l) p b c bytes
-          changes.held right.right (right.only (sector (S.image b) p)) once);
+          changes.held right (let P : Image → Type 0 = λ i. IsRight l p (sector i p) → bytes ≡ sector i p in
+          subst P (sym reads.image) kept) once);
       made = on_ok_weaker r (λ done. let P : Image → Type 0 = AreMade (IsRight l) (p ∷ []) (S.image a) in
           subst P (sym (done ∙ ap (λ (i : Image). put i p bytes) reads.image))
-          (made_put (IsRight l) p (S.image a) bytes (S.whole a).size right.right (right.only (sector (S.image a) p))))
-          write.ok;
+          (made_put (IsRight l) p (S.image a) bytes (S.whole a).size right kept)) write.ok;
     };
     quiet = λ all. no_write_then S a b c (reads_no_write S a b 1 reads)
-        (quiet (read ∙ sym (right.only (sector (S.image a) p) (all p (Contains-here p [])))));
+        (quiet (read ∙ sym (kept (all p (Contains-here p [])))));
     writes = omega (arith, reads.writes, changes.writes);
   }
     where
-      changes : Changes S b c 1 (OldOr (S.image b)
-          (put (S.image b) p bytes))
+      kept : IsRight l p (sector (S.image a) p) → bytes ≡ sector (S.image a) p
+      kept = let P : Sector → Type 0 = λ x. IsRight l p x → bytes ≡ x in subst P read only
+
+      changes : Changes S b c 1 (OldOr (S.image b) (put (S.image b) p bytes))
       changes = write_changes S b c p bytes (Device p) r write
 
 -- the side sectors of files

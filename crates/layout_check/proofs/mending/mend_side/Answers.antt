@@ -25,7 +25,7 @@ returns g c =
     let done = c.write_other.ensures in
     record {
       right = λ l only. makes_one S l c.args.side c.args.wanted.now c.read_sector.new.to a c.read_sector.new.disk
-          c.write_other.new.disk c.write_other.result only read.reads read.sector done.write done.once done.quiet;
+          c.write_other.new.disk c.write_other.result only.right (only.only _) read.reads read.sector done.write done.once done.quiet;
       failures = device_later S (Unit {0}) a c.read_sector.new.disk c.write_other.new.disk c.write_other.result
           read.failures (write_device S (Unit {0}) c.read_sector.new.disk c.write_other.new.disk c.args.side
           c.args.wanted.now c.write_other.result done.write);

@@ -48,7 +48,7 @@ returns-in_err-mend_side g c =
     let now = c.in_err-mend_side.ensures in
     let e = err_from_is_err_and c.from_residual.result c.from_residual.ensures.1 in
     record {
-      right = λ l is. rw (e.1, e.2) (makes_first S l ss (n + 1) c.args.disk.now c.mend_side.new.disk _ (makes_next S l ss
+      right = λ l is. rw (e.1, e.2) (makes_first S l ss ss (n + 1) c.args.disk.now c.mend_side.new.disk _ refl (makes_next S l ss
           n p c.args.disk.now c.loop-number.disk c.mend_side.new.disk (Err _) here
           (parts-once _ l is c.args.slot.now c.args.blocks.now ss c.requires.parts) (old.right l is)
           (now.right l (part-only _ l is c.args.slot.now c.args.blocks.now ss c.requires.parts n p

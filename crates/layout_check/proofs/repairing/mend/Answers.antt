@@ -6,6 +6,7 @@ use Rattle.layout_check.proofs.lemmas.mending.MapMends.{device_later, mends_then
 use Rattle.layout_check.specs.Reads.{owned_by}
 use Rattle.layout_check.specs.RepairOrder.{IsRight, IsRightBut, sides_of}
 use Rattle.layout_check.proofs.lemmas.repairing.MakesRights.{sides_exact, sides_layouts, sides_map, sides_mend}
+use Rattle.layout_check.proofs.lemmas.repairing.RightWrites.{directory_right}
 use Rattle.layout_check.proofs.lemmas.repairing.SidesMade.{exact-right}
 use Rattle.layout_check.proofs.lemmas.repairing.OwnedSums.{length-owners}
 use Rattle.layout_check.proofs.lemmas.repairing.RepairReads.{few_after}
@@ -111,7 +112,7 @@ returns g c l strays is marks =
           let sides = puts_right_but strays m (sides_of m.files) (side-not_map _ m also) S _ _ _
           (c.in_ok-mend_entries.ensures.right m after_map).puts in
           let counts = puts_right_but strays m m.directory (directory-not_map _ m also) S _ _ c.mend_counts.result
-          (c.mend_counts.ensures.right m after_sides) in
+          (c.mend_counts.ensures.right m after_sides).puts in
           order_all S (IsRightBut strays m) m _ _ _ _ also (map.right m also).over (mapped.right m also).made
           sides.over sides.made counts.over;
       made = λ m also.
@@ -123,12 +124,12 @@ returns g c l strays is marks =
           (c.in_ok-mend_entries.ensures.right m after_map).puts).made
           counted)
           (puts_right_but strays m m.directory (directory-not_map _ m also) S _ _ c.mend_counts.result
-          (c.mend_counts.ensures.right m after_sides)).made;
+          (c.mend_counts.ensures.right m after_sides).puts).made;
       spare = let after_map = mapped.mending.layouts l is in
           let after_sides = kept l after_map in
           spare_counts S (IsRight l) l _ _ _ after_sides
           (spare_sides S (IsRight l) l _ _ _ after_map map.spare (c.mend_entries.ensures.right l after_map).puts.over)
-          (c.mend_counts.ensures.right l after_sides).over;
+          (c.mend_counts.ensures.right l after_sides).puts.over;
       failures = device_later g.D.Sectors.history (Unit {0}) c.args.disk.now c.mend_entries.new.disk
           c.mend_counts.new.disk c.mend_counts.result
           (c.in_ok-mend_entries.ensures.failures ∙ mapped.mending.failures)
@@ -139,7 +140,8 @@ returns g c l strays is marks =
           let second = (c.mend_entries.ensures.right m now).quiet
           (exact-right _ m now (sides-at strays _ _ m first.image clean)) in
           no_write_then S _ _ _ (no_write_then S _ _ _ first second)
-          (c.mend_counts.ensures.quiet (counts-at strays _ _ m (second.image ∙ first.image) clean));
+          ((c.mend_counts.ensures.right m (kept m now)).quiet (directory_right S _ m (kept m now)
+          (counts-at strays _ _ m (second.image ∙ first.image) clean)));
       reads = λ m also.
           let after_map = mapped.mending.layouts m also in
           few_after S first c.mend_entries.new.disk last (19 + 3 * owned_by m.files) (2 * length m.directory) _
