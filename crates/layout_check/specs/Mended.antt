@@ -41,11 +41,6 @@ pub record IsPartsOf (img : Image) (s : Slot) (blocks sides : List Place) : Type
   pub blocks_are : file.blocks ≡ blocks
   pub sides_are : file.sides ≡ sides
 
--- exact side sectors of relative files stay exact
-abbrev pub KeepsExact : Image → Image → Type 0
-KeepsExact old new = (s : Slot) (blocks sides : List Place) → IsPartsOf old s blocks sides
-    → AreExactSides old s blocks sides → AreExactSides new s blocks sides
-
 -- the side sectors of this relative entry, as the old image has it, are exact in the new one
 abbrev pub IsExactFor : Image → Image → Slot → Type 0
 IsExactFor old new s = (blocks sides : List Place) → IsPartsOf old s blocks sides → AreExactSides new s blocks sides
@@ -57,8 +52,3 @@ AreExactFor old new = (s : Slot) → IsExactFor old new s
 -- 18/0 is the same
 abbrev pub SameMap : Image → Image → Type 0
 SameMap old new = sector new map_place ≡ sector old map_place
-
--- a call that writes side sectors of one entry keeps the exact ones of the others, and 18/0
-pub record KeepsBeside (old new : Image) : Type 0 where
-  pub sides : KeepsExact old new
-  pub map : SameMap old new

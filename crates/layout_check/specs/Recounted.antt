@@ -73,13 +73,6 @@ pub record IsDirectorySector (img : Image) (p : Place) : Type 0 where
 abbrev pub IsRecountAt : Image → Place → Image → Type 0
 IsRecountAt old p new = IsRecountOf old new (p ∷ [])
 
--- one directory sector has right block counts, and everything else is the same; if its counts were right, it is as it
--- was
-pub record IsMendedAt (old : Image) (p : Place) (new : Image) : Type 0 where
-  pub counts : IsRecountAt old p new
-  pub kept : AreRightIn old p (sector old p) → sector new p ≡ sector old p
-  pub right : AreRightIn old p (sector new p)
-
--- the image is the old one, or that sector was mended
-abbrev pub OldOrMended : Image → Place → Image → Type 0
-OldOrMended old p new = (new ≡ old) ⊎ IsMendedAt old p new
+-- the image is the old one, or has other counts in that sector
+abbrev pub OldOrRecounted : Image → Place → Image → Type 0
+OldOrRecounted old p new = (new ≡ old) ⊎ IsRecountAt old p new

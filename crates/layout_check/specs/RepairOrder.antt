@@ -22,6 +22,11 @@ pub record IsRightBut (strays : List Place) (l : Layout) (p : Place) (bytes : Se
 abbrev pub IsRight : Layout → Place → Sector → Type 0
 IsRight l p bytes = IsRightBut [] l p bytes
 
+-- these bytes are right at p, and no others are
+pub record IsOnlyRight (l : Layout) (p : Place) (bytes : Sector) : Type 0 where
+  pub right : IsRight l p bytes
+  pub only : (others : Sector) → IsRight l p others → bytes ≡ others
+
 -- the side sectors of these files, in the order of the directory and by number
 abbrev pub sides_of : List File → List Place
 sides_of fs = flat_map (λ f. f.sides) fs

@@ -7,7 +7,7 @@ ghost use Rattle.layout_check.specs.Exact.{IsFiled};
 ghost use Rattle.layout_check.specs.Keeping.{MarksTaken};
 ghost use Rattle.layout_check.specs.Made.{IsMadeMap, IsMadeTrack};
 ghost use Rattle.layout_check.specs.Mended.{IsPartsOf};
-ghost use Rattle.layout_check.specs.Mending.{MendsEntries, MendsEntry, MendsMap, MendsSides};
+ghost use Rattle.layout_check.specs.Mending.{MakesSide, MendsEntries, MendsEntry, MendsMap, MendsSides};
 
 use crate::maps::check_bits;
 use crate::owners::Owners;
@@ -62,6 +62,15 @@ pub(crate) fn mend_map<D: Sectors>(disk: &mut D, taken: &Owners) -> Result<(), F
     write_other(disk, map_place(), &map, &wanted)
 }
 
+/// Gives a side sector these bytes. It is written only if it has others.
+fn mend_side<D: Sectors>(disk: &mut D, side: Place, wanted: &[u8; 256]) -> Result<(), Fault>
+    ensures { MakesSide D.history disk.old disk.new side wanted.now result }
+{
+    let mut had = [0u8; 256];
+    read_sector(disk, side, &mut had)?;
+    write_other(disk, side, &had, wanted)
+}
+
 /// Gives the side sectors of a relative entry of a sound disk the bytes that they should have, in their order. Each is
 /// written only if it has others.
 fn mend_sides<D: Sectors>(
@@ -72,14 +81,12 @@ fn mend_sides<D: Sectors>(
 ) -> Result<(), Fault>
     requires parts { IsPartsOf (D.history.image disk.old) slot.now blocks.now sides.now }
     requires few { length sides.now ≤ 6 }
-    ensures { MendsSides D.history disk.old disk.new slot.now blocks.now sides.now result }
+    ensures { MendsSides D.history disk.old disk.new sides.now result }
 {
     let record_length = EntryView::new(&slot.bytes).record_length();
-    let mut sector = [0u8; 256];
     for (number, &side) in sides.iter().enumerate() {
-        read_sector(disk, side, &mut sector)?;
         let wanted = side_bytes(number as u8, blocks, sides, record_length);
-        write_other(disk, side, &sector, &wanted)?;
+        mend_side(disk, side, &wanted)?;
     }
     Ok(())
 }

@@ -51,11 +51,12 @@ fn recount_sector(bytes: &mut [u8; 256], place: Place, owners: &Owners)
     }
 }
 
-/// Makes the block counts right in a directory sector of a sound disk. The sector is written if one of them is wrong.
+/// Makes the block counts right in a directory sector of a sound disk, in others of which they may have been made right
+/// before. The sector is written if one of them is wrong. `owners` numbers the files of the disk.
 fn mend_sector<D: Sectors>(disk: &mut D, place: Place, owners: &Owners) -> Result<(), Fault>
-    requires here { IsDirectorySector (D.history.image disk.old) place }
-    requires numbers { NumbersEach owners.now (D.history.image disk.old) }
-    ensures { MendsSector D.history disk.old disk.new place result }
+    ensures { (img : Image) → IsDirectorySector img place → NumbersEach owners.now img
+        → sector (D.history.image disk.old) place ≡ sector img place
+        → MendsSector D.history disk.old disk.new img place result }
 {
     let mut had = [0u8; 256];
     read_sector(disk, place, &mut had)?;

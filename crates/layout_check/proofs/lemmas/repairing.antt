@@ -1,5 +1,6 @@
 -- A repair, and what is right after it.
 pub mod KeepRuns
+pub mod MakesRights
 pub mod OwnedSums
 pub mod RepairOrder
 pub mod RepairReads
@@ -13,5 +14,6 @@ pub mod RightSides
 pub mod RightSlots
 pub mod RightWrites
 pub mod Rights
+pub mod SidesMade
 pub mod StaysSame
 pub mod Strays

@@ -1,49 +1,15 @@
 -- Writes of a repair: what each leaves of the disk.
-use Rattle.std.proofs.Common.{
-  ℕ,
-  ◌≡◌,
-  ◌≢◌,
-  ◌≤◌,
-  List,
-  [],
-  ◌∷◌,
-  ◌++◌,
-  length,
-  map,
-  slice_index,
-  sym,
-  ◌∙◌,
-  ap,
-  refl,
-  subst,
-  inl,
-  inr,
-  IsTrue,
-  ◌⊎◌,
-  ◌<◌,
-  ◌+◌,
-  ◌*◌,
-  ◌/◌,
-  arith,
-}
-use Rattle.std.specs.Prelude.{Contains, Some, drop, flat_map, slice_get, take}
-use Rattle.std.proofs.lemmas.List.Elements.{Contains-append_right}
+use Rattle.std.proofs.Common.{ℕ, ◌≡◌, List, [], ◌∷◌, ◌++◌, length, map, slice_index, sym, ◌∙◌, ap, refl, subst, inl, inr, ◌⊎◌, ◌<◌, ◌+◌, ◌*◌, ◌/◌, arith}
+use Rattle.std.specs.Prelude.{Contains, drop, flat_map, take}
 use Rattle.d64_image.proofs.Images.{sector-put_other, sector-put_same}
 use Rattle.d64_image.specs.Images.{Image, put, sector}
 use Rattle.d64_image.specs.declared.place.Place.{Place}
 use Rattle.disk_layout.proofs.lemmas.layouts.Agree.{IsLayout-put_map, map-unowned, owned-block, owned-directory}
 use Rattle.disk_layout.proofs.lemmas.layouts.Agree.{stays-agree}
-use Rattle.disk_layout.proofs.lemmas.layouts.Exact.{exact-side}
-use Rattle.disk_layout.proofs.lemmas.layouts.Layouts.{get-contains}
-use Rattle.disk_layout.proofs.lemmas.layouts.Frames.{block-no_side}
-use Rattle.disk_layout.proofs.lemmas.lists.Once.{EachOnce-apart, EachOnce-right, flat_map-in}
-use Rattle.disk_layout.proofs.lemmas.counts.Recount.{split-at}
 use Rattle.disk_layout.proofs.lemmas.counts.Recounts.{map-same_on}
-use Rattle.disk_layout.proofs.lemmas.growth.SideWrites.{IsLayout-put_side}
 use Rattle.disk_layout.specs.Directory.{map_place}
-use Rattle.disk_layout.specs.Layout.{File, IsLayout, Layout, file_owns, is_rel, owners, record_length}
+use Rattle.disk_layout.specs.Layout.{File, IsLayout, Layout, owners}
 use Rattle.disk_layout.specs.Same.{IsCountByte, SameButCounts, SameFiles, Stays, stays_of}
-use Rattle.disk_layout.specs.Side.{side_sector}
 use Rattle.layout_check.specs.Made.{SameHeader}
 use Rattle.layout_check.specs.Mended.{IsMended}
 
@@ -113,71 +79,6 @@ same-sides : (a c : Image) (l m : Layout) → SameFiles a c l m
     → flat_map (λ f. f.sides) m.files ≡ flat_map (λ f. f.sides) l.files
 same-sides a c l m same = sides-of c m.files ∙ ap (λ (xs : List Stays). flat_map (λ s. s.sides) xs) same.files
     ∙ sym (sides-of a l.files)
-
--- a write of a side sector with its exact bytes keeps a layout
-pub layout-side : (c : Image) (m : Layout) (f : File) (j : ℕ) (p : Place) → length c ≡ 683 → IsLayout c m
-    → Contains m.files f → IsTrue (is_rel f.slot) → length f.sides ≤ 6 → slice_get f.sides j ≡ Some p
-    → IsLayout (put c p (side_sector j f.blocks f.sides (record_length f.slot))) m
-layout-side c m f j p size h own rel few there =
-    let (before, after, split) = split-at m.files f own in
-    let b = side_sector j f.blocks f.sides (record_length f.slot) in
-    IsLayout-put_side c m before after f f j p b h split rel there (record {
-      slot = refl;
-      blocks = λ k q e. e;
-      sides = λ k q e. e;
-    }) (exact-side (put c p b) f j p few (sector-put_same c p b size))
-
-pub mended-side : (a : Image) (l : Layout) (c : Image) (f : File) (j : ℕ) (p : Place) → length c ≡ 683
-    → (h : IsMended a l c) → Contains h.layout.files f → IsTrue (is_rel f.slot) → length f.sides ≤ 6
-    → slice_get f.sides j ≡ Some p → IsMended a l (put c p (side_sector j f.blocks f.sides (record_length f.slot)))
-unfolding owners
-mended-side a l c f j p size h own rel few there = record {
-  layout = m;
-  sound = layout-side c m f j p size h.sound own rel few there;
-  same = record {
-    directory = h.same.directory;
-    files = files-left a c d l m (λ g q of on. sym (sector-put_other c p q b (λ e. no_block g q of on e))) h.same.files;
-    entries = λ q on. entries-kept a c d q (sector-put_other c p q b (λ e. no_entry q (rw h.same.directory on) e))
-        (h.same.entries q on);
-    header = ap (λ (x : List ℕ). take 4 x ++ drop 144 x) (sector-put_other c p map_place b no_map) ∙ h.same.header;
-    elsewhere = λ q ne off out. sector-put_other c p q b (λ e. out (let P : List Place → Type 0 = λ ps. Contains ps q in
-        subst P (same-sides a c l m h.same) (rw (← e) there_all))) ∙ h.same.elsewhere q ne off out;
-  };
-}
-  where
-    m : Layout
-    m = h.layout
-
-    b : List ℕ
-    b = side_sector j f.blocks f.sides (record_length f.slot)
-
-    d : Image
-    d = put c p b
-
-    there_all : Contains (flat_map (λ g. g.sides) m.files) p
-    there_all = flat_map-in (λ g. g.sides) m.files f p own (get-contains f.sides j p there)
-
-    owned : Contains (flat_map file_owns m.files) p
-    owned = flat_map-in file_owns m.files f p own (Contains-append_right f.blocks f.sides p
-        (get-contains f.sides j p there))
-
-    no_map : p ≢ map_place
-    no_map e = h.sound.once.0 (let P : Place → Type 0 = λ x. Contains (m.directory ++ flat_map file_owns m.files) x in
-        subst P e (Contains-append_right m.directory (flat_map file_owns m.files) p owned))
-
-    no_entry : (q : Place) → Contains m.directory q → p ≢ q
-    no_entry q on e = EachOnce-apart m.directory (flat_map file_owns m.files) h.sound.once.1 q on (rw (← e) owned)
-
-    no_block : (g : File) (q : Place) → Contains m.files g → Contains g.blocks q → p ≢ q
-    no_block g q of on e =
-        block-no_side m.files (EachOnce-right m.directory (flat_map file_owns m.files) h.sound.once.1) q
-        (flat_map-in (λ x. x.blocks) m.files g q of on) (rw (← e) there_all)
-
--- the eight entries, where only block counts differ
-pub record IsCounted (old new : List ℕ) : Type 0 where
-  pub old_long : length old ≡ 256
-  pub long : length new ≡ 256
-  pub bytes : (i : ℕ) → i < 256 → IsCountByte old i ⊎ (slice_index new i ≡ slice_index old i)
 
 -- a byte that may have changed twice
 count-byte : (a c : List ℕ) (i : ℕ) → i < 256

@@ -44,22 +44,12 @@ use Rattle.disk_layout.proofs.lemmas.counts.Recounts.{
 }
 use Rattle.disk_layout.proofs.lemmas.layouts.Layouts.{IsLayout-one}
 use Rattle.disk_layout.proofs.lemmas.layouts.Frames.{KeepsFiles, block-owned, side-owned}
-use Rattle.disk_layout.proofs.lemmas.lists.Lists.{in-map}
 use Rattle.disk_layout.proofs.lemmas.lists.Once.{Contains-cases, Contains-here, Contains-nil, EachOnce-apart, map-in}
 use Rattle.disk_layout.specs.Directory.{map_place, slot_in}
 use Rattle.disk_layout.specs.Entries.{IsRecountedAll, uncounted}
 use Rattle.disk_layout.specs.Layout.{File, IsLayout, Layout, count_field, file_owns, is_rel, owners}
 use Rattle.disk_layout.specs.Same.{IsCountByte, SameFiles}
-use Rattle.layout_check.specs.Recounted.{
-  AreCounted,
-  AreRightIn,
-  IsCountedAs,
-  IsSameButCounts,
-  IsRecountAt,
-  IsRecountOf,
-  IsRightAt,
-  owned_count,
-}
+use Rattle.layout_check.specs.Recounted.{AreCounted, AreRightIn, IsCountedAs, IsSameButCounts, IsRecountAt, IsRecountOf, owned_count}
 
 -- the first thirty bytes of a slot are no count bytes
 slot-byte : (n i : ℕ) → i < 30 → (32 * n + i) % 32 ≡ i
@@ -153,33 +143,6 @@ module _ (a b : Image) (l : Layout) (full : length a ≡ 683) (h : IsLayout a l)
   same-rel : (f : File) → Contains l.files f → is_rel (reslot b f.slot) ≡ is_rel f.slot
   same-rel f c = ap (λ t. nat_eq t 132 || nat_eq t 196)
       (sym (uncounted-face f.slot (reslot b f.slot) (slot-same a b l f h keeps c)).kind)
-
-  -- a count that is right for what the new image has is right for what the old one had
-  pub right-before : (p : Place) (bytes : Sector) (n : ℕ) → IsRightAt b p bytes n → IsRightAt a p bytes n
-  right-before p bytes n right m f is at =
-      let one : m ≡ l = IsLayout-one a m l is h in
-      let own : Contains l.files f = (let P : Layout → Type 0 = λ x. Contains x.files f in subst P one at.own) in
-      right (reread_layout b l) (reread b f) reread-layout (record {
-        own = in-map (reread b) l.files f own;
-        rel = same-rel f own ∙ at.rel;
-        sector = at.sector;
-        number = at.number;
-      })
-
-  -- and the other way round
-  pub right-after : (p : Place) (bytes : Sector) (n : ℕ) → IsRightAt a p bytes n → IsRightAt b p bytes n
-  right-after p bytes n right m g is at =
-      let one : m ≡ reread_layout b l = IsLayout-one b m (reread_layout b l) is reread-layout in
-      let there = (let P : Layout → Type 0 = λ x. Contains x.files g in subst P one at.own) in
-      let (f, c, e) = map-in (reread b) l.files g there in
-      let P : File → Type 0 = λ x. IsTrue (is_rel x.slot) → x.slot.sector ≡ p → x.slot.number ≡ n
-      → count_field (slot_in p bytes n) ≡ owned_count x in
-      subst P e (λ t on number. right l f h (record {
-        own = c;
-        rel = sym (same-rel f c) ∙ t;
-        sector = on;
-        number = number;
-      })) at.rel at.sector at.number
 
   -- where all counts of all directory sectors are right, the image is counted
   pub all-counted : ((p : Place) → Contains l.directory p → AreRightIn a p (sector b p)) → AreCounted b

@@ -6,20 +6,16 @@ use Rattle.std.proofs.lemmas.Bool.{cases_eq}
 use Rattle.std.proofs.lemmas.Grind.{flat_map-append}
 use Rattle.std.proofs.lemmas.List.{append-nil, length-map, take-append-drop, take_all}
 use Rattle.std.proofs.lemmas.List.Elements.{Contains-append_right}
-use Rattle.d64_image.specs.History.{Changes, History, OldOr, OnlyReads}
-use Rattle.d64_image.specs.Images.{Image, Sector, put, sector}
+use Rattle.d64_image.specs.Images.{Image, Sector, sector}
 use Rattle.d64_image.specs.declared.place.Place.{Place}
 use Rattle.disk_layout.proofs.lemmas.counts.Recount.{slot-there}
 use Rattle.disk_layout.proofs.lemmas.counts.Recounts.{slot-of}
-use Rattle.disk_layout.proofs.lemmas.kept.Orders.{made_put, made_then, once-next, over_more, over_read, over_then}
-use Rattle.disk_layout.proofs.lemmas.kept.Orders.{over_write}
 use Rattle.disk_layout.proofs.lemmas.layouts.Layouts.{IsDirectory-one, get-contains}
 use Rattle.disk_layout.proofs.lemmas.layouts.Twice.{files-apart, file-once}
 use Rattle.disk_layout.proofs.lemmas.lists.Lists.{contains-get, take-get, get-once, read-there}
-use Rattle.disk_layout.proofs.lemmas.lists.Once.{Contains-nil, EachOnce-left, EachOnce-right, all-in, flat_map-in}
+use Rattle.disk_layout.proofs.lemmas.lists.Once.{EachOnce-left, EachOnce-right, all-in, flat_map-in}
 use Rattle.disk_layout.specs.Chain.{EachOnce}
 use Rattle.disk_layout.specs.Directory.{IsDirectory}
-use Rattle.disk_layout.specs.InOrder.{AreMade, GoesOver, WritesOther}
 use Rattle.disk_layout.specs.Layout.{File, IsFile, IsLayout, Layout, is_rel, record_length}
 use Rattle.disk_layout.specs.Side.{side_sector}
 use Rattle.disk_layout.specs.declared.slot.Slot.{Slot}
@@ -27,7 +23,7 @@ use Rattle.layout_check.proofs.lemmas.judging.Inexact.{parts-of}
 use Rattle.layout_check.proofs.lemmas.repairing.Rights.{files-once, side-not_directory, side-not_map, sides-once}
 use Rattle.layout_check.proofs.lemmas.mending.SideMends.{file-sector, parts-in}
 use Rattle.layout_check.specs.Exact.{AreExactSides}
-use Rattle.layout_check.specs.RepairOrder.{IsRight, sides_of}
+use Rattle.layout_check.specs.RepairOrder.{IsOnlyRight, IsRight, sides_of}
 use Rattle.layout_check.specs.Mended.{IsPartsOf}
 use Rattle.layout_check.specs.Sides.{HasParts}
 
@@ -86,19 +82,19 @@ module _ (img : Image) (l : Layout) (is : IsLayout img l) where
         → side_sector n bs ss (record_length s) ≡ bytes
     part-one n p bytes there r = sym (r.side h.file n own h.rel (at n p there) ∙ file-sector img s bs ss n h)
 
-    -- where all are exact, they are made with no change
-    pub made_exact : (b : Image) → b ≡ img → AreExactSides img s bs ss → AreMade (IsRight l) ss img b
-    made_exact b same exact = record {
-      right = λ p c.
-          let (n, there) = contains-get ss p c in
-          let P : Sector → Type 0 = IsRight l p in
-          subst P (sym (stays p ∙ exact n p there)) (part-right n p there);
-      kept = λ p right. stays p;
-      rest = λ p none. stays p;
+    pub part-only : (n : ℕ) (p : Place) (bytes : Sector) → slice_get ss n ≡ Some p
+        → bytes ≡ side_sector n bs ss (record_length s) → IsOnlyRight l p bytes
+    part-only n p bytes there e = record {
+      right = let P : Sector → Type 0 = IsRight l p in subst P (sym e) (part-right n p there);
+      only = λ others r. e ∙ part-one n p others there r;
     }
-      where
-        stays : (p : Place) → sector b p ≡ sector img p
-        stays p = ap (λ (i : Image). sector i p) same
+
+    -- where all are exact, all are right
+    pub parts-right : AreExactSides img s bs ss → (p : Place) → Contains ss p → IsRight l p (sector img p)
+    parts-right exact p c =
+        let (n, there) = contains-get ss p c in
+        let P : Sector → Type 0 = IsRight l p in
+        subst P (sym (exact n p there)) (part-right n p there)
 
 -- the side sectors that were found are those of the file
 pub sides-found : (img : Image) (l : Layout) (f : File) (s : Slot) (blocks sides items : List Place) → IsLayout img l
@@ -133,7 +129,7 @@ plain-sides img l f is own plain =
     ]
 
 -- the side sectors of one file more
-sides-next : (fs : List File) (n : ℕ) (f : File) → slice_get fs n ≡ Some f
+pub sides-next : (fs : List File) (n : ℕ) (f : File) → slice_get fs n ≡ Some f
     → sides_of (take (n + 1) fs) ≡ sides_of (take n fs) ++ f.sides
 sides-next fs n f there = ap sides_of (take-get fs n f there)
     ∙ flat_map-append (λ (x : File). x.sides) (take n fs) (f ∷ [])
@@ -144,7 +140,7 @@ pub sides-past : (fs : List File) (n : ℕ) (f : File) → slice_get fs n ≡ So
 sides-past fs n f there none = sym (sides-next fs n f there ∙ ap (λ (ps : List Place). sides_of (take n fs) ++ ps) none
     ∙ append-nil (sides_of (take n fs)))
 
-sides-split : (fs : List File) (n : ℕ) → sides_of (take n fs) ++ sides_of (drop n fs) ≡ sides_of fs
+pub sides-split : (fs : List File) (n : ℕ) → sides_of (take n fs) ++ sides_of (drop n fs) ≡ sides_of fs
 sides-split fs n = sym (flat_map-append (λ (x : File). x.sides) (take n fs) (drop n fs))
     ∙ ap sides_of (take-append-drop n fs)
 
@@ -154,67 +150,11 @@ sides-all img l ps items n is d all =
     let same = (IsDirectory-one img ps l.directory items (map (λ (f : File). f.slot) l.files) d is.directory).1 in
     ap sides_of (take_all n l.files (omega (arith, all, ap length same, length-map l.files (λ (f : File). f.slot))))
 
-module _ {D : Type 0} (S : History D) where
-  -- side sector n, read and written
-  module _ (a : D) (l : Layout) (is : IsLayout (S.image a) l) (s : Slot) (bs ss : List Place)
-      (h : IsPartsOf (S.image a) s bs ss) (n : ℕ) (p : Place) (there : slice_get ss n ≡ Some p) (wanted : Sector)
-      (exact : wanted ≡ side_sector n bs ss (record_length s)) where
-    right : IsRight l p wanted
-    right = let P : Sector → Type 0 = IsRight l p in
-        subst P (sym exact) (part-right (S.image a) l is s bs ss h n p there)
-
-    kept : (had : Sector) → IsRight l p had → wanted ≡ had
-    kept had r = exact ∙ part-one (S.image a) l is s bs ss h n p had there r
-
-    once : EachOnce (take n ss ++ p ∷ [])
-    once = once-next ss n p there (parts-once (S.image a) l is s bs ss h)
-
-    pub side_over : (b r w : D) → GoesOver S a b (IsRight l) (take n ss)
-        → AreMade (IsRight l) (take n ss) (S.image a) (S.image b) → OnlyReads S b r 1
-        → Changes S r w 1 (OldOr (S.image r) (put (S.image r) p wanted)) → WritesOther S r w p
-        → GoesOver S a w (IsRight l) (take (n + 1) ss)
-    side_over b r w over made read held other =
-        let P : List Place → Type 0 = GoesOver S a w (IsRight l) in
-        let here = over_write S (IsRight l) p r w wanted held.held right (kept (sector (S.image r) p)) other in
-        subst P (sym (take-get ss n p there)) (over_then S (IsRight l) (take n ss) (p ∷ []) a b w once over made
-        (over_read S (IsRight l) (p ∷ []) b r w 1 (Contains-nil p, tt) read here))
-
-    pub side_made : (b w : D) → AreMade (IsRight l) (take n ss) (S.image a) (S.image b)
-        → S.image w ≡ put (S.image b) p wanted → AreMade (IsRight l) (take (n + 1) ss) (S.image a) (S.image w)
-    side_made b w made done =
-        let P : List Place → Type 0 = λ xs. AreMade (IsRight l) xs (S.image a) (S.image w) in
-        let Q : Image → Type 0 = AreMade (IsRight l) (p ∷ []) (S.image b) in
-        let here = subst Q (sym done) (made_put (IsRight l) p (S.image b) wanted (S.whole b).size right
-        (kept (sector (S.image b) p))) in
-        subst P (sym (take-get ss n p there)) (made_then (IsRight l) (take n ss) (p ∷ []) (S.image a) (S.image b)
-        (S.image w) once made here)
-
-  -- the files before this many
-  pub over_files : (a b : D) (k : ℕ) (Right : Place → Sector → Type 0) (fs : List File)
-      → GoesOver S a b Right (sides_of (take k fs)) → GoesOver S a b Right (sides_of fs)
-  over_files a b k Right fs over = let P : List Place → Type 0 = GoesOver S a b Right in
-      subst P (sides-split fs k) (over_more S Right (sides_of (take k fs)) (sides_of (drop k fs)) a b over)
-
-  -- one file more
-  module _ (a : D) (l : Layout) (is : IsLayout (S.image a) l) (n : ℕ) (f : File) (there : slice_get l.files n ≡ Some f)
-      (b w : D) (made : AreMade (IsRight l) (sides_of (take n l.files)) (S.image a) (S.image b)) where
-    apart : EachOnce (sides_of (take n l.files) ++ f.sides)
-    apart =
-        let P : List Place → Type 0 = EachOnce in
-        let all = sides-once l.files (files-once (S.image a) l is) in
-        subst P (sides-next l.files n f there) (EachOnce-left (sides_of (take (n + 1) l.files))
-        (sides_of (drop (n + 1) l.files)) (subst P (sym (sides-split l.files (n + 1))) all))
-
-    pub file_over : GoesOver S a b (IsRight l) (sides_of (take n l.files)) → GoesOver S b w (IsRight l) f.sides
-        → GoesOver S a w (IsRight l) (sides_of (take (n + 1) l.files))
-    file_over over here =
-        let P : List Place → Type 0 = GoesOver S a w (IsRight l) in
-        subst P (sym (sides-next l.files n f there)) (over_then S (IsRight l) (sides_of (take n l.files)) f.sides a b w
-        apart over made here)
-
-    pub file_made : AreMade (IsRight l) f.sides (S.image b) (S.image w)
-        → AreMade (IsRight l) (sides_of (take (n + 1) l.files)) (S.image a) (S.image w)
-    file_made here =
-        let P : List Place → Type 0 = λ xs. AreMade (IsRight l) xs (S.image a) (S.image w) in
-        subst P (sym (sides-next l.files n f there)) (made_then (IsRight l) (sides_of (take n l.files)) f.sides
-        (S.image a) (S.image b) (S.image w) apart made here)
+-- the side sectors of one file more are apart
+pub sides-apart : (img : Image) (l : Layout) (n : ℕ) (f : File) → IsLayout img l → slice_get l.files n ≡ Some f
+    → EachOnce (sides_of (take n l.files) ++ f.sides)
+sides-apart img l n f is there =
+    let P : List Place → Type 0 = EachOnce in
+    let all = sides-once l.files (files-once img l is) in
+    subst P (sides-next l.files n f there) (EachOnce-left (sides_of (take (n + 1) l.files))
+    (sides_of (drop (n + 1) l.files)) (subst P (sym (sides-split l.files (n + 1))) all))
