@@ -2,9 +2,9 @@
 -- it.
 use Rattle.std.proofs.Common.{ℕ, ◌≡◌, ◌+◌, true, false, Bool, List, None, Option, Some, Ok, Err, Result, refl, sym, ◌∙◌}
 use Rattle.std.proofs.Common.{ap, subst}
-use Rattle.std.specs.Prelude.{OnOk, is_none, is_some, nat_le, not, ◌==◌}
+use Rattle.std.specs.Prelude.{IsSome, OnOk, nat_le, ◌==◌}
 use Rattle.std.proofs.lemmas.Bool.{and_parts, eqb-true, false≢true}
-use Rattle.d64_image.specs.History.{History, IfCounted}
+use Rattle.d64_image.specs.History.{History}
 use Rattle.host_session.proofs.lemmas.Held.{at_end}
 use Rattle.request_cards.specs.declared.decision.Outcome.{Outcome}
 use Rattle.request_cards.specs.declared.reply.Word.TheVariants as words
@@ -17,24 +17,13 @@ use Rattle.host_session.specs.session.Answering.{IsAnswered}
 use Rattle.host_session.specs.session.Deciding.{card_with, newest_in, renewed, traded}
 use Rattle.host_session.specs.shop.Files.{Files, HasFiles}
 use Rattle.host_session.specs.session.Handling.{kept_writes}
-use Rattle.host_session.specs.session.Keeping.{IsEither, IsKeeping, answer_of, shop_after}
-use Rattle.host_session.specs.shop.Puts.{Puts}
+use Rattle.host_session.specs.session.Keeping.{IsAfterCounted, IsEither, IsKeeping, KeepsAnswer, answer_of, shop_after}
 use Rattle.host_session.specs.shop.Selecting.{IsReady}
 use Rattle.host_session.specs.shop.Shop.{IsSettled, IsShop, Shop, results_of, shop_of, start_of}
 use Rattle.host_session.specs.session.Standing.{IsStanding, View, nth, state_in}
 use Rattle.host_session.proofs.lemmas.session.Replies.{IsKept, told-dead, told-ok}
 use Rattle.host_session.proofs.lemmas.session.Standings.{standing-after, standing-answer, standing-dead, standing-entry}
 use Rattle.host_session.proofs.lemmas.session.Standings.{standing-keeping}
-
--- whether there is none, as a call asks it
-pub asked-none : (o p : Option ℕ) (b : Bool) → o ≡ p → is_some o ≡ not b → b ≡ is_none p
-asked-none o p b e = subst (λ (q : Option ℕ). is_some o ≡ not b → b ≡ is_none q) e (by o b)
-  where
-    by : (o : Option ℕ) (b : Bool) → is_some o ≡ not b → b ≡ is_none o
-    by None true e = refl
-    by None false e = absurd (false≢true e)
-    by (Some x) true e = absurd (false≢true (sym e))
-    by (Some x) false e = refl
 
 module _ {D : Type 0} (S : History D) (x : Seen D) (now : View D) (dead : Bool) (top tills : ℕ)
     (cards : List (Option ℕ)) (requests : List (Option Card)) (is : record { disk = x.disk; dead = dead } ≡ now)
@@ -58,30 +47,25 @@ module _ {D : Type 0} (S : History D) (x : Seen D) (now : View D) (dead : Bool) 
       ∙ sym (ap (λ (st : State). number_of (st.ledger.kept a.till) + 1) (v.state_is live))
 
   module _ (o : Outcome) (rule : o ≡ traded (nth cards) top a.body) (c : Card)
-      (made : c ≡ card_with (nth requests a.till) a o.answer) (fresh : Bool)
-      (none : fresh ≡ is_none (nth cards a.body.item)) where
+      (made : c ≡ card_with (nth requests a.till) a o.answer) (before : Option ℕ)
+      (asked : before ≡ nth cards a.body.item) where
+    -- what the item had before is what the shop has of it
+    had : (f : Files) → shop_of f ≡ v.shop → before ≡ (shop_of f).state.ledger.cards a.body.item
+    had f same = asked ∙ ap (λ (st : State). st.ledger.cards a.body.item) (v.state_is live)
+        ∙ sym (ap (λ (s : Shop). s.state.ledger.cards a.body.item) same)
+
     pub known-keeping : (f : Files) × HasFiles (S.image x.disk) f × IsKeeping f a c
-        × (fresh ≡ is_none ((shop_of f).state.ledger.cards a.body.item))
+        × (before ≡ (shop_of f).state.ledger.cards a.body.item)
     known-keeping =
         let (f, h, same, k) = standing-keeping (S.image x.disk) dead top tills cards requests v live a ask due o rule c
-        made in (
-          f,
-          h,
-          k,
-          none ∙ ap (λ (st : State). is_none (st.ledger.cards a.body.item)) (v.state_is live)
-              ∙ sym (ap (λ (s : Shop). is_none (s.state.ledger.cards a.body.item)) same),
-        )
+        made in (f, h, k, had f same)
 
     -- the drive has kept it, or failed
-    module _ (y : Seen D) (res : Result (Unit {0}) Dead) (puts : Puts S x y res
-        (λ f. HasFiles (S.image x.disk) f × IsKeeping f a c)
-        (λ f p. kept_writes p.0.stock_file a.body.item (results_of c.newest)) (λ f. IsEither (shop_of f) a)
-        (λ f i. IsSettled i (shop_after (shop_of f) a)))
-        (counted : fresh ≡ false → (f : Files) → HasFiles (S.image x.disk) f → IsKeeping f a c
-        → IfCounted S x.disk y.disk (λ i. IsShop i (shop_after (shop_of f) a)))
-        (refused : c.pending ≡ false → (f : Files) → HasFiles (S.image x.disk) f → IsKeeping f a c
-        → IfCounted S x.disk y.disk (λ i. IsShop i (shop_after (shop_of f) a))) where
-      kept : (f : Files) → HasFiles (S.image x.disk) f → IsKeeping f a c → IsKept S x.disk y.disk f a fresh c res
+    module _ (y : Seen D) (res : Result (Unit {0}) Dead) (puts : KeepsAnswer S x y res a c
+        (λ f p. kept_writes p.0.stock_file a.body.item (results_of c.newest)))
+        (counted : IsSome before → IsAfterCounted S x y a c) (refused : c.pending ≡ false → IsAfterCounted S x y a c)
+        where
+      kept : (f : Files) → HasFiles (S.image x.disk) f → IsKeeping f a c → IsKept S x.disk y.disk f a before c res
       kept f h k = record {
         ok = puts.ok f (h, k);
         moments = λ h'. puts.moments f (h', k);
@@ -99,10 +83,6 @@ module _ {D : Type 0} (S : History D) (x : Seen D) (now : View D) (dead : Bool) 
       found : Found
       found = standing-keeping (S.image x.disk) dead top tills cards requests v live a ask due o rule c made
 
-      none-in : (f : Files) → shop_of f ≡ v.shop → fresh ≡ is_none ((shop_of f).state.ledger.cards a.body.item)
-      none-in f same = none ∙ ap (λ (st : State). is_none (st.ledger.cards a.body.item)) (v.state_is live)
-          ∙ sym (ap (λ (s : Shop). is_none (s.state.ledger.cards a.body.item)) same)
-
       -- where it failed
       pub stands-dead : (st : State) → IsStanding (S.image y.disk) true top tills st
       stands-dead st =
@@ -115,10 +95,10 @@ module _ {D : Type 0} (S : History D) (x : Seen D) (now : View D) (dead : Bool) 
           → IsAnswered S now (record { disk = y.disk; dead = true }) a words.Media
       answers-dead fault e =
           let (f, h, same, k) = found in
-          let w = subst (λ (r : Result (Unit {0}) Dead). IsKept S x.disk y.disk f a fresh c r) e (kept f h k) in
+          let w = subst (λ (r : Result (Unit {0}) Dead). IsKept S x.disk y.disk f a before c r) e (kept f h k) in
           subst (λ (u : View D). IsAnswered S u (record { disk = y.disk; dead = true }) a words.Media) is
-          (told-dead S (record { disk = x.disk; dead = dead }) (record { disk = y.disk; dead = true }) f h a fresh c k
-          (none-in f same) (next-of f same) fault w puts.moments refl)
+          (told-dead S (record { disk = x.disk; dead = dead }) (record { disk = y.disk; dead = true }) f h a before c k
+          (had f same) (next-of f same) fault w puts.moments refl)
 
       -- where it was kept
       settled-of : (u : Unit {0}) → res ≡ Ok u → (f : Files) → HasFiles (S.image x.disk) f → IsKeeping f a c
@@ -144,9 +124,9 @@ module _ {D : Type 0} (S : History D) (x : Seen D) (now : View D) (dead : Bool) 
           → IsAnswered S now (record { disk = y.disk; dead = dead }) a (words.Kept o.answer)
       answers-after u e =
           let (f, h, same, k) = found in
-          let w = subst (λ (r : Result (Unit {0}) Dead). IsKept S x.disk y.disk f a fresh c r) e (kept f h k) in
+          let w = subst (λ (r : Result (Unit {0}) Dead). IsKept S x.disk y.disk f a before c r) e (kept f h k) in
           subst (λ (z : View D). IsAnswered S z (record { disk = y.disk; dead = dead }) a (words.Kept o.answer)) is
-          (told-ok S (record { disk = x.disk; dead = dead }) (record { disk = y.disk; dead = dead }) f h a fresh c k
-          (none-in f same) (next-of f same) u w puts.moments live o.answer
+          (told-ok S (record { disk = x.disk; dead = dead }) (record { disk = y.disk; dead = dead }) f h a before c k
+          (had f same) (next-of f same) u w puts.moments live o.answer
           (standing-answer (S.image x.disk) dead top tills cards requests v live a ask due o rule
           ∙ ap (λ (s : Shop). answer_of s a) (sym same)))
