@@ -64,69 +64,69 @@ module _ {D : Type 0} (S : History D) (x : Seen D) (now : View D) (dead : Bool) 
     module _ (y : Seen D) (res : Result (Unit {0}) Dead) (puts : KeepsAnswer S x y res a c
         (λ f p. kept_writes p.0.stock_file a.body.item (results_of c.newest)))
         (counted : IsSome before → IsAfterCounted S x y a c) (refused : c.pending ≡ false → IsAfterCounted S x y a c)
-        where
-      kept : (f : Files) → HasFiles (S.image x.disk) f → IsKeeping f a c → IsKept S x.disk y.disk f a before c res
-      kept f h k = record {
-        ok = puts.ok f (h, k);
-        moments = λ h'. puts.moments f (h', k);
-        counted = λ e. counted e f h k;
-        refused = λ e. refused e f h k;
-        failures = puts.failures;
-      }
+      where
+        kept : (f : Files) → HasFiles (S.image x.disk) f → IsKeeping f a c → IsKept S x.disk y.disk f a before c res
+        kept f h k = record {
+          ok = puts.ok f (h, k);
+          moments = λ h'. puts.moments f (h', k);
+          counted = λ e. counted e f h k;
+          refused = λ e. refused e f h k;
+          failures = puts.failures;
+        }
 
-      next-of : (f : Files) → shop_of f ≡ v.shop → next_in (start_of (shop_of f)) (shop_of f).state a ≡ true
-      next-of f same = subst (λ (s : Shop). next_in (start_of s) s.state a ≡ true) (sym same) due
+        next-of : (f : Files) → shop_of f ≡ v.shop → next_in (start_of (shop_of f)) (shop_of f).state a ≡ true
+        next-of f same = subst (λ (s : Shop). next_in (start_of s) s.state a ≡ true) (sym same) due
 
-      abbrev Found : Type 0
-      Found = (f : Files) × HasFiles (S.image x.disk) f × (shop_of f ≡ v.shop) × IsKeeping f a c
+        abbrev Found : Type 0
+        Found = (f : Files) × HasFiles (S.image x.disk) f × (shop_of f ≡ v.shop) × IsKeeping f a c
 
-      found : Found
-      found = standing-keeping (S.image x.disk) dead top tills cards requests v live a ask due o rule c made
+        found : Found
+        found = standing-keeping (S.image x.disk) dead top tills cards requests v live a ask due o rule c made
 
-      -- where it failed
-      pub stands-dead : (st : State) → IsStanding (S.image y.disk) true top tills st
-      stands-dead st =
-          let (f, h, same, k) = found in
-          standing-dead (S.image x.disk) dead top tills cards requests v a (S.image y.disk) st
-          (subst (λ (s : Shop). IsEither s a (S.image y.disk)) same (at_end S x.disk y.disk (IsEither (shop_of f) a)
-          (puts.moments f (h, k)).held))
+        -- where it failed
+        pub stands-dead : (st : State) → IsStanding (S.image y.disk) true top tills st
+        stands-dead st =
+            let (f, h, same, k) = found in
+            standing-dead (S.image x.disk) dead top tills cards requests v a (S.image y.disk) st
+            (subst (λ (s : Shop). IsEither s a (S.image y.disk)) same (at_end S x.disk y.disk (IsEither (shop_of f) a)
+            (puts.moments f (h, k)).held))
 
-      pub answers-dead : (fault : Dead) → res ≡ Err fault
-          → IsAnswered S now (record { disk = y.disk; dead = true }) a words.Media
-      answers-dead fault e =
-          let (f, h, same, k) = found in
-          let w = subst (λ (r : Result (Unit {0}) Dead). IsKept S x.disk y.disk f a before c r) e (kept f h k) in
-          subst (λ (u : View D). IsAnswered S u (record { disk = y.disk; dead = true }) a words.Media) is
-          (told-dead S (record { disk = x.disk; dead = dead }) (record { disk = y.disk; dead = true }) f h a before c k
-          (had f same) (next-of f same) fault w puts.moments refl)
+        pub answers-dead : (fault : Dead) → res ≡ Err fault
+            → IsAnswered S now (record { disk = y.disk; dead = true }) a words.Media
+        answers-dead fault e =
+            let (f, h, same, k) = found in
+            let w = subst (λ (r : Result (Unit {0}) Dead). IsKept S x.disk y.disk f a before c r) e (kept f h k) in
+            subst (λ (u : View D). IsAnswered S u (record { disk = y.disk; dead = true }) a words.Media) is
+            (told-dead S (record { disk = x.disk; dead = dead }) (record { disk = y.disk; dead = true }) f h a before c k
+            (had f same) (next-of f same) fault w puts.moments refl)
 
-      -- where it was kept
-      settled-of : (u : Unit {0}) → res ≡ Ok u → (f : Files) → HasFiles (S.image x.disk) f → IsKeeping f a c
-          → IsSettled (S.image y.disk) (shop_after (shop_of f) a)
-      settled-of u e f h k =
-          subst (λ (r : Result (Unit {0}) Dead). OnOk r (IsSettled (S.image y.disk) (shop_after (shop_of f) a))) e
-          (puts.ok f (h, k))
+        -- where it was kept
+        settled-of : (u : Unit {0}) → res ≡ Ok u → (f : Files) → HasFiles (S.image x.disk) f → IsKeeping f a c
+            → IsSettled (S.image y.disk) (shop_after (shop_of f) a)
+        settled-of u e f h k =
+            subst (λ (r : Result (Unit {0}) Dead). OnOk r (IsSettled (S.image y.disk) (shop_after (shop_of f) a))) e
+            (puts.ok f (h, k))
 
-      pub stands-after : (u : Unit {0}) → res ≡ Ok u → (answered : Card) → answered ≡ record c { pending = false }
-          → (cs : List (Option ℕ)) (rs : List (Option Card))
-          → state_in cs rs ≡ renewed (state_in cards requests) a o answered
-          → IsStanding (S.image y.disk) dead top tills (state_in cs rs)
-      stands-after u e answered is_answered cs rs new =
-          let (f, h, same, k) = found in
-          standing-after (S.image x.disk) dead top tills cards requests v live a ask due (S.image y.disk) rs cs o c
-          answered rule made is_answered new
-          (subst (λ (s : Shop). IsSettled (S.image y.disk) (shop_after s a)) same (settled-of u e f h k))
+        pub stands-after : (u : Unit {0}) → res ≡ Ok u → (answered : Card) → answered ≡ record c { pending = false }
+            → (cs : List (Option ℕ)) (rs : List (Option Card))
+            → state_in cs rs ≡ renewed (state_in cards requests) a o answered
+            → IsStanding (S.image y.disk) dead top tills (state_in cs rs)
+        stands-after u e answered is_answered cs rs new =
+            let (f, h, same, k) = found in
+            standing-after (S.image x.disk) dead top tills cards requests v live a ask due (S.image y.disk) rs cs o c
+            answered rule made is_answered new
+            (subst (λ (s : Shop). IsSettled (S.image y.disk) (shop_after s a)) same (settled-of u e f h k))
 
-      pub ready-after : (u : Unit {0}) → res ≡ Ok u → IsReady S y
-      ready-after u e = subst (λ (r : Result (Unit {0}) Dead). OnOk r (IsReady S y)) e puts.ready
+        pub ready-after : (u : Unit {0}) → res ≡ Ok u → IsReady S y
+        ready-after u e = subst (λ (r : Result (Unit {0}) Dead). OnOk r (IsReady S y)) e puts.ready
 
-      pub answers-after : (u : Unit {0}) → res ≡ Ok u
-          → IsAnswered S now (record { disk = y.disk; dead = dead }) a (words.Kept o.answer)
-      answers-after u e =
-          let (f, h, same, k) = found in
-          let w = subst (λ (r : Result (Unit {0}) Dead). IsKept S x.disk y.disk f a before c r) e (kept f h k) in
-          subst (λ (z : View D). IsAnswered S z (record { disk = y.disk; dead = dead }) a (words.Kept o.answer)) is
-          (told-ok S (record { disk = x.disk; dead = dead }) (record { disk = y.disk; dead = dead }) f h a before c k
-          (had f same) (next-of f same) u w puts.moments live o.answer
-          (standing-answer (S.image x.disk) dead top tills cards requests v live a ask due o rule
-          ∙ ap (λ (s : Shop). answer_of s a) (sym same)))
+        pub answers-after : (u : Unit {0}) → res ≡ Ok u
+            → IsAnswered S now (record { disk = y.disk; dead = dead }) a (words.Kept o.answer)
+        answers-after u e =
+            let (f, h, same, k) = found in
+            let w = subst (λ (r : Result (Unit {0}) Dead). IsKept S x.disk y.disk f a before c r) e (kept f h k) in
+            subst (λ (z : View D). IsAnswered S z (record { disk = y.disk; dead = dead }) a (words.Kept o.answer)) is
+            (told-ok S (record { disk = x.disk; dead = dead }) (record { disk = y.disk; dead = dead }) f h a before c k
+            (had f same) (next-of f same) u w puts.moments live o.answer
+            (standing-answer (S.image x.disk) dead top tills cards requests v live a ask due o rule
+            ∙ ap (λ (s : Shop). answer_of s a) (sym same)))

@@ -46,7 +46,7 @@ invariant_of-self g c = (
       c.self.view_is c.self.invariant.0 c.args.request.now c.requires.ask c.requires.alive c.requires.next
       c.decided-outcome.result c.decided-outcome.ensures.rule
       c.next_card-card.result c.next_card-card.ensures c.on_hand-before.result
-    (c.on_hand-before.ensures.value ∙ ap (nth c.self.inside.cards) c.item.ensures.value)
+      (c.on_hand-before.ensures.value ∙ ap (nth c.self.inside.cards) c.item.ensures.value)
       c.store_answer.new.drive c.store_answer.result c.store_answer.ensures.puts c.store_answer.ensures.counted c.store_answer.ensures.refused _,
   λ e. absurd (false≢true (sym e)),
 )
@@ -69,7 +69,7 @@ invariant_of-self-2 g c = (
       c.self.view_is c.self.invariant.0 c.args.request.now c.requires.ask c.requires.alive c.requires.next
       c.decided-outcome.result c.decided-outcome.ensures.rule
       c.next_card-card.result c.next_card-card.ensures c.on_hand-before.result
-    (c.on_hand-before.ensures.value ∙ ap (nth c.self.inside.cards) c.item.ensures.value)
+      (c.on_hand-before.ensures.value ∙ ap (nth c.self.inside.cards) c.item.ensures.value)
       c.store_answer.new.drive c.store_answer.result c.store_answer.ensures.puts c.store_answer.ensures.counted c.store_answer.ensures.refused
       c.in-Ok.field-0 c.in-Ok.is c.answered.result c.answered.ensures _ _ c.renew.ensures,
   λ _. ready-after g.D.Sectors.history c.self.inside.drive c.args.self.now c.self.inside.dead c.self.inside.top
@@ -77,7 +77,7 @@ invariant_of-self-2 g c = (
       c.self.view_is c.self.invariant.0 c.args.request.now c.requires.ask c.requires.alive c.requires.next
       c.decided-outcome.result c.decided-outcome.ensures.rule
       c.next_card-card.result c.next_card-card.ensures c.on_hand-before.result
-    (c.on_hand-before.ensures.value ∙ ap (nth c.self.inside.cards) c.item.ensures.value)
+      (c.on_hand-before.ensures.value ∙ ap (nth c.self.inside.cards) c.item.ensures.value)
       c.store_answer.new.drive c.store_answer.result c.store_answer.ensures.puts c.store_answer.ensures.counted c.store_answer.ensures.refused
       c.in-Ok.field-0 c.in-Ok.is,
 )
