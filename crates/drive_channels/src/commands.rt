@@ -203,9 +203,11 @@ impl<D: Sectors> Drive<D> {
             return Err(Dead);
         }
         if is_validate(text) {
-            self.dead = true;
-            self.status = validate(&mut self.disk)?;
-            self.dead = false;
+            let Ok(status) = validate(&mut self.disk) else {
+                self.dead = true;
+                return Err(Dead);
+            };
+            self.status = status;
             return Ok(());
         }
         self.status = self.known.command(text);

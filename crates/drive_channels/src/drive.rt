@@ -17,8 +17,7 @@ pub struct Drive<D: Sectors> {
     pub(crate) disk: D,
     pub(crate) known: OpenFiles,
     pub(crate) status: Status,
-    /// Whether the device has failed. Each call that uses the device sets this, and clears it after the device
-    /// succeeded.
+    /// Whether the device has failed.
     pub(crate) dead: bool,
 }
 
@@ -75,6 +74,13 @@ impl<D: Sectors> Drive<D> {
         ensures { result.now ≡ self.now.disk }
     {
         &self.disk
+    }
+
+    /// Whether the device has failed in a call of this drive.
+    pub fn is_dead(&self) -> bool
+        ensures { result ≡ self.now.dead }
+    {
+        self.dead
     }
 
     /// The status of the last call, as a read of the error channel returns it. It is 00 from then on.

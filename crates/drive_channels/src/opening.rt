@@ -318,9 +318,11 @@ impl<D: Sectors> Drive<D> {
         if self.dead {
             return Err(Dead);
         }
-        self.dead = true;
-        self.status = self.known.open(&mut self.disk, channel, text)?;
-        self.dead = false;
+        let Ok(status) = self.known.open(&mut self.disk, channel, text) else {
+            self.dead = true;
+            return Err(Dead);
+        };
+        self.status = status;
         Ok(())
     }
 }

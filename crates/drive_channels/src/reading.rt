@@ -158,9 +158,11 @@ impl<D: Sectors> Drive<D> {
             to.clear();
             return Err(Dead);
         }
-        self.dead = true;
-        self.status = self.known.read(&mut self.disk, channel, to)?;
-        self.dead = false;
+        let Ok(status) = self.known.read(&mut self.disk, channel, to) else {
+            self.dead = true;
+            return Err(Dead);
+        };
+        self.status = status;
         Ok(())
     }
 }

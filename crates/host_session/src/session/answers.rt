@@ -1,12 +1,10 @@
 //! A till's next request, kept on the disk.
-ghost use Rattle.std.specs.Prelude.{◌≡◌, ◌<◌, ◌+◌, false, is_none, true};
-ghost use Rattle.d64_image.specs.History.{IfCounted};
+ghost use Rattle.std.specs.Prelude.{◌≡◌, ◌+◌, IsSome, false, is_none, true};
 ghost use Rattle.host_session.specs.session.Handling.{card_writes, kept_writes};
-ghost use Rattle.host_session.specs.session.Keeping.{HasItems, IsEither, IsKeeping, shop_after};
+ghost use Rattle.host_session.specs.session.Keeping.{HasItems, IsAfterCounted, IsKeeping, KeepsAnswer};
 ghost use Rattle.host_session.specs.shop.Files.{Files, HasFiles};
-ghost use Rattle.host_session.specs.shop.Puts.{Puts};
 ghost use Rattle.host_session.specs.shop.Selecting.{IsReady};
-ghost use Rattle.host_session.specs.shop.Shop.{IsSettled, IsShop, results_of, shop_of};
+ghost use Rattle.host_session.specs.shop.Shop.{results_of, shop_of};
 ghost use Rattle.rel_records.specs.growth.Growth.{growth_writes};
 
 use crate::shop::completion::{complete_with, mark_answered};
@@ -26,13 +24,9 @@ fn put_refusal<D: Sectors>(
     requires ready { IsReady D.history drive.old }
     requires keeping { (f : Files) × HasFiles (D.history.image drive.old.disk) f × IsKeeping f request.now card.now }
     requires refused { card.now.pending ≡ false }
-    ensures puts { Puts D.history drive.old drive.new result
-        (λ f. HasFiles (D.history.image drive.old.disk) f × IsKeeping f request.now card.now)
-        (λ f p. 1)
-        (λ f. IsEither (shop_of f) request.now)
-        (λ f i. IsSettled i (shop_after (shop_of f) request.now)) }
-    ensures counted { (f : Files) → HasFiles (D.history.image drive.old.disk) f → IsKeeping f request.now card.now
-        → IfCounted D.history drive.old.disk drive.new.disk (λ i. IsShop i (shop_after (shop_of f) request.now)) }
+    ensures puts { KeepsAnswer D.history drive.old drive.new result request.now card.now
+        (λ f p. 1) }
+    ensures counted { IsAfterCounted D.history drive.old drive.new request.now card.now }
 {
     put_answer(drive, request.till(), &card.print())
 }
@@ -49,13 +43,9 @@ fn put_intent<D: Sectors>(
     requires keeping { (f : Files) × HasFiles (D.history.image drive.old.disk) f × IsKeeping f request.now card.now
         × HasItems f card.now }
     requires intent { card.now.pending ≡ true }
-    ensures puts { Puts D.history drive.old drive.new result
-        (λ f. HasFiles (D.history.image drive.old.disk) f × IsKeeping f request.now card.now)
-        (λ f p. 2 + card_writes (results_of card.now.newest))
-        (λ f. IsEither (shop_of f) request.now)
-        (λ f i. IsSettled i (shop_after (shop_of f) request.now)) }
-    ensures counted { (f : Files) → HasFiles (D.history.image drive.old.disk) f → IsKeeping f request.now card.now
-        → IfCounted D.history drive.old.disk drive.new.disk (λ i. IsShop i (shop_after (shop_of f) request.now)) }
+    ensures puts { KeepsAnswer D.history drive.old drive.new result request.now card.now
+        (λ f p. 2 + card_writes (results_of card.now.newest)) }
+    ensures counted { IsAfterCounted D.history drive.old drive.new request.now card.now }
 {
     let till = request.till();
     let mut text = card.print();
@@ -75,46 +65,36 @@ fn put_first_set<D: Sectors>(
     requires keeping { (f : Files) × HasFiles (D.history.image drive.old.disk) f × IsKeeping f request.now card.now
         × (is_none ((shop_of f).state.ledger.cards request.now.body.item) ≡ true) }
     requires intent { card.now.pending ≡ true }
-    ensures { Puts D.history drive.old drive.new result
-        (λ f. HasFiles (D.history.image drive.old.disk) f × IsKeeping f request.now card.now)
-        (λ f p. growth_writes p.0.stock_file request.now.body.item + 2 + card_writes (results_of card.now.newest))
-        (λ f. IsEither (shop_of f) request.now)
-        (λ f i. IsSettled i (shop_after (shop_of f) request.now)) }
+    ensures { KeepsAnswer D.history drive.old drive.new result request.now card.now
+        (λ f p. growth_writes p.0.stock_file request.now.body.item + 2 + card_writes (results_of card.now.newest)) }
 {
     grow_stock(drive, request.item())?;
     put_intent(drive, request, card)
 }
 
-/// Keeps a till's next request with its answer. If the answer changes no quantity, only the till's card is written.
-/// Otherwise STOCK grows for an item that has no card, and then come the intent, the item's card or both cards, and the
-/// answer.
+/// Keeps a till's next request with its answer. `on_hand` is what its item had before. If the answer changes no
+/// quantity, only the till's card is written. Otherwise STOCK grows for an item that has no card, and then come the
+/// intent, the item's card or both cards, and the answer.
 pub(crate) fn store_answer<D: Sectors>(
     drive: &mut ShopDrive<D>,
     request: &Request,
     card: &RequestCard,
-    has_no_card: bool,
+    on_hand: Option<u32>,
 ) -> Result<(), Dead>
     requires ready { IsReady D.history drive.old }
     requires keeping { (f : Files) × HasFiles (D.history.image drive.old.disk) f × IsKeeping f request.now card.now
-        × (has_no_card ≡ is_none ((shop_of f).state.ledger.cards request.now.body.item)) }
-    ensures puts { Puts D.history drive.old drive.new result
-        (λ f. HasFiles (D.history.image drive.old.disk) f × IsKeeping f request.now card.now)
-        (λ f p. kept_writes p.0.stock_file request.now.body.item (results_of card.now.newest))
-        (λ f. IsEither (shop_of f) request.now)
-        (λ f i. IsSettled i (shop_after (shop_of f) request.now)) }
+        × (on_hand ≡ (shop_of f).state.ledger.cards request.now.body.item) }
+    ensures puts { KeepsAnswer D.history drive.old drive.new result request.now card.now
+        (λ f p. kept_writes p.0.stock_file request.now.body.item (results_of card.now.newest)) }
     // except for a set of an item without a card, the shop is the one after as soon as a write was counted
-    ensures counted { has_no_card ≡ false → (f : Files) → HasFiles (D.history.image drive.old.disk) f
-        → IsKeeping f request.now card.now
-        → IfCounted D.history drive.old.disk drive.new.disk (λ i. IsShop i (shop_after (shop_of f) request.now)) }
-    ensures refused { card.now.pending ≡ false → (f : Files) → HasFiles (D.history.image drive.old.disk) f
-        → IsKeeping f request.now card.now
-        → IfCounted D.history drive.old.disk drive.new.disk (λ i. IsShop i (shop_after (shop_of f) request.now)) }
+    ensures counted { IsSome on_hand → IsAfterCounted D.history drive.old drive.new request.now card.now }
+    ensures refused { card.now.pending ≡ false → IsAfterCounted D.history drive.old drive.new request.now card.now }
 {
     if !card.pending() {
         return put_refusal(drive, request, card);
     }
-    if has_no_card {
-        return put_first_set(drive, request, card);
+    match on_hand {
+        Some(_) => put_intent(drive, request, card),
+        None => put_first_set(drive, request, card),
     }
-    put_intent(drive, request, card)
 }

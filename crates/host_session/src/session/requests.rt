@@ -67,8 +67,8 @@ impl<D: Sectors> Session<D> {
     {
         let outcome = decided(&self.cards, self.top, request);
         let card = next_card(&self.requests, request, outcome.answer);
-        let has_no_card = on_hand(&self.cards, request.item()).is_none();
-        let Ok(()) = store_answer(&mut self.drive, request, &card, has_no_card) else {
+        let before = on_hand(&self.cards, request.item());
+        let Ok(()) = store_answer(&mut self.drive, request, &card, before) else {
             self.dead = true;
             return Word::Media;
         };

@@ -1,13 +1,16 @@
 //! A disk read and checked before anything is written to it.
-ghost use Rattle.std.specs.Prelude.{◌≡◌, ◌≤◌, ◌⊎◌, IfErr, IfOk, None, OnOk, replicate};
+ghost use Rattle.std.specs.Prelude.{◌≡◌, ◌≤◌, ◌⊎◌, IfErr, IfOk, None, OnErr, OnOk, Some, length, replicate};
 ghost use Rattle.d64_image.specs.History.{Failed, OnlyReads};
 ghost use Rattle.host_session.specs.declared.faults.OpenFault.TheVariants.{BadCard, BadRequestCard, Device};
 ghost use Rattle.host_session.specs.session.Opening.{IsBadCard, IsBadTill, Refuses, TellsJudging};
 ghost use Rattle.host_session.specs.shop.Files.{Files, HasFiles};
-ghost use Rattle.host_session.specs.shop.Found.{AreFilesOf};
+ghost use Rattle.host_session.specs.declared.shop.record_content.RecordContent.TheVariants as contents;
+ghost use Rattle.host_session.specs.shop.Found.{AreFilesOf, TellsRecord};
 ghost use Rattle.host_session.specs.shop.LoadedShop.{AreCards, AreTills, HasJudgedTills, IsIntentOf, IsJudged};
 ghost use Rattle.host_session.specs.shop.LoadedShop.{IsJudgedItem, IsJudgedTill, IsNothing, JudgesRecord};
 ghost use Rattle.rel_records.specs.reading.Kept.{IsKept};
+ghost use Rattle.request_cards.specs.CardReading.{request_card_of, stock_card_of};
+ghost use Rattle.request_cards.specs.CardTexts.{Card, IsCard};
 
 use crate::faults::OpenFault;
 use crate::session::ITEMS;
@@ -20,7 +23,7 @@ use arrayvec::ArrayVec;
 use d64_image::Sectors;
 use disk_layout::DATA;
 use rel_records::{LastBlock, records};
-use request_cards::RequestCard;
+use request_cards::{RequestCard, StockCard};
 
 /// What opening reads before it writes. It is large, so each step fills it in place.
 #[derive(Drop)]
@@ -52,7 +55,38 @@ impl LoadedShop {
     }
 }
 
-/// The card of a till, if its record is valid. None past the last record.
+/// The card of a till whose record holds this, if that is valid where STOCK has this many records. None past the last
+/// record.
+fn judged_till(
+    read: Option<RecordContent<RequestCard>>,
+    stock_records: u32,
+    till: u8,
+) -> Result<Option<Option<RequestCard>>, OpenFault>
+    requires low { 1 ≤ till }
+    requires high { till ≤ 64 }
+    requires fits { (card : Card) → read ≡ Some (contents.Card card) → IsCard card }
+    ensures ok { (f : Files) → TellsRecord request_card_of 127 f.requests till read → stock_records ≡ length f.stock
+        → IfOk result (IsJudgedTill f till) }
+    ensures fault { IfErr result (λ fault. fault ≡ BadRequestCard till) }
+    ensures bad { (f : Files) → TellsRecord request_card_of 127 f.requests till read → stock_records ≡ length f.stock
+        → OnErr result (IsBadTill f till) }
+{
+    let Some(held) = read else {
+        return Ok(None);
+    };
+    match held {
+        RecordContent::Empty => Ok(Some(None)),
+        RecordContent::Card(card) => {
+            if card.pending() && passes(&new_quantities(till, &card), stock_records) {
+                return Err(OpenFault::BadRequestCard(till));
+            }
+            Ok(Some(Some(card)))
+        }
+        RecordContent::Other => Err(OpenFault::BadRequestCard(till)),
+    }
+}
+
+/// Reads the record of a till, and judges it.
 fn judge_till<D: Sectors>(
     disk: &mut D,
     files: &LedgerFiles,
@@ -68,19 +102,8 @@ fn judge_till<D: Sectors>(
         (λ f. AreFilesOf (D.history.image disk.old) f files.now) (λ f. IsJudgedTill f till)
         (λ f fault. (fault ≡ Device) ⊎ ((fault ≡ BadRequestCard till) × IsBadTill f till)) }
 {
-    let Some(held) = read_till(disk, files, last, text, till)? else {
-        return Ok(None);
-    };
-    match held {
-        RecordContent::Empty => Ok(Some(None)),
-        RecordContent::Card(card) => {
-            if card.pending() && passes(&new_quantities(till, &card), records(&files.stock)) {
-                return Err(OpenFault::BadRequestCard(till));
-            }
-            Ok(Some(Some(card)))
-        }
-        RecordContent::Other => Err(OpenFault::BadRequestCard(till)),
-    }
+    let read = read_till(disk, files, last, text, till)?;
+    judged_till(read, records(&files.stock), till)
 }
 
 /// Reads the cards of all tills up to 64 into a table, and returns how many there are, or the lowest bad one.
@@ -108,23 +131,20 @@ fn read_tills<D: Sectors>(
     Ok(64)
 }
 
-/// The quantity on hand of an item whose record is valid, or is to have this new quantity. None past the last record.
-fn judge_item<D: Sectors>(
-    disk: &mut D,
-    files: &LedgerFiles,
-    last: &mut LastBlock,
-    text: &mut ArrayVec<u8, DATA>,
+/// The quantity on hand of an item whose record holds this, if that is valid, or if the item has one of these new
+/// quantities. None past the last record.
+fn judged_item(
+    read: Option<RecordContent<StockCard>>,
     new: &NewQuantities,
     item: u16,
 ) -> Result<Option<Option<u32>>, OpenFault>
-    requires of { (f : Files) × AreFilesOf (D.history.image disk.old) f files.now }
-    requires kept { IsKept (D.history.image disk.old) files.now.stock last.old }
-    requires low { 1 ≤ item }
-    ensures { JudgesRecord D.history disk.old disk.new files.now.stock last.new result
-        (λ f. AreFilesOf (D.history.image disk.old) f files.now × HasJudgedTills f new.now) (λ f. IsJudgedItem f item)
-        (λ f fault. (fault ≡ Device) ⊎ ((fault ≡ BadCard item) × IsBadCard f item)) }
+    ensures ok { (f : Files) → HasJudgedTills f new.now → TellsRecord stock_card_of 18 f.stock item read
+        → IfOk result (IsJudgedItem f item) }
+    ensures fault { IfErr result (λ fault. fault ≡ BadCard item) }
+    ensures bad { (f : Files) → HasJudgedTills f new.now → TellsRecord stock_card_of 18 f.stock item read
+        → OnErr result (IsBadCard f item) }
 {
-    let Some(held) = read_item(disk, files, last, text, item)? else {
+    let Some(held) = read else {
         return Ok(None);
     };
     let intended = new_quantity(new, item);
@@ -141,6 +161,26 @@ fn judge_item<D: Sectors>(
         }
         RecordContent::Other => Err(OpenFault::BadCard(item)),
     }
+}
+
+/// Reads the record of an item, and judges it.
+fn judge_item<D: Sectors>(
+    disk: &mut D,
+    files: &LedgerFiles,
+    last: &mut LastBlock,
+    text: &mut ArrayVec<u8, DATA>,
+    new: &NewQuantities,
+    item: u16,
+) -> Result<Option<Option<u32>>, OpenFault>
+    requires of { (f : Files) × AreFilesOf (D.history.image disk.old) f files.now }
+    requires kept { IsKept (D.history.image disk.old) files.now.stock last.old }
+    requires low { 1 ≤ item }
+    ensures { JudgesRecord D.history disk.old disk.new files.now.stock last.new result
+        (λ f. AreFilesOf (D.history.image disk.old) f files.now × HasJudgedTills f new.now) (λ f. IsJudgedItem f item)
+        (λ f fault. (fault ≡ Device) ⊎ ((fault ≡ BadCard item) × IsBadCard f item)) }
+{
+    let read = read_item(disk, files, last, text, item)?;
+    judged_item(read, new, item)
 }
 
 /// Reads the quantities on hand of all items into a table. Returns the lowest bad card.

@@ -1,5 +1,5 @@
 -- What a call that judges tells of the disk, through calls that only read.
-use Rattle.std.proofs.Common.{ℕ, ◌≡◌, ◌⊎◌, ⊎_elim, ◌+◌, Err, Result, subst, sym}
+use Rattle.std.proofs.Common.{ℕ, ◌≡◌, ◌⊎◌, ⊎_elim, ◌+◌, Err, Ok, Result, inr, subst, sym}
 use Rattle.d64_image.proofs.Moments.{failed_later}
 use Rattle.d64_image.proofs.Told.{told_after}
 use Rattle.d64_image.specs.History.{Failed, History}
@@ -15,7 +15,7 @@ use Rattle.host_session.specs.declared.shop.intents.NewQuantities.{NewQuantities
 use Rattle.host_session.proofs.lemmas.judging.StockTables.{card-lowest}
 use Rattle.host_session.proofs.lemmas.judging.TillTables.{till-lowest}
 use Rattle.request_cards.specs.CardTexts.{Card}
-use Rattle.std.specs.Prelude.{IfErr, List, Option, ◌≤◌}
+use Rattle.std.specs.Prelude.{IfErr, List, OnErr, Option, ◌≤◌}
 
 -- the two files are there as long as nothing is written
 pub files-still : (a b : Image) (f : Files) (x : LedgerFiles) → b ≡ a → AreFilesOf a f x → AreFilesOf b f x
@@ -83,3 +83,17 @@ card-refused failed img f x h n table few has c fault device found = ⊎_elim
     (λ e. subst (Refuses failed img) (sym e) (device e))
     (λ (e, bad). subst (Refuses failed img) (sym e) (f, has, h.no_bad_till, h.few, card-lowest f x h n table few c bad))
     found
+
+-- a fault of the judgment of what was read, beside the device's
+pub own-fault : {T : Type 0} (r : Result T OpenFault) (fault : OpenFault) (P : Type 0) → IfErr r (λ x. x ≡ fault)
+    → OnErr r P → IfErr r (λ x. (x ≡ faults.Device) ⊎ ((x ≡ fault) × P))
+own-fault (Ok x) fault P is bad = tt
+own-fault (Err x) fault P is bad = inr (is, bad)
+
+-- a judgment of what was read without a failure
+pub judged-own : {D T : Type 0} (S : History D) (a b : D) (r : Result T OpenFault) (fault : OpenFault)
+    → IfErr r (λ x. x ≡ fault) → S.failures b ≡ S.failures a → TellsJudging {T = T} S a b (Err fault)
+    → TellsJudging S a b r
+judged-own S a b (Ok x) fault is same told = same
+judged-own {T = T} S a b (Err x) fault is same told = subst (λ (y : OpenFault). TellsJudging {T = T} S a b (Err y))
+    (sym is) told

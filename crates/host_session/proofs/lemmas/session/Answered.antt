@@ -2,9 +2,9 @@
 -- it.
 use Rattle.std.proofs.Common.{ℕ, ◌≡◌, ◌+◌, true, false, Bool, List, None, Option, Some, Ok, Err, Result, refl, sym, ◌∙◌}
 use Rattle.std.proofs.Common.{ap, subst}
-use Rattle.std.specs.Prelude.{OnOk, is_none, is_some, nat_le, not, ◌==◌}
+use Rattle.std.specs.Prelude.{IsSome, OnOk, nat_le, ◌==◌}
 use Rattle.std.proofs.lemmas.Bool.{and_parts, eqb-true, false≢true}
-use Rattle.d64_image.specs.History.{History, IfCounted}
+use Rattle.d64_image.specs.History.{History}
 use Rattle.host_session.proofs.lemmas.Held.{at_end}
 use Rattle.request_cards.specs.declared.decision.Outcome.{Outcome}
 use Rattle.request_cards.specs.declared.reply.Word.TheVariants as words
@@ -17,24 +17,13 @@ use Rattle.host_session.specs.session.Answering.{IsAnswered}
 use Rattle.host_session.specs.session.Deciding.{card_with, newest_in, renewed, traded}
 use Rattle.host_session.specs.shop.Files.{Files, HasFiles}
 use Rattle.host_session.specs.session.Handling.{kept_writes}
-use Rattle.host_session.specs.session.Keeping.{IsEither, IsKeeping, answer_of, shop_after}
-use Rattle.host_session.specs.shop.Puts.{Puts}
+use Rattle.host_session.specs.session.Keeping.{IsAfterCounted, IsEither, IsKeeping, KeepsAnswer, answer_of, shop_after}
 use Rattle.host_session.specs.shop.Selecting.{IsReady}
 use Rattle.host_session.specs.shop.Shop.{IsSettled, IsShop, Shop, results_of, shop_of, start_of}
 use Rattle.host_session.specs.session.Standing.{IsStanding, View, nth, state_in}
 use Rattle.host_session.proofs.lemmas.session.Replies.{IsKept, told-dead, told-ok}
 use Rattle.host_session.proofs.lemmas.session.Standings.{standing-after, standing-answer, standing-dead, standing-entry}
 use Rattle.host_session.proofs.lemmas.session.Standings.{standing-keeping}
-
--- whether there is none, as a call asks it
-pub asked-none : (o p : Option ℕ) (b : Bool) → o ≡ p → is_some o ≡ not b → b ≡ is_none p
-asked-none o p b e = subst (λ (q : Option ℕ). is_some o ≡ not b → b ≡ is_none q) e (by o b)
-  where
-    by : (o : Option ℕ) (b : Bool) → is_some o ≡ not b → b ≡ is_none o
-    by None true e = refl
-    by None false e = absurd (false≢true e)
-    by (Some x) true e = absurd (false≢true (sym e))
-    by (Some x) false e = refl
 
 module _ {D : Type 0} (S : History D) (x : Seen D) (now : View D) (dead : Bool) (top tills : ℕ)
     (cards : List (Option ℕ)) (requests : List (Option Card)) (is : record { disk = x.disk; dead = dead } ≡ now)
@@ -58,95 +47,86 @@ module _ {D : Type 0} (S : History D) (x : Seen D) (now : View D) (dead : Bool) 
       ∙ sym (ap (λ (st : State). number_of (st.ledger.kept a.till) + 1) (v.state_is live))
 
   module _ (o : Outcome) (rule : o ≡ traded (nth cards) top a.body) (c : Card)
-      (made : c ≡ card_with (nth requests a.till) a o.answer) (fresh : Bool)
-      (none : fresh ≡ is_none (nth cards a.body.item)) where
+      (made : c ≡ card_with (nth requests a.till) a o.answer) (before : Option ℕ)
+      (asked : before ≡ nth cards a.body.item) where
+    -- what the item had before is what the shop has of it
+    had : (f : Files) → shop_of f ≡ v.shop → before ≡ (shop_of f).state.ledger.cards a.body.item
+    had f same = asked ∙ ap (λ (st : State). st.ledger.cards a.body.item) (v.state_is live)
+        ∙ sym (ap (λ (s : Shop). s.state.ledger.cards a.body.item) same)
+
     pub known-keeping : (f : Files) × HasFiles (S.image x.disk) f × IsKeeping f a c
-        × (fresh ≡ is_none ((shop_of f).state.ledger.cards a.body.item))
+        × (before ≡ (shop_of f).state.ledger.cards a.body.item)
     known-keeping =
         let (f, h, same, k) = standing-keeping (S.image x.disk) dead top tills cards requests v live a ask due o rule c
-        made in (
-          f,
-          h,
-          k,
-          none ∙ ap (λ (st : State). is_none (st.ledger.cards a.body.item)) (v.state_is live)
-              ∙ sym (ap (λ (s : Shop). is_none (s.state.ledger.cards a.body.item)) same),
-        )
+        made in (f, h, k, had f same)
 
     -- the drive has kept it, or failed
-    module _ (y : Seen D) (res : Result (Unit {0}) Dead) (puts : Puts S x y res
-        (λ f. HasFiles (S.image x.disk) f × IsKeeping f a c)
-        (λ f p. kept_writes p.0.stock_file a.body.item (results_of c.newest)) (λ f. IsEither (shop_of f) a)
-        (λ f i. IsSettled i (shop_after (shop_of f) a)))
-        (counted : fresh ≡ false → (f : Files) → HasFiles (S.image x.disk) f → IsKeeping f a c
-        → IfCounted S x.disk y.disk (λ i. IsShop i (shop_after (shop_of f) a)))
-        (refused : c.pending ≡ false → (f : Files) → HasFiles (S.image x.disk) f → IsKeeping f a c
-        → IfCounted S x.disk y.disk (λ i. IsShop i (shop_after (shop_of f) a))) where
-      kept : (f : Files) → HasFiles (S.image x.disk) f → IsKeeping f a c → IsKept S x.disk y.disk f a fresh c res
-      kept f h k = record {
-        ok = puts.ok f (h, k);
-        moments = λ h'. puts.moments f (h', k);
-        counted = λ e. counted e f h k;
-        refused = λ e. refused e f h k;
-        failures = puts.failures;
-      }
+    module _ (y : Seen D) (res : Result (Unit {0}) Dead) (puts : KeepsAnswer S x y res a c
+        (λ f p. kept_writes p.0.stock_file a.body.item (results_of c.newest)))
+        (counted : IsSome before → IsAfterCounted S x y a c) (refused : c.pending ≡ false → IsAfterCounted S x y a c)
+      where
+        kept : (f : Files) → HasFiles (S.image x.disk) f → IsKeeping f a c → IsKept S x.disk y.disk f a before c res
+        kept f h k = record {
+          ok = puts.ok f (h, k);
+          moments = λ h'. puts.moments f (h', k);
+          counted = λ e. counted e f h k;
+          refused = λ e. refused e f h k;
+          failures = puts.failures;
+        }
 
-      next-of : (f : Files) → shop_of f ≡ v.shop → next_in (start_of (shop_of f)) (shop_of f).state a ≡ true
-      next-of f same = subst (λ (s : Shop). next_in (start_of s) s.state a ≡ true) (sym same) due
+        next-of : (f : Files) → shop_of f ≡ v.shop → next_in (start_of (shop_of f)) (shop_of f).state a ≡ true
+        next-of f same = subst (λ (s : Shop). next_in (start_of s) s.state a ≡ true) (sym same) due
 
-      abbrev Found : Type 0
-      Found = (f : Files) × HasFiles (S.image x.disk) f × (shop_of f ≡ v.shop) × IsKeeping f a c
+        abbrev Found : Type 0
+        Found = (f : Files) × HasFiles (S.image x.disk) f × (shop_of f ≡ v.shop) × IsKeeping f a c
 
-      found : Found
-      found = standing-keeping (S.image x.disk) dead top tills cards requests v live a ask due o rule c made
+        found : Found
+        found = standing-keeping (S.image x.disk) dead top tills cards requests v live a ask due o rule c made
 
-      none-in : (f : Files) → shop_of f ≡ v.shop → fresh ≡ is_none ((shop_of f).state.ledger.cards a.body.item)
-      none-in f same = none ∙ ap (λ (st : State). is_none (st.ledger.cards a.body.item)) (v.state_is live)
-          ∙ sym (ap (λ (s : Shop). is_none (s.state.ledger.cards a.body.item)) same)
+        -- where it failed
+        pub stands-dead : (st : State) → IsStanding (S.image y.disk) true top tills st
+        stands-dead st =
+            let (f, h, same, k) = found in
+            standing-dead (S.image x.disk) dead top tills cards requests v a (S.image y.disk) st
+            (subst (λ (s : Shop). IsEither s a (S.image y.disk)) same (at_end S x.disk y.disk (IsEither (shop_of f) a)
+            (puts.moments f (h, k)).held))
 
-      -- where it failed
-      pub stands-dead : (st : State) → IsStanding (S.image y.disk) true top tills st
-      stands-dead st =
-          let (f, h, same, k) = found in
-          standing-dead (S.image x.disk) dead top tills cards requests v a (S.image y.disk) st
-          (subst (λ (s : Shop). IsEither s a (S.image y.disk)) same (at_end S x.disk y.disk (IsEither (shop_of f) a)
-          (puts.moments f (h, k)).held))
+        pub answers-dead : (fault : Dead) → res ≡ Err fault
+            → IsAnswered S now (record { disk = y.disk; dead = true }) a words.Media
+        answers-dead fault e =
+            let (f, h, same, k) = found in
+            let w = subst (λ (r : Result (Unit {0}) Dead). IsKept S x.disk y.disk f a before c r) e (kept f h k) in
+            subst (λ (u : View D). IsAnswered S u (record { disk = y.disk; dead = true }) a words.Media) is
+            (told-dead S (record { disk = x.disk; dead = dead }) (record { disk = y.disk; dead = true }) f h a before c k
+            (had f same) (next-of f same) fault w puts.moments refl)
 
-      pub answers-dead : (fault : Dead) → res ≡ Err fault
-          → IsAnswered S now (record { disk = y.disk; dead = true }) a words.Media
-      answers-dead fault e =
-          let (f, h, same, k) = found in
-          let w = subst (λ (r : Result (Unit {0}) Dead). IsKept S x.disk y.disk f a fresh c r) e (kept f h k) in
-          subst (λ (u : View D). IsAnswered S u (record { disk = y.disk; dead = true }) a words.Media) is
-          (told-dead S (record { disk = x.disk; dead = dead }) (record { disk = y.disk; dead = true }) f h a fresh c k
-          (none-in f same) (next-of f same) fault w puts.moments refl)
+        -- where it was kept
+        settled-of : (u : Unit {0}) → res ≡ Ok u → (f : Files) → HasFiles (S.image x.disk) f → IsKeeping f a c
+            → IsSettled (S.image y.disk) (shop_after (shop_of f) a)
+        settled-of u e f h k =
+            subst (λ (r : Result (Unit {0}) Dead). OnOk r (IsSettled (S.image y.disk) (shop_after (shop_of f) a))) e
+            (puts.ok f (h, k))
 
-      -- where it was kept
-      settled-of : (u : Unit {0}) → res ≡ Ok u → (f : Files) → HasFiles (S.image x.disk) f → IsKeeping f a c
-          → IsSettled (S.image y.disk) (shop_after (shop_of f) a)
-      settled-of u e f h k =
-          subst (λ (r : Result (Unit {0}) Dead). OnOk r (IsSettled (S.image y.disk) (shop_after (shop_of f) a))) e
-          (puts.ok f (h, k))
+        pub stands-after : (u : Unit {0}) → res ≡ Ok u → (answered : Card) → answered ≡ record c { pending = false }
+            → (cs : List (Option ℕ)) (rs : List (Option Card))
+            → state_in cs rs ≡ renewed (state_in cards requests) a o answered
+            → IsStanding (S.image y.disk) dead top tills (state_in cs rs)
+        stands-after u e answered is_answered cs rs new =
+            let (f, h, same, k) = found in
+            standing-after (S.image x.disk) dead top tills cards requests v live a ask due (S.image y.disk) rs cs o c
+            answered rule made is_answered new
+            (subst (λ (s : Shop). IsSettled (S.image y.disk) (shop_after s a)) same (settled-of u e f h k))
 
-      pub stands-after : (u : Unit {0}) → res ≡ Ok u → (answered : Card) → answered ≡ record c { pending = false }
-          → (cs : List (Option ℕ)) (rs : List (Option Card))
-          → state_in cs rs ≡ renewed (state_in cards requests) a o answered
-          → IsStanding (S.image y.disk) dead top tills (state_in cs rs)
-      stands-after u e answered is_answered cs rs new =
-          let (f, h, same, k) = found in
-          standing-after (S.image x.disk) dead top tills cards requests v live a ask due (S.image y.disk) rs cs o c
-          answered rule made is_answered new
-          (subst (λ (s : Shop). IsSettled (S.image y.disk) (shop_after s a)) same (settled-of u e f h k))
+        pub ready-after : (u : Unit {0}) → res ≡ Ok u → IsReady S y
+        ready-after u e = subst (λ (r : Result (Unit {0}) Dead). OnOk r (IsReady S y)) e puts.ready
 
-      pub ready-after : (u : Unit {0}) → res ≡ Ok u → IsReady S y
-      ready-after u e = subst (λ (r : Result (Unit {0}) Dead). OnOk r (IsReady S y)) e puts.ready
-
-      pub answers-after : (u : Unit {0}) → res ≡ Ok u
-          → IsAnswered S now (record { disk = y.disk; dead = dead }) a (words.Kept o.answer)
-      answers-after u e =
-          let (f, h, same, k) = found in
-          let w = subst (λ (r : Result (Unit {0}) Dead). IsKept S x.disk y.disk f a fresh c r) e (kept f h k) in
-          subst (λ (z : View D). IsAnswered S z (record { disk = y.disk; dead = dead }) a (words.Kept o.answer)) is
-          (told-ok S (record { disk = x.disk; dead = dead }) (record { disk = y.disk; dead = dead }) f h a fresh c k
-          (none-in f same) (next-of f same) u w puts.moments live o.answer
-          (standing-answer (S.image x.disk) dead top tills cards requests v live a ask due o rule
-          ∙ ap (λ (s : Shop). answer_of s a) (sym same)))
+        pub answers-after : (u : Unit {0}) → res ≡ Ok u
+            → IsAnswered S now (record { disk = y.disk; dead = dead }) a (words.Kept o.answer)
+        answers-after u e =
+            let (f, h, same, k) = found in
+            let w = subst (λ (r : Result (Unit {0}) Dead). IsKept S x.disk y.disk f a before c r) e (kept f h k) in
+            subst (λ (z : View D). IsAnswered S z (record { disk = y.disk; dead = dead }) a (words.Kept o.answer)) is
+            (told-ok S (record { disk = x.disk; dead = dead }) (record { disk = y.disk; dead = dead }) f h a before c k
+            (had f same) (next-of f same) u w puts.moments live o.answer
+            (standing-answer (S.image x.disk) dead top tills cards requests v live a ask due o rule
+            ∙ ap (λ (s : Shop). answer_of s a) (sym same)))

@@ -1,7 +1,7 @@
 -- What a session that isn't dead has told of a request, once the drive has kept it or failed.
-use Rattle.std.proofs.Common.{◌≡◌, ◌≢◌, ◌≤◌, ◌<◌, ◌⊎◌, ◌+◌, inl, inr, true, false, Bool, Ok, Err, Result, Some, refl}
+use Rattle.std.proofs.Common.{ℕ, ◌≡◌, ◌≢◌, ◌≤◌, ◌<◌, ◌⊎◌, ◌+◌, inl, inr, true, false, Bool, Ok, Err, Result, Some, refl}
 use Rattle.std.proofs.Common.{sym, ◌∙◌, ap, subst, arith}
-use Rattle.std.specs.Prelude.{OnOk, None, Option, is_none, nat_le, nat_lt, ◌==◌, if◌then◌else◌}
+use Rattle.std.specs.Prelude.{IsSome, OnOk, None, Option, is_none, nat_le, nat_lt, ◌==◌, if◌then◌else◌}
 use Rattle.std.proofs.lemmas.Bool.{and_from, and_parts, cases_Bool, eq-eqb, eqb-false, eqb-true, false≢true, le-leb}
 use Rattle.std.proofs.lemmas.Bool.{le-ltb, leb-true, ltb-false, ne_eqb}
 use Rattle.d64_image.specs.History.{History, IfCounted, TellsFailure}
@@ -25,6 +25,7 @@ use Rattle.host_session.specs.session.Keeping.{IsEither, IsKeeping, answer_of, s
 use Rattle.host_session.specs.shop.Shop.{IsSettled, IsShop, Shop, results_in, results_of, shop_of, start_of, with_state}
 use Rattle.host_session.specs.session.Standing.{View}
 use Rattle.host_session.proofs.lemmas.session.Keepings.{first-kind, kept-within}
+use Rattle.host_session.proofs.lemmas.session.KeptItems.{none-or}
 use Rattle.host_session.proofs.lemmas.shop.Shops.{HasFiles-one, IsShop-one}
 
 -- a kept answer is another word than MEDIA
@@ -104,18 +105,17 @@ pub of-shop : (img : Image) (s : Shop) (P : Shop → Type 0) → IsShop img s �
 of-shop img s P x p t y = subst P (IsShop-one img s t x y) p
 
 -- What the drive's keeping of the request comes to.
-pub record IsKept {D E : Type 0} (S : History D) (old new : D) (f : Files) (a : Ask) (fresh : Bool) (c : Card)
+pub record IsKept {D E : Type 0} (S : History D) (old new : D) (f : Files) (a : Ask) (before : Option ℕ) (c : Card)
     (res : Result (Unit {0}) E) : Type 0 where
   pub ok : OnOk res (IsSettled (S.image new) (shop_after (shop_of f) a))
   pub moments : (h : HasFiles (S.image old) f)
       → Changes S old new (kept_writes h.stock_file a.body.item (results_of c.newest)) (IsEither (shop_of f) a)
-  pub counted : fresh ≡ false → IfCounted S old new (λ i. IsShop i (shop_after (shop_of f) a))
+  pub counted : IsSome before → IfCounted S old new (λ i. IsShop i (shop_after (shop_of f) a))
   pub refused : c.pending ≡ false → IfCounted S old new (λ i. IsShop i (shop_after (shop_of f) a))
   pub failures : TellsFailure S old new res
 
 module _ {D : Type 0} (S : History D) (x y : View D) (f : Files) (h : HasFiles (S.image x.disk) f) (a : Ask)
-    (fresh : Bool) (c : Card) (k : IsKeeping f a c)
-    (is : fresh ≡ is_none ((shop_of f).state.ledger.cards a.body.item))
+    (before : Option ℕ) (c : Card) (k : IsKeeping f a c) (is : before ≡ (shop_of f).state.ledger.cards a.body.item)
     (next : next_in (start_of (shop_of f)) (shop_of f).state a ≡ true) where
   here : IsShop (S.image x.disk) (shop_of f)
   here = record { files = f; has = h; records = k.records; is = refl }
@@ -123,7 +123,7 @@ module _ {D : Type 0} (S : History D) (x y : View D) (f : Files) (h : HasFiles (
   ends : shop_after (shop_of f) a ≡ after_ask (shop_of f) a
   ends = after-next (shop_of f) a next
 
-  told-moments : {E : Type 0} {res : Result (Unit {0}) E} → IsKept S x.disk y.disk f a fresh c res
+  told-moments : {E : Type 0} {res : Result (Unit {0}) E} → IsKept S x.disk y.disk f a before c res
       → (t : Shop) → IsShop (S.image x.disk) t
       → Changes S x.disk y.disk 3618 (λ i. IsShop i t ⊎ IsShop i (after_ask t a))
   told-moments w = of-shop (S.image x.disk) (shop_of f) (λ (t : Shop). Changes S x.disk y.disk 3618 (λ i. IsShop i t
@@ -151,29 +151,30 @@ module _ {D : Type 0} (S : History D) (x y : View D) (f : Files) (h : HasFiles (
       ∙ sym (ap (λ (e : _). kept_writes h'.stock_file a.body.item (results_of e)) k'.newest) in
       omega (arith, (all g (h', k')).writes, most)
 
-  grows : c.pending ≡ true → fresh ≡ true → MayGrow (shop_of f) (Some a)
+  grows : c.pending ≡ true → is_none before ≡ true → MayGrow (shop_of f) (Some a)
   grows intent new =
-      let kind = first-kind f a c k intent (sym is ∙ new) in
+      let none : is_none ((shop_of f).state.ledger.cards a.body.item) ≡ true = sym (ap is_none is) ∙ new in
+      let kind = first-kind f a c k intent none in
       and_from (same_kind a.body.kind Set) _ (ap (λ (z : Kind). same_kind z Set) kind.0)
-      (and_from (nat_le a.body.item f.top) _ (le-leb a.body.item f.top kind.1) (sym is ∙ new))
+      (and_from (nat_le a.body.item f.top) _ (le-leb a.body.item f.top kind.1) none)
 
-  told-counted : {E : Type 0} {res : Result (Unit {0}) E} → IsKept S x.disk y.disk f a fresh c res → (t : Shop)
+  told-counted : {E : Type 0} {res : Result (Unit {0}) E} → IsKept S x.disk y.disk f a before c res → (t : Shop)
       → IsShop (S.image x.disk) t → S.writes x.disk < S.writes y.disk
       → MayGrow t (Some a) ⊎ IsShop (S.image y.disk) (after_ask t a)
   told-counted w = of-shop (S.image x.disk) (shop_of f) (λ (t : Shop). S.writes x.disk < S.writes y.disk
       → MayGrow t (Some a) ⊎ IsShop (S.image y.disk) (after_ask t a)) here
       (λ lt. subst (λ (u : Shop). MayGrow (shop_of f) (Some a) ⊎ IsShop (S.image y.disk) u) ends
-      (by lt (cases_Bool c.pending) (cases_Bool fresh)))
+      (by lt (cases_Bool c.pending) (cases_Bool (is_none before))))
     where
       by : S.writes x.disk < S.writes y.disk → (c.pending ≡ true) ⊎ (c.pending ≡ false)
-          → (fresh ≡ true) ⊎ (fresh ≡ false) → MayGrow (shop_of f) (Some a)
+          → (is_none before ≡ true) ⊎ (is_none before ≡ false) → MayGrow (shop_of f) (Some a)
           ⊎ IsShop (S.image y.disk) (shop_after (shop_of f) a)
       by lt (inr closed) n = inr (w.refused closed lt)
-      by lt (inl intent) (inr old) = inr (w.counted old lt)
+      by lt (inl intent) (inr old) = inr (w.counted (none-or before old) lt)
       by lt (inl intent) (inl new) = inl (grows intent new)
 
   -- the two ends of it
-  pub told-ok : {E : Type 0} (u : Unit {0}) (w : IsKept {E = E} S x.disk y.disk f a fresh c (Ok u))
+  pub told-ok : {E : Type 0} (u : Unit {0}) (w : IsKept {E = E} S x.disk y.disk f a before c (Ok u))
       → KeptMoments → y.dead ≡ false → (answer : Answer) → answer ≡ answer_of (shop_of f) a
       → IsAnswered S x y a (words.Kept answer)
   told-ok u w all alive answer is_answer = record {
@@ -192,7 +193,7 @@ module _ {D : Type 0} (S : History D) (x y : View D) (f : Files) (h : HasFiles (
     failures = inr (kept-other answer, w.failures);
   }
 
-  pub told-dead : {E : Type 0} (fault : E) (w : IsKept S x.disk y.disk f a fresh c (Err fault))
+  pub told-dead : {E : Type 0} (fault : E) (w : IsKept S x.disk y.disk f a before c (Err fault))
       → KeptMoments → y.dead ≡ true → IsAnswered S x y a words.Media
   told-dead fault w all dead = record {
     reply = λ t it other. absurd (other refl);

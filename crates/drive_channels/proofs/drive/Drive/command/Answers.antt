@@ -1,14 +1,22 @@
-use Rattle.std.proofs.Common.{false, ap, arith, refl, sym, ◌∙◌}
+use Rattle.std.proofs.Common.{◌≡◌, ap, arith, refl, subst, sym, ◌∙◌, Ok, Result}
+use Rattle.d64_image.specs.History.{History}
 use Rattle.std.proofs.lemmas.Bool.{false≢true}
 use Rattle.d64_image.proofs.Moments.{no_reads, no_write, reads_weaker}
 use Rattle.drive_channels.proofs.Orders.{known-after, meets-v, truth}
-use Rattle.drive_channels.proofs.Steady.{died, orderly, served, still-dead}
+use Rattle.drive_channels.proofs.Steady.{orderly, served, still-dead}
 use Rattle.drive_channels.proofs.Written.{idle}
 use Rattle.drive_channels.proofs.drive.Drive.command.Goals as goal
+use Rattle.drive_channels.specs.Calls.{Validates}
 use Rattle.drive_channels.specs.Inside.{seen_of}
+use Rattle.drive_channels.specs.declared.faults.Dead.{Dead}
+use Rattle.drive_channels.specs.declared.status.Status.{Status}
 use Rattle.drive_channels.specs.State.{view_of}
-use Rattle.rel_records.proofs.lemmas.Told.{not-done}
 use Rattle.layout_check.proofs.lemmas.mending.Mendings.{mended-start}
+
+-- what a repair came to, if it is done
+validated : {D : Type 0} (S : History D) (a b : D) (r : Result Status Dead) (status : Status) → r ≡ Ok status
+    → Validates S a b r → Validates S a b (Ok status)
+validated S a b r status is = subst (λ (x : Result Status Dead). Validates S a b x) is
 
 pub returns-then-self : goal.returns-then-self
 returns-then-self g c = record {
@@ -22,18 +30,6 @@ returns-then-self g c = record {
   quiet = λ _. no_write g.D.Sectors.history _;
 }
 
-pub returns-in_err-self-inside : goal.returns-in_err-self-inside
-returns-in_err-self-inside g c = record {
-  serves = rw (← c.self.view_is) (died g.D.Sectors.history (seen_of c.self.inside) _ c.from_residual.result _
-      c.from_residual.ensures.1 c.if-self.false refl c.in_err-self-inside.ensures.failures);
-  row = not-done c.from_residual.result _ c.from_residual.ensures.1 _;
-  silent = λ other. absurd (other (c.is_validate.ensures.0 (truth _ c.if-is_validate.true)));
-  moments = rw (← c.self.view_is) c.validate.ensures.moments;
-  unsound = rw (← c.self.view_is) c.validate.ensures.unsound;
-  reads = rw (← c.self.view_is) c.validate.ensures.reads;
-  quiet = rw (← c.self.view_is) c.validate.ensures.quiet;
-}
-
 pub invariant_of-self : goal.invariant_of-self
 invariant_of-self g c = λ alive. absurd (false≢true (sym alive))
 
@@ -42,26 +38,28 @@ invariant_of-self-then-is_validate g c = λ alive. known-after _ _ c.self.inside
     (c.self.invariant c.if-self.false) (λ clean. (c.validate.ensures.quiet clean).image)
 
 pub returns-then-is_validate : goal.returns-then-is_validate
-returns-then-is_validate g c = record {
-  serves = let S = g.D.Sectors.history in
-      rw (← c.self.view_is) (served S (seen_of c.self.inside) _ _ c.if-self.false refl
-      c.in_ok-self-inside.ensures.failures
-      (orderly S (record {
-        disk = c.validate.new.disk;
-        known = c.self.inside.known;
-        status = c.in_ok-self-inside.field-0;
-        dead = false;
-      })
-      (known-after _ _ c.self.inside.known (c.self.invariant c.if-self.false)
-      (λ clean. (c.validate.ensures.quiet clean).image))));
-  row = rw (← c.self.view_is) (meets-v (view_of g.D.Sectors.history (seen_of c.self.inside)) c.args.text.now _
-      (c.is_validate.ensures.0 (truth _ c.if-is_validate.true)) c.in_ok-self-inside.ensures.row refl);
-  silent = λ other. absurd (other (c.is_validate.ensures.0 (truth _ c.if-is_validate.true)));
-  moments = rw (← c.self.view_is) c.validate.ensures.moments;
-  unsound = rw (← c.self.view_is) c.validate.ensures.unsound;
-  reads = rw (← c.self.view_is) c.validate.ensures.reads;
-  quiet = rw (← c.self.view_is) c.validate.ensures.quiet;
-}
+returns-then-is_validate g c =
+    let w = validated g.D.Sectors.history _ _ _ _ c.in-Ok.is c.validate.ensures in
+    record {
+      serves = let S = g.D.Sectors.history in
+          rw (← c.self.view_is) (served S (seen_of c.self.inside) _ _ c.if-self.false c.if-self.false
+          w.failures
+          (orderly S (record {
+            disk = c.validate.new.disk;
+            known = c.self.inside.known;
+            status = c.in-Ok.status;
+            dead = c.self.inside.dead;
+          })
+          (known-after _ _ c.self.inside.known (c.self.invariant c.if-self.false)
+          (λ clean. (c.validate.ensures.quiet clean).image))));
+      row = rw (← c.self.view_is) (meets-v (view_of g.D.Sectors.history (seen_of c.self.inside)) c.args.text.now _
+          (c.is_validate.ensures.0 (truth _ c.if-is_validate.true)) w.row refl);
+      silent = λ other. absurd (other (c.is_validate.ensures.0 (truth _ c.if-is_validate.true)));
+      moments = rw (← c.self.view_is) c.validate.ensures.moments;
+      unsound = rw (← c.self.view_is) c.validate.ensures.unsound;
+      reads = rw (← c.self.view_is) c.validate.ensures.reads;
+      quiet = rw (← c.self.view_is) c.validate.ensures.quiet;
+    }
 
 pub command-self-inside-requires : goal.command-self-inside-requires
 command-self-inside-requires g c =

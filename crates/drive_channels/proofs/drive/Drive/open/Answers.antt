@@ -1,16 +1,20 @@
 use Rattle.std.proofs.lemmas.Bool.{true≢false}
-use Rattle.std.proofs.Common.{◌≡◌, ◌⊎◌, false, inl, inr, arith, refl, ap, sym, ◌∙◌, List, None, Option, Result, ℕ}
+use Rattle.std.proofs.Common.{◌≡◌, ◌⊎◌, inl, inr, arith, refl, ap, subst, sym, ◌∙◌, List, None, Ok}
+use Rattle.std.proofs.Common.{Option, Result, ℕ}
 use Rattle.d64_image.proofs.Moments.{no_reads, reads_weaker}
-use Rattle.drive_channels.proofs.Steady.{orderly, served, died, still-dead}
+use Rattle.drive_channels.proofs.Steady.{orderly, served, still-dead}
 use Rattle.drive_channels.proofs.Written.{idle}
 use Rattle.drive_channels.proofs.drive.Drive.open.Goals as goal
 use Rattle.d64_image.specs.History.{History, OnlyReads}
+use Rattle.drive_channels.specs.Calls.{OpensText}
 use Rattle.drive_channels.specs.Files.{HasFile}
 use Rattle.drive_channels.specs.Inside.{seen_of}
 use Rattle.drive_channels.specs.Moments.{IsOpenedBy}
 use Rattle.drive_channels.specs.Spelling.{IsWish, Wish}
 use Rattle.drive_channels.specs.State.{Channel}
-use Rattle.rel_records.proofs.lemmas.Told.{not-done}
+use Rattle.drive_channels.specs.declared.faults.Dead.{Dead}
+use Rattle.drive_channels.specs.declared.open_files.OpenFiles.{OpenFiles}
+use Rattle.drive_channels.specs.declared.status.Status.{Status}
 
 -- without a length, or where the file is there, nothing is written
 quiet-of : {D T E : Type 0} {S : History D} {a b : D} {text : List ℕ} {before after : Option Channel}
@@ -22,25 +26,33 @@ quiet-of opened h = elim h [
   | inr x ↦ opened.there x.0 x.1 x.2
 ]
 
+-- what the call below came to, if it is done
+opened : {D : Type 0} (S : History D) (a b : D) (k k' : OpenFiles) (channel : ℕ) (text : List ℕ)
+    (r : Result Status Dead) (status : Status) → r ≡ Ok status → OpensText S a b k k' channel text r
+    → OpensText S a b k k' channel text (Ok status)
+opened S a b k k' channel text r status is = subst (λ (x : Result Status Dead). OpensText S a b k k' channel text x) is
+
 pub returns : goal.returns
-returns g c = record {
-  -- each is that of the call below, in the drive's fields
-  serves = let S = g.D.Sectors.history in
-      rw (← c.self.view_is) (served S (seen_of c.self.inside) _ _ c.if-self.false refl
-      c.in_ok-self-inside.ensures.failures
-      (orderly S (record {
-        disk = c.open.new.disk;
-        known = c.open.new.self;
-        status = c.in_ok-self-inside.field-0;
-        dead = false;
-      }) c.in_ok-self-inside.ensures.known));
-  row = rw (← c.self.view_is) (c.in_ok-self-inside.ensures.row c.self.inside.status);
-  quiet = rw (← c.self.view_is) (quiet-of c.in_ok-self-inside.ensures.opened);
-  refused = rw (← c.self.view_is) c.in_ok-self-inside.ensures.opened.refused;
-  reads = rw (← c.self.view_is) c.in_ok-self-inside.ensures.opened.reads;
-  unclean = rw (← c.self.view_is) c.in_ok-self-inside.ensures.opened.unclean;
-  moments = rw (← c.self.view_is) c.in_ok-self-inside.ensures.opened.moments;
-}
+returns g c =
+    let w = opened g.D.Sectors.history _ _ _ _ _ _ _ _ c.in-Ok.is c.open.ensures in
+    record {
+      -- each is that of the call below, in the drive's fields
+      serves = let S = g.D.Sectors.history in
+          rw (← c.self.view_is) (served S (seen_of c.self.inside) _ _ c.if-self.false c.if-self.false
+          w.failures
+          (orderly S (record {
+            disk = c.open.new.disk;
+            known = c.open.new.self;
+            status = c.in-Ok.status;
+            dead = c.self.inside.dead;
+          }) w.known));
+      row = rw (← c.self.view_is) (w.row c.self.inside.status);
+      quiet = rw (← c.self.view_is) (quiet-of w.opened);
+      refused = rw (← c.self.view_is) w.opened.refused;
+      reads = rw (← c.self.view_is) w.opened.reads;
+      unclean = rw (← c.self.view_is) w.opened.unclean;
+      moments = rw (← c.self.view_is) w.opened.moments;
+    }
 
 pub returns-then-self : goal.returns-then-self
 returns-then-self g c = record {
@@ -54,17 +66,14 @@ returns-then-self g c = record {
   moments = λ l _. idle g.D.Sectors.history _ _ _ (inl refl);
 }
 
-pub returns-in_err-self-inside : goal.returns-in_err-self-inside
-returns-in_err-self-inside g c = record {
-  serves = rw (← c.self.view_is) (died g.D.Sectors.history (seen_of c.self.inside) _ c.from_residual.result _
-      c.from_residual.ensures.1 c.if-self.false refl c.in_err-self-inside.ensures.failures);
-  row = not-done c.from_residual.result _ c.from_residual.ensures.1 _;
-  quiet = rw (← c.self.view_is) (quiet-of c.in_err-self-inside.ensures.opened);
-  refused = not-done c.from_residual.result _ c.from_residual.ensures.1 _;
-  reads = not-done c.from_residual.result _ c.from_residual.ensures.1 _;
-  unclean = rw (← c.self.view_is) c.in_err-self-inside.ensures.opened.unclean;
-  moments = rw (← c.self.view_is) c.in_err-self-inside.ensures.opened.moments;
-}
+pub returns-in_default-clause-quiet : goal.returns-in_default-clause-quiet
+returns-in_default-clause-quiet g c = rw (← c.self.view_is) (quiet-of c.open.ensures.opened)
+
+pub returns-in_default-clause-unclean : goal.returns-in_default-clause-unclean
+returns-in_default-clause-unclean g c = rw (← c.self.view_is) c.open.ensures.opened.unclean
+
+pub returns-in_default-clause-moments : goal.returns-in_default-clause-moments
+returns-in_default-clause-moments g c = rw (← c.self.view_is) c.open.ensures.opened.moments
 
 pub open-requires : goal.open-requires
 open-requires g c = record { known = c.self.invariant c.if-self.false }
@@ -73,4 +82,6 @@ pub invariant_of-self : goal.invariant_of-self
 invariant_of-self g c = λ dead. absurd (true≢false dead)
 
 pub invariant_of-self-2 : goal.invariant_of-self-2
-invariant_of-self-2 g c = λ _. c.in_ok-self-inside.ensures.known
+invariant_of-self-2 g c =
+    let w = opened g.D.Sectors.history _ _ _ _ _ _ _ _ c.in-Ok.is c.open.ensures in
+    λ _. w.known

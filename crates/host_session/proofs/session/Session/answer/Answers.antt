@@ -3,7 +3,7 @@
 use Rattle.std.proofs.Common.{ap, sym, ◌∙◌}
 use Rattle.std.proofs.lemmas.Bool.{false≢true}
 use Rattle.host_session.specs.session.Standing.{nth}
-use Rattle.host_session.proofs.lemmas.session.Answered.{answers-after, answers-dead, asked-none, known-entry}
+use Rattle.host_session.proofs.lemmas.session.Answered.{answers-after, answers-dead, known-entry}
 use Rattle.host_session.proofs.lemmas.session.Answered.{known-keeping, known-number, ready-after, stands-after}
 use Rattle.host_session.proofs.lemmas.session.Answered.{stands-dead}
 use Rattle.host_session.proofs.session.Session.answer.Goals as goal
@@ -36,9 +36,8 @@ store_answer-requires-clause-keeping g c =
     c.self.inside.tills c.self.inside.cards c.self.inside.requests
     c.self.view_is c.self.invariant.0 c.args.request.now c.requires.ask c.requires.alive c.requires.next
     c.decided-outcome.result c.decided-outcome.ensures.rule
-    c.next_card-card.result c.next_card-card.ensures c.is_none-has_no_card.result
-    (asked-none c.on_hand.result _ c.is_none-has_no_card.result (c.on_hand.ensures.value
-    ∙ ap (nth c.self.inside.cards) c.item.ensures.value) c.is_none-has_no_card.ensures)
+    c.next_card-card.result c.next_card-card.ensures c.on_hand-before.result
+    (c.on_hand-before.ensures.value ∙ ap (nth c.self.inside.cards) c.item.ensures.value)
 
 pub invariant_of-self : goal.invariant_of-self
 invariant_of-self g c = (
@@ -46,9 +45,8 @@ invariant_of-self g c = (
       c.self.inside.tills c.self.inside.cards c.self.inside.requests
       c.self.view_is c.self.invariant.0 c.args.request.now c.requires.ask c.requires.alive c.requires.next
       c.decided-outcome.result c.decided-outcome.ensures.rule
-      c.next_card-card.result c.next_card-card.ensures c.is_none-has_no_card.result
-      (asked-none c.on_hand.result _ c.is_none-has_no_card.result (c.on_hand.ensures.value
-      ∙ ap (nth c.self.inside.cards) c.item.ensures.value) c.is_none-has_no_card.ensures)
+      c.next_card-card.result c.next_card-card.ensures c.on_hand-before.result
+      (c.on_hand-before.ensures.value ∙ ap (nth c.self.inside.cards) c.item.ensures.value)
       c.store_answer.new.drive c.store_answer.result c.store_answer.ensures.puts c.store_answer.ensures.counted c.store_answer.ensures.refused _,
   λ e. absurd (false≢true (sym e)),
 )
@@ -59,9 +57,8 @@ returns-in_default g c =
     c.self.inside.tills c.self.inside.cards c.self.inside.requests
     c.self.view_is c.self.invariant.0 c.args.request.now c.requires.ask c.requires.alive c.requires.next
     c.decided-outcome.result c.decided-outcome.ensures.rule
-    c.next_card-card.result c.next_card-card.ensures c.is_none-has_no_card.result
-    (asked-none c.on_hand.result _ c.is_none-has_no_card.result (c.on_hand.ensures.value
-    ∙ ap (nth c.self.inside.cards) c.item.ensures.value) c.is_none-has_no_card.ensures)
+    c.next_card-card.result c.next_card-card.ensures c.on_hand-before.result
+    (c.on_hand-before.ensures.value ∙ ap (nth c.self.inside.cards) c.item.ensures.value)
     c.store_answer.new.drive c.store_answer.result c.store_answer.ensures.puts c.store_answer.ensures.counted c.store_answer.ensures.refused
     c.in_default.field-0 c.in_default.is
 
@@ -71,18 +68,16 @@ invariant_of-self-2 g c = (
       c.self.inside.tills c.self.inside.cards c.self.inside.requests
       c.self.view_is c.self.invariant.0 c.args.request.now c.requires.ask c.requires.alive c.requires.next
       c.decided-outcome.result c.decided-outcome.ensures.rule
-      c.next_card-card.result c.next_card-card.ensures c.is_none-has_no_card.result
-      (asked-none c.on_hand.result _ c.is_none-has_no_card.result (c.on_hand.ensures.value
-      ∙ ap (nth c.self.inside.cards) c.item.ensures.value) c.is_none-has_no_card.ensures)
+      c.next_card-card.result c.next_card-card.ensures c.on_hand-before.result
+      (c.on_hand-before.ensures.value ∙ ap (nth c.self.inside.cards) c.item.ensures.value)
       c.store_answer.new.drive c.store_answer.result c.store_answer.ensures.puts c.store_answer.ensures.counted c.store_answer.ensures.refused
       c.in-Ok.field-0 c.in-Ok.is c.answered.result c.answered.ensures _ _ c.renew.ensures,
   λ _. ready-after g.D.Sectors.history c.self.inside.drive c.args.self.now c.self.inside.dead c.self.inside.top
       c.self.inside.tills c.self.inside.cards c.self.inside.requests
       c.self.view_is c.self.invariant.0 c.args.request.now c.requires.ask c.requires.alive c.requires.next
       c.decided-outcome.result c.decided-outcome.ensures.rule
-      c.next_card-card.result c.next_card-card.ensures c.is_none-has_no_card.result
-      (asked-none c.on_hand.result _ c.is_none-has_no_card.result (c.on_hand.ensures.value
-      ∙ ap (nth c.self.inside.cards) c.item.ensures.value) c.is_none-has_no_card.ensures)
+      c.next_card-card.result c.next_card-card.ensures c.on_hand-before.result
+      (c.on_hand-before.ensures.value ∙ ap (nth c.self.inside.cards) c.item.ensures.value)
       c.store_answer.new.drive c.store_answer.result c.store_answer.ensures.puts c.store_answer.ensures.counted c.store_answer.ensures.refused
       c.in-Ok.field-0 c.in-Ok.is,
 )
@@ -93,8 +88,7 @@ returns g c =
     c.self.inside.tills c.self.inside.cards c.self.inside.requests
     c.self.view_is c.self.invariant.0 c.args.request.now c.requires.ask c.requires.alive c.requires.next
     c.decided-outcome.result c.decided-outcome.ensures.rule
-    c.next_card-card.result c.next_card-card.ensures c.is_none-has_no_card.result
-    (asked-none c.on_hand.result _ c.is_none-has_no_card.result (c.on_hand.ensures.value
-    ∙ ap (nth c.self.inside.cards) c.item.ensures.value) c.is_none-has_no_card.ensures)
+    c.next_card-card.result c.next_card-card.ensures c.on_hand-before.result
+    (c.on_hand-before.ensures.value ∙ ap (nth c.self.inside.cards) c.item.ensures.value)
     c.store_answer.new.drive c.store_answer.result c.store_answer.ensures.puts c.store_answer.ensures.counted c.store_answer.ensures.refused
     c.in-Ok.field-0 c.in-Ok.is

@@ -1,9 +1,9 @@
 -- The writes of each case are within those of the answer.
-use Rattle.std.proofs.Common.{arith, sym, ◌∙◌}
+use Rattle.std.proofs.Common.{ap, arith, sym, ◌∙◌}
+use Rattle.std.specs.Prelude.{is_none, is_some}
 use Rattle.std.proofs.lemmas.Bool.{false≢true}
 use Rattle.host_session.proofs.lemmas.Held.{changes_weaker}
 use Rattle.host_session.proofs.lemmas.session.Keepings.{intent-writes, known-items, refused-writes}
-use Rattle.host_session.proofs.lemmas.session.KeptItems.{none-or}
 use Rattle.host_session.proofs.session.answers.store_answer.Goals as goal
 
 pub put_refusal-requires : goal.put_refusal-requires
@@ -34,13 +34,13 @@ put_first_set-requires g c =
     let (f, h, k, e) = c.requires.keeping in
     record {
       ready = c.requires.ready;
-      keeping = (f, h, k, sym e ∙ c.if-has_no_card.true);
+      keeping = (f, h, k, ap is_none (sym e ∙ c.in-None.is));
       intent =
           sym c.pending.ensures ∙ c.if-not-pending.false;
     }
 
-pub returns-then-has_no_card : goal.returns-then-has_no_card
-returns-then-has_no_card g c =
+pub returns-in-None : goal.returns-in-None
+returns-in-None g c =
     let set = c.put_first_set.ensures in
     record {
       puts = record {
@@ -53,7 +53,7 @@ returns-then-has_no_card g c =
         failures = set.failures;
         dies = set.dies;
       };
-      counted = λ old. absurd (false≢true (sym old ∙ c.if-has_no_card.true));
+      counted = λ old. absurd (false≢true (sym (ap is_some c.in-None.is) ∙ old));
       refused = λ no. absurd (false≢true (sym no ∙ sym c.pending.ensures ∙ c.if-not-pending.false));
     }
 
@@ -67,13 +67,13 @@ put_intent-requires g c =
         h,
         k,
         known-items f c.args.request.now c.args.card.now k
-            (none-or _ (sym e ∙ c.if-has_no_card.false)),
+            (ap is_some (sym e ∙ c.in-Some.is)),
       );
       intent = sym c.pending.ensures ∙ c.if-not-pending.false;
     }
 
-pub returns : goal.returns
-returns g c =
+pub returns-in-Some : goal.returns-in-Some
+returns-in-Some g c =
     let put = c.put_intent.ensures.puts in
     record {
       puts = record {
