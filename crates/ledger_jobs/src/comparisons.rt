@@ -2,11 +2,12 @@
 ghost use Rattle.ledger_jobs.specs.Comparisons.{IsComparingRun};
 ghost use Rattle.ledger_jobs.specs.Rights.{MayReadImage};
 
-use crate::outcomes::drawn_end;
+use crate::outcomes::job_end;
 use crate::readings::image_at;
 use crate::refusals::Refusal;
+use command_faults::CommandFault;
 use disk_layout::Fault;
-use disk_pictures::{PictureFault, compare_images};
+use disk_pictures::compare_images;
 use host_files::HostFiles;
 use shop_commands::Locks;
 use std::alloc::Global;
@@ -21,7 +22,7 @@ pub fn comparing_run<W: Write>(
     before: &[u8],
     after: &[u8],
     out: &mut W,
-) -> Result<Option<Fault>, PictureFault>
+) -> Result<Option<Fault>, CommandFault>
     ensures run { IsComparingRun W.contents before.now after.now out.old out.new result }
 {
     compare_images(alloc, before, after, out)
@@ -43,5 +44,5 @@ where
 {
     let first = image_at(rt, before)?;
     let second = image_at(rt, after)?;
-    drawn_end(comparing_run(rt.alloc(), first.as_slice(), second.as_slice(), out))
+    job_end(comparing_run(rt.alloc(), first.as_slice(), second.as_slice(), out))
 }

@@ -1,13 +1,14 @@
 //! What is printed of an image that isn't checked, done over its bytes and its file.
-ghost use Rattle.std.specs.Prelude.{◌≡◌};
-ghost use Rattle.ledger_jobs.specs.Views.{IsViewRun, as_viewed};
+ghost use Rattle.ledger_jobs.specs.Views.{IsViewRun};
 ghost use Rattle.ledger_jobs.specs.Rights.{MayReadImage};
 
 use crate::jobs::View;
+use crate::outcomes::run_end;
 use crate::readings::image_at;
 use crate::refusals::Refusal;
+use command_faults::CommandFault;
 use disk_layout::Fault;
-use disk_pictures::{PictureFault, free_image, sector_image};
+use disk_pictures::{free_image, sector_image};
 use host_files::HostFiles;
 use shop_commands::Locks;
 use std::alloc::Global;
@@ -20,22 +21,12 @@ pub fn view_run<W: Write>(
     what: View,
     image: &[u8],
     out: &mut W,
-) -> Result<(), PictureFault>
+) -> Result<(), CommandFault>
     ensures run { IsViewRun W.contents what image.now out.old out.new result }
 {
     match what {
         View::Free => free_image(alloc, image, out),
         View::Sector(place) => sector_image(alloc, image, place, out),
-    }
-}
-
-/// What came of it, as a job's end.
-pub fn viewed_end(ended: Result<(), PictureFault>) -> Result<Option<Fault>, Refusal>
-    ensures { result ≡ as_viewed ended }
-{
-    match ended {
-        Ok(()) => Ok(None),
-        Err(fault) => Err(Refusal::Draw(fault)),
     }
 }
 
@@ -53,5 +44,5 @@ where
     requires { MayReadImage R.rights rt.now path.now }
 {
     let image = image_at(rt, path)?;
-    viewed_end(view_run(rt.alloc(), what, image.as_slice(), out))
+    run_end(view_run(rt.alloc(), what, image.as_slice(), out))
 }
