@@ -29,7 +29,11 @@ pub(crate) const DISK: [Written; 5] = [
 pub(crate) const SAME: Written = (17, 0, 0, b"\x00\x03");
 
 /// A disk of zeros with these bytes, and with this change.
-pub(crate) fn written(rt: &(impl Abort + AllocGlobal), parts: &[Written], change: Written) -> MemDisk {
+pub(crate) fn written(
+    rt: &(impl Abort + AllocGlobal),
+    parts: &[Written],
+    change: Written,
+) -> MemDisk {
     let mut disk = MemDisk::zeroed(rt.alloc()).expect(rt, "a disk of zeros");
     for part in parts {
         put(&mut disk, *part);
