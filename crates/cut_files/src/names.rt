@@ -10,7 +10,7 @@ use disk_layout::{EntryView, Slot, padded_name};
 pub(crate) fn has_name(slot: &Slot, name: &[u8]) -> bool
     ensures { IsTrue result ↔ (slice_range slot.now.bytes 5 21 ≡ slot_name name.now) }
 {
-    name.len() <= 16 && &slot.bytes[5..21] == padded_name(name).as_slice()
+    name.len() <= 16 && EntryView::new(&slot.bytes).has_padded_name(&padded_name(name))
 }
 
 /// Whether the slot is that of a shop's `STOCK`.

@@ -57,8 +57,8 @@ pub(crate) fn blank_map(name: &[u8], id: [u8; 2], blocks: u8) -> [u8; 256]
     ensures { IsBlankMap result name.now id blocks }
 {
     let mut map = Bam::new(blank_header(name, id));
-    for below in 0..35u8 {
-        free_from(&mut map, below + 1, taken_on(below + 1, blocks));
+    for track in 1..=35u8 {
+        free_from(&mut map, track, taken_on(track, blocks));
     }
     map.bytes
 }

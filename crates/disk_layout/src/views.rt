@@ -1,5 +1,10 @@
 //! Views of the sectors of track 18: names, counts and entries, borrowed and not copied.
 ghost use Rattle.std.specs.Prelude.{◌≡◌, ◌≢◌, ◌+◌, ◌<◌, ◌≤◌, ◌↔◌, IsTrue, length, slice_index, slice_range};
+ghost use Rattle.byteorder.specs.Endian.{little_number};
+ghost use Rattle.disk_layout.specs.Chain.{named_at};
+ghost use Rattle.disk_layout.specs.Layout.{is_rel_type};
+ghost use Rattle.disk_layout.specs.Map.{IsFree, map_count};
+ghost use Rattle.disk_layout.specs.View.{IsUnpadded, blocks_free, data_count, entry_bytes};
 
 use crate::directory::DIRECTORY_TRACK;
 use crate::entries::{LOCKED_REL, REL};
@@ -18,12 +23,6 @@ fn unpadded(padded: &[u8]) -> &[u8]
         None => padded,
     }
 }
-
-ghost use Rattle.disk_layout.specs.View.{IsUnpadded, blocks_free, data_count, entry_bytes};
-ghost use Rattle.disk_layout.specs.Chain.{named_at};
-ghost use Rattle.disk_layout.specs.Layout.{is_rel_type};
-ghost use Rattle.disk_layout.specs.Map.{IsFree, map_count};
-ghost use Rattle.byteorder.specs.Endian.{little_number};
 
 /// A view of 18/0: the disk's name and id, and the map.
 #[derive(Clone, Copy)]
@@ -89,8 +88,8 @@ impl<'a> BamView<'a> {
         ensures { result ≡ blocks_free self.now.bytes.now }
     {
         let mut sum = 0;
-        for below in 0..35u8 {
-            sum += self.data_count(below + 1) as u16;
+        for track in 1..=35u8 {
+            sum += self.data_count(track) as u16;
         }
         sum
     }
@@ -179,6 +178,13 @@ impl<'a> EntryView<'a> {
         ensures { IsUnpadded (slice_range self.now.bytes.now 5 21) result.now }
     {
         unpadded(&self.bytes[5..21])
+    }
+
+    /// Whether the name with its padding is these sixteen bytes, as `padded_name` makes them.
+    pub fn has_padded_name(&self, padded: &[u8; 16]) -> bool
+        ensures { IsTrue result ↔ (slice_range self.now.bytes.now 5 21 ≡ padded.now) }
+    {
+        &self.bytes[5..21] == padded.as_slice()
     }
 
     /// Whether the slot names a first data block in bytes 3-4: track 0 means that there is none.

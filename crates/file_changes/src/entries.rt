@@ -11,13 +11,13 @@ ghost use Rattle.std.specs.Prelude.{ℕ};
 use crate::faults::ChangeFault;
 use arrayvec::ArrayVec;
 use d64_image::Sectors;
-use disk_layout::{Slot, read_directory};
+use disk_layout::{EntryView, Slot, read_directory};
 
 /// Whether the sixteen bytes of the entry's name are these.
 fn has_name(entry: &Slot, padded: &[u8; 16]) -> bool
     ensures { IsTrue result ↔ HasName padded.now entry.now }
 {
-    &entry.bytes[5..21] == &padded[..]
+    EntryView::new(&entry.bytes).has_padded_name(padded)
 }
 
 /// The number, from 0, of the first of these entries whose name has these bytes.

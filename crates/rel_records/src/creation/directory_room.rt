@@ -19,7 +19,7 @@ ghost use Rattle.disk_layout.specs.declared.slot.Slot.{Slot};
 ghost use Rattle.rel_records.specs.creation.Room.{IsFullDirectory, IsFirstRoom, IsFirstSlot, IsFullSector};
 
 use d64_image::{DeviceFault, Place, Sectors};
-use disk_layout::Slot;
+use disk_layout::{EntryView, Slot};
 
 /// The slot of a new entry: the number of the first free slot of the directory, or None if all are used. Also the
 /// directory sector that is written last for it, with its bytes and the number of sectors before it: the one of that
@@ -84,7 +84,7 @@ pub(crate) fn find_room<D: Sectors>(disk: &mut D, places: &[Place]) -> Result<Ro
 pub(crate) fn has_padded_name(slot: &Slot, padded: &[u8; 16]) -> bool
     ensures { IsTrue result ↔ (slice_range slot.now.bytes 5 21 ≡ padded.now) }
 {
-    &slot.bytes[5..21] == &padded[..]
+    EntryView::new(&slot.bytes).has_padded_name(padded)
 }
 
 /// Whether one of these entries has the name.

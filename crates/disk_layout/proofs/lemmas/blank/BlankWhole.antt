@@ -1,23 +1,22 @@
 -- All files of the blank image are whole.
-use Rattle.std.proofs.Common.{◌≡◌, ◌≢◌, ℕ, zero, suc, ◌+◌, ◌-◌, ◌≤◌, List, [], ◌∷◌, true, IsTrue, length, refl, sym, ◌∙◌}
+use Rattle.std.proofs.Common.{◌≡◌, ℕ, zero, suc, ◌+◌, ◌-◌, List, [], IsTrue, length, refl, sym, ◌∙◌}
 use Rattle.std.proofs.Common.{ap, arith, subst, slice_index}
-use Rattle.std.specs.Prelude.{None, Option, Some, slice_get}
-use Rattle.d64_image.specs.Images.{Image, IsImage, sector}
+use Rattle.std.specs.Prelude.{Some, slice_get}
+use Rattle.d64_image.specs.Images.{Image, sector}
 use Rattle.d64_image.specs.declared.place.Place.{Place}
 use Rattle.disk_layout.proofs.lemmas.blank.BlankClean.{blank-clean}
 use Rattle.disk_layout.proofs.lemmas.blank.BlankParts.{two-bytes}
-use Rattle.disk_layout.proofs.lemmas.layouts.Exact.{get-lt}
 use Rattle.disk_layout.proofs.lemmas.layouts.Layouts.{IsLayout-one, get-contains}
 use Rattle.disk_layout.proofs.lemmas.lists.Once.{all-in}
 use Rattle.disk_layout.proofs.lemmas.whole.Ends.{get-none}
 use Rattle.disk_layout.proofs.lemmas.whole.Files.{HasEnd, clean-exact, exact-whole, not-zeros}
-use Rattle.disk_layout.specs.Blank.{IsBlank, blank_directory, request_blocks, stock_block}
+use Rattle.disk_layout.specs.Blank.{blank_directory, request_blocks, stock_block}
 use Rattle.disk_layout.specs.BlankLayout.{BlankIsWhole, blank_layout, requests_file, stock_file}
 use Rattle.disk_layout.specs.Clean.{IsCleanLayout}
 use Rattle.disk_layout.specs.Entries.{rel_entry}
 use Rattle.disk_layout.specs.Layout.{File, IsFile, Layout, is_rel}
 use Rattle.disk_layout.specs.Side.{link_bytes}
-use Rattle.disk_layout.specs.Whole.{IsWhole, IsWholeFile}
+use Rattle.disk_layout.specs.Whole.{IsWholeFile}
 
 stock-rel : (n : ℕ) → IsTrue (is_rel (stock_file n).slot)
 unfolding blank_directory rel_entry

@@ -11,7 +11,7 @@ use Rattle.disk_layout.proofs.lemmas.lists.Lists.{alike, take-take}
 use Rattle.disk_layout.proofs.lemmas.records.Joined.{joined-cons, joined-nil}
 use Rattle.disk_layout.specs.Entries.{SameEntries, uncounted}
 use Rattle.disk_layout.specs.Layout.{File, Layout}
-use Rattle.disk_layout.specs.Records.{joined, pieces, record_count}
+use Rattle.disk_layout.specs.Records.{joined}
 use Rattle.disk_layout.specs.Rest.{IsFirst, IsNamed, Kept, kept_of}
 use Rattle.disk_layout.specs.Same.{Stays, stays_of}
 
@@ -20,10 +20,6 @@ pub joined-sectors : (img : Image) (ps : List Place) → joined img ps ≡ flat_
 joined-sectors img [] = joined-nil img
 joined-sectors img (p ∷ ps) = joined-cons img p ps
     ∙ ap (λ (xs : List ℕ). drop 2 (sector img p) ++ xs) (joined-sectors img ps)
-
--- the records of what is kept, for a last index
-abbrev kept_records : Kept → ℕ → List (List ℕ)
-kept_records k u = pieces k.length (record_count (length k.blocks) u k.length) (flat_map (drop 2) k.bytes)
 
 -- where entries are the same, block counts aside, names are, and the first of a name is at the same place
 pub IsNamed-uncounted : (name : List ℕ) (f g : File) → uncounted f.slot ≡ uncounted g.slot → IsNamed name f

@@ -212,16 +212,3 @@ module _ {D : Type 0} (S : History D) where
         → GoesOver S a c Right ps
     over_read ps a b c n once r over = over_then [] ps a b c once (over_none [] a b n r)
         (made_none Right (S.image a) (S.image b) r.image) over
-
-    -- the first k of these
-    pub over_first : (ps : List Place) (k : ℕ) (a b : D) → GoesOver S a b Right (take k ps) → GoesOver S a b Right ps
-    over_first ps k a b over = let P : List Place → Type 0 = GoesOver S a b Right in
-        subst P (take-append-drop k ps) (over_more (take k ps) (drop k ps) a b over)
-
-    -- and reads in place of what is left
-    pub over_left : (ps : List Place) (k : ℕ) (a b c : D) (n : ℕ) → EachOnce ps → GoesOver S a b Right (take k ps)
-        → AreMade Right (take k ps) (S.image a) (S.image b) → OnlyReads S b c n → GoesOver S a c Right ps
-    over_left ps k a b c n once over made r =
-        let P : List Place → Type 0 = GoesOver S a c Right in
-        subst P (take-append-drop k ps) (over_then (take k ps) (drop k ps) a b c (once-split ps k once) over made
-        (over_none (drop k ps) b c n r))

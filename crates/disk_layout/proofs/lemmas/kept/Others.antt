@@ -21,13 +21,8 @@ use Rattle.std.proofs.Common.{
 use Rattle.std.specs.Prelude.{cond, filter, nat_eq, not, ◌&&◌}
 use Rattle.std.proofs.lemmas.Bool.{false≢true}
 use Rattle.std.proofs.lemmas.Bool.Decides.{nat_tests}
-use Rattle.d64_image.specs.declared.place.Place.{Place}
 use Rattle.disk_layout.specs.Layout.{File}
 use Rattle.disk_layout.specs.Rest.{Kept, others}
-
--- what the others own, from what is kept of them
-abbrev pub kept_owns : Kept → List Place
-kept_owns k = k.blocks ++ k.sides
 
 -- the same of all but two, as `others` leaves these
 abbrev pub others_kept : ℕ → ℕ → ℕ → List Kept → List Kept

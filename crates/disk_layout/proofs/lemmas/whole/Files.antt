@@ -1,5 +1,5 @@
 -- When the files of an image are whole: what a file lists, and how it ends.
-use Rattle.std.proofs.Common.{◌≡◌, ◌≢◌, ℕ, zero, suc, ◌-◌, ◌/◌, ◌≤◌, inl, inr, List, [], ◌∷◌, map, length, refl, sym}
+use Rattle.std.proofs.Common.{◌≡◌, ◌≢◌, ℕ, zero, suc, ◌-◌, ◌/◌, ◌≤◌, inl, List, [], ◌∷◌, map, length, refl, sym}
 use Rattle.std.proofs.Common.{◌∙◌, ap, arith, subst, slice_index, length-append, Bool, true, false, IsTrue}
 use Rattle.std.proofs.lemmas.Bool.{eqb-true, false≢true}
 use Rattle.std.specs.Prelude.{Contains, None, Some, nat_eq, nat_le, replicate, slice_get, ◌&&◌, ◌||◌}

@@ -1,27 +1,6 @@
 -- The room in a file's last blocks is filled: the tail of a block, and then the last block with another last index.
-use Rattle.std.proofs.Common.{
-  ◌≡◌,
-  ℕ,
-  inl,
-  ◌+◌,
-  ◌*◌,
-  ◌<◌,
-  ◌≤◌,
-  List,
-  ◌∷◌,
-  ◌++◌,
-  length,
-  refl,
-  sym,
-  ◌∙◌,
-  ap,
-  subst,
-  slice_index,
-  IsTrue,
-  take,
-  drop,
-}
-use Rattle.std.specs.Prelude.{Contains, Some, flat_map, slice_get}
+use Rattle.std.proofs.Common.{◌≡◌, ℕ, inl, ◌+◌, ◌≤◌, List, ◌∷◌, ◌++◌, length, refl, sym, ◌∙◌, ap, subst, slice_index, IsTrue, take, drop}
+use Rattle.std.specs.Prelude.{Contains, flat_map}
 use Rattle.std.specs.List.{AllByRecursion}
 use Rattle.std.proofs.lemmas.List.Elements.{Contains-append_left}
 use Rattle.d64_image.proofs.Images.{sector-put_other}
@@ -29,31 +8,21 @@ use Rattle.d64_image.specs.Images.{Image, IsImage, Sector, put, sector}
 use Rattle.d64_image.specs.declared.place.Place.{Place}
 use Rattle.disk_layout.proofs.lemmas.chains.Chains.{AgreeAt}
 use Rattle.disk_layout.proofs.lemmas.growth.Commit.{all-join, all-left, all-right, alone, own-once}
-use Rattle.disk_layout.proofs.lemmas.growth.Refills.{IsLayout-ended, ended, owners-same, records-past}
+use Rattle.disk_layout.proofs.lemmas.growth.Refills.{IsLayout-ended, ended, owners-same}
 use Rattle.disk_layout.proofs.lemmas.growth.SideWrites.{same-layout}
 use Rattle.disk_layout.proofs.lemmas.layouts.Agree.{owned-block}
 use Rattle.disk_layout.proofs.lemmas.layouts.Layouts.{get-contains}
-use Rattle.disk_layout.proofs.lemmas.layouts.Frames.{IsLayout-put_block, unless-same}
-use Rattle.disk_layout.proofs.lemmas.lists.Once.{EachOnce-apart, EachOnce-left, flat_map-in}
-use Rattle.disk_layout.specs.Chain.{EachOnce, byte}
+use Rattle.disk_layout.proofs.lemmas.layouts.Frames.{unless-same}
+use Rattle.disk_layout.proofs.lemmas.lists.Once.{EachOnce-apart}
+use Rattle.disk_layout.specs.Chain.{EachOnce}
 use Rattle.disk_layout.specs.Clean.{IsCleanLayout, IsExactFile}
 use Rattle.disk_layout.specs.Directory.{map_place}
-use Rattle.disk_layout.specs.Layout.{
-  File,
-  IsLayout,
-  IsRelFile,
-  Layout,
-  exchanged,
-  file_owns,
-  is_rel,
-  owners,
-  record_length,
-}
+use Rattle.disk_layout.specs.Layout.{File, IsLayout, IsRelFile, Layout, exchanged, file_owns, is_rel, owners}
 use Rattle.disk_layout.specs.Map.{IsMapOf}
-use Rattle.disk_layout.specs.Records.{record_count, records}
+use Rattle.disk_layout.specs.Records.{records}
 use Rattle.disk_layout.specs.Rest.{header_of}
 use Rattle.rel_records.proofs.lemmas.steps.Counting.{exact-stay}
-use Rattle.rel_records.proofs.lemmas.steps.Others.{has-records, others-kept, places-same}
+use Rattle.rel_records.proofs.lemmas.steps.Others.{has-records, others-kept}
 use Rattle.rel_records.proofs.lemmas.steps.Preparing.{file-in}
 use Rattle.rel_records.specs.Others.{HasRecords, KeepsOthers}
 
@@ -77,21 +46,6 @@ module _ (a : Image) (l : Layout) (before after : List File) (f : File) (h : IsL
   pub header : header_of (put a q bytes) ≡ header_of a
   header = ap (λ s. take 4 s ++ drop 144 s) (sector-put_other a q map_place bytes (λ e. h.once.0 (let P : Place
       → Type 0 = Contains (owners l) in subst P e (owned-block l f q (file-in l before after f split) mine))))
-
-  -- a write behind the records that keeps the link: nothing is told of it
-  pub tail-has : (r : ℕ) → slice_get f.blocks r ≡ Some q → IsImage (put a q bytes) → slice_index bytes 0 ≡ byte a q 0
-      → slice_index bytes 1 ≡ byte a q 1
-      → record_count (length f.blocks) f.last (record_length f.slot) * record_length f.slot ≤ 254 * length f.blocks
-      → ((j : ℕ) → j < 254 → 254 * r + j < record_count (length f.blocks) f.last (record_length f.slot) * record_length
-      f.slot → slice_index bytes (2 + j) ≡ byte a q (2 + j))
-      → HasRecords a (put a q bytes) l (length before) (records a f)
-  tail-has r at v e0 e1 fit same =
-      has-records a (put a q bytes) l before after f f (records a f) split refl others-before others-after header
-      (let P : Layout → Type 0 = λ k. IsLayout (put a q bytes) k in subst P (sym (same-layout l before after f split))
-      (IsLayout-put_block a l q bytes w.size (flat_map-in (λ g. g.blocks) l.files f q
-      (file-in l before after f split) mine) e0 e1 h))
-      (places-same a f f (records a f) refl refl)
-      (records-past a f r q bytes w v (EachOnce-left f.blocks f.sides (own-once l before after f once)) at fit same)
 
   -- the last block ends with another index
   pub ended-has : (r : IsRelFile a f) → r.chain.2.last ≡ q → (u : ℕ) → slice_index bytes 0 ≡ 0 → slice_index bytes 1 ≡ u

@@ -19,8 +19,7 @@ use Rattle.disk_layout.specs.Whole.{IsWhole, IsWholeFile}
 use Rattle.disk_layout.specs.declared.slot.Slot.{Slot}
 use Rattle.rel_records.proofs.lemmas.reading.Opened.{rel-of}
 use Rattle.rel_records.proofs.lemmas.steps.Others.{get-either, get-other}
-use Rattle.rel_records.specs.Others.{KeepsOthers, LeavesRecords}
-use Rattle.rel_records.specs.declared.rel_file.RelFile.{RelFile}
+use Rattle.rel_records.specs.Others.{KeepsOthers}
 
 slots-long : (fs : List File) → length (map uncounted (map (λ (f : File). f.slot) fs)) ≡ length fs
 slots-long fs = length-map (map (λ (f : File). f.slot) fs) uncounted ∙ length-map fs (λ (f : File). f.slot)
@@ -73,12 +72,6 @@ pub clean-whole : (a c : Image) (l m : Layout) (n : ℕ) (g : File) → IsLayout
 clean-whole a c l m n g is clean keeps at rel end =
     whole-now a c l m n is clean.layout keeps (λ k y ne there. clean-exact c m k y clean there) g at
     (exact-whole c m g rel (rel-of c m n g clean.layout at rel) (clean-exact c m n g clean at rel) end)
-
--- and where a call leaves the records of one file
-pub leaves-whole : (a b : Image) (l : Layout) (n : ℕ) (rs : List (List ℕ)) (v : RelFile) → IsLayout a l
-    → (h : LeavesRecords a b l n rs v) → HasEnd b h.file → IsWhole a → IsWhole b
-leaves-whole a b l n rs v is h end =
-    clean-whole a b l h.layout n h.file is h.clean h.others h.of.there h.of.rel end
 
 -- side sectors that were exact in a clean image stay so where others own them
 pub agree-exact : (a b : Image) (l : Layout) (before after : List File) (f g : File) → IsCleanLayout a l
