@@ -6,7 +6,8 @@ use Rattle.disk_layout.specs.Layout.{IsSound, Layout}
 use Rattle.file_changes.specs.Renames.{Renames}
 use Rattle.file_changes.specs.declared.faults.ChangeFault.{ChangeFault}
 use Rattle.file_changes.specs.declared.faults.ChangeFault.TheVariants as change
-use Rattle.change_commands.specs.Faults.{IsSoundFault, edit_fault}
+use Rattle.command_faults.specs.Faults.{IsSoundFault}
+use Rattle.change_commands.specs.Faults.{edit_fault}
 use Rattle.change_commands.specs.Renames.{IsLeftSound, IsRenameFault, IsRenameRun, IsRenamedDisk}
 use Rattle.command_faults.specs.declared.faults.CommandFault.{CommandFault}
 use Rattle.command_faults.specs.declared.faults.CommandFault.TheVariants as faults

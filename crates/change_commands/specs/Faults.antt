@@ -14,10 +14,3 @@ edit_fault Exists = faults.FileExists
 edit_fault Full = faults.DiskFull
 edit_fault Locked = faults.Locked
 edit_fault Device = faults.Device
-
--- why an image isn't that of a sound disk
-abbrev pub IsSoundFault : List ℕ → CommandFault → Type 0
-IsSoundFault image faults.ImageSize = length image ≢ 174848
-IsSoundFault image faults.NoMemory = length image ≡ 174848
-IsSoundFault image (faults.Layout fault) = (length image ≡ 174848) × Holds nowhere (sectors_in image) fault
-IsSoundFault image _ = ⊥

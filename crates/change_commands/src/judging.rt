@@ -4,7 +4,7 @@ ghost use Rattle.d64_image.specs.Memory.{sectors_in};
 ghost use Rattle.disk_layout.specs.Clean.{IsClean};
 ghost use Rattle.disk_layout.specs.Layout.{IsSound};
 ghost use Rattle.command_faults.specs.Faults.{IsCleanFault};
-ghost use Rattle.change_commands.specs.Faults.{IsSoundFault};
+ghost use Rattle.command_faults.specs.Faults.{IsSoundFault};
 
 use command_faults::{CommandFault, load};
 use layout_check::{check, survey};
