@@ -1,5 +1,5 @@
 -- What holds of any fault by which an image isn't taken into memory, or isn't that of a disk without such faults.
-use Rattle.std.proofs.Common.{◌≡◌, ◌≢◌, ℕ, List, absurd, length}
+use Rattle.std.proofs.Common.{◌≡◌, ◌≢◌, ℕ, List, length}
 use Rattle.d64_image.specs.Images.{Image}
 use Rattle.d64_image.specs.Memory.{sectors_in}
 use Rattle.disk_layout.specs.declared.faults.Fault.{Fault}

@@ -8,6 +8,7 @@ pub mod FileRecords
 pub mod Files
 pub mod Folds
 pub mod Judged
+pub mod Kinds
 pub mod LineStored
 pub mod Lined
 pub mod LinesStored
