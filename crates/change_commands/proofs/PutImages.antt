@@ -13,7 +13,6 @@ use Rattle.command_faults.specs.Faults.{IsCleanFault}
 use Rattle.change_commands.specs.Faults.{edit_fault}
 use Rattle.change_commands.specs.Puts.{IsPutDisk, IsPutFault, IsPutRun}
 use Rattle.command_faults.specs.declared.faults.CommandFault.{CommandFault}
-use Rattle.command_faults.specs.declared.faults.CommandFault.TheVariants as faults
 use Rattle.command_faults.proofs.Loads.{by-fault}
 use Rattle.disk_layout.specs.Fault.{HoldsOfClean, nowhere}
 

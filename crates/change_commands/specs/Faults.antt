@@ -1,7 +1,4 @@
 -- What is reported of a change that isn't made. Our own.
-use Rattle.std.specs.Prelude.{◌≡◌, ◌≢◌, ℕ, List, length}
-use Rattle.d64_image.specs.Memory.{sectors_in}
-use Rattle.disk_layout.specs.Fault.{Holds, nowhere}
 use Rattle.file_changes.specs.declared.faults.ChangeFault.{ChangeFault}
 use Rattle.file_changes.specs.declared.faults.ChangeFault.TheVariants.{Device, Exists, Full, Locked, NotFound}
 use Rattle.command_faults.specs.declared.faults.CommandFault.{CommandFault}

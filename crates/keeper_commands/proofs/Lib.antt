@@ -8,7 +8,6 @@ pub mod FileRecords
 pub mod Files
 pub mod Folds
 pub mod Judged
-pub mod Kinds
 pub mod LineStored
 pub mod Lined
 pub mod LinesStored
@@ -17,6 +16,7 @@ pub mod Made
 pub mod Mendings
 pub mod Numbered
 pub mod OneStored
+pub mod OtherKinds
 pub mod Padded
 pub mod Pieced
 pub mod Printing

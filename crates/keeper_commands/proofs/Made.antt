@@ -13,7 +13,6 @@ use Rattle.keeper_commands.specs.Faults.{keep_fault}
 use Rattle.keeper_commands.specs.Makes.{IsMadeDisk, IsMakeFault, IsMakeRun}
 use Rattle.keeper_commands.specs.Refusals.{IsLeft}
 use Rattle.command_faults.specs.declared.faults.CommandFault.{CommandFault}
-use Rattle.command_faults.specs.declared.faults.CommandFault.TheVariants as faults
 use Rattle.command_faults.proofs.Loads.{by-fault}
 use Rattle.disk_layout.specs.Fault.{HoldsOfClean, nowhere}
 

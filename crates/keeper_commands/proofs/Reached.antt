@@ -10,7 +10,6 @@ use Rattle.command_faults.specs.Faults.{IsCleanFault}
 use Rattle.keeper_commands.specs.Stores.{AreLinesOf, AreSo, CanHave, NewRecord, greatest}
 use Rattle.keeper_commands.specs.Storing.{IsStoreFault}
 use Rattle.command_faults.specs.declared.faults.CommandFault.{CommandFault}
-use Rattle.command_faults.specs.declared.faults.CommandFault.TheVariants as faults
 use Rattle.command_faults.proofs.Loads.{by-fault}
 use Rattle.disk_layout.specs.Fault.{HoldsOfClean, nowhere}
 

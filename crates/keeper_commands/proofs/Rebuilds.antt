@@ -14,10 +14,9 @@ use Rattle.keeper_commands.specs.Kinds.{IsKindFault, IsPlainDisk}
 use Rattle.keeper_commands.specs.Rebuilds.{IsRebuildDone, IsRebuildFault, IsRebuildRun, IsRebuiltDisk}
 use Rattle.keeper_commands.specs.Repairs.{TellsKeep, changed_text, mended_on, repair_fault, up_to}
 use Rattle.command_faults.specs.declared.faults.CommandFault.{CommandFault}
-use Rattle.command_faults.specs.declared.faults.CommandFault.TheVariants as faults
 use Rattle.side_rebuilding.specs.Rebuilt.{IsRebuilt, IsUnderRebuilding, RebuildsSides, RefusesSides}
 use Rattle.command_faults.proofs.Loads.{by-load}
-use Rattle.keeper_commands.proofs.Kinds.{by-kind}
+use Rattle.keeper_commands.proofs.OtherKinds.{by-kind}
 use Rattle.keeper_commands.proofs.Mendings.{by-tell}
 
 -- the lines of the tracks are all that is printed of two disks

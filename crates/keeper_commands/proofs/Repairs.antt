@@ -24,9 +24,9 @@ use Rattle.keeper_commands.specs.Kinds.{IsKindFault, IsPlainDisk}
 use Rattle.keeper_commands.specs.Repairs.{GoesInOrder, IsMendedAs, IsMendedDisk, IsRepairFault, IsRepairRun, MendsAs, TellsKeep}
 use Rattle.keeper_commands.specs.Repairs.{repair_fault}
 use Rattle.command_faults.specs.declared.faults.CommandFault.{CommandFault}
-use Rattle.command_faults.specs.declared.faults.CommandFault.TheVariants as faults
+use Rattle.command_faults.specs.declared.faults.CommandFault.TheVariants as commands
 use Rattle.command_faults.proofs.Loads.{by-load}
-use Rattle.keeper_commands.proofs.Kinds.{by-kind}
+use Rattle.keeper_commands.proofs.OtherKinds.{by-kind}
 use Rattle.keeper_commands.proofs.Mendings.{by-tell}
 
 module _ {D : Type 0} (S : History D) where
@@ -176,7 +176,7 @@ module _ {D : Type 0} (S : History D) where
   module _ {W : Type 0} (free : Bool) (image : List ℕ) (a b : D) (w : W) (size : length image ≡ 174848)
       (plain : IsPlainDisk (sector (S.image a) map_place)) (unsound : (IsSound (S.image a) → ⊥) → OnlyReads S a b 2114) where
     not-sound : (fault : Fault) → ((p : Place) → fault ≢ faults.Device p) → Holds (S.failed_at b) (S.image a) fault
-        → Holds nowhere (S.image a) fault → IsRepairFault free S image a b w w (faults.Layout fault)
+        → Holds nowhere (S.image a) fault → IsRepairFault free S image a b w w (commands.Layout fault)
     not-sound fault other told holds = (
       size,
       plain,
