@@ -3,6 +3,8 @@ pub mod Totals
 pub mod OneMore
 pub mod Runs
 pub mod Chained
+pub mod CutChains
+pub mod RunSteps
 pub mod QuietRuns
 pub mod Sparing
 pub mod QuietWrites

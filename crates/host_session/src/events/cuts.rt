@@ -1,9 +1,9 @@
 //! One event of a run: a message, or one in which power fails and the openings after it.
 ghost use Rattle.std.specs.Prelude.{◌≡◌, ◌≤◌, ◌+◌, ◌↔◌, IfErr, IfOk, IsTrue, false};
 ghost use Rattle.host_session.specs.Held.{HeldOnly};
-ghost use Rattle.host_session.specs.events.Events.{cut_at, uncut};
+ghost use Rattle.host_session.specs.events.Events.{cut_at};
 ghost use Rattle.host_session.specs.events.OneEvent.{EndsFailed, GoesOn, IsEvent, Leaves};
-ghost use Rattle.host_session.specs.events.Within.{IsWithin, SparesTheDisk};
+ghost use Rattle.host_session.specs.events.Within.{SparesTheDisk};
 ghost use Rattle.host_session.specs.session.Handling.{IsMedia};
 ghost use Rattle.host_session.specs.session.Opening.{Untouched};
 ghost use Rattle.host_session.specs.shop.Shop.{IsSettled, IsShop, Shop};
@@ -91,21 +91,4 @@ pub(crate) fn is_media(reply: Reply) -> bool
             ..
         }
     )
-}
-
-/// A message without a reset, handled in place. The reply is MEDIA if the device failed.
-pub(crate) fn whole_message<D: Sectors>(session: &mut Session<D>, message: &[u8]) -> Reply
-    ensures done { (s : Shop) → IsSettled (D.history.image session.old.disk) s → session.old.dead ≡ false
-        → ¬ (IsMedia result)
-        → (session.new.dead ≡ false) × IsEvent D.history s (uncut message.now) session.old.disk session.new.disk
-        (GoesOn D.history s (uncut message.now) result session.new.disk) }
-    ensures stopped { (s : Shop) → IsSettled (D.history.image session.old.disk) s → session.old.dead ≡ false
-        → IsMedia result → IsEvent D.history s (uncut message.now) session.old.disk session.new.disk
-        (EndsFailed D.history s (uncut message.now) result session.new.disk) }
-    ensures within { (s : Shop) → IsSettled (D.history.image session.old.disk) s
-        → IsWithin D.history (uncut message.now) session.old.disk session.new.disk }
-    ensures spared { session.old.dead ≡ false
-        → SparesTheDisk D.history (uncut message.now) session.old.disk session.new.disk }
-{
-    session.handle(message)
 }

@@ -2,7 +2,7 @@
 ghost use Rattle.std.specs.Prelude.{◌≡◌, ◌<◌, IsSome, false};
 ghost use Rattle.host_session.specs.runs.Loops.{Ends, HasCome, HasComeBut, IsRun, IsStretch, Origin, with_disk};
 
-use crate::events::cuts::{cut_event, is_media, whole_message};
+use crate::events::cuts::{cut_event, is_media};
 use crate::events::sinks::ReplySink;
 use crate::events::sources::{EventSource, Next};
 use crate::faults::OpenFault;
@@ -52,7 +52,7 @@ fn whole_messages<D: Sectors, A: EventSource<D>, T: ReplySink<D>>(
         if asks.cut().is_some() {
             return Stopped::Cut;
         }
-        let reply = whole_message(session, asks.message());
+        let reply = session.handle(asks.message());
         let taken = out.tell(&reply, session.disk());
         if is_media(reply) {
             return Stopped::Ended(Err(LoopFault::Device));

@@ -1,6 +1,6 @@
 -- A message that was answered, or told that the device failed.
 use Rattle.std.proofs.Common.{◌≡◌, ◌≢◌, ⊎_elim, inl, inr, ℕ, true, false, [], Option, Some, None, IsSome, refl, sym}
-use Rattle.std.proofs.Common.{subst, ◌∙◌, ap, arith}
+use Rattle.std.proofs.Common.{List, subst, ◌∙◌, ap, arith}
 use Rattle.std.specs.Prelude.{option_to_list, is_some, if◌then◌else◌}
 use Rattle.d64_image.specs.History.{History, Failed}
 use Rattle.host_session.specs.Held.{HeldOnly}
@@ -12,14 +12,17 @@ use Rattle.request_cards.specs.Ledgers.{reply_in}
 use Rattle.request_cards.specs.Reading.{request_of}
 use Rattle.host_session.proofs.lemmas.events.Parts.{after_whole, failed_out, whole_counts}
 use Rattle.host_session.specs.events.Counted.{answer}
-use Rattle.host_session.specs.events.Events.{Message}
+use Rattle.host_session.specs.events.Events.{Message, uncut}
 use Rattle.host_session.specs.events.OneEvent.{EndsFailed, GoesOn, IsEvent, IsInEvent}
 use Rattle.host_session.specs.events.Quiet.{AsksNothing, IsLeftAlone, LeavesAlone}
+use Rattle.host_session.specs.events.Within.{IsWithin, SparesTheDisk}
+use Rattle.host_session.specs.session.Handled.{IsHandled}
+use Rattle.host_session.specs.session.Standing.{View}
 use Rattle.host_session.specs.session.Handling.{IsBeforeOrAfter, IsMedia, after_of, media}
 use Rattle.host_session.specs.shop.Shop.{IsSettled, IsShop, Shop, start_of, with_state}
 
-uncut : (m : Message) → m.cut_after ≡ None → m.cut_after ≢ Some 0
-uncut m none zero = let e = sym none ∙ zero in cc
+not_at_once : (m : Message) → m.cut_after ≡ None → m.cut_after ≢ Some 0
+not_at_once m none zero = let e = sym none ∙ zero in cc
 
 -- MEDIA is told of a request alone
 media_some : (o : Option Ask) (r : Reply) → r ≡ media o → IsMedia r → IsSome o
@@ -30,7 +33,7 @@ module _ {D : Type 0} (h : History D) where
   on_the_way : (s : Shop) (m : Message) (a b : D) → m.cut_after ≡ None → HeldOnly h a b (IsBeforeOrAfter s m.bytes)
       → HeldOnly h a b (IsInEvent s m)
   on_the_way s m a b none held = weaker h a b (IsBeforeOrAfter s m.bytes) (IsInEvent s m)
-      (λ i x. ⊎_elim (λ l. inl l) (λ r. inr (uncut m none, r)) x) held
+      (λ i x. ⊎_elim (λ l. inl l) (λ r. inr (not_at_once m none, r)) x) held
 
   -- the device itself, where power goes in no write
   left : (s : Shop) (m : Message) (a b : D) → m.cut_after ≡ None → (AsksNothing s m → b ≡ a) → LeavesAlone h s m a b
@@ -43,7 +46,7 @@ module _ {D : Type 0} (h : History D) where
   answered s m a b reply none held alone same told settled = record {
     failed = false;
     counted = option_to_list (request_of m.bytes);
-    is = whole_counts s.top s.state (request_of m.bytes) m.cut_after false (uncut m none);
+    is = whole_counts s.top s.state (request_of m.bytes) m.cut_after false (not_at_once m none);
     blame = λ e. cc;
     later = omega (arith, same);
     unfailed = λ _ _. same;
@@ -82,7 +85,7 @@ module _ {D : Type 0} (h : History D) where
       (λ after. record {
         failed = true;
         counted = option_to_list (request_of m.bytes);
-        is = whole_counts s.top s.state (request_of m.bytes) m.cut_after true (uncut m none);
+        is = whole_counts s.top s.state (request_of m.bytes) m.cut_after true (not_at_once m none);
         blame = λ e. failed;
         later = failed.later;
         unfailed = λ _ e. cc;
@@ -97,3 +100,39 @@ module _ {D : Type 0} (h : History D) where
         };
       })
       (at_end h a b (IsBeforeOrAfter s m.bytes) held)
+
+-- a message without a reset, as an open session handled it
+module _ {D : Type 0} (h : History D) (x y : View D) (bytes : List ℕ) (reply : Reply) (r : IsHandled h x y bytes reply)
+  where
+    pub whole_done : (s : Shop) → IsSettled (h.image x.disk) s → x.dead ≡ false → ¬ (IsMedia reply) → (y.dead ≡ false)
+        × IsEvent h s (uncut bytes) x.disk y.disk (GoesOn h s (uncut bytes) reply y.disk)
+    whole_done s settled alive other =
+        let a = r.reply s settled.shop alive other in (
+          a.2,
+          ⊎_elim
+              (λ f. absurd (other f.0))
+              (λ f. answered h s (uncut bytes) x.disk y.disk reply refl (r.moments s settled.shop).held
+              (λ asks. ap (λ v. v.disk) (r.quiet s settled.shop alive asks).1) f.1 a.0 a.1)
+              r.failures,
+        )
+
+    pub whole_stopped : (s : Shop) → IsSettled (h.image x.disk) s → x.dead ≡ false → IsMedia reply
+        → IsEvent h s (uncut bytes) x.disk y.disk (EndsFailed h s (uncut bytes) reply y.disk)
+    whole_stopped s settled alive is = ⊎_elim
+        (λ f. told_media h s (uncut bytes) x.disk y.disk reply refl (r.moments s settled.shop).held
+        (λ asks. ap (λ v. v.disk) (r.quiet s settled.shop alive asks).1)
+        (⊎_elim (λ dead. absurd (let e = sym dead ∙ alive in cc)) (λ z. z) f.2) (r.media is) is)
+        (λ f. absurd (f.0 is))
+        r.failures
+
+    pub whole_within : (s : Shop) → IsSettled (h.image x.disk) s → IsWithin h (uncut bytes) x.disk y.disk
+    whole_within s settled = record {
+      most = (r.moments s settled.shop).writes;
+      needed = λ f has. r.writes f has;
+    }
+
+    pub whole_spared : x.dead ≡ false → SparesTheDisk h (uncut bytes) x.disk y.disk
+    whole_spared alive s settled asks =
+        let stays = r.quiet s settled.shop alive asks in
+        let same : h.writes y.disk ≡ h.writes x.disk = ap (λ v. h.writes v.disk) stays.1 in
+        omega (arith, same)

@@ -1,9 +1,7 @@
 -- What a chain of events says of its run.
-use Rattle.std.proofs.Common.{◌≡◌, ◌≢◌, ◌≤◌, List, [], ◌∷◌, ◌++◌, refl, sym, subst, ◌∙◌, ap, arith, append_assoc}
-use Rattle.std.proofs.Common.{append-nil, le_of_eq, le_refl, le_trans, length}
-use Rattle.d64_image.specs.History.{Failed, History}
-use Rattle.host_session.specs.Held.{Changes}
-use Rattle.host_session.proofs.lemmas.Held.{start}
+use Rattle.std.proofs.Common.{◌≡◌, ◌≢◌, List, [], ◌∷◌, ◌++◌, refl, sym, subst, ◌∙◌, ap, append_assoc, append-nil}
+use Rattle.std.proofs.Common.{le_of_eq}
+use Rattle.d64_image.specs.History.{History}
 use Rattle.request_cards.specs.declared.reply.Reply.{Reply}
 use Rattle.host_session.proofs.lemmas.runs.Runs.{HasPlayed, and_no_more, none_played, now_more, now_none, now_of}
 use Rattle.host_session.proofs.lemmas.runs.Runs.{one_played, stopped}
@@ -12,11 +10,9 @@ use Rattle.host_session.specs.events.Events.{Message}
 use Rattle.host_session.specs.events.Instants.{instant_of}
 use Rattle.host_session.specs.events.OneEvent.{EndsFailed, GoesOn, IsEvent}
 use Rattle.host_session.specs.events.Quiet.{AreUncut}
-use Rattle.host_session.specs.session.Opening.{Untouched}
 use Rattle.host_session.specs.runs.Runs.{HeldBeginnings, IsPlayedWhole, StoppedByDevice, StoppedByOutput}
-use Rattle.host_session.specs.shop.Shop.{IsSettled, IsShop, Shop, start_of, with_state}
-use Rattle.host_session.specs.runs.Chains.{GrowsFrom, HasRun, HasRunToFailure, IsChain, asked_over, over_instants}
-use Rattle.host_session.specs.runs.Chains.{told_in}
+use Rattle.host_session.specs.shop.Shop.{IsSettled, Shop, start_of, with_state}
+use Rattle.host_session.specs.runs.Chains.{HasRun, HasRunToFailure, IsChain, asked_over, over_instants, told_in}
 
 -- the replies, told over the disks beside them
 pub told_over : {D : Type 0} (h : History D) (turns : List (Reply × D))
@@ -99,7 +95,7 @@ module _ {D : Type 0} (h : History D) where
   chain_played s before old at told p [] (x ∷ xs) new t c = absurd c
   chain_played s before old at told p (m ∷ ms) [] new t c = absurd c
 
-  -- a run up to here, with all that today's clauses say of it
+  -- a run up to here, with all that the clauses say of it
   pub run_played : (s : Shop) (ms : List Message) (xs : List (Reply × D)) (old new : D) → (r : HasRun h s ms xs old new)
       → PlayedTo s ms old new (told_in xs) r.now
   run_played s ms xs old new r =
@@ -109,7 +105,7 @@ module _ {D : Type 0} (h : History D) where
       (subst (λ u. IsChain h u ms xs r.first r.now new) (sym (now_none h s old r.first r.opening.held later r.rests))
       r.chain)
 
-  -- nothing of today's is lost: a whole run
+  -- a whole run
   pub whole : (s : Shop) (ms : List Message) (xs : List (Reply × D)) (old new : D) → HasRun h s ms xs old new
       → IsPlayedWhole h s ms old new (told_in xs) × HeldBeginnings h s ms old new
   whole s ms xs old new r = (run_played s ms xs old new r).0
@@ -130,122 +126,7 @@ module _ {D : Type 0} (h : History D) where
       stopped h s f.before rest all f.message old f.at new (told_in xs) last p.0 (ap (λ b. b ++ rest) f.parts ∙ parts)
       (subst (λ u. IsEvent h u f.message f.at new (EndsFailed h u f.message last new)) p.1 f.failed)
 
-  -- Beginnings only grow: the chain is cut behind any of its events, and from that moment on no image is of a beginning
-  -- before it.
-  pub record IsCutBehind (s : Shop) (ms ns : List Message) (xs ys : List (Reply × D)) (old : D) (t : Shop)
-      (new : D) : Type 0 where
-    pub mid : D
-    pub now : Shop
-    pub before : IsChain h s ms xs old now mid
-    pub behind : IsChain h now ns ys mid t new
-
-  pub cut_chain : (s : Shop) (ms ns : List Message) (xs ys : List (Reply × D)) (old : D) (t : Shop) (new : D)
-      → length ms ≡ length xs → IsChain h s (ms ++ ns) (xs ++ ys) old t new → IsCutBehind s ms ns xs ys old t new
-  cut_chain s [] ns [] ys old t new same c = record { mid = old; now = s; before = (refl, refl); behind = c }
-  cut_chain s (m ∷ ms) ns (x ∷ xs) ys old t new same c =
-      let q = cut_chain (with_state s (after_all (start_of s) s.state c.0.counted)) ms ns xs ys x.1 t new
-      (omega (arith, same)) c.1 in
-      record { mid = q.mid; now = q.now; before = (c.0, q.before); behind = q.behind }
-  cut_chain s [] ns (x ∷ xs) ys old t new same c = cc
-  cut_chain s (m ∷ ms) ns [] ys old t new same c = cc
-
-  pub only_grows : (s : Shop) (ms ns : List Message) (xs ys : List (Reply × D)) (old : D) (t : Shop) (new : D)
-      → length ms ≡ length xs → IsSettled (h.image old) s → IsChain h s (ms ++ ns) (xs ++ ys) old t new
-      → (q : IsCutBehind s ms ns xs ys old t new) × IsSettled (h.image q.mid) q.now
-      × HeldBeginnings h q.now ns q.mid new
-  only_grows s ms ns xs ys old t new same rests c =
-      let q = cut_chain s ms ns xs ys old t new same c in
-      let settled = chain_rests s ms xs old q.mid q.now rests q.before in (
-        q,
-        settled,
-        (whole q.now ns ys q.mid new (record {
-          first = q.mid;
-          opening = record { held = start h q.mid (λ i. IsShop i q.now) settled.shop; writes = omega arith };
-          quiet = λ _. record { held = start h q.mid (λ i. i ≡ h.image q.mid) refl; writes = omega arith };
-          unfailed = refl;
-          rests = settled;
-          now = t;
-          chain = q.behind;
-        })).1,
-      )
-
-  pub run_grows : (s : Shop) (ms ns : List Message) (xs ys : List (Reply × D)) (old new : D) → length ms ≡ length xs
-      → HasRun h s (ms ++ ns) (xs ++ ys) old new → GrowsFrom h s ms ns xs old new
-  run_grows s ms ns xs ys old new same r =
-      let q = only_grows s ms ns xs ys r.first r.now new same r.rests r.chain in
-      record {
-        at = q.0.mid;
-        run = record {
-          first = r.first;
-          opening = r.opening;
-          quiet = r.quiet;
-          unfailed = r.unfailed;
-          rests = r.rests;
-          now = q.0.now;
-          chain = q.0.before;
-        };
-        rests = q.1;
-        behind = q.2;
-      }
-
-  -- the loop's turn: one event more
-  pub run_more : (s : Shop) (ms : List Message) (xs : List (Reply × D)) (old mid new : D) (m : Message) (reply : Reply)
-      → (r : HasRun h s ms xs old mid) → IsEvent h r.now m mid new (GoesOn h r.now m reply new)
-      → HasRun h s (ms ++ m ∷ []) (xs ++ (reply, new) ∷ []) old new
-  run_more s ms xs old mid new m reply r e = record {
-    first = r.first;
-    opening = r.opening;
-    quiet = r.quiet;
-    unfailed = r.unfailed;
-    rests = r.rests;
-    now = with_state r.now (after_all (start_of r.now) r.now.state e.counted);
-    chain = chain_more s ms xs r.first mid new r.now m reply r.chain e;
-  }
-
-  -- it began on the same disk
-  pub run_more-first : (s : Shop) (ms : List Message) (xs : List (Reply × D)) (old mid new : D) (m : Message)
-      (reply : Reply) → (r : HasRun h s ms xs old mid) (e : IsEvent h r.now m mid new (GoesOn h r.now m reply new))
-      → (run_more s ms xs old mid new m reply r e).first ≡ r.first
-  unfolding run_more
-  run_more-first s ms xs old mid new m reply r e = refl
-
-  -- before the first one
-  pub run_none : (s : Shop) (old first : D) → Changes h old first 952 (λ i. IsShop i s)
-      → (IsSettled (h.image old) s → Untouched h old first) → h.failures first ≡ h.failures old
-      → IsSettled (h.image first) s → HasRun h s [] [] old first
-  run_none s old first opening quiet unfailed settled = record {
-    first = first;
-    opening = opening;
-    quiet = quiet;
-    unfailed = unfailed;
-    rests = settled;
-    now = s;
-    chain = (refl, refl);
-  }
-
   -- the shop of a run is at rest at its end: so it was when the last reply was told
   pub run_rests : (s : Shop) (ms : List Message) (xs : List (Reply × D)) (old new : D) → (r : HasRun h s ms xs old new)
       → IsSettled (h.image new) r.now
   run_rests s ms xs old new r = chain_rests s ms xs r.first new r.now r.rests r.chain
-
-  -- failures are counted on
-  chain_later : (s : Shop) (ms : List Message) (xs : List (Reply × D)) (old new : D) (t : Shop)
-      → IsChain h s ms xs old t new → h.failures old ≤ h.failures new
-  chain_later s [] [] old new t c = subst (λ d. h.failures old ≤ h.failures d) (sym c.1) (le_refl (h.failures old))
-  chain_later s (m ∷ ms) (x ∷ xs) old new t c =
-      let rest = chain_later (with_state s (after_all (start_of s) s.state c.0.counted)) ms xs x.1 new t c.1 in
-      le_trans c.0.later rest
-  chain_later s [] (x ∷ xs) old new t c = absurd c
-  chain_later s (m ∷ ms) [] old new t c = absurd c
-
-  pub run_later : (s : Shop) (ms : List Message) (xs : List (Reply × D)) (old new : D) → HasRun h s ms xs old new
-      → h.failures old ≤ h.failures new
-  run_later s ms xs old new r = le_trans (le_of_eq (sym r.unfailed)) (chain_later s ms xs r.first new r.now r.chain)
-
-  -- where the last message met the failure, it came in the run
-  pub run_failed : (s : Shop) (ms : List Message) (xs : List (Reply × D)) (last : Reply) (old new : D)
-      → HasRunToFailure h s ms xs last old new → Failed h old new
-  run_failed s ms xs last old new f =
-      let before = run_later s f.before xs old f.at f.run in
-      let x : Failed h f.at new = f.failed.blame f.failed.ends.is_failed in
-      record { later = omega (arith, before, x.later); rose = λ lt. omega (arith, before, x.rose lt) }

@@ -6,8 +6,8 @@ use Rattle.std.specs.Prelude.{Result}
 use Rattle.d64_image.specs.History.{History}
 use Rattle.host_session.specs.Held.{Changes}
 use Rattle.request_cards.specs.declared.reply.Reply.{Reply}
-use Rattle.host_session.proofs.lemmas.runs.Chained.{asked_more, run_more, run_more-first}
-use Rattle.host_session.proofs.lemmas.runs.Chained.{run_none, run_rests}
+use Rattle.host_session.proofs.lemmas.runs.Chained.{asked_more, run_rests}
+use Rattle.host_session.proofs.lemmas.runs.RunSteps.{run_more, run_more-first, run_none}
 use Rattle.host_session.proofs.lemmas.runs.Sparing.{sparing_more, within_more}
 use Rattle.host_session.specs.declared.runs.event_loop.LoopFault.TheVariants as faults
 use Rattle.host_session.specs.events.Asking.{FailsNoMore, Source, TakesNone, TakesOne, messages_in}

@@ -4,8 +4,8 @@ use Rattle.std.proofs.Common.{append-nil}
 use Rattle.std.specs.Prelude.{Result}
 use Rattle.d64_image.proofs.Moments.{never_failed}
 use Rattle.d64_image.specs.History.{History, NeverFailed}
-use Rattle.host_session.proofs.lemmas.runs.Chained.{at_device, run_failed}
-use Rattle.host_session.proofs.lemmas.runs.Chained.{whole}
+use Rattle.host_session.proofs.lemmas.runs.Chained.{at_device, whole}
+use Rattle.host_session.proofs.lemmas.runs.RunSteps.{run_failed}
 use Rattle.host_session.proofs.lemmas.runs.QuietRuns.{quiet_refused, quiet_run, quiet_to_failure}
 use Rattle.host_session.proofs.lemmas.runs.QuietWrites.{spared_refused, spared_run, spared_to_failure}
 use Rattle.host_session.proofs.lemmas.runs.Sparing.{failure_bound, refused_bound, run_bound}

@@ -2,6 +2,7 @@
 mod Stopped
 use Rattle.std.proofs.Common.{◌≡◌, ◌∙◌, Err, Ok, Result, false, arith, le_refl, not, ap, subst, sym}
 use Rattle.std.proofs.lemmas.Bool.{false≢true}
+use Rattle.host_session.proofs.lemmas.events.WholeMessages.{whole_done, whole_spared, whole_within}
 use Rattle.host_session.proofs.lemmas.runs.AskedTold.{is_whole, no_cut, some_cut, was_asked, was_told}
 use Rattle.host_session.proofs.lemmas.runs.Looped.{at_end, at_fault, goes_on, takes_one}
 use Rattle.host_session.specs.declared.runs.event_loop.LoopFault.{LoopFault}
@@ -90,21 +91,21 @@ loop-asks-preserved g c =
     c.loop-asks.session.disk _ _ c.disk.ensures c.in-Event.is c.next.ensures in
     let fuel = took.1 in
     let x = c.loop-asks.session.disk in
-    let y = c.whole_message-reply.new.session.disk in
-    let reply = c.whole_message-reply.result in
+    let y = c.handle-reply.new.self.disk in
+    let reply = c.handle-reply.result in
     let m = a.here c.next.new.self in
     record {
       fuel = omega (arith, c.loop-asks.invariant.fuel, fuel);
       way = λ from w alive.
           let before = c.loop-asks.invariant.way from w alive in
           goes_on h a o from x y c.next.new.self reply c.loop-asks.out c.tell-taken.new.self
-          (c.whole_message-reply.new.session.dead ≡ false)
+          (c.handle-reply.new.self.dead ≡ false)
           (was_told o c.loop-asks.out c.tell-taken.new.self reply (instant_of h y) c.tell-taken.result
           (c.is_err.ensures.negation ∙ ap not c.if-is_err.false)
           (subst (λ d. IsTold o c.loop-asks.out c.tell-taken.new.self reply (instant_of h d) c.tell-taken.result)
           c.disk-in-loop-asks.ensures c.tell-taken.ensures))
           (λ t settled.
-          let e = c.whole_message-reply.ensures.done t settled before.0 (λ is. false≢true (sym c.if-is_media.false
+          let e = whole_done h c.loop-asks.session c.handle-reply.new.self c.message.result.now reply c.handle-reply.ensures t settled before.0 (λ is. false≢true (sym c.if-is_media.false
           ∙ c.is_media.ensures.1 is)) in (
             e.0,
             subst (λ n. IsEvent h t n x y (GoesOn h t n reply y))
@@ -114,10 +115,10 @@ loop-asks-preserved g c =
           (λ _ t settled. subst (λ n. IsWithin h n x y)
           (is_whole m c.message.result.now c.message.ensures
           (no_cut _ c.cut.result _ c.cut.ensures (sym c.is_some.ensures ∙ c.if-is_some.false)))
-          (c.whole_message-reply.ensures.within t settled))
+          (whole_within h c.loop-asks.session c.handle-reply.new.self c.message.result.now reply c.handle-reply.ensures t settled))
           (subst (λ n. SparesTheDisk h n x y)
           (is_whole m c.message.result.now c.message.ensures
           (no_cut _ c.cut.result _ c.cut.ensures (sym c.is_some.ensures ∙ c.if-is_some.false)))
-          (c.whole_message-reply.ensures.spared before.0))
+          (whole_spared h c.loop-asks.session c.handle-reply.new.self c.message.result.now reply c.handle-reply.ensures before.0))
           (takes_one h a o from x c.loop-asks.asks c.next.new.self c.loop-asks.out before.1 took.0 took.2);
     }
