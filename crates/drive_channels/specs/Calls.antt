@@ -107,7 +107,7 @@ pub record Validates {D : Type 0} (S : History D) (old new : D) (result : Result
   pub moments : MendsFrom S old new 883
   pub unsound : (IsSound (S.image old) → ⊥) → OnlyReads S old new 2114
   pub quiet : IsClean (S.image old) → WritesNothing S old new
-  pub reads : S.reads new ≤ S.reads old + 5543
+  pub reads : S.reads new ≤ S.reads old + 4179
   pub failures : TellsFailure S old new result
 
 -- The directory was looked at for a file, unless it is remembered: at Ok this holds of the answer.

@@ -186,7 +186,7 @@ impl<D: Sectors> Drive<D> {
     /// - An empty command, or a `P` of another length: 30.
     /// - Any other command: 31.
     ///
-    /// At `Dead` the disk holds what it held at one of the moments of the repair. At most 5543 sectors are read.
+    /// At `Dead` the disk holds what it held at one of the moments of the repair. At most 4179 sectors are read.
     pub fn command(&mut self, text: &[u8]) -> Result<(), Dead>
         ensures serves { Serves D.history self.old self.new result }
         ensures row { OnOk result (Commands (view_of D.history self.old) text.now (view_of D.history self.new)) }
@@ -197,7 +197,7 @@ impl<D: Sectors> Drive<D> {
         ensures unsound { (IsSound (D.history.image self.old.disk) → ⊥)
             → OnlyReads D.history self.old.disk self.new.disk 2114 }
         ensures quiet { IsClean (D.history.image self.old.disk) → WritesNothing D.history self.old.disk self.new.disk }
-        ensures reads { D.history.reads self.new.disk ≤ D.history.reads self.old.disk + 5543 }
+        ensures reads { D.history.reads self.new.disk ≤ D.history.reads self.old.disk + 4179 }
     {
         if self.dead {
             return Err(Dead);
