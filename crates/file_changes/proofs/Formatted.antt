@@ -149,7 +149,7 @@ module _ {D : Type 0} (S : History D) (a b c : D) (name id : List ℕ) (bytes di
         writes = omega (arith, w.counted, v.counted, remap-writes S c d empty_layout empty tt r repairs);
       }
 
-      reads : S.reads d ≤ S.reads a + 5543
+      reads : S.reads d ≤ S.reads a + 4179
       reads = omega (arith, w.reads, v.reads, repairs.reads)
 
     pub formats-done : WritesSector {T = Unit {0}} {E = DeviceFault} S b c ds dir (record {}) (Ok (tt {0})) → (d : D)

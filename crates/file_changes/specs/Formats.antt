@@ -53,5 +53,5 @@ pub record Formats {D : Type 0} (S : History D) (old new : D) (name id : List �
   pub ok : OnOk result (IsEmptyDisk (S.image old) name id (S.image new))
   pub moments : Changes S old new 3 (SameOutside (S.image old))
   -- those of a repair
-  pub reads : S.reads new ≤ S.reads old + 5543
+  pub reads : S.reads new ≤ S.reads old + 4179
   pub failures : TellsFailure S old new result
