@@ -178,7 +178,7 @@ module _ (free : Bool) (img one other : Image) (m n : ℕ) (h : IsMendedAs free 
       else codes "MENDED " ++ place_text p ++ codes "\n") (changed-same p) (free-same p)
 
   pub text-same : mended_text img one m ≡ mended_text img other n
-  unfolding mended_text
+  unfolding mended_text changed_text
   text-same = ap₂ (λ (x y : List ℕ). x ++ y)
       (lines-same 35 _ _ (λ t. lines-same 21 _ _ (λ s. line-same (place_at t (s - 1)))))
       (ap kept_text count-same)
