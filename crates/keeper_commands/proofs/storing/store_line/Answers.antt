@@ -10,7 +10,6 @@ use Rattle.keeper_commands.proofs.LineStored.{if-last, if-not_last, line-ended, 
 use Rattle.command_faults.specs.Outputs.{HandsPart}
 use Rattle.keeper_commands.specs.Stores.{NewRecord, new_record}
 use Rattle.keeper_commands.specs.Storing.{StoresLines, StoresOne}
-use Rattle.command_faults.specs.declared.faults.CommandFault.{CommandFault}
 use Rattle.command_faults.specs.declared.faults.CommandFault.TheVariants as faults
 use Rattle.keeper_commands.proofs.storing.store_line.Goals as goal
 use Rattle.keeper_commands.proofs.storing.store_line.Answers.Refused as refused
