@@ -15,7 +15,7 @@ use Rattle.disk_layout.specs.Directory.{map_place}
 use Rattle.disk_layout.specs.Texts.{place_text}
 use Rattle.command_faults.proofs.Parts.{part-behind, part-longer}
 use Rattle.command_faults.specs.Outputs.{HandsPart}
-use Rattle.keeper_commands.specs.Repairs.{TellsKeep, changed_text, freed_at, kept_text, mended_at, mended_on, mended_text, up_to}
+use Rattle.keeper_commands.specs.Repairs.{TellsKeep, changed_text, freed_at, is_freed, kept_text, mended_at, mended_on, mended_text, up_to}
 use Rattle.command_faults.specs.declared.faults.CommandFault.{CommandFault}
 use Rattle.command_faults.specs.declared.faults.CommandFault.TheVariants as faults
 
@@ -177,3 +177,8 @@ pub other-line : (old new : Image) (had has : Sector) (p : Place) (x y : List �
     → false ≡ bytes_eq x y → codes "MENDED " ++ place_text p ++ codes "\n" ≡ mended_at old new had has (Some p)
 other-line old new had has p x y left right is =
     rw (sym (is ∙ ap (λ (z : List ℕ). bytes_eq z y) left ∙ ap (λ (z : List ℕ). bytes_eq (sector old p) z) right)) refl
+
+-- the line of a sector that became free
+pub freed-line : (had has : Sector) (p : Place) → true ≡ is_freed had has p
+    → codes "FREED " ++ place_text p ++ codes "\n" ≡ freed_at had has p
+freed-line had has p is = rw (sym is) refl

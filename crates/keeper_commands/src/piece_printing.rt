@@ -15,13 +15,13 @@ use command_faults::{CommandFault, put};
 use disk_layout::DATA;
 use std::io::Write;
 
-/// Puts these bytes into the room of a record, in place of what it had.
-fn refill(record: &mut ArrayVec<u8, DATA>, bytes: &[u8])
+/// Puts the bytes of a record into this room, in place of what it had.
+fn refill(room: &mut ArrayVec<u8, DATA>, bytes: &[u8])
     requires { length bytes.now ≤ 254 }
-    ensures { record.new.items ≡ bytes.now }
+    ensures { room.new.items ≡ bytes.now }
 {
-    record.clear();
-    let _ = record.try_extend_from_slice(bytes);
+    room.clear();
+    let _ = room.try_extend_from_slice(bytes);
 }
 
 /// Prints the line of a record.

@@ -53,7 +53,11 @@ fn gather_line(
 
 /// Passes the first `used` bytes of the room on, if the longest line may find no room after them. Returns how many of its
 /// bytes still count.
-pub(crate) fn hand_on<W: Write>(out: &mut W, room: &[u8; ROOM], used: usize) -> Result<usize, CommandFault>
+pub(crate) fn hand_on<W: Write>(
+    out: &mut W,
+    room: &[u8; ROOM],
+    used: usize,
+) -> Result<usize, CommandFault>
     requires { used ≤ 4096 }
     ensures room { IfOk result (λ start. start + 776 ≤ 4096) }
     ensures ok { IfOk result (λ start. HandsOn (W.contents out.old) (W.contents out.new) (take used room.now)

@@ -1,5 +1,5 @@
 -- A record's line is printed behind the others.
-use Rattle.std.proofs.Common.{◌≡◌, ◌≤◌, ◌+◌, ◌-◌, ◌++◌, [], Err, List, ap, length, lit≤, get_or, refl, subst, suc, sym}
+use Rattle.std.proofs.Common.{◌≡◌, ◌≤◌, ◌+◌, ◌-◌, [], Err, List, ap, length, lit≤, get_or, refl, subst, suc, sym}
 use Rattle.std.proofs.Common.{◌∙◌, arith, ℕ}
 use Rattle.std.specs.Io.KnownBytes.{Appends}
 use Rattle.std.specs.Prelude.{Option}

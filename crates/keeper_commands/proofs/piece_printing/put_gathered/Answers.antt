@@ -1,5 +1,5 @@
 -- A record's line is gathered behind the others, and at last all are printed.
-use Rattle.std.proofs.Common.{◌≡◌, ◌≤◌, ◌*◌, ◌+◌, ◌-◌, ◌++◌, [], Err, List, ap, arith, drop, length, lit≤, get_or, refl, subst, sym, take, ℕ, ◌∙◌}
+use Rattle.std.proofs.Common.{◌≤◌, ◌+◌, ◌++◌, [], Err, List, ap, arith, length, refl, take, ℕ, ◌∙◌}
 use Rattle.std.proofs.KnownBytes.{Appends-nil}
 use Rattle.std.proofs.lemmas.Result.{err_from_is_err_and, on_err_weaker, on_ok_weaker}
 use Rattle.byte_text.specs.Texts.{record_line}
