@@ -1,4 +1,4 @@
--- What a text leaves in an output that fails. Our own.
+-- What an output that fails has of a text. Our own.
 use Rattle.std.specs.Prelude.{◌≡◌, ℕ, List, ◌++◌, Option}
 use Rattle.std.specs.Io.KnownBytes.{Appends}
 

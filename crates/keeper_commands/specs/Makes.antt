@@ -57,7 +57,7 @@ IsMakeFault S image name L old new before after faults.Device =
     IsMakeRun S image name L old new × Failed S old new × (after ≡ before)
 IsMakeFault S image name L old new before after _ = ⊥
 
--- what was printed then: nothing, or a beginning of what is printed of it, and then the file is made
+-- What was printed then: nothing, or a beginning of MADE, and the file is made.
 abbrev pub IsMakePart : {D W : Type 0} → History D → (W → Option (List ℕ)) → List ℕ → List ℕ → ℕ → D → D → W → W → Type 0
 IsMakePart S contents image name L old new before after = (after ≡ before)
     ⊎ (IsMadeDisk S image name L old new × HandsPart (contents before) (contents after) (codes "MADE\n"))

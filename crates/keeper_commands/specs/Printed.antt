@@ -61,14 +61,14 @@ IsRecordsFault contents form image name old new faults.File = ((file : File) × 
     ⊎ ((length image ≡ 174848) × IsReachedEnd contents form (sectors_in image) name old new faults.File)
 IsRecordsFault contents form image name old new _ = ⊥
 
--- What was printed of records that aren't, or not surely all: nothing, or a beginning of what is printed of the file that
--- can be reached of a disk that isn't sound
+-- what was printed of a disk that isn't sound: nothing, or a beginning of the lines of the file that can be reached
 abbrev pub IsReachedPart : {W : Type 0} → (W → Option (List ℕ)) → RecordForm → Image → (name : List ℕ) → W → W → Type 0
 IsReachedPart contents form img name old new = (new ≡ old) ⊎ ((fault : Fault) × (file : IsReachedFile img name fault)
     × HandsPart (contents old) (contents new)
     (records_as form (records_of (record_length file.slot) (file_bytes img file.blocks file.last))))
 
--- or of the file that the image has
+-- What was printed of records that aren't all printed: a beginning of the lines of the image's file, or what is printed of a
+-- disk that isn't sound. Nothing is a beginning too.
 abbrev pub IsRecordsPart : {W : Type 0} → (W → Option (List ℕ)) → RecordForm → (image name : List ℕ) → W → W → Type 0
 IsRecordsPart contents form image name old new =
     ((file : File) × IsRecordFile image name file
@@ -91,7 +91,7 @@ pub record AreUnclosedPrinted {W : Type 0} (contents : W → Option (List ℕ)) 
   pub printed : Appends (contents old) (contents new) (records_as form
       (records_of (record_length file.slot) (file_bytes (sectors_in image) file.blocks file.last)))
 
--- what was printed of records that aren't, or not surely all: nothing, or a beginning of these
+-- the same of records that may be unclosed: nothing, or a beginning of their lines
 abbrev pub IsUnclosedPart : {W : Type 0} → (W → Option (List ℕ)) → RecordForm → (image name : List ℕ) → W → W → Type 0
 IsUnclosedPart contents form image name old new = (new ≡ old)
     ⊎ ((fault : Option Fault) × (file : HasFile image (Records All) name fault)

@@ -51,7 +51,7 @@ IsRebuildFault S image old new before after faults.File = IsRebuiltDisk S image 
 IsRebuildFault S image old new before after faults.Device = IsRebuildRun S image old new × Failed S old new
 IsRebuildFault S image old new before after _ = ⊥
 
--- what was printed then: nothing, or a beginning of what is printed of it, and then the side sectors are rebuilt
+-- What was printed then: nothing, or a beginning of the lines of the disk as it is rebuilt.
 abbrev pub IsRebuildPart : {D W : Type 0} → History D → (W → Option (List ℕ)) → List ℕ → D → D → W → W → Type 0
 IsRebuildPart S contents image old new before after = (after ≡ before)
     ⊎ (IsRebuiltDisk S image old new

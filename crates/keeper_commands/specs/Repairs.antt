@@ -154,8 +154,8 @@ IsRepairFault free S image old new before after faults.File = (n : ℕ) × IsMen
 IsRepairFault free S image old new before after faults.Device = IsRepairRun free S image old new × Failed S old new
 IsRepairFault free S image old new before after _ = ⊥
 
--- what was printed of a repair that isn't done, or isn't told to its end: nothing, or a beginning of what is printed of it,
--- and then the disk is mended
+-- What was printed of a repair that isn't done, or not printed to its end: nothing, or a beginning of what is printed of the
+-- disk as it is mended.
 abbrev pub IsRepairPart : {D W : Type 0} → Bool → History D → (W → Option (List ℕ)) → List ℕ → D → D → W → W → Type 0
 IsRepairPart free S contents image old new before after = (after ≡ before)
     ⊎ ((n : ℕ) × IsMendedDisk free S image old new n

@@ -31,8 +31,8 @@ use Rattle.command_faults.specs.declared.faults.CommandFault.TheVariants as faul
 abbrev pub IsStoringOver : Image → Layout → ℕ → ℕ → List NewRecord → List (List ℕ) → Image → Type 0
 IsStoringOver old l n L xs rs c = (ts : List (List ℕ)) × IsPartStored L xs rs ts × HasRecords old c l n ts
 
--- this record was stored over rs, which it changes, and a beginning of its line printed, when the output failed; or it wasn't
--- stored, or its first part alone, and nothing was printed, when the device failed
+-- Storing this record over rs was the last thing done. If the output failed, the record is stored, rs had another, and a
+-- beginning of its line is printed. If the device failed, it isn't stored, or its first part alone, and nothing is printed.
 abbrev pub IsStoppedAt : (old new : Image) → Layout → (n L : ℕ) → NewRecord → List (List ℕ) → (printed : List ℕ)
     → CommandFault → Type 0
 IsStoppedAt old new l n L x rs printed fault =
@@ -40,9 +40,8 @@ IsStoppedAt old new l n L x rs printed fault =
     × ((rest : List ℕ) × (record_line x.number x.bytes ≡ printed ++ rest)))
     ⊎ ((fault ≡ faults.Device) × IsStoringOver old l n L (x ∷ []) rs new × (printed ≡ []))
 
--- Where storing these over rs, the records of the file at place n, stopped: at the record `one`. The lines of those before
--- it that changed were printed. If the output failed, it was stored, and of its line the beginning `printed` is there. If
--- the device failed, it wasn't, or its first part alone, and nothing was printed of it.
+-- Storing these over rs, the records of the file at place n, stopped at the record `one`. Those before it are stored, and
+-- the lines of those that changed are printed.
 pub record IsStopped (old new : Image) (before after : Option (List ℕ)) (l : Layout) (n L : ℕ) (xs : List NewRecord)
     (rs : List (List ℕ)) (fault : CommandFault) : Type 0 where
   pub front : List NewRecord
@@ -167,15 +166,15 @@ IsStoreFault S image name text old new before after faults.Device =
     × (IsLeft S image old new before after (λ l. Unit {0}) ⊎ IsStoreRun S image name text old new)
 IsStoreFault S image name text old new before after _ = ⊥
 
--- a run stopped at one of the records that count, over those of the file that has grown
+-- a run stopped at one of the records that count, which are stored over those of the file that has grown
 abbrev pub IsStoppedRun : {D W : Type 0} → History D → (W → Option (List ℕ)) → List ℕ → List ℕ → List ℕ → D → D → W → W
     → CommandFault → Type 0
 IsStoppedRun S contents image name text old new before after fault = (run : IsStoreRun S image name text old new)
     × IsStopped (S.image old) (S.image new) (contents before) (contents after) run.layout run.number
     (record_length run.file.slot) (last_ones run.all) (grown_to (S.image old) run.file (greatest run.all)) fault
 
--- What was printed of records that aren't stored, or whose lines may not all be there. Nothing; or all, if the output
--- failed at its end; or it stopped at one of them. If the output failed, it isn't nothing that was to be printed.
+-- What was printed of records that aren't all stored, or whose lines aren't all printed. It is nothing, if the output
+-- didn't fail. All of it, if the output failed at the very end. Or it stopped at one of them.
 abbrev pub IsStorePart : {D W : Type 0} → History D → (W → Option (List ℕ)) → List ℕ → List ℕ → List ℕ → D → D → W → W
     → CommandFault → Type 0
 IsStorePart S contents image name text old new before after fault =
