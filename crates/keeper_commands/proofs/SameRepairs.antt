@@ -19,7 +19,7 @@ use Rattle.disk_layout.specs.Texts.{place_text}
 use Rattle.layout_check.specs.Keeping.{AreStray}
 use Rattle.layout_check.specs.RepairOrder.{IsRightBut, repair_order, sides_of}
 use Rattle.keeper_commands.specs.Repairs.{AreLeft, IsMendedAs, freed_at, is_freed, kept_text, mended_at, mended_on}
-use Rattle.keeper_commands.specs.Repairs.{mended_text, up_to}
+use Rattle.keeper_commands.specs.Repairs.{changed_text, mended_text, up_to}
 
 -- of distinct places that are among others there are no more
 split : (ys : List Place) (x : Place) → Contains ys x → (before after : List Place) × (ys ≡ before ++ x ∷ after)

@@ -87,48 +87,6 @@ $ ledger_cli play --log a.d64 s.txt
 prints 1,1,DONE,5|
 ";
 
-const PROBE: &[u8] = b"
-gone 1
-$ ledger_cli play --log a.d64 s.txt
-tells GONE 1
-ends 9
-
-gone 2
-$ ledger_cli play --log a.d64 s.txt
-tells GONE 2
-ends 9
-
-gone 3
-$ ledger_cli play --log a.d64 s.txt
-tells GONE 3
-ends 9
-
-gone 4
-$ ledger_cli play --log a.d64 s.txt
-tells GONE 4
-ends 9
-
-gone 5
-$ ledger_cli play --log a.d64 s.txt
-tells GONE 5
-ends 9
-
-gone 6
-$ ledger_cli play --log a.d64 s.txt
-tells GONE 6
-ends 9
-
-gone 7
-$ ledger_cli play --log a.d64 s.txt
-tells GONE 7
-ends 9
-";
-
-#[test]
-fn a_probe(rt: HostRuntime) {
-    each(&rt, PROBE);
-}
-
 #[test]
 fn a_play_that_fails_leaves_its_shop(rt: HostRuntime) {
     each(&rt, LEFT);
