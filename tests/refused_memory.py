@@ -6,7 +6,7 @@
 PROGRAM is what `tools/program` prints, and CUTS what `tools/program test_every_cut` prints. Each of its words is run over and
 over: the first request for memory is refused, then the second, and so on, until a run has none left to refuse. Each time
 - it ends with status 3 and `NO MEMORY`, with nothing printed and no image changed; `serve` and `play --log` may have printed all
-  replies, if they were refused the memory to land the log, which stays. `extract` may report `FILE`;
+  replies, if they were refused the memory to land the log, which stays;
 - or, where it can do without, it does and prints what it does with all its memory.
 CUTS plays a short day: it says so where memory is wanted, with status 1, and never that something differs. A small library
 that is loaded before the program refuses the memory; it is made with `cc`. It prints how much was tried. The status is 1 at
@@ -118,11 +118,6 @@ def no_memory_printed(said, same):
     return same and status == 3 and (no_memory(said, same) or (err == b"" and b"NO MEMORY" in out))
 
 
-def no_memory_or_file(said, same):
-    """`extract` reports `FILE` if it is refused memory while it makes a file of the folder."""
-    return no_memory(said, same) or (said == (3, b"", b"FILE\n") and same)
-
-
 def no_memory_or_unlanded(replies):
     """The same, but the replies may have been printed."""
     return lambda said, same: no_memory((said[0], b"" if said[1] == replies else said[1], said[2]), same)
@@ -199,8 +194,6 @@ def main():
         for command, begin, status in lines_of(disks):
             words, given = [program, *command.over()], command.given
             wanted = no_memory_printed if command.name in PRINT_REFUSALS else no_memory
-            if command.words[0] == "extract":
-                wanted = no_memory_or_file
 
             def anew():
                 begin()

@@ -1,21 +1,36 @@
 //! Bytes and texts handed to a writer.
-ghost use Rattle.std.specs.Prelude.{◌≡◌, IfErr, IfSome, OnOk};
+ghost use Rattle.std.specs.Prelude.{◌≡◌, IfErr, IfSome, OnErr, OnOk};
 ghost use Rattle.std.specs.Io.KnownBytes.{Appends, Keeps};
+ghost use Rattle.command_faults.specs.Outputs.{HandsPart};
 ghost use Rattle.command_faults.specs.declared.faults.CommandFault.TheVariants as faults;
 
 use crate::faults::CommandFault;
 use std::fmt::Display;
-use std::io::Write;
+use std::io::{ErrorKind, Write};
 
-/// Passes all of these bytes to the writer. `File` if it failed, which may then have a part.
+/// Passes all of these bytes to the writer, in one call if it takes them. `File` if it failed or took no byte: then it has
+/// a first part of them.
 pub fn put<W: Write>(out: &mut W, bytes: &[u8]) -> Result<(), CommandFault>
     ensures ok { OnOk result (Appends (W.contents out.old) (W.contents out.new) bytes.now) }
+    ensures part { OnErr result (HandsPart (W.contents out.old) (W.contents out.new) bytes.now) }
     ensures err { IfErr result (λ fault. fault ≡ faults.File) }
 {
-    if out.write_all(bytes).is_err() {
-        return Err(CommandFault::File);
+    let mut written = 0;
+    for _ in 0..u64::MAX {
+        if written == bytes.len() {
+            return Ok(());
+        }
+        match out.write(&bytes[written..]) {
+            Ok(0) => return Err(CommandFault::File),
+            Ok(more) => written += more,
+            Err(error) => {
+                if error.kind() != ErrorKind::Interrupted {
+                    return Err(CommandFault::File);
+                }
+            }
+        }
     }
-    Ok(())
+    Err(CommandFault::File)
 }
 
 /// Passes this text to the writer. `File` if it failed, which may then have a part.

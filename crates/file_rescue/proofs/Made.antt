@@ -1,5 +1,5 @@
 -- The files of an entry, made one after the other.
-use Rattle.std.proofs.Common.{◌≡◌, ◌≤◌, ◌<◌, ◌+◌, ◌++◌, ◌∷◌, ℕ, List, [], Option, ap, append_assoc, append-nil, arith, drop, get_or, length, refl, subst, sym, take, ◌∙◌}
+use Rattle.std.proofs.Common.{◌≡◌, ◌≤◌, ◌<◌, ◌+◌, ◌++◌, ◌∷◌, ℕ, List, [], Option, ap, append_assoc, append-nil, arith, drop, get_or, inl, inr, length, refl, subst, sym, take, ◌∙◌}
 use Rattle.std.specs.Option.{option_or}
 use Rattle.std.proofs.lemmas.List.{length-take-le, take-append-drop, take_more}
 use Rattle.d64_image.specs.Images.{Image}
@@ -16,6 +16,15 @@ use Rattle.file_rescue.specs.Sharing.{owned}
 use Rattle.keeper_commands.specs.Found.{records_length}
 use Rattle.file_rescue.specs.Rescues.{all_files, bytes_in, entry_file, fault_of, files_from, files_of, first_fault, index_of_files, line_files, row_of, rows_from}
 use Rattle.file_rescue.specs.declared.rescuing.Rescued.{Rescued}
+use Rattle.std.specs.declared.io.ErrorKind.{ErrorKind}
+use Rattle.std.specs.declared.io.ErrorKind.TheVariants as kinds
+use Rattle.command_faults.specs.Faults.{io_fault}
+use Rattle.file_rescue.specs.Rescues.{IsMakeFault}
+
+-- two words report that a folder failed
+pub two-words : (kind : ErrorKind) → IsMakeFault (io_fault kind)
+two-words kinds.OutOfMemory = inr refl
+two-words _ = inl refl
 
 -- the file with its bytes, as it is made
 data-file : (img : Image) (n : ℕ) (f : Rescued) (e : Ending) (bytes : List ℕ) → e ≡ ending_of (type_byte f.slot)

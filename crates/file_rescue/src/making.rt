@@ -16,7 +16,7 @@ use keeper_commands::{RecordForm, length_of_records, put_pieces, read_file};
 use petscii_text::{Ending, file_name};
 use std::alloc::Global;
 
-/// Makes a file. `File` if the folder failed.
+/// Makes a file. `NoMemory` if the folder failed for want of memory, and `File` if it failed otherwise.
 pub(crate) fn make<F: NewFolder>(
     folder: &mut F,
     name: &[u8],
@@ -25,16 +25,16 @@ pub(crate) fn make<F: NewFolder>(
     requires inside { StaysInside name.now }
     ensures ok { OnOk result
         (AddsFiles (F.files folder.old) (F.files folder.new) (new_file name.now bytes.now ∷ [])) }
-    ensures err { IfErr result (λ fault. (fault ≡ faults.File)
+    ensures err { IfErr result (λ fault. IsMakeFault fault
         × AddsPart (F.files folder.old) (F.files folder.new) (new_file name.now bytes.now ∷ [])) }
 {
-    if folder.make(name, bytes).is_err() {
-        return Err(CommandFault::File);
+    match folder.make(name, bytes) {
+        Ok(()) => Ok(()),
+        Err(error) => Err(CommandFault::of_io(&error)),
     }
-    Ok(())
 }
 
-/// Makes the file that stands for entry `number`, with this ending. `File` if the folder failed.
+/// Makes the file that stands for entry `number`, with this ending. `File` if the folder failed, or `NoMemory`.
 fn make_entry<F: NewFolder>(
     folder: &mut F,
     number: u8,
@@ -44,7 +44,7 @@ fn make_entry<F: NewFolder>(
 ) -> Result<(), CommandFault>
     ensures ok { OnOk result (AddsFiles (F.files folder.old) (F.files folder.new)
         (entry_file number file.now ending bytes.now ∷ [])) }
-    ensures err { IfErr result (λ fault. (fault ≡ faults.File)
+    ensures err { IfErr result (λ fault. IsMakeFault fault
         × AddsPart (F.files folder.old) (F.files folder.new)
         (entry_file number file.now ending bytes.now ∷ [])) }
 {

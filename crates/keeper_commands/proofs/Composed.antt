@@ -1,10 +1,11 @@
 -- Lines stored one after another: what is left, held, printed and told of all of them.
-use Rattle.std.proofs.Common.{◌≡◌, ℕ, ◌*◌, List, [], ◌++◌, Option, Result, Ok, Err, length, refl, subst, sym, ap, ap₂}
+use Rattle.std.proofs.Common.{◌≡◌, ℕ, ◌*◌, List, [], ◌∷◌, ◌++◌, Option, inl, inr, Result, Ok, Err, length, refl, subst, sym, ap, ap₂}
 use Rattle.std.proofs.Common.{◌∙◌, arith}
 use Rattle.std.specs.Prelude.{OnOk}
 use Rattle.std.specs.Io.KnownBytes.{Appends}
 use Rattle.std.proofs.KnownBytes.{Appends-nil, Appends-trans}
-use Rattle.std.proofs.lemmas.List.{length-append}
+use Rattle.std.proofs.lemmas.Result.{IfErr-weaker}
+use Rattle.std.proofs.lemmas.List.{append_assoc, length-append}
 use Rattle.d64_image.proofs.Moments.{at_end, changes_then, changes_weaker, no_change, no_write, no_write_then, start}
 use Rattle.d64_image.proofs.Moments.{then}
 use Rattle.d64_image.specs.History.{History}
@@ -24,7 +25,7 @@ use Rattle.keeper_commands.proofs.Folds.{changed-append, long-stored, part-behin
 use Rattle.keeper_commands.proofs.Folds.{so-stored, stored-append}
 use Rattle.keeper_commands.proofs.Mendings.{tells-after}
 use Rattle.keeper_commands.specs.Stores.{AreSo, IsPartStored, NewRecord, changed_text, stored}
-use Rattle.keeper_commands.specs.Storing.{IsStoringOver, StoresLines}
+use Rattle.keeper_commands.specs.Storing.{IsStopped, IsStoppedAt, IsStoringOver, StoresLines}
 use Rattle.command_faults.specs.declared.faults.CommandFault.{CommandFault}
 
 pub clean-layout : (img : Image) (l : Layout) → IsClean img → IsLayout img l → IsCleanLayout img l
@@ -56,6 +57,46 @@ had-kept a b l n f v w L xs of h =
     ∙ count-is a f
     ∙ sym (had-of a l n f v of)
 
+-- storing that stopped at one of these stopped at one of more
+stopped-longer : (old new : Image) (before after : Option (List ℕ)) (l : Layout) (n L : ℕ) (xs ys : List NewRecord)
+    (rs : List (List ℕ)) (fault : CommandFault) → IsStopped old new before after l n L xs rs fault
+    → IsStopped old new before after l n L (xs ++ ys) rs fault
+stopped-longer old new before after l n L xs ys rs fault s = record {
+  front = s.front;
+  one = s.one;
+  back = s.back ++ ys;
+  split = ap (λ (zs : List NewRecord). zs ++ ys) s.split ∙ append_assoc s.front (s.one ∷ s.back) ys;
+  printed = s.printed;
+  appends = s.appends;
+  stopped = s.stopped;
+}
+
+-- and it did behind others that were stored
+pub stopped-behind : (a b c : Image) (o p q : Option (List ℕ)) (l : Layout) (n L : ℕ) (xs ys : List NewRecord)
+    (rs : List (List ℕ)) (w : RelFile) (left : LeavesRecords a b l n (stored L xs rs) w)
+    → Appends o p (changed_text L xs rs) → (fault : CommandFault)
+    → IsStopped b c p q left.layout n L ys (stored L xs rs) fault → IsStopped a c o q l n L (xs ++ ys) rs fault
+stopped-behind a b c o p q l n L xs ys rs w left first fault s = record {
+  front = xs ++ s.front;
+  one = s.one;
+  back = s.back;
+  split = ap (λ (zs : List NewRecord). xs ++ zs) s.split ∙ sym (append_assoc xs s.front (s.one ∷ s.back));
+  printed = s.printed;
+  appends = subst (Appends o q)
+      (sym (append_assoc (changed_text L xs rs) (changed_text L s.front (stored L xs rs)) s.printed)
+      ∙ sym (ap (λ (t : List ℕ). t ++ s.printed) (changed-append L xs s.front rs)))
+      (Appends-trans o p q (changed_text L xs rs) (changed_text L s.front (stored L xs rs) ++ s.printed) first s.appends);
+  stopped = subst (λ (ts : List (List ℕ)). IsStoppedAt a c l n L s.one ts s.printed fault)
+      (sym (stored-append L xs s.front rs)) (elim s.stopped [
+        | inl (is, changed, has, line) ↦ inl (is, changed, leaves_then a b c l n (stored L xs rs) _ w left has, line)
+        | inr (is, (ts, part, has), none) ↦ inr (
+          is,
+          (ts, part, leaves_then a b c l n (stored L xs rs) ts w left has),
+          none,
+        )
+      ]);
+}
+
 module _ {D W : Type 0} (S : History D) (contents : W → Option (List ℕ)) (l : Layout) (n : ℕ) (f : File) where
   pub none-stored : (a : D) (o : W) (v : RelFile) → IsClean (S.image a) → IsFileOf (S.image a) l n f v
       → StoresLines S contents a a o o l n f v v [] (Ok tt)
@@ -65,6 +106,7 @@ module _ {D W : Type 0} (S : History D) (contents : W → Option (List ℕ)) (l 
     whole = λ h. start S a IsWhole h;
     quiet = λ so. no_write S a;
     clean = tt;
+    stopped = tt;
     told = refl;
   }
 
@@ -80,6 +122,7 @@ module _ {D W : Type 0} (S : History D) (contents : W → Option (List ℕ)) (l 
     whole = s.whole;
     quiet = λ so. s.quiet (so-front (record_length f.slot) (records (S.image a) f) xs ys so);
     clean = s.clean;
+    stopped = stopped-longer _ _ _ _ l n (record_length f.slot) xs ys (records (S.image a) f) fault s.stopped;
     told = s.told;
   }
 
@@ -128,6 +171,18 @@ module _ {D W : Type 0} (S : History D) (contents : W → Option (List ℕ)) (l 
           (subst (λ (rs : List (List ℕ)). AreSo (record_length f.slot) rs ys) (sym same)
           (so-behind (record_length f.slot) (records (S.image a) f) xs ys so))
 
+      then-stopped : (fault : CommandFault)
+          → IsStopped (S.image b) (S.image c) (contents p) (contents q) left.layout n (record_length left.file.slot) ys
+          (records (S.image b) left.file) fault
+          → IsStopped (S.image a) (S.image c) (contents o) (contents q) l n (record_length f.slot) (xs ++ ys)
+          (records (S.image a) f) fault
+      then-stopped fault s = stopped-behind (S.image a) (S.image b) (S.image c) (contents o) (contents p) (contents q) l n
+          (record_length f.slot) xs ys (records (S.image a) f) w left first.ok.2 fault
+          (subst (λ (rs : List (List ℕ)). IsStopped (S.image b) (S.image c) (contents p) (contents q) left.layout n
+          (record_length f.slot) ys rs fault) left.records
+          (subst (λ (L : ℕ). IsStopped (S.image b) (S.image c) (contents p) (contents q) left.layout n L ys
+          (records (S.image b) left.file) fault) same-length s))
+
       pub stored-then : StoresLines S contents a c o q l n f v x (xs ++ ys) r
       stored-then = record {
         ok = both r second.ok;
@@ -142,6 +197,7 @@ module _ {D W : Type 0} (S : History D) (contents : W → Option (List ℕ)) (l 
             (first.quiet (so-front (record_length f.slot) (records (S.image a) f) xs ys so))
             (second.quiet (both-so so));
         clean = second.clean;
+        stopped = IfErr-weaker r _ _ then-stopped second.stopped;
         told = tells-after S a b c r first.told second.told;
       }
         where

@@ -1,4 +1,5 @@
 pub mod Again
+pub mod Beginnings
 pub mod Blocks
 pub mod ColumnBytes
 pub mod ColumnLines

@@ -1,18 +1,20 @@
 -- The record of one line stored, and its line printed where it was otherwise.
-use Rattle.std.proofs.Common.{◌≡◌, ◌≢◌, ◌≤◌, ℕ, ◌*◌, List, [], ◌∷◌, ◌++◌, Option, Ok, Err, Bool, true, false, length}
+use Rattle.std.proofs.Common.{◌≡◌, ◌≢◌, ◌≤◌, ℕ, ◌*◌, List, [], ◌∷◌, ◌++◌, Option, Result, Ok, Err, Bool, inl, inr, refl, true, false, length}
 use Rattle.std.proofs.Common.{subst, sym, ap, ◌∙◌, arith, eq-eqb, ne_eqb}
-use Rattle.std.specs.Prelude.{if◌then◌else◌, slice_index}
+use Rattle.std.specs.Prelude.{IfErr, OnErr, OnOk, if◌then◌else◌, slice_index}
 use Rattle.std.specs.Io.KnownBytes.{Appends}
 use Rattle.std.proofs.KnownBytes.{Appends-nil}
 use Rattle.std.proofs.lemmas.List.{append-nil}
-use Rattle.d64_image.proofs.Moments.{changes_weaker}
+use Rattle.d64_image.proofs.Moments.{at_end, changes_weaker}
 use Rattle.d64_image.specs.History.{Changes, History}
 use Rattle.disk_layout.specs.Layout.{File, Layout, record_length}
 use Rattle.disk_layout.specs.Records.{records}
 use Rattle.byte_text.proofs.Stored.{one-line}
 use Rattle.byte_text.specs.Lines.{IsLineOf}
 use Rattle.byte_text.specs.Texts.{record_line}
+use Rattle.rel_records.proofs.lemmas.Kept.{leaves_has}
 use Rattle.rel_records.specs.declared.rel_file.RelFile.{RelFile}
+use Rattle.command_faults.specs.Outputs.{HandsPart}
 use Rattle.keeper_commands.specs.Repairs.{TellsKeep}
 use Rattle.keeper_commands.specs.Stores.{CanStore, NewRecord, changed_text, if_last, is_changed, new_record}
 use Rattle.keeper_commands.specs.Storing.{IsStoringOver, StoresLines, StoresOne}
@@ -68,6 +70,15 @@ module _ {D W : Type 0} (S : History D) (contents : W → Option (List ℕ)) (a 
     whole = one.whole;
     quiet = λ so. one.quiet so.0;
     clean = λ e. absurd (device-no-file fault one.err e);
+    stopped = record {
+      front = [];
+      one = x;
+      back = [];
+      split = refl;
+      printed = [];
+      appends = Appends-nil (contents o);
+      stopped = inr (one.err, at_end S a d _ one.moments.held, refl);
+    };
     told = subst (λ (e : CommandFault). TellsKeep {T = Unit {0}} S a d (Err e)) (sym one.err)
         (subst (λ (e : CommandFault). TellsKeep {T = Bool} S a d (Err e)) one.err one.told);
   }
@@ -85,11 +96,12 @@ module _ {D W : Type 0} (S : History D) (contents : W → Option (List ℕ)) (a 
     whole = one.whole;
     quiet = λ so. one.quiet so.0;
     clean = tt;
+    stopped = tt;
     told = one.told;
   }
 
   -- it was stored, and its line printed
-  pub line-printed : StoresOne S a d l n f v w x (Ok true)
+  line-printed : StoresOne S a d l n f v w x (Ok true)
       → Appends (contents o) (contents p) (record_line x.number x.bytes)
       → StoresLines S contents a d o p l n f v w (x ∷ []) (Ok tt)
   line-printed one printed = record {
@@ -103,17 +115,39 @@ module _ {D W : Type 0} (S : History D) (contents : W → Option (List ℕ)) (a 
     whole = one.whole;
     quiet = λ so. one.quiet so.0;
     clean = tt;
+    stopped = tt;
     told = one.told;
   }
 
   -- it was stored, and the output failed
-  pub line-unprinted : StoresOne S a d l n f v w x (Ok true)
+  line-unprinted : StoresOne S a d l n f v w x (Ok true)
+      → HandsPart (contents o) (contents p) (record_line x.number x.bytes)
       → StoresLines S contents a d o p l n f v w (x ∷ []) (Err faults.File)
-  line-unprinted one = record {
+  line-unprinted one (printed, rest, appends, is) = record {
     ok = tt;
     moments = moments-one one.moments;
     whole = one.whole;
     quiet = λ so. one.quiet so.0;
     clean = λ e. (one.ok.0.layout, one.ok.0.clean);
+    stopped = record {
+      front = [];
+      one = x;
+      back = [];
+      split = refl;
+      printed = printed;
+      appends = appends;
+      stopped = inl (refl, sym one.ok.2, leaves_has (S.image a) (S.image d) l n _ w one.ok.0, (rest, is));
+    };
     told = one.told;
   }
+
+  -- it was stored, and its line printed, all of it or a part
+  pub line-ended : StoresOne S a d l n f v w x (Ok true) → (r : Result (Unit {0}) CommandFault)
+      → OnOk r (Appends (contents o) (contents p) (record_line x.number x.bytes))
+      → OnErr r (HandsPart (contents o) (contents p) (record_line x.number x.bytes))
+      → IfErr r (λ fault. fault ≡ faults.File)
+      → StoresLines S contents a d o p l n f v w (x ∷ []) r
+  line-ended one (Ok t) printed part told = line-printed one printed
+  line-ended one (Err fault) printed part told =
+      subst (λ (e : CommandFault). StoresLines S contents a d o p l n f v w (x ∷ []) (Err e)) (sym told)
+      (line-unprinted one part)

@@ -1,5 +1,5 @@
 -- What is printed of a repair, line by line, and what a failure on the way tells.
-use Rattle.std.proofs.Common.{◌≡◌, ◌+◌, ◌-◌, ℕ, suc, true, false, List, Option, Some, Result, Ok, Err}
+use Rattle.std.proofs.Common.{◌≡◌, ◌<◌, ◌+◌, ◌++◌, ◌-◌, ℕ, zero, suc, true, false, refl, List, Option, Some, Result, Ok, Err}
 use Rattle.std.proofs.Common.{ap, arith, subst, sym, ◌∙◌}
 use Rattle.std.proofs.lemmas.Bool.{false≢true}
 use Rattle.std.specs.Prelude.{IfErr, bytes_eq, codes}
@@ -12,7 +12,10 @@ use Rattle.d64_image.specs.Images.{Image, Sector, sector}
 use Rattle.d64_image.specs.Places.{place_at}
 use Rattle.d64_image.specs.declared.place.Place.{Place}
 use Rattle.disk_layout.specs.Directory.{map_place}
-use Rattle.keeper_commands.specs.Repairs.{TellsKeep, freed_at, kept_text, mended_at, mended_on, mended_text, up_to}
+use Rattle.disk_layout.specs.Texts.{place_text}
+use Rattle.command_faults.proofs.Parts.{part-behind, part-longer}
+use Rattle.command_faults.specs.Outputs.{HandsPart}
+use Rattle.keeper_commands.specs.Repairs.{TellsKeep, changed_text, freed_at, is_freed, kept_text, mended_at, mended_on, mended_text, up_to}
 use Rattle.command_faults.specs.declared.faults.CommandFault.{CommandFault}
 use Rattle.command_faults.specs.declared.faults.CommandFault.TheVariants as faults
 
@@ -30,6 +33,27 @@ one-more a b c n line before more =
     subst (λ (m : ℕ). Appends a c (up_to m line)) (sym next)
     (Appends-trans a b c (up_to n line) (line (suc n)) before (subst (λ (m : ℕ). Appends b c (line m)) next more))
 
+-- a beginning of fewer lines, also of one of them alone, is one of all
+up_to-and : (a b : Option (List ℕ)) (n j : ℕ) (line : ℕ → List ℕ) → HandsPart a b (up_to n line)
+    → HandsPart a b (up_to (j + n) line)
+unfolding up_to
+up_to-and a b n zero line part =
+    let same : zero + n ≡ n = omega arith in subst (λ (m : ℕ). HandsPart a b (up_to m line)) (sym same) part
+up_to-and a b n (suc j) line part =
+    let next : suc j + n ≡ suc (j + n) = omega arith in
+    subst (λ (m : ℕ). HandsPart a b (up_to m line)) (sym next)
+    (part-longer a b (up_to (j + n) line) (line (suc (j + n))) (up_to-and a b n j line part))
+
+one-part : (a b c : Option (List ℕ)) (n k : ℕ) (line : ℕ → List ℕ) → Appends a b (up_to n line)
+    → HandsPart b c (line (n + 1)) → n < k → HandsPart a c (up_to k line)
+unfolding up_to
+one-part a b c n k line before part low =
+    let next : n + 1 ≡ suc n = omega arith in
+    let all : k - suc n + suc n ≡ k = omega (arith, low) in
+    subst (λ (m : ℕ). HandsPart a c (up_to m line)) all
+    (up_to-and a c (suc n) (k - suc n) line
+    (part-behind a b c (up_to n line) (line (suc n)) before (subst (λ (m : ℕ). HandsPart b c (line m)) next part)))
+
 module _ (a b c : Option (List ℕ)) (old new old' new' : Image) (had has : Sector) (same : old' ≡ old)
     (same' : new' ≡ new) where
   pub sector-more : (track n : ℕ) → Appends a b (up_to n (λ n. mended_at old new had has (place_at track (n - 1))))
@@ -42,6 +66,24 @@ module _ (a b c : Option (List ℕ)) (old new old' new' : Image) (had has : Sect
       (subst (λ (img : Image). Appends b c (mended_at img new had has (place_at track n))) same
       (subst (λ (img : Image). Appends b c (mended_at old' img had has (place_at track n))) same' more)))
 
+  pub sector-part : (track n : ℕ) → Appends a b (up_to n (λ n. mended_at old new had has (place_at track (n - 1))))
+      → HandsPart b c (mended_at old' new' had has (place_at track n)) → n < 21
+      → HandsPart a c (mended_on old new had has track)
+  sector-part track n before part low =
+      let here : n ≡ n + 1 - 1 = omega arith in
+      one-part a b c n 21 (λ n. mended_at old new had has (place_at track (n - 1))) before
+      (subst (λ (m : ℕ). HandsPart b c (mended_at old new had has (place_at track m))) here
+      (subst (λ (img : Image). HandsPart b c (mended_at img new had has (place_at track n))) same
+      (subst (λ (img : Image). HandsPart b c (mended_at old' img had has (place_at track n))) same' part))) low
+
+  pub track-part : (n : ℕ) → Appends a b (up_to n (mended_on old new had has))
+      → HandsPart b c (mended_on old' new' had has (n + 1)) → n < 35
+      → HandsPart a c (up_to 35 (mended_on old new had has))
+  track-part n before part low =
+      one-part a b c n 35 (mended_on old new had has) before
+      (subst (λ (img : Image). HandsPart b c (mended_on img new had has (n + 1))) same
+      (subst (λ (img : Image). HandsPart b c (mended_on old' img had has (n + 1))) same' part)) low
+
   pub track-more : (n : ℕ) → Appends a b (up_to n (mended_on old new had has))
       → Appends b c (mended_on old' new' had has (n + 1)) → Appends a c (up_to (n + 1) (mended_on old new had has))
   track-more n before more =
@@ -49,18 +91,33 @@ module _ (a b c : Option (List ℕ)) (old new old' new' : Image) (had has : Sect
       (subst (λ (img : Image). Appends b c (mended_on img new had has (n + 1))) same
       (subst (λ (img : Image). Appends b c (mended_on old' img had has (n + 1))) same' more))
 
--- the lines of all tracks, by the maps of the two disks, and how it ends
-pub all-printed : (a b c d : Option (List ℕ)) (old new old' new' : Image) (had has : Sector) (n : ℕ) → old' ≡ old
-    → new' ≡ new → had ≡ sector old map_place → has ≡ sector new map_place
-    → Appends a b (up_to 35 (mended_on old' new' had has)) → Appends b c (kept_text n) → Keeps c d
-    → Appends a d (mended_text old new n)
+-- the lines of all tracks, by the maps of the two disks
+pub changed-is : (old new old' new' : Image) (had has : Sector) → old' ≡ old → new' ≡ new → had ≡ sector old map_place
+    → has ≡ sector new map_place → up_to 35 (mended_on old' new' had has) ≡ changed_text old new
+unfolding changed_text
+changed-is old new old' new' had has same same' was is =
+    ap (λ (img : Image). up_to 35 (mended_on img new' had has)) same
+    ∙ ap (λ (img : Image). up_to 35 (mended_on old img had has)) same'
+    ∙ ap (λ (x : Sector). up_to 35 (mended_on old new x has)) was
+    ∙ ap (λ (x : Sector). up_to 35 (mended_on old new (sector old map_place) x)) is
+
+-- and how it ends
+pub all-printed : (a b c d : Option (List ℕ)) (old new : Image) (n : ℕ) → Appends a b (changed_text old new)
+    → Appends b c (kept_text n) → Keeps c d → Appends a d (mended_text old new n)
 unfolding mended_text
-all-printed a b c d old new old' new' had has n same same' was is tracks end kept =
-    Appends-kept a c d _ (Appends-trans a b c _ (kept_text n)
-    (subst (λ (x : Sector). Appends a b (up_to 35 (mended_on old new (sector old map_place) x))) is
-    (subst (λ (x : Sector). Appends a b (up_to 35 (mended_on old new x has))) was
-    (subst (λ (img : Image). Appends a b (up_to 35 (mended_on img new had has))) same
-    (subst (λ (img : Image). Appends a b (up_to 35 (mended_on old' img had has))) same' tracks)))) end) kept
+all-printed a b c d old new n tracks end kept =
+    Appends-kept a c d _ (Appends-trans a b c (changed_text old new) (kept_text n) tracks end) kept
+
+-- or where it stops
+pub part-tracks : (a b : Option (List ℕ)) (old new : Image) (n : ℕ) → HandsPart a b (changed_text old new)
+    → HandsPart a b (mended_text old new n)
+unfolding mended_text
+part-tracks a b old new n part = part-longer a b (changed_text old new) (kept_text n) part
+
+pub part-end : (a b c : Option (List ℕ)) (old new : Image) (n : ℕ) → Appends a b (changed_text old new)
+    → HandsPart b c (kept_text n) → HandsPart a c (mended_text old new n)
+unfolding mended_text
+part-end a b c old new n tracks part = part-behind a b c (changed_text old new) (kept_text n) tracks part
 
 -- what is told where the output alone can fail
 pub tells-output : {D T : Type 0} (S : History D) (a b : D) (r : Result T CommandFault) → S.failures b ≡ S.failures a
@@ -110,8 +167,18 @@ as-told S a b (Ok x) is told = told
 as-told S a b (Err e) is told = absurd (false≢true (sym is))
 
 -- where the sectors that were read are the same, at most the line of one that became free
-pub same-there : (a b : Option (List ℕ)) (old new : Image) (had has : Sector) (p : Place) (x y : List ℕ)
-    → x ≡ sector old p → y ≡ sector new p → true ≡ bytes_eq x y → Appends a b (freed_at had has p)
-    → Appends a b (mended_at old new had has (Some p))
-same-there a b old new had has p x y left right is freed =
-    rw (sym (is ∙ ap (λ (z : List ℕ). bytes_eq z y) left ∙ ap (λ (z : List ℕ). bytes_eq (sector old p) z) right)) freed
+pub same-line : (old new : Image) (had has : Sector) (p : Place) (x y : List ℕ) → x ≡ sector old p → y ≡ sector new p
+    → true ≡ bytes_eq x y → freed_at had has p ≡ mended_at old new had has (Some p)
+same-line old new had has p x y left right is =
+    rw (sym (is ∙ ap (λ (z : List ℕ). bytes_eq z y) left ∙ ap (λ (z : List ℕ). bytes_eq (sector old p) z) right)) refl
+
+-- and where they aren't, its line
+pub other-line : (old new : Image) (had has : Sector) (p : Place) (x y : List ℕ) → x ≡ sector old p → y ≡ sector new p
+    → false ≡ bytes_eq x y → codes "MENDED " ++ place_text p ++ codes "\n" ≡ mended_at old new had has (Some p)
+other-line old new had has p x y left right is =
+    rw (sym (is ∙ ap (λ (z : List ℕ). bytes_eq z y) left ∙ ap (λ (z : List ℕ). bytes_eq (sector old p) z) right)) refl
+
+-- the line of a sector that became free
+pub freed-line : (had has : Sector) (p : Place) → true ≡ is_freed had has p
+    → codes "FREED " ++ place_text p ++ codes "\n" ≡ freed_at had has p
+freed-line had has p is = rw (sym is) refl

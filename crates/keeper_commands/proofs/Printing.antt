@@ -16,7 +16,8 @@ use Rattle.rel_records.specs.Faults.{TellsRelFault}
 use Rattle.rel_records.specs.Written.{IsAbsent}
 use Rattle.rel_records.specs.declared.faults.RelFault.{RelFault}
 use Rattle.rel_records.specs.declared.faults.RelFault.TheVariants as rel
-use Rattle.keeper_commands.specs.Records.{HandsOn, lines_to, records_text}
+use Rattle.command_faults.specs.Outputs.{HandsOn}
+use Rattle.keeper_commands.specs.Records.{lines_to, records_text}
 
 absent-no : (rs : List (List ℕ)) (number : ℕ) → 1 ≤ number → number ≤ length rs → IsAbsent rs number → ⊥
 absent-no rs number low high absent = elim absent [

@@ -9,8 +9,12 @@ use Rattle.disk_layout.specs.declared.faults.Fault.{Fault}
 use Rattle.disk_layout.specs.declared.slot.Slot.{Slot}
 use Rattle.command_faults.specs.Faults.{IsLoadFault}
 use Rattle.keeper_commands.specs.Found.{IsHad}
-use Rattle.keeper_commands.specs.Printed.{AreRecordsPrinted, IsReachedEnd, IsRecordsFault}
-use Rattle.keeper_commands.specs.Records.{IsReachedFile}
+use Rattle.keeper_commands.specs.Printed.{AreRecordsPrinted, IsReachedEnd, IsReachedPart, IsRecordsFault}
+use Rattle.keeper_commands.specs.Records.{IsReachedFile, records_of}
+use Rattle.keeper_commands.specs.Bytes.{file_bytes}
+use Rattle.keeper_commands.specs.Forms.{records_as}
+use Rattle.command_faults.specs.Outputs.{HandsPart}
+use Rattle.disk_layout.specs.Layout.{record_length}
 use Rattle.command_faults.specs.declared.faults.CommandFault.{CommandFault}
 use Rattle.command_faults.specs.declared.faults.CommandFault.TheVariants as faults
 use Rattle.keeper_commands.specs.declared.finding.Candidates.TheVariants.{Closed}
@@ -32,6 +36,22 @@ reached-file img name first s blocks last own fault holds had is = record {
   had = had;
   fault_is = is;
 }
+
+-- and what was printed of it
+pub reached-part : {W : Type 0} (contents : W → Option (List ℕ)) (form : RecordForm) (img : Image) (name : List ℕ)
+    (old new : W) (first : Fault) (s : Slot) (blocks : List Place) (last : ℕ) (own : Option Fault)
+    → Holds nowhere img first → IsHad img (Records Closed) name s blocks last own
+    → (now : Image) → now ≡ img → (ps : List Place) → ps ≡ blocks
+    → HandsPart (contents old) (contents new) (records_as form (records_of (record_length s) (file_bytes now ps last)))
+    → IsReachedPart contents form img name old new
+reached-part contents form img name old new first s blocks last own holds had now same ps are part = inr (
+  unwrap_or own first,
+  reached-file img name first s blocks last own (unwrap_or own first) holds had refl,
+  subst (λ (i : Image). HandsPart (contents old) (contents new)
+      (records_as form (records_of (record_length s) (file_bytes i blocks last)))) same
+      (subst (λ (xs : List Place). HandsPart (contents old) (contents new)
+      (records_as form (records_of (record_length s) (file_bytes now xs last)))) are part),
+)
 
 -- the output failed, or there was no memory
 pub put-failed : {W : Type 0} (contents : W → Option (List ℕ)) (form : RecordForm) (img : Image) (name : List ℕ)

@@ -1,34 +1,25 @@
 -- What comes of rebuilding the side sectors of a disk.
 use Rattle.std.proofs.Common.{◌≡◌, ◌⊎◌, ℕ, List, Option, Result, Ok, Err, inl, inr, length, refl, subst, sym}
+use Rattle.std.proofs.lemmas.Result.{on_err_weaker}
 use Rattle.std.specs.Io.KnownBytes.{Appends}
-use Rattle.std.specs.Prelude.{IfErr, OnOk}
+use Rattle.std.specs.Prelude.{IfErr, OnErr, OnOk}
 use Rattle.d64_image.proofs.Moments.{at_end, failed_later, no_write, then, weaker}
 use Rattle.d64_image.specs.History.{History, WritesNothing}
-use Rattle.d64_image.specs.Images.{Image, Sector, sector}
+use Rattle.d64_image.specs.Images.{Image, sector}
 use Rattle.disk_layout.specs.Directory.{map_place}
 use Rattle.disk_layout.specs.Fault.{Holds, nowhere}
 use Rattle.disk_layout.specs.declared.faults.Fault.{Fault}
 use Rattle.disk_layout.specs.declared.faults.Fault.TheVariants as faults
 use Rattle.command_faults.specs.Faults.{IsLoadFault}
 use Rattle.keeper_commands.specs.Kinds.{IsKindFault, IsPlainDisk}
-use Rattle.keeper_commands.specs.Rebuilds.{IsRebuildDone, IsRebuildFault, IsRebuildRun, IsRebuiltDisk}
-use Rattle.keeper_commands.specs.Repairs.{TellsKeep, changed_text, mended_on, repair_fault, up_to}
+use Rattle.keeper_commands.specs.Rebuilds.{IsRebuildDone, IsRebuildFault, IsRebuildPart, IsRebuildRun, IsRebuiltDisk}
+use Rattle.command_faults.specs.Outputs.{HandsPart}
+use Rattle.keeper_commands.specs.Repairs.{TellsKeep, changed_text, repair_fault}
 use Rattle.command_faults.specs.declared.faults.CommandFault.{CommandFault}
 use Rattle.side_rebuilding.specs.Rebuilt.{IsRebuilt, IsUnderRebuilding, RebuildsSides, RefusesSides}
 use Rattle.command_faults.proofs.Loads.{by-load}
 use Rattle.keeper_commands.proofs.OtherKinds.{by-kind}
 use Rattle.keeper_commands.proofs.Mendings.{by-tell}
-
--- the lines of the tracks are all that is printed of two disks
-pub all-changed : (a b : Option (List ℕ)) (old new old' new' : Image) (had has : Sector) → old' ≡ old → new' ≡ new
-    → had ≡ sector old map_place → has ≡ sector new map_place
-    → Appends a b (up_to 35 (mended_on old' new' had has)) → Appends a b (changed_text old new)
-unfolding changed_text
-all-changed a b old new old' new' had has same same' was is tracks =
-    subst (λ (x : Sector). Appends a b (up_to 35 (mended_on old new (sector old map_place) x))) is
-    (subst (λ (x : Sector). Appends a b (up_to 35 (mended_on old new x has))) was
-    (subst (λ (img : Image). Appends a b (up_to 35 (mended_on img new had has))) same
-    (subst (λ (img : Image). Appends a b (up_to 35 (mended_on old' img had has))) same' tracks)))
 
 module _ {D : Type 0} (S : History D) (image : List ℕ) (a : D) where
   module _ {W : Type 0} (w : W) where
@@ -109,3 +100,14 @@ module _ {D : Type 0} (S : History D) (image : List ℕ) (a : D) where
           same printed);
     }
     done-rebuilt contents v w rebuilt c quiet before same (Err fault) printed = tt
+
+    pub rebuild-part : {W : Type 0} (contents : W → Option (List ℕ)) (v w : W) → IsRebuilt (S.image a) (S.image b)
+        → (c : D) → WritesNothing S b c → (before : Image) → before ≡ S.image a → (end : Result (Unit {0}) CommandFault)
+        → OnErr end (HandsPart (contents v) (contents w) (changed_text before (S.image b)))
+        → OnErr end (IsRebuildPart S contents image a c v w)
+    rebuild-part contents v w rebuilt c quiet before same end part = on_err_weaker end
+        (λ part. inr (
+          rebuilt-quiet rebuilt c quiet,
+          subst (λ (img : Image). HandsPart (contents v) (contents w) (changed_text (S.image a) img)) (sym quiet.image)
+              (subst (λ (img : Image). HandsPart (contents v) (contents w) (changed_text img (S.image b))) same part),
+        )) part

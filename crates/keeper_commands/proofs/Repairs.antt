@@ -1,5 +1,5 @@
 -- What comes of the repair of a disk, from what the repair tells and what is read afterwards.
-use Rattle.std.proofs.Common.{◌≡◌, ◌≢◌, ◌≤◌, ◌+◌, ℕ, Bool, true, false, List, [], Result, Ok, Err, arith, length, refl, subst, sym}
+use Rattle.std.proofs.Common.{◌≡◌, ◌≢◌, ◌≤◌, ◌+◌, ℕ, Bool, true, false, List, [], Option, Result, Ok, Err, inr, arith, length, refl, subst, sym}
 use Rattle.std.specs.Prelude.{IfErr}
 use Rattle.std.proofs.lemmas.Bool.{false≢true}
 use Rattle.d64_image.proofs.Moments.{at_end, failed_later, reads_no_write, then, weaker}
@@ -21,8 +21,9 @@ use Rattle.layout_check.specs.Repaired.{Repairs}
 use Rattle.layout_check.specs.declared.survey_outcome.Survey.{Survey}
 use Rattle.command_faults.specs.Faults.{IsLoadFault}
 use Rattle.keeper_commands.specs.Kinds.{IsKindFault, IsPlainDisk}
-use Rattle.keeper_commands.specs.Repairs.{GoesInOrder, IsMendedAs, IsMendedDisk, IsRepairFault, IsRepairRun, MendsAs, TellsKeep}
-use Rattle.keeper_commands.specs.Repairs.{repair_fault}
+use Rattle.keeper_commands.specs.Repairs.{GoesInOrder, IsMendedAs, IsMendedDisk, IsRepairFault, IsRepairPart, IsRepairRun, MendsAs, TellsKeep}
+use Rattle.keeper_commands.specs.Repairs.{mended_text, repair_fault}
+use Rattle.command_faults.specs.Outputs.{HandsPart}
 use Rattle.command_faults.specs.declared.faults.CommandFault.{CommandFault}
 use Rattle.command_faults.specs.declared.faults.CommandFault.TheVariants as commands
 use Rattle.command_faults.proofs.Loads.{by-load}
@@ -220,3 +221,15 @@ module _ {D : Type 0} (S : History D) where
   print-refused free image a b c v w (Ok x) n mended same told = tt
   print-refused free image a b c v w (Err fault) n mended same told = by-tell S b c (IsRepairFault free S image a c v w)
       (λ told. (n, mended)) (λ told. (mended.run, failed_later S a b c same told)) fault told
+
+  -- and what was printed until then is of the disk as it is left
+  pub repair-part : {W : Type 0} (free : Bool) (contents : W → Option (List ℕ)) (image : List ℕ) (a b c : D) (v w : W)
+      (before : Image) (n : ℕ) → IsMendedDisk free S image a c n → before ≡ S.image a → WritesNothing S b c
+      → HandsPart (contents v) (contents w) (mended_text before (S.image b) n)
+      → IsRepairPart free S contents image a c v w
+  repair-part free contents image a b c v w before n mended same quiet part = inr (
+    n,
+    mended,
+    subst (λ (img : Image). HandsPart (contents v) (contents w) (mended_text (S.image a) img n)) (sym quiet.image)
+        (subst (λ (img : Image). HandsPart (contents v) (contents w) (mended_text img (S.image b) n)) same part),
+  )

@@ -19,7 +19,7 @@ use Rattle.disk_layout.specs.Texts.{place_text}
 use Rattle.layout_check.specs.Keeping.{AreStray}
 use Rattle.layout_check.specs.RepairOrder.{IsRightBut, repair_order, sides_of}
 use Rattle.keeper_commands.specs.Repairs.{AreLeft, IsMendedAs, freed_at, is_freed, kept_text, mended_at, mended_on}
-use Rattle.keeper_commands.specs.Repairs.{mended_text, up_to}
+use Rattle.keeper_commands.specs.Repairs.{changed_text, mended_text, up_to}
 
 -- of distinct places that are among others there are no more
 split : (ys : List Place) (x : Place) → Contains ys x → (before after : List Place) × (ys ≡ before ++ x ∷ after)
@@ -178,7 +178,7 @@ module _ (free : Bool) (img one other : Image) (m n : ℕ) (h : IsMendedAs free 
       else codes "MENDED " ++ place_text p ++ codes "\n") (changed-same p) (free-same p)
 
   pub text-same : mended_text img one m ≡ mended_text img other n
-  unfolding mended_text
+  unfolding mended_text changed_text
   text-same = ap₂ (λ (x y : List ℕ). x ++ y)
       (lines-same 35 _ _ (λ t. lines-same 21 _ _ (λ s. line-same (place_at t (s - 1)))))
       (ap kept_text count-same)

@@ -31,6 +31,16 @@ use Rattle.keeper_commands.specs.Stores.{greatest, last_ones}
 use Rattle.keeper_commands.specs.Storing.{IsStoreFault, IsStoreRun, IsStoring}
 use Rattle.command_faults.specs.declared.faults.CommandFault.TheVariants as faults
 
+-- a call on a relative file never fails as an output does
+pub no-output : (fault : RelFault) → keep_fault fault ≢ faults.File
+no-output rel.NotFound = λ e. cc
+no-output rel.Device = λ e. cc
+no-output rel.Exists = λ e. cc
+no-output rel.Full = λ e. cc
+no-output rel.NotPresent = λ e. cc
+no-output rel.Overflow = λ e. cc
+no-output rel.TooLarge = λ e. cc
+
 module _ {D W : Type 0} (S : History D) (image name text : List ℕ) (a b : D) (size : length image ≡ 174848)
     (clean : IsClean (S.image a)) (o : W) where
   left : {Why : Layout → Type 0} (c : D) → Why clean.0 → WritesNothing S a c → IsLeft S image a c o o Why

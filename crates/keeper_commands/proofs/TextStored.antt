@@ -1,8 +1,8 @@
 -- A text stored in the file that has grown to its lines: the file has their records; or why not.
-use Rattle.std.proofs.Common.{◌≡◌, ◌≤◌, inl, inr, ℕ, ◌+◌, ◌*◌, List, Option, Result, Ok, Err, length}
+use Rattle.std.proofs.Common.{◌≡◌, ◌≤◌, inl, inr, ℕ, ◌+◌, ◌*◌, List, [], Option, Result, Ok, Err, length}
 use Rattle.std.proofs.Common.{refl, subst, sym, ap, ap₂, ◌∙◌, arith}
 use Rattle.std.specs.Io.KnownBytes.{Appends, Keeps}
-use Rattle.std.proofs.KnownBytes.{Appends-kept}
+use Rattle.std.proofs.KnownBytes.{Appends-kept, Appends-nil}
 use Rattle.d64_image.proofs.Moments.{at_end, changes_then, changes_weaker, failed_later, no_write_then, reads_no_write}
 use Rattle.d64_image.proofs.Moments.{then}
 use Rattle.d64_image.specs.History.{Failed, History, WritesNothing}
@@ -21,6 +21,7 @@ use Rattle.rel_records.specs.declared.rel_file.RelFile.{RelFile}
 use Rattle.rel_records.specs.growth.Growth.{IsFull, growth_writes, records_had}
 use Rattle.rel_records.proofs.lemmas.growth.Grows.{had-of, count-is}
 use Rattle.script_lines.specs.Lines.{lines}
+use Rattle.keeper_commands.proofs.Composed.{stopped-behind}
 use Rattle.keeper_commands.proofs.LastOnes.{lines-numbers, ones-greatest, stored-ones}
 use Rattle.keeper_commands.proofs.OneStored.{grown-none}
 use Rattle.keeper_commands.proofs.Reached.{so-there}
@@ -29,7 +30,7 @@ use Rattle.keeper_commands.proofs.Mendings.{by-tell}
 use Rattle.keeper_commands.specs.Stores.{AreLinesOf, AreSo, IsPartStored, NewRecord, TellsLast}
 use Rattle.keeper_commands.specs.Stores.{changed_text, greatest, last_ones, stored}
 use Rattle.keeper_commands.specs.Storing.{IsStoreDone, IsStoreFault, IsStoreRun, IsStoredDisk, IsStoring, IsStoringOver}
-use Rattle.keeper_commands.specs.Storing.{StoresLines}
+use Rattle.keeper_commands.specs.Storing.{IsStopped, IsStoppedRun, IsStorePart, StoresLines}
 use Rattle.command_faults.specs.declared.faults.CommandFault.{CommandFault}
 use Rattle.command_faults.specs.declared.faults.CommandFault.TheVariants as faults
 
@@ -138,6 +139,23 @@ module _ {D W : Type 0} (S : History D) (image name text : List ℕ) (a b : D) (
       quiet = none-written;
     }
 
+    -- where it stopped at one of them
+    run-stopped : (fault : CommandFault) → IsStopped (S.image c) (S.image d) (contents o) (contents q) grown.layout
+        (entry_of v) (record_length grown.file.slot) (last_ones xs) (records (S.image c) grown.file) fault
+        → IsStoppedRun S contents image name text a d o q fault
+    run-stopped fault s = (
+      run-all,
+      subst (λ (i : Image). IsStopped i (S.image d) (contents o) (contents q) clean.0 (entry_of v)
+          (record_length it.0.slot) (last_ones xs) (grown_to i it.0 (greatest xs)) fault) found.reads.image
+          (stopped-behind (S.image b) (S.image c) (S.image d) (contents o) (contents o) (contents q) clean.0 (entry_of v)
+          (record_length it.0.slot) [] (last_ones xs) (grown_to (S.image b) it.0 (greatest xs)) w grown
+          (Appends-nil (contents o)) fault
+          (subst (λ (rs : List (List ℕ)). IsStopped (S.image c) (S.image d) (contents o) (contents q) grown.layout
+          (entry_of v) (record_length it.0.slot) (last_ones xs) rs fault) grown.records
+          (subst (λ (L : ℕ). IsStopped (S.image c) (S.image d) (contents o) (contents q) grown.layout
+          (entry_of v) L (last_ones xs) (records (S.image c) grown.file) fault) long-as s))),
+    )
+
     no-failure : S.failures c ≡ S.failures a
     no-failure = grows.failures ∙ found.failures
 
@@ -162,6 +180,15 @@ module _ {D W : Type 0} (S : History D) (image name text : List ℕ) (a b : D) (
       (λ told stores. device-run contents d q u (Err faults.Device) stores told)
       fault (then-stored contents d q u (Err fault) stores).told stores
 
+  -- and then it stopped at one of them
+  pub stopped-part : (contents : W → Option (List ℕ)) (d : D) (q : W) (u : RelFile) (fault : CommandFault)
+      → ((m : Layout) (j : ℕ) (e : File) → IsFileOf (S.image c) m j e w → (h : ℕ) (ys : List NewRecord)
+      → AreLinesOf (length_of w) h (lines text) ys → greatest ys ≤ records_in w → TellsLast table ys
+      → StoresLines S contents c d o q m j e w u (last_ones ys) (Err fault))
+      → IsStorePart S contents image name text a d o q fault
+  stopped-part contents d q u fault stores = inr (inr (run-stopped contents d q u (Err fault) stores fault
+      (then-stored contents d q u (Err fault) stores).stopped))
+
   module _ (contents : W → Option (List ℕ)) (d : D) (p q : W)
       (u : RelFile)
       (stores : (m : Layout) (j : ℕ) (e : File) → IsFileOf (S.image c) m j e w → (h : ℕ) (ys : List NewRecord)
@@ -181,3 +208,6 @@ module _ {D W : Type 0} (S : History D) (image name text : List ℕ) (a b : D) (
 
     pub store-unprinted : IsStoreFault S image name text a d o q faults.File
     store-unprinted = (run-all contents d p u (Ok tt) stores, (whole.ok.0.layout, whole.ok.0.clean))
+
+    pub all-part : Keeps (contents p) (contents q) → IsStorePart S contents image name text a d o q faults.File
+    all-part kept = inr (inl (refl, store-done kept))

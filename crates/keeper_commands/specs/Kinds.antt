@@ -1,6 +1,6 @@
 -- Which disks are no 1541 disk with nothing but files, by 18/0. For GEOS: the disk's signature, in its own ASCII, after
 -- the directory header. For the 1541: its format byte (Inside Commodore DOS).
-use Rattle.std.specs.Prelude.{◌≡◌, ◌≢◌, codes, slice_index, slice_range}
+use Rattle.std.specs.Prelude.{◌≡◌, codes, slice_index, slice_range}
 use Rattle.d64_image.specs.Images.{Sector}
 use Rattle.command_faults.specs.declared.faults.CommandFault.{CommandFault}
 use Rattle.command_faults.specs.declared.faults.CommandFault.TheVariants as faults

@@ -1,5 +1,5 @@
 -- What comes of making a relative file on a disk. Our own.
-use Rattle.std.specs.Prelude.{◌≡◌, ◌≢◌, ◌≤◌, ℕ, ◌-◌, List, Option, codes, length, slice_index}
+use Rattle.std.specs.Prelude.{◌≡◌, ◌≢◌, ◌≤◌, ◌⊎◌, ℕ, ◌-◌, List, Option, codes, length, slice_index}
 use Rattle.std.specs.Io.KnownBytes.{Appends}
 use Rattle.d64_image.specs.History.{Changes, Failed, History}
 use Rattle.d64_image.specs.Memory.{sectors_in}
@@ -7,6 +7,7 @@ use Rattle.disk_layout.specs.Clean.{IsCleanLayout}
 use Rattle.disk_layout.specs.Fault.{HoldsOfClean, nowhere}
 use Rattle.disk_layout.specs.Layout.{Layout}
 use Rattle.rel_records.specs.creation.Made.{HasFileMore, HasNoRoom, IsCreating, IsTakenName, creation_writes}
+use Rattle.command_faults.specs.Outputs.{HandsPart}
 use Rattle.keeper_commands.specs.Refusals.{IsLeft}
 use Rattle.command_faults.specs.declared.faults.CommandFault.{CommandFault}
 use Rattle.command_faults.specs.declared.faults.CommandFault.TheVariants as faults
@@ -55,3 +56,8 @@ IsMakeFault S image name L old new before after faults.File = IsMadeDisk S image
 IsMakeFault S image name L old new before after faults.Device =
     IsMakeRun S image name L old new × Failed S old new × (after ≡ before)
 IsMakeFault S image name L old new before after _ = ⊥
+
+-- What was printed then: nothing, or a beginning of MADE, and the file is made.
+abbrev pub IsMakePart : {D W : Type 0} → History D → (W → Option (List ℕ)) → List ℕ → List ℕ → ℕ → D → D → W → W → Type 0
+IsMakePart S contents image name L old new before after = (after ≡ before)
+    ⊎ (IsMadeDisk S image name L old new × HandsPart (contents before) (contents after) (codes "MADE\n"))

@@ -1,5 +1,5 @@
 -- What was printed of a file of an image. All of it is our own.
-use Rattle.std.specs.Prelude.{◌≡◌, ◌≢◌, ◌⊎◌, ◌-◌, ℕ, List, [], IfErr, None, OnOk, Option, Result, Some, get_or, length}
+use Rattle.std.specs.Prelude.{◌≡◌, ◌≢◌, ◌⊎◌, ◌-◌, ℕ, List, [], IfErr, None, OnErr, OnOk, Option, Result, Some, get_or, length}
 use Rattle.std.specs.Io.KnownBytes.{Appends}
 use Rattle.d64_image.specs.Images.{Image}
 use Rattle.d64_image.specs.Memory.{sectors_in}
@@ -10,6 +10,7 @@ use Rattle.rel_records.specs.File.{OfItsFile}
 use Rattle.rel_records.specs.declared.rel_file.RelFile.{RelFile}
 use Rattle.rel_records.specs.declared.reading.record_order.LastBlock.{LastBlock}
 use Rattle.rel_records.specs.reading.Kept.{IsKept}
+use Rattle.command_faults.specs.Outputs.{HandsPart}
 use Rattle.keeper_commands.specs.Bytes.{HasFile, HasNoFile, file_bytes}
 use Rattle.keeper_commands.specs.Forms.{bytes_as, form_line, records_as}
 use Rattle.keeper_commands.specs.Records.{HasNoReached, HasNoRecordFile, IsReachedFile, IsRecordFile, records_of}
@@ -60,6 +61,20 @@ IsRecordsFault contents form image name old new faults.File = ((file : File) × 
     ⊎ ((length image ≡ 174848) × IsReachedEnd contents form (sectors_in image) name old new faults.File)
 IsRecordsFault contents form image name old new _ = ⊥
 
+-- what was printed of a disk that isn't sound: nothing, or a beginning of the lines of the file that can be reached
+abbrev pub IsReachedPart : {W : Type 0} → (W → Option (List ℕ)) → RecordForm → Image → (name : List ℕ) → W → W → Type 0
+IsReachedPart contents form img name old new = (new ≡ old) ⊎ ((fault : Fault) × (file : IsReachedFile img name fault)
+    × HandsPart (contents old) (contents new)
+    (records_as form (records_of (record_length file.slot) (file_bytes img file.blocks file.last))))
+
+-- What was printed of records that aren't all printed: a beginning of the lines of the image's file, or what is printed of a
+-- disk that isn't sound. Nothing is a beginning too.
+abbrev pub IsRecordsPart : {W : Type 0} → (W → Option (List ℕ)) → RecordForm → (image name : List ℕ) → W → W → Type 0
+IsRecordsPart contents form image name old new =
+    ((file : File) × IsRecordFile image name file
+    × HandsPart (contents old) (contents new) (records_as form (records (sectors_in image) file)))
+    ⊎ IsReachedPart contents form (sectors_in image) name old new
+
 -- the bytes that can be reached of the first file of that name, and nothing else, were; and this fault is in the way of
 -- more, or none is
 pub record AreBytesPrinted {W : Type 0} (contents : W → Option (List ℕ)) (form : ByteForm) (candidates : Candidates)
@@ -75,6 +90,13 @@ pub record AreUnclosedPrinted {W : Type 0} (contents : W → Option (List ℕ)) 
   pub file : HasFile image (Records All) name fault
   pub printed : Appends (contents old) (contents new) (records_as form
       (records_of (record_length file.slot) (file_bytes (sectors_in image) file.blocks file.last)))
+
+-- the same of records that may be unclosed: nothing, or a beginning of their lines
+abbrev pub IsUnclosedPart : {W : Type 0} → (W → Option (List ℕ)) → RecordForm → (image name : List ℕ) → W → W → Type 0
+IsUnclosedPart contents form image name old new = (new ≡ old)
+    ⊎ ((fault : Option Fault) × (file : HasFile image (Records All) name fault)
+    × HandsPart (contents old) (contents new) (records_as form
+    (records_of (record_length file.slot) (file_bytes (sectors_in image) file.blocks file.last))))
 
 -- Why not all of a file of that name and kind is printed. With a fault of the layout what can be reached is, as `Printed`
 -- says. If the output failed, there is such a file
@@ -106,6 +128,8 @@ pub record IsLinePrinted (old new : Image) (file : RelFile) (last : LastBlock) (
     (before after : Option (List ℕ)) (result : Result (Unit {0}) CommandFault) : Type 0 where
   pub ok : OfItsFile old file (λ l n f. OnOk result
       (Appends before after (form_line form number (get_or (records old f) (number - 1) []))))
+  pub part : OfItsFile old file (λ l n f. OnErr result
+      (HandsPart before after (form_line form number (get_or (records old f) (number - 1) []))))
   pub same : new ≡ old
   pub kept : IsKept old file last
   pub err : IfErr result (λ fault. fault ≡ faults.File)

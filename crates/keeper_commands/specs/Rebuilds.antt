@@ -7,6 +7,7 @@ use Rattle.disk_layout.specs.Directory.{map_place}
 use Rattle.disk_layout.specs.Fault.{Holds, nowhere}
 use Rattle.disk_layout.specs.Layout.{IsSound}
 use Rattle.keeper_commands.specs.Kinds.{HasFormatByte, HasGeosSign, IsPlainDisk}
+use Rattle.command_faults.specs.Outputs.{HandsPart}
 use Rattle.keeper_commands.specs.Repairs.{changed_text}
 use Rattle.command_faults.specs.declared.faults.CommandFault.{CommandFault}
 use Rattle.command_faults.specs.declared.faults.CommandFault.TheVariants as faults
@@ -49,3 +50,9 @@ IsRebuildFault S image old new before after (faults.Layout fault) =
 IsRebuildFault S image old new before after faults.File = IsRebuiltDisk S image old new
 IsRebuildFault S image old new before after faults.Device = IsRebuildRun S image old new × Failed S old new
 IsRebuildFault S image old new before after _ = ⊥
+
+-- What was printed then: nothing, or a beginning of the lines of the disk as it is rebuilt.
+abbrev pub IsRebuildPart : {D W : Type 0} → History D → (W → Option (List ℕ)) → List ℕ → D → D → W → W → Type 0
+IsRebuildPart S contents image old new before after = (after ≡ before)
+    ⊎ (IsRebuiltDisk S image old new
+    × HandsPart (contents before) (contents after) (changed_text (S.image old) (S.image new)))

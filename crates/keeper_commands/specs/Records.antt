@@ -1,7 +1,6 @@
 -- What is printed of the records of a relative file of an image. All of it is our own.
 use Rattle.std.specs.Prelude.{◌≡◌, ◌≤◌, ℕ, zero, suc, ◌+◌, ◌-◌, ◌/◌, ◌++◌, List, [], IfErr, IfOk, Option, Result, Some}
 use Rattle.std.specs.Prelude.{get_or, length, slice_get, take, unwrap_or}
-use Rattle.std.specs.Io.KnownBytes.{Appends}
 use Rattle.byte_text.specs.Texts.{record_line}
 use Rattle.d64_image.specs.Images.{Image}
 use Rattle.d64_image.specs.Memory.{sectors_in}
@@ -26,10 +25,6 @@ use Rattle.keeper_commands.specs.declared.finding.Kind.TheVariants.{Records}
 abbrev pub lines_to : List (List ℕ) → ℕ → List ℕ
 lines_to rs zero = []
 lines_to rs (suc n) = lines_to rs n ++ record_line (n + 1) (get_or rs n [])
-
--- of these bytes, `held`, a beginning was handed to an output, and the others, `kept`, weren't yet
-abbrev pub HandsOn : Option (List ℕ) → Option (List ℕ) → List ℕ → List ℕ → Type 0
-HandsOn old new held kept = (front : List ℕ) × Appends old new front × (held ≡ front ++ kept)
 
 -- The line of a record of an image's file was put into a room of 4,096 bytes after the first `start`. The result is where
 -- it ends. A disk in memory isn't changed by that, nor does it fail.

@@ -1,5 +1,5 @@
 -- What comes of the repair of a disk, and what is printed of it. Our own.
-use Rattle.std.specs.Prelude.{◌≡◌, ◌≢◌, ℕ, zero, suc, ◌-◌, ◌++◌, Bool, true, false, ◌&&◌, not, List, [], Option, Some}
+use Rattle.std.specs.Prelude.{◌≡◌, ◌≢◌, ◌⊎◌, ℕ, zero, suc, ◌-◌, ◌++◌, Bool, true, false, ◌&&◌, not, List, [], Option, Some}
 use Rattle.std.specs.Prelude.{None, Result, Ok, Err, IfErr, IfOk, if◌then◌else◌, codes, decimal, length, bytes_eq, nat_eq}
 use Rattle.std.specs.Io.KnownBytes.{Appends}
 use Rattle.d64_image.specs.History.{Changes, Failed, History, OnlyReads, WritesNothing}
@@ -20,6 +20,7 @@ use Rattle.layout_check.specs.Keeping.{AreStray, FreesNothing, IsCleanBut}
 use Rattle.layout_check.specs.RepairOrder.{ClearsSpare, IsRightBut, repair_order}
 use Rattle.layout_check.specs.Repaired.{MendsFrom}
 use Rattle.keeper_commands.specs.Kinds.{HasFormatByte, HasGeosSign, IsPlainDisk}
+use Rattle.command_faults.specs.Outputs.{HandsPart}
 use Rattle.command_faults.specs.declared.faults.CommandFault.{CommandFault}
 use Rattle.command_faults.specs.declared.faults.CommandFault.TheVariants as faults
 
@@ -50,14 +51,13 @@ mended_on old new had has track = up_to 21 (λ n. mended_at old new had has (pla
 abbrev pub kept_text : ℕ → List ℕ
 kept_text n = if nat_eq n 0 then codes "OK\n" else codes "KEPT " ++ decimal n ++ codes "\n"
 
--- what is printed of a repair: a line for each sector that was mended or freed, by track and sector, and then how it
--- ends
-unfoldable pub mended_text : Image → Image → ℕ → List ℕ
-mended_text old new n = up_to 35 (mended_on old new (sector old map_place) (sector new map_place)) ++ kept_text n
-
--- a line for each sector that the two images have otherwise, or that became free by their maps
+-- a line for each sector that the two images have otherwise, or that became free by their maps, by track and sector
 unfoldable pub changed_text : Image → Image → List ℕ
 changed_text old new = up_to 35 (mended_on old new (sector old map_place) (sector new map_place))
+
+-- what is printed of a repair: these lines, and then how it ends
+unfoldable pub mended_text : Image → Image → ℕ → List ℕ
+mended_text old new n = changed_text old new ++ kept_text n
 
 -- only the output is reported as File, and only a failure of the device as Device
 abbrev pub TellsKeep : {D T : Type 0} → History D → D → D → Result T CommandFault → Type 0
@@ -153,3 +153,10 @@ IsRepairFault free S image old new before after (faults.Layout fault) =
 IsRepairFault free S image old new before after faults.File = (n : ℕ) × IsMendedDisk free S image old new n
 IsRepairFault free S image old new before after faults.Device = IsRepairRun free S image old new × Failed S old new
 IsRepairFault free S image old new before after _ = ⊥
+
+-- What was printed of a repair that isn't done, or not printed to its end: nothing, or a beginning of what is printed of the
+-- disk as it is mended.
+abbrev pub IsRepairPart : {D W : Type 0} → Bool → History D → (W → Option (List ℕ)) → List ℕ → D → D → W → W → Type 0
+IsRepairPart free S contents image old new before after = (after ≡ before)
+    ⊎ ((n : ℕ) × IsMendedDisk free S image old new n
+    × HandsPart (contents before) (contents after) (mended_text (S.image old) (S.image new) n))

@@ -1,5 +1,5 @@
 -- What a disk holds while records are stored from their lines, and what is left and reported in the end. Our own.
-use Rattle.std.specs.Prelude.{◌≡◌, ◌≢◌, ◌⊎◌, ◌≤◌, Bool, ℕ, ◌+◌, ◌*◌, List, [], ◌∷◌, ◌++◌, Option, Result, Some, IfErr, IfOk}
+use Rattle.std.specs.Prelude.{◌≡◌, ◌≢◌, ◌⊎◌, ◌≤◌, Bool, ℕ, ◌+◌, ◌*◌, List, [], ◌∷◌, ◌++◌, Option, Result, Some, IfErr, IfOk, true}
 use Rattle.std.specs.Prelude.{OnOk, drop, length, slice_get}
 use Rattle.std.specs.Io.KnownBytes.{Appends}
 use Rattle.d64_image.specs.History.{Changes, Failed, History, WritesNothing}
@@ -22,6 +22,7 @@ use Rattle.keeper_commands.specs.Refusals.{IsLeft}
 use Rattle.keeper_commands.specs.Repairs.{TellsKeep}
 use Rattle.keeper_commands.specs.Stores.{AreLinesOf, AreSo, IsFirstBad, IsPartStored, IsSo, NewRecord, changed_text}
 use Rattle.keeper_commands.specs.Stores.{greatest, is_changed, last_ones, stored, with_stored}
+use Rattle.byte_text.specs.Texts.{record_line}
 use Rattle.command_faults.specs.declared.faults.CommandFault.{CommandFault}
 use Rattle.command_faults.specs.declared.faults.CommandFault.TheVariants as faults
 
@@ -29,6 +30,27 @@ use Rattle.command_faults.specs.declared.faults.CommandFault.TheVariants as faul
 -- perhaps the first part of the next
 abbrev pub IsStoringOver : Image → Layout → ℕ → ℕ → List NewRecord → List (List ℕ) → Image → Type 0
 IsStoringOver old l n L xs rs c = (ts : List (List ℕ)) × IsPartStored L xs rs ts × HasRecords old c l n ts
+
+-- Storing this record over rs was the last thing done. If the output failed, the record is stored, rs had another, and a
+-- beginning of its line is printed. If the device failed, it isn't stored, or its first part alone, and nothing is printed.
+abbrev pub IsStoppedAt : (old new : Image) → Layout → (n L : ℕ) → NewRecord → List (List ℕ) → (printed : List ℕ)
+    → CommandFault → Type 0
+IsStoppedAt old new l n L x rs printed fault =
+    ((fault ≡ faults.File) × (is_changed L x rs ≡ true) × HasRecords old new l n (with_stored L x rs)
+    × ((rest : List ℕ) × (record_line x.number x.bytes ≡ printed ++ rest)))
+    ⊎ ((fault ≡ faults.Device) × IsStoringOver old l n L (x ∷ []) rs new × (printed ≡ []))
+
+-- Storing these over rs, the records of the file at place n, stopped at the record `one`. Those before it are stored, and
+-- the lines of those that changed are printed.
+pub record IsStopped (old new : Image) (before after : Option (List ℕ)) (l : Layout) (n L : ℕ) (xs : List NewRecord)
+    (rs : List (List ℕ)) (fault : CommandFault) : Type 0 where
+  pub front : List NewRecord
+  pub one : NewRecord
+  pub back : List NewRecord
+  pub split : xs ≡ front ++ one ∷ back
+  pub printed : List ℕ
+  pub appends : Appends before after (changed_text L front rs ++ printed)
+  pub stopped : IsStoppedAt old new l n L one (stored L front rs) printed fault
 
 -- One record of f, the file at place n of the layout l, was stored, if it differed; the answer is whether it did. The
 -- caller's view of the file was v, and is w now.
@@ -60,6 +82,8 @@ pub record StoresLines {D W : Type 0} (S : History D) (contents : W → Option (
     pub quiet : AreSo (record_length f.slot) (records (S.image old) f) xs → WritesNothing S old new
     -- if the output failed, the disk is clean
     pub clean : IfErr result (λ fault. fault ≡ faults.File → IsClean (S.image new))
+    pub stopped : IfErr result (IsStopped (S.image old) (S.image new) (contents before) (contents after) l n
+        (record_length f.slot) xs (records (S.image old) f))
     pub told : TellsKeep S old new result
 
 -- these records over those of the file, which has grown to them if it had fewer: what is after them stays
@@ -141,3 +165,19 @@ IsStoreFault S image name text old new before after faults.Device =
     Failed S old new
     × (IsLeft S image old new before after (λ l. Unit {0}) ⊎ IsStoreRun S image name text old new)
 IsStoreFault S image name text old new before after _ = ⊥
+
+-- a run stopped at one of the records that count, which are stored over those of the file that has grown
+abbrev pub IsStoppedRun : {D W : Type 0} → History D → (W → Option (List ℕ)) → List ℕ → List ℕ → List ℕ → D → D → W → W
+    → CommandFault → Type 0
+IsStoppedRun S contents image name text old new before after fault = (run : IsStoreRun S image name text old new)
+    × IsStopped (S.image old) (S.image new) (contents before) (contents after) run.layout run.number
+    (record_length run.file.slot) (last_ones run.all) (grown_to (S.image old) run.file (greatest run.all)) fault
+
+-- What was printed of records that aren't all stored, or whose lines aren't all printed. It is nothing, if the output
+-- didn't fail. All of it, if the output failed at the very end. Or it stopped at one of them.
+abbrev pub IsStorePart : {D W : Type 0} → History D → (W → Option (List ℕ)) → List ℕ → List ℕ → List ℕ → D → D → W → W
+    → CommandFault → Type 0
+IsStorePart S contents image name text old new before after fault =
+    ((fault ≢ faults.File) × (after ≡ before))
+    ⊎ (((fault ≡ faults.File) × IsStoreDone S contents image name text old new before after)
+    ⊎ IsStoppedRun S contents image name text old new before after fault)

@@ -1,6 +1,7 @@
 //! The records of a relative file, printed one after another in a form.
-ghost use Rattle.std.specs.Prelude.{◌≡◌, ◌≤◌, IfErr, OnOk, length};
+ghost use Rattle.std.specs.Prelude.{◌≡◌, ◌≤◌, IfErr, OnErr, OnOk, length};
 ghost use Rattle.std.specs.Io.KnownBytes.{Appends};
+ghost use Rattle.command_faults.specs.Outputs.{HandsPart};
 ghost use Rattle.d64_image.specs.Memory.{disk_image};
 ghost use Rattle.disk_layout.specs.Records as records_of;
 ghost use Rattle.keeper_commands.specs.Forms as forms;
@@ -13,7 +14,7 @@ ghost use Rattle.rel_records.specs.reading.Kept.{IsKept};
 use crate::forms::{ColumnForm, RecordForm};
 use arrayvec::ArrayVec;
 use byte_text::{trim, write_line};
-use command_faults::CommandFault;
+use command_faults::{CommandFault, put};
 use d64_image::MemDisk;
 use disk_layout::DATA;
 use petscii_text::CharacterSet;
@@ -61,7 +62,7 @@ fn write_columns_line<W: Write>(
 }
 
 /// Writes the line of a record in this form.
-pub(crate) fn write_form_line<W: Write>(
+fn write_form_line<W: Write>(
     out: &mut W,
     form: RecordForm,
     number: u32,
@@ -75,6 +76,29 @@ pub(crate) fn write_form_line<W: Write>(
         RecordForm::Text(set) => write_text_line(out, set, number, bytes.as_slice()),
         RecordForm::Columns(columns) => write_columns_line(out, columns, number, bytes.as_slice()),
     }
+}
+
+/// More bytes than the longest line has: ten digits, and 254 columns of a byte each, of six bytes.
+const LINE: usize = 2048;
+
+/// Prints the line of a record in this form. `File` if the output failed: then it has a first part of it.
+pub(crate) fn put_form_line<W: Write>(
+    out: &mut W,
+    form: RecordForm,
+    number: u32,
+    bytes: &ArrayVec<u8, DATA>,
+) -> Result<(), CommandFault>
+    ensures ok { OnOk result (Appends (W.contents out.old) (W.contents out.new)
+        (forms.form_line form number bytes.now.items)) }
+    ensures part { OnErr result (HandsPart (W.contents out.old) (W.contents out.new)
+        (forms.form_line form number bytes.now.items)) }
+    ensures err { IfErr result (λ fault. fault ≡ faults.File) }
+{
+    let mut line: ArrayVec<u8, LINE> = ArrayVec::new();
+    if write_form_line(&mut line, form, number, bytes).is_err() {
+        return Err(CommandFault::File);
+    }
+    put(out, line.as_slice())
 }
 
 /// Prints the line of a record that is there. `last` is the block that was read last, and `bytes` is room for the record.
@@ -96,10 +120,7 @@ fn print_line<W: Write>(
         (W.contents out.old) (W.contents out.new) result }
 {
     let _ = read_next(disk, file, last, number, bytes);
-    if write_form_line(out, form, number, bytes).is_err() {
-        return Err(CommandFault::File);
-    }
-    Ok(())
+    put_form_line(out, form, number, bytes)
 }
 
 /// Prints the lines of the records of a file in this form, record 1 first.
@@ -112,6 +133,10 @@ pub(crate) fn print_lines<W: Write>(
     requires of { IsOf (disk_image disk.old) file.now }
     ensures ok { OfItsFile (disk_image disk.old) file.now (λ l n f.
         OnOk result (Appends (W.contents out.old) (W.contents out.new)
+        (form_lines_to form (records_of.records (disk_image disk.old) f)
+        (length (records_of.records (disk_image disk.old) f))))) }
+    ensures part { OfItsFile (disk_image disk.old) file.now (λ l n f.
+        OnErr result (HandsPart (W.contents out.old) (W.contents out.new)
         (form_lines_to form (records_of.records (disk_image disk.old) f)
         (length (records_of.records (disk_image disk.old) f))))) }
     ensures err { IfErr result (λ fault. fault ≡ faults.File) }

@@ -1,7 +1,7 @@
 //! A relative file made on a clean disk.
-ghost use Rattle.std.specs.Prelude.{◌≡◌, ◌↔◌, IfErr, IsTrue, OnOk};
+ghost use Rattle.std.specs.Prelude.{◌≡◌, ◌↔◌, IfErr, IsTrue, OnErr, OnOk};
 ghost use Rattle.d64_image.specs.Memory.{sectors_in};
-ghost use Rattle.keeper_commands.specs.Makes.{IsMakeDone, IsMakeFault, IsNewName};
+ghost use Rattle.keeper_commands.specs.Makes.{IsMakeDone, IsMakeFault, IsMakePart, IsNewName};
 ghost use Rattle.rel_records.specs.File.{IsLength};
 
 use crate::faults::refusal;
@@ -28,7 +28,7 @@ pub fn is_new_name(name: &[u8]) -> bool
 /// `ImageSize`, `NoMemory`, `Layout` if the disk isn't clean, for a fault that holds; `FileExists` if an entry of the
 /// directory has the name, of whatever type; `DiskFull` if fewer than two blocks are free, or the directory has no room:
 /// nothing was written or printed then. `Device` if the device failed: the file is made or isn't, and nothing was
-/// printed. `File` if the output failed: the file is made.
+/// printed. `File` if the output failed: the file is made, and the output has a first part of `MADE`.
 pub fn make_image<D: Sectors, W: Write>(
     alloc: Global,
     image: &[u8],
@@ -43,6 +43,8 @@ pub fn make_image<D: Sectors, W: Write>(
     ensures ok { OnOk result (IsMakeDone D.history W.contents image.now name.now length disk.old disk.new
         out.old out.new) }
     ensures err { IfErr result (IsMakeFault D.history image.now name.now length disk.old disk.new out.old out.new) }
+    ensures part { OnErr result (IsMakePart D.history W.contents image.now name.now length disk.old disk.new
+        out.old out.new) }
 {
     check_image(alloc, image)?;
     if let Err(fault) = create(disk, name, length) {

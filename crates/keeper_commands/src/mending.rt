@@ -1,17 +1,20 @@
 //! The repair of a disk, and what is printed of it.
-ghost use Rattle.std.specs.Prelude.{◌≡◌, IfErr, IfOk, OnOk, Some};
+ghost use Rattle.std.specs.Prelude.{◌≡◌, ◌++◌, IfErr, IfOk, OnErr, OnOk, Some, codes};
 ghost use Rattle.std.specs.Io.KnownBytes.{Appends};
 ghost use Rattle.d64_image.specs.History.{WritesNothing};
 ghost use Rattle.d64_image.specs.Images.{sector};
 ghost use Rattle.d64_image.specs.Memory.{disk_image, sectors_in};
 ghost use Rattle.d64_image.specs.Places.{place_at};
 ghost use Rattle.disk_layout.specs.Directory.{map_place};
-ghost use Rattle.keeper_commands.specs.Repairs.{IsRepairDone, IsRepairFault, MendsAs, TellsKeep, changed_text, freed_at};
+ghost use Rattle.disk_layout.specs.Texts.{place_text};
+ghost use Rattle.command_faults.specs.Outputs.{HandsPart};
+ghost use Rattle.keeper_commands.specs.Repairs.{IsRepairDone, IsRepairFault, IsRepairPart, MendsAs, TellsKeep, changed_text, freed_at};
 ghost use Rattle.keeper_commands.specs.Repairs.{is_freed as freed, mended_at, mended_on, mended_text, repair_fault};
 ghost use Rattle.keeper_commands.specs.Repairs.{kept_text, up_to};
 ghost use Rattle.command_faults.specs.declared.faults.CommandFault.TheVariants as faults;
 
 use crate::kinds::judge_kind;
+use arrayvec::ArrayVec;
 use command_faults::{CommandFault, flush, load, put};
 use d64_image::{MemDisk, Place, Sectors};
 use disk_layout::{BamView, Fault, map_place};
@@ -24,6 +27,9 @@ const TRACKS: u8 = 35;
 
 /// How many sectors a track has at most.
 const SECTORS: u8 = 21;
+
+/// More bytes than the longest line has: `MENDED 35/16` and its end have 13.
+const LINE: usize = 16;
 
 /// The maps of a disk before and after its repair: 18/0 as it was, and as it is.
 #[derive(Clone, Copy)]
@@ -55,19 +61,42 @@ fn is_freed(maps: &Maps, place: Place) -> bool
     !BamView::new(&maps.had).is_free(place) && BamView::new(&maps.has).is_free(place)
 }
 
+/// The line that has this word and the sector's place. `File` if it has no room, as such a line has.
+fn line_about(word: &str, place: Place) -> Result<ArrayVec<u8, LINE>, CommandFault>
+    ensures ok { IfOk result (λ line. line.items ≡ word.now ++ codes " " ++ place_text place ++ codes "\n") }
+    ensures err { IfErr result (λ fault. fault ≡ faults.File) }
+{
+    let mut line = ArrayVec::new();
+    if writeln!(line, "{word} {}/{}", place.track(), place.sector()).is_err() {
+        return Err(CommandFault::File);
+    }
+    Ok(line)
+}
+
+/// Prints this word and the sector's place on a line.
+fn put_about<W: Write>(out: &mut W, word: &str, place: Place) -> Result<(), CommandFault>
+    ensures ok { OnOk result (Appends (W.contents out.old) (W.contents out.new)
+        (word.now ++ codes " " ++ place_text place ++ codes "\n")) }
+    ensures part { OnErr result (HandsPart (W.contents out.old) (W.contents out.new)
+        (word.now ++ codes " " ++ place_text place ++ codes "\n")) }
+    ensures err { IfErr result (λ fault. fault ≡ faults.File) }
+{
+    let line = line_about(word, place)?;
+    put(out, line.as_slice())
+}
+
 /// Prints the line of a sector that became free, if it did.
 fn put_freed<W: Write>(out: &mut W, maps: &Maps, place: Place) -> Result<(), CommandFault>
     ensures ok { OnOk result (Appends (W.contents out.old) (W.contents out.new)
+        (freed_at maps.now.had maps.now.has place)) }
+    ensures part { OnErr result (HandsPart (W.contents out.old) (W.contents out.new)
         (freed_at maps.now.had maps.now.has place)) }
     ensures err { IfErr result (λ fault. fault ≡ faults.File) }
 {
     if !is_freed(maps, place) {
         return Ok(());
     }
-    if writeln!(out, "FREED {}/{}", place.track(), place.sector()).is_err() {
-        return Err(CommandFault::File);
-    }
-    Ok(())
+    put_about(out, "FREED", place)
 }
 
 /// Prints the line of a sector, if the two disks differ in it, or if it became free.
@@ -79,6 +108,8 @@ fn put_place<D: Sectors, W: Write>(
     place: Place,
 ) -> Result<(), CommandFault>
     ensures ok { OnOk result (Appends (W.contents out.old) (W.contents out.new)
+        (mended_at (disk_image before.old) (D.history.image after.old) maps.now.had maps.now.has (Some place))) }
+    ensures part { OnErr result (HandsPart (W.contents out.old) (W.contents out.new)
         (mended_at (disk_image before.old) (D.history.image after.old) maps.now.had maps.now.has (Some place))) }
     ensures same { disk_image before.new ≡ disk_image before.old }
     ensures quiet { WritesNothing D.history after.old after.new }
@@ -92,10 +123,7 @@ fn put_place<D: Sectors, W: Write>(
     if old == new {
         return put_freed(out, maps, place);
     }
-    if writeln!(out, "MENDED {}/{}", place.track(), place.sector()).is_err() {
-        return Err(CommandFault::File);
-    }
-    Ok(())
+    put_about(out, "MENDED", place)
 }
 
 /// Prints the line of a sector, if there is such a sector.
@@ -108,6 +136,9 @@ fn put_sector<D: Sectors, W: Write>(
     sector: u8,
 ) -> Result<(), CommandFault>
     ensures ok { OnOk result (Appends (W.contents out.old) (W.contents out.new)
+        (mended_at (disk_image before.old) (D.history.image after.old) maps.now.had maps.now.has
+        (place_at track sector))) }
+    ensures part { OnErr result (HandsPart (W.contents out.old) (W.contents out.new)
         (mended_at (disk_image before.old) (D.history.image after.old) maps.now.had maps.now.has
         (place_at track sector))) }
     ensures same { disk_image before.new ≡ disk_image before.old }
@@ -130,6 +161,8 @@ fn put_track<D: Sectors, W: Write>(
 ) -> Result<(), CommandFault>
     ensures ok { OnOk result (Appends (W.contents out.old) (W.contents out.new)
         (mended_on (disk_image before.old) (D.history.image after.old) maps.now.had maps.now.has track)) }
+    ensures part { OnErr result (HandsPart (W.contents out.old) (W.contents out.new)
+        (mended_on (disk_image before.old) (D.history.image after.old) maps.now.had maps.now.has track)) }
     ensures same { disk_image before.new ≡ disk_image before.old }
     ensures quiet { WritesNothing D.history after.old after.new }
     ensures told { TellsKeep D.history after.old after.new result }
@@ -149,6 +182,8 @@ fn put_tracks<D: Sectors, W: Write>(
 ) -> Result<(), CommandFault>
     ensures ok { OnOk result (Appends (W.contents out.old) (W.contents out.new)
         (up_to 35 (mended_on (disk_image before.old) (D.history.image after.old) maps.now.had maps.now.has))) }
+    ensures part { OnErr result (HandsPart (W.contents out.old) (W.contents out.new)
+        (up_to 35 (mended_on (disk_image before.old) (D.history.image after.old) maps.now.had maps.now.has))) }
     ensures same { disk_image before.new ≡ disk_image before.old }
     ensures quiet { WritesNothing D.history after.old after.new }
     ensures told { TellsKeep D.history after.old after.new result }
@@ -162,15 +197,17 @@ fn put_tracks<D: Sectors, W: Write>(
 /// Prints how a repair ends: `OK`, or `KEPT` and how many sectors stay taken that nobody owns. `File` if it failed.
 fn put_kept<W: Write>(out: &mut W, kept: u16) -> Result<(), CommandFault>
     ensures ok { OnOk result (Appends (W.contents out.old) (W.contents out.new) (kept_text kept)) }
+    ensures part { OnErr result (HandsPart (W.contents out.old) (W.contents out.new) (kept_text kept)) }
     ensures err { IfErr result (λ fault. fault ≡ faults.File) }
 {
     if kept == 0 {
         return put(out, b"OK\n");
     }
-    if writeln!(out, "KEPT {kept}").is_err() {
+    let mut line: ArrayVec<u8, LINE> = ArrayVec::new();
+    if writeln!(line, "KEPT {kept}").is_err() {
         return Err(CommandFault::File);
     }
-    Ok(())
+    put(out, line.as_slice())
 }
 
 /// Prints a line for each sector that the two disks have otherwise or that became free by their maps.
@@ -180,6 +217,8 @@ pub(crate) fn put_changed<D: Sectors, W: Write>(
     after: &mut D,
 ) -> Result<(), CommandFault>
     ensures ok { OnOk result (Appends (W.contents out.old) (W.contents out.new)
+        (changed_text (disk_image before.old) (D.history.image after.old))) }
+    ensures part { OnErr result (HandsPart (W.contents out.old) (W.contents out.new)
         (changed_text (disk_image before.old) (D.history.image after.old))) }
     ensures quiet { WritesNothing D.history after.old after.new }
     ensures told { TellsKeep D.history after.old after.new result }
@@ -197,11 +236,12 @@ fn put_mended<D: Sectors, W: Write>(
 ) -> Result<(), CommandFault>
     ensures ok { OnOk result (Appends (W.contents out.old) (W.contents out.new)
         (mended_text (disk_image before.old) (D.history.image after.old) kept)) }
+    ensures part { OnErr result (HandsPart (W.contents out.old) (W.contents out.new)
+        (mended_text (disk_image before.old) (D.history.image after.old) kept)) }
     ensures quiet { WritesNothing D.history after.old after.new }
     ensures told { TellsKeep D.history after.old after.new result }
 {
-    let maps = maps_of(before, after)?;
-    put_tracks(out, before, after, &maps)?;
+    put_changed(out, before, after)?;
     put_kept(out, kept)?;
     flush(out)
 }
@@ -238,7 +278,8 @@ fn mended<D: Sectors>(disk: &mut D, free: bool) -> Result<u16, Fault>
 ///
 /// `ImageSize`, `NoMemory`, `Geos` if 18/0 has GEOS's signature, `Format` if its format byte isn't $41, and `Layout` if
 /// the disk isn't sound, for a fault that holds: then nothing was written or printed. `Device` if the device failed; what
-/// was mended until then stays, and what was printed is open. `File` if the output failed: the disk is mended.
+/// was mended until then stays. `File` if the output failed: the disk is mended. Then nothing was printed, or a first part
+/// of what is printed of the disk as it is mended.
 pub fn repair_image<D: Sectors, W: Write>(
     alloc: Global,
     image: &[u8],
@@ -250,6 +291,8 @@ pub fn repair_image<D: Sectors, W: Write>(
     ensures ok { IfOk result
         (IsRepairDone free D.history W.contents image.now disk.old disk.new out.old out.new) }
     ensures err { IfErr result (IsRepairFault free D.history image.now disk.old disk.new out.old out.new) }
+    ensures part { OnErr result
+        (IsRepairPart free D.history W.contents image.now disk.old disk.new out.old out.new) }
 {
     let mut before = load(alloc, image)?;
     judge_kind(&mut before)?;

@@ -1,17 +1,30 @@
 //! The records among the bytes of a relative file, as they are printed.
-ghost use Rattle.std.specs.Prelude.{◌≡◌, ◌≤◌, IfErr, OnOk, length};
+ghost use Rattle.std.specs.Prelude.{◌≡◌, ◌≤◌, IfErr, OnErr, OnOk, length};
 ghost use Rattle.std.specs.Io.KnownBytes.{Appends};
-ghost use Rattle.keeper_commands.specs.Forms.{form_line, records_as};
-ghost use Rattle.keeper_commands.specs.Records.{records_of};
+ghost use Rattle.command_faults.specs.Outputs.{HandsPart};
 ghost use Rattle.command_faults.specs.declared.faults.CommandFault.TheVariants as faults;
+ghost use Rattle.keeper_commands.specs.Forms.{form_line, form_lines_to, records_as};
+ghost use Rattle.keeper_commands.specs.Records.{records_of, records_text};
 
 use crate::forms::RecordForm;
-use crate::line_printing::write_form_line;
+use crate::line_printing::put_form_line;
+use crate::record_printing::{ROOM, hand_on};
 use arrayvec::ArrayVec;
-use command_faults::CommandFault;
+use byte_text::put_line;
+use command_faults::{CommandFault, put};
+use disk_layout::DATA;
 use std::io::Write;
 
-/// Prints the line of a record. `File` if the output failed.
+/// Puts the bytes of a record into this room, in place of what it had.
+fn refill(room: &mut ArrayVec<u8, DATA>, bytes: &[u8])
+    requires { length bytes.now ≤ 254 }
+    ensures { room.new.items ≡ bytes.now }
+{
+    room.clear();
+    let _ = room.try_extend_from_slice(bytes);
+}
+
+/// Prints the line of a record.
 fn put_piece<W: Write>(
     out: &mut W,
     form: RecordForm,
@@ -20,18 +33,66 @@ fn put_piece<W: Write>(
 ) -> Result<(), CommandFault>
     requires { length record.now ≤ 254 }
     ensures ok { OnOk result (Appends (W.contents out.old) (W.contents out.new) (form_line form number record.now)) }
+    ensures part { OnErr result (HandsPart (W.contents out.old) (W.contents out.new)
+        (form_line form number record.now)) }
     ensures err { IfErr result (λ fault. fault ≡ faults.File) }
 {
     let mut bytes = ArrayVec::new();
-    let _ = bytes.try_extend_from_slice(record);
-    if write_form_line(out, form, number, &bytes).is_err() {
-        return Err(CommandFault::File);
+    refill(&mut bytes, record);
+    put_form_line(out, form, number, &bytes)
+}
+
+/// Prints a line in this form for each whole record of `size` bytes, record 1 first, one after another.
+fn put_each<W: Write>(
+    out: &mut W,
+    form: RecordForm,
+    bytes: &[u8],
+    size: usize,
+) -> Result<(), CommandFault>
+    requires low { 1 ≤ size }
+    requires high { size ≤ 254 }
+    requires short { length bytes.now ≤ 182880 }
+    ensures ok { OnOk result (Appends (W.contents out.old) (W.contents out.new)
+        (form_lines_to form (records_of size bytes.now) (length (records_of size bytes.now)))) }
+    ensures part { OnErr result (HandsPart (W.contents out.old) (W.contents out.new)
+        (form_lines_to form (records_of size bytes.now) (length (records_of size bytes.now)))) }
+    ensures err { IfErr result (λ fault. fault ≡ faults.File) }
+{
+    let count = (bytes.len() / size) as u32;
+    for before in 0..count {
+        let start = before as usize * size;
+        put_piece(out, form, before + 1, &bytes[start..start + size])?;
     }
     Ok(())
 }
 
-/// Prints a line in this form for each whole record of `size` bytes, record 1 first. `File` if the output failed, which
-/// may then have a part.
+/// Prints the plain line of each whole record of `size` bytes, record 1 first. Lines are gathered, so that many are handed
+/// on at once.
+fn put_gathered<W: Write>(out: &mut W, bytes: &[u8], size: usize) -> Result<(), CommandFault>
+    requires low { 1 ≤ size }
+    requires high { size ≤ 254 }
+    requires short { length bytes.now ≤ 182880 }
+    ensures ok { OnOk result (Appends (W.contents out.old) (W.contents out.new)
+        (records_text (records_of size bytes.now))) }
+    ensures part { OnErr result (HandsPart (W.contents out.old) (W.contents out.new)
+        (records_text (records_of size bytes.now))) }
+    ensures err { IfErr result (λ fault. fault ≡ faults.File) }
+{
+    let count = (bytes.len() / size) as u32;
+    let mut record = ArrayVec::new();
+    let mut room = [0; ROOM];
+    let mut end = 0;
+    for before in 0..count {
+        let start = hand_on(out, &room, end)?;
+        let from = before as usize * size;
+        refill(&mut record, &bytes[from..from + size]);
+        end = put_line(before + 1, &record, &mut room, start);
+    }
+    put(out, &room[..end])
+}
+
+/// Prints a line in this form for each whole record of `size` bytes, record 1 first. `File` if the output failed: then it
+/// has a first part of them.
 pub fn put_pieces<W: Write>(
     out: &mut W,
     form: RecordForm,
@@ -43,12 +104,13 @@ pub fn put_pieces<W: Write>(
     requires short { length bytes.now ≤ 182880 }
     ensures ok { OnOk result (Appends (W.contents out.old) (W.contents out.new)
         (records_as form (records_of size bytes.now))) }
+    ensures part { OnErr result (HandsPart (W.contents out.old) (W.contents out.new)
+        (records_as form (records_of size bytes.now))) }
     ensures err { IfErr result (λ fault. fault ≡ faults.File) }
 {
-    let count = (bytes.len() / size) as u32;
-    for before in 0..count {
-        let start = before as usize * size;
-        put_piece(out, form, before + 1, &bytes[start..start + size])?;
+    match form {
+        RecordForm::Lines => put_gathered(out, bytes, size),
+        RecordForm::Text(_) => put_each(out, form, bytes, size),
+        RecordForm::Columns(_) => put_each(out, form, bytes, size),
     }
-    Ok(())
 }

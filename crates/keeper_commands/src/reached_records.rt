@@ -1,13 +1,14 @@
 //! The records of a relative file of a disk that isn't sound, by the chain of its blocks.
-ghost use Rattle.std.specs.Prelude.{◌≡◌, ◌≤◌, ◌⊎◌, IfErr, IsErrAnd, IsTrue, OnOk, length};
+ghost use Rattle.std.specs.Prelude.{◌≡◌, ◌≤◌, ◌⊎◌, IfErr, IsErrAnd, IsTrue, OnErr, OnOk, length};
 ghost use Rattle.std.specs.Io.KnownBytes.{Appends};
+ghost use Rattle.command_faults.specs.Outputs.{HandsPart};
 ghost use Rattle.d64_image.specs.Memory.{disk_image};
 ghost use Rattle.disk_layout.specs.Fault.{Holds, nowhere};
 ghost use Rattle.disk_layout.specs.Layout.{record_length};
 ghost use Rattle.keeper_commands.specs.Bytes.{file_bytes};
 ghost use Rattle.keeper_commands.specs.Forms.{records_as};
 ghost use Rattle.keeper_commands.specs.Found.{has_records};
-ghost use Rattle.keeper_commands.specs.Printed.{IsReachedEnd};
+ghost use Rattle.keeper_commands.specs.Printed.{IsReachedEnd, IsReachedPart};
 ghost use Rattle.keeper_commands.specs.Records.{records_of};
 ghost use Rattle.command_faults.specs.declared.faults.CommandFault.TheVariants as faults;
 
@@ -36,6 +37,8 @@ pub(crate) fn put_reached<W: Write>(
     requires few { length blocks.now ≤ 720 }
     ensures ok { OnOk result (Appends (W.contents out.old) (W.contents out.new)
         (records_as form (records_of (record_length file.slot) (file_bytes (disk_image disk.old) blocks.now file.last)))) }
+    ensures part { OnErr result (HandsPart (W.contents out.old) (W.contents out.new)
+        (records_as form (records_of (record_length file.slot) (file_bytes (disk_image disk.old) blocks.now file.last)))) }
     ensures err { IfErr result (λ fault. (fault ≡ faults.File) ⊎ ((fault ≡ faults.NoMemory) × (out.new ≡ out.old))) }
 {
     let bytes = read_file(alloc, disk, blocks, file.last)?;
@@ -47,8 +50,8 @@ pub(crate) fn put_reached<W: Write>(
 /// `first`: whole records among the bytes that can be reached, without side sectors. Then it reports `Layout` with the
 /// file's own fault, as `find_file` says, or with `first` if it has none.
 ///
-/// Nothing was printed after `NoMemory`, and after `Layout` if there is no such file. After `File` the output failed,
-/// which may have a part.
+/// Nothing was printed after `NoMemory`, and after `Layout` if there is no such file. After `File` the output failed: it
+/// has a first part of the records.
 pub(crate) fn reached_records<W: Write>(
     alloc: Global,
     disk: &mut MemDisk,
@@ -58,7 +61,8 @@ pub(crate) fn reached_records<W: Write>(
     out: &mut W,
 ) -> Result<(), CommandFault>
     requires { Holds nowhere (disk_image disk.old) first }
-    ensures { IsErrAnd result (IsReachedEnd W.contents form (disk_image disk.old) name.now out.old out.new) }
+    ensures end { IsErrAnd result (IsReachedEnd W.contents form (disk_image disk.old) name.now out.old out.new) }
+    ensures part { IsReachedPart W.contents form (disk_image disk.old) name.now out.old out.new }
 {
     let mut blocks = ArrayVec::new();
     let Ok(file) = find_file(disk, Kind::Records(Candidates::Closed), name, &mut blocks) else {

@@ -1,7 +1,7 @@
 //! The side sectors of a disk, built anew, and what is printed of that.
-ghost use Rattle.std.specs.Prelude.{◌≡◌, IfErr, OnOk};
+ghost use Rattle.std.specs.Prelude.{◌≡◌, IfErr, OnErr, OnOk};
 ghost use Rattle.d64_image.specs.Memory.{sectors_in};
-ghost use Rattle.keeper_commands.specs.Rebuilds.{IsRebuildDone, IsRebuildFault};
+ghost use Rattle.keeper_commands.specs.Rebuilds.{IsRebuildDone, IsRebuildFault, IsRebuildPart};
 
 use crate::kinds::judge_kind;
 use crate::mending::{put_changed, refusal};
@@ -20,7 +20,8 @@ use std::io::Write;
 ///
 /// `ImageSize`, `NoMemory`, `Geos` and `Format` as `repair_image` has them, and `Layout` if the side sectors can't be
 /// rebuilt, for a fault that holds: then nothing was written or printed. `Device` if the device failed; what was written
-/// until then stays, and what was printed isn't known. `File` if the output failed: the side sectors are rebuilt.
+/// until then stays. `File` if the output failed: the side sectors are rebuilt. Then nothing was printed, or a first part
+/// of the lines of the disk as it is rebuilt.
 pub fn rebuild_image<D: Sectors, W: Write>(
     alloc: Global,
     image: &[u8],
@@ -31,6 +32,7 @@ pub fn rebuild_image<D: Sectors, W: Write>(
     requires holds { D.history.image disk.old ≡ sectors_in image.now }
     ensures ok { OnOk result (IsRebuildDone D.history W.contents image.now disk.old disk.new out.old out.new) }
     ensures err { IfErr result (IsRebuildFault D.history image.now disk.old disk.new out.old out.new) }
+    ensures part { OnErr result (IsRebuildPart D.history W.contents image.now disk.old disk.new out.old out.new) }
 {
     let mut before = load(alloc, image)?;
     judge_kind(&mut before)?;

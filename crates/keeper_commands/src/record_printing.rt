@@ -1,11 +1,12 @@
 //! The records of a relative file, as they are printed.
-ghost use Rattle.std.specs.Prelude.{◌≡◌, ◌≤◌, ◌+◌, IfErr, IfOk, Ok, OnOk, length, take};
+ghost use Rattle.std.specs.Prelude.{◌≡◌, ◌≤◌, ◌+◌, IfErr, IfOk, Ok, OnErr, OnOk, length, take};
 ghost use Rattle.std.specs.Io.KnownBytes.{Appends};
 ghost use Rattle.d64_image.specs.Memory.{disk_image};
 ghost use Rattle.disk_layout.specs.Records as records_of;
 ghost use Rattle.keeper_commands.specs.Forms.{records_as};
-ghost use Rattle.keeper_commands.specs.Printed.{AreRecordsPrinted, IsRecordsFault};
-ghost use Rattle.keeper_commands.specs.Records.{HandsOn, IsGathered, records_text};
+ghost use Rattle.keeper_commands.specs.Printed.{AreRecordsPrinted, IsRecordsFault, IsRecordsPart};
+ghost use Rattle.command_faults.specs.Outputs.{HandsOn, HandsPart};
+ghost use Rattle.keeper_commands.specs.Records.{IsGathered, records_text};
 ghost use Rattle.command_faults.specs.declared.faults.CommandFault.TheVariants as faults;
 ghost use Rattle.rel_records.specs.File.{IsOf, OfItsFile};
 ghost use Rattle.rel_records.specs.reading.Kept.{IsKept};
@@ -24,7 +25,7 @@ use std::alloc::Global;
 use std::io::Write;
 
 /// The room where lines are gathered, so that many are handed on at once.
-const ROOM: usize = 4096;
+pub(crate) const ROOM: usize = 4096;
 
 /// Puts the line of a record that is there after the first `start` bytes of the room, and returns where it ends. `last`
 /// is the block that was read last, and `bytes` is room for the record. A disk in memory gives each record.
@@ -52,11 +53,16 @@ fn gather_line(
 
 /// Passes the first `used` bytes of the room on, if the longest line may find no room after them. Returns how many of its
 /// bytes still count.
-fn hand_on<W: Write>(out: &mut W, room: &[u8; ROOM], used: usize) -> Result<usize, CommandFault>
+pub(crate) fn hand_on<W: Write>(
+    out: &mut W,
+    room: &[u8; ROOM],
+    used: usize,
+) -> Result<usize, CommandFault>
     requires { used ≤ 4096 }
     ensures room { IfOk result (λ start. start + 776 ≤ 4096) }
     ensures ok { IfOk result (λ start. HandsOn (W.contents out.old) (W.contents out.new) (take used room.now)
         (take start room.now)) }
+    ensures part { OnErr result (HandsPart (W.contents out.old) (W.contents out.new) (take used room.now)) }
     ensures err { IfErr result (λ fault. fault ≡ faults.File) }
 {
     if used <= ROOM - LINE_ROOM {
@@ -75,6 +81,9 @@ fn put_records<W: Write>(
     requires of { IsOf (disk_image disk.old) file.now }
     ensures ok { OfItsFile (disk_image disk.old) file.now (λ l n f.
         OnOk result (Appends (W.contents out.old) (W.contents out.new)
+        (records_text (records_of.records (disk_image disk.old) f)))) }
+    ensures part { OfItsFile (disk_image disk.old) file.now (λ l n f.
+        OnErr result (HandsPart (W.contents out.old) (W.contents out.new)
         (records_text (records_of.records (disk_image disk.old) f)))) }
     ensures err { IfErr result (λ fault. fault ≡ faults.File) }
 {
@@ -108,6 +117,9 @@ fn put_records_as<W: Write>(
     ensures ok { OfItsFile (disk_image disk.old) file.now (λ l n f.
         OnOk result (Appends (W.contents out.old) (W.contents out.new)
         (records_as form (records_of.records (disk_image disk.old) f)))) }
+    ensures part { OfItsFile (disk_image disk.old) file.now (λ l n f.
+        OnErr result (HandsPart (W.contents out.old) (W.contents out.new)
+        (records_as form (records_of.records (disk_image disk.old) f)))) }
     ensures err { IfErr result (λ fault. fault ≡ faults.File) }
 {
     match form {
@@ -125,7 +137,7 @@ fn put_records_as<W: Write>(
 /// that file, or with that of the disk if there is none.
 ///
 /// Nothing was printed after `ImageSize`, `NoMemory` and `NoFile`, and after `Layout` if such a disk has no such file. After
-/// `File` the output failed, which may have a part.
+/// `File` the output failed: it has a first part of what was to be printed.
 pub fn records_image<W: Write>(
     alloc: Global,
     image: &[u8],
@@ -135,6 +147,7 @@ pub fn records_image<W: Write>(
 ) -> Result<(), CommandFault>
     ensures ok { OnOk result (AreRecordsPrinted W.contents form image.now name.now out.old out.new) }
     ensures err { IfErr result (IsRecordsFault W.contents form image.now name.now out.old out.new) }
+    ensures part { OnErr result (IsRecordsPart W.contents form image.now name.now out.old out.new) }
 {
     let mut disk = load(alloc, image)?;
     if let Some(fault) = unsoundness(&mut disk) {

@@ -1,7 +1,7 @@
 //! Records of a relative file stored from a text.
 ghost use Rattle.std.specs.Prelude.{◌≡◌, IfErr, OnOk};
 ghost use Rattle.d64_image.specs.Memory.{sectors_in};
-ghost use Rattle.keeper_commands.specs.Storing.{IsStoreDone, IsStoreFault};
+ghost use Rattle.keeper_commands.specs.Storing.{IsStoreDone, IsStoreFault, IsStorePart};
 
 use crate::faults::refusal;
 use crate::judging::judge;
@@ -30,7 +30,7 @@ use std::io::Write;
 /// line that is no record's, has more bytes than a record, or a number that the file can't have: one past 65535 that it
 /// hasn't, or that would need more than 720 blocks; `DiskFull` if the free sectors don't suffice for the greatest record.
 /// Nothing was written or printed then. `Device` if the device failed, and `File` if the output did: what was stored
-/// until then stays. Memory is taken for a copy of the image, and then for a number of each record that a line can be of.
+/// until then stays, and its lines are printed, at `File` the last of them perhaps not to its end. Memory is taken for a copy of the image, and then for a number of each record that a line can be of.
 pub fn store_image<D: Sectors, W: Write>(
     alloc: Global,
     image: &[u8],
@@ -43,6 +43,8 @@ pub fn store_image<D: Sectors, W: Write>(
     ensures ok { OnOk result (IsStoreDone D.history W.contents image.now name.now text.now disk.old disk.new
         out.old out.new) }
     ensures err { IfErr result (IsStoreFault D.history image.now name.now text.now disk.old disk.new out.old out.new) }
+    ensures part { IfErr result (IsStorePart D.history W.contents image.now name.now text.now disk.old disk.new
+        out.old out.new) }
 {
     check_image(alloc, image)?;
     let mut last = LastLines::none(alloc)?;

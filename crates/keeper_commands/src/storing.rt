@@ -1,7 +1,10 @@
 //! Records stored from their lines in a relative file.
-ghost use Rattle.std.specs.Prelude.{◌≡◌, ◌≢◌, ◌≤◌, ℕ, List, IfSome, IsNone, length, slice_index};
+ghost use Rattle.std.specs.Prelude.{◌≡◌, ◌≢◌, ◌≤◌, ℕ, List, IfErr, IfSome, IsNone, OnErr, OnOk, length, slice_index};
+ghost use Rattle.std.specs.Io.KnownBytes.{Appends};
 ghost use Rattle.byte_text.specs.Lines.{IsLineOf};
+ghost use Rattle.byte_text.specs.Texts.{record_line};
 ghost use Rattle.disk_layout.specs.Clean.{IsClean};
+ghost use Rattle.command_faults.specs.Outputs.{HandsPart};
 ghost use Rattle.keeper_commands.specs.Stores.{
   AreLinesOf,
   CanStore,
@@ -13,13 +16,14 @@ ghost use Rattle.keeper_commands.specs.Stores.{
   new_record,
 };
 ghost use Rattle.keeper_commands.specs.Storing.{StoresLines, StoresOne};
+ghost use Rattle.command_faults.specs.declared.faults.CommandFault.TheVariants as faults;
 ghost use Rattle.rel_records.specs.File.{IsOf, OfItsFile, length_of, records_in};
 ghost use Rattle.script_lines.specs.Lines.{lines};
 
 use crate::last_lines::LastLines;
 use arrayvec::ArrayVec;
-use byte_text::{read_line, trim, write_line};
-use command_faults::CommandFault;
+use byte_text::{LINE_ROOM, put_line, read_line, trim};
+use command_faults::{CommandFault, put};
 use d64_image::Sectors;
 use disk_layout::DATA;
 use rel_records::{RelFile, read_record, write_record};
@@ -52,6 +56,22 @@ fn store_record<D: Sectors>(
         return Err(CommandFault::Device);
     }
     Ok(true)
+}
+
+/// Prints the line of a record. `File` if the output failed: then it has a first part of it.
+fn put_record<W: Write>(
+    out: &mut W,
+    number: u32,
+    bytes: &ArrayVec<u8, DATA>,
+) -> Result<(), CommandFault>
+    ensures ok { OnOk result (Appends (W.contents out.old) (W.contents out.new) (record_line number bytes.now.items)) }
+    ensures part { OnErr result (HandsPart (W.contents out.old) (W.contents out.new)
+        (record_line number bytes.now.items)) }
+    ensures err { IfErr result (λ fault. fault ≡ faults.File) }
+{
+    let mut room = [0; LINE_ROOM];
+    let end = put_line(number, bytes, &mut room, 0);
+    put(out, &room[..end])
 }
 
 /// The number of the record that the line at this place is of, and in `bytes` its bytes, if it is the last line of that
@@ -102,10 +122,7 @@ fn store_line<D: Sectors, W: Write>(
     if !store_record(disk, file, number, bytes.as_slice())? {
         return Ok(());
     }
-    if write_line(out, number, bytes).is_err() {
-        return Err(CommandFault::File);
-    }
-    Ok(())
+    put_record(out, number, bytes)
 }
 
 /// Stores the records of the text's lines, which are all there, in order, of each record its last line, and prints the

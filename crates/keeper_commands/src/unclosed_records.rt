@@ -1,6 +1,6 @@
 //! The records of a relative file that may be unclosed, by the chain of its blocks.
-ghost use Rattle.std.specs.Prelude.{IfErr, None, OnOk};
-ghost use Rattle.keeper_commands.specs.Printed.{AreUnclosedPrinted, IsUnclosedFault};
+ghost use Rattle.std.specs.Prelude.{IfErr, None, OnErr, OnOk};
+ghost use Rattle.keeper_commands.specs.Printed.{AreUnclosedPrinted, IsUnclosedFault, IsUnclosedPart};
 
 use crate::byte_printing::{ended, no_file};
 use crate::finding::{Candidates, Kind, find_file};
@@ -25,6 +25,7 @@ pub fn unclosed_records_image<W: Write>(
 ) -> Result<(), CommandFault>
     ensures ok { OnOk result (AreUnclosedPrinted W.contents form image.now name.now out.old out.new None) }
     ensures err { IfErr result (IsUnclosedFault W.contents form image.now name.now out.old out.new) }
+    ensures part { OnErr result (IsUnclosedPart W.contents form image.now name.now out.old out.new) }
 {
     let mut disk = load(alloc, image)?;
     let mut blocks = ArrayVec::new();

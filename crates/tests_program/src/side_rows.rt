@@ -95,6 +95,17 @@ synced
 syncs 2
 reads-behind 1 sync
 
+hurt SIDE LOST
+output-takes 5 bytes
+$ ledger_cli repair --sides a.d64
+prints MENDE
+tells FILE|
+ends 3
+leaves the shop
+synced
+syncs 2
+reads-behind 1 sync
+
 resize 174847
 $ ledger_cli repair --sides a.d64
 tells IMAGE SIZE|

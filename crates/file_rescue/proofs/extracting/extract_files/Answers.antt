@@ -1,5 +1,5 @@
 -- The files of the entries, and behind them the index.
-use Rattle.std.proofs.Common.{inl, inr}
+use Rattle.std.proofs.Common.{inr}
 use Rattle.std.proofs.lemmas.Result.{err_from_is_err_and}
 use Rattle.d64_image.specs.Memory.{disk_image}
 use Rattle.file_rescue.proofs.Made.{all-made, all-part}
@@ -16,7 +16,7 @@ pub returns-in_err-make-clause-err : goal.returns-in_err-make-clause-err
 returns-in_err-make-clause-err g c =
     let p = err_from_is_err_and c.from_residual-in_err-make.result c.from_residual-in_err-make.ensures.1 in
     rw (p.1, p.2) (
-      inl c.in_err-make.ensures.err.0,
+      c.in_err-make.ensures.err.0,
       all-part _ _ _ (disk_image c.args.disk.now) c.args.sectors.now c.args.files.now _ _ _ _ c.new-index.ensures.items
           c.in_ok-put.ensures.ok
           (c.in_ok-fault.ensures.rows (owned c.args.sectors.now c.args.files.now) c.owners_of-owners.ensures)

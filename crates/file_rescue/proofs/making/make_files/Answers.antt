@@ -1,5 +1,5 @@
 -- One file after the other.
-use Rattle.std.proofs.Common.{ap, arith, inl, inr, length, refl, sym, ◌∙◌}
+use Rattle.std.proofs.Common.{ap, arith, inr, length, refl, sym, ◌∙◌}
 use Rattle.std.proofs.lemmas.Result.{err_from_is_err_and}
 use Rattle.d64_image.specs.Memory.{disk_image}
 use Rattle.file_rescue.proofs.Made.{both-made, data-part, lines-part}
@@ -19,7 +19,7 @@ pub returns-in_err-make_entry-clause-err : goal.returns-in_err-make_entry-clause
 returns-in_err-make_entry-clause-err g c =
     let p = err_from_is_err_and c.from_residual-in_err-make_entry.result c.from_residual-in_err-make_entry.ensures.1 in
     rw (p.1, p.2) (
-      inl c.in_err-make_entry.ensures.err.0,
+      c.in_err-make_entry.ensures.err.0,
       data-part _ _ (disk_image c.args.disk.now) c.args.number c.args.file.now c.of_type-ending.result _
           c.of_type-ending.ensures (c.as_slice.ensures.value ∙ c.in_ok-bytes.ensures.ok) c.in_err-make_entry.ensures.err.1,
     )

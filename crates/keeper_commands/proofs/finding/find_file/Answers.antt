@@ -1,9 +1,7 @@
 -- The entry was found, its blocks were walked, and the other entries' were counted.
-use Rattle.std.proofs.Common.{List, Option, ap, arith, lit≤, sym, ◌∙◌}
+use Rattle.std.proofs.Common.{Option, ap, sym, ◌∙◌}
 use Rattle.std.specs.Option.{option_or}
-use Rattle.std.proofs.lemmas.Option.{slice_get_within}
 use Rattle.d64_image.specs.Memory.{disk_image}
-use Rattle.d64_image.specs.declared.place.Place.{Place}
 use Rattle.disk_layout.specs.declared.faults.Fault.{Fault}
 use Rattle.disk_rescue.specs.Sharing.{first_shared, shared_fault}
 use Rattle.keeper_commands.proofs.Files.{find-had}

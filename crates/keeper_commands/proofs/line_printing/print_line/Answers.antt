@@ -1,20 +1,13 @@
 -- The record is there, and its line was printed.
-use Rattle.std.proofs.Common.{◌≡◌, ◌∙◌, List, false, refl, subst, sym, ℕ}
+use Rattle.std.proofs.Common.{◌≡◌, List, false, subst, sym, ℕ}
 use Rattle.std.specs.Io.KnownBytes.{Appends}
-use Rattle.std.specs.Prelude.{is_err}
+use Rattle.std.specs.Prelude.{OnErr, OnOk, is_err}
+use Rattle.command_faults.specs.Outputs.{HandsPart}
 use Rattle.disk_layout.specs.Records as records_of
 use Rattle.d64_image.specs.Memory.{disk_image}
 use Rattle.keeper_commands.specs.Forms.{form_line}
 use Rattle.keeper_commands.proofs.Printing.{got, not-err, read-had}
 use Rattle.keeper_commands.proofs.line_printing.print_line.Goals as goal
-
-pub returns-then-is_err : goal.returns-then-is_err
-returns-then-is_err g c = record {
-  ok = λ l n f of. tt;
-  same = c.read_next.ensures.text.reads.image;
-  kept = c.read_next.ensures.kept;
-  err = refl;
-}
 
 pub returns : goal.returns
 returns g c =
@@ -27,11 +20,15 @@ returns g c =
     record {
       ok = λ l n f of.
           let read = not-err c.read_next.result ok (text.ok l n f of) in
-          let bytes = got (rs f) _ _ read.there in
-          subst (λ (xs : List ℕ). Appends (g.W.Write.contents c.args.out.now)
-          (g.W.Write.contents c.write_form_line.new.out) (form_line c.args.form c.args.number xs)) (sym bytes)
-          (not-err c.write_form_line.result (sym c.is_err.ensures.value ∙ c.if-is_err.false) c.write_form_line.ensures);
+          subst (λ (xs : List ℕ). OnOk c.put_form_line.result (Appends (g.W.Write.contents c.args.out.now)
+          (g.W.Write.contents c.put_form_line.new.out) (form_line c.args.form c.args.number xs)))
+          (sym (got (rs f) _ _ read.there)) c.put_form_line.ensures.ok;
+      part = λ l n f of.
+          let read = not-err c.read_next.result ok (text.ok l n f of) in
+          subst (λ (xs : List ℕ). OnErr c.put_form_line.result (HandsPart (g.W.Write.contents c.args.out.now)
+          (g.W.Write.contents c.put_form_line.new.out) (form_line c.args.form c.args.number xs)))
+          (sym (got (rs f) _ _ read.there)) c.put_form_line.ensures.part;
       same = text.reads.image;
       kept = c.read_next.ensures.kept;
-      err = tt;
+      err = c.put_form_line.ensures.err;
     }

@@ -1,5 +1,5 @@
 -- A record's line is printed behind the others.
-use Rattle.std.proofs.Common.{◌≡◌, ◌≤◌, ◌+◌, ◌-◌, ◌++◌, [], Err, List, ap, length, lit≤, get_or, refl, subst, suc, sym}
+use Rattle.std.proofs.Common.{◌≡◌, ◌≤◌, ◌+◌, ◌-◌, [], Err, List, ap, length, lit≤, get_or, refl, subst, suc, sym}
 use Rattle.std.proofs.Common.{◌∙◌, arith, ℕ}
 use Rattle.std.specs.Io.KnownBytes.{Appends}
 use Rattle.std.specs.Prelude.{Option}
@@ -8,6 +8,8 @@ use Rattle.std.proofs.lemmas.Result.{err_from_is_err_and}
 use Rattle.d64_image.specs.Images.{Image}
 use Rattle.d64_image.specs.Memory.{disk_image}
 use Rattle.disk_layout.specs.Records as records_of
+use Rattle.command_faults.specs.Outputs.{HandsPart}
+use Rattle.keeper_commands.proofs.Beginnings.{next-part}
 use Rattle.keeper_commands.specs.Forms.{form_line, form_lines_to}
 use Rattle.keeper_commands.specs.declared.forms.RecordForm.{RecordForm}
 use Rattle.rel_records.specs.File.{IsFileOf, IsOf}
@@ -74,6 +76,17 @@ returns-in_err-print_line g c =
     let p = err_from_is_err_and c.from_residual.result c.from_residual.ensures.1 in
     record {
       ok = λ l n f of. rw (p.1 ∙ ap Err p.2) tt;
+      part = λ l n f of.
+          let same = c.loop-before.invariant.0 in
+          let rs = records_of.records (disk_image c.args.disk.now) f in
+          let all = c.records-before-end.ensures.exact (disk_image c.args.disk.now) l n f of in
+          let there = subst (λ (img : Image). IsFileOf img l n f c.args.file.now) (sym same) of in
+          let a = g.W.Write.contents c.loop-before.out in
+          let b = g.W.Write.contents c.print_line.new.out in
+          rw (p.1 ∙ ap Err p.2) (next-part _ a b c.args.form rs c.loop-before.before (c.loop-before.invariant.2 l n f of)
+          (subst (λ (img : Image). HandsPart a b (form_line c.args.form (c.loop-before.before + 1)
+          (get_or (records_of.records img f) (c.loop-before.before + 1 - 1) []))) same
+          (c.in_err-print_line.ensures.part l n f there)) (omega (arith, all, c.loop-before-test.true)));
       err = rw (p.1 ∙ ap Err p.2) c.in_err-print_line.ensures.err;
     }
 

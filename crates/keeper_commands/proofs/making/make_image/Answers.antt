@@ -1,9 +1,10 @@
 -- The file was made; or why not.
-use Rattle.std.proofs.Common.{◌≡◌, Err, ap, sym, subst, ◌∙◌}
+use Rattle.std.proofs.Common.{◌≡◌, Err, ap, inl, inr, refl, sym, subst, ◌∙◌}
 use Rattle.std.proofs.KnownBytes.{Appends-kept}
 use Rattle.std.proofs.lemmas.Result.{IfErr-weaker, err_from_is_err_and}
 use Rattle.disk_layout.specs.Clean.{IsClean}
 use Rattle.keeper_commands.proofs.Made.{make-done, make-refused, make-unclean}
+use Rattle.command_faults.proofs.Parts.{at-error, part-all}
 use Rattle.d64_image.proofs.Told.{at-ok}
 use Rattle.keeper_commands.specs.Makes.{IsMakeFault}
 use Rattle.command_faults.specs.declared.faults.CommandFault.TheVariants as faults
@@ -56,3 +57,30 @@ returns-clause-err g c =
     c.create.new.disk clean.0
     (subst IsClean (sym c.requires.holds) clean.1) c.in_default.field-0 c.in_default.ensures))
     c.flush.ensures.err
+
+pub returns-in_err-check_image-clause-part : goal.returns-in_err-check_image-clause-part
+returns-in_err-check_image-clause-part g c =
+    let p = err_from_is_err_and c.from_residual.result c.from_residual.ensures.1 in
+    rw (p.1 ∙ ap Err p.2) (inl refl)
+
+pub returns-in-Err-clause-part : goal.returns-in-Err-clause-part
+returns-in-Err-clause-part g c = inl refl
+
+pub returns-in_err-put-clause-part : goal.returns-in_err-put-clause-part
+returns-in_err-put-clause-part g c =
+    let clean = c.in_ok-check_image.ensures.ok in
+    let p = err_from_is_err_and c.from_residual-in_err-put.result c.from_residual-in_err-put.ensures.1 in
+    rw (p.1 ∙ ap Err p.2) (inr (
+      make-done g.D.Sectors.history c.args.image.now c.args.name.now c.args.length c.args.disk.now c.create.new.disk
+          clean.0 (subst IsClean (sym c.requires.holds) clean.1) c.in_default.field-0 c.in_default.ensures,
+      c.in_err-put.ensures.part,
+    ))
+
+pub returns-clause-part : goal.returns-clause-part
+returns-clause-part g c =
+    let clean = c.in_ok-check_image.ensures.ok in
+    at-error c.flush.result (inr (
+      make-done g.D.Sectors.history c.args.image.now c.args.name.now c.args.length c.args.disk.now c.create.new.disk
+          clean.0 (subst IsClean (sym c.requires.holds) clean.1) c.in_default.field-0 c.in_default.ensures,
+      part-all _ _ _ (Appends-kept _ _ _ _ c.in_ok-put.ensures.ok c.flush.ensures.kept),
+    ))

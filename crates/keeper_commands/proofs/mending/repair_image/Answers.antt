@@ -1,10 +1,11 @@
 -- The disk was repaired and what was mended was printed; or why not.
-use Rattle.std.proofs.Common.{Err, ap, sym, subst, ◌∙◌}
+use Rattle.std.proofs.Common.{Err, ap, inl, refl, sym, subst, ◌∙◌}
 use Rattle.std.proofs.lemmas.Result.{err_from_is_err_and}
 use Rattle.std.specs.Io.KnownBytes.{Appends}
 use Rattle.d64_image.specs.Images.{Image, sector}
 use Rattle.disk_layout.specs.Directory.{map_place}
-use Rattle.keeper_commands.proofs.Repairs.{kind-refused, load-refused, mended-quiet, print-refused, refused, run-only}
+use Rattle.keeper_commands.proofs.Repairs.{kind-refused, load-refused, mended-quiet, print-refused, refused, repair-part}
+use Rattle.keeper_commands.proofs.Repairs.{run-only}
 use Rattle.keeper_commands.specs.Kinds.{IsKindFault, IsPlainDisk}
 use Rattle.keeper_commands.specs.Repairs.{mended_text}
 use Rattle.keeper_commands.proofs.mending.repair_image.Goals as goal
@@ -16,6 +17,7 @@ returns-in_err-before g c =
       ok = rw (p.1 ∙ ap Err p.2) tt;
       err = rw (p.1 ∙ ap Err p.2) (load-refused g.D.Sectors.history c.args.free c.args.image.now c.args.disk.now
           c.args.out.now _ c.in_err-before.ensures.err);
+      part = rw (p.1 ∙ ap Err p.2) (inl refl);
     }
 
 pub returns-in_err-judge_kind : goal.returns-in_err-judge_kind
@@ -29,6 +31,7 @@ returns-in_err-judge_kind g c =
       err = rw (p.1 ∙ ap Err p.2) (kind-refused S c.args.free c.args.image.now c.args.disk.now c.args.out.now _ loaded.0
           (subst (λ (img : Image). IsKindFault (sector img map_place) c.in_err-judge_kind.field-0.0)
           (loaded.1 ∙ sym c.requires.holds) c.in_err-judge_kind.ensures.other));
+      part = rw (p.1 ∙ ap Err p.2) (inl refl);
     }
 
 pub returns-in-Err-clause-err : goal.returns-in-Err-clause-err
@@ -71,3 +74,19 @@ returns-clause-ok g c =
           (subst (λ (img : Image). Appends (g.W.Write.contents c.args.out.now) (g.W.Write.contents c.put_mended.new.out)
           (mended_text img (S.image c.mended.new.disk) c.in-Ok.kept)) same c.in-Ok-put_mended.ensures.ok);
     }
+
+pub returns-in-Err-clause-part : goal.returns-in-Err-clause-part
+returns-in-Err-clause-part g c = inl refl
+
+pub returns-in-Err-put_mended-clause-part : goal.returns-in-Err-put_mended-clause-part
+returns-in-Err-put_mended-clause-part g c =
+    let S = g.D.Sectors.history in
+    let loaded = c.in_ok-before.ensures.ok in
+    let plain = subst (λ (img : Image). IsPlainDisk (sector img map_place)) (loaded.1 ∙ sym c.requires.holds)
+    c.in_ok-judge_kind.ensures.plain in
+    repair-part S c.args.free g.W.Write.contents c.args.image.now c.args.disk.now c.mended.new.disk
+    c.put_mended.new.after c.args.out.now c.put_mended.new.out _ c.in-Ok.kept
+    (mended-quiet S c.args.free c.args.image.now c.args.disk.now c.mended.new.disk loaded.0 plain c.mended.result
+    c.mended.ensures c.put_mended.new.after c.put_mended.ensures.quiet c.in-Ok.kept c.in-Ok.ensures.ok)
+    (c.in_ok-judge_kind.ensures.same ∙ loaded.1 ∙ sym c.requires.holds) c.put_mended.ensures.quiet
+    c.in-Err-put_mended.ensures.part

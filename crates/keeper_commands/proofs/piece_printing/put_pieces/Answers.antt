@@ -1,17 +1,37 @@
--- The line of one record more.
-use Rattle.std.proofs.Common.{◌∙◌, Err, ap, arith, refl}
-use Rattle.std.proofs.KnownBytes.{Appends-nil}
-use Rattle.std.proofs.lemmas.Result.{err_from_is_err_and}
-use Rattle.keeper_commands.proofs.Pieced.{piece-more, pieces-all}
+-- The lines are those of the form.
+use Rattle.std.proofs.Common.{subst}
+use Rattle.std.proofs.lemmas.Result.{on_err_weaker, on_ok_weaker}
+use Rattle.std.specs.Io.KnownBytes.{Appends}
+use Rattle.command_faults.specs.Outputs.{HandsPart}
+use Rattle.keeper_commands.proofs.Beginnings.{columns-as, text-as}
 use Rattle.keeper_commands.proofs.piece_printing.put_pieces.Goals as goal
 
-pub loop-before-init : goal.loop-before-init
-loop-before-init g c = Appends-nil (g.W.Write.contents c.args.out.now)
+pub returns-in-Lines-clause-ok : goal.returns-in-Lines-clause-ok
+returns-in-Lines-clause-ok g c = rw c.in-Lines.is c.put_gathered.ensures.ok
 
-pub loop-before-preserved : goal.loop-before-preserved
-loop-before-preserved g c = piece-more _ _ _ c.args.form c.args.size c.loop-before.before _ c.args.bytes.now
-    c.loop-before-test.true refl c.loop-before.invariant c.in_ok-put_piece.ensures.ok
+pub returns-in-Lines-clause-part : goal.returns-in-Lines-clause-part
+returns-in-Lines-clause-part g c = rw c.in-Lines.is c.put_gathered.ensures.part
 
-pub returns-clause-ok : goal.returns-clause-ok
-returns-clause-ok g c = pieces-all _ _ c.args.form c.args.size c.loop-before.before c.args.bytes.now
-    (omega (arith, c.loop-before-test.false, c.loop-before.auto.before-end)) c.loop-before.invariant
+pub returns-in-Text-clause-ok : goal.returns-in-Text-clause-ok
+returns-in-Text-clause-ok g c = on_ok_weaker c.put_each.result
+    (λ printed. subst (Appends (g.W.Write.contents c.args.out.now) (g.W.Write.contents c.put_each.new.out))
+    (text-as c.args.form c.in-Text.field-0 _ c.in-Text.is) printed)
+    c.put_each.ensures.ok
+
+pub returns-in-Text-clause-part : goal.returns-in-Text-clause-part
+returns-in-Text-clause-part g c = on_err_weaker c.put_each.result
+    (λ printed. subst (HandsPart (g.W.Write.contents c.args.out.now) (g.W.Write.contents c.put_each.new.out))
+    (text-as c.args.form c.in-Text.field-0 _ c.in-Text.is) printed)
+    c.put_each.ensures.part
+
+pub returns-in-Columns-clause-ok : goal.returns-in-Columns-clause-ok
+returns-in-Columns-clause-ok g c = on_ok_weaker c.put_each-in-Columns.result
+    (λ printed. subst (Appends (g.W.Write.contents c.args.out.now) (g.W.Write.contents c.put_each-in-Columns.new.out))
+    (columns-as c.args.form c.in-Columns.field-0 _ c.in-Columns.is) printed)
+    c.put_each-in-Columns.ensures.ok
+
+pub returns-in-Columns-clause-part : goal.returns-in-Columns-clause-part
+returns-in-Columns-clause-part g c = on_err_weaker c.put_each-in-Columns.result
+    (λ printed. subst (HandsPart (g.W.Write.contents c.args.out.now) (g.W.Write.contents c.put_each-in-Columns.new.out))
+    (columns-as c.args.form c.in-Columns.field-0 _ c.in-Columns.is) printed)
+    c.put_each-in-Columns.ensures.part

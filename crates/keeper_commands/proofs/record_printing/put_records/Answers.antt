@@ -2,11 +2,14 @@
 use Rattle.std.proofs.Common.{◌≡◌, ◌≤◌, ◌+◌, ◌-◌, ◌++◌, [], Err, ap, length, lit≤, get_or, refl, subst, sym}
 use Rattle.std.proofs.Common.{take, ◌∙◌, arith}
 use Rattle.std.proofs.KnownBytes.{Appends-nil}
-use Rattle.std.proofs.lemmas.Result.{err_from_is_err_and, on_ok_weaker}
+use Rattle.std.proofs.lemmas.Result.{err_from_is_err_and, on_err_weaker, on_ok_weaker}
 use Rattle.d64_image.specs.Images.{Image}
 use Rattle.d64_image.specs.Memory.{disk_image}
 use Rattle.byte_text.specs.Texts.{record_line}
 use Rattle.disk_layout.specs.Records as records_of
+use Rattle.command_faults.proofs.Parts.{part-on}
+use Rattle.keeper_commands.proofs.Beginnings.{plain-part}
+use Rattle.keeper_commands.specs.Records.{lines_to}
 use Rattle.keeper_commands.proofs.Printing.{all-lines, line-gathered}
 use Rattle.rel_records.specs.File.{IsFileOf, IsOf}
 use Rattle.rel_records.specs.reading.Kept.{IsKept}
@@ -82,8 +85,23 @@ returns-in_err-start g c =
     let p = err_from_is_err_and c.from_residual.result c.from_residual.ensures.1 in
     record {
       ok = λ l n f of. rw (p.1 ∙ ap Err p.2) tt;
+      part = λ l n f of.
+          let rs = records_of.records (disk_image c.args.disk.now) f in
+          let all = c.records-before-end.ensures.exact (disk_image c.args.disk.now) l n f of in
+          let few : c.loop-before.before ≤ length rs = omega (arith, all, c.loop-before-test.true) in
+          rw (p.1 ∙ ap Err p.2) (plain-part _ _ rs c.loop-before.before few (part-on _ _ _
+          (lines_to rs c.loop-before.before) _ (c.loop-before.invariant.2 l n f of) c.in_err-start.ensures.part));
       err = rw (p.1 ∙ ap Err p.2) c.in_err-start.ensures.err;
     }
 
 pub returns-clause-err : goal.returns-clause-err
 returns-clause-err g c = c.put.ensures.err
+
+pub returns-clause-part : goal.returns-clause-part
+returns-clause-part g c = λ l n f of.
+    let rs = records_of.records (disk_image c.args.disk.now) f in
+    let all = c.records-before-end.ensures.exact (disk_image c.args.disk.now) l n f of in
+    on_err_weaker c.put.result
+    (λ part. plain-part _ _ rs c.loop-before.before (omega (arith, all, c.loop-before.auto.before-end))
+    (part-on _ _ _ (lines_to rs c.loop-before.before) _ (c.loop-before.invariant.2 l n f of) part))
+    c.put.ensures.part

@@ -3,7 +3,8 @@
 use Rattle.std.proofs.Common.{◌≡◌, ◌≤◌, take}
 use Rattle.d64_image.specs.Memory.{disk_image}
 use Rattle.disk_layout.specs.Records as records_of
-use Rattle.keeper_commands.specs.Records.{HandsOn, lines_to}
+use Rattle.command_faults.specs.Outputs.{HandsOn}
+use Rattle.keeper_commands.specs.Records.{lines_to}
 use Rattle.rel_records.specs.File.{OfItsFile}
 use Rattle.rel_records.specs.reading.Kept.{IsKept}
 use Rattle.keeper_commands.proofs.record_printing.put_records.Given as goal

@@ -1,5 +1,5 @@
 -- The image is sound, the file was found, and its records were printed; or why not.
-use Rattle.std.proofs.Common.{◌≡◌, Err, List, inl, length, subst, sym, ◌∙◌, ap, ℕ}
+use Rattle.std.proofs.Common.{◌≡◌, Err, List, inl, inr, length, refl, subst, sym, ◌∙◌, ap, ℕ}
 use Rattle.std.proofs.lemmas.Result.{IfErr-weaker, err_from_is_err_and}
 use Rattle.std.proofs.KnownBytes.{Appends-kept}
 use Rattle.std.specs.Io.KnownBytes.{Appends}
@@ -12,6 +12,9 @@ use Rattle.disk_layout.specs.Records as records_of
 use Rattle.d64_image.proofs.Told.{at-ok}
 use Rattle.keeper_commands.proofs.ReachedRecords.{reached-end, records-unloaded}
 use Rattle.keeper_commands.specs.Forms.{records_as}
+use Rattle.command_faults.proofs.Parts.{at-error, part-all}
+use Rattle.command_faults.specs.Outputs.{HandsPart}
+use Rattle.keeper_commands.specs.Printed.{IsReachedPart}
 use Rattle.keeper_commands.specs.Records.{IsRecordFile}
 use Rattle.rel_records.specs.File.{IsFileOf, entry_of}
 use Rattle.keeper_commands.proofs.record_printing.records_image.Goals as goal
@@ -24,6 +27,7 @@ returns-in_err-disk g c =
       ok = rw told tt;
       err = rw told (records-unloaded g.W.Write.contents c.args.form c.args.image.now c.args.name.now c.args.out.now _
           c.in_err-disk.ensures.err);
+      part = rw told (inr (inl refl));
     }
 
 pub reached_records-requires : goal.reached_records-requires
@@ -35,8 +39,14 @@ returns-in-Some g c =
     let loaded = c.in_ok-disk.ensures.ok in
     let both = reached-end g.W.Write.contents c.args.form c.args.image.now c.args.name.now c.args.out.now
     (disk_image c.unsoundness.new.disk) c.reached_records.new.out loaded.0 (c.unsoundness.ensures.same ∙ loaded.1)
-    c.reached_records.result c.reached_records.ensures in
-    record { ok = both.0; err = both.1 }
+    c.reached_records.result c.reached_records.ensures.end in
+    record {
+      ok = both.0;
+      err = both.1;
+      part = at-error c.reached_records.result (inr (subst (λ (img : Image). IsReachedPart g.W.Write.contents c.args.form
+          img c.args.name.now c.args.out.now c.reached_records.new.out) (c.unsoundness.ensures.same ∙ loaded.1)
+          c.reached_records.ensures.part));
+    }
 
 -- the disk stays sound
 still : (img new : Image) → new ≡ img → IsSound img → IsSound new
@@ -113,3 +123,42 @@ returns-clause-ok g c =
           (Appends-kept _ _ _ _ (c.in_ok-put_records_as.ensures.ok sound.0 (entry_of c.in-Ok.file) found.0 of)
           c.flush.ensures.kept);
     })
+
+pub returns-in_err-put_records_as-clause-part : goal.returns-in_err-put_records_as-clause-part
+returns-in_err-put_records_as-clause-part g c =
+    let loaded = c.in_ok-disk.ensures.ok in
+    let sound = still (disk_image c.in_ok-disk.disk) (disk_image c.unsoundness.new.disk) c.unsoundness.ensures.same
+    c.in_default.ensures.fault in
+    let found = c.in-Ok.ensures.ok sound.0 sound.1 in
+    let of = subst (λ (img : Image). IsFileOf img sound.0 (entry_of c.in-Ok.file) found.0 c.in-Ok.file)
+    (sym c.find.ensures.reads.image) found.2 in
+    let p = err_from_is_err_and c.from_residual-in_err-put_records_as.result c.from_residual-in_err-put_records_as.ensures.1
+    in
+    rw (p.1 ∙ ap Err p.2) (inl (
+      found.0,
+      found-file c.args.image.now c.args.name.now (disk_image c.unsoundness.new.disk) sound.0 (entry_of c.in-Ok.file)
+          found.0 loaded.0 (c.unsoundness.ensures.same ∙ loaded.1) sound.1 found.1,
+      subst (λ (img : Image). HandsPart (g.W.Write.contents c.args.out.now)
+          (g.W.Write.contents c.put_records_as.new.out) (records_as c.args.form (records_of.records img found.0)))
+          (c.find.ensures.reads.image ∙ c.unsoundness.ensures.same ∙ loaded.1)
+          (c.in_err-put_records_as.ensures.part sound.0 (entry_of c.in-Ok.file) found.0 of),
+    ))
+
+pub returns-clause-part : goal.returns-clause-part
+returns-clause-part g c =
+    let loaded = c.in_ok-disk.ensures.ok in
+    let sound = still (disk_image c.in_ok-disk.disk) (disk_image c.unsoundness.new.disk) c.unsoundness.ensures.same
+    c.in_default.ensures.fault in
+    let found = c.in-Ok.ensures.ok sound.0 sound.1 in
+    let of = subst (λ (img : Image). IsFileOf img sound.0 (entry_of c.in-Ok.file) found.0 c.in-Ok.file)
+    (sym c.find.ensures.reads.image) found.2 in
+    at-error c.flush.result (inl (
+      found.0,
+      found-file c.args.image.now c.args.name.now (disk_image c.unsoundness.new.disk) sound.0 (entry_of c.in-Ok.file)
+          found.0 loaded.0 (c.unsoundness.ensures.same ∙ loaded.1) sound.1 found.1,
+      part-all _ _ _ (subst (λ (img : Image). Appends (g.W.Write.contents c.args.out.now) (g.W.Write.contents c.flush.new.out)
+          (records_as c.args.form (records_of.records img found.0)))
+          (c.find.ensures.reads.image ∙ c.unsoundness.ensures.same ∙ loaded.1)
+          (Appends-kept _ _ _ _ (c.in_ok-put_records_as.ensures.ok sound.0 (entry_of c.in-Ok.file) found.0 of)
+          c.flush.ensures.kept)),
+    ))

@@ -6,8 +6,8 @@ use Rattle.std.proofs.Common.{◌≡◌, Ok, ℕ, subst, sym}
 use Rattle.std.proofs.lemmas.Result.{IfErr-weaker}
 use Rattle.disk_layout.specs.Clean.{IsClean}
 use Rattle.d64_image.proofs.Told.{at-ok}
-use Rattle.keeper_commands.proofs.TextStored.{store-done, store-unprinted}
-use Rattle.keeper_commands.specs.Storing.{IsStoreFault}
+use Rattle.keeper_commands.proofs.TextStored.{all-part, store-done, store-unprinted}
+use Rattle.keeper_commands.specs.Storing.{IsStoreFault, IsStorePart}
 use Rattle.command_faults.specs.declared.faults.CommandFault.TheVariants as faults
 use Rattle.rel_records.specs.Calls.{Grows}
 use Rattle.keeper_commands.proofs.record_storing.store_image.Goals as goal
@@ -86,4 +86,23 @@ returns-clause-err g c =
     (Ok c.in_default.field-0)) is c.in_default.ensures)
     g.W.Write.contents c.store_lines.new.disk c.store_lines.new.out c.flush.new.out c.store_lines.new.file
     c.in_ok-store_lines.ensures))
+    c.flush.ensures.err
+
+pub returns-clause-part : goal.returns-clause-part
+returns-clause-part g c =
+    let S = g.D.Sectors.history in
+    let clean = c.in_ok-check_image.ensures.ok in
+    let (xs, are, is, tells) = c.in_ok-most.ensures.ok in
+    IfErr-weaker c.flush.result (λ fault. fault ≡ faults.File)
+    (IsStorePart S g.W.Write.contents c.args.image.now c.args.name.now c.args.text.now c.args.disk.now
+    c.store_lines.new.disk c.args.out.now c.flush.new.out)
+    (λ fault told. rw told
+    (all-part S c.args.image.now c.args.name.now c.args.text.now c.args.disk.now c.find.new.disk clean.0
+    (subst IsClean (sym c.requires.holds) clean.1)
+    c.args.out.now c.in-Ok.file c.in-Ok.ensures xs are c.judge.new.last.places.items tells c.grow_to.new.disk
+    c.grow_to.new.file
+    (subst (λ (m : ℕ). Grows S c.find.new.disk c.grow_to.new.disk c.in-Ok.file c.grow_to.new.file m
+    (Ok c.in_default.field-0)) is c.in_default.ensures)
+    g.W.Write.contents c.store_lines.new.disk c.store_lines.new.out c.flush.new.out c.store_lines.new.file
+    c.in_ok-store_lines.ensures c.flush.ensures.kept))
     c.flush.ensures.err

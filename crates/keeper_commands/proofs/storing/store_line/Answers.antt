@@ -2,13 +2,12 @@
 mod Refused
 use Rattle.std.proofs.Common.{◌≡◌, ◌≤◌, Err, List, ℕ, Bool, Ok, length, refl, sym, subst, ap, ◌∙◌}
 use Rattle.std.specs.Io.KnownBytes.{Appends}
-use Rattle.std.specs.Prelude.{slice_index}
+use Rattle.std.specs.Prelude.{OnErr, OnOk, slice_index}
 use Rattle.rel_records.specs.File.{length_of, records_in}
 use Rattle.byte_text.specs.Texts.{record_line}
 use Rattle.keeper_commands.proofs.Composed.{none-stored}
-use Rattle.keeper_commands.proofs.LineStored.{if-last, if-not_last, line-printed, line-record}
-use Rattle.keeper_commands.proofs.LineStored.{line-unprinted}
-use Rattle.keeper_commands.proofs.Printing.{not-err}
+use Rattle.keeper_commands.proofs.LineStored.{if-last, if-not_last, line-ended, line-record}
+use Rattle.command_faults.specs.Outputs.{HandsPart}
 use Rattle.keeper_commands.specs.Stores.{NewRecord, new_record}
 use Rattle.keeper_commands.specs.Storing.{StoresLines, StoresOne}
 use Rattle.command_faults.specs.declared.faults.CommandFault.TheVariants as faults
@@ -46,25 +45,6 @@ returns-in_err-store_record = refused.returns-in_err-store_record
 pub returns-then-not-branch : goal.returns-then-not-branch
 returns-then-not-branch = refused.returns-then-not-branch
 
-pub returns-then-is_err : goal.returns-then-is_err
-returns-then-is_err g c = λ l n f of h x is can there.
-    let S = g.D.Sectors.history in
-    let view : c.as_slice.result.now ≡ c.read_last.new.bytes.items = c.as_slice.ensures.value in
-    let same = ap (new_record c.in-Some.number) view ∙ line-record c.args.line.now c.read_last.new.bytes.items
-    c.in-Some.number (length_of c.args.file.now) h x c.in-Some.ensures.found is can in
-    let one = ap (λ (y : NewRecord). y.number) same in
-    let is_last = ap (λ (m : ℕ). slice_index c.args.last.now.places.items m) (sym one) ∙ c.in-Some.ensures.found.3 in
-    subst (λ (ys : List NewRecord). StoresLines S g.W.Write.contents c.args.disk.now c.store_record.new.disk
-    c.args.out.now
-    c.write_line.new.out l n f c.args.file.now c.store_record.new.file ys (Err faults.File))
-    (if-last c.args.last.now.places.items c.args.place x is_last)
-    (line-unprinted S g.W.Write.contents c.args.disk.now c.store_record.new.disk c.args.out.now c.write_line.new.out l n
-    f c.args.file.now c.store_record.new.file x
-    (subst (λ (t : Bool). StoresOne S c.args.disk.now c.store_record.new.disk l n f c.args.file.now
-    c.store_record.new.file x (Ok t)) c.if-not-branch.false
-    (subst (λ (y : NewRecord). StoresOne S c.args.disk.now c.store_record.new.disk l n f c.args.file.now
-    c.store_record.new.file y (Ok c.in_ok-store_record.field-0)) same (c.in_ok-store_record.ensures l n f of))))
-
 pub returns : goal.returns
 returns g c = λ l n f of h x is can there.
     let S = g.D.Sectors.history in
@@ -73,18 +53,22 @@ returns g c = λ l n f of h x is can there.
     c.in-Some.number (length_of c.args.file.now) h x c.in-Some.ensures.found is can in
     let one = ap (λ (y : NewRecord). y.number) same in
     let is_last = ap (λ (m : ℕ). slice_index c.args.last.now.places.items m) (sym one) ∙ c.in-Some.ensures.found.3 in
+    let before = g.W.Write.contents c.args.out.now in
+    let after = g.W.Write.contents c.put_record.new.out in
+    let record_is = line-record c.args.line.now c.read_last.new.bytes.items c.in-Some.number
+    (length_of c.args.file.now) h x c.in-Some.ensures.found is can in
     subst (λ (ys : List NewRecord). StoresLines S g.W.Write.contents c.args.disk.now c.store_record.new.disk
-    c.args.out.now
-    c.write_line.new.out l n f c.args.file.now c.store_record.new.file ys (Ok tt))
+    c.args.out.now c.put_record.new.out l n f c.args.file.now c.store_record.new.file ys c.put_record.result)
     (if-last c.args.last.now.places.items c.args.place x is_last)
-    (line-printed S g.W.Write.contents c.args.disk.now c.store_record.new.disk c.args.out.now c.write_line.new.out l n f
+    (line-ended S g.W.Write.contents c.args.disk.now c.store_record.new.disk c.args.out.now c.put_record.new.out l n f
     c.args.file.now c.store_record.new.file x
     (subst (λ (t : Bool). StoresOne S c.args.disk.now c.store_record.new.disk l n f c.args.file.now
     c.store_record.new.file x (Ok t)) c.if-not-branch.false
     (subst (λ (y : NewRecord). StoresOne S c.args.disk.now c.store_record.new.disk l n f c.args.file.now
     c.store_record.new.file y (Ok c.in_ok-store_record.field-0)) same (c.in_ok-store_record.ensures l n f of)))
-    (subst (λ (y : NewRecord). Appends (g.W.Write.contents c.args.out.now) (g.W.Write.contents c.write_line.new.out)
-    (record_line y.number y.bytes))
-    (line-record c.args.line.now c.read_last.new.bytes.items c.in-Some.number (length_of c.args.file.now) h x
-    c.in-Some.ensures.found is can)
-    (not-err c.write_line.result (sym c.is_err.ensures.value ∙ c.if-is_err.false) c.write_line.ensures)))
+    c.put_record.result
+    (subst (λ (y : NewRecord). OnOk c.put_record.result (Appends before after (record_line y.number y.bytes)))
+    record_is c.put_record.ensures.ok)
+    (subst (λ (y : NewRecord). OnErr c.put_record.result (HandsPart before after (record_line y.number y.bytes)))
+    record_is c.put_record.ensures.part)
+    c.put_record.ensures.err)

@@ -1,9 +1,10 @@
 -- What refuses the records before any is stored.
-use Rattle.std.proofs.Common.{Err, ap, refl, subst, sym, ◌∙◌}
+use Rattle.std.proofs.Common.{Err, ap, inl, refl, subst, sym, ◌∙◌}
 use Rattle.std.proofs.lemmas.Result.{err_from_is_err_and}
 use Rattle.disk_layout.specs.Clean.{IsClean}
 use Rattle.keeper_commands.proofs.Reached.{store-unclean}
-use Rattle.keeper_commands.proofs.TextGrown.{bad-line, find-refused}
+use Rattle.keeper_commands.proofs.TextGrown.{bad-line, find-refused, no-output}
+use Rattle.command_faults.specs.Faults.{IsCleanFault}
 use Rattle.keeper_commands.proofs.record_storing.store_image.Goals as goal
 
 pub returns-in_err-check_image : goal.returns-in_err-check_image
@@ -14,6 +15,10 @@ returns-in_err-check_image g c =
       err = rw (p.1 ∙ ap Err p.2)
           (store-unclean g.D.Sectors.history c.args.image.now c.args.name.now c.args.text.now c.args.disk.now
           c.args.out.now _ c.in_err-check_image.ensures.err);
+      part = rw (p.1 ∙ ap Err p.2) (inl (
+        λ e. subst (IsCleanFault c.args.image.now) e c.in_err-check_image.ensures.err,
+        refl,
+      ));
     }
 
 pub returns-in_err-last : goal.returns-in_err-last
@@ -22,6 +27,7 @@ returns-in_err-last g c =
     record {
       ok = rw (p.1 ∙ ap Err p.2) tt;
       err = rw (p.1 ∙ ap Err (p.2 ∙ c.in_err-last.ensures.err)) (c.in_ok-check_image.ensures.ok.0, refl, refl);
+      part = rw (p.1 ∙ ap Err (p.2 ∙ c.in_err-last.ensures.err)) (inl (λ e. cc, refl));
     }
 
 pub returns-in-Err : goal.returns-in-Err
@@ -34,6 +40,7 @@ returns-in-Err g c =
           (find-refused S c.args.image.now c.args.name.now c.args.text.now c.args.disk.now c.find.new.disk clean.0
           (subst IsClean (sym c.requires.holds) clean.1)
           c.args.out.now c.in-Err.fault c.in-Err.ensures);
+      part = rw c.refusal.ensures (inl (no-output c.in-Err.fault, refl));
     }
 
 pub judge-requires : goal.judge-requires
@@ -51,4 +58,5 @@ returns-in_err-most g c =
           (bad-line S c.args.image.now c.args.name.now c.args.text.now c.args.disk.now c.find.new.disk clean.0
           (subst IsClean (sym c.requires.holds) clean.1)
           c.args.out.now c.in-Ok.file c.in-Ok.ensures k bad);
+      part = rw (p.1 ∙ ap Err (p.2 ∙ is)) (inl (λ e. cc, refl));
     }

@@ -1,9 +1,9 @@
 -- Why a store ends before all lines are stored.
-use Rattle.std.proofs.Common.{Ok, Err, ℕ, ap, subst, sym, ◌∙◌}
+use Rattle.std.proofs.Common.{Ok, Err, ℕ, ap, inl, refl, subst, sym, ◌∙◌}
 use Rattle.std.proofs.lemmas.Result.{err_from_is_err_and}
 use Rattle.disk_layout.specs.Clean.{IsClean}
-use Rattle.keeper_commands.proofs.TextGrown.{grow-refused}
-use Rattle.keeper_commands.proofs.TextStored.{store-refused}
+use Rattle.keeper_commands.proofs.TextGrown.{grow-refused, no-output}
+use Rattle.keeper_commands.proofs.TextStored.{stopped-part, store-refused}
 use Rattle.rel_records.specs.Calls.{Grows}
 use Rattle.keeper_commands.proofs.record_storing.store_image.Goals as goal
 
@@ -21,6 +21,7 @@ returns-in-Err-grow_to g c =
           c.grow_to.new.file c.in-Err-grow_to.fault
           (subst (λ (m : ℕ). Grows S c.find.new.disk c.grow_to.new.disk c.in-Ok.file c.grow_to.new.file m
           (Err c.in-Err-grow_to.fault)) is c.in-Err-grow_to.ensures));
+      part = rw c.refusal-in-Err-grow_to.ensures (inl (no-output c.in-Err-grow_to.fault, refl));
     }
 
 pub returns-in_err-store_lines : goal.returns-in_err-store_lines
@@ -34,6 +35,15 @@ returns-in_err-store_lines g c =
       ok = rw (p.1 ∙ ap Err p.2) tt;
       err = rw (p.1 ∙ ap Err p.2)
           (store-refused S c.args.image.now c.args.name.now c.args.text.now c.args.disk.now c.find.new.disk clean.0
+          (subst IsClean (sym c.requires.holds) clean.1)
+          c.args.out.now c.in-Ok.file c.in-Ok.ensures xs are c.judge.new.last.places.items tells c.grow_to.new.disk
+          c.grow_to.new.file
+          (subst (λ (m : ℕ). Grows S c.find.new.disk c.grow_to.new.disk c.in-Ok.file c.grow_to.new.file m
+          (Ok c.in_default.field-0)) is c.in_default.ensures)
+          g.W.Write.contents c.store_lines.new.disk c.store_lines.new.out c.store_lines.new.file
+          c.in_err-store_lines.field-0.0 c.in_err-store_lines.ensures);
+      part = rw (p.1 ∙ ap Err p.2)
+          (stopped-part S c.args.image.now c.args.name.now c.args.text.now c.args.disk.now c.find.new.disk clean.0
           (subst IsClean (sym c.requires.holds) clean.1)
           c.args.out.now c.in-Ok.file c.in-Ok.ensures xs are c.judge.new.last.places.items tells c.grow_to.new.disk
           c.grow_to.new.file

@@ -2,7 +2,7 @@
 use Rattle.std.specs.Io.KnownBytes.{Appends}
 use Rattle.keeper_commands.specs.Forms.{form_lines_to}
 use Rattle.keeper_commands.specs.Records.{records_of}
-use Rattle.keeper_commands.proofs.piece_printing.put_pieces.Given as goal
+use Rattle.keeper_commands.proofs.piece_printing.put_each.Given as goal
 
 abbrev pub invariant-loop-before : goal.invariant-loop-before
 invariant-loop-before g l = Appends (g.W.Write.contents l.fn.out) (g.W.Write.contents l.out)
