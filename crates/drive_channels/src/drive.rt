@@ -76,13 +76,6 @@ impl<D: Sectors> Drive<D> {
         &self.disk
     }
 
-    /// Whether the device has failed in a call of this drive.
-    pub fn is_dead(&self) -> bool
-        ensures { result ≡ self.now.dead }
-    {
-        self.dead
-    }
-
     /// The status of the last call, as a read of the error channel returns it. It is 00 from then on.
     pub fn status(&mut self) -> Result<Status, Dead>
         ensures serves { Serves D.history self.old self.new result }
