@@ -36,10 +36,10 @@ module _ {D : Type 0} (h : History D) where
       × HeldBeginnings h q.now ns q.mid new
   only_grows s ms ns xs ys old t new same rests c =
       let q = cut_chain s ms ns xs ys old t new same c in
-      let settled = chain_rests s ms xs old q.mid q.now rests q.before in (
+      let settled = chain_rests h s ms xs old q.mid q.now rests q.before in (
         q,
         settled,
-        (whole q.now ns ys q.mid new (record {
+        (whole h q.now ns ys q.mid new (record {
           first = q.mid;
           opening = record { held = start h q.mid (λ i. IsShop i q.now) settled.shop; writes = omega arith };
           quiet = λ _. record { held = start h q.mid (λ i. i ≡ h.image q.mid) refl; writes = omega arith };

@@ -23,7 +23,7 @@ module _ {D : Type 0} (h : History D) where
     unfailed = r.unfailed;
     rests = r.rests;
     now = with_state r.now (after_all (start_of r.now) r.now.state e.counted);
-    chain = chain_more s ms xs r.first mid new r.now m reply r.chain e;
+    chain = chain_more h s ms xs r.first mid new r.now m reply r.chain e;
   }
 
   -- it began on the same disk
