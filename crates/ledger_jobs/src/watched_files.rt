@@ -1,8 +1,8 @@
 //! Replies that are passed only while the shop's file is there.
 ghost use Rattle.std.specs.Prelude.{◌≡◌, if◌then◌else◌, Err};
-ghost use Rattle.command_faults.specs.declared.faults.CommandFault.TheVariants.{Device};
+ghost use Rattle.command_faults.specs.declared.faults.CommandFault.TheVariants as faults;
 ghost use Rattle.ledger_jobs.specs.WatchedFiles.{media_for as media, while_there};
-ghost use Rattle.ledger_jobs.specs.declared.refusals.Refusal.TheVariants.{Fault};
+ghost use Rattle.ledger_jobs.specs.declared.refusals.Refusal.TheVariants as refusals;
 
 use crate::refusals::Refusal;
 use command_faults::CommandFault;
@@ -82,7 +82,7 @@ pub(crate) fn served_end(
     ended: Result<Option<Fault>, Refusal>,
     gone: bool,
 ) -> Result<Option<Fault>, Refusal>
-    ensures { result ≡ (if gone then Err (Run Device) else ended) }
+    ensures { result ≡ (if gone then Err (refusals.Fault faults.Device) else ended) }
 {
     if gone {
         return Err(Refusal::Fault(CommandFault::Device));
