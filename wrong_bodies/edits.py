@@ -3,8 +3,8 @@
 import re
 
 FUNCTION = re.compile(r"( *)(?:pub(?:\([a-z]+\))? )?(?:const )?fn (\w+)")
-# `impl<T> Trait for Type<T> {`: the proofs of a method are in TypeTrait
-IMPL = re.compile(r"impl(?:<.*?>)? (?:(?:\w+::)*(\w+)(?:<.*>)? for )?(?:\w+::)*(\w+)")
+# `impl<T> Trait<Word> for Type<T> {`: the proofs of a method are in TypeTrait, or in TypeTraitWord where several are of one trait
+IMPL = re.compile(r"impl(?:<.*?>)? (?:(?:\w+::)*(?P<trait>\w+)(?:<(?P<word>.*)>)? for )?(?:\w+::)*(?P<type>\w+)")
 
 
 class Edit:
@@ -55,10 +55,17 @@ def function_around(crate, file, old):
     if last > end:
         return None
     kinds = [IMPL.match(line) for line in lines[:first]] if indent else []
-    kind = next((it[2] + (it[1] or "") for it in reversed(kinds) if it), "")
+    kind = next((kind_of(it, lines) for it in reversed(kinds) if it), "")
     while first and lines[first - 1].strip().startswith(("#[", "//")):
         first -= 1
     return file, name, first + 1, end + 1, kind
+
+
+def kind_of(head, lines):
+    """A type and its trait as the folder of their proofs is called, where this line begins an `impl` of a file with these lines."""
+    heads = [it for it in map(IMPL.match, lines) if it and (it["type"], it["trait"]) == (head["type"], head["trait"])]
+    word = re.findall(r"\w+", head["word"] or "")[-1:] if len(heads) > 1 else []
+    return "".join([head["type"], head["trait"] or "", *word])
 
 
 def name_of(place):
