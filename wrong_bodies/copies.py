@@ -3,6 +3,8 @@
 A copy has the contract of the function, and its proof. Nothing calls it, so that it keeps no other function from being proved."""
 
 import re
+from pathlib import Path
+
 from edits import FUNCTION, IMPL
 
 # what a line at the margin begins with, if it doesn't begin an item
@@ -14,7 +16,7 @@ class Copy:
 
     def __init__(self, edit, place, head, lines, proofs):
         self.edit = edit
-        self.file, self.name, self.kind = place[0], copied_name(edit, place), place[4]
+        self.file, self.name, self.kind = place[0], copied_name(edit, place), kind_of(head)
         self.lines = [*head, *lines, "}"] if head else lines
         self.proofs = proofs
         self.place = None
@@ -35,18 +37,18 @@ def copied_name(edit, place):
 
 def copy_of(crate, edit):
     """The wrong body as a copy of the function that it edits. None where it edits more than one function or something else, where the
-    function is a trait's or calls itself, and where it isn't known which proof is its own."""
+    function calls itself or has its contract from a trait, and where it isn't known which proof is its own."""
     places = edit.places(crate) or []
-    if len(places) != 1:
+    if len(places) != 1 or not edit.is_of_functions(crate):
         return None
     place = places[0]
     lines = (crate / place[0]).read_text(encoding="utf-8").split("\n")
-    first, head = place[2] - 1, head_of(lines, place)
+    first, head = place[2] - 1, head_of(crate, lines, place)
     while first and (lines[first - 1].rstrip().endswith(")]") or lines[first - 1].strip().startswith(("#[", "//"))):
         first -= 1
     body = lines[first:place[3]]
-    proofs = copied_proofs(crate, edit, place)
-    if head is None or proofs is None or is_cyclic(body, place):
+    proofs = None if head is None else copied_proofs(crate, edit, place, kind_of(head))
+    if proofs is None or is_cyclic(body, place):
         return None
     text = "\n".join(body)
     for _, old, new in edit.pairs:
@@ -55,20 +57,42 @@ def copy_of(crate, edit):
     return Copy(edit, place, head, text.split("\n"), proofs)
 
 
-def head_of(lines, place):
-    """How the `impl` of a method begins, with what it takes into scope; nothing for a function of a module. None where a copy can't
-    stand beside the function."""
+def head_of(crate, lines, place):
+    """How the `impl` of a method's type begins, with what it takes into scope; nothing for a function of a module. None where a copy
+    can't stand beside the function, as it has its contract from a trait."""
     start = next(n for n in range(place[2] - 1, place[3]) if FUNCTION.match(lines[n]))
     if not lines[start].startswith(" "):
         return []
     above = next((n for n in range(start, -1, -1) if lines[n] and not lines[n].startswith(NO_ITEM)), None)
     found = above is not None and IMPL.match(lines[above])
-    if not found or found[1] or place[4] != found[2]:
+    if not found or place[4] != found[2] + (found[1] or ""):
         return None
     begun = next(n for n in range(above, len(lines)) if lines[n].endswith("{"))
     end = next(n for n in range(begun, len(lines)) if lines[n] == "}")
     uses = re.findall(r"^    (?:ghost )?use [^;]*;", "\n".join(lines[begun:end]), re.M)
-    return [*lines[above:begun + 1], *uses]
+    head = [*lines[above:begun + 1], *uses]
+    if found[1]:
+        own = any(line.strip().startswith("ensures") for line in lines[start:place[3]])
+        if not own or found[2] == "T" or may_ask(crate.parent, found[1], place[1]):
+            return None
+        head[0] = re.sub(rf"\b(?:\w+::)*{found[1]}(?:<.*>)? for ", "", head[0])
+    return head
+
+
+def kind_of(head):
+    """The type whose `impl` begins so, nothing where there is none."""
+    found = head and IMPL.match(head[0])
+    return found[2] if found else ""
+
+
+def may_ask(crates, trait, name):
+    """Whether a trait's method may have a `requires`, which each of its methods then has: one that isn't found may."""
+    for file in crates.glob("*/src/**/*.rt"):
+        whole = re.search(rf"^(?:pub )?trait {trait}\b.*?^}}", file.read_text(encoding="utf-8"), re.M | re.S)
+        said = whole and re.search(rf"^    fn {name}\b.*?(?=^    fn |^}})", whole[0], re.M | re.S)
+        if said:
+            return "requires" in said[0]
+    return True
 
 
 def is_cyclic(body, place):
@@ -78,8 +102,8 @@ def is_cyclic(body, place):
     return any(calls.search(line) or "#[cycle" in line for line in body if not line.strip().startswith("//"))
 
 
-def copied_proofs(crate, edit, place):
-    """The files of the function's proof, as those of its copy; None where several folders may have it."""
+def copied_proofs(crate, edit, place, kind):
+    """The files of the function's proof, as those of its copy, a method of `kind`; None where several folders may have it."""
     module = [it for it in re.sub(r"^src/|\.rt$", "", place[0]).split("/") if it not in ("lib", "main", "mod")]
     if place[4]:
         folders = [it for it in (crate / "proofs").rglob(f"{place[4]}/{place[1]}") if any(it.glob("*.antt"))]
@@ -89,10 +113,10 @@ def copied_proofs(crate, edit, place):
         return None
     copied = {}
     for folder in folders:
-        path = ".".join(folder.relative_to(crate / "proofs").parts)
-        whole = re.compile(rf"\bproofs\.{re.escape(path)}(?=[.\s])")
-        new = path.rpartition(".")[0] + ("." if "." in path else "") + copied_name(edit, place)
+        place_of = folder.relative_to(crate / "proofs").parts
+        whole = re.compile(rf"\bproofs\.{re.escape('.'.join(place_of))}(?=[.\s])")
+        target = [*(place_of[:-2] + (kind,) if kind else place_of[:-1]), copied_name(edit, place)]
         for file in sorted(folder.rglob("*.antt")):
-            target = folder.parent / copied_name(edit, place) / file.relative_to(folder)
-            copied[str(target.relative_to(crate))] = whole.sub(f"proofs.{new}", file.read_text(encoding="utf-8"))
+            text = whole.sub(f"proofs.{'.'.join(target)}", file.read_text(encoding="utf-8"))
+            copied[str(Path("proofs", *target, file.relative_to(folder)))] = text
     return copied

@@ -27,7 +27,7 @@ RT_JOBS processors, one where that isn't set. A crate that `rt ci` built here is
 
 A function is proved by the contracts of those that it calls, not by their bodies. So one check judges many wrong bodies, each in a
 copy of its function beside the others (copies.py), or, where it has no copy, in its place, one in each function. What isn't refused
-so is checked by itself. For an edit of a definition the whole crate is checked."""
+so is checked by itself. For an edit of a constant the functions that use it are checked, for one of a definition the whole crate."""
 
 import os
 import re
@@ -151,14 +151,14 @@ def by_copies(crate, edits):
 def by_rounds(crate, edits):
     """The verdicts on those of these edits that are judged in their places, where one check judges one edit of each function."""
     for together in in_rounds(crate, edits)[0]:
-        kept, aside, _, _ = tried(crate, [edit for edit, _ in together], [[place] for _, place in together])
+        kept, aside, _, _ = tried(crate, [edit for edit, _ in together], [places for _, places in together])
         yield from ((edit, *verdict(edit, before, after)) for (edit, _), before, after in zip(together, kept, aside)
-                    if after.goals and not after.waits)
+                    if refusal(edit, before, after) or after.goals and not after.waits and edit.is_of_functions(crate))
 
 
 def alone(crate, edit):
-    """What becomes of an edit that is checked by itself. Where it edits a definition, all that is open is its own."""
-    kept, aside, first, status = tried(crate, [edit], [edit.places(crate)])
+    """What becomes of an edit that is checked by itself. Where it edits more than functions, the whole crate is checked."""
+    kept, aside, first, status = tried(crate, [edit], [edit.places(crate) if edit.is_of_functions(crate) else None])
     unread = is_unread(first)
     if unread:
         return unread
