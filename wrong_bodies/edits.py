@@ -3,6 +3,8 @@
 import re
 
 FUNCTION = re.compile(r"( *)(?:pub(?:\([a-z]+\))? )?(?:const )?fn (\w+)")
+# a constant, to its end
+CONSTANT = re.compile(r"^(?:pub(?:\([a-z]+\))? )?(?:const|static) (\w+)(:.*?;)$", re.M | re.S)
 # `impl<T> Trait<Word> for Type<T> {`: the proofs of a method are in TypeTrait, or in TypeTraitWord where several are of one trait
 IMPL = re.compile(r"impl(?:<.*?>)? (?:(?:\w+::)*(?P<trait>\w+)(?:<(?P<word>.*)>)? for )?(?:\w+::)*(?P<type>\w+)")
 
@@ -27,10 +29,20 @@ class Edit:
                 self.values = line[len("false: "):].strip()
 
     def places(self, crate):
-        """The functions that it edits: file, name, first and last line, a method's type and trait or nothing. None where it edits
-        something else."""
-        places = {function_around(crate, file, old) for file, old, _ in self.pairs}
-        return None if None in places else sorted(places)
+        """The functions that it edits, and those that use a constant that it edits: file, name, first and last line, a method's type
+        and trait or nothing. None where it edits something else."""
+        places = set()
+        for file, old, _ in self.pairs:
+            place = function_around(crate, file, old)
+            users = {place} if place else users_of(crate, file, old)
+            if users is None:
+                return None
+            places |= users
+        return sorted(places) or None
+
+    def is_of_functions(self, crate):
+        """Whether it edits nothing but functions."""
+        return all(function_around(crate, file, old) for file, old, _ in self.pairs)
 
     def fits(self, crate):
         """Whether each old text stands in its file once."""
@@ -38,14 +50,22 @@ class Edit:
                                         for file, old, _ in self.pairs)
 
 
+def line_of(text, old):
+    """The number of the line that the old text begins on, from 0."""
+    return text[:text.find(old) + len(old) - len(old.lstrip())].count("\n")
+
+
 def function_around(crate, file, old):
     """The function of this file that has the text."""
     if not file.startswith("src/"):
         return None
     text = (crate / file).read_text(encoding="utf-8")
-    lines = text.split("\n")
-    at = text.find(old) + len(old) - len(old.lstrip())
-    first = last = text[:at].count("\n")
+    return function_at(file, text.split("\n"), line_of(text, old))
+
+
+def function_at(file, lines, last):
+    """The function that has this line of the file."""
+    first = last
     while first >= 0 and not FUNCTION.match(lines[first]):
         first -= 1
     if first < 0:
@@ -68,6 +88,31 @@ def kind_of(head, lines):
     return "".join([head["type"], head["trait"] or "", *word])
 
 
+def users_of(crate, file, old):
+    """The functions of the crate that use the constant that has the text, by way of other constants too; none for a line of imports or
+    a comment. None where the text is in another item."""
+    if not file.startswith("src/"):
+        return None
+    text = (crate / file).read_text(encoding="utf-8")
+    lines = text.split("\n")
+    at = line_of(text, old)
+    item = next((lines[n] for n in range(at, -1, -1) if lines[n] and lines[n][0] not in " })]"), "")
+    if item.startswith(("use ", "ghost use ", "pub use ", "//")):
+        return set()
+    name = re.match(r"(?:pub(?:\([a-z]+\))? )?(?:const|static) (\w+):", item)
+    if not name:
+        return None
+    names, more = set(), {name[1]}
+    sources = {str(it.relative_to(crate)): it.read_text(encoding="utf-8") for it in (crate / "src").rglob("*.rt")}
+    while more - names:
+        names |= more
+        word = re.compile(rf"\b(?:{'|'.join(names)})\b")
+        more = {it[1] for source in sources.values() for it in CONSTANT.finditer(source) if word.search(it[2])}
+    users = {function_at(name, source.split("\n"), n) for name, source in sources.items()
+             for n, line in enumerate(source.split("\n")) if word.search(line)}
+    return users - {None}
+
+
 def name_of(place):
     """The end of a function's name as a check prints it."""
     module = [it for it in re.sub(r"^src/|\.rt$", "", place[0]).split("/") if it not in ("lib", "main", "mod")]
@@ -85,16 +130,15 @@ def edited(crate, edits):
 
 
 def in_rounds(crate, edits):
-    """Edits in rounds, of which none has two edits of one function; and those that are to be checked alone."""
+    """Edits with their functions, in rounds of which none has two edits of one function; and those that are to be checked alone."""
     rounds, by_themselves = [], []
     for edit in edits:
-        places = edit.places(crate) or []
-        if len(places) != 1:
+        places = edit.places(crate)
+        if not places:
             by_themselves.append(edit)
             continue
-        place = places[0]
-        free = next((it for it in rounds if all(place[:2] != other[:2] for _, other in it)), None)
+        free = next((it for it in rounds if all(set(places).isdisjoint(others) for _, others in it)), None)
         if free is None:
             rounds.append(free := [])
-        free.append((edit, place))
+        free.append((edit, places))
     return rounds, by_themselves

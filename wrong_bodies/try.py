@@ -1,7 +1,7 @@
 #!/usr/bin/env python3
 """Tries the wrong bodies of crates on a copy of the repository, a line for each:
 
-    wrong_bodies/try.py [CRATE[/NAME] ..]     without a word all of them
+    wrong_bodies/try.py [--keep] [--missing] [CRATE[/NAME] ..]     without a word all of them
 
 A wrong body is a must-fail edit: lines `file:`, `old:` and `new:`, as `rt must-fail` reads them. Those that tell most stand in
 crates/CRATE/must-fail and are tried by the gate too; the others stand here, in wrong_bodies/CRATE, and the gate leaves them out.
@@ -19,14 +19,18 @@ its line has the word that this bears out, the clause, and what was said:
     PROVED!            the contracts let it through, with its answers or without
     no longer applies  the old text doesn't stand in its file once, or the new one can't be read
 
-The status is 1 where one isn't refused. The crates below are taken as `rt ci` built them here, or as sources; each check takes
-RT_JOBS processors, one where that isn't set.
+With `--keep` each verdict is written to VERDICTS, as `CRATE/NAME: WORD (CLAUSE), DATE, COMMIT`. `--missing` leaves out the edits that
+are refused there, unless they were edited since that commit. So a run that is cut off goes on by `--keep --missing`.
 
-A function is proved by the contracts of those that it calls, not by their bodies. So one check judges many wrong bodies, one in
-each function, and proves no other; what isn't refused so, and an edit of more than one function, is checked by itself. For an edit of
-a definition the whole crate is checked."""
+The status is 1 where one isn't refused. The crates below are taken as `rt ci` built them here, or as sources; each check takes
+RT_JOBS processors, one where that isn't set. A crate that `rt ci` built here isn't checked without the edits first.
+
+A function is proved by the contracts of those that it calls, not by their bodies. So one check judges many wrong bodies, each in a
+copy of its function beside the others (copies.py), or, where it has no copy, in its place, one in each function. What isn't refused
+so is checked by itself. For an edit of a constant the functions that use it are checked, for one of a definition the whole crate."""
 
 import os
+import re
 import shutil
 import subprocess
 import sys
@@ -35,14 +39,18 @@ from importlib.machinery import SourceFileLoader
 from pathlib import Path
 
 sys.dont_write_bytecode = True
+import kept as keeping
+from copies import copy_of
 from edits import Edit, edited, in_rounds, name_of
 from said import Told, is_unread, refusal, verdict, without
 
 TOP = Path(__file__).resolve().parent.parent
 sys.path.insert(0, str(TOP / "tools"))
-command = SourceFileLoader("only", str(TOP / "tools" / "only")).load_module().command
+ONLY = SourceFileLoader("only", str(TOP / "tools" / "only")).load_module()
 # how often answers are set aside at most: those that don't fit, then those that cited them
 TIMES = 6
+# where an error of the front end is
+ERROR = re.compile(r"(?:error: )?(?:\./|\.\./\w+/)?(src/\S+?):(\d+):\d+: error")
 
 
 def stop(why):
@@ -50,18 +58,22 @@ def stop(why):
 
 
 def checked(crate, texts, names):
-    """What a check of these functions of the crate says, of all where there is none, with these texts in place of its files; and its
-    status."""
-    kept = {file: (crate / file).read_text(encoding="utf-8") for file in texts}
+    """What a check of these functions of the crate says, of all where there is none, with these texts in place of its files or beside
+    them; and its status."""
+    kept = {file: (crate / file).read_text(encoding="utf-8") for file in texts if (crate / file).exists()}
     words = ["--jobs", os.environ.get("RT_JOBS", "1"), *(it for name in names for it in ("--only", name))]
     try:
         for file, text in texts.items():
+            (crate / file).parent.mkdir(parents=True, exist_ok=True)
             (crate / file).write_text(text, encoding="utf-8")
-        ran = subprocess.run(command(crate.name, words, crate.parent), cwd=crate, stdin=subprocess.DEVNULL, stdout=subprocess.PIPE,
-                             stderr=subprocess.STDOUT, text=True, errors="replace")
+        ran = subprocess.run(ONLY.command(crate.name, words, crate.parent), cwd=crate, stdin=subprocess.DEVNULL,
+                             stdout=subprocess.PIPE, stderr=subprocess.STDOUT, text=True, errors="replace")
     finally:
-        for file, text in kept.items():
-            (crate / file).write_text(text, encoding="utf-8")
+        for file in texts:
+            if file in kept:
+                (crate / file).write_text(kept[file], encoding="utf-8")
+            else:
+                (crate / file).unlink()
     return ran.stdout.split("\n"), ran.returncode
 
 
@@ -98,9 +110,55 @@ def tried(crate, edits, places):
     return kept, aside, first, status
 
 
+def with_copies(crate, copies, removed):
+    """The texts of a crate's files with these copies, without the answers that were set aside for them; each copy notes its place."""
+    texts = {}
+    for copy in copies:
+        copy.add_to(texts, crate)
+    for file, name in removed:
+        texts[file] = without(texts[file], {name for at, name in removed if at == file})
+    return texts
+
+
+def readable(crate, copies):
+    """What a first check of these copies says, and those of them that were read: one that can't be is left out."""
+    while copies:
+        said, _ = checked(crate, with_copies(crate, copies, set()), sorted(name_of(it.place) for it in copies))
+        if not is_unread(said):
+            return said, copies
+        errors = [ERROR.match(line) for line in said]
+        bad = {it.name for it in copies for at in errors if at and at[1] == it.file and it.place[2] <= int(at[2]) <= it.place[3]}
+        copies = [it for it in copies if bad and it.name not in bad]
+    return [], []
+
+
+def by_copies(crate, edits):
+    """The verdicts on those of these edits that are refused in copies of their functions: as they are, or with the answers set aside
+    that don't fit."""
+    said, copies = readable(crate, [it for it in (copy_of(crate, edit) for edit in edits) if it])
+    removed, left = set(), copies
+    kept = aside = {it: Told(said, [it.place]) for it in copies}
+    for turn in range(TIMES + 1):
+        yield from ((it.edit, *verdict(it.edit, kept[it], aside[it])) for it in left if refusal(it.edit, kept[it], aside[it]))
+        left = [it for it in left if aside[it].answers and not refusal(it.edit, kept[it], aside[it])]
+        if not left or turn == TIMES:
+            break
+        removed |= {(file, name) for it in left for file, name, _ in aside[it].answers}
+        said, _ = checked(crate, with_copies(crate, copies, removed), sorted(name_of(it.place) for it in left))
+        aside = {it: Told(said, [it.place]) for it in left}
+
+
+def by_rounds(crate, edits):
+    """The verdicts on those of these edits that are judged in their places, where one check judges one edit of each function."""
+    for together in in_rounds(crate, edits)[0]:
+        kept, aside, _, _ = tried(crate, [edit for edit, _ in together], [places for _, places in together])
+        yield from ((edit, *verdict(edit, before, after)) for (edit, _), before, after in zip(together, kept, aside)
+                    if refusal(edit, before, after) or after.goals and not after.waits and edit.is_of_functions(crate))
+
+
 def alone(crate, edit):
-    """What becomes of an edit that is checked by itself. Where it edits a definition, all that is open is its own."""
-    kept, aside, first, status = tried(crate, [edit], [edit.places(crate)])
+    """What becomes of an edit that is checked by itself. Where it edits more than functions, the whole crate is checked."""
+    kept, aside, first, status = tried(crate, [edit], [edit.places(crate) if edit.is_of_functions(crate) else None])
     unread = is_unread(first)
     if unread:
         return unread
@@ -110,31 +168,17 @@ def alone(crate, edit):
     return verdict(edit, kept[0], aside[0])
 
 
-def try_crate(crate, edits):
-    """Tries a crate's edits; whether all are refused."""
-    well = True
-
-    def tell(word, why, edit):
-        nonlocal well
-        well = well and word.startswith("refused")
-        print(f"{word} {edit.name}: {why}", flush=True)
-
-    fitting = [it for it in edits if it.fits(crate)]
-    for edit in edits:
-        if edit not in fitting:
-            tell("no longer applies ", "its old text doesn't stand in the file once", edit)
-    rounds, by_themselves = in_rounds(crate, fitting)
-    for together in rounds:
-        kept, aside, _, _ = tried(crate, [edit for edit, _ in together], [[place] for _, place in together])
-        for (edit, _), before, after in zip(together, kept, aside):
-            word, why = verdict(edit, before, after)
-            if word.startswith("refused") and not after.waits:
-                tell(word, why, edit)
-            else:
-                by_themselves.append(edit)
-    for edit in by_themselves:
-        tell(*alone(crate, edit), edit)
-    return well
+def verdicts(crate, edits):
+    """Each of a crate's edits with the word for it and the reason."""
+    left = [it for it in edits if it.fits(crate)]
+    yield from ((it, "no longer applies ", "its old text doesn't stand in the file once") for it in edits if it not in left)
+    for way in (by_copies, by_rounds):
+        done = set()
+        for edit, word, why in way(crate, left):
+            done.add(edit)
+            yield edit, word, why
+        left = [it for it in left if it not in done]
+    yield from ((edit, *alone(crate, edit)) for edit in left)
 
 
 def edits_of(name, chosen):
@@ -146,34 +190,53 @@ def edits_of(name, chosen):
     return [Edit(path) for path in paths if "" in chosen or path.stem in chosen]
 
 
-def copy_to(room):
-    """Copies the repository, with what `rt ci` built of it."""
-    for part in ("crates.txt", "HANDLES"):
-        shutil.copy2(TOP / part, room / part)
-    shutil.copytree(TOP / "crates", room / "crates", ignore=shutil.ignore_patterns("incremental", "only"), symlinks=True)
+def copy_to(room, name):
+    """Copies a crate and those that it stands on, with what `rt ci` built of them. Whether it built the crate too."""
+    needed, _ = ONLY.stands_on(name)
+    room.mkdir()
+    for crate in needed:
+        shutil.copytree(TOP / "crates" / crate, room / crate, ignore=shutil.ignore_patterns("incremental", "only"), symlinks=True)
+    return name in ONLY.built(needed, room)
+
+
+def try_crate(name, edits, keeps):
+    """Tries a crate's edits; whether all are refused."""
+    well, when = True, keeping.now()
+    with tempfile.TemporaryDirectory() as room:
+        crate = Path(room) / "crates" / name
+        is_built = copy_to(crate.parent, name)
+        if not is_built:
+            said, status = checked(crate, {}, names_of([it.places(crate) for it in edits if it.fits(crate)]))
+            if status:
+                stop(f"{name} isn't proved as it stands: {said[-2:]}")
+        print(f"try: {name}, {len(edits)} wrong bodies", file=sys.stderr, flush=True)
+        for edit, word, why in verdicts(crate, edits):
+            well = well and word.startswith("refused")
+            print(f"{word} {name}/{edit.name}: {why}", flush=True)
+            if keeps:
+                keeping.keep(f"{name}/{edit.name}", word, why, when)
+    return well
 
 
 def main(words):
     if not shutil.which("rt"):
         stop("there is no command rt")
-    words = words or sorted(path.name for path in (TOP / "wrong_bodies").iterdir() if any(path.glob("*.edit")))
+    flags = {it for it in words if it.startswith("--")}
+    if flags - {"--keep", "--missing"}:
+        stop(f"there is no flag {min(flags - {'--keep', '--missing'})}")
+    words = [it for it in words if it not in flags] or sorted(
+        path.name for path in (TOP / "wrong_bodies").iterdir() if any(path.glob("*.edit")))
     names = {}
     for name, _, edit in (word.partition("/") for word in words):
         names.setdefault(name, set()).add(edit)
     for name in names:
         if not (TOP / "crates" / name).is_dir() or not edits_of(name, names[name]):
             stop(f"there is no wrong body of {name}")
+    done = keeping.refused() if "--missing" in flags else set()
     well = True
-    with tempfile.TemporaryDirectory() as room:
-        copy_to(Path(room))
-        for name in names:
-            crate = Path(room) / "crates" / name
-            edits = edits_of(name, names[name])
-            said, status = checked(crate, {}, names_of([it.places(crate) for it in edits if it.fits(crate)]))
-            if status:
-                stop(f"{name} isn't proved as it stands: {said[-2:]}")
-            print(f"try: {name}, {len(edits)} wrong bodies", file=sys.stderr)
-            well = try_crate(crate, edits) and well
+    for name in names:
+        edits = [it for it in edits_of(name, names[name]) if f"{name}/{it.name}" not in done]
+        well = (not edits or try_crate(name, edits, "--keep" in flags)) and well
     return 0 if well else 1
 
 
