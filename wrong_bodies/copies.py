@@ -5,7 +5,7 @@ A copy has the contract of the function, and its proof. Nothing calls it, so tha
 import re
 from pathlib import Path
 
-from edits import FUNCTION, IMPL
+from edits import FUNCTION, IMPL, folder_of
 
 # what a line at the margin begins with, if it doesn't begin an item
 NO_ITEM = (" ", "}", "#", "//", ")", "{", "where")
@@ -65,24 +65,24 @@ def head_of(crate, lines, place):
         return []
     above = next((n for n in range(start, -1, -1) if lines[n] and not lines[n].startswith(NO_ITEM)), None)
     found = above is not None and IMPL.match(lines[above])
-    if not found or place[4] != found[2] + (found[1] or ""):
+    if not found or place[4] != folder_of(found, lines):
         return None
     begun = next(n for n in range(above, len(lines)) if lines[n].endswith("{"))
     end = next(n for n in range(begun, len(lines)) if lines[n] == "}")
     uses = re.findall(r"^    (?:ghost )?use [^;]*;", "\n".join(lines[begun:end]), re.M)
     head = [*lines[above:begun + 1], *uses]
-    if found[1]:
+    if found["trait"]:
         own = any(line.strip().startswith("ensures") for line in lines[start:place[3]])
-        if not own or found[2] == "T" or may_ask(crate.parent, found[1], place[1]):
+        if not own or found["type"] == "T" or may_ask(crate.parent, found["trait"], place[1]):
             return None
-        head[0] = re.sub(rf"\b(?:\w+::)*{found[1]}(?:<.*>)? for ", "", head[0])
+        head[0] = re.sub(rf"\b(?:\w+::)*{found['trait']}(?:<.*>)? for ", "", head[0])
     return head
 
 
 def kind_of(head):
     """The type whose `impl` begins so, nothing where there is none."""
     found = head and IMPL.match(head[0])
-    return found[2] if found else ""
+    return found["type"] if found else ""
 
 
 def may_ask(crates, trait, name):

@@ -75,13 +75,13 @@ def function_at(file, lines, last):
     if last > end:
         return None
     kinds = [IMPL.match(line) for line in lines[:first]] if indent else []
-    kind = next((kind_of(it, lines) for it in reversed(kinds) if it), "")
+    kind = next((folder_of(it, lines) for it in reversed(kinds) if it), "")
     while first and lines[first - 1].strip().startswith(("#[", "//")):
         first -= 1
     return file, name, first + 1, end + 1, kind
 
 
-def kind_of(head, lines):
+def folder_of(head, lines):
     """A type and its trait as the folder of their proofs is called, where this line begins an `impl` of a file with these lines."""
     heads = [it for it in map(IMPL.match, lines) if it and (it["type"], it["trait"]) == (head["type"], head["trait"])]
     word = re.findall(r"\w+", head["word"] or "")[-1:] if len(heads) > 1 else []
