@@ -23,25 +23,25 @@ fn link(next: Option<Place>, used: u8) -> (u8, u8)
 }
 
 /// The first 254 of these bytes, or all of them and then zeros.
-fn padded_data(data: &[u8]) -> [u8; 254]
-    ensures { result ≡ padded 254 (take 254 data.now) }
+fn padded_data(content: &[u8]) -> [u8; 254]
+    ensures { result ≡ padded 254 (take 254 content.now) }
 {
-    let used = data.len().min(DATA);
+    let used = content.len().min(DATA);
     let mut bytes = [0; DATA];
-    bytes[..used].copy_from_slice(&data[..used]);
+    bytes[..used].copy_from_slice(&content[..used]);
     bytes
 }
 
 /// A sector of a chain: the first 254 of these bytes, and the link to the next sector or, without one, 0 and the index of
 /// the last used byte.
-fn chain_bytes(next: Option<Place>, data: &[u8]) -> [u8; 256]
-    ensures { result ≡ chain_sector next (take 254 data.now) }
+fn chain_bytes(next: Option<Place>, content: &[u8]) -> [u8; 256]
+    ensures { result ≡ chain_sector next (take 254 content.now) }
 {
-    let (track, sector) = link(next, data.len().min(DATA) as u8);
+    let (track, sector) = link(next, content.len().min(DATA) as u8);
     let mut bytes = [0; 256];
     bytes[0] = track;
     bytes[1] = sector;
-    bytes[2..].copy_from_slice(&padded_data(data));
+    bytes[2..].copy_from_slice(&padded_data(content));
     bytes
 }
 
@@ -61,13 +61,13 @@ fn write_block<D: Sectors>(
     disk: &mut D,
     places: &[Place],
     block: usize,
-    data: &[u8],
+    content: &[u8],
 ) -> Result<(), DeviceFault>
     requires block { block < length places.now }
-    requires data { 254 * block ≤ length data.now }
-    ensures { PutsBlock D.history disk.old disk.new places.now block data.now result }
+    requires content { 254 * block ≤ length content.now }
+    ensures { PutsBlock D.history disk.old disk.new places.now block content.now result }
 {
-    let bytes = chain_bytes(next_of(places, block), &data[DATA * block..]);
+    let bytes = chain_bytes(next_of(places, block), &content[DATA * block..]);
     disk.write(places[block], &bytes)
 }
 
@@ -75,17 +75,17 @@ fn write_block<D: Sectors>(
 pub(crate) fn write_blocks<D: Sectors>(
     disk: &mut D,
     places: &[Place],
-    data: &[u8],
+    content: &[u8],
 ) -> Result<(), DeviceFault>
     requires once { EachOnce places.now }
-    requires count { Fills (length data.now) (length places.now) }
+    requires count { Fills (length content.now) (length places.now) }
     ensures { WritesAtMost D.history disk.old disk.new (length places.now) 0
         (SameBeside (D.history.image disk.old) places.now)
-        (λ c. HoldsChain c places.now data.now × SameBeside (D.history.image disk.old) places.now c) result }
+        (λ c. HoldsChain c places.now content.now × SameBeside (D.history.image disk.old) places.now c) result }
 {
     let count = places.len();
     for written in 0..count {
-        write_block(disk, places, count - 1 - written, data)?;
+        write_block(disk, places, count - 1 - written, content)?;
     }
     Ok(())
 }

@@ -46,17 +46,17 @@ fn write_sectors<D: Sectors>(
     disk: &mut D,
     map: &Bam,
     places: &[Place],
-    data: &[u8],
+    content: &[u8],
 ) -> Result<(), DeviceFault>
     requires once { EachOnce places.now }
-    requires count { Fills (length data.now) (length places.now) }
+    requires count { Fills (length content.now) (length places.now) }
     requires apart { ¬ (Contains places.now map_place) }
     ensures { WritesAtMost D.history disk.old disk.new (length places.now + 1) 0
         (ChangesOnly (D.history.image disk.old) map.now.bytes places.now)
-        (HasBlocks map.now.bytes places.now data.now) result }
+        (HasBlocks map.now.bytes places.now content.now) result }
 {
     disk.write(map_place(), &map.bytes)?;
-    write_blocks(disk, places, data)
+    write_blocks(disk, places, content)
 }
 
 /// Writes the map, the chain and a new directory sector: so far nobody owns these sectors.
@@ -64,20 +64,20 @@ fn write_with_directory<D: Sectors>(
     disk: &mut D,
     map: &Bam,
     places: &[Place],
-    data: &[u8],
+    content: &[u8],
     fresh: Place,
     bytes: &[u8; 256],
 ) -> Result<(), DeviceFault>
     requires once { EachOnce places.now }
-    requires count { Fills (length data.now) (length places.now) }
+    requires count { Fills (length content.now) (length places.now) }
     requires apart { ¬ (Contains places.now map_place) }
     requires no_map { ¬ (fresh ≡ map_place) }
     requires beside { ¬ (Contains places.now fresh) }
     ensures { WritesAtMost D.history disk.old disk.new (length places.now + 2) 0
         (ChangesOnly (D.history.image disk.old) map.now.bytes (fresh ∷ places.now))
-        (λ c. HasBlocks map.now.bytes places.now data.now c × (sector c fresh ≡ bytes.now)) result }
+        (λ c. HasBlocks map.now.bytes places.now content.now c × (sector c fresh ≡ bytes.now)) result }
 {
-    write_sectors(disk, map, places, data)?;
+    write_sectors(disk, map, places, content)?;
     disk.write(fresh, bytes)
 }
 
@@ -87,17 +87,17 @@ fn write_in_slot<D: Sectors>(
     disk: &mut D,
     site: &PutSite,
     bytes: &[u8; 256],
-    data: &[u8],
+    content: &[u8],
 ) -> Result<(), DeviceFault>
-    requires site { (l : Layout) × IsPutSlot (D.history.image disk.old) l (length data.now) site.now }
+    requires site { (l : Layout) × IsPutSlot (D.history.image disk.old) l (length content.now) site.now }
     ensures file { (l : Layout) → (name : List ℕ) → (kind : FileType)
-        → IsPutSlot (D.history.image disk.old) l (length data.now) site.now
+        → IsPutSlot (D.history.image disk.old) l (length content.now) site.now
         → IsPutEntry kind name site.now bytes.now
-        → PutsFile D.history disk.old disk.new l name kind data.now (length site.now.blocks.items + 2) result }
+        → PutsFile D.history disk.old disk.new l name kind content.now (length site.now.blocks.items + 2) result }
     ensures reads { D.history.reads disk.new ≤ D.history.reads disk.old }
     ensures failures { TellsFailure D.history disk.old disk.new result }
 {
-    write_sectors(disk, &site.map, site.blocks.as_slice(), data)?;
+    write_sectors(disk, &site.map, site.blocks.as_slice(), content)?;
     disk.write(site.place, bytes)
 }
 
@@ -109,17 +109,24 @@ fn write_behind<D: Sectors>(
     fresh: Place,
     first: &[u8; 256],
     last: &[u8; 256],
-    data: &[u8],
+    content: &[u8],
 ) -> Result<(), DeviceFault>
-    requires site { (l : Layout) × IsPutSector (D.history.image disk.old) l (length data.now) site.now fresh }
+    requires site { (l : Layout) × IsPutSector (D.history.image disk.old) l (length content.now) site.now fresh }
     ensures file { (l : Layout) → (name : List ℕ) → (kind : FileType)
-        → IsPutSector (D.history.image disk.old) l (length data.now) site.now fresh
+        → IsPutSector (D.history.image disk.old) l (length content.now) site.now fresh
         → IsPutDirectory kind name site.now fresh first.now last.now
-        → PutsFile D.history disk.old disk.new l name kind data.now (length site.now.blocks.items + 3) result }
+        → PutsFile D.history disk.old disk.new l name kind content.now (length site.now.blocks.items + 3) result }
     ensures reads { D.history.reads disk.new ≤ D.history.reads disk.old }
     ensures failures { TellsFailure D.history disk.old disk.new result }
 {
-    write_with_directory(disk, &site.map, site.blocks.as_slice(), data, fresh, first)?;
+    write_with_directory(
+        disk,
+        &site.map,
+        site.blocks.as_slice(),
+        content,
+        fresh,
+        first,
+    )?;
     disk.write(site.place, last)
 }
 
@@ -129,12 +136,12 @@ pub(crate) fn write_file<D: Sectors>(
     site: &PutSite,
     name: &[u8],
     kind: FileType,
-    data: &[u8],
+    content: &[u8],
 ) -> Result<(), DeviceFault>
     requires name { length name.now ≤ 16 }
-    requires site { (l : Layout) × IsPutSite (D.history.image disk.old) l (length data.now) site.now }
-    ensures file { (l : Layout) → IsPutSite (D.history.image disk.old) l (length data.now) site.now
-        → PutsFile D.history disk.old disk.new l name.now kind data.now (length site.now.blocks.items + 3) result }
+    requires site { (l : Layout) × IsPutSite (D.history.image disk.old) l (length content.now) site.now }
+    ensures file { (l : Layout) → IsPutSite (D.history.image disk.old) l (length content.now) site.now
+        → PutsFile D.history disk.old disk.new l name.now kind content.now (length site.now.blocks.items + 3) result }
     ensures reads { D.history.reads disk.new ≤ D.history.reads disk.old }
     ensures failures { TellsFailure D.history disk.old disk.new result }
 {
@@ -143,11 +150,11 @@ pub(crate) fn write_file<D: Sectors>(
     match site.fresh {
         Some(fresh) => {
             link_to(&mut last, fresh);
-            write_behind(disk, site, fresh, &directory_with(&entry), &last, data)
+            write_behind(disk, site, fresh, &directory_with(&entry), &last, content)
         }
         None => {
             put_entry(&mut last, site.number, &entry);
-            write_in_slot(disk, site, &last, data)
+            write_in_slot(disk, site, &last, content)
         }
     }
 }

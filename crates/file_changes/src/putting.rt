@@ -63,10 +63,10 @@ fn choose_site<D: Sectors>(disk: &mut D, name: &[u8], count: usize) -> Result<Pu
 }
 
 /// The data that a new file gets.
-fn stored(data: &[u8]) -> &[u8]
-    ensures { result.now ≡ specs.stored data.now }
+fn stored(content: &[u8]) -> &[u8]
+    ensures { result.now ≡ specs.stored content.now }
 {
-    if data.is_empty() { &EMPTY } else { data }
+    if content.is_empty() { &EMPTY } else { content }
 }
 
 /// Puts a new file of this name, type and data on a clean disk. The data lie in a chain of sectors, 254 bytes in each,
@@ -86,15 +86,15 @@ pub fn put_file<D: Sectors>(
     disk: &mut D,
     name: &[u8],
     kind: FileType,
-    data: &[u8],
+    content: &[u8],
 ) -> Result<(), ChangeFault>
     requires clean { IsClean (D.history.image disk.old) }
     requires name { length name.now ≤ 16 }
-    ensures { Puts D.history disk.old disk.new name.now kind data.now result }
+    ensures { Puts D.history disk.old disk.new name.now kind content.now result }
 {
-    let data = stored(data);
-    let site = choose_site(disk, name, (data.len() + 253) / 254)?;
-    match write_file(disk, &site, name, kind, data) {
+    let content = stored(content);
+    let site = choose_site(disk, name, (content.len() + 253) / 254)?;
+    match write_file(disk, &site, name, kind, content) {
         Ok(()) => Ok(()),
         Err(_) => Err(ChangeFault::Device),
     }

@@ -16,14 +16,14 @@ fn put_piece<W: Write>(
     out: &mut W,
     form: RecordForm,
     number: u32,
-    record: &[u8],
+    piece: &[u8],
 ) -> Result<(), CommandFault>
-    requires { length record.now ≤ 254 }
-    ensures ok { OnOk result (Appends (W.contents out.old) (W.contents out.new) (form_line form number record.now)) }
+    requires { length piece.now ≤ 254 }
+    ensures ok { OnOk result (Appends (W.contents out.old) (W.contents out.new) (form_line form number piece.now)) }
     ensures err { IfErr result (λ fault. fault ≡ faults.File) }
 {
     let mut bytes = ArrayVec::new();
-    let _ = bytes.try_extend_from_slice(record);
+    let _ = bytes.try_extend_from_slice(piece);
     if write_form_line(out, form, number, &bytes).is_err() {
         return Err(CommandFault::File);
     }

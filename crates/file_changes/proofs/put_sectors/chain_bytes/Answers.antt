@@ -6,5 +6,5 @@ use Rattle.file_changes.proofs.put_sectors.chain_bytes.Goals as goal
 pub returns : goal.returns
 returns c = ap₂ ◌++◌
     (c.link-track.ensures
-    ∙ ap (λ (n : ℕ). link_bytes c.args.next (n + 1)) (omega (arith, length-take 254 c.args.data.now, c.min.ensures)))
+    ∙ ap (λ (n : ℕ). link_bytes c.args.next (n + 1)) (omega (arith, length-take 254 c.args.content.now, c.min.ensures)))
     (append-nil c.copy_from_slice.new.self ∙ c.copy_from_slice.ensures.after ∙ c.padded_data.ensures)

@@ -7,6 +7,6 @@ use Rattle.file_changes.proofs.put_sectors.padded_data.Goals as goal
 
 pub returns : goal.returns
 unfolding padded
-returns c = ap₂ ◌++◌ (c.copy_from_slice.ensures.after ∙ take-min c.args.data.now 254 c.min-used.result c.min-used.ensures)
+returns c = ap₂ ◌++◌ (c.copy_from_slice.ensures.after ∙ take-min c.args.content.now 254 c.min-used.result c.min-used.ensures)
     (drop-replicate c.min-used.result 254 0
-    ∙ ap (λ (n : ℕ). replicate (254 - n) 0) (omega (arith, length-take 254 c.args.data.now, c.min-used.ensures)))
+    ∙ ap (λ (n : ℕ). replicate (254 - n) 0) (omega (arith, length-take 254 c.args.content.now, c.min-used.ensures)))

@@ -21,13 +21,13 @@ returns g c =
     let p = c.index-places-block.result in
     let at = read-there c.args.places.now c.args.block p c.requires.block c.index-places-block.is in
     let bytes : Sector = chain_sector (slice_get c.args.places.now (c.args.block + 1))
-    (take 254 (drop (254 * c.args.block) c.args.data.now)) in
+    (take 254 (drop (254 * c.args.block) c.args.content.now)) in
     let k : ℕ = 254 * c.args.block in
-    let rest : take (length c.args.data.now - k) (drop k c.args.data.now) ≡ drop k c.args.data.now =
-    take_all (length c.args.data.now - k) (drop k c.args.data.now) (omega (arith, length-drop k c.args.data.now)) in
+    let rest : take (length c.args.content.now - k) (drop k c.args.content.now) ≡ drop k c.args.content.now =
+    take_all (length c.args.content.now - k) (drop k c.args.content.now) (omega (arith, length-drop k c.args.content.now)) in
     let is : c.chain_bytes-bytes.result ≡ bytes = c.chain_bytes-bytes.ensures
     ∙ ap (λ (xs : List ℕ). chain_sector c.next_of.result (take 254 xs)) rest
-    ∙ ap (λ (o : Option Place). chain_sector o (take 254 (drop (254 * c.args.block) c.args.data.now))) c.next_of.ensures in
+    ∙ ap (λ (o : Option Place). chain_sector o (take 254 (drop (254 * c.args.block) c.args.content.now))) c.next_of.ensures in
     record {
       ok = λ q there.
           on_ok_weaker c.write.result

@@ -14,10 +14,10 @@ pub loop-written-init : goal.loop-written-init
 loop-written-init g c =
     let S = g.D.Sectors.history in
     let a = S.image c.args.disk.now in
-    let P : ℕ → Type 0 = IsWrittenFrom a a c.args.places.now c.args.data.now in
+    let P : ℕ → Type 0 = IsWrittenFrom a a c.args.places.now c.args.content.now in
     let all : length c.args.places.now ≡ length c.args.places.now - 0 = omega arith in
     record {
-      done = subst P all (from-none a c.args.places.now c.args.data.now);
+      done = subst P all (from-none a c.args.places.now c.args.content.now);
       changes = no_change S c.args.disk.now _ (λ q out. refl);
       reads = omega arith;
       failures = refl;
@@ -26,8 +26,8 @@ loop-written-init g c =
 pub write_block-requires-clause-block : goal.write_block-requires-clause-block
 write_block-requires-clause-block g c = omega (arith, c.loop-written-test.true)
 
-pub write_block-requires-clause-data : goal.write_block-requires-clause-data
-write_block-requires-clause-data g c =
+pub write_block-requires-clause-content : goal.write_block-requires-clause-content
+write_block-requires-clause-content g c =
     omega (arith, c.loop-written-test.true, c.requires.count.low)
 
 pub returns-in_err-write_block : goal.returns-in_err-write_block
@@ -60,12 +60,12 @@ loop-written-preserved g c =
     omega (arith, c.loop-written-test.true) in
     let after : k ≡ length c.args.places.now - (c.loop-written.written + 1) =
     omega (arith, c.loop-written-test.true) in
-    let P : ℕ → Type 0 = IsWrittenFrom a (S.image c.loop-written.disk) c.args.places.now c.args.data.now in
-    let Q : Image → Type 0 = λ i. IsWrittenFrom a i c.args.places.now c.args.data.now k in
-    let R : ℕ → Type 0 = IsWrittenFrom a (S.image c.write_block.new.disk) c.args.places.now c.args.data.now in
+    let P : ℕ → Type 0 = IsWrittenFrom a (S.image c.loop-written.disk) c.args.places.now c.args.content.now in
+    let Q : Image → Type 0 = λ i. IsWrittenFrom a i c.args.places.now c.args.content.now k in
+    let R : ℕ → Type 0 = IsWrittenFrom a (S.image c.write_block.new.disk) c.args.places.now c.args.content.now in
     record {
       done = subst R after (subst Q (sym (c.in_ok-write_block.ensures.ok p at))
-          (from-more a (S.image c.loop-written.disk) c.args.places.now c.args.data.now k p
+          (from-more a (S.image c.loop-written.disk) c.args.places.now c.args.content.now k p
           (S.whole c.loop-written.disk).size c.requires.once at (subst P before old.done)));
       changes = beside-more S c.args.disk.now c.loop-written.disk c.write_block.new.disk c.args.places.now p _
           c.loop-written.written (c.loop-written.written + 1) (omega arith)
@@ -81,8 +81,8 @@ returns g c =
     let all : c.loop-written.written ≡ length c.args.places.now =
     omega (arith, c.loop-written-test.false, c.loop-written.auto) in
     let none : length c.args.places.now - c.loop-written.written ≡ 0 = omega (arith, all) in
-    let P : ℕ → Type 0 = IsWrittenFrom a (S.image c.loop-written.disk) c.args.places.now c.args.data.now in
-    let done : IsWrittenFrom a (S.image c.loop-written.disk) c.args.places.now c.args.data.now 0 =
+    let P : ℕ → Type 0 = IsWrittenFrom a (S.image c.loop-written.disk) c.args.places.now c.args.content.now in
+    let done : IsWrittenFrom a (S.image c.loop-written.disk) c.args.places.now c.args.content.now 0 =
     subst P none c.loop-written.invariant.done in
     record {
       ok = (done.chain, done.rest);

@@ -26,7 +26,7 @@ write_with_directory-requires-clause-once g c =
 pub write_with_directory-requires-clause-count : goal.write_with_directory-requires-clause-count
 write_with_directory-requires-clause-count g c =
     let (l, site) = c.requires.site in
-    let P : List Place → Type 0 = λ ps. Fills (length c.args.data.now) (length ps) in
+    let P : List Place → Type 0 = λ ps. Fills (length c.args.content.now) (length ps) in
     subst P (sym c.as_slice.ensures.value) site.taking.count
 
 pub write_with_directory-requires-clause-apart : goal.write_with_directory-requires-clause-apart
@@ -52,7 +52,7 @@ returns-in_err-write_with_directory-clause-file g c l name kind site is_for =
     record {
       ok = not-done c.from_residual.result _ c.from_residual.ensures.1 _;
       moments = putting-before g.D.Sectors.history c.args.disk.now c.write_with_directory.new.disk l st.map.bytes
-          (c.args.fresh ∷ st.blocks.items) name kind c.args.data.now site.taking.clean
+          (c.args.fresh ∷ st.blocks.items) name kind c.args.content.now site.taking.clean
           (beside-unowned l st.blocks.items c.args.fresh site.taking.unowned site.no_fresh) site.taking.header
           (length st.blocks.items + 2) (rw (c.as_slice.ensures.value) at c.in_err-write_with_directory.ensures.moments) (length st.blocks.items + 3)
           (omega arith);
@@ -65,15 +65,15 @@ returns-clause-file g c l name kind site is_for =
     let st = c.args.site.now in
     let prepared = rw (c.as_slice.ensures.value) at c.in_ok-write_with_directory.ensures.moments in
     let written = rw (c.as_slice.ensures.value) at c.in_ok-write_with_directory.ensures.ok in
-    let made = sector-put-at a (S.image c.write_with_directory.new.disk) l st c.args.fresh c.args.data.now kind name
+    let made = sector-put-at a (S.image c.write_with_directory.new.disk) l st c.args.fresh c.args.content.now kind name
     c.args.first.now c.args.last.now site is_for (at_end S _ _ _ prepared.held)
     written.0 written.1
     (S.whole c.write_with_directory.new.disk) in
-    let P : Image → Type 0 = HasPut a l name kind c.args.data.now in
+    let P : Image → Type 0 = HasPut a l name kind c.args.content.now in
     record {
       ok = on_ok_weaker c.write.result (λ done. subst P (sym done) made.0) c.write.ensures.ok;
       moments = putting-done S c.args.disk.now c.write_with_directory.new.disk l st.map.bytes
-          (c.args.fresh ∷ st.blocks.items) name kind c.args.data.now site.taking.clean
+          (c.args.fresh ∷ st.blocks.items) name kind c.args.content.now site.taking.clean
           (beside-unowned l st.blocks.items c.args.fresh site.taking.unowned site.no_fresh) site.taking.header
           (length st.blocks.items + 2) prepared c.write.new.self st.place c.args.last.now (length st.blocks.items + 3)
           (omega arith) c.write.ensures.held

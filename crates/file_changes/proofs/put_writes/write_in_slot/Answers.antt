@@ -25,7 +25,7 @@ write_sectors-requires-clause-once g c =
 pub write_sectors-requires-clause-count : goal.write_sectors-requires-clause-count
 write_sectors-requires-clause-count g c =
     let (l, site) = c.requires.site in
-    let P : List Place → Type 0 = λ ps. Fills (length c.args.data.now) (length ps) in
+    let P : List Place → Type 0 = λ ps. Fills (length c.args.content.now) (length ps) in
     subst P (sym c.as_slice.ensures.value) site.taking.count
 
 pub write_sectors-requires-clause-apart : goal.write_sectors-requires-clause-apart
@@ -40,7 +40,7 @@ returns-in_err-write_sectors-clause-file g c l name kind site is_for =
     record {
       ok = not-done c.from_residual.result _ c.from_residual.ensures.1 _;
       moments = putting-before g.D.Sectors.history c.args.disk.now c.write_sectors.new.disk l st.map.bytes st.blocks.items
-          name kind c.args.data.now site.taking.clean
+          name kind c.args.content.now site.taking.clean
           (λ q d own. site.taking.unowned q d (Contains-there q map_place (owners l) own)) site.taking.header
           (length st.blocks.items + 1) (rw (c.as_slice.ensures.value) at c.in_err-write_sectors.ensures.moments) (length st.blocks.items + 2) (omega arith);
     }
@@ -52,13 +52,13 @@ returns-clause-file g c l name kind site is_for =
     let st = c.args.site.now in
     let prepared = rw (c.as_slice.ensures.value) at c.in_ok-write_sectors.ensures.moments in
     let written = rw (c.as_slice.ensures.value) at c.in_ok-write_sectors.ensures.ok in
-    let made = slot-put-at a (S.image c.write_sectors.new.disk) l st c.args.data.now kind name c.args.bytes.now site is_for
+    let made = slot-put-at a (S.image c.write_sectors.new.disk) l st c.args.content.now kind name c.args.bytes.now site is_for
     (at_end S _ _ _ prepared.held) written (S.whole c.write_sectors.new.disk) in
-    let P : Image → Type 0 = HasPut a l name kind c.args.data.now in
+    let P : Image → Type 0 = HasPut a l name kind c.args.content.now in
     record {
       ok = on_ok_weaker c.write.result (λ done. subst P (sym done) made.0) c.write.ensures.ok;
       moments = putting-done S c.args.disk.now c.write_sectors.new.disk l st.map.bytes st.blocks.items
-          name kind c.args.data.now site.taking.clean
+          name kind c.args.content.now site.taking.clean
           (λ q d own. site.taking.unowned q d (Contains-there q map_place (owners l) own)) site.taking.header
           (length st.blocks.items + 1) prepared c.write.new.self st.place c.args.bytes.now (length st.blocks.items + 2)
           (omega arith) c.write.ensures.held

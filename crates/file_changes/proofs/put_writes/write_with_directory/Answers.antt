@@ -35,7 +35,7 @@ returns g c =
       ok =
           on_ok_weaker c.write.result
           (λ done. blocks-still (S.image c.write_sectors.new.disk) (S.image c.write.new.self) c.args.map.now.bytes
-          c.args.bytes.now c.args.places.now c.args.data.now c.args.fresh (S.whole c.write_sectors.new.disk).size
+          c.args.bytes.now c.args.places.now c.args.content.now c.args.fresh (S.whole c.write_sectors.new.disk).size
           c.requires.no_map c.requires.beside done c.in_ok-write_sectors.ensures.ok)
           c.write.ensures.ok;
       moments =
