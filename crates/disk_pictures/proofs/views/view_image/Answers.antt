@@ -1,5 +1,5 @@
 -- What the command says.
-use Rattle.ledger_jobs.proofs.viewing.view_run.Goals as goal
+use Rattle.disk_pictures.proofs.views.view_image.Goals as goal
 
 pub returns-in-Free : goal.returns-in-Free
 returns-in-Free g c = record {
