@@ -1,12 +1,12 @@
 //! What a person at a terminal reads before a job is done, and after a check.
 ghost use Rattle.ledger_jobs.specs.Rights.{MayExplain, MayReadImage};
 
-use crate::explanations::CUT_SHORT;
 use crate::files::STANDARD_INPUT;
 use crate::job_files::size_of;
 use crate::jobs::Job;
 use crate::losses::cut_in;
 use crate::readings::image_of_file;
+use crate::refusal_subjects::CUT_SHORT;
 use d64_image::Place;
 use host_files::HostFiles;
 use shop_commands::Locks;

@@ -1,0 +1,116 @@
+//! The line that tells a person which file failed, and what the system said of it.
+ghost use Rattle.ledger_jobs.specs.Rights.{MayExplain, MayLook};
+
+use crate::files::STANDARD_INPUT;
+use crate::job_files::{first_file, image_of};
+use crate::jobs::Job;
+use host_files::{HostFiles, regular_at};
+use noted_files::Failure;
+use std::fmt::Display;
+use std::io::{self, ErrorKind, Write};
+use system_files::ShownPath;
+
+const UNWRITTEN: &str = "; copy it to another medium, check the copy, and go on there";
+
+const FULL: &str = "; make room there, and go on";
+
+const GONE: &str = "its name doesn't lead to the file that was opened, or that has another length";
+
+const UNREAD: &str = "ledger: a file couldn't be read to its end, or the output not be written";
+
+/// Prints this of the file at a path. If it can't be printed, there is nobody left to read it.
+pub(crate) fn tell_of<E: Write, T: Display + Drop>(err: &mut E, path: &str, said: T) {
+    let _ = writeln!(err, "ledger: {}: {said}", ShownPath(path));
+}
+
+/// Prints this of a job's image, or of the two that it compares, since it isn't known which one it is.
+pub(crate) fn tell_of_image<E: Write>(err: &mut E, job: &Job<'_>, said: &str) {
+    match job {
+        Job::Compare { before, after } => {
+            let (before, after) = (ShownPath(before), ShownPath(after));
+            let _ = writeln!(err, "ledger: {before} or {after}: {said}");
+        }
+        _ => tell_of(err, image_of(job), said),
+    }
+}
+
+/// Prints what the system said of a call that failed, and this after it.
+fn tell_failure<E: Write>(err: &mut E, failure: &Failure<'_>, said: &str) {
+    let Failure {
+        subject,
+        error,
+        sector,
+    } = failure;
+    let _ = match sector {
+        Some(place) => {
+            let (track, number) = (place.track(), place.sector());
+            writeln!(
+                err,
+                "ledger: {subject}: {error}, at sector {track}/{number}{said}"
+            )
+        }
+        None => writeln!(err, "ledger: {subject}: {error}{said}"),
+    };
+}
+
+/// What is wrong with a path at which something else than a regular file stands. Standard input isn't looked at.
+fn fault_at<'a, R: HostFiles>(rt: &R, path: &'a str) -> Option<(&'a str, io::Error)>
+    requires { MayLook R.rights rt.now path.now }
+{
+    if path == STANDARD_INPUT {
+        return None;
+    }
+    match regular_at(rt, path) {
+        Ok(_) => None,
+        Err(error) => Some((path, error)),
+    }
+}
+
+/// The first image of a job at whose path stands something else than a regular file, and what is wrong with that. None of
+/// a job over a script, or over several images.
+fn image_at_fault<'a, R: HostFiles>(rt: &R, job: &Job<'a>) -> Option<(&'a str, io::Error)>
+    requires { MayExplain R.rights rt.now job.now }
+{
+    match job {
+        Job::Dry { .. } => None,
+        Job::Compare { before, after } => match fault_at(rt, before) {
+            None => fault_at(rt, after),
+            fault => fault,
+        },
+        _ => fault_at(rt, first_file(job)?),
+    }
+}
+
+/// Prints why a file couldn't be opened, read or written: what the system said of it. If it said nothing, something else
+/// than a regular file stands where an image is wanted.
+pub(crate) fn tell_files<R: HostFiles, E: Write>(
+    rt: &R,
+    job: &Job<'_>,
+    cause: Option<Failure<'_>>,
+    err: &mut E,
+)
+    requires { MayExplain R.rights rt.now job.now }
+{
+    if let Some(failure) = cause {
+        return tell_failure(err, &failure, "");
+    }
+    match image_at_fault(rt, job) {
+        Some((image, error)) => tell_of(err, image, error),
+        None => {
+            let _ = writeln!(err, "{UNREAD}");
+        }
+    }
+}
+
+/// Prints why a file failed while it was written or read, and what to do. If the system said nothing, it is no longer
+/// the file that was opened.
+pub(crate) fn tell_device<E: Write>(job: &Job<'_>, cause: Option<Failure<'_>>, err: &mut E) {
+    let Some(failure) = cause else {
+        return tell_of(err, image_of(job), GONE);
+    };
+    match failure.error.kind() {
+        ErrorKind::NotFound => tell_failure(err, &failure, ""),
+        ErrorKind::StorageFull | ErrorKind::QuotaExceeded => tell_failure(err, &failure, FULL),
+        _ => tell_failure(err, &failure, UNWRITTEN),
+    }
+}

@@ -1,0 +1,87 @@
+//! What a refusal is about, and what is said of it to a person.
+use crate::refusals::Refusal;
+use command_faults::CommandFault;
+
+/// What a line for a person is about.
+pub(crate) enum About {
+    /// A file that couldn't be opened or read, or the output.
+    Files,
+    /// The image's size.
+    Size,
+    /// A file that failed while it was written or read.
+    Device,
+    /// The image, of which this is printed.
+    Image(&'static str),
+    /// A name that no file of the image has.
+    Name,
+    /// The script or the records, of which this is printed.
+    Text(&'static str),
+    /// A file that is to be made.
+    Made,
+    /// Nothing that the refusal's own line leaves open.
+    Nothing,
+}
+
+/// What is wrong with a disk, and with an image that is no shop's.
+const JUDGED: &str = "docs/KEEPERS.md says what the word means, and what to do";
+
+const NO_SHOP: &str = "it is no shop of this program, or another program wrote to it";
+
+const KEPT: &str = "no file owns what is kept, but another program may; `repair --free` frees it";
+
+const FOREIGN_LOG: &str =
+    "the log beside it is of another image, or not whole; docs/LOG.md says what to do";
+
+pub(crate) const CUT_SHORT: &str =
+    "a file ends at that sector, too early: docs/KEEPERS.md says what to do";
+
+const NAMED: &str = "a file has this name; `ledger list` shows them";
+
+const NO_ROOM: &str = "it has too few free blocks, or no room in its directory; nothing was done";
+
+const LOCKED: &str = "the file is locked: `ledger list` prints `<` after its type";
+
+const SHOP_FILE: &str =
+    "the file is one of the two that a shop is kept in; without it the shop is lost";
+
+const BAD_LINE: &str = "nothing was done; mend the line, and run it again";
+
+const GEOS: &str = "it is a disk of GEOS, which keeps sectors that no file owns";
+
+const FORMAT: &str = "its format byte isn't $41; it may be no disk of the 1541";
+
+/// What a fault of a command is about.
+fn about_fault(fault: CommandFault) -> About {
+    match fault {
+        CommandFault::File => About::Files,
+        CommandFault::ImageSize => About::Size,
+        CommandFault::Layout(_) => About::Image(JUDGED),
+        CommandFault::NoFile => About::Name,
+        CommandFault::FileExists => About::Image(NAMED),
+        CommandFault::DiskFull => About::Image(NO_ROOM),
+        CommandFault::Locked => About::Image(LOCKED),
+        CommandFault::NoStock | CommandFault::NoRequests => About::Image(NO_SHOP),
+        CommandFault::BadCard(_) | CommandFault::BadRequestCard(_) => About::Image(NO_SHOP),
+        CommandFault::TwoIntents => About::Image(NO_SHOP),
+        CommandFault::ScriptLine(_) | CommandFault::RecordsLine(_) => About::Text(BAD_LINE),
+        CommandFault::Geos => About::Image(GEOS),
+        CommandFault::Format => About::Image(FORMAT),
+        CommandFault::Device => About::Device,
+        CommandFault::NoMemory => About::Nothing,
+    }
+}
+
+/// What a refusal is about.
+pub(crate) fn subject_of(refusal: Refusal) -> About {
+    match refusal {
+        Refusal::Fault(fault) => about_fault(fault),
+        Refusal::InUse => About::Image("another program has it; end that one first"),
+        Refusal::Kept(_) => About::Image(KEPT),
+        Refusal::Exists => About::Made,
+        Refusal::Log => About::Image(FOREIGN_LOG),
+        Refusal::Short(_) => About::Image(CUT_SHORT),
+        Refusal::ShopFile => About::Image(SHOP_FILE),
+        Refusal::Trimmed => About::Image(JUDGED),
+        Refusal::Several(_) => About::Nothing,
+    }
+}
