@@ -8,7 +8,8 @@ them. Of each it checks
   - the words of WORDS below, outside code and quotation marks;
   - links: the file is there, and so is the heading that an anchor, or the name in italics after a link, refers to;
   - file names in backticks that begin with a folder of this repository;
-  - in README.md that each subcommand and each flag of the program is named, and that it has at most README_LIMIT words;
+  - in README.md that each subcommand and each flag of the program is named, and that it has at most README_LIMIT words. Each
+    subcommand also has a line in tests/commands.py;
   - in docs/EMBED.md and docs/PROOF.md the lines of code, each of which is a line of a source (but for comments and `...`).
 It also counts the words of all documents, against LIMIT, without the definitions that they quote whole (tests/quotes.py checks
 those). Of the sources it checks
@@ -22,6 +23,10 @@ a source has a finding, or all documents together are too long."""
 import re
 import sys
 from pathlib import Path
+
+sys.dont_write_bytecode = True
+sys.path.insert(0, str(Path(__file__).resolve().parent))
+from commands import COMMANDS  # noqa: E402
 
 TOP = Path(__file__).resolve().parent.parent
 LIMIT = 32_000
@@ -148,12 +153,14 @@ def unknown_code(text, known):
 
 
 def unnamed_words(text):
-    """Subcommands and flags of the program's grammar that the README doesn't name."""
+    """Subcommands and flags of the program's grammar that the README doesn't name, and subcommands that no script tries."""
     table = "".join(it.read_text() for it in sorted((TOP / "crates/command_table/src").glob("*.rt")))
     commands = re.findall(r'name: "([a-z-]+)",\s*about:', table)
     flags = [f"--{it}" for it in re.findall(r'word: Some\("([a-z-]+)"\)', table)]
     named = set(re.findall(r"--[a-z-]+|[a-z-]+", " ".join(re.findall(r"`([^`\n]+)`", text))))
-    return [(1, "not named", it) for it in dict.fromkeys(commands + flags) if it not in named]
+    tried = {word for command in COMMANDS for word in command.words}
+    untried = [(1, "not in tests/commands.py", it) for it in commands if it not in tried]
+    return untried + [(1, "not named", it) for it in dict.fromkeys(commands + flags) if it not in named]
 
 
 def count_words(text):

@@ -1,4 +1,4 @@
-//! The line that tells a person which file failed, and what the system said of it.
+//! The line that says to a person which file failed, and what the system said of it.
 ghost use Rattle.ledger_jobs.specs.Rights.{MayExplain, MayLook};
 
 use crate::files::STANDARD_INPUT;

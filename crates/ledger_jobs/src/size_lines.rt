@@ -1,4 +1,4 @@
-//! The line that tells a person which size an image has.
+//! The line that says to a person which size an image has.
 ghost use Rattle.std.specs.Prelude.{IfSome};
 ghost use Rattle.ledger_jobs.specs.Rights.{MayExplain, MayLook};
 
