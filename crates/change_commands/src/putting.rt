@@ -25,18 +25,18 @@ pub fn put_image<D: Sectors, W: Write>(
     image: &[u8],
     name: &[u8],
     kind: FileType,
-    data: &[u8],
+    content: &[u8],
     disk: &mut D,
     out: &mut W,
 ) -> Result<(), CommandFault>
     requires holds { D.history.image disk.old ≡ sectors_in image.now }
     requires name { length name.now ≤ 16 }
-    ensures ok { OnOk result (IsPutDone D.history W.contents image.now name.now kind data.now disk.old disk.new
+    ensures ok { OnOk result (IsPutDone D.history W.contents image.now name.now kind content.now disk.old disk.new
         out.old out.new) }
-    ensures err { IfErr result (IsPutFault D.history image.now name.now kind data.now disk.old disk.new out.old out.new) }
+    ensures err { IfErr result (IsPutFault D.history image.now name.now kind content.now disk.old disk.new out.old out.new) }
 {
     judge_clean(alloc, image)?;
-    if let Err(fault) = put_file(disk, name, kind, data) {
+    if let Err(fault) = put_file(disk, name, kind, content) {
         return Err(refusal(fault));
     }
     put(out, b"PUT\n")?;

@@ -7,7 +7,7 @@ use Rattle.clap.specs.declared.parser.matches.ArgMatches.{ArgMatches}
 use Rattle.command_table.specs.Grammar.{value}
 use Rattle.ledger_jobs.specs.declared.jobs.Job.{Job}
 use Rattle.ledger_jobs.specs.declared.jobs.Taking.{Taking}
-use Rattle.ledger_jobs.specs.declared.jobs.View.{View}
+use Rattle.disk_pictures.specs.declared.views.View.{View}
 use Rattle.ledger_jobs.specs.Names.{IsNameOf, name_bytes}
 use Rattle.command_line.specs.declared.faults.JobFault.{JobFault}
 use Rattle.command_line.specs.Numbers.{tills_in, length_in, place_in}
@@ -21,7 +21,7 @@ use Rattle.command_line.specs.Positions.{HasNoColumns}
 use Rattle.ledger_jobs.specs.declared.jobs.Job.TheVariants as jobs
 use Rattle.ledger_jobs.specs.declared.jobs.Overview.TheVariants as overviews
 use Rattle.ledger_jobs.specs.declared.jobs.Taking.TheVariants as takings
-use Rattle.ledger_jobs.specs.declared.jobs.View.TheVariants as views
+use Rattle.disk_pictures.specs.declared.views.View.TheVariants as views
 use Rattle.command_line.specs.declared.faults.JobFault.TheVariants as faults
 
 -- the subcommand is this one, and of its values this holds

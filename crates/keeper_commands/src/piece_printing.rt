@@ -29,16 +29,16 @@ fn put_piece<W: Write>(
     out: &mut W,
     form: RecordForm,
     number: u32,
-    record: &[u8],
+    piece: &[u8],
 ) -> Result<(), CommandFault>
-    requires { length record.now ≤ 254 }
-    ensures ok { OnOk result (Appends (W.contents out.old) (W.contents out.new) (form_line form number record.now)) }
+    requires { length piece.now ≤ 254 }
+    ensures ok { OnOk result (Appends (W.contents out.old) (W.contents out.new) (form_line form number piece.now)) }
     ensures part { OnErr result (HandsPart (W.contents out.old) (W.contents out.new)
-        (form_line form number record.now)) }
+        (form_line form number piece.now)) }
     ensures err { IfErr result (λ fault. fault ≡ faults.File) }
 {
     let mut bytes = ArrayVec::new();
-    refill(&mut bytes, record);
+    refill(&mut bytes, piece);
     put_form_line(out, form, number, &bytes)
 }
 

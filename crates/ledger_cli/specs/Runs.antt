@@ -25,7 +25,7 @@ use Rattle.ledger_jobs.specs.NewDisks.{IsNewImage}
 use Rattle.ledger_jobs.specs.Puts.{IsPutOver}
 use Rattle.shop_commands.specs.Images.{AreFreshBytes}
 use Rattle.ledger_jobs.specs.Runs.{IsPlayRun, IsReadingEnd}
-use Rattle.ledger_jobs.specs.Views.{IsViewRun}
+use Rattle.disk_pictures.specs.Views.{IsViewRun}
 use Rattle.ledger_jobs.specs.declared.jobs.Job.{Job}
 use Rattle.ledger_jobs.specs.declared.jobs.Job.TheVariants as jobs
 use Rattle.ledger_jobs.specs.declared.jobs.Effect.{Effect}

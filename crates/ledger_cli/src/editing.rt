@@ -60,18 +60,18 @@ pub(crate) fn put<F: Write + Seek + Drop, W: Write>(
     image: &[u8],
     name: &Name,
     kind: FileType,
-    data: &[u8],
+    content: &[u8],
     file: Option<F>,
     out: &mut W,
 ) -> (Option<F>, Ended)
     requires name { IsNewName (name_bytes name.now) }
-    ensures { IsPut F.stream_position F.stream_bytes F.contents W.contents image.now (name_bytes name.now) kind data.now
+    ensures { IsPut F.stream_position F.stream_bytes F.contents W.contents image.now (name_bytes name.now) kind content.now
         file result.0 out.old out.new result.1 }
 {
     match begin(alloc, image, file) {
         Ok(stream) => {
             let name = name.as_bytes();
-            let (stream, ended) = put_guarded(alloc, image, name, kind, data, stream, out);
+            let (stream, ended) = put_guarded(alloc, image, name, kind, content, stream, out);
             (file_of(stream), ended)
         }
         Err((fault, file)) => (file, Err(Refusal::Fault(fault))),

@@ -6,9 +6,10 @@ ghost use Rattle.ledger_jobs.specs.Jobs.{IsFit};
 use crate::changing::{Ended, begin_disk, copy, format, make, play, repair, serve, store};
 use crate::editing::{delete, put, rename};
 use command_faults::CommandFault;
+use disk_pictures::view_image;
 use ledger_jobs::{
     Findings, Job, Reading, Refusal, comparing_run, drawing_run, end, job_end, listing_run,
-    reading_run, run_end, take_told, view_run,
+    reading_run, run_end, take_told,
 };
 use std::alloc::Global;
 use std::io::{Seek, Write};
@@ -80,7 +81,7 @@ fn obey<F: Write + Seek + Drop, W: Write>(
             (file, ended)
         }
         Job::Draw { what, .. } => (file, job_end(drawing_run(alloc, what, image, out))),
-        Job::View { what, .. } => (file, run_end(view_run(alloc, what, image, out))),
+        Job::View { what, .. } => (file, run_end(view_image(alloc, what, image, out))),
         Job::Compare { .. } => (file, job_end(comparing_run(alloc, image, script, out))),
         // it needs the bytes of each image, or standard error too
         Job::Several { .. } | Job::Sheet { .. } | Job::Describe { .. } | Job::Trim { .. } => {

@@ -25,5 +25,4 @@ pub mod Runs
 pub mod Serves
 pub mod SheetPages
 pub mod Trims
-pub mod Views
 pub mod WatchedFiles

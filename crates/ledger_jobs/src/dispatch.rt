@@ -140,7 +140,7 @@ where
 /// read. The other faults are those of `reading_run`, `format_image`, `new_run`, `play_durably`, `play_logged`,
 /// `serve_guarded`, `serve_logged_guarded`, `copy_run`, `repair_guarded`, `rebuild_image`, `make_guarded`, `rename_guarded`,
 /// `delete_guarded`, `put_guarded`, `store_guarded`, `take_told`, `extract_run`, `listing_run`, `drawing_run`,
-/// `comparing_run` and `view_run`. `Trim` ends with `File`, since it reports on standard error: call `do_trim`. What is
+/// `comparing_run` and `view_image`. `Trim` ends with `File`, since it reports on standard error: call `do_trim`. What is
 /// wrong with one of several images is printed; only a failed output ends the job before the last of them.
 pub fn do_job<F, R, W>(rt: &R, job: &Job<'_>, out: &mut W) -> Result<Option<Fault>, Refusal>
 where

@@ -82,22 +82,22 @@ pub fn put_run<F: SectorFile, W: Write>(
     image: &[u8],
     name: &[u8],
     kind: FileType,
-    data: &[u8],
+    content: &[u8],
     file: F,
     out: &mut W,
 ) -> (F, Result<(), CommandFault>)
     requires name { length name.now ≤ 16 }
     // if it is known what the file keeps, it is this image
     requires agrees { Agrees (F.keeps.kept file) (sectors_in image.now) }
-    ensures run { IsPutOver F.keeps W.contents image.now name.now kind data.now file result.0 out.old out.new result.1 }
+    ensures run { IsPutOver F.keeps W.contents image.now name.now kind content.now file result.0 out.old out.new result.1 }
 {
     let disk = match load(alloc, image) {
         Ok(disk) => disk,
         Err(fault) => return (file, Err(fault)),
     };
     // so that its sectors can be counted
-    let _ = count_of(data);
+    let _ = count_of(content);
     let mut mirror = KeptMirror::new(file, disk);
-    let ended = put_image(alloc, image, name, kind, data, &mut mirror, out);
+    let ended = put_image(alloc, image, name, kind, content, &mut mirror, out);
     file_of(mirror, ended)
 }

@@ -1,6 +1,6 @@
 //! What the program can be asked to do.
 use crate::names::Name;
-use d64_image::Place;
+use disk_pictures::View;
 use file_changes::FileType;
 use file_rescue::Choice;
 use keeper_commands::{ByteForm, Candidates, ColumnForm, RecordForm};
@@ -75,15 +75,6 @@ pub enum Overview {
     Check(Findings),
     /// A line for each track.
     Map,
-}
-
-/// What is printed of an image that isn't checked.
-#[derive(Clone, Copy, Debug, PartialEq, Eq)]
-pub enum View {
-    /// How many sectors of each track its map calls free.
-    Free,
-    /// A sector, whose it is, and where its link leads.
-    Sector(Place),
 }
 
 /// What a job does on a disk that has lost a part of a file.

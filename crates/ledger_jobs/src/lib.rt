@@ -60,7 +60,7 @@ pub use explanations::explain;
 pub use extracting::extract_run;
 pub use job_files::files_of;
 pub use jobs::{
-    Columns, Drawing, Effect, Findings, Job, Loss, Overview, Reading, Taking, Unowned, View, Way,
+    Columns, Drawing, Effect, Findings, Job, Loss, Overview, Reading, Taking, Unowned, Way,
 };
 pub use keeper_runs::{dry_repair_run, make_run, repair_run, store_run, taking_run};
 pub use listings::listing_run;
@@ -82,5 +82,4 @@ pub use serving_runs::serve_run;
 pub use shop_runs::{play_run, reading_run};
 pub use system_files::ClosedStreams;
 pub use trimming::{do_trim, trim_run};
-pub use viewing::view_run;
 pub use watched_files::WhileThere;

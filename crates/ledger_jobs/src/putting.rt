@@ -34,7 +34,7 @@ pub fn put_guarded<F: SectorFile, W: Write>(
     image: &[u8],
     name: &[u8],
     kind: FileType,
-    data: &[u8],
+    content: &[u8],
     file: F,
     out: &mut W,
 ) -> (F, Result<Option<Fault>, Refusal>)
@@ -42,13 +42,13 @@ pub fn put_guarded<F: SectorFile, W: Write>(
     // if it is known what the file keeps, it is this image
     requires agrees { Agrees (F.keeps.kept file) (sectors_in image.now) }
     ensures { IsGuarded image.now losses.Refused (IsUntouched file result.0 out.old out.new)
-        (IsEndOfRun (IsPutOver F.keeps W.contents image.now name.now kind data.now file result.0 out.old out.new))
+        (IsEndOfRun (IsPutOver F.keeps W.contents image.now name.now kind content.now file result.0 out.old out.new))
         result.1 }
 {
     if let Some(refusal) = loss_refusal(alloc, image, Loss::Refused) {
         return (file, Err(refusal));
     }
-    let (left, ended) = put_run(alloc, image, name, kind, data, file, out);
+    let (left, ended) = put_run(alloc, image, name, kind, content, file, out);
     (left, run_end(ended))
 }
 
@@ -70,8 +70,8 @@ where
     requires name { IsNewName (name_bytes name.now) }
 {
     let (image, file) = image_to_keep(rt, path)?;
-    let data = told(script_at(rt, source))?;
-    let (image, name, data) = (image.as_slice(), name.as_bytes(), data.as_slice());
-    let (_, ended) = put_guarded(rt.alloc(), image, name, kind, data, file, out);
+    let content = told(script_at(rt, source))?;
+    let (image, name, content) = (image.as_slice(), name.as_bytes(), content.as_slice());
+    let (_, ended) = put_guarded(rt.alloc(), image, name, kind, content, file, out);
     ended
 }

@@ -1,34 +1,15 @@
-//! What is printed of an image that isn't checked, done over its bytes and its file.
-ghost use Rattle.ledger_jobs.specs.Views.{IsViewRun};
+//! What is printed of an image that isn't checked, at its path.
 ghost use Rattle.ledger_jobs.specs.Rights.{MayReadImage};
 
-use crate::jobs::View;
 use crate::outcomes::run_end;
 use crate::readings::image_at;
 use crate::refusals::Refusal;
-use command_faults::CommandFault;
 use disk_layout::Fault;
-use disk_pictures::{free_image, sector_image};
+use disk_pictures::{View, view_image};
 use host_files::HostFiles;
 use shop_commands::Locks;
-use std::alloc::Global;
 use std::fs::OpenFile;
 use std::io::{Read, Write};
-
-/// Prints what is asked of an image. `ImageSize`, `NoMemory`: nothing was printed then. `File` if the output failed.
-pub fn view_run<W: Write>(
-    alloc: Global,
-    what: View,
-    image: &[u8],
-    out: &mut W,
-) -> Result<(), CommandFault>
-    ensures run { IsViewRun W.contents what image.now out.old out.new result }
-{
-    match what {
-        View::Free => free_image(alloc, image, out),
-        View::Sector(place) => sector_image(alloc, image, place, out),
-    }
-}
 
 /// Prints what is asked of the image at a path.
 pub(crate) fn do_viewing<F, R, W>(
@@ -44,5 +25,5 @@ where
     requires { MayReadImage R.rights rt.now path.now }
 {
     let image = image_at(rt, path)?;
-    run_end(view_run(rt.alloc(), what, image.as_slice(), out))
+    run_end(view_image(rt.alloc(), what, image.as_slice(), out))
 }

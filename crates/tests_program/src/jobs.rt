@@ -1,13 +1,12 @@
 //! The job that words ask for, printed in a line.
 use crate::runs::texts_of;
 use command_line::command_line;
+use disk_pictures::View;
 use file_changes::FileType;
 use file_rescue::Choice;
 use keeper_commands::{ByteForm, Candidates, ColumnForm, RecordForm};
 use ledger_cli::{Job, job};
-use ledger_jobs::{
-    Columns, Drawing, Effect, Findings, Loss, Name, Overview, Taking, Unowned, View, Way,
-};
+use ledger_jobs::{Columns, Drawing, Effect, Findings, Loss, Name, Overview, Taking, Unowned, Way};
 use petscii_text::CharacterSet;
 use shop_commands::{Durability, NameForm};
 use std::alloc::Global;

@@ -18,9 +18,9 @@ returns-in-Ok g c =
     over c.args.image.now c.args.file c.file_of.result old run.new.out end
     (λ b a. IsGuarded c.args.image.now losses.Refused (IsUntouched b a old run.new.out)
     (IsEndOfRun (IsPutOver K g.W.Write.contents c.args.image.now (name_bytes c.args.name.now) c.args.kind
-    c.args.data.now b a old run.new.out)) end)
+    c.args.content.now b a old run.new.out)) end)
     c.in-Ok.stream run.result.0 c.in-Ok.ensures.ok c.file_of.ensures
     (subst (λ n. IsGuarded c.args.image.now losses.Refused (IsUntouched c.in-Ok.stream run.result.0 old run.new.out)
-    (IsEndOfRun (IsPutOver K g.W.Write.contents c.args.image.now n c.args.kind c.args.data.now c.in-Ok.stream
+    (IsEndOfRun (IsPutOver K g.W.Write.contents c.args.image.now n c.args.kind c.args.content.now c.in-Ok.stream
     run.result.0 old run.new.out)) end)
     c.as_bytes-name.ensures run.ensures)

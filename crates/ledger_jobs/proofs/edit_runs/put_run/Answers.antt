@@ -15,7 +15,7 @@ put_image-ended-requires-clause-holds g c =
 pub returns-in-Err : goal.returns-in-Err
 returns-in-Err g c = record {
   run = put-not-loaded g.F.SectorFile.keeps g.W.Write.contents c.args.image.now c.args.name.now c.args.kind
-      c.args.data.now c.args.file c.args.out.now c.in-Err.fault c.in-Err.ensures.err;
+      c.args.content.now c.args.file c.args.out.now c.in-Err.fault c.in-Err.ensures.err;
 }
 
 pub returns : goal.returns
@@ -29,7 +29,7 @@ returns g c =
     ∙ c.requires.agrees in
     record {
       run = put-ended start c.new-mirror.ensures.whole c.new-mirror.ensures.untaken c.put_image-ended.new.disk image
-          c.args.name.now c.args.kind c.args.data.now (few-sectors c.args.data.now c.count_of.ensures.fits) g.W.Write.contents loaded.0 holds
+          c.args.name.now c.args.kind c.args.content.now (few-sectors c.args.content.now c.count_of.ensures.fits) g.W.Write.contents loaded.0 holds
           c.args.out.now c.put_image-ended.new.out c.args.file c.put_image-ended.result c.file_of.result
           c.new-mirror.ensures.file c.file_of.ensures.file c.put_image-ended.ensures.ok c.put_image-ended.ensures.err
           c.file_of.ensures.end;
