@@ -14,7 +14,6 @@ use Rattle.log_server.specs.Serves.{IsServedOver}
 use Rattle.shop_commands.specs.Faults.{opening_fault}
 use Rattle.command_faults.specs.Faults.{IsLoadFault}
 use Rattle.command_faults.specs.declared.faults.CommandFault.{CommandFault}
-use Rattle.command_faults.specs.declared.faults.CommandFault.TheVariants as faults
 use Rattle.shop_log.specs.ImageLogs.{LogHistory}
 use Rattle.ledger_jobs.specs.FileServes.{loop_fault}
 use Rattle.ledger_jobs.specs.LoggedRuns.{IsLoggedFault, IsLoggedTo, IsUnlogged}
