@@ -85,6 +85,21 @@ ends 3
 written
 $ ledger_cli play --log a.d64 s.txt
 prints 1,1,DONE,5|
+
+gone 2
+$ ledger_cli play --log a.d64 s.txt
+tells DEVICE|
+ends 3
+
+gone 4
+$ ledger_cli play --log a.d64 s.txt
+prints 1,1,DONE,5|
+tells DEVICE|
+ends 3
+logged
+$ ledger_cli play --log a.d64 s.txt
+prints 1,1,DONE,5|
+written
 ";
 
 #[test]
