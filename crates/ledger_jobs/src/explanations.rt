@@ -61,7 +61,7 @@ where
     requires { MayExplain R.rights rt.now job.now }
 {
     let image = image_of(job);
-    match subject_of(refusal) {
+    match subject_of(job, refusal) {
         About::Files => tell_files(rt, job, cause, err),
         About::Size => {
             if let Some(image) = missized_of(rt, job) {

@@ -1,6 +1,8 @@
 //! What a refusal is about, and what is said of it to a person.
+use crate::jobs::Job;
 use crate::refusals::Refusal;
 use command_faults::CommandFault;
+use disk_layout::Fault;
 
 /// What a line for a person is about.
 pub(crate) enum About {
@@ -50,6 +52,8 @@ const GEOS: &str = "it is a disk of GEOS, which keeps sectors that no file owns"
 
 const FORMAT: &str = "its format byte isn't $41; it may be no disk of the 1541";
 
+const SIDES: &str = "a side sector disagrees with its file; `repair --sides` builds those anew";
+
 /// What a fault of a command is about.
 fn about_fault(fault: CommandFault) -> About {
     match fault {
@@ -71,10 +75,18 @@ fn about_fault(fault: CommandFault) -> About {
     }
 }
 
-/// What a refusal is about.
-pub(crate) fn subject_of(refusal: Refusal) -> About {
+/// What a fault of this job is about. A repair that keeps side sectors as they are says which flag builds them anew.
+fn about_job(job: &Job<'_>, fault: CommandFault) -> About {
+    match (job, fault) {
+        (Job::Repair { .. }, CommandFault::Layout(Fault::BadSide(_))) => About::Image(SIDES),
+        _ => about_fault(fault),
+    }
+}
+
+/// What a refusal of this job is about.
+pub(crate) fn subject_of(job: &Job<'_>, refusal: Refusal) -> About {
     match refusal {
-        Refusal::Fault(fault) => about_fault(fault),
+        Refusal::Fault(fault) => about_job(job, fault),
         Refusal::InUse => About::Image("another program has it; end that one first"),
         Refusal::Kept(_) => About::Image(KEPT),
         Refusal::Exists => About::Made,

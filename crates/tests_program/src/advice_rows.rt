@@ -16,6 +16,12 @@ person ledger_cli store a.d64 CARDS s.txt
 tells LAYOUT COUNTWRONG 18/1|ledger: a.d64: docs/KEEPERS.md says what the word means, and what to do|
 ends 1
 
+hurt SIDE LOST
+script
+person ledger_cli repair a.d64
+tells LAYOUT BADSIDE 17/1|ledger: a.d64: a side sector disagrees with its file; `repair --sides` builds those anew|
+ends 1
+
 hurt NO DIRECTORY
 script
 person ledger_cli map a.d64
