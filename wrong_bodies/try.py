@@ -133,19 +133,22 @@ def readable(crate, copies):
 
 
 def by_copies(crate, edits):
-    """The verdicts on those of these edits that are refused in copies of their functions: as they are, or with the answers set aside
-    that don't fit."""
+    """The verdicts on those of these edits that copies of their functions judge: as they are, or with the answers set aside that don't
+    fit. Those that are refused come first, after each check."""
     said, copies = readable(crate, [it for it in (copy_of(crate, edit) for edit in edits) if it])
+    told = {it: (Told(said, [it.place]),) * 2 for it in copies}
     removed, left = set(), copies
-    kept = aside = {it: Told(said, [it.place]) for it in copies}
     for turn in range(TIMES + 1):
-        yield from ((it.edit, *verdict(it.edit, kept[it], aside[it])) for it in left if refusal(it.edit, kept[it], aside[it]))
-        left = [it for it in left if aside[it].answers and not refusal(it.edit, kept[it], aside[it])]
-        if not left or turn == TIMES:
+        refused = [it for it in left if refusal(it.edit, *told[it])]
+        yield from ((it.edit, *verdict(it.edit, *told[it])) for it in refused)
+        left = [it for it in left if it not in refused]
+        misfits = [it for it in left if told[it][1].answers]
+        if not misfits or turn == TIMES:
             break
-        removed |= {(file, name) for it in left for file, name, _ in aside[it].answers}
-        said, _ = checked(crate, with_copies(crate, copies, removed), sorted(name_of(it.place) for it in left))
-        aside = {it: Told(said, [it.place]) for it in left}
+        removed |= {(file, name) for it in misfits for file, name, _ in told[it][1].answers}
+        said, _ = checked(crate, with_copies(crate, copies, removed), sorted(name_of(it.place) for it in misfits))
+        told |= {it: (told[it][0], Told(said, [it.place])) for it in misfits}
+    yield from ((it.edit, *verdict(it.edit, *told[it])) for it in left if told[it][1].goals and not told[it][1].waits)
 
 
 def by_rounds(crate, edits):
