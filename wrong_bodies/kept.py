@@ -1,7 +1,7 @@
 """The verdicts that are kept in VERDICTS: a line for each wrong body, sorted, in which a later verdict replaces an older one."""
 
 import datetime
-import os
+import fcntl
 import re
 import subprocess
 from pathlib import Path
@@ -34,13 +34,14 @@ def lines_of(file=FILE):
 
 
 def keep(name, word, why, when, file=FILE):
-    """Writes a verdict, in the place of an older one."""
-    lines = lines_of(file)
+    """Writes a verdict, in the place of an older one; beside other runs that do so."""
     clause = clause_of(why)
-    lines[name] = f"{name}: {word.strip()}{f' ({clause})' if clause else ''}, {when[0]}, {when[1]}"
-    draft = file.with_suffix(".new")
-    draft.write_text("".join(lines[it] + "\n" for it in sorted(lines)), encoding="utf-8")
-    os.replace(draft, file)
+    with open(file, "a", encoding="utf-8") as kept:
+        fcntl.flock(kept, fcntl.LOCK_EX)
+        lines = lines_of(file)
+        lines[name] = f"{name}: {word.strip()}{f' ({clause})' if clause else ''}, {when[0]}, {when[1]}"
+        kept.truncate(0)
+        kept.write("".join(lines[it] + "\n" for it in sorted(lines)))
 
 
 def refused(file=FILE):
