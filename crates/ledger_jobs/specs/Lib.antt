@@ -8,6 +8,7 @@ pub mod Edited
 pub mod Ends
 pub mod Extracts
 pub mod FileServes
+pub mod HostFiles
 pub mod Jobs
 pub mod Keeping
 pub mod Kept

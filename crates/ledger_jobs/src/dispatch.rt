@@ -1,5 +1,10 @@
 //! Doing a job: its files are opened and read, and what is printed goes to an output.
-ghost use Rattle.std.specs.Prelude.{◌≡◌, ◌≤◌};
+ghost use Rattle.std.specs.Prelude.{◌≡◌, ◌≤◌, take};
+ghost use Rattle.ledger_jobs.specs.Drawings.{IsDrawingRun};
+ghost use Rattle.ledger_jobs.specs.Ends.{EndsAs, as_drawn};
+ghost use Rattle.ledger_jobs.specs.HostFiles.{OfImage, RunEnds};
+ghost use Rattle.ledger_jobs.specs.Losses.{IsTakingEnd};
+ghost use Rattle.ledger_jobs.specs.Names.{name_bytes};
 ghost use Rattle.ledger_jobs.specs.Jobs.{IsFit};
 ghost use Rattle.ledger_jobs.specs.declared.files.Older.TheVariants.{Replaced};
 ghost use Rattle.ledger_jobs.specs.Rights.{MayChangeImage, MayDo, MayMakeImage, MayOverwrite, MayReadImage, MayReadText};
@@ -107,6 +112,8 @@ where
     R: HostFiles<File = F> + Input + AllocGlobal,
     W: Write,
     requires { MayReadImage R.rights rt.now path.now }
+    ensures { OfImage R.rights R.stands rt.now path.now (λ all. RunEnds out.old out.new result
+        (IsTakingEnd W.contents what (take 174849 all) (name_bytes name.now) out.old out.new result)) }
 {
     let image = image_at(rt, path)?;
     take_told(rt.alloc(), what, image.as_slice(), name.as_bytes(), out)
@@ -124,6 +131,8 @@ where
     R: HostFiles<File = F> + Input + AllocGlobal,
     W: Write,
     requires { MayReadImage R.rights rt.now path.now }
+    ensures { OfImage R.rights R.stands rt.now path.now (λ all. RunEnds out.old out.new result
+        (EndsAs as_drawn result (IsDrawingRun W.contents what (take 174849 all) out.old out.new))) }
 {
     let image = image_at(rt, path)?;
     drawn_end(drawing_run(rt.alloc(), what, image.as_slice(), out))

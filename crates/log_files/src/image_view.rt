@@ -32,6 +32,8 @@ impl<'a, R: HostFiles> ImageView<'a, R> {
     /// The image whose file this is, open to be read. The caller has a shared lock on it.
     pub fn new(rt: &'a R, alloc: Global, names: &'a LogNames, image: R::File) -> ImageView<'a, R>
         requires { MayReadLogOf R.rights rt.now (string_bytes names.now.image) }
+        ensures { IsMissing R.stands rt.now (log_of (string_bytes names.now.image))
+            → IsMissing R.stands result.rt.now (log_of (string_bytes result.names.now.image)) }
     {
         ImageView {
             rt,
