@@ -7,10 +7,11 @@ use Rattle.disk_layout.specs.Layout.{Layout}
 use Rattle.file_changes.specs.Deletes.{Deletes}
 use Rattle.file_changes.specs.declared.faults.ChangeFault.{ChangeFault}
 use Rattle.file_changes.specs.declared.faults.ChangeFault.TheVariants as change
-use Rattle.change_commands.specs.Faults.{IsCleanFault, edit_fault}
+use Rattle.command_faults.specs.Faults.{IsCleanFault}
+use Rattle.change_commands.specs.Faults.{edit_fault}
 use Rattle.change_commands.specs.Deletes.{IsLeftClean, IsDeleteFault, IsDeleteRun, IsDeletedDisk}
-use Rattle.change_commands.specs.declared.faults.EditFault.{EditFault}
-use Rattle.change_commands.specs.declared.faults.EditFault.TheVariants as edit
+use Rattle.command_faults.specs.declared.faults.CommandFault.{CommandFault}
+use Rattle.command_faults.specs.declared.faults.CommandFault.TheVariants as faults
 
 module _ {D : Type 0} (S : History D) (image name : List ℕ) (a b : D) (size : length image ≡ 174848)
     (clean : IsClean (S.image a)) where
@@ -60,7 +61,7 @@ module _ {D : Type 0} (S : History D) (image name : List ℕ) (a b : D) (size : 
 
 -- the name is too long for an entry
 pub delete-long : {D W : Type 0} (S : History D) (image name : List ℕ) (a : D) (w : W) → length image ≡ 174848
-    → IsClean (S.image a) → 16 < length name → IsDeleteFault S image name a a w w edit.NoFile
+    → IsClean (S.image a) → 16 < length name → IsDeleteFault S image name a a w w faults.NoFile
 delete-long S image name a w size clean long = record {
   size = size;
   layout = clean.0;
@@ -71,14 +72,14 @@ delete-long S image name a w size clean long = record {
 }
 
 -- the image isn't that of a clean disk
-pub delete-unclean : {D W : Type 0} (S : History D) (image name : List ℕ) (a : D) (w : W) (fault : EditFault)
+pub delete-unclean : {D W : Type 0} (S : History D) (image name : List ℕ) (a : D) (w : W) (fault : CommandFault)
     → IsCleanFault image fault → IsDeleteFault S image name a a w w fault
-delete-unclean S image name a w edit.ImageSize told = (told, refl, refl)
-delete-unclean S image name a w edit.NoMemory told = (told, refl, refl)
-delete-unclean S image name a w (edit.Layout fault) told = (told, refl, refl)
-delete-unclean S image name a w edit.NoFile told = absurd told
-delete-unclean S image name a w edit.FileExists told = absurd told
-delete-unclean S image name a w edit.DiskFull told = absurd told
-delete-unclean S image name a w edit.Locked told = absurd told
-delete-unclean S image name a w edit.File told = absurd told
-delete-unclean S image name a w edit.Device told = absurd told
+delete-unclean S image name a w faults.ImageSize told = (told, refl, refl)
+delete-unclean S image name a w faults.NoMemory told = (told, refl, refl)
+delete-unclean S image name a w (faults.Layout fault) told = (told, refl, refl)
+delete-unclean S image name a w faults.NoFile told = absurd told
+delete-unclean S image name a w faults.FileExists told = absurd told
+delete-unclean S image name a w faults.DiskFull told = absurd told
+delete-unclean S image name a w faults.Locked told = absurd told
+delete-unclean S image name a w faults.File told = absurd told
+delete-unclean S image name a w faults.Device told = absurd told

@@ -9,10 +9,11 @@ use Rattle.file_changes.specs.declared.faults.ChangeFault.{ChangeFault}
 use Rattle.file_changes.specs.declared.faults.ChangeFault.TheVariants as change
 use Rattle.file_changes.specs.declared.file_type.FileType.{FileType}
 use Rattle.change_commands.specs.Deletes.{IsLeftClean}
-use Rattle.change_commands.specs.Faults.{IsCleanFault, edit_fault}
+use Rattle.command_faults.specs.Faults.{IsCleanFault}
+use Rattle.change_commands.specs.Faults.{edit_fault}
 use Rattle.change_commands.specs.Puts.{IsPutDisk, IsPutFault, IsPutRun}
-use Rattle.change_commands.specs.declared.faults.EditFault.{EditFault}
-use Rattle.change_commands.specs.declared.faults.EditFault.TheVariants as edit
+use Rattle.command_faults.specs.declared.faults.CommandFault.{CommandFault}
+use Rattle.command_faults.specs.declared.faults.CommandFault.TheVariants as faults
 
 no-missing : (change.NotFound ≡ change.Exists) ⊎ ((change.NotFound ≡ change.Full) ⊎ (change.NotFound ≡ change.Device)) → ⊥
 no-missing told = ⊎_elim (λ e. cc) (⊎_elim (λ e. cc) (λ e. cc)) told
@@ -61,13 +62,13 @@ module _ {D : Type 0} (S : History D) (image name : List ℕ) (kind : FileType) 
 
 -- the image isn't that of a clean disk
 pub put-unclean : {D W : Type 0} (S : History D) (image name : List ℕ) (kind : FileType) (bytes : List ℕ) (a : D) (w : W)
-    (fault : EditFault) → IsCleanFault image fault → IsPutFault S image name kind bytes a a w w fault
-put-unclean S image name kind bytes a w edit.ImageSize told = (told, refl, refl)
-put-unclean S image name kind bytes a w edit.NoMemory told = (told, refl, refl)
-put-unclean S image name kind bytes a w (edit.Layout fault) told = (told, refl, refl)
-put-unclean S image name kind bytes a w edit.NoFile told = absurd told
-put-unclean S image name kind bytes a w edit.FileExists told = absurd told
-put-unclean S image name kind bytes a w edit.DiskFull told = absurd told
-put-unclean S image name kind bytes a w edit.Locked told = absurd told
-put-unclean S image name kind bytes a w edit.File told = absurd told
-put-unclean S image name kind bytes a w edit.Device told = absurd told
+    (fault : CommandFault) → IsCleanFault image fault → IsPutFault S image name kind bytes a a w w fault
+put-unclean S image name kind bytes a w faults.ImageSize told = (told, refl, refl)
+put-unclean S image name kind bytes a w faults.NoMemory told = (told, refl, refl)
+put-unclean S image name kind bytes a w (faults.Layout fault) told = (told, refl, refl)
+put-unclean S image name kind bytes a w faults.NoFile told = absurd told
+put-unclean S image name kind bytes a w faults.FileExists told = absurd told
+put-unclean S image name kind bytes a w faults.DiskFull told = absurd told
+put-unclean S image name kind bytes a w faults.Locked told = absurd told
+put-unclean S image name kind bytes a w faults.File told = absurd told
+put-unclean S image name kind bytes a w faults.Device told = absurd told

@@ -8,8 +8,8 @@ use Rattle.file_changes.specs.declared.faults.ChangeFault.{ChangeFault}
 use Rattle.file_changes.specs.declared.faults.ChangeFault.TheVariants as change
 use Rattle.change_commands.specs.Faults.{IsSoundFault, edit_fault}
 use Rattle.change_commands.specs.Renames.{IsLeftSound, IsRenameFault, IsRenameRun, IsRenamedDisk}
-use Rattle.change_commands.specs.declared.faults.EditFault.{EditFault}
-use Rattle.change_commands.specs.declared.faults.EditFault.TheVariants as edit
+use Rattle.command_faults.specs.declared.faults.CommandFault.{CommandFault}
+use Rattle.command_faults.specs.declared.faults.CommandFault.TheVariants as faults
 
 module _ {D : Type 0} (S : History D) (image from to : List ℕ) (a b : D) (size : length image ≡ 174848)
     (sound : IsSound (S.image a)) where
@@ -59,7 +59,7 @@ module _ {D : Type 0} (S : History D) (image from to : List ℕ) (a b : D) (size
 
 -- the name is too long for an entry
 pub rename-long : {D W : Type 0} (S : History D) (image from to : List ℕ) (a : D) (w : W) → length image ≡ 174848
-    → IsSound (S.image a) → 16 < length from → IsRenameFault S image from to a a w w edit.NoFile
+    → IsSound (S.image a) → 16 < length from → IsRenameFault S image from to a a w w faults.NoFile
 rename-long S image from to a w size sound long = record {
   size = size;
   layout = sound.0;
@@ -70,14 +70,14 @@ rename-long S image from to a w size sound long = record {
 }
 
 -- the image isn't that of a sound disk
-pub rename-unsound : {D W : Type 0} (S : History D) (image from to : List ℕ) (a : D) (w : W) (fault : EditFault)
+pub rename-unsound : {D W : Type 0} (S : History D) (image from to : List ℕ) (a : D) (w : W) (fault : CommandFault)
     → IsSoundFault image fault → IsRenameFault S image from to a a w w fault
-rename-unsound S image from to a w edit.ImageSize told = (told, refl, refl)
-rename-unsound S image from to a w edit.NoMemory told = (told, refl, refl)
-rename-unsound S image from to a w (edit.Layout fault) told = (told, refl, refl)
-rename-unsound S image from to a w edit.NoFile told = absurd told
-rename-unsound S image from to a w edit.FileExists told = absurd told
-rename-unsound S image from to a w edit.DiskFull told = absurd told
-rename-unsound S image from to a w edit.Locked told = absurd told
-rename-unsound S image from to a w edit.File told = absurd told
-rename-unsound S image from to a w edit.Device told = absurd told
+rename-unsound S image from to a w faults.ImageSize told = (told, refl, refl)
+rename-unsound S image from to a w faults.NoMemory told = (told, refl, refl)
+rename-unsound S image from to a w (faults.Layout fault) told = (told, refl, refl)
+rename-unsound S image from to a w faults.NoFile told = absurd told
+rename-unsound S image from to a w faults.FileExists told = absurd told
+rename-unsound S image from to a w faults.DiskFull told = absurd told
+rename-unsound S image from to a w faults.Locked told = absurd told
+rename-unsound S image from to a w faults.File told = absurd told
+rename-unsound S image from to a w faults.Device told = absurd told

@@ -8,10 +8,10 @@ use Rattle.disk_layout.specs.Rest.{slot_name}
 use Rattle.disk_layout.specs.declared.slot.Slot.{Slot}
 use Rattle.file_changes.specs.Deletes.{HasFreed, HasLost, IsLocked}
 use Rattle.file_changes.specs.Entries.{IsFirstNamed, entries_of}
-use Rattle.change_commands.specs.Faults.{IsCleanFault}
+use Rattle.command_faults.specs.Faults.{IsCleanFault}
 use Rattle.change_commands.specs.Renames.{IsNoName}
-use Rattle.change_commands.specs.declared.faults.EditFault.{EditFault}
-use Rattle.change_commands.specs.declared.faults.EditFault.TheVariants as edit
+use Rattle.command_faults.specs.declared.faults.CommandFault.{CommandFault}
+use Rattle.command_faults.specs.declared.faults.CommandFault.TheVariants as faults
 
 -- The disk was clean, and whatever it held on the way is that image, or one without the file.
 pub record IsDeleteRun {D : Type 0} (S : History D) (image name : List ℕ) (old new : D) : Type 0 where
@@ -47,15 +47,15 @@ abbrev pub IsLockedName : Layout → List ℕ → Type 0
 IsLockedName l name = (n : ℕ) × (s : Slot) × IsFirstNamed (entries_of l) (slot_name name) n s × IsLocked s
 
 -- why a file isn't deleted, or that not printed. Only if the output failed something may have been printed
-abbrev pub IsDeleteFault : {D W : Type 0} → History D → List ℕ → List ℕ → D → D → W → W → EditFault → Type 0
-IsDeleteFault S image name old new before after edit.NoFile =
+abbrev pub IsDeleteFault : {D W : Type 0} → History D → List ℕ → List ℕ → D → D → W → W → CommandFault → Type 0
+IsDeleteFault S image name old new before after faults.NoFile =
     IsLeftClean S image old new before after (λ l. IsNoName l name)
-IsDeleteFault S image name old new before after edit.Locked =
+IsDeleteFault S image name old new before after faults.Locked =
     IsLeftClean S image old new before after (λ l. IsLockedName l name)
 -- the output failed: the file is deleted
-IsDeleteFault S image name old new before after edit.File = IsDeletedDisk S image name old new
-IsDeleteFault S image name old new before after edit.Device =
+IsDeleteFault S image name old new before after faults.File = IsDeletedDisk S image name old new
+IsDeleteFault S image name old new before after faults.Device =
     IsDeleteRun S image name old new × Failed S old new × (after ≡ before)
-IsDeleteFault S image name old new before after edit.FileExists = ⊥
+IsDeleteFault S image name old new before after faults.FileExists = ⊥
 IsDeleteFault S image name old new before after fault =
     IsCleanFault image fault × (new ≡ old) × (after ≡ before)

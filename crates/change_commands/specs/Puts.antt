@@ -7,9 +7,9 @@ use Rattle.disk_layout.specs.Layout.{Layout}
 use Rattle.file_changes.specs.Puts.{HasNoRoomFor, HasPut, IsNewName, IsPutting, sectors_for, stored}
 use Rattle.file_changes.specs.declared.file_type.FileType.{FileType}
 use Rattle.change_commands.specs.Deletes.{IsLeftClean}
-use Rattle.change_commands.specs.Faults.{IsCleanFault}
-use Rattle.change_commands.specs.declared.faults.EditFault.{EditFault}
-use Rattle.change_commands.specs.declared.faults.EditFault.TheVariants as edit
+use Rattle.command_faults.specs.Faults.{IsCleanFault}
+use Rattle.command_faults.specs.declared.faults.CommandFault.{CommandFault}
+use Rattle.command_faults.specs.declared.faults.CommandFault.TheVariants as faults
 
 -- The disk was clean, and whatever it held on the way has the files of that image, or the new one too.
 pub record IsPutRun {D : Type 0} (S : History D) (image name : List ℕ) (kind : FileType) (bytes : List ℕ) (old new : D)
@@ -34,18 +34,18 @@ pub record IsPutDone {D W : Type 0} (S : History D) (contents : W → Option (Li
   pub printed : Appends (contents before) (contents after) (codes "PUT\n")
 
 -- why a file isn't put there, or that not printed. Only if the output failed something may have been printed
-abbrev pub IsPutFault : {D W : Type 0} → History D → List ℕ → List ℕ → FileType → List ℕ → D → D → W → W → EditFault
+abbrev pub IsPutFault : {D W : Type 0} → History D → List ℕ → List ℕ → FileType → List ℕ → D → D → W → W → CommandFault
     → Type 0
-IsPutFault S image name kind bytes old new before after edit.FileExists =
+IsPutFault S image name kind bytes old new before after faults.FileExists =
     IsLeftClean S image old new before after (λ l. ¬ (IsNewName l name))
-IsPutFault S image name kind bytes old new before after edit.DiskFull =
+IsPutFault S image name kind bytes old new before after faults.DiskFull =
     IsLeftClean S image old new before after
     (λ l. HasNoRoomFor (S.image old) l (sectors_for (length (stored bytes))) × IsNewName l name)
 -- the output failed: the file is there
-IsPutFault S image name kind bytes old new before after edit.File = IsPutDisk S image name kind bytes old new
-IsPutFault S image name kind bytes old new before after edit.Device =
+IsPutFault S image name kind bytes old new before after faults.File = IsPutDisk S image name kind bytes old new
+IsPutFault S image name kind bytes old new before after faults.Device =
     IsPutRun S image name kind bytes old new × Failed S old new × (after ≡ before)
-IsPutFault S image name kind bytes old new before after edit.NoFile = ⊥
-IsPutFault S image name kind bytes old new before after edit.Locked = ⊥
+IsPutFault S image name kind bytes old new before after faults.NoFile = ⊥
+IsPutFault S image name kind bytes old new before after faults.Locked = ⊥
 IsPutFault S image name kind bytes old new before after fault =
     IsCleanFault image fault × (new ≡ old) × (after ≡ before)

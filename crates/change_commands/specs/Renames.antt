@@ -7,8 +7,8 @@ use Rattle.disk_layout.specs.Rest.{slot_name}
 use Rattle.file_changes.specs.Entries.{IsFreeName, entries_of}
 use Rattle.file_changes.specs.Renames.{HasNewName}
 use Rattle.change_commands.specs.Faults.{IsSoundFault}
-use Rattle.change_commands.specs.declared.faults.EditFault.{EditFault}
-use Rattle.change_commands.specs.declared.faults.EditFault.TheVariants as edit
+use Rattle.command_faults.specs.declared.faults.CommandFault.{CommandFault}
+use Rattle.command_faults.specs.declared.faults.CommandFault.TheVariants as faults
 
 -- The disk was sound, and whatever it held on the way is that image or the one with the entry renamed.
 pub record IsRenameRun {D : Type 0} (S : History D) (image from to : List ℕ) (old new : D) : Type 0 where
@@ -44,16 +44,16 @@ abbrev pub IsNoName : Layout → List ℕ → Type 0
 IsNoName l name = (16 < length name) ⊎ IsFreeName (entries_of l) (slot_name name)
 
 -- why an entry isn't renamed, or that not printed. Only if the output failed something may have been printed
-abbrev pub IsRenameFault : {D W : Type 0} → History D → List ℕ → List ℕ → List ℕ → D → D → W → W → EditFault → Type 0
-IsRenameFault S image from to old new before after edit.NoFile =
+abbrev pub IsRenameFault : {D W : Type 0} → History D → List ℕ → List ℕ → List ℕ → D → D → W → W → CommandFault → Type 0
+IsRenameFault S image from to old new before after faults.NoFile =
     IsLeftSound S image old new before after (λ l. IsNoName l from)
-IsRenameFault S image from to old new before after edit.FileExists =
+IsRenameFault S image from to old new before after faults.FileExists =
     IsLeftSound S image old new before after (λ l. ¬ (IsFreeName (entries_of l) (slot_name from))
     × ¬ (IsFreeName (entries_of l) (slot_name to)))
 -- the output failed: the entry is renamed
-IsRenameFault S image from to old new before after edit.File = IsRenamedDisk S image from to old new
-IsRenameFault S image from to old new before after edit.Device =
+IsRenameFault S image from to old new before after faults.File = IsRenamedDisk S image from to old new
+IsRenameFault S image from to old new before after faults.Device =
     IsRenameRun S image from to old new × Failed S old new × (after ≡ before)
-IsRenameFault S image from to old new before after edit.Locked = ⊥
+IsRenameFault S image from to old new before after faults.Locked = ⊥
 IsRenameFault S image from to old new before after fault =
     IsSoundFault image fault × (new ≡ old) × (after ≡ before)

@@ -3,9 +3,9 @@ ghost use Rattle.std.specs.Prelude.{◌≡◌, IfErr, OnOk};
 ghost use Rattle.d64_image.specs.Memory.{sectors_in};
 ghost use Rattle.change_commands.specs.Deletes.{IsDeleteDone, IsDeleteFault};
 
-use crate::faults::{EditFault, refusal};
+use crate::faults::refusal;
 use crate::judging::judge_clean;
-use crate::output::{flush, put};
+use command_faults::{CommandFault, flush, put};
 use d64_image::Sectors;
 use file_changes::delete;
 use std::alloc::Global;
@@ -24,14 +24,14 @@ pub fn delete_image<D: Sectors, W: Write>(
     name: &[u8],
     disk: &mut D,
     out: &mut W,
-) -> Result<(), EditFault>
+) -> Result<(), CommandFault>
     requires holds { D.history.image disk.old ≡ sectors_in image.now }
     ensures ok { OnOk result (IsDeleteDone D.history W.contents image.now name.now disk.old disk.new out.old out.new) }
     ensures err { IfErr result (IsDeleteFault D.history image.now name.now disk.old disk.new out.old out.new) }
 {
     judge_clean(alloc, image)?;
     if name.len() > 16 {
-        return Err(EditFault::NoFile);
+        return Err(CommandFault::NoFile);
     }
     if let Err(fault) = delete(disk, name) {
         return Err(refusal(fault));

@@ -3,9 +3,9 @@ ghost use Rattle.std.specs.Prelude.{◌≡◌, ◌≤◌, IfErr, OnOk, length};
 ghost use Rattle.d64_image.specs.Memory.{sectors_in};
 ghost use Rattle.change_commands.specs.Puts.{IsPutDone, IsPutFault};
 
-use crate::faults::{EditFault, refusal};
+use crate::faults::refusal;
 use crate::judging::judge_clean;
-use crate::output::{flush, put};
+use command_faults::{CommandFault, flush, put};
 use d64_image::Sectors;
 use file_changes::{FileType, put_file};
 use std::alloc::Global;
@@ -28,7 +28,7 @@ pub fn put_image<D: Sectors, W: Write>(
     data: &[u8],
     disk: &mut D,
     out: &mut W,
-) -> Result<(), EditFault>
+) -> Result<(), CommandFault>
     requires holds { D.history.image disk.old ≡ sectors_in image.now }
     requires name { length name.now ≤ 16 }
     ensures ok { OnOk result (IsPutDone D.history W.contents image.now name.now kind data.now disk.old disk.new

@@ -3,9 +3,9 @@ ghost use Rattle.std.specs.Prelude.{◌≡◌, ◌≤◌, IfErr, OnOk, length};
 ghost use Rattle.d64_image.specs.Memory.{sectors_in};
 ghost use Rattle.change_commands.specs.Renames.{IsRenameDone, IsRenameFault};
 
-use crate::faults::{EditFault, refusal};
+use crate::faults::refusal;
 use crate::judging::judge_sound;
-use crate::output::{flush, put};
+use command_faults::{CommandFault, flush, put};
 use d64_image::Sectors;
 use file_changes::rename;
 use std::alloc::Global;
@@ -25,7 +25,7 @@ pub fn rename_image<D: Sectors, W: Write>(
     to: &[u8],
     disk: &mut D,
     out: &mut W,
-) -> Result<(), EditFault>
+) -> Result<(), CommandFault>
     requires holds { D.history.image disk.old ≡ sectors_in image.now }
     requires to { length to.now ≤ 16 }
     ensures ok { OnOk result (IsRenameDone D.history W.contents image.now from.now to.now disk.old disk.new
@@ -34,7 +34,7 @@ pub fn rename_image<D: Sectors, W: Write>(
 {
     judge_sound(alloc, image)?;
     if from.len() > 16 {
-        return Err(EditFault::NoFile);
+        return Err(CommandFault::NoFile);
     }
     if let Err(fault) = rename(disk, from, to) {
         return Err(refusal(fault));

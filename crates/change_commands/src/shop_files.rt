@@ -3,12 +3,11 @@ ghost use Rattle.std.specs.Prelude.{◌≡◌, ◌↔◌, ℕ, IfErr, IfOk, IsTr
 ghost use Rattle.disk_layout.specs.Rest.{slot_name};
 ghost use Rattle.disk_layout.specs.declared.slot.Slot.{Slot};
 ghost use Rattle.file_changes.specs.Entries.{HasName};
-ghost use Rattle.change_commands.specs.Faults.{IsLoadFault};
+ghost use Rattle.command_faults.specs.Faults.{IsLoadFault};
 ghost use Rattle.change_commands.specs.ShopFiles.{HasShopFile, IsNamedShopSlot, IsRelativeOf, IsShopSlot};
 
-use crate::faults::EditFault;
-use crate::judging::load;
 use arrayvec::ArrayVec;
+use command_faults::{CommandFault, load};
 use disk_layout::{EntryView, Slot, padded_name, read_directory};
 use std::alloc::Global;
 
@@ -58,7 +57,7 @@ fn has_shop_slot(slots: &[Slot], name: &[u8]) -> bool
 /// 18 bytes, or `REQUESTS`, with records of 127. False also if the image has no directory.
 ///
 /// The error is `ImageSize` if the image hasn't 174,848 bytes, and `NoMemory` if there was none for as many.
-pub fn has_shop_file(alloc: Global, image: &[u8], name: &[u8]) -> Result<bool, EditFault>
+pub fn has_shop_file(alloc: Global, image: &[u8], name: &[u8]) -> Result<bool, CommandFault>
     ensures ok { IfOk result (λ has. IsTrue has ↔ HasShopFile image.now name.now) }
     ensures err { IfErr result (IsLoadFault image.now) }
 {

@@ -6,10 +6,11 @@ ghost use Rattle.command_line.specs.declared.runner.Audience.TheVariants.{Person
 use crate::faults::JobFault;
 use crate::progress::{Watched, is_long};
 use crate::words::command_line;
+use command_faults::CommandFault;
 use disk_layout::Fault;
 use ledger_jobs::{Job, Refusal, announce, do_job, do_trim, end, explain, files_of, tell_cut};
 use noted_files::{Failures, NotedRuntime};
-use shop_commands::{EndedFile, Locks, RunFault};
+use shop_commands::{EndedFile, Locks};
 use std::alloc::{AllocError, Global};
 use std::env;
 use std::fs::OpenFile;
@@ -59,7 +60,7 @@ impl Audience {
 
 /// Reports a failure of the system, and returns its exit status.
 fn refuse<E: Write>(err: &mut E, error: &io::Error) -> u8 {
-    end(Err(Refusal::Run(RunFault::of_io(error))), err).status
+    end(Err(Refusal::Fault(CommandFault::of_io(error))), err).status
 }
 
 /// Prints for a person what the words may be. What `clap` refuses it explains itself.
@@ -106,8 +107,8 @@ fn refuse_words<R: Print + Eprint, E: Write>(
     let status = fault.status();
     let ended = match fault {
         // If memory ran out, there may be no text.
-        JobFault::Words(_) if status == RunFault::NoMemory.status() => {
-            return end(Err(Refusal::Run(RunFault::NoMemory)), err).status;
+        JobFault::Words(_) if status == CommandFault::NoMemory.status() => {
+            return end(Err(Refusal::Fault(CommandFault::NoMemory)), err).status;
         }
         JobFault::Words(error) => error.print(rt),
         _ => writeln!(err, "{fault}"),
@@ -168,7 +169,7 @@ where
     let noted = NotedRuntime::new(rt, files.as_slice(), failures);
     match BufWriter::with_capacity(rt.alloc(), OUTPUT_ROOM, io::writer(&noted)) {
         Ok(mut out) => do_watched(&noted, job, told, &mut out, err),
-        Err(_) => Err(Refusal::Run(RunFault::NoMemory)),
+        Err(_) => Err(Refusal::Fault(CommandFault::NoMemory)),
     }
 }
 

@@ -1,6 +1,6 @@
 //! What the program does before it reads its words.
+use command_faults::CommandFault;
 use ledger_jobs::{ClosedStreams, Refusal, end};
-use shop_commands::RunFault;
 use std::io::Write;
 use std::os::fd::AsRawFd;
 use std::rt::Files;
@@ -15,6 +15,6 @@ where
 {
     match ClosedStreams::hold(rt) {
         Ok(held) => Ok(held),
-        Err(error) => Err(end(Err(Refusal::Run(RunFault::of_io(&error))), err).status),
+        Err(error) => Err(end(Err(Refusal::Fault(CommandFault::of_io(&error))), err).status),
     }
 }

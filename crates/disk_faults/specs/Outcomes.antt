@@ -11,8 +11,8 @@ use Rattle.disk_layout.specs.declared.faults.Fault.{Fault}
 use Rattle.disk_layout.specs.declared.slot.Slot.{Slot}
 use Rattle.disk_faults.specs.Objects.{object_text}
 use Rattle.disk_faults.specs.Trails.{IsTrail, Shows}
-use Rattle.disk_faults.specs.declared.faults.DescribeFault.{DescribeFault}
-use Rattle.disk_faults.specs.declared.faults.DescribeFault.TheVariants as describe
+use Rattle.command_faults.specs.declared.faults.CommandFault.{CommandFault}
+use Rattle.command_faults.specs.declared.faults.CommandFault.TheVariants as faults
 use Rattle.disk_faults.specs.declared.trail.Trail.{Trail}
 
 -- what a check of the image finds: a fault that holds, or none of a clean image
@@ -57,13 +57,9 @@ pub record IsDescribed {W : Type 0} (contents : W → Option (List ℕ)) (name i
   pub printed : Appends (contents old) (contents new)
       (object_text name found files (sector (sectors_in image) map_place))
 
--- why an image isn't taken into memory
-abbrev pub IsLoadFault : List ℕ → DescribeFault → Type 0
-IsLoadFault image describe.ImageSize = length image ≢ 174848
-IsLoadFault image describe.NoMemory = length image ≡ 174848
-IsLoadFault image describe.File = ⊥
-
 -- why an image isn't described: its size, memory, or the output
-abbrev pub IsDescribeFault : List ℕ → DescribeFault → Type 0
-IsDescribeFault image describe.ImageSize = length image ≢ 174848
-IsDescribeFault image fault = length image ≡ 174848
+abbrev pub IsDescribeFault : List ℕ → CommandFault → Type 0
+IsDescribeFault image faults.ImageSize = length image ≢ 174848
+IsDescribeFault image faults.NoMemory = length image ≡ 174848
+IsDescribeFault image faults.File = length image ≡ 174848
+IsDescribeFault image _ = ⊥

@@ -5,31 +5,18 @@ ghost use Rattle.d64_image.specs.Images.{sector};
 ghost use Rattle.d64_image.specs.Memory.{disk_image, sectors_in};
 ghost use Rattle.disk_layout.specs.Directory.{map_place as map_at};
 ghost use Rattle.disk_faults.specs.Objects.{refused_text};
-ghost use Rattle.disk_faults.specs.Outcomes.{IsDescribeFault, IsDescribed, IsLoadFault, IsVerdict};
-ghost use Rattle.disk_faults.specs.declared.faults.DescribeFault.TheVariants as faults;
+ghost use Rattle.disk_faults.specs.Outcomes.{IsDescribeFault, IsDescribed, IsVerdict};
+ghost use Rattle.command_faults.specs.declared.faults.CommandFault.TheVariants as faults;
 
 use crate::concerned::list_files;
-use crate::faults::DescribeFault;
 use crate::objects::{put_object, put_refused};
 use arrayvec::ArrayVec;
-use d64_image::{ImageFault, MemDisk, Sectors};
+use command_faults::{CommandFault, load};
+use d64_image::{MemDisk, Sectors};
 use disk_layout::{Fault, map_place};
 use layout_check::check;
 use std::alloc::Global;
 use std::io::Write;
-
-/// The disk in memory that holds the image.
-pub(crate) fn load(alloc: Global, image: &[u8]) -> Result<MemDisk, DescribeFault>
-    ensures ok { IfOk result (λ disk. (length image.now ≡ 174848)
-        × (disk_image disk ≡ sectors_in image.now)) }
-    ensures err { IfErr result (IsLoadFault image.now) }
-{
-    match MemDisk::load(alloc, image) {
-        Ok(disk) => Ok(disk),
-        Err(ImageFault::Size) => Err(DescribeFault::ImageSize),
-        Err(ImageFault::NoMemory) => Err(DescribeFault::NoMemory),
-    }
-}
 
 /// What a check of the disk finds; None if it is clean. Its survey isn't kept.
 pub(crate) fn verdict(disk: &mut MemDisk) -> Option<Fault>
@@ -63,7 +50,7 @@ pub fn describe_image<W: Write>(
     name: &[u8],
     image: &[u8],
     out: &mut W,
-) -> Result<Option<Fault>, DescribeFault>
+) -> Result<Option<Fault>, CommandFault>
     ensures ok { IfOk result (IsDescribed W.contents name.now image.now out.old out.new) }
     ensures err { IfErr result (IsDescribeFault image.now) }
     // Only if the output failed something may have been printed at a refusal.
@@ -76,7 +63,7 @@ pub fn describe_image<W: Write>(
     let map = read_map(&mut disk);
     match put_object(out, name, found, files.as_slice(), &map) {
         Ok(()) => Ok(found),
-        Err(_) => Err(DescribeFault::File),
+        Err(_) => Err(CommandFault::File),
     }
 }
 
@@ -88,12 +75,12 @@ pub fn describe_refusal<W: Write>(
     size: Option<u64>,
     why: &[u8],
     out: &mut W,
-) -> Result<(), DescribeFault>
+) -> Result<(), CommandFault>
     ensures ok { OnOk result (Appends (W.contents out.old) (W.contents out.new) (refused_text name.now size why.now)) }
     ensures err { IfErr result (λ fault. fault ≡ faults.File) }
 {
     match put_refused(out, name, size, why) {
         Ok(()) => Ok(()),
-        Err(_) => Err(DescribeFault::File),
+        Err(_) => Err(CommandFault::File),
     }
 }

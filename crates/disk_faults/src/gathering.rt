@@ -4,13 +4,13 @@ ghost use Rattle.d64_image.specs.Places.{place_at};
 ghost use Rattle.disk_faults.specs.AllFaults.{AreOthers, HoldsToo, IsGathered, faults_at, faults_if, faults_to};
 ghost use Rattle.disk_faults.specs.Objects.{place_of};
 ghost use Rattle.disk_layout.specs.Number.{number_of};
-ghost use Rattle.disk_faults.specs.declared.faults.DescribeFault.TheVariants as faults;
+ghost use Rattle.command_faults.specs.declared.faults.CommandFault.TheVariants as faults;
 
-use crate::faults::DescribeFault;
 use crate::holding::holds;
 use crate::links::Links;
 use crate::objects::fault_place;
 use crate::showing;
+use command_faults::CommandFault;
 use d64_image::Place;
 use disk_layout::Fault;
 use std::alloc::Global;
@@ -79,7 +79,7 @@ fn add_if(
     first: Fault,
     fault: Fault,
     found: &mut Vec<Fault>,
-) -> Result<(), DescribeFault>
+) -> Result<(), CommandFault>
     requires { length links.now.trails.items ≤ 144 }
     ensures ok { OnOk result (IsGathered links.now first (fault ∷ []) found.old.items found.new.items) }
     ensures err { IfErr result (λ fault. fault ≡ faults.NoMemory) }
@@ -88,7 +88,7 @@ fn add_if(
         return Ok(());
     }
     if found.push(fault).is_err() {
-        return Err(DescribeFault::NoMemory);
+        return Err(CommandFault::NoMemory);
     }
     Ok(())
 }
@@ -99,7 +99,7 @@ fn add_those(
     first: Fault,
     candidates: &[Fault],
     found: &mut Vec<Fault>,
-) -> Result<(), DescribeFault>
+) -> Result<(), CommandFault>
     requires { length links.now.trails.items ≤ 144 }
     ensures ok { OnOk result (IsGathered links.now first candidates.now found.old.items found.new.items) }
     ensures err { IfErr result (λ fault. fault ≡ faults.NoMemory) }
@@ -117,7 +117,7 @@ fn add_sector(
     track: u8,
     sector: u8,
     found: &mut Vec<Fault>,
-) -> Result<(), DescribeFault>
+) -> Result<(), CommandFault>
     requires { length links.now.trails.items ≤ 144 }
     ensures ok { OnOk result
         (IsGathered links.now first (faults_if (place_at track sector)) found.old.items found.new.items) }
@@ -135,7 +135,7 @@ fn add_track(
     first: Fault,
     track: u8,
     found: &mut Vec<Fault>,
-) -> Result<(), DescribeFault>
+) -> Result<(), CommandFault>
     requires { length links.now.trails.items ≤ 144 }
     ensures ok { OnOk result (IsGathered links.now first (faults_to track 21) found.old.items found.new.items) }
     ensures err { IfErr result (λ fault. fault ≡ faults.NoMemory) }
@@ -151,7 +151,7 @@ pub(crate) fn find_others(
     alloc: Global,
     links: &Links,
     first: Fault,
-) -> Result<Vec<Fault>, DescribeFault>
+) -> Result<Vec<Fault>, CommandFault>
     requires { length links.now.trails.items ≤ 144 }
     ensures ok { IfOk result (λ found. AreOthers links.now first found.items) }
     ensures err { IfErr result (λ fault. fault ≡ faults.NoMemory) }

@@ -4,7 +4,6 @@
 mod concerned;
 mod counting;
 mod describing;
-mod faults;
 mod following;
 mod gathering;
 mod holding;
@@ -22,7 +21,6 @@ mod slots;
 mod trail;
 
 pub use describing::{describe_image, describe_refusal};
-pub use faults::DescribeFault;
 pub use laws::strings_are_read_back;
 pub use listing::list_faults;
 pub use near_names::print_near_names;

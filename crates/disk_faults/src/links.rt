@@ -3,13 +3,13 @@ ghost use Rattle.std.specs.Prelude.{◌≡◌, ◌↔◌, IfErr, IfOk, IsTrue, l
 ghost use Rattle.d64_image.specs.Memory.{disk_image};
 ghost use Rattle.disk_layout.specs.Layout.{IsSound};
 ghost use Rattle.disk_faults.specs.AllFaults.{AreFollowed, AreLinks};
-ghost use Rattle.disk_faults.specs.declared.faults.DescribeFault.TheVariants as faults;
+ghost use Rattle.command_faults.specs.declared.faults.CommandFault.TheVariants as faults;
 
 use crate::describing::read_map;
-use crate::faults::DescribeFault;
 use crate::following::follow;
 use crate::trail::Trail;
 use arrayvec::ArrayVec;
+use command_faults::CommandFault;
 use d64_image::MemDisk;
 use disk_entries::{DirectorySectors, read_so_far};
 use disk_layout::{Fault, Slot};
@@ -44,7 +44,7 @@ fn follow_entries(
     alloc: Global,
     disk: &mut MemDisk,
     slots: &[Slot],
-) -> Result<Vec<Trail>, DescribeFault>
+) -> Result<Vec<Trail>, CommandFault>
     ensures ok { IfOk result (λ trails. AreFollowed (disk_image disk.old) slots.now trails.items) }
     ensures few { IfOk result (λ trails. length trails.items ≡ length slots.now) }
     ensures err { IfErr result (λ fault. fault ≡ faults.NoMemory) }
@@ -54,14 +54,14 @@ fn follow_entries(
     for slot in slots {
         let trail = follow(disk, slot);
         if trails.push(trail).is_err() {
-            return Err(DescribeFault::NoMemory);
+            return Err(CommandFault::NoMemory);
         }
     }
     Ok(trails)
 }
 
 /// What the links of the disk come to. The only error is `NoMemory`.
-pub(crate) fn follow_all(alloc: Global, disk: &mut MemDisk) -> Result<Links, DescribeFault>
+pub(crate) fn follow_all(alloc: Global, disk: &mut MemDisk) -> Result<Links, CommandFault>
     ensures ok { IfOk result (AreLinks (disk_image disk.old)) }
     ensures err { IfErr result (λ fault. fault ≡ faults.NoMemory) }
 {

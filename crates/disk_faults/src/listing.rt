@@ -4,13 +4,13 @@ ghost use Rattle.std.specs.Io.KnownBytes.{Appends};
 ghost use Rattle.d64_image.specs.Memory.{disk_image};
 ghost use Rattle.disk_faults.specs.AllFaults.{AreListed, ArePrinted, IsListed};
 ghost use Rattle.disk_faults.specs.Outcomes.{IsDescribeFault};
-ghost use Rattle.disk_faults.specs.declared.faults.DescribeFault.TheVariants as faults;
+ghost use Rattle.command_faults.specs.declared.faults.CommandFault.TheVariants as faults;
 
-use crate::describing::{load, verdict};
-use crate::faults::DescribeFault;
+use crate::describing::verdict;
 use crate::gathering::find_others;
 use crate::lines::put_lines;
 use crate::links::{Links, follow_all};
+use command_faults::{CommandFault, load};
 use d64_image::MemDisk;
 use disk_layout::Fault;
 use std::alloc::Global;
@@ -26,12 +26,12 @@ fn put_all<W: Write>(out: &mut W, links: &Links, first: Fault, others: &[Fault])
 }
 
 /// Prints that there is no fault.
-fn put_none<W: Write>(out: &mut W) -> Result<(), DescribeFault>
+fn put_none<W: Write>(out: &mut W) -> Result<(), CommandFault>
     ensures ok { OnOk result (Appends (W.contents out.old) (W.contents out.new) (codes "OK\n")) }
     ensures err { IfErr result (λ fault. fault ≡ faults.File) }
 {
     if out.write_all(b"OK\n").is_err() {
-        return Err(DescribeFault::File);
+        return Err(CommandFault::File);
     }
     Ok(())
 }
@@ -42,7 +42,7 @@ fn put_faults<W: Write>(
     disk: &mut MemDisk,
     first: Fault,
     out: &mut W,
-) -> Result<(), DescribeFault>
+) -> Result<(), CommandFault>
     ensures ok { OnOk result (IsListed (disk_image disk.old) (Some first) (W.contents out.old) (W.contents out.new)) }
     ensures err { IfErr result (λ fault. (fault ≡ faults.File) ⊎ ((fault ≡ faults.NoMemory) × (out.new ≡ out.old))) }
 {
@@ -50,7 +50,7 @@ fn put_faults<W: Write>(
     let others = find_others(alloc, &links, first)?;
     match put_all(out, &links, first, others.as_slice()) {
         Ok(()) => Ok(()),
-        Err(_) => Err(DescribeFault::File),
+        Err(_) => Err(CommandFault::File),
     }
 }
 
@@ -60,7 +60,7 @@ fn put_found<W: Write>(
     disk: &mut MemDisk,
     found: Option<Fault>,
     out: &mut W,
-) -> Result<(), DescribeFault>
+) -> Result<(), CommandFault>
     ensures ok { OnOk result (IsListed (disk_image disk.old) found (W.contents out.old) (W.contents out.new)) }
     ensures err { IfErr result (λ fault. (fault ≡ faults.File) ⊎ ((fault ≡ faults.NoMemory) × (out.new ≡ out.old))) }
 {
@@ -83,7 +83,7 @@ pub fn list_faults<W: Write>(
     alloc: Global,
     image: &[u8],
     out: &mut W,
-) -> Result<Option<Fault>, DescribeFault>
+) -> Result<Option<Fault>, CommandFault>
     ensures ok { IfOk result (AreListed W.contents image.now out.old out.new) }
     ensures err { IfErr result (IsDescribeFault image.now) }
     // Only if the output failed something may have been printed at a refusal.

@@ -3,12 +3,11 @@ ghost use Rattle.std.specs.Prelude.{◌≡◌, ◌≢◌, IfErr, OnOk, flat_map,
 ghost use Rattle.std.specs.Io.KnownBytes.{Appends};
 ghost use Rattle.disk_faults.specs.NearNames.{AreNearPrinted, near_name, shown_type};
 ghost use Rattle.disk_faults.specs.Outcomes.{IsDescribeFault};
-ghost use Rattle.disk_faults.specs.declared.faults.DescribeFault.TheVariants as faults;
+ghost use Rattle.command_faults.specs.declared.faults.CommandFault.TheVariants as faults;
 
-use crate::describing::load;
-use crate::faults::DescribeFault;
 use crate::lines::put_name;
 use arrayvec::ArrayVec;
+use command_faults::{CommandFault, load};
 use disk_entries::{near_entries, read_so_far, type_name};
 use disk_layout::Slot;
 use std::alloc::Global;
@@ -62,7 +61,7 @@ pub fn print_near_names<W: Write>(
     image: &[u8],
     name: &[u8],
     out: &mut W,
-) -> Result<(), DescribeFault>
+) -> Result<(), CommandFault>
     ensures ok { OnOk result (AreNearPrinted W.contents image.now name.now out.old out.new) }
     ensures err { IfErr result (IsDescribeFault image.now) }
     // Only if the output failed something may have been printed at a refusal.
@@ -75,6 +74,6 @@ pub fn print_near_names<W: Write>(
     near_entries(entries.as_slice(), name, &mut near);
     match put_all_near(out, first_three(near.as_slice())) {
         Ok(()) => Ok(()),
-        Err(_) => Err(DescribeFault::File),
+        Err(_) => Err(CommandFault::File),
     }
 }

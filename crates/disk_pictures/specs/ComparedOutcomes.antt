@@ -8,7 +8,7 @@ use Rattle.disk_pictures.specs.Comparisons.{Disk}
 use Rattle.disk_pictures.specs.Held.{drawn_in}
 use Rattle.disk_pictures.specs.Outcomes.{IsDrawnAndJudged, IsPictureFault, map_in}
 use Rattle.disk_pictures.specs.declared.compared.Compared.{Compared}
-use Rattle.disk_pictures.specs.declared.faults.PictureFault.{PictureFault}
+use Rattle.command_faults.specs.declared.faults.CommandFault.{CommandFault}
 
 -- the disk is that of an image: with its sectors, what is drawn of it and what a check of it reports
 pub record IsDiskOf (image : List ℕ) (d : Disk) : Type 0 where
@@ -32,5 +32,5 @@ pub record IsComparisonPrinted {W : Type 0} (contents : W → Option (List ℕ))
   pub found_is : found ≡ second.found
 
 -- why two images aren't compared: why one of them isn't drawn
-abbrev pub IsComparisonFault : List ℕ → List ℕ → PictureFault → Type 0
+abbrev pub IsComparisonFault : List ℕ → List ℕ → CommandFault → Type 0
 IsComparisonFault before after fault = IsPictureFault before fault ⊎ IsPictureFault after fault

@@ -14,8 +14,8 @@ use Rattle.disk_pictures.specs.Maps.{map_text}
 use Rattle.disk_pictures.specs.Pictures.{picture_page}
 use Rattle.disk_pictures.specs.Posters.{poster_of}
 use Rattle.disk_pictures.specs.declared.drawing.Drawing.{Drawing}
-use Rattle.disk_pictures.specs.declared.faults.PictureFault.{PictureFault}
-use Rattle.disk_pictures.specs.declared.faults.PictureFault.TheVariants as faults
+use Rattle.command_faults.specs.declared.faults.CommandFault.{CommandFault}
+use Rattle.command_faults.specs.declared.faults.CommandFault.TheVariants as faults
 
 -- what a check of the image reports: a fault that holds, or none if the image is clean
 abbrev pub IsVerdict : Image → Option Fault → Type 0
@@ -64,7 +64,7 @@ abbrev pub IsDrawable : List ℕ → Type 0
 IsDrawable image = (l : Layout) × (found : Option Fault) × IsDrawnAndJudged image l found
 
 -- why an image isn't drawn; if the output failed, it could be drawn
-abbrev pub IsPictureFault : List ℕ → PictureFault → Type 0
+abbrev pub IsPictureFault : List ℕ → CommandFault → Type 0
 IsPictureFault image faults.ImageSize = length image ≢ 174848
 IsPictureFault image faults.NoMemory = length image ≡ 174848
 IsPictureFault image (faults.Layout fault) = (length image ≡ 174848) × HoldsOfDirectory nowhere (sectors_in image) fault

@@ -16,8 +16,8 @@ use Rattle.disk_rescue.specs.Sizes.{IsImageSize, error_of}
 use Rattle.disk_pictures.specs.Drawings.{IsDrawn}
 use Rattle.disk_pictures.specs.Names.{name_of}
 use Rattle.disk_pictures.specs.Pictures.{each_place}
-use Rattle.disk_pictures.specs.declared.faults.PictureFault.{PictureFault}
-use Rattle.disk_pictures.specs.declared.faults.PictureFault.TheVariants as faults
+use Rattle.command_faults.specs.declared.faults.CommandFault.{CommandFault}
+use Rattle.command_faults.specs.declared.faults.CommandFault.TheVariants as faults
 
 -- the drive's number of an error byte: 5 is error 23, and 15 is 74; another byte is printed itself
 abbrev pub error_number : ℕ → List ℕ
@@ -102,7 +102,7 @@ pub record IsTrimmed {W E : Type 0} (contents : W → Option (List ℕ)) (told :
   pub reported : IsTrimTold told image err new_err whole
 
 -- why they weren't: the size is none of the four; or memory or an output failed
-abbrev pub IsTrimFault : {W E : Type 0} → List ℕ → W → W → E → E → PictureFault → Type 0
+abbrev pub IsTrimFault : {W E : Type 0} → List ℕ → W → W → E → E → CommandFault → Type 0
 IsTrimFault image old new err new_err faults.ImageSize =
     ¬ (IsImageSize (length image)) × (new ≡ old) × (new_err ≡ err)
 IsTrimFault image old new err new_err faults.NoMemory =

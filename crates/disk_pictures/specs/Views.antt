@@ -19,8 +19,8 @@ use Rattle.disk_pictures.specs.Drawings.{IsDrawn, owner_of}
 use Rattle.disk_pictures.specs.Maps.{entry_line, is_wide}
 use Rattle.disk_pictures.specs.Outcomes.{map_in}
 use Rattle.disk_pictures.specs.Texts.{each_below, is_free}
-use Rattle.disk_pictures.specs.declared.faults.PictureFault.{PictureFault}
-use Rattle.disk_pictures.specs.declared.faults.PictureFault.TheVariants as faults
+use Rattle.command_faults.specs.declared.faults.CommandFault.{CommandFault}
+use Rattle.command_faults.specs.declared.faults.CommandFault.TheVariants as faults
 use Rattle.disk_pictures.specs.declared.owners.Owner.{Owner}
 use Rattle.disk_pictures.specs.declared.owners.Owner.TheVariants as owner
 
@@ -112,7 +112,7 @@ pub record AreFreePrinted {W : Type 0} (contents : W → Option (List ℕ)) (ima
   pub printed : Appends (contents old) (contents new) (free_text (map_in image))
 
 -- why they aren't: the image's size, the output, or memory
-abbrev pub IsViewFault : List ℕ → PictureFault → Type 0
+abbrev pub IsViewFault : List ℕ → CommandFault → Type 0
 IsViewFault image faults.ImageSize = length image ≢ 174848
 IsViewFault image faults.NoMemory = length image ≡ 174848
 IsViewFault image faults.File = length image ≡ 174848

@@ -3,10 +3,9 @@ ghost use Rattle.std.specs.Prelude.{◌≡◌, ◌<◌, IfErr, OnOk, Some, flat_
 ghost use Rattle.std.specs.Io.KnownBytes.{Appends};
 ghost use Rattle.petscii_text.specs.Characters.{hex_digit as digit_of};
 ghost use Rattle.disk_pictures.specs.Views.{byte_sign, bytes_line, bytes_text, code_text};
-ghost use Rattle.disk_pictures.specs.declared.faults.PictureFault.TheVariants as faults;
+ghost use Rattle.command_faults.specs.declared.faults.CommandFault.TheVariants as faults;
 
-use crate::faults::PictureFault;
-use crate::output::put;
+use command_faults::{CommandFault, put_text};
 use petscii_text::{CharacterSet, character};
 use std::fmt::{self, Display, Formatter};
 use std::io::Write;
@@ -101,13 +100,13 @@ impl Display for BytesLine<'_> {
 }
 
 /// Prints the bytes of a sector, sixteen in a line.
-pub(crate) fn put_bytes<W: Write>(out: &mut W, bytes: &[u8; 256]) -> Result<(), PictureFault>
+pub(crate) fn put_bytes<W: Write>(out: &mut W, bytes: &[u8; 256]) -> Result<(), CommandFault>
     ensures ok { OnOk result (Appends (W.contents out.old) (W.contents out.new) (bytes_text bytes.now)) }
     ensures err { IfErr result (λ fault. fault ≡ faults.File) }
 {
     for number in 0..WIDTH {
         let start = WIDTH * number;
-        put(
+        put_text(
             out,
             BytesLine {
                 number: number as u8,

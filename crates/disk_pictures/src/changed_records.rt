@@ -4,11 +4,10 @@ ghost use Rattle.std.specs.Io.KnownBytes.{Appends};
 ghost use Rattle.disk_pictures.specs.ComparedPages.{record_text, records_cell};
 ghost use Rattle.disk_pictures.specs.Comparisons.{is_record_changed as record_changed, is_record_changed_before};
 ghost use Rattle.disk_pictures.specs.Drawings.{file_in};
-ghost use Rattle.disk_pictures.specs.declared.faults.PictureFault.TheVariants as faults;
+ghost use Rattle.command_faults.specs.declared.faults.CommandFault.TheVariants as faults;
 
-use crate::faults::PictureFault;
-use crate::output::put;
 use crate::versions::Versions;
+use command_faults::{CommandFault, put_text};
 use std::fmt::{self, Display, Formatter};
 use std::io::Write;
 
@@ -28,7 +27,7 @@ impl Display for Marked {
 }
 
 /// Prints record `index`, from 0, which differs as the one before it does, if it is the last one of its run.
-fn put_last<W: Write>(out: &mut W, file: &Versions<'_>, index: usize) -> Result<(), PictureFault>
+fn put_last<W: Write>(out: &mut W, file: &Versions<'_>, index: usize) -> Result<(), CommandFault>
     requires { index ≤ 190000 }
     ensures ok { OnOk result (Appends (W.contents out.old) (W.contents out.new)
         (if record_changed file.now.before.now.sectors.now file.now.after.now.sectors.now (file_in file.now.former.now)
@@ -39,12 +38,12 @@ fn put_last<W: Write>(out: &mut W, file: &Versions<'_>, index: usize) -> Result<
     if file.is_record_changed(number) {
         Ok(())
     } else {
-        put(out, Marked { mark: "-", number })
+        put_text(out, Marked { mark: "-", number })
     }
 }
 
 /// Prints record `index`, from 0, which differs: the first one of a run, or the last one.
-fn put_end<W: Write>(out: &mut W, file: &Versions<'_>, index: usize) -> Result<(), PictureFault>
+fn put_end<W: Write>(out: &mut W, file: &Versions<'_>, index: usize) -> Result<(), CommandFault>
     requires { index ≤ 190000 }
     ensures ok { OnOk result (Appends (W.contents out.old) (W.contents out.new)
         (if is_record_changed_before file.now.before.now.sectors.now file.now.after.now.sectors.now
@@ -58,12 +57,12 @@ fn put_end<W: Write>(out: &mut W, file: &Versions<'_>, index: usize) -> Result<(
         put_last(out, file, index)
     } else {
         let number = index + 1;
-        put(out, Marked { mark: " ", number })
+        put_text(out, Marked { mark: " ", number })
     }
 }
 
 /// Prints record `index`, from 0, if it differs and is the first or the last one of its run.
-fn put_record<W: Write>(out: &mut W, file: &Versions<'_>, index: usize) -> Result<(), PictureFault>
+fn put_record<W: Write>(out: &mut W, file: &Versions<'_>, index: usize) -> Result<(), CommandFault>
     requires { index ≤ 190000 }
     ensures ok { OnOk result (Appends (W.contents out.old) (W.contents out.new)
         (record_text file.now.before.now.sectors.now file.now.after.now.sectors.now (file_in file.now.former.now)
@@ -78,7 +77,7 @@ fn put_record<W: Write>(out: &mut W, file: &Versions<'_>, index: usize) -> Resul
 }
 
 /// Prints the numbers of the records that differ.
-pub(crate) fn put_records<W: Write>(out: &mut W, file: &Versions<'_>) -> Result<(), PictureFault>
+pub(crate) fn put_records<W: Write>(out: &mut W, file: &Versions<'_>) -> Result<(), CommandFault>
     ensures ok { OnOk result (Appends (W.contents out.old) (W.contents out.new)
         (records_cell file.now.before.now.sectors.now file.now.after.now.sectors.now (file_in file.now.former.now)
         (file_in file.now.file.now))) }

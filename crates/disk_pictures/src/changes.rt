@@ -11,7 +11,7 @@ ghost use Rattle.disk_pictures.specs.Drawings.{file_in};
 ghost use Rattle.disk_pictures.specs.Html.{html_of};
 ghost use Rattle.disk_pictures.specs.Petscii.{petscii_of};
 ghost use Rattle.disk_pictures.specs.Texts.{numbered};
-ghost use Rattle.disk_pictures.specs.declared.faults.PictureFault.TheVariants as faults;
+ghost use Rattle.command_faults.specs.declared.faults.CommandFault.TheVariants as faults;
 
 use crate::arcs::Look;
 use crate::changed_records::put_records;
@@ -19,13 +19,12 @@ use crate::compared::Compared;
 use crate::counterparts::counterpart;
 use crate::differences::are_changed;
 use crate::drawn_file::DrawnFile;
-use crate::faults::PictureFault;
 use crate::html::Html;
 use crate::names::entry_name;
-use crate::output::put;
 use crate::page::Link;
 use crate::petscii::Petscii;
 use crate::versions::Versions;
+use command_faults::{CommandFault, put_text};
 use std::fmt::{self, Display, Formatter};
 use std::io::Write;
 
@@ -133,7 +132,7 @@ impl Display for EntryHead<'_> {
 }
 
 /// Prints the row of an entry that isn't on the first disk.
-fn put_new<W: Write>(out: &mut W, number: usize, file: &DrawnFile) -> Result<(), PictureFault>
+fn put_new<W: Write>(out: &mut W, number: usize, file: &DrawnFile) -> Result<(), CommandFault>
     ensures ok { OnOk result (Appends (W.contents out.old) (W.contents out.new)
         (new_row html_of petscii_of number (file_in file.now))) }
     ensures err { IfErr result (λ fault. fault ≡ faults.File) }
@@ -148,12 +147,12 @@ fn put_new<W: Write>(out: &mut W, number: usize, file: &DrawnFile) -> Result<(),
             bytes: false,
         },
     };
-    put(out, head)?;
-    put(out, ROW_END)
+    put_text(out, head)?;
+    put_text(out, ROW_END)
 }
 
 /// Prints the row of an entry that differs from its counterpart.
-fn put_row<W: Write>(out: &mut W, number: usize, file: &Versions<'_>) -> Result<(), PictureFault>
+fn put_row<W: Write>(out: &mut W, number: usize, file: &Versions<'_>) -> Result<(), CommandFault>
     ensures ok { OnOk result (Appends (W.contents out.old) (W.contents out.new)
         (difference_row html_of petscii_of file.now.before.now.sectors.now file.now.after.now.sectors.now number
         (file_in file.now.former.now) (file_in file.now.file.now))) }
@@ -166,9 +165,9 @@ fn put_row<W: Write>(out: &mut W, number: usize, file: &Versions<'_>) -> Result<
         state: "changed",
         parts,
     };
-    put(out, head)?;
+    put_text(out, head)?;
     put_records(out, file)?;
-    put(out, ROW_END)
+    put_text(out, ROW_END)
 }
 
 /// Prints the row of an entry that is on both disks, if it or one of its sectors differs.
@@ -176,7 +175,7 @@ fn put_changed<W: Write>(
     out: &mut W,
     number: usize,
     file: &Versions<'_>,
-) -> Result<(), PictureFault>
+) -> Result<(), CommandFault>
     ensures ok { OnOk result (Appends (W.contents out.old) (W.contents out.new)
         (changed_row html_of petscii_of file.now.before.now.sectors.now file.now.after.now.sectors.now number
         (file_in file.now.former.now) (file_in file.now.file.now))) }
@@ -196,7 +195,7 @@ fn put_entry<W: Write>(
     after: &Compared<'_>,
     number: usize,
     file: &DrawnFile,
-) -> Result<(), PictureFault>
+) -> Result<(), CommandFault>
     requires { number ≤ length after.now.drawing.files.items }
     ensures ok { OnOk result (Appends (W.contents out.old) (W.contents out.new)
         (entry_row html_of petscii_of (disk_in before.now) (disk_in after.now) number (file_in file.now))) }
@@ -242,7 +241,7 @@ fn put_former<W: Write>(
     after: &Compared<'_>,
     number: usize,
     file: &DrawnFile,
-) -> Result<(), PictureFault>
+) -> Result<(), CommandFault>
     requires { number ≤ length before.now.drawing.files.items }
     ensures ok { OnOk result (Appends (W.contents out.old) (W.contents out.new)
         (former_row html_of petscii_of (disk_in before.now) (disk_in after.now) number (file_in file.now))) }
@@ -250,7 +249,7 @@ fn put_former<W: Write>(
 {
     let others = after.drawing.files.as_slice();
     match counterpart(others, before.drawing.files.as_slice(), number, file) {
-        None => put(out, GoneRow(entry_name(&file.slot))),
+        None => put_text(out, GoneRow(entry_name(&file.slot))),
         Some(_) => Ok(()),
     }
 }
@@ -260,7 +259,7 @@ fn put_entries<W: Write>(
     out: &mut W,
     before: &Compared<'_>,
     after: &Compared<'_>,
-) -> Result<(), PictureFault>
+) -> Result<(), CommandFault>
     ensures ok { OnOk result (Appends (W.contents out.old) (W.contents out.new) (numbered
         (entry_row html_of petscii_of (disk_in before.now) (disk_in after.now)) 0
         (map file_in after.now.drawing.files.items))) }
@@ -278,7 +277,7 @@ fn put_formers<W: Write>(
     out: &mut W,
     before: &Compared<'_>,
     after: &Compared<'_>,
-) -> Result<(), PictureFault>
+) -> Result<(), CommandFault>
     ensures ok { OnOk result (Appends (W.contents out.old) (W.contents out.new) (numbered
         (former_row html_of petscii_of (disk_in before.now) (disk_in after.now)) 0
         (map file_in before.now.drawing.files.items))) }
@@ -296,7 +295,7 @@ pub(crate) fn put_changes<W: Write>(
     out: &mut W,
     before: &Compared<'_>,
     after: &Compared<'_>,
-) -> Result<(), PictureFault>
+) -> Result<(), CommandFault>
     ensures ok { OnOk result (Appends (W.contents out.old) (W.contents out.new)
         (changes_text html_of petscii_of (disk_in before.now) (disk_in after.now))) }
     ensures err { IfErr result (λ fault. fault ≡ faults.File) }

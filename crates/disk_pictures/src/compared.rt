@@ -2,8 +2,8 @@
 ghost use Rattle.std.specs.Prelude.{◌≡◌, length};
 
 use crate::drawing::Drawing;
-use crate::faults::PictureFault;
 use crate::verdicts::judged;
+use command_faults::CommandFault;
 use d64_image::Place;
 use disk_layout::Fault;
 use std::alloc::Global;
@@ -25,10 +25,10 @@ impl<'a> Compared<'a> {
     ghost use Rattle.d64_image.specs.Images.{sector as sector_of};
     ghost use Rattle.disk_pictures.specs.ComparedOutcomes.{IsDiskOf, disk_in};
     ghost use Rattle.disk_pictures.specs.Outcomes.{IsPictureFault};
-    ghost use Rattle.disk_pictures.specs.declared.faults.PictureFault.TheVariants as faults;
+    ghost use Rattle.command_faults.specs.declared.faults.CommandFault.TheVariants as faults;
 
     /// The disk that has this image.
-    pub(crate) fn of(alloc: Global, image: &'a [u8]) -> Result<Compared<'a>, PictureFault>
+    pub(crate) fn of(alloc: Global, image: &'a [u8]) -> Result<Compared<'a>, CommandFault>
         ensures ok { IfOk result (λ disk. IsDiskOf image.now (disk_in disk)) }
         ensures err { IfErr result (IsPictureFault image.now) }
         ensures not_file { IfErr result (λ fault. fault ≢ faults.File) }

@@ -4,18 +4,17 @@ ghost use Rattle.std.specs.Io.KnownBytes.{Appends};
 ghost use Rattle.disk_pictures.specs.ComparedOutcomes.{IsComparisonFault, IsComparisonPrinted, disk_in};
 ghost use Rattle.disk_pictures.specs.ComparedPages.{compared_text, comparison_page};
 ghost use Rattle.disk_pictures.specs.Html.{html_of};
-ghost use Rattle.disk_pictures.specs.declared.faults.PictureFault.TheVariants as faults;
+ghost use Rattle.command_faults.specs.declared.faults.CommandFault.TheVariants as faults;
 
 use crate::changes::put_changes;
 use crate::compared::Compared;
 use crate::differences::{count, put_marks};
-use crate::faults::PictureFault;
 use crate::html::Html;
 use crate::names::header_name;
-use crate::output::{flush, put};
 use crate::page::{END, Title, Told};
 use crate::picture_printing::put_drawing;
 use crate::texts::VerdictText;
+use command_faults::{CommandFault, flush, put_text};
 use disk_layout::Fault;
 use std::alloc::Global;
 use std::fmt::{self, Display, Formatter};
@@ -57,20 +56,20 @@ fn put_comparison<W: Write>(
     out: &mut W,
     before: &Compared<'_>,
     after: &Compared<'_>,
-) -> Result<(), PictureFault>
+) -> Result<(), CommandFault>
     ensures ok { OnOk result (Appends (W.contents out.old) (W.contents out.new)
         (comparison_page (disk_in before.now) (disk_in after.now))) }
     ensures err { IfErr result (λ fault. fault ≡ faults.File) }
 {
     let drawing = &after.drawing;
     let found = after.found;
-    put(out, Title(&drawing.map))?;
-    put(out, Told { drawing, found })?;
+    put_text(out, Title(&drawing.map))?;
+    put_text(out, Told { drawing, found })?;
     put_drawing(out, found, drawing)?;
     put_marks(out, before, after)?;
-    put(out, ComparedText { before, after })?;
+    put_text(out, ComparedText { before, after })?;
     put_changes(out, before, after)?;
-    put(out, END)?;
+    put_text(out, END)?;
     flush(out)
 }
 
@@ -90,7 +89,7 @@ pub fn compare_images<W: Write>(
     before: &[u8],
     after: &[u8],
     out: &mut W,
-) -> Result<Option<Fault>, PictureFault>
+) -> Result<Option<Fault>, CommandFault>
     ensures ok { IfOk result (IsComparisonPrinted W.contents before.now after.now out.old out.new) }
     ensures err { IfErr result (IsComparisonFault before.now after.now) }
     ensures untouched { IfErr result (λ fault. (fault ≢ faults.File) → out.new ≡ out.old) }

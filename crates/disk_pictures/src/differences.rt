@@ -6,13 +6,12 @@ ghost use Rattle.d64_image.specs.Places.{place_at};
 ghost use Rattle.disk_pictures.specs.ComparedPages.{differences, mark_arc, marks_text};
 ghost use Rattle.disk_pictures.specs.Comparisons.{differs as differs_at, number_of};
 ghost use Rattle.disk_pictures.specs.Texts.{at_place, each_below};
-ghost use Rattle.disk_pictures.specs.declared.faults.PictureFault.TheVariants as faults;
+ghost use Rattle.command_faults.specs.declared.faults.CommandFault.TheVariants as faults;
 
 use crate::arcs::Ring;
 use crate::compared::Compared;
-use crate::faults::PictureFault;
 use crate::others::{GROUP_END, SECTORS, TRACKS};
-use crate::output::put;
+use command_faults::{CommandFault, put_text};
 use d64_image::Place;
 use std::fmt::{self, Display, Formatter};
 use std::io::Write;
@@ -97,13 +96,13 @@ fn put_mark<W: Write>(
     before: &Compared<'_>,
     after: &Compared<'_>,
     place: Place,
-) -> Result<(), PictureFault>
+) -> Result<(), CommandFault>
     ensures ok { OnOk result (Appends (W.contents out.old) (W.contents out.new)
         (if differs_at before.now.sectors.now after.now.sectors.now place then mark_arc place else [])) }
     ensures err { IfErr result (λ fault. fault ≡ faults.File) }
 {
     if differs(before, after, place) {
-        put(out, Mark(place))
+        put_text(out, Mark(place))
     } else {
         Ok(())
     }
@@ -115,7 +114,7 @@ fn put_marks_on<W: Write>(
     before: &Compared<'_>,
     after: &Compared<'_>,
     track: u8,
-) -> Result<(), PictureFault>
+) -> Result<(), CommandFault>
     ensures ok { OnOk result (Appends (W.contents out.old) (W.contents out.new)
         (each_below 21 (λ sector. at_place (λ p. if differs_at before.now.sectors.now after.now.sectors.now p
         then mark_arc p else []) (place_at track sector)))) }
@@ -134,14 +133,14 @@ pub(crate) fn put_marks<W: Write>(
     out: &mut W,
     before: &Compared<'_>,
     after: &Compared<'_>,
-) -> Result<(), PictureFault>
+) -> Result<(), CommandFault>
     ensures ok { OnOk result (Appends (W.contents out.old) (W.contents out.new)
         (marks_text before.now.sectors.now after.now.sectors.now)) }
     ensures err { IfErr result (λ fault. fault ≡ faults.File) }
 {
-    put(out, MARKS)?;
+    put_text(out, MARKS)?;
     for below in 0..TRACKS {
         put_marks_on(out, before, after, below + 1)?;
     }
-    put(out, GROUP_END)
+    put_text(out, GROUP_END)
 }

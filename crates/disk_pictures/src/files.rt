@@ -7,8 +7,8 @@ ghost use Rattle.disk_pictures.specs.Drawings.{AreDrawnSides, IsDrawnFile, file_
 ghost use Rattle.disk_pictures.specs.Faults.{IsMemoryFault};
 
 use crate::drawn_file::DrawnFile;
-use crate::faults::PictureFault;
 use arrayvec::ArrayVec;
+use command_faults::CommandFault;
 use d64_image::{MemDisk, Place};
 use disk_layout::{EntryView, MOST_BLOCKS, POINTERS, Slot, walk_as_far};
 use std::alloc::Global;
@@ -17,13 +17,13 @@ use std::alloc::Global;
 pub(crate) type Places = ArrayVec<Place, MOST_BLOCKS>;
 
 /// A list of these places.
-pub(crate) fn list_of(alloc: Global, places: &[Place]) -> Result<Vec<Place>, PictureFault>
+pub(crate) fn list_of(alloc: Global, places: &[Place]) -> Result<Vec<Place>, CommandFault>
     ensures ok { IfOk result (λ list. list.items ≡ places.now) }
     ensures err { IfErr result IsMemoryFault }
 {
     match Vec::from_slice(alloc, places) {
         Ok(list) => Ok(list),
-        Err(_) => Err(PictureFault::NoMemory),
+        Err(_) => Err(CommandFault::NoMemory),
     }
 }
 
@@ -49,7 +49,7 @@ fn draw_sides(
     slot: &Slot,
     blocks: usize,
     places: &mut Places,
-) -> Result<Vec<Place>, PictureFault>
+) -> Result<Vec<Place>, CommandFault>
     requires { blocks ≤ 720 }
     ensures plain { IfOk result (λ sides. IsFalse (is_rel slot.now) → sides.items ≡ []) }
     ensures relative { IfOk result (λ sides. IsTrue (is_rel slot.now)
@@ -73,7 +73,7 @@ pub(crate) fn draw_file(
     disk: &mut MemDisk,
     slot: &Slot,
     places: &mut Places,
-) -> Result<DrawnFile, PictureFault>
+) -> Result<DrawnFile, CommandFault>
     ensures slot { IfOk result (λ file. file.slot ≡ slot.now) }
     ensures ok { IfOk result (λ file. IsDrawnFile (disk_image disk.old) (file_in file)) }
     ensures same { disk_image disk.new ≡ disk_image disk.old }

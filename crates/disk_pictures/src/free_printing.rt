@@ -4,13 +4,11 @@ ghost use Rattle.std.specs.Io.KnownBytes.{Appends};
 ghost use Rattle.disk_layout.specs.Map.{map_count};
 ghost use Rattle.disk_pictures.specs.Texts.{each_below};
 ghost use Rattle.disk_pictures.specs.Views.{AreFreePrinted, IsViewFault, free_line, free_text, free_total};
-ghost use Rattle.disk_pictures.specs.declared.faults.PictureFault.TheVariants as faults;
+ghost use Rattle.command_faults.specs.declared.faults.CommandFault.TheVariants as faults;
 
-use crate::faults::PictureFault;
-use crate::loading::load;
 use crate::others::TRACKS;
-use crate::output::{flush, put};
 use crate::reading::read_map;
+use command_faults::{CommandFault, flush, load, put_text};
 use disk_layout::BamView;
 use std::alloc::Global;
 use std::fmt::{self, Display, Formatter};
@@ -44,7 +42,7 @@ impl Display for FreeTotal {
 }
 
 /// Prints the lines of the tracks.
-fn put_tracks<W: Write>(out: &mut W, map: &[u8; 256]) -> Result<(), PictureFault>
+fn put_tracks<W: Write>(out: &mut W, map: &[u8; 256]) -> Result<(), CommandFault>
     ensures ok { OnOk result (Appends (W.contents out.old) (W.contents out.new)
         (each_below 35 (λ b. free_line (b + 1) (map_count map.now (b + 1))))) }
     ensures err { IfErr result (λ fault. fault ≡ faults.File) }
@@ -52,7 +50,7 @@ fn put_tracks<W: Write>(out: &mut W, map: &[u8; 256]) -> Result<(), PictureFault
     let view = BamView::new(map);
     for below in 0..TRACKS {
         let track = below + 1;
-        put(
+        put_text(
             out,
             FreeLine {
                 track,
@@ -64,12 +62,12 @@ fn put_tracks<W: Write>(out: &mut W, map: &[u8; 256]) -> Result<(), PictureFault
 }
 
 /// Prints the lines of the tracks, and their sum.
-fn put_free<W: Write>(out: &mut W, map: &[u8; 256]) -> Result<(), PictureFault>
+fn put_free<W: Write>(out: &mut W, map: &[u8; 256]) -> Result<(), CommandFault>
     ensures ok { OnOk result (Appends (W.contents out.old) (W.contents out.new) (free_text map.now)) }
     ensures err { IfErr result (λ fault. fault ≡ faults.File) }
 {
     put_tracks(out, map)?;
-    put(out, FreeTotal(BamView::new(map).blocks_free()))?;
+    put_text(out, FreeTotal(BamView::new(map).blocks_free()))?;
     flush(out)
 }
 
@@ -78,7 +76,7 @@ fn put_free<W: Write>(out: &mut W, map: &[u8; 256]) -> Result<(), PictureFault>
 /// doesn't count for it. The rest of the image isn't checked.
 ///
 /// `ImageSize` and `NoMemory`: nothing was printed. `File` if the output failed, which may then have a part.
-pub fn free_image<W: Write>(alloc: Global, image: &[u8], out: &mut W) -> Result<(), PictureFault>
+pub fn free_image<W: Write>(alloc: Global, image: &[u8], out: &mut W) -> Result<(), CommandFault>
     ensures ok { OnOk result (AreFreePrinted W.contents image.now out.old out.new) }
     ensures err { IfErr result (IsViewFault image.now) }
     ensures untouched { IfErr result (λ fault. (fault ≢ faults.File) → out.new ≡ out.old) }

@@ -12,17 +12,14 @@ mod counterparts;
 mod differences;
 mod drawing;
 mod drawn_file;
-mod faults;
 mod files;
 mod free_printing;
 mod html;
 mod laws;
-mod loading;
 mod map_printing;
 mod map_tracks;
 mod names;
 mod others;
-mod output;
 mod owners;
 mod page;
 mod past_tracks;
@@ -47,7 +44,6 @@ mod white_lines;
 
 pub use comparing::compare_images;
 pub use comparison_laws::comparisons_show_what_differs;
-pub use faults::PictureFault;
 pub use free_printing::free_image;
 pub use laws::{
     marks_tell_entries_apart, names_bring_no_markup, pages_have_683_sectors,

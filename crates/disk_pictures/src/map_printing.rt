@@ -8,18 +8,17 @@ ghost use Rattle.disk_pictures.specs.Held.{drawn_in};
 ghost use Rattle.disk_pictures.specs.Maps.{entry_line, is_wide as wide_of, map_text, records_text};
 ghost use Rattle.disk_pictures.specs.Outcomes.{IsMapPrinted, IsPictureFault, map_in};
 ghost use Rattle.disk_pictures.specs.Texts.{numbered};
-ghost use Rattle.disk_pictures.specs.declared.faults.PictureFault.TheVariants as faults;
+ghost use Rattle.command_faults.specs.declared.faults.CommandFault.TheVariants as faults;
 
 use crate::drawing::Drawing;
 use crate::drawn_file::DrawnFile;
-use crate::faults::PictureFault;
 use crate::map_tracks::put_either_tracks;
 use crate::names::entry_name;
-use crate::output::{flush, put};
 use crate::signs::EntryMark;
 use crate::texts::{TypeText, VerdictText};
 use crate::verdicts::judged;
 use byte_text::Text;
+use command_faults::{CommandFault, flush, put_text};
 use disk_layout::{EntryView, Fault};
 use std::alloc::Global;
 use std::fmt::{self, Display, Formatter};
@@ -85,13 +84,13 @@ impl Display for EntryLine<'_> {
 }
 
 /// Prints the lines of the entries.
-fn put_entries<W: Write>(out: &mut W, wide: bool, files: &[DrawnFile]) -> Result<(), PictureFault>
+fn put_entries<W: Write>(out: &mut W, wide: bool, files: &[DrawnFile]) -> Result<(), CommandFault>
     ensures ok { OnOk result (Appends (W.contents out.old) (W.contents out.new)
         (numbered (entry_line wide) 0 (map file_in files.now))) }
     ensures err { IfErr result (λ fault. fault ≡ faults.File) }
 {
     for (number, file) in files.iter().enumerate() {
-        put(out, EntryLine { wide, number, file })?;
+        put_text(out, EntryLine { wide, number, file })?;
     }
     Ok(())
 }
@@ -101,7 +100,7 @@ fn put_map<W: Write>(
     out: &mut W,
     found: Option<Fault>,
     drawing: &Drawing,
-) -> Result<(), PictureFault>
+) -> Result<(), CommandFault>
     ensures ok { OnOk result (Appends (W.contents out.old) (W.contents out.new)
         (map_text found drawing.now.map (drawn_in drawing.now))) }
     ensures err { IfErr result (λ fault. fault ≡ faults.File) }
@@ -109,8 +108,8 @@ fn put_map<W: Write>(
     let wide = is_wide(drawing);
     put_either_tracks(out, wide, found, drawing)?;
     put_entries(out, wide, drawing.files.as_slice())?;
-    put(out, VerdictText(found))?;
-    put(out, "\n")?;
+    put_text(out, VerdictText(found))?;
+    put_text(out, "\n")?;
     flush(out)
 }
 
@@ -129,7 +128,7 @@ pub fn map_image<W: Write>(
     alloc: Global,
     image: &[u8],
     out: &mut W,
-) -> Result<Option<Fault>, PictureFault>
+) -> Result<Option<Fault>, CommandFault>
     ensures ok { IfOk result (IsMapPrinted W.contents image.now out.old out.new) }
     ensures sound { IfOk result (λ found. (l : Layout) → IsLayout (sectors_in image.now) l
         → Appends (W.contents out.old) (W.contents out.new) (map_text found (map_in image.now) l)) }

@@ -4,12 +4,11 @@ ghost use Rattle.std.specs.Io.KnownBytes.{Appends};
 ghost use Rattle.disk_pictures.specs.Held.{drawn_in};
 ghost use Rattle.disk_pictures.specs.Maps.{narrow_tracks, track_line, track_number, track_text, tracks_text};
 ghost use Rattle.disk_pictures.specs.Maps.{wide_line, wide_tracks};
-ghost use Rattle.disk_pictures.specs.declared.faults.PictureFault.TheVariants as faults;
+ghost use Rattle.command_faults.specs.declared.faults.CommandFault.TheVariants as faults;
 
 use crate::drawing::Drawing;
-use crate::faults::PictureFault;
-use crate::output::put;
 use crate::signs::{Cell, sign};
+use command_faults::{CommandFault, put_text};
 use d64_image::Place;
 use disk_layout::Fault;
 use std::fmt::{self, Display, Formatter};
@@ -33,18 +32,18 @@ fn put_track<W: Write>(
     found: Option<Fault>,
     drawing: &Drawing,
     track: u8,
-) -> Result<(), PictureFault>
+) -> Result<(), CommandFault>
     ensures ok { OnOk result (Appends (W.contents out.old) (W.contents out.new)
         (track_line found drawing.now.map (drawn_in drawing.now) track)) }
     ensures err { IfErr result (λ fault. fault ≡ faults.File) }
 {
-    put(out, TrackText(track))?;
+    put_text(out, TrackText(track))?;
     for sector in 0..SECTORS {
         if let Some(place) = Place::new(track, sector) {
-            put(out, sign(found, drawing, place))?;
+            put_text(out, sign(found, drawing, place))?;
         }
     }
-    put(out, "\n")
+    put_text(out, "\n")
 }
 
 /// Prints the head and the lines of the tracks, with a character for each sector.
@@ -52,12 +51,12 @@ fn put_tracks<W: Write>(
     out: &mut W,
     found: Option<Fault>,
     drawing: &Drawing,
-) -> Result<(), PictureFault>
+) -> Result<(), CommandFault>
     ensures ok { OnOk result (Appends (W.contents out.old) (W.contents out.new)
         (narrow_tracks found drawing.now.map (drawn_in drawing.now))) }
     ensures err { IfErr result (λ fault. fault ≡ faults.File) }
 {
-    put(out, HEAD)?;
+    put_text(out, HEAD)?;
     for below in 0..TRACKS {
         put_track(out, found, drawing, below + 1)?;
     }
@@ -70,15 +69,15 @@ fn put_wide_track<W: Write>(
     found: Option<Fault>,
     drawing: &Drawing,
     track: u8,
-) -> Result<(), PictureFault>
+) -> Result<(), CommandFault>
     ensures ok { OnOk result (Appends (W.contents out.old) (W.contents out.new)
         (wide_line found drawing.now.map (drawn_in drawing.now) track)) }
     ensures err { IfErr result (λ fault. fault ≡ faults.File) }
 {
-    put(out, TrackNumber(track))?;
+    put_text(out, TrackNumber(track))?;
     for sector in 0..SECTORS {
         if let Some(place) = Place::new(track, sector) {
-            put(
+            put_text(
                 out,
                 Cell {
                     found,
@@ -88,7 +87,7 @@ fn put_wide_track<W: Write>(
             )?;
         }
     }
-    put(out, "\n")
+    put_text(out, "\n")
 }
 
 /// Prints the head and the lines of the tracks, with two characters for each sector.
@@ -96,12 +95,12 @@ fn put_wide_tracks<W: Write>(
     out: &mut W,
     found: Option<Fault>,
     drawing: &Drawing,
-) -> Result<(), PictureFault>
+) -> Result<(), CommandFault>
     ensures ok { OnOk result (Appends (W.contents out.old) (W.contents out.new)
         (wide_tracks found drawing.now.map (drawn_in drawing.now))) }
     ensures err { IfErr result (λ fault. fault ≡ faults.File) }
 {
-    put(out, WIDE_HEAD)?;
+    put_text(out, WIDE_HEAD)?;
     for below in 0..TRACKS {
         put_wide_track(out, found, drawing, below + 1)?;
     }
@@ -140,7 +139,7 @@ pub(crate) fn put_either_tracks<W: Write>(
     wide: bool,
     found: Option<Fault>,
     drawing: &Drawing,
-) -> Result<(), PictureFault>
+) -> Result<(), CommandFault>
     ensures ok { OnOk result (Appends (W.contents out.old) (W.contents out.new)
         (tracks_text wide found drawing.now.map (drawn_in drawing.now))) }
     ensures err { IfErr result (λ fault. fault ≡ faults.File) }

@@ -5,13 +5,12 @@ ghost use Rattle.d64_image.specs.Places.{place_at};
 ghost use Rattle.disk_pictures.specs.Held.{drawn_in};
 ghost use Rattle.disk_pictures.specs.Pictures.{other_arc, others_group};
 ghost use Rattle.disk_pictures.specs.Texts.{at_place, each_below};
-ghost use Rattle.disk_pictures.specs.declared.faults.PictureFault.TheVariants as faults;
+ghost use Rattle.command_faults.specs.declared.faults.CommandFault.TheVariants as faults;
 
 use crate::arcs::PlainArc;
 use crate::drawing::Drawing;
-use crate::faults::PictureFault;
-use crate::output::put;
 use crate::owners::Owner;
+use command_faults::{CommandFault, put_text};
 use d64_image::Place;
 use disk_layout::BamView;
 use std::io::Write;
@@ -26,7 +25,7 @@ pub(crate) const SECTORS: u8 = 21;
 pub(crate) const GROUP_END: &str = "</g>\n";
 
 /// Prints a sector, if it is nobody's.
-fn put_other<W: Write>(out: &mut W, drawing: &Drawing, place: Place) -> Result<(), PictureFault>
+fn put_other<W: Write>(out: &mut W, drawing: &Drawing, place: Place) -> Result<(), CommandFault>
     ensures ok { OnOk result (Appends (W.contents out.old) (W.contents out.new)
         (other_arc drawing.now.map (drawn_in drawing.now) place)) }
     ensures err { IfErr result (λ fault. fault ≡ faults.File) }
@@ -40,14 +39,14 @@ fn put_other<W: Write>(out: &mut W, drawing: &Drawing, place: Place) -> Result<(
                     class: "free",
                     owner: "free",
                 };
-                put(out, sector)
+                put_text(out, sector)
             } else {
                 let sector = PlainArc {
                     place,
                     class: "lost",
                     owner: "taken, of no file",
                 };
-                put(out, sector)
+                put_text(out, sector)
             }
         }
         _ => Ok(()),
@@ -55,7 +54,7 @@ fn put_other<W: Write>(out: &mut W, drawing: &Drawing, place: Place) -> Result<(
 }
 
 /// Prints the sectors of nobody on a track.
-fn put_others_on<W: Write>(out: &mut W, drawing: &Drawing, track: u8) -> Result<(), PictureFault>
+fn put_others_on<W: Write>(out: &mut W, drawing: &Drawing, track: u8) -> Result<(), CommandFault>
     ensures ok { OnOk result (Appends (W.contents out.old) (W.contents out.new)
         (each_below 21 (λ sector.
         at_place (other_arc drawing.now.map (drawn_in drawing.now)) (place_at track sector)))) }
@@ -70,14 +69,14 @@ fn put_others_on<W: Write>(out: &mut W, drawing: &Drawing, track: u8) -> Result<
 }
 
 /// Prints the group of the sectors of nobody, track by track.
-pub(crate) fn put_others<W: Write>(out: &mut W, drawing: &Drawing) -> Result<(), PictureFault>
+pub(crate) fn put_others<W: Write>(out: &mut W, drawing: &Drawing) -> Result<(), CommandFault>
     ensures ok { OnOk result (Appends (W.contents out.old) (W.contents out.new)
         (others_group drawing.now.map (drawn_in drawing.now))) }
     ensures err { IfErr result (λ fault. fault ≡ faults.File) }
 {
-    put(out, "<g id=\"r\">\n")?;
+    put_text(out, "<g id=\"r\">\n")?;
     for below in 0..TRACKS {
         put_others_on(out, drawing, below + 1)?;
     }
-    put(out, GROUP_END)
+    put_text(out, GROUP_END)
 }

@@ -5,13 +5,12 @@ ghost use Rattle.std.specs.Io.KnownBytes.{Appends};
 ghost use Rattle.disk_pictures.specs.Drawings.{file_in};
 ghost use Rattle.disk_pictures.specs.Trims.{AreFilesWhole, IsFileWhole, blocks_past as blocks_past_of, file_text, is_past as past, past_from};
 ghost use Rattle.disk_pictures.specs.Trims.{past_line, sides_past as sides_past_of};
-ghost use Rattle.disk_pictures.specs.declared.faults.PictureFault.TheVariants as faults;
+ghost use Rattle.command_faults.specs.declared.faults.CommandFault.TheVariants as faults;
 
 use crate::drawn_file::DrawnFile;
-use crate::faults::PictureFault;
 use crate::names::entry_name;
-use crate::output::put;
 use byte_text::Text;
+use command_faults::{CommandFault, put_text};
 use d64_image::Place;
 use disk_layout::{EntryView, Slot};
 use std::fmt::{self, Display, Formatter};
@@ -104,21 +103,21 @@ impl Display for PastLine<'_> {
 }
 
 /// Prints the lines of a file.
-fn put_file<E: Write>(err: &mut E, image: &[u8], file: &DrawnFile) -> Result<(), PictureFault>
+fn put_file<E: Write>(err: &mut E, image: &[u8], file: &DrawnFile) -> Result<(), CommandFault>
     requires { 174848 ≤ length image.now }
     ensures ok { OnOk result
         (Appends (E.contents err.old) (E.contents err.new) (file_text image.now (file_in file.now))) }
     ensures err { IfErr result (λ fault. fault ≡ faults.File) }
 {
     let slot = &file.slot;
-    put(
+    put_text(
         err,
         PastLine {
             slot,
             place: blocks_past(image, file),
         },
     )?;
-    put(
+    put_text(
         err,
         PastLine {
             slot,
@@ -132,7 +131,7 @@ pub(crate) fn put_files<E: Write>(
     err: &mut E,
     image: &[u8],
     files: &[DrawnFile],
-) -> Result<(), PictureFault>
+) -> Result<(), CommandFault>
     requires { 174848 ≤ length image.now }
     ensures ok { OnOk result (Appends (E.contents err.old) (E.contents err.new)
         (flat_map (file_text image.now) (map file_in files.now))) }

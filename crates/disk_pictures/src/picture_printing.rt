@@ -11,19 +11,18 @@ ghost use Rattle.disk_pictures.specs.Outcomes.{IsPictureFault, IsPicturePrinted,
 ghost use Rattle.disk_pictures.specs.Pictures.{drawing_text, fault_group, file_group, group_head};
 ghost use Rattle.disk_pictures.specs.Pictures.{own_block, own_side, picture_page, row_text, system_group};
 ghost use Rattle.disk_pictures.specs.Texts.{numbered};
-ghost use Rattle.disk_pictures.specs.declared.faults.PictureFault.TheVariants as faults;
+ghost use Rattle.command_faults.specs.declared.faults.CommandFault.TheVariants as faults;
 
 use crate::arcs::{BlockArc, FaultGroup, Look, PlainArc, SideArc};
 use crate::drawing::Drawing;
 use crate::drawn_file::DrawnFile;
-use crate::faults::PictureFault;
 use crate::names::entry_name;
 use crate::others::{GROUP_END, put_others};
-use crate::output::{flush, put};
 use crate::owners::Owner;
 use crate::page::{END, LEGEND, Row, Title, Told};
 use crate::verdicts::judged;
 use crate::white_lines::put_open;
+use command_faults::{CommandFault, flush, put_text};
 use d64_image::Place;
 use disk_layout::Fault;
 use std::alloc::Global;
@@ -35,21 +34,21 @@ const SYSTEM: &str = "<g id=\"m\">\n<circle r=\"21000\" stroke-dashoffset=\"-0\"
     <title>18/0 map</title></circle>\n";
 
 /// Prints the group of the map and the directory.
-fn put_system<W: Write>(out: &mut W, drawing: &Drawing) -> Result<(), PictureFault>
+fn put_system<W: Write>(out: &mut W, drawing: &Drawing) -> Result<(), CommandFault>
     ensures ok { OnOk result (Appends (W.contents out.old) (W.contents out.new)
         (system_group (drawn_in drawing.now))) }
     ensures err { IfErr result (λ fault. fault ≡ faults.File) }
 {
-    put(out, SYSTEM)?;
+    put_text(out, SYSTEM)?;
     for &place in drawing.directory.as_slice() {
         let sector = PlainArc {
             place,
             class: "dir",
             owner: "directory",
         };
-        put(out, sector)?;
+        put_text(out, sector)?;
     }
-    put(out, GROUP_END)
+    put_text(out, GROUP_END)
 }
 
 /// Prints block `index` of an entry, if the sector is drawn as the entry's.
@@ -60,14 +59,14 @@ fn put_block<W: Write>(
     file: &DrawnFile,
     index: usize,
     place: Place,
-) -> Result<(), PictureFault>
+) -> Result<(), CommandFault>
     requires { index ≤ 720 }
     ensures ok { OnOk result (Appends (W.contents out.old) (W.contents out.new)
         (own_block html_of (drawn_in drawing.now) number (file_in file.now) index place)) }
     ensures err { IfErr result (λ fault. fault ≡ faults.File) }
 {
     match drawing.owner(place) {
-        Owner::Blocks(owner) if owner == number => put(
+        Owner::Blocks(owner) if owner == number => put_text(
             out,
             BlockArc {
                 name: entry_name(&file.slot),
@@ -86,7 +85,7 @@ fn put_blocks<W: Write>(
     drawing: &Drawing,
     number: usize,
     file: &DrawnFile,
-) -> Result<(), PictureFault>
+) -> Result<(), CommandFault>
     ensures ok { OnOk result (Appends (W.contents out.old) (W.contents out.new)
         (numbered (own_block html_of (drawn_in drawing.now) number (file_in file.now)) 0 file.now.blocks.items)) }
     ensures err { IfErr result (λ fault. fault ≡ faults.File) }
@@ -106,13 +105,13 @@ fn put_side<W: Write>(
     file: &DrawnFile,
     index: usize,
     place: Place,
-) -> Result<(), PictureFault>
+) -> Result<(), CommandFault>
     ensures ok { OnOk result (Appends (W.contents out.old) (W.contents out.new)
         (own_side html_of (drawn_in drawing.now) number (file_in file.now) index place)) }
     ensures err { IfErr result (λ fault. fault ≡ faults.File) }
 {
     match drawing.owner(place) {
-        Owner::Sides(owner) if owner == number => put(
+        Owner::Sides(owner) if owner == number => put_text(
             out,
             SideArc {
                 name: entry_name(&file.slot),
@@ -130,7 +129,7 @@ fn put_sides<W: Write>(
     drawing: &Drawing,
     number: usize,
     file: &DrawnFile,
-) -> Result<(), PictureFault>
+) -> Result<(), CommandFault>
     ensures ok { OnOk result (Appends (W.contents out.old) (W.contents out.new)
         (numbered (own_side html_of (drawn_in drawing.now) number (file_in file.now)) 0 file.now.sides.items)) }
     ensures err { IfErr result (λ fault. fault ≡ faults.File) }
@@ -161,19 +160,19 @@ fn put_file<W: Write>(
     drawing: &Drawing,
     number: usize,
     file: &DrawnFile,
-) -> Result<(), PictureFault>
+) -> Result<(), CommandFault>
     ensures ok { OnOk result (Appends (W.contents out.old) (W.contents out.new)
         (file_group html_of (drawn_in drawing.now) number (file_in file.now))) }
     ensures err { IfErr result (λ fault. fault ≡ faults.File) }
 {
-    put(out, GroupHead(number))?;
+    put_text(out, GroupHead(number))?;
     put_blocks(out, drawing, number, file)?;
     put_sides(out, drawing, number, file)?;
-    put(out, GROUP_END)
+    put_text(out, GROUP_END)
 }
 
 /// Prints the groups of the entries.
-fn put_files<W: Write>(out: &mut W, drawing: &Drawing) -> Result<(), PictureFault>
+fn put_files<W: Write>(out: &mut W, drawing: &Drawing) -> Result<(), CommandFault>
     ensures ok { OnOk result (Appends (W.contents out.old) (W.contents out.new)
         (numbered (file_group html_of (drawn_in drawing.now)) 0 (map file_in drawing.now.files.items))) }
     ensures err { IfErr result (λ fault. fault ≡ faults.File) }
@@ -186,25 +185,25 @@ fn put_files<W: Write>(out: &mut W, drawing: &Drawing) -> Result<(), PictureFaul
 }
 
 /// Prints the rows of the table.
-fn put_rows<W: Write>(out: &mut W, files: &[DrawnFile]) -> Result<(), PictureFault>
+fn put_rows<W: Write>(out: &mut W, files: &[DrawnFile]) -> Result<(), CommandFault>
     ensures ok { OnOk result (Appends (W.contents out.old) (W.contents out.new)
         (numbered (row_text html_of petscii_of) 0 (map file_in files.now))) }
     ensures err { IfErr result (λ fault. fault ≡ faults.File) }
 {
     for (number, file) in files.iter().enumerate() {
-        put(out, Row { number, file })?;
+        put_text(out, Row { number, file })?;
     }
     Ok(())
 }
 
 /// Prints the group of the fault, if one was found.
-fn put_fault<W: Write>(out: &mut W, found: Option<Fault>) -> Result<(), PictureFault>
+fn put_fault<W: Write>(out: &mut W, found: Option<Fault>) -> Result<(), CommandFault>
     ensures ok { OnOk result (Appends (W.contents out.old) (W.contents out.new) (fault_group found)) }
     ensures err { IfErr result (λ fault. fault ≡ faults.File) }
 {
     match found {
         None => Ok(()),
-        Some(fault) => put(out, FaultGroup(fault)),
+        Some(fault) => put_text(out, FaultGroup(fault)),
     }
 }
 
@@ -213,7 +212,7 @@ pub(crate) fn put_drawing<W: Write>(
     out: &mut W,
     found: Option<Fault>,
     drawing: &Drawing,
-) -> Result<(), PictureFault>
+) -> Result<(), CommandFault>
     ensures ok { OnOk result (Appends (W.contents out.old) (W.contents out.new)
         (drawing_text html_of found drawing.now.map (drawn_in drawing.now))) }
     ensures err { IfErr result (λ fault. fault ≡ faults.File) }
@@ -230,17 +229,17 @@ fn put_page<W: Write>(
     out: &mut W,
     found: Option<Fault>,
     drawing: &Drawing,
-) -> Result<(), PictureFault>
+) -> Result<(), CommandFault>
     ensures ok { OnOk result (Appends (W.contents out.old) (W.contents out.new)
         (picture_page found drawing.now.map (drawn_in drawing.now))) }
     ensures err { IfErr result (λ fault. fault ≡ faults.File) }
 {
-    put(out, Title(&drawing.map))?;
-    put(out, Told { drawing, found })?;
+    put_text(out, Title(&drawing.map))?;
+    put_text(out, Told { drawing, found })?;
     put_drawing(out, found, drawing)?;
-    put(out, LEGEND)?;
+    put_text(out, LEGEND)?;
     put_rows(out, drawing.files.as_slice())?;
-    put(out, END)?;
+    put_text(out, END)?;
     flush(out)
 }
 
@@ -257,7 +256,7 @@ pub fn picture_image<W: Write>(
     alloc: Global,
     image: &[u8],
     out: &mut W,
-) -> Result<Option<Fault>, PictureFault>
+) -> Result<Option<Fault>, CommandFault>
     ensures ok { IfOk result (IsPicturePrinted W.contents image.now out.old out.new) }
     ensures sound { IfOk result (λ found. (l : Layout) → IsLayout (sectors_in image.now) l
         → Appends (W.contents out.old) (W.contents out.new) (picture_page found (map_in image.now) l)) }

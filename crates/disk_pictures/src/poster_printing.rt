@@ -10,27 +10,26 @@ ghost use Rattle.disk_pictures.specs.Petscii.{petscii_of};
 ghost use Rattle.disk_pictures.specs.Outcomes.{IsPictureFault, IsPosterPrinted, map_in};
 ghost use Rattle.disk_pictures.specs.Posters.{poster_line, poster_of};
 ghost use Rattle.disk_pictures.specs.Texts.{numbered};
-ghost use Rattle.disk_pictures.specs.declared.faults.PictureFault.TheVariants as faults;
+ghost use Rattle.command_faults.specs.declared.faults.CommandFault.TheVariants as faults;
 
 use crate::drawing::Drawing;
 use crate::drawn_file::DrawnFile;
-use crate::faults::PictureFault;
-use crate::output::{flush, put};
 use crate::picture_printing::put_drawing;
 use crate::poster::{END, Head, Heading, LEGEND, Line};
 use crate::verdicts::judged;
+use command_faults::{CommandFault, flush, put_text};
 use disk_layout::Fault;
 use std::alloc::Global;
 use std::io::Write;
 
 /// Prints the lines of the entries.
-fn put_lines<W: Write>(out: &mut W, files: &[DrawnFile]) -> Result<(), PictureFault>
+fn put_lines<W: Write>(out: &mut W, files: &[DrawnFile]) -> Result<(), CommandFault>
     ensures ok { OnOk result (Appends (W.contents out.old) (W.contents out.new)
         (numbered (poster_line html_of petscii_of) 0 (map file_in files.now))) }
     ensures err { IfErr result (λ fault. fault ≡ faults.File) }
 {
     for (number, file) in files.iter().enumerate() {
-        put(out, Line { number, file })?;
+        put_text(out, Line { number, file })?;
     }
     Ok(())
 }
@@ -40,17 +39,17 @@ fn put_poster<W: Write>(
     out: &mut W,
     found: Option<Fault>,
     drawing: &Drawing,
-) -> Result<(), PictureFault>
+) -> Result<(), CommandFault>
     ensures ok { OnOk result (Appends (W.contents out.old) (W.contents out.new)
         (poster_of found drawing.now.map (drawn_in drawing.now))) }
     ensures err { IfErr result (λ fault. fault ≡ faults.File) }
 {
-    put(out, Head(&drawing.map))?;
-    put(out, Heading { drawing, found })?;
+    put_text(out, Head(&drawing.map))?;
+    put_text(out, Heading { drawing, found })?;
     put_drawing(out, found, drawing)?;
-    put(out, LEGEND)?;
+    put_text(out, LEGEND)?;
     put_lines(out, drawing.files.as_slice())?;
-    put(out, END)?;
+    put_text(out, END)?;
     flush(out)
 }
 
@@ -66,7 +65,7 @@ pub fn poster_image<W: Write>(
     alloc: Global,
     image: &[u8],
     out: &mut W,
-) -> Result<Option<Fault>, PictureFault>
+) -> Result<Option<Fault>, CommandFault>
     ensures ok { IfOk result (IsPosterPrinted W.contents image.now out.old out.new) }
     ensures sound { IfOk result (λ found. (l : Layout) → IsLayout (sectors_in image.now) l
         → Appends (W.contents out.old) (W.contents out.new) (poster_of found (map_in image.now) l)) }

@@ -10,9 +10,9 @@ ghost use Rattle.disk_pictures.specs.Faults.{IsDrawFault, IsMemoryFault, layout_
 
 use crate::drawing::Drawing;
 use crate::drawn_file::DrawnFile;
-use crate::faults::PictureFault;
 use crate::files::{Places, draw_file, list_of, walk};
 use arrayvec::ArrayVec;
+use command_faults::CommandFault;
 use d64_image::{MemDisk, Sectors};
 use disk_layout::{Fault, Slot, directory_start, map_place, read_directory};
 use std::alloc::Global;
@@ -33,7 +33,7 @@ fn draw_files(
     disk: &mut MemDisk,
     slots: &[Slot],
     places: &mut Places,
-) -> Result<Vec<DrawnFile>, PictureFault>
+) -> Result<Vec<DrawnFile>, CommandFault>
     requires { length slots.now ≤ 144 }
     ensures ok { IfOk result
         (λ files. AreDrawn (disk_image disk.old) slots.now (map file_in files.items)) }
@@ -45,14 +45,14 @@ fn draw_files(
     for slot in slots {
         let file = draw_file(alloc, disk, slot, places)?;
         if files.push(file).is_err() {
-            return Err(PictureFault::NoMemory);
+            return Err(CommandFault::NoMemory);
         }
     }
     Ok(files)
 }
 
 /// What is drawn of the disk. `Layout` if the directory's sectors aren't a chain on track 18, or `NoMemory`.
-pub(crate) fn draw(alloc: Global, disk: &mut MemDisk) -> Result<Drawing, PictureFault>
+pub(crate) fn draw(alloc: Global, disk: &mut MemDisk) -> Result<Drawing, CommandFault>
     ensures ok { IfOk result (λ drawing. IsDrawn (disk_image disk.old) (drawn_in drawing)) }
     ensures map { IfOk result (λ drawing. drawing.map ≡ sector (disk_image disk.old) map_at) }
     ensures same { disk_image disk.new ≡ disk_image disk.old }
@@ -60,7 +60,7 @@ pub(crate) fn draw(alloc: Global, disk: &mut MemDisk) -> Result<Drawing, Picture
 {
     let mut slots = ArrayVec::new();
     if let Err(fault) = read_directory(disk, &mut slots) {
-        return Err(PictureFault::Layout(fault));
+        return Err(CommandFault::Layout(fault));
     }
     let map = read_map(disk);
     let mut places = ArrayVec::new();
@@ -71,11 +71,11 @@ pub(crate) fn draw(alloc: Global, disk: &mut MemDisk) -> Result<Drawing, Picture
 }
 
 /// What the directory has wrong, if that is why nothing is drawn.
-fn layout_fault(why: PictureFault) -> Option<Fault>
+fn layout_fault(why: CommandFault) -> Option<Fault>
     ensures { result ≡ layout_fault_of why }
 {
     match why {
-        PictureFault::Layout(fault) => Some(fault),
+        CommandFault::Layout(fault) => Some(fault),
         _ => None,
     }
 }
@@ -84,7 +84,7 @@ fn layout_fault(why: PictureFault) -> Option<Fault>
 pub(crate) fn draw_or_fault(
     alloc: Global,
     disk: &mut MemDisk,
-) -> Result<Result<Drawing, Fault>, PictureFault>
+) -> Result<Result<Drawing, Fault>, CommandFault>
     ensures ok { IfOk result (λ drawn. MatchResult drawn
         (λ drawing. IsDrawn (disk_image disk.old) (drawn_in drawing)
         × (drawing.map ≡ sector (disk_image disk.old) map_at))

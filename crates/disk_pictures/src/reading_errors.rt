@@ -6,11 +6,10 @@ ghost use Rattle.d64_image.specs.declared.place.Place.{Place};
 ghost use Rattle.disk_rescue.specs.Sizes.{error_of};
 ghost use Rattle.disk_pictures.specs.Texts.{at_place, each_below};
 ghost use Rattle.disk_pictures.specs.Trims.{error_line, error_number, errors_text};
-ghost use Rattle.disk_pictures.specs.declared.faults.PictureFault.TheVariants as faults;
+ghost use Rattle.command_faults.specs.declared.faults.CommandFault.TheVariants as faults;
 
-use crate::faults::PictureFault;
 use crate::others::{SECTORS, TRACKS};
-use crate::output::put;
+use command_faults::{CommandFault, put_text};
 use d64_image::Place;
 use disk_rescue::error_at;
 use std::fmt::{self, Display, Formatter};
@@ -52,7 +51,7 @@ impl Display for ErrorLine {
 }
 
 /// Prints the lines of the sectors of a track that weren't read.
-fn put_errors_on<E: Write>(err: &mut E, image: &[u8], track: u8) -> Result<(), PictureFault>
+fn put_errors_on<E: Write>(err: &mut E, image: &[u8], track: u8) -> Result<(), CommandFault>
     ensures ok { OnOk result (Appends (E.contents err.old) (E.contents err.new)
         (each_below 21 (λ sector. at_place (λ p. error_line p (error_of image.now p)) (place_at track sector)))) }
     ensures err { IfErr result (λ fault. fault ≡ faults.File) }
@@ -60,14 +59,14 @@ fn put_errors_on<E: Write>(err: &mut E, image: &[u8], track: u8) -> Result<(), P
     for sector in 0..SECTORS {
         if let Some(place) = Place::new(track, sector) {
             let error = error_at(image, place);
-            put(err, ErrorLine { place, error })?;
+            put_text(err, ErrorLine { place, error })?;
         }
     }
     Ok(())
 }
 
 /// Prints a line for each sector of tracks 1 to 35 that wasn't read when the image was made.
-pub(crate) fn put_errors<E: Write>(err: &mut E, image: &[u8]) -> Result<(), PictureFault>
+pub(crate) fn put_errors<E: Write>(err: &mut E, image: &[u8]) -> Result<(), CommandFault>
     ensures ok { OnOk result (Appends (E.contents err.old) (E.contents err.new) (errors_text image.now)) }
     ensures err { IfErr result (λ fault. fault ≡ faults.File) }
 {

@@ -8,17 +8,15 @@ ghost use Rattle.disk_pictures.specs.Held.{drawn_in};
 ghost use Rattle.disk_pictures.specs.Maps.{is_wide as wide_of};
 ghost use Rattle.disk_pictures.specs.Views.{IsSectorPrinted, IsViewFault, line_if, link_text, owner_text};
 ghost use Rattle.disk_pictures.specs.Views.{sector_text, unknown_owner};
-ghost use Rattle.disk_pictures.specs.declared.faults.PictureFault.TheVariants as faults;
+ghost use Rattle.command_faults.specs.declared.faults.CommandFault.TheVariants as faults;
 ghost use Rattle.disk_pictures.specs.declared.owners.Owner.TheVariants as owners;
 
 use crate::byte_lines::put_bytes;
 use crate::drawing::Drawing;
-use crate::faults::PictureFault;
-use crate::loading::load;
 use crate::map_printing::{EntryLine, is_wide};
-use crate::output::{flush, put};
 use crate::owners::Owner;
 use crate::reading::draw_or_fault;
+use command_faults::{CommandFault, flush, load, put_text};
 use d64_image::{MemDisk, Place, Sectors};
 use disk_layout::{BamView, Fault};
 use std::alloc::Global;
@@ -47,33 +45,33 @@ impl Display for LinkText {
 }
 
 /// Prints the line of the entry with this number, if there is one.
-fn put_entry<W: Write>(out: &mut W, drawing: &Drawing, number: usize) -> Result<(), PictureFault>
+fn put_entry<W: Write>(out: &mut W, drawing: &Drawing, number: usize) -> Result<(), CommandFault>
     ensures ok { OnOk result (Appends (W.contents out.old) (W.contents out.new)
         (line_if (wide_of (drawn_in drawing.now)) number (slice_get (drawn_in drawing.now).files number))) }
     ensures err { IfErr result (λ fault. fault ≡ faults.File) }
 {
     let wide = is_wide(drawing);
     match drawing.files.as_slice().get(number) {
-        Some(file) => put(out, EntryLine { wide, number, file }),
-        None => put(out, "\n"),
+        Some(file) => put_text(out, EntryLine { wide, number, file }),
+        None => put_text(out, "\n"),
     }
 }
 
 /// Prints whose the sector is.
-fn put_owner<W: Write>(out: &mut W, drawing: &Drawing, place: Place) -> Result<(), PictureFault>
+fn put_owner<W: Write>(out: &mut W, drawing: &Drawing, place: Place) -> Result<(), CommandFault>
     ensures ok { OnOk result (Appends (W.contents out.old) (W.contents out.new)
         (owner_text drawing.now.map (drawn_in drawing.now) place (owner_of (drawn_in drawing.now) place))) }
     ensures err { IfErr result (λ fault. fault ≡ faults.File) }
 {
     match drawing.owner(place) {
-        Owner::Map => put(out, "OWNER MAP\n"),
-        Owner::Directory => put(out, "OWNER DIRECTORY\n"),
+        Owner::Map => put_text(out, "OWNER MAP\n"),
+        Owner::Directory => put_text(out, "OWNER DIRECTORY\n"),
         Owner::Blocks(number) => {
-            put(out, "OWNER BLOCK ")?;
+            put_text(out, "OWNER BLOCK ")?;
             put_entry(out, drawing, number)
         }
         Owner::Sides(number) => {
-            put(out, "OWNER SIDE ")?;
+            put_text(out, "OWNER SIDE ")?;
             put_entry(out, drawing, number)
         }
         Owner::Nobody => put_nobodys(out, drawing, place),
@@ -81,16 +79,16 @@ fn put_owner<W: Write>(out: &mut W, drawing: &Drawing, place: Place) -> Result<(
 }
 
 /// Prints that nobody drawn has the sector, and what the map calls it.
-fn put_nobodys<W: Write>(out: &mut W, drawing: &Drawing, place: Place) -> Result<(), PictureFault>
+fn put_nobodys<W: Write>(out: &mut W, drawing: &Drawing, place: Place) -> Result<(), CommandFault>
     ensures ok { OnOk result (Appends (W.contents out.old) (W.contents out.new)
         (owner_text drawing.now.map (drawn_in drawing.now) place owners.Nobody)) }
     ensures err { IfErr result (λ fault. fault ≡ faults.File) }
 {
     let free = BamView::new(&drawing.map).is_free(place);
     if free {
-        put(out, "OWNER NONE, FREE\n")
+        put_text(out, "OWNER NONE, FREE\n")
     } else {
-        put(out, "OWNER NONE, TAKEN\n")
+        put_text(out, "OWNER NONE, TAKEN\n")
     }
 }
 
@@ -107,12 +105,12 @@ impl Display for UnknownOwner {
 }
 
 /// Prints where the sector's link leads, after everything else.
-fn put_link<W: Write>(out: &mut W, bytes: &[u8; 256]) -> Result<(), PictureFault>
+fn put_link<W: Write>(out: &mut W, bytes: &[u8; 256]) -> Result<(), CommandFault>
     ensures ok { OnOk result (Appends (W.contents out.old) (W.contents out.new)
         (link_text (slice_index bytes.now 0) (slice_index bytes.now 1))) }
     ensures err { IfErr result (λ fault. fault ≡ faults.File) }
 {
-    put(
+    put_text(
         out,
         LinkText {
             track: bytes[0],
@@ -128,7 +126,7 @@ fn put_owned<W: Write>(
     bytes: &[u8; 256],
     drawing: &Drawing,
     place: Place,
-) -> Result<(), PictureFault>
+) -> Result<(), CommandFault>
     ensures ok { OnOk result (Appends (W.contents out.old) (W.contents out.new) (sector_text bytes.now
         (owner_text drawing.now.map (drawn_in drawing.now) place (owner_of (drawn_in drawing.now) place)))) }
     ensures err { IfErr result (λ fault. fault ≡ faults.File) }
@@ -139,13 +137,13 @@ fn put_owned<W: Write>(
 }
 
 /// Prints a sector whose owner isn't known for this fault of the directory.
-fn put_unowned<W: Write>(out: &mut W, bytes: &[u8; 256], fault: Fault) -> Result<(), PictureFault>
+fn put_unowned<W: Write>(out: &mut W, bytes: &[u8; 256], fault: Fault) -> Result<(), CommandFault>
     ensures ok { OnOk result (Appends (W.contents out.old) (W.contents out.new)
         (sector_text bytes.now (unknown_owner fault))) }
     ensures err { IfErr result (λ fault. fault ≡ faults.File) }
 {
     put_bytes(out, bytes)?;
-    put(out, UnknownOwner(fault))?;
+    put_text(out, UnknownOwner(fault))?;
     put_link(out, bytes)
 }
 
@@ -171,7 +169,7 @@ pub fn sector_image<W: Write>(
     image: &[u8],
     place: Place,
     out: &mut W,
-) -> Result<(), PictureFault>
+) -> Result<(), CommandFault>
     ensures ok { OnOk result (IsSectorPrinted W.contents image.now place out.old out.new) }
     ensures err { IfErr result (IsViewFault image.now) }
     ensures untouched { IfErr result (λ fault. (fault ≢ faults.File) → out.new ≡ out.old) }

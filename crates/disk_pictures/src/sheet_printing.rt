@@ -1,17 +1,16 @@
 //! A contact sheet of disks, as an HTML page: its beginning, a tile for each image, and its end.
 ghost use Rattle.std.specs.Prelude.{◌≡◌, IfErr, IfOk, OnOk, Some};
 ghost use Rattle.std.specs.Io.KnownBytes.{Appends};
-ghost use Rattle.disk_pictures.specs.Faults.{picture_text};
+ghost use Rattle.command_faults.specs.Faults.{command_text};
 ghost use Rattle.disk_pictures.specs.Html.{html_of};
 ghost use Rattle.disk_pictures.specs.Sheets.{refused_head, refused_tile, sheet_end, sheet_head};
 ghost use Rattle.disk_pictures.specs.Tiles.{IsTilePrinted, found_status as status_of};
-ghost use Rattle.disk_pictures.specs.declared.faults.PictureFault.TheVariants as faults;
+ghost use Rattle.command_faults.specs.declared.faults.CommandFault.TheVariants as faults;
 
-use crate::faults::PictureFault;
 use crate::html::Html;
-use crate::output::{flush, put};
 use crate::tiles::put_tile;
 use crate::verdicts::judged;
+use command_faults::{CommandFault, flush, put_text};
 use disk_layout::Fault;
 use std::alloc::Global;
 use std::fmt::{self, Display, Formatter};
@@ -96,14 +95,14 @@ impl Display for RefusedHead<'_> {
 }
 
 /// Prints the tile of an image that isn't drawn, with why.
-fn put_refused<W: Write>(out: &mut W, path: &str, fault: PictureFault) -> Result<(), PictureFault>
+fn put_refused<W: Write>(out: &mut W, path: &str, fault: CommandFault) -> Result<(), CommandFault>
     ensures ok { OnOk result (Appends (W.contents out.old) (W.contents out.new)
-        (refused_tile html_of path.now (picture_text fault))) }
+        (refused_tile html_of path.now (command_text fault))) }
     ensures err { IfErr result (λ fault. fault ≡ faults.File) }
 {
-    put(out, RefusedHead(path))?;
-    put(out, fault)?;
-    put(out, REFUSED_END)
+    put_text(out, RefusedHead(path))?;
+    put_text(out, fault)?;
+    put_text(out, REFUSED_END)
 }
 
 /// The exit status for this result of a check.
@@ -117,11 +116,11 @@ fn found_status(found: Option<Fault>) -> u8
 }
 
 /// Prints the beginning of a contact sheet of so many disks: an HTML page. `File` if the output failed.
-pub fn sheet_begin<W: Write>(out: &mut W, count: usize) -> Result<(), PictureFault>
+pub fn sheet_begin<W: Write>(out: &mut W, count: usize) -> Result<(), CommandFault>
     ensures ok { OnOk result (Appends (W.contents out.old) (W.contents out.new) (sheet_head count)) }
     ensures err { IfErr result (λ fault. fault ≡ faults.File) }
 {
-    put(out, Head(count))
+    put_text(out, Head(count))
 }
 
 /// Prints the next tile of a contact sheet, that of an image, and returns the exit status that `picture` has for this
@@ -139,7 +138,7 @@ pub fn sheet_tile<W: Write>(
     path: &str,
     image: &[u8],
     out: &mut W,
-) -> Result<u8, PictureFault>
+) -> Result<u8, CommandFault>
     ensures ok { IfOk result (IsTilePrinted W.contents path.now image.now out.old out.new) }
     ensures err { IfErr result (λ fault. fault ≡ faults.File) }
 {
@@ -157,21 +156,21 @@ pub fn sheet_tile<W: Write>(
 
 /// Prints the next tile of a contact sheet, that of an image which couldn't be read, with the words that say why. `File`
 /// if the output failed.
-pub fn sheet_refusal<W: Write>(path: &str, told: &str, out: &mut W) -> Result<(), PictureFault>
+pub fn sheet_refusal<W: Write>(path: &str, told: &str, out: &mut W) -> Result<(), CommandFault>
     ensures ok { OnOk result (Appends (W.contents out.old) (W.contents out.new)
         (refused_tile html_of path.now (html_of told.now))) }
     ensures err { IfErr result (λ fault. fault ≡ faults.File) }
 {
-    put(out, RefusedHead(path))?;
-    put(out, Html(told.as_bytes()))?;
-    put(out, REFUSED_END)
+    put_text(out, RefusedHead(path))?;
+    put_text(out, Html(told.as_bytes()))?;
+    put_text(out, REFUSED_END)
 }
 
 /// Prints the end of a contact sheet, with the meaning of the colours, and flushes the output. `File` if it failed.
-pub fn sheet_finish<W: Write>(out: &mut W) -> Result<(), PictureFault>
+pub fn sheet_finish<W: Write>(out: &mut W) -> Result<(), CommandFault>
     ensures ok { OnOk result (Appends (W.contents out.old) (W.contents out.new) sheet_end) }
     ensures err { IfErr result (λ fault. fault ≡ faults.File) }
 {
-    put(out, END)?;
+    put_text(out, END)?;
     flush(out)
 }

@@ -9,18 +9,17 @@ ghost use Rattle.disk_pictures.specs.Sheets.{caption, own_stroke, shade as shade
 ghost use Rattle.disk_pictures.specs.Shades.{HasEach};
 ghost use Rattle.disk_pictures.specs.Sheets.{small_drawing, stroke, tile_head, tile_text};
 ghost use Rattle.disk_pictures.specs.Texts.{at_place, each_below};
-ghost use Rattle.disk_pictures.specs.declared.faults.PictureFault.TheVariants as faults;
+ghost use Rattle.command_faults.specs.declared.faults.CommandFault.TheVariants as faults;
 
 use crate::drawing::Drawing;
-use crate::faults::PictureFault;
 use crate::html::Html;
 use crate::names::header_name;
 use crate::others::{SECTORS, TRACKS};
-use crate::output::put;
 use crate::page::class_of;
 use crate::petscii::Petscii;
 use crate::shades::{SHADES, Shades, shade};
 use crate::texts::VerdictText;
+use command_faults::{CommandFault, put_text};
 use d64_image::Place;
 use disk_layout::{BamView, Fault};
 use std::fmt::{self, Display, Formatter};
@@ -57,13 +56,13 @@ fn put_stroke<W: Write>(
     drawing: &Drawing,
     number: usize,
     place: Place,
-) -> Result<(), PictureFault>
+) -> Result<(), CommandFault>
     ensures ok { OnOk result (Appends (W.contents out.old) (W.contents out.new)
         (own_stroke found drawing.now.map (drawn_in drawing.now) number place)) }
     ensures err { IfErr result (λ fault. fault ≡ faults.File) }
 {
     if shade(drawing, found, place) == number {
-        put(out, Stroke(place))
+        put_text(out, Stroke(place))
     } else {
         Ok(())
     }
@@ -76,7 +75,7 @@ fn put_strokes_on<W: Write>(
     drawing: &Drawing,
     number: usize,
     track: u8,
-) -> Result<(), PictureFault>
+) -> Result<(), CommandFault>
     ensures ok { OnOk result (Appends (W.contents out.old) (W.contents out.new) (each_below 21 (λ sector.
         at_place (own_stroke found drawing.now.map (drawn_in drawing.now) number) (place_at track sector)))) }
     ensures err { IfErr result (λ fault. fault ≡ faults.File) }
@@ -97,7 +96,7 @@ fn put_track<W: Write>(
     shades: &Shades,
     number: usize,
     below: u8,
-) -> Result<(), PictureFault>
+) -> Result<(), CommandFault>
     requires small { number < 29 }
     requires track { below < 35 }
     requires each { HasEach shades.now (shade_of found drawing.now.map (drawn_in drawing.now)) }
@@ -119,18 +118,18 @@ fn put_shade<W: Write>(
     drawing: &Drawing,
     shades: &Shades,
     number: usize,
-) -> Result<(), PictureFault>
+) -> Result<(), CommandFault>
     requires small { number < 29 }
     requires each { HasEach shades.now (shade_of found drawing.now.map (drawn_in drawing.now)) }
     ensures ok { OnOk result (Appends (W.contents out.old) (W.contents out.new)
         (shade_path found drawing.now.map (drawn_in drawing.now) number)) }
     ensures err { IfErr result (λ fault. fault ≡ faults.File) }
 {
-    put(out, ShadeHead(number))?;
+    put_text(out, ShadeHead(number))?;
     for below in 0..TRACKS {
         put_track(out, found, drawing, shades, number, below)?;
     }
-    put(out, "\"/>")
+    put_text(out, "\"/>")
 }
 
 /// Prints the small drawing.
@@ -138,7 +137,7 @@ fn put_small<W: Write>(
     out: &mut W,
     found: Option<Fault>,
     drawing: &Drawing,
-) -> Result<(), PictureFault>
+) -> Result<(), CommandFault>
     ensures ok { OnOk result (Appends (W.contents out.old) (W.contents out.new)
         (small_drawing found drawing.now.map (drawn_in drawing.now))) }
     ensures err { IfErr result (λ fault. fault ≡ faults.File) }
@@ -198,14 +197,14 @@ pub(crate) fn put_tile<W: Write>(
     path: &str,
     found: Option<Fault>,
     drawing: &Drawing,
-) -> Result<(), PictureFault>
+) -> Result<(), CommandFault>
     ensures ok { OnOk result (Appends (W.contents out.old) (W.contents out.new)
         (tile_text html_of petscii_of path.now found drawing.now.map (drawn_in drawing.now))) }
     ensures err { IfErr result (λ fault. fault ≡ faults.File) }
 {
-    put(out, TileHead(found))?;
+    put_text(out, TileHead(found))?;
     put_small(out, found, drawing)?;
-    put(
+    put_text(
         out,
         Caption {
             path,

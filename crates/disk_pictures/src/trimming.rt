@@ -6,15 +6,13 @@ ghost use Rattle.disk_layout.specs.Fault.{HoldsOfDirectory, nowhere};
 ghost use Rattle.disk_pictures.specs.Drawings.{IsDrawn};
 ghost use Rattle.disk_pictures.specs.Held.{drawn_in};
 ghost use Rattle.disk_pictures.specs.Trims.{IsAllThere, IsTrimFault, IsTrimmed, errors_text, layout_line, trim_text};
-ghost use Rattle.disk_pictures.specs.declared.faults.PictureFault.TheVariants as faults;
+ghost use Rattle.command_faults.specs.declared.faults.CommandFault.TheVariants as faults;
 
 use crate::drawing::Drawing;
-use crate::faults::PictureFault;
-use crate::loading::load;
-use crate::output::{flush, put};
 use crate::past_tracks::{are_files_whole, put_files};
 use crate::reading::draw_or_fault;
 use crate::reading_errors::{is_read, put_errors};
+use command_faults::{CommandFault, flush, load, put_text};
 use disk_layout::Fault;
 use disk_rescue::first_tracks;
 use std::alloc::Global;
@@ -34,7 +32,7 @@ impl Display for LayoutLine {
 }
 
 /// What is drawn of the tracks, or why their directory can't be read.
-fn drawn_of(alloc: Global, tracks: &[u8]) -> Result<Result<Drawing, Fault>, PictureFault>
+fn drawn_of(alloc: Global, tracks: &[u8]) -> Result<Result<Drawing, Fault>, CommandFault>
     requires { length tracks.now ≡ 174848 }
     ensures ok { IfOk result (λ drawn. MatchResult drawn
         (λ drawing. IsDrawn (sectors_in tracks.now) (drawn_in drawing))
@@ -46,18 +44,18 @@ fn drawn_of(alloc: Global, tracks: &[u8]) -> Result<Result<Drawing, Fault>, Pict
 }
 
 /// Prints the tracks.
-fn put_tracks<W: Write>(out: &mut W, tracks: &[u8]) -> Result<(), PictureFault>
+fn put_tracks<W: Write>(out: &mut W, tracks: &[u8]) -> Result<(), CommandFault>
     ensures ok { OnOk result (Appends (W.contents out.old) (W.contents out.new) tracks.now) }
     ensures err { IfErr result (λ fault. fault ≡ faults.File) }
 {
     if out.write_all(tracks).is_err() {
-        return Err(PictureFault::File);
+        return Err(CommandFault::File);
     }
     flush(out)
 }
 
 /// Reports the sectors that weren't read, and the files that go on past track 35. Whether there are none.
-fn report<E: Write>(err: &mut E, image: &[u8], drawing: &Drawing) -> Result<bool, PictureFault>
+fn report<E: Write>(err: &mut E, image: &[u8], drawing: &Drawing) -> Result<bool, CommandFault>
     requires { 174848 ≤ length image.now }
     ensures ok { IfOk result (λ whole. Appends (E.contents err.old) (E.contents err.new)
         (trim_text image.now (drawn_in drawing.now))
@@ -74,13 +72,13 @@ fn report<E: Write>(err: &mut E, image: &[u8], drawing: &Drawing) -> Result<bool
 }
 
 /// Reports the sectors that weren't read, and why the directory can't be.
-fn report_unread<E: Write>(err: &mut E, image: &[u8], fault: Fault) -> Result<bool, PictureFault>
+fn report_unread<E: Write>(err: &mut E, image: &[u8], fault: Fault) -> Result<bool, CommandFault>
     ensures ok { IfOk result (λ whole. Appends (E.contents err.old) (E.contents err.new)
         (errors_text image.now ++ layout_line fault) × (whole ≡ false)) }
     ensures err { IfErr result (λ fault. fault ≡ faults.File) }
 {
     put_errors(err, image)?;
-    put(err, LayoutLine(fault))?;
+    put_text(err, LayoutLine(fault))?;
     flush(err)?;
     Ok(false)
 }
@@ -96,13 +94,13 @@ pub fn trim_image<W: Write, E: Write>(
     image: &[u8],
     out: &mut W,
     err: &mut E,
-) -> Result<bool, PictureFault>
+) -> Result<bool, CommandFault>
     ensures ok { IfOk result
         (IsTrimmed W.contents E.contents image.now out.old out.new err.old err.new) }
     ensures err { IfErr result (IsTrimFault image.now out.old out.new err.old err.new) }
 {
     let Some(tracks) = first_tracks(image) else {
-        return Err(PictureFault::ImageSize);
+        return Err(CommandFault::ImageSize);
     };
     let drawn = drawn_of(alloc, tracks)?;
     put_tracks(out, tracks)?;

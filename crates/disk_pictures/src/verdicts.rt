@@ -2,12 +2,11 @@
 ghost use Rattle.std.specs.Prelude.{◌≢◌, IfErr, IfOk};
 ghost use Rattle.d64_image.specs.Memory.{disk_image};
 ghost use Rattle.disk_pictures.specs.Outcomes.{IsJudged, IsPictureFault, IsVerdict};
-ghost use Rattle.disk_pictures.specs.declared.faults.PictureFault.TheVariants as faults;
+ghost use Rattle.command_faults.specs.declared.faults.CommandFault.TheVariants as faults;
 
 use crate::drawing::Drawing;
-use crate::faults::PictureFault;
-use crate::loading::load;
 use crate::reading::draw;
+use command_faults::{CommandFault, load};
 use d64_image::MemDisk;
 use disk_layout::Fault;
 use layout_check::check;
@@ -24,7 +23,7 @@ fn verdict(disk: &mut MemDisk) -> Option<Fault>
 }
 
 /// What is drawn of the image, and what a check of it reports.
-pub(crate) fn judged(alloc: Global, image: &[u8]) -> Result<(Drawing, Option<Fault>), PictureFault>
+pub(crate) fn judged(alloc: Global, image: &[u8]) -> Result<(Drawing, Option<Fault>), CommandFault>
     ensures ok { IfOk result (λ (drawing, found). IsJudged image.now drawing found) }
     ensures err { IfErr result (IsPictureFault image.now) }
     ensures not_file { IfErr result (λ fault. fault ≢ faults.File) }

@@ -7,14 +7,13 @@ ghost use Rattle.disk_pictures.specs.Held.{drawn_in};
 ghost use Rattle.disk_pictures.specs.Pictures.{is_open as open_at, is_track_open as track_open, open_group};
 ghost use Rattle.disk_pictures.specs.Pictures.{own_ring, track_dashes, white_head};
 ghost use Rattle.disk_pictures.specs.Texts.{is_at_place};
-ghost use Rattle.disk_pictures.specs.declared.faults.PictureFault.TheVariants as faults;
+ghost use Rattle.command_faults.specs.declared.faults.CommandFault.TheVariants as faults;
 
 use crate::arcs::{Dash, radius};
 use crate::drawing::Drawing;
-use crate::faults::PictureFault;
 use crate::others::{GROUP_END, SECTORS, TRACKS};
-use crate::output::put;
 use crate::owners::Owner;
+use command_faults::{CommandFault, put_text};
 use d64_image::Place;
 use disk_layout::BamView;
 use std::fmt::{self, Display, Formatter};
@@ -53,7 +52,7 @@ fn is_track_open(drawing: &Drawing, track: u8) -> bool
 }
 
 /// Prints the dashes of the sectors that the track has.
-fn put_dashes<W: Write>(out: &mut W, drawing: &Drawing, track: u8) -> Result<(), PictureFault>
+fn put_dashes<W: Write>(out: &mut W, drawing: &Drawing, track: u8) -> Result<(), CommandFault>
     ensures ok { OnOk result (Appends (W.contents out.old) (W.contents out.new)
         (track_dashes drawing.now.map (drawn_in drawing.now) track)) }
     ensures err { IfErr result (λ fault. fault ≡ faults.File) }
@@ -61,7 +60,7 @@ fn put_dashes<W: Write>(out: &mut W, drawing: &Drawing, track: u8) -> Result<(),
     for sector in 0..SECTORS {
         if let Some(place) = Place::new(track, sector) {
             let white = is_open(drawing, place);
-            put(out, Dash { white, place })?;
+            put_text(out, Dash { white, place })?;
         }
     }
     Ok(())
@@ -84,29 +83,29 @@ impl Display for WhiteHead {
 }
 
 /// Prints the white line of a track, if it has a sector in use that is free in the map.
-fn put_ring<W: Write>(out: &mut W, drawing: &Drawing, track: u8) -> Result<(), PictureFault>
+fn put_ring<W: Write>(out: &mut W, drawing: &Drawing, track: u8) -> Result<(), CommandFault>
     ensures ok { OnOk result (Appends (W.contents out.old) (W.contents out.new)
         (own_ring drawing.now.map (drawn_in drawing.now) track)) }
     ensures err { IfErr result (λ fault. fault ≡ faults.File) }
 {
     if is_track_open(drawing, track) {
-        put(out, WhiteHead(track))?;
+        put_text(out, WhiteHead(track))?;
         put_dashes(out, drawing, track)?;
-        put(out, "\"/>\n")
+        put_text(out, "\"/>\n")
     } else {
         Ok(())
     }
 }
 
 /// Prints the group of the white lines.
-pub(crate) fn put_open<W: Write>(out: &mut W, drawing: &Drawing) -> Result<(), PictureFault>
+pub(crate) fn put_open<W: Write>(out: &mut W, drawing: &Drawing) -> Result<(), CommandFault>
     ensures ok { OnOk result (Appends (W.contents out.old) (W.contents out.new)
         (open_group drawing.now.map (drawn_in drawing.now))) }
     ensures err { IfErr result (λ fault. fault ≡ faults.File) }
 {
-    put(out, "<g class=\"open\">\n")?;
+    put_text(out, "<g class=\"open\">\n")?;
     for below in 0..TRACKS {
         put_ring(out, drawing, below + 1)?;
     }
-    put(out, GROUP_END)
+    put_text(out, GROUP_END)
 }

@@ -7,7 +7,7 @@ use Rattle.d64_image.specs.Memory.{sectors_in}
 use Rattle.d64_image.specs.declared.place.Place.{Place}
 use Rattle.disk_layout.specs.declared.faults.Fault.{Fault}
 use Rattle.disk_layout.specs.declared.slot.Slot.{Slot}
-use Rattle.keeper_commands.specs.declared.faults.KeepFault.{KeepFault}
+use Rattle.command_faults.specs.declared.faults.CommandFault.{CommandFault}
 use Rattle.disk_entries.specs.Directories.{IsReadSoFar}
 use Rattle.file_rescue.specs.Folders.{AddsFiles, AddsPart, NewFile}
 use Rattle.file_rescue.specs.Rescues.{AreChosen, IsExtractFault, IsExtracted, IsExtractedPart, IsMakeFault, IsRescue, all_files, first_fault, sectors_of}
@@ -48,7 +48,7 @@ module _ {F : Type 0} (files : F → Option (List NewFile)) (choice : Choice) (i
         ∙ ap (λ (ps : List Place). first_fault third (owned ps all) 1 found all) shown-is
         ∙ ap (λ (img : Image). first_fault img (owned sectors all) 1 found all) (again ∙ same ∙ is)
 
-    pub extracted : (r : Result (Option Fault) KeepFault)
+    pub extracted : (r : Result (Option Fault) CommandFault)
         → IfOk r (λ fault. AddsFiles (files old) (files new) (all_files third shown lent)
         × (fault ≡ first_fault third (owned shown lent) 1 found lent)) → IfOk r (IsExtracted files choice image old new)
     extracted r = IfOk-weaker r _ _ (λ fault holds. record {
@@ -69,7 +69,7 @@ module _ {F : Type 0} (files : F → Option (List NewFile)) (choice : Choice) (i
       made = subst (AddsPart (files old) (files new)) files-are added;
     }
 
-    pub not-extracted : (r : Result (Option Fault) KeepFault)
+    pub not-extracted : (r : Result (Option Fault) CommandFault)
         → IfErr r (λ fault. IsMakeFault fault × AddsPart (files old) (files new) (all_files third shown lent))
         → IfErr r (IsExtractFault files choice image old new)
     not-extracted r = IfErr-weaker r _ _ (λ fault holds. elim holds.0 [

@@ -16,8 +16,8 @@ use Rattle.disk_rescue.specs.Sharing.{first_shared, shared_fault}
 use Rattle.keeper_commands.specs.Bytes.{file_bytes}
 use Rattle.keeper_commands.specs.Found.{records_length, unclosed}
 use Rattle.keeper_commands.specs.Records.{records_of, records_text}
-use Rattle.keeper_commands.specs.declared.faults.KeepFault.{KeepFault}
-use Rattle.keeper_commands.specs.declared.faults.KeepFault.TheVariants as keep
+use Rattle.command_faults.specs.declared.faults.CommandFault.{CommandFault}
+use Rattle.command_faults.specs.declared.faults.CommandFault.TheVariants as faults
 use Rattle.petscii_text.specs.FileNames.{ending_of, file_name_of}
 use Rattle.petscii_text.specs.declared.file_names.Ending.{Ending}
 use Rattle.petscii_text.specs.declared.file_names.Ending.TheVariants.{Records}
@@ -170,13 +170,13 @@ pub record IsExtractedPart {F : Type 0} (files : F → Option (List NewFile)) (c
     pub made : AddsPart (files old) (files new) (all_files (sectors_in image) directory rescued)
 
 -- the folder failed, or there was no memory
-abbrev pub IsMakeFault : KeepFault → Type 0
-IsMakeFault fault = (fault ≡ keep.File) ⊎ (fault ≡ keep.NoMemory)
+abbrev pub IsMakeFault : CommandFault → Type 0
+IsMakeFault fault = (fault ≡ faults.File) ⊎ (fault ≡ faults.NoMemory)
 
 -- why not all were made, and what was. Nothing is made of an image of another size
-abbrev pub IsExtractFault : {F : Type 0} → (F → Option (List NewFile)) → Choice → List ℕ → F → F → KeepFault → Type 0
-IsExtractFault files choice image old new keep.ImageSize = (length image ≢ 174848) × (new ≡ old)
-IsExtractFault files choice image old new keep.NoMemory =
+abbrev pub IsExtractFault : {F : Type 0} → (F → Option (List NewFile)) → Choice → List ℕ → F → F → CommandFault → Type 0
+IsExtractFault files choice image old new faults.ImageSize = (length image ≢ 174848) × (new ≡ old)
+IsExtractFault files choice image old new faults.NoMemory =
     (length image ≡ 174848) × ((new ≡ old) ⊎ IsExtractedPart files choice image old new)
-IsExtractFault files choice image old new keep.File = (length image ≡ 174848) × IsExtractedPart files choice image old new
+IsExtractFault files choice image old new faults.File = (length image ≡ 174848) × IsExtractedPart files choice image old new
 IsExtractFault files choice image old new _ = ⊥

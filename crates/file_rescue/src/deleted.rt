@@ -8,17 +8,17 @@ ghost use Rattle.file_rescue.specs.Deleted as deleted;
 ghost use Rattle.file_rescue.specs.Rescues.{AreChosen, AreUndeleted, with_unshared};
 ghost use Rattle.file_rescue.specs.Sharing.{owned};
 ghost use Rattle.file_rescue.specs.declared.rescuing.Rescued.{Rescued};
-ghost use Rattle.keeper_commands.specs.declared.faults.KeepFault.TheVariants as faults;
+ghost use Rattle.command_faults.specs.declared.faults.CommandFault.TheVariants as faults;
 
 use crate::choices::Choice;
 use crate::rescuing::{Rescued, rescue, rescue_all};
 use crate::sharing::owners_of;
 use crate::slots::{read_sector, used_of};
 use arrayvec::ArrayVec;
+use command_faults::CommandFault;
 use d64_image::{MemDisk, Place};
 use disk_entries::{Entries, entry_name};
 use disk_layout::{EntryView, Slot};
-use keeper_commands::KeepFault;
 use std::alloc::Global;
 
 /// Whether the slot has an entry that was deleted: its type is 0, and it still has a name and a first block.
@@ -75,7 +75,7 @@ fn add_unshared(
     files: &mut Vec<Rescued>,
     file: Rescued,
     shared: Option<Place>,
-) -> Result<(), KeepFault>
+) -> Result<(), CommandFault>
     ensures ok { OnOk result (files.new.items ≡ files.old.items ++ with_unshared shared file []) }
     ensures err { IfErr result (λ fault. fault ≡ faults.NoMemory) }
 {
@@ -83,7 +83,7 @@ fn add_unshared(
         return Ok(());
     };
     if files.push(file).is_err() {
-        return Err(KeepFault::NoMemory);
+        return Err(CommandFault::NoMemory);
     }
     Ok(())
 }
@@ -95,7 +95,7 @@ fn add_undeleted(
     disk: &mut MemDisk,
     directory: &[Place],
     files: &mut Vec<Rescued>,
-) -> Result<(), KeepFault>
+) -> Result<(), CommandFault>
     requires { length directory.now ≤ 18 }
     ensures ok { OnOk result ((found : List Rescued) × (files.new.items ≡ files.old.items ++ found)
         × AreUndeleted (disk_image disk.old) directory.now files.old.items
@@ -122,7 +122,7 @@ pub(crate) fn rescue_chosen(
     disk: &mut MemDisk,
     choice: Choice,
     directory: &[Place],
-) -> Result<Vec<Rescued>, KeepFault>
+) -> Result<Vec<Rescued>, CommandFault>
     requires { length directory.now ≤ 18 }
     ensures ok { IfOk result (λ files. AreChosen choice (disk_image disk.old) directory.now files.items) }
     ensures few { IfOk result (λ files. length files.items ≤ 144) }

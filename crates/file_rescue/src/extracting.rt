@@ -20,11 +20,11 @@ use crate::rows::Row;
 use crate::scanning::add_chosen;
 use crate::sharing::owners_of;
 use arrayvec::ArrayVec;
+use command_faults::{CommandFault, load};
 use d64_image::{MemDisk, Place};
 use disk_entries::read_so_far;
 use disk_layout::Fault;
 use disk_rescue::Owners;
-use keeper_commands::{KeepFault, load};
 use std::alloc::Global;
 
 /// The index's name.
@@ -43,7 +43,7 @@ fn extract_entry<F: NewFolder>(
     number: u8,
     file: &Rescued,
     index: &mut Vec<u8>,
-) -> Result<Row, KeepFault>
+) -> Result<Row, CommandFault>
     requires rescued { IsRescued (disk_image disk.old) file.now }
     ensures row { IfOk result (λ row. (all : List Place) → CountsAll owners.now all
         → row ≡ row_of (disk_image disk.old) all number file.now) }
@@ -78,7 +78,7 @@ fn extract_entries<F: NewFolder>(
     files: &[Rescued],
     index: &mut Vec<u8>,
     before: Option<Fault>,
-) -> Result<Option<Fault>, KeepFault>
+) -> Result<Option<Fault>, CommandFault>
     requires rescued { AllByRecursion (IsRescued (disk_image disk.old)) files.now }
     requires few { length files.now ≤ 144 }
     ensures made { IfOk result (λ _. AddsFiles (F.files folder.old) (F.files folder.new)
@@ -108,7 +108,7 @@ fn extract_files<F: NewFolder>(
     sectors: &[Place],
     files: &[Rescued],
     found: Option<Fault>,
-) -> Result<Option<Fault>, KeepFault>
+) -> Result<Option<Fault>, CommandFault>
     requires rescued { AllByRecursion (IsRescued (disk_image disk.old)) files.now }
     requires few { length files.now ≤ 144 }
     ensures ok { IfOk result (λ fault. AddsFiles (F.files folder.old) (F.files folder.new)
@@ -145,7 +145,7 @@ pub fn extract_image<F: NewFolder>(
     choice: Choice,
     image: &[u8],
     folder: &mut F,
-) -> Result<Option<Fault>, KeepFault>
+) -> Result<Option<Fault>, CommandFault>
     ensures ok { IfOk result (IsExtracted F.files choice image.now folder.old folder.new) }
     ensures err { IfErr result (IsExtractFault F.files choice image.now folder.old folder.new) }
 {

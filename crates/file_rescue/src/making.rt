@@ -5,18 +5,23 @@ ghost use Rattle.file_rescue.specs.Folders.{AddsFiles, AddsPart, StaysInside, ne
 ghost use Rattle.file_rescue.specs.Rescues.{IsMakeFault, IsRescued, bytes_in, entry_file, files_of, line_files};
 ghost use Rattle.keeper_commands.specs.Found.{records_length};
 ghost use Rattle.keeper_commands.specs.Records.{records_of, records_text};
-ghost use Rattle.keeper_commands.specs.declared.faults.KeepFault.TheVariants as faults;
+ghost use Rattle.command_faults.specs.declared.faults.CommandFault.TheVariants as faults;
 
 use crate::folders::NewFolder;
 use crate::rescuing::Rescued;
+use command_faults::CommandFault;
 use d64_image::MemDisk;
 use disk_entries::entry_name;
-use keeper_commands::{KeepFault, RecordForm, length_of_records, put_pieces, read_file};
+use keeper_commands::{RecordForm, length_of_records, put_pieces, read_file};
 use petscii_text::{Ending, file_name};
 use std::alloc::Global;
 
 /// Makes a file. `File` if the folder failed.
-pub(crate) fn make<F: NewFolder>(folder: &mut F, name: &[u8], bytes: &[u8]) -> Result<(), KeepFault>
+pub(crate) fn make<F: NewFolder>(
+    folder: &mut F,
+    name: &[u8],
+    bytes: &[u8],
+) -> Result<(), CommandFault>
     requires inside { StaysInside name.now }
     ensures ok { OnOk result
         (AddsFiles (F.files folder.old) (F.files folder.new) (new_file name.now bytes.now ∷ [])) }
@@ -24,7 +29,7 @@ pub(crate) fn make<F: NewFolder>(folder: &mut F, name: &[u8], bytes: &[u8]) -> R
         × AddsPart (F.files folder.old) (F.files folder.new) (new_file name.now bytes.now ∷ [])) }
 {
     if folder.make(name, bytes).is_err() {
-        return Err(KeepFault::File);
+        return Err(CommandFault::File);
     }
     Ok(())
 }
@@ -36,7 +41,7 @@ fn make_entry<F: NewFolder>(
     file: &Rescued,
     ending: Ending,
     bytes: &[u8],
-) -> Result<(), KeepFault>
+) -> Result<(), CommandFault>
     ensures ok { OnOk result (AddsFiles (F.files folder.old) (F.files folder.new)
         (entry_file number file.now ending bytes.now ∷ [])) }
     ensures err { IfErr result (λ fault. (fault ≡ faults.File)
@@ -48,7 +53,7 @@ fn make_entry<F: NewFolder>(
 }
 
 /// The bytes of a file that can be reached. `NoMemory` if there was none for them.
-fn bytes_of(alloc: Global, disk: &mut MemDisk, file: &Rescued) -> Result<Vec<u8>, KeepFault>
+fn bytes_of(alloc: Global, disk: &mut MemDisk, file: &Rescued) -> Result<Vec<u8>, CommandFault>
     requires { length file.now.blocks.items ≤ 720 }
     ensures ok { IfOk result (λ bytes. bytes.items ≡ bytes_in (disk_image disk.old) file.now) }
     ensures err { IfErr result (λ fault. fault ≡ faults.NoMemory) }
@@ -58,7 +63,7 @@ fn bytes_of(alloc: Global, disk: &mut MemDisk, file: &Rescued) -> Result<Vec<u8>
 }
 
 /// The lines of the records of `size` bytes among these bytes. `NoMemory` if there was none for them.
-fn record_lines(alloc: Global, bytes: &[u8], size: u8) -> Result<Vec<u8>, KeepFault>
+fn record_lines(alloc: Global, bytes: &[u8], size: u8) -> Result<Vec<u8>, CommandFault>
     requires low { 1 ≤ size }
     requires high { size ≤ 254 }
     requires short { length bytes.now ≤ 182880 }
@@ -68,7 +73,7 @@ fn record_lines(alloc: Global, bytes: &[u8], size: u8) -> Result<Vec<u8>, KeepFa
     let mut lines = Vec::new(alloc);
     match put_pieces(&mut lines, RecordForm::Lines, bytes, size as usize) {
         Ok(()) => Ok(lines),
-        Err(_) => Err(KeepFault::NoMemory),
+        Err(_) => Err(CommandFault::NoMemory),
     }
 }
 
@@ -80,7 +85,7 @@ fn make_records<F: NewFolder>(
     number: u8,
     file: &Rescued,
     bytes: &[u8],
-) -> Result<(), KeepFault>
+) -> Result<(), CommandFault>
     requires short { length bytes.now ≤ 182880 }
     ensures ok { OnOk result (AddsFiles (F.files folder.old) (F.files folder.new)
         (line_files number file.now bytes.now (records_length file.now.slot))) }
@@ -103,7 +108,7 @@ pub(crate) fn make_files<F: NewFolder>(
     folder: &mut F,
     number: u8,
     file: &Rescued,
-) -> Result<usize, KeepFault>
+) -> Result<usize, CommandFault>
     requires rescued { IsRescued (disk_image disk.old) file.now }
     ensures ok { IfOk result (λ count. (count ≡ length (bytes_in (disk_image disk.old) file.now))
         × AddsFiles (F.files folder.old) (F.files folder.new) (files_of (disk_image disk.old) number file.now)) }

@@ -1,14 +1,14 @@
 //! What can be reached of each entry of a directory.
 ghost use Rattle.std.specs.Prelude.{◌≡◌, ◌≤◌, IfErr, IfOk, length};
 ghost use Rattle.d64_image.specs.Memory.{disk_image};
-ghost use Rattle.keeper_commands.specs.declared.faults.KeepFault.TheVariants as faults;
+ghost use Rattle.command_faults.specs.declared.faults.CommandFault.TheVariants as faults;
 ghost use Rattle.file_rescue.specs.Rescues.{AreRescued, IsRescued};
 
 use arrayvec::ArrayVec;
+use command_faults::CommandFault;
 use d64_image::{MemDisk, Place};
 use disk_layout::{Fault, MOST_BLOCKS, Slot};
 use disk_rescue::reach_file;
-use keeper_commands::KeepFault;
 use std::alloc::Global;
 
 /// An entry of a directory, and what can be reached of its file.
@@ -30,7 +30,7 @@ pub(crate) fn rescue(
     disk: &mut MemDisk,
     slot: &Slot,
     room: &mut ArrayVec<Place, MOST_BLOCKS>,
-) -> Result<Rescued, KeepFault>
+) -> Result<Rescued, CommandFault>
     ensures slot { IfOk result (λ file. file.slot ≡ slot.now) }
     ensures ok { IfOk result (IsRescued (disk_image disk.old)) }
     ensures err { IfErr result (λ fault. fault ≡ faults.NoMemory) }
@@ -44,7 +44,7 @@ pub(crate) fn rescue(
             last: reach.last,
             fault: reach.fault,
         }),
-        Err(_) => Err(KeepFault::NoMemory),
+        Err(_) => Err(CommandFault::NoMemory),
     }
 }
 
@@ -53,7 +53,7 @@ pub(crate) fn rescue_all(
     alloc: Global,
     disk: &mut MemDisk,
     slots: &[Slot],
-) -> Result<Vec<Rescued>, KeepFault>
+) -> Result<Vec<Rescued>, CommandFault>
     ensures ok { IfOk result (λ files. AreRescued (disk_image disk.old) slots.now files.items) }
     ensures few { IfOk result (λ files. length files.items ≡ length slots.now) }
     ensures err { IfErr result (λ fault. fault ≡ faults.NoMemory) }
@@ -64,7 +64,7 @@ pub(crate) fn rescue_all(
     for slot in slots {
         let file = rescue(alloc, disk, slot, &mut room)?;
         if files.push(file).is_err() {
-            return Err(KeepFault::NoMemory);
+            return Err(CommandFault::NoMemory);
         }
     }
     Ok(files)

@@ -25,7 +25,7 @@ use Rattle.keeper_commands.proofs.Folds.{so-stored, stored-append}
 use Rattle.keeper_commands.proofs.Mendings.{tells-after}
 use Rattle.keeper_commands.specs.Stores.{AreSo, IsPartStored, NewRecord, changed_text, stored}
 use Rattle.keeper_commands.specs.Storing.{IsStoringOver, StoresLines}
-use Rattle.keeper_commands.specs.declared.faults.KeepFault.{KeepFault}
+use Rattle.command_faults.specs.declared.faults.CommandFault.{CommandFault}
 
 pub clean-layout : (img : Image) (l : Layout) → IsClean img → IsLayout img l → IsCleanLayout img l
 clean-layout img l clean is = subst (λ (m : Layout). IsCleanLayout img m) (IsLayout-one img clean.0 l clean.1.layout is)
@@ -69,7 +69,7 @@ module _ {D W : Type 0} (S : History D) (contents : W → Option (List ℕ)) (l 
   }
 
   -- a beginning of more lines, that ends with a fault
-  pub stored-longer : (a c : D) (o p : W) (v w : RelFile) (xs ys : List NewRecord) (fault : KeepFault)
+  pub stored-longer : (a c : D) (o p : W) (v w : RelFile) (xs ys : List NewRecord) (fault : CommandFault)
       → StoresLines S contents a c o p l n f v w xs (Err fault)
       → StoresLines S contents a c o p l n f v w (xs ++ ys) (Err fault)
   stored-longer a c o p v w xs ys fault s = record {
@@ -106,7 +106,7 @@ module _ {D W : Type 0} (S : History D) (contents : W → Option (List ℕ)) (l 
         (ap₂ (λ (L : ℕ) (rs : List (List ℕ)). changed_text L ys rs) same-length left.records)
         ∙ sym (changed-append (record_length f.slot) xs ys (records (S.image a) f))
 
-    module _ (r : Result (Unit {0}) KeepFault)
+    module _ (r : Result (Unit {0}) CommandFault)
         (second : StoresLines S contents b c p q left.layout n left.file w x ys r) where
       behind : (i : Image) → IsStoringOver (S.image b) left.layout n (record_length left.file.slot) ys
           (records (S.image b) left.file) i
@@ -145,7 +145,7 @@ module _ {D W : Type 0} (S : History D) (contents : W → Option (List ℕ)) (l 
         told = tells-after S a b c r first.told second.told;
       }
         where
-          both : (r : Result (Unit {0}) KeepFault)
+          both : (r : Result (Unit {0}) CommandFault)
               → OnOk r (LeavesRecords (S.image b) (S.image c) left.layout n (stored (record_length left.file.slot) ys
               (records (S.image b) left.file)) x
               × (length_of x ≡ length_of w)

@@ -12,11 +12,12 @@ use Rattle.disk_layout.specs.declared.slot.Slot.{Slot}
 use Rattle.disk_rescue.specs.Reached.{IsReached}
 use Rattle.disk_rescue.specs.Sharing.{IsOwned, first_shared, shared_fault}
 use Rattle.keeper_commands.specs.Bytes.{HasFile, HasNoFile}
-use Rattle.keeper_commands.specs.Faults.{IsLoadFault, keep_ended, keep_none}
+use Rattle.command_faults.specs.Faults.{IsLoadFault}
+use Rattle.keeper_commands.specs.Faults.{keep_ended, keep_none}
 use Rattle.keeper_commands.specs.Found.{HasNone, IsFirstAsked, IsHad, unclosed}
 use Rattle.keeper_commands.specs.Printed.{IsFileFault}
-use Rattle.keeper_commands.specs.declared.faults.KeepFault.{KeepFault}
-use Rattle.keeper_commands.specs.declared.faults.KeepFault.TheVariants as keep
+use Rattle.command_faults.specs.declared.faults.CommandFault.{CommandFault}
+use Rattle.command_faults.specs.declared.faults.CommandFault.TheVariants as faults
 use Rattle.keeper_commands.specs.declared.finding.Kind.{Kind}
 use Rattle.rel_records.proofs.lemmas.reading.Found.{same-slot}
 
@@ -84,31 +85,31 @@ module _ {W : Type 0} (image : List ℕ) (kind : Kind) (name : List ℕ) (Printe
       inl (none-there image kind name img (Some fault) size same none, refl)
 
   -- what an image has wrong that isn't loaded, a file of it has too
-  pub load-refused : (fault : KeepFault) → IsLoadFault image fault → IsFileFault image kind name Printed old old fault
-  load-refused keep.ImageSize told = (told, refl)
-  load-refused keep.NoMemory told = (told, refl)
-  load-refused (keep.Layout fault) told = absurd told
-  load-refused keep.NoFile told = absurd told
-  load-refused keep.FileExists told = absurd told
-  load-refused (keep.BadLine k) told = absurd told
-  load-refused keep.DiskFull told = absurd told
-  load-refused keep.File told = absurd told
-  load-refused keep.Device told = absurd told
-  load-refused keep.Geos told = absurd told
-  load-refused keep.Format told = absurd told
+  pub load-refused : (fault : CommandFault) → IsLoadFault image fault → IsFileFault image kind name Printed old old fault
+  load-refused faults.ImageSize told = (told, refl)
+  load-refused faults.NoMemory told = (told, refl)
+  load-refused (faults.Layout fault) told = absurd told
+  load-refused faults.NoFile told = absurd told
+  load-refused faults.FileExists told = absurd told
+  load-refused (faults.RecordsLine k) told = absurd told
+  load-refused faults.DiskFull told = absurd told
+  load-refused faults.File told = absurd told
+  load-refused faults.Device told = absurd told
+  load-refused faults.Geos told = absurd told
+  load-refused faults.Format told = absurd told
 
   -- what was asked for was printed, as far as it can be reached
-  pub printed-end : (new : W) (fault : Option Fault) (r : Result Unit KeepFault) → r ≡ keep_ended fault → Printed fault
+  pub printed-end : (new : W) (fault : Option Fault) (r : Result Unit CommandFault) → r ≡ keep_ended fault → Printed fault
       → OnOk r (Printed None) × IfErr r (IsFileFault image kind name Printed old new)
-  printed-end new None r is printed = subst (λ (e : Result Unit KeepFault). OnOk e (Printed None)
+  printed-end new None r is printed = subst (λ (e : Result Unit CommandFault). OnOk e (Printed None)
       × IfErr e (IsFileFault image kind name Printed old new)) (sym is) (printed, tt)
-  printed-end new (Some fault) r is printed = subst (λ (e : Result Unit KeepFault). OnOk e (Printed None)
+  printed-end new (Some fault) r is printed = subst (λ (e : Result Unit CommandFault). OnOk e (Printed None)
       × IfErr e (IsFileFault image kind name Printed old new)) (sym is) (tt, inr printed)
 
   -- the output failed, or there was no memory
-  pub put-stopped : (new : W) (fault : Option Fault) → HasFile image kind name fault → (why : KeepFault)
-      → (why ≡ keep.File) ⊎ ((why ≡ keep.NoMemory) × (new ≡ old)) → IsFileFault image kind name Printed old new why
+  pub put-stopped : (new : W) (fault : Option Fault) → HasFile image kind name fault → (why : CommandFault)
+      → (why ≡ faults.File) ⊎ ((why ≡ faults.NoMemory) × (new ≡ old)) → IsFileFault image kind name Printed old new why
   put-stopped new fault file why (inl is) =
-      subst (λ (w : KeepFault). IsFileFault image kind name Printed old new w) (sym is) (fault, file)
+      subst (λ (w : CommandFault). IsFileFault image kind name Printed old new w) (sym is) (fault, file)
   put-stopped new fault file why (inr (is, same)) =
-      subst (λ (w : KeepFault). IsFileFault image kind name Printed old new w) (sym is) (file.size, same)
+      subst (λ (w : CommandFault). IsFileFault image kind name Printed old new w) (sym is) (file.size, same)

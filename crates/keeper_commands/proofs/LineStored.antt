@@ -16,8 +16,8 @@ use Rattle.rel_records.specs.declared.rel_file.RelFile.{RelFile}
 use Rattle.keeper_commands.specs.Repairs.{TellsKeep}
 use Rattle.keeper_commands.specs.Stores.{CanStore, NewRecord, changed_text, if_last, is_changed, new_record}
 use Rattle.keeper_commands.specs.Storing.{IsStoringOver, StoresLines, StoresOne}
-use Rattle.keeper_commands.specs.declared.faults.KeepFault.{KeepFault}
-use Rattle.keeper_commands.specs.declared.faults.KeepFault.TheVariants as keep
+use Rattle.command_faults.specs.declared.faults.CommandFault.{CommandFault}
+use Rattle.command_faults.specs.declared.faults.CommandFault.TheVariants as faults
 
 -- a line is of one record
 pub line-record : {Last : Type 0} (line bytes : List ℕ) (n L h : ℕ) (x : NewRecord)
@@ -48,7 +48,7 @@ one-line_text L x rs is =
     sym (append-nil (record_line x.number x.bytes))
     ∙ ap (λ (t : Bool). (if t then record_line x.number x.bytes else []) ++ []) is
 
-device-no-file : (fault : KeepFault) → fault ≡ keep.Device → fault ≡ keep.File → ⊥
+device-no-file : (fault : CommandFault) → fault ≡ faults.Device → fault ≡ faults.File → ⊥
 device-no-file fault is other = cc
 
 module _ {D W : Type 0} (S : History D) (contents : W → Option (List ℕ)) (a d : D) (o p : W) (l : Layout) (n : ℕ)
@@ -60,7 +60,7 @@ module _ {D W : Type 0} (S : History D) (contents : W → Option (List ℕ)) (a 
   moments-one m = changes_weaker S a d 2 (2 * length (x ∷ [])) _ _ (omega arith) (λ i h. h) m
 
   -- the device failed
-  pub line-failed : (fault : KeepFault) → StoresOne S a d l n f v w x (Err fault)
+  pub line-failed : (fault : CommandFault) → StoresOne S a d l n f v w x (Err fault)
       → StoresLines S contents a d o o l n f v w (x ∷ []) (Err fault)
   line-failed fault one = record {
     ok = tt;
@@ -68,8 +68,8 @@ module _ {D W : Type 0} (S : History D) (contents : W → Option (List ℕ)) (a 
     whole = one.whole;
     quiet = λ so. one.quiet so.0;
     clean = λ e. absurd (device-no-file fault one.err e);
-    told = subst (λ (e : KeepFault). TellsKeep {T = Unit {0}} S a d (Err e)) (sym one.err)
-        (subst (λ (e : KeepFault). TellsKeep {T = Bool} S a d (Err e)) one.err one.told);
+    told = subst (λ (e : CommandFault). TellsKeep {T = Unit {0}} S a d (Err e)) (sym one.err)
+        (subst (λ (e : CommandFault). TellsKeep {T = Bool} S a d (Err e)) one.err one.told);
   }
 
   -- it was so already
@@ -108,7 +108,7 @@ module _ {D W : Type 0} (S : History D) (contents : W → Option (List ℕ)) (a 
 
   -- it was stored, and the output failed
   pub line-unprinted : StoresOne S a d l n f v w x (Ok true)
-      → StoresLines S contents a d o p l n f v w (x ∷ []) (Err keep.File)
+      → StoresLines S contents a d o p l n f v w (x ∷ []) (Err faults.File)
   line-unprinted one = record {
     ok = tt;
     moments = moments-one one.moments;

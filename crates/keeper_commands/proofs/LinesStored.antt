@@ -19,7 +19,7 @@ use Rattle.keeper_commands.proofs.LineStored.{if-last, if-not_last}
 use Rattle.keeper_commands.specs.Stores.{AreLinesOf, CanStore, NewRecord, TellsLast, greatest, if_last, is_among}
 use Rattle.keeper_commands.specs.Stores.{last_ones, last_place, stored}
 use Rattle.keeper_commands.specs.Storing.{StoresLines}
-use Rattle.keeper_commands.specs.declared.faults.KeepFault.{KeepFault}
+use Rattle.command_faults.specs.declared.faults.CommandFault.{CommandFault}
 
 -- of so many lines those that count were stored, and these lines, of the other records, are left
 pub record StoringTo {D W : Type 0} (S : History D) (contents : W → Option (List ℕ)) (a now : D) (o p : W) (l : Layout)
@@ -139,7 +139,7 @@ module _ {D W : Type 0} (S : History D) (contents : W → Option (List ℕ)) (a 
         ∙ ap last_ones (sym next.is))
         ∙ to.ones
 
-    module _ (c : D) (q : W) (u : RelFile) (r : Result (Unit {0}) KeepFault)
+    module _ (c : D) (q : W) (u : RelFile) (r : Result (Unit {0}) CommandFault)
         (stores : (m : Layout) (j : ℕ) (e : File) → IsFileOf (S.image b) m j e w → (k : ℕ) (x : NewRecord)
         → IsLineOf line x.number x.bytes → CanStore (length_of w) k x → x.number ≤ records_in w
         → StoresLines S contents b c p q m j e w u (if_last table (place + 1) x) r) where
@@ -156,15 +156,15 @@ module _ {D W : Type 0} (S : History D) (contents : W → Option (List ℕ)) (a 
         are_lines = next.are_lines;
         kept = to.kept ++ one;
         ones = all-ones;
-        stores = subst (λ (s : Result (Unit {0}) KeepFault). StoresLines S contents a c o q l n f v u (to.kept ++ one)
+        stores = subst (λ (s : Result (Unit {0}) CommandFault). StoresLines S contents a c o q l n f v u (to.kept ++ one)
             s)
             ok both;
       }
 
-      pub one-failed : (fault : KeepFault) → r ≡ Err fault
+      pub one-failed : (fault : CommandFault) → r ≡ Err fault
           → StoresLines S contents a c o q l n f v u (last_ones xs) (Err fault)
       one-failed fault err =
           subst (λ (ys : List NewRecord). StoresLines S contents a c o q l n f v u ys (Err fault)) all-ones
           (stored-longer S contents l n f a c o q v u (to.kept ++ one) (last_ones next.more) fault
-          (subst (λ (s : Result (Unit {0}) KeepFault). StoresLines S contents a c o q l n f v u (to.kept ++ one) s)
+          (subst (λ (s : Result (Unit {0}) CommandFault). StoresLines S contents a c o q l n f v u (to.kept ++ one) s)
           err both))

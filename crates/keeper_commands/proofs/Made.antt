@@ -8,11 +8,12 @@ use Rattle.rel_records.specs.Calls.{Creates}
 use Rattle.rel_records.specs.declared.faults.RelFault.{RelFault}
 use Rattle.rel_records.specs.declared.faults.RelFault.TheVariants as rel
 use Rattle.rel_records.specs.declared.rel_file.RelFile.{RelFile}
-use Rattle.keeper_commands.specs.Faults.{IsCleanFault, keep_fault}
+use Rattle.command_faults.specs.Faults.{IsCleanFault}
+use Rattle.keeper_commands.specs.Faults.{keep_fault}
 use Rattle.keeper_commands.specs.Makes.{IsMadeDisk, IsMakeFault, IsMakeRun}
 use Rattle.keeper_commands.specs.Refusals.{IsLeft}
-use Rattle.keeper_commands.specs.declared.faults.KeepFault.{KeepFault}
-use Rattle.keeper_commands.specs.declared.faults.KeepFault.TheVariants as keep
+use Rattle.command_faults.specs.declared.faults.CommandFault.{CommandFault}
+use Rattle.command_faults.specs.declared.faults.CommandFault.TheVariants as faults
 
 module _ {D : Type 0} (S : History D) (image name : List ℕ) (L : ℕ) (a b : D) (size : length image ≡ 174848)
     (clean : IsClean (S.image a)) where
@@ -61,17 +62,17 @@ module _ {D : Type 0} (S : History D) (image name : List ℕ) (L : ℕ) (a b : D
     make-refused rel.TooLarge c = absurd (no-other rel.TooLarge (λ e. cc) (λ e. cc) (λ e. cc) c.refuses.told)
 
 -- the image isn't that of a clean disk
-pub make-unclean : {D W : Type 0} (S : History D) (image name : List ℕ) (L : ℕ) (a : D) (w : W) (fault : KeepFault)
+pub make-unclean : {D W : Type 0} (S : History D) (image name : List ℕ) (L : ℕ) (a : D) (w : W) (fault : CommandFault)
     → IsCleanFault image fault
     → IsMakeFault S image name L a a w w fault
-make-unclean S image name L a w keep.ImageSize told = (told, refl, refl)
-make-unclean S image name L a w keep.NoMemory told = (told, refl, refl)
-make-unclean S image name L a w (keep.Layout fault) told = (told.0, told.1, refl, refl)
-make-unclean S image name L a w keep.NoFile told = absurd told
-make-unclean S image name L a w keep.FileExists told = absurd told
-make-unclean S image name L a w (keep.BadLine n) told = absurd told
-make-unclean S image name L a w keep.DiskFull told = absurd told
-make-unclean S image name L a w keep.File told = absurd told
-make-unclean S image name L a w keep.Device told = absurd told
-make-unclean S image name L a w keep.Geos told = absurd told
-make-unclean S image name L a w keep.Format told = absurd told
+make-unclean S image name L a w faults.ImageSize told = (told, refl, refl)
+make-unclean S image name L a w faults.NoMemory told = (told, refl, refl)
+make-unclean S image name L a w (faults.Layout fault) told = (told.0, told.1, refl, refl)
+make-unclean S image name L a w faults.NoFile told = absurd told
+make-unclean S image name L a w faults.FileExists told = absurd told
+make-unclean S image name L a w (faults.RecordsLine n) told = absurd told
+make-unclean S image name L a w faults.DiskFull told = absurd told
+make-unclean S image name L a w faults.File told = absurd told
+make-unclean S image name L a w faults.Device told = absurd told
+make-unclean S image name L a w faults.Geos told = absurd told
+make-unclean S image name L a w faults.Format told = absurd told

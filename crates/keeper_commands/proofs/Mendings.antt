@@ -13,8 +13,8 @@ use Rattle.d64_image.specs.Places.{place_at}
 use Rattle.d64_image.specs.declared.place.Place.{Place}
 use Rattle.disk_layout.specs.Directory.{map_place}
 use Rattle.keeper_commands.specs.Repairs.{TellsKeep, freed_at, kept_text, mended_at, mended_on, mended_text, up_to}
-use Rattle.keeper_commands.specs.declared.faults.KeepFault.{KeepFault}
-use Rattle.keeper_commands.specs.declared.faults.KeepFault.TheVariants as keep
+use Rattle.command_faults.specs.declared.faults.CommandFault.{CommandFault}
+use Rattle.command_faults.specs.declared.faults.CommandFault.TheVariants as faults
 
 pub none-yet : (a : Option (List ℕ)) (line : ℕ → List ℕ) → Appends a a (up_to 0 line)
 unfolding up_to
@@ -63,26 +63,26 @@ all-printed a b c d old new old' new' had has n same same' was is tracks end kep
     (subst (λ (img : Image). Appends a b (up_to 35 (mended_on old' img had has))) same' tracks)))) end) kept
 
 -- what is told where the output alone can fail
-pub tells-output : {D T : Type 0} (S : History D) (a b : D) (r : Result T KeepFault) → S.failures b ≡ S.failures a
-    → IfErr r (λ fault. fault ≡ keep.File) → TellsKeep S a b r
+pub tells-output : {D T : Type 0} (S : History D) (a b : D) (r : Result T CommandFault) → S.failures b ≡ S.failures a
+    → IfErr r (λ fault. fault ≡ faults.File) → TellsKeep S a b r
 tells-output S a b (Ok x) same told = same
-tells-output S a b (Err fault) same told = subst (λ (f : KeepFault). TellsKeep {T = ℕ} S a b (Err f)) (sym told) same
+tells-output S a b (Err fault) same told = subst (λ (f : CommandFault). TellsKeep {T = ℕ} S a b (Err f)) (sym told) same
 
 -- what a call tells behind others that met no failure
-pub tells-after : {D T : Type 0} (S : History D) (a b c : D) (r : Result T KeepFault) → S.failures b ≡ S.failures a
+pub tells-after : {D T : Type 0} (S : History D) (a b c : D) (r : Result T CommandFault) → S.failures b ≡ S.failures a
     → TellsKeep S b c r → TellsKeep S a c r
 tells-after S a b c (Ok x) same told = told ∙ same
-tells-after S a b c (Err keep.File) same told = told ∙ same
-tells-after S a b c (Err keep.Device) same told = failed_later S a b c same told
-tells-after S a b c (Err keep.ImageSize) same told = absurd told
-tells-after S a b c (Err (keep.Layout fault)) same told = absurd told
-tells-after S a b c (Err keep.NoFile) same told = absurd told
-tells-after S a b c (Err keep.FileExists) same told = absurd told
-tells-after S a b c (Err (keep.BadLine n)) same told = absurd told
-tells-after S a b c (Err keep.DiskFull) same told = absurd told
-tells-after S a b c (Err keep.NoMemory) same told = absurd told
-tells-after S a b c (Err keep.Geos) same told = absurd told
-tells-after S a b c (Err keep.Format) same told = absurd told
+tells-after S a b c (Err faults.File) same told = told ∙ same
+tells-after S a b c (Err faults.Device) same told = failed_later S a b c same told
+tells-after S a b c (Err faults.ImageSize) same told = absurd told
+tells-after S a b c (Err (faults.Layout fault)) same told = absurd told
+tells-after S a b c (Err faults.NoFile) same told = absurd told
+tells-after S a b c (Err faults.FileExists) same told = absurd told
+tells-after S a b c (Err (faults.RecordsLine n)) same told = absurd told
+tells-after S a b c (Err faults.DiskFull) same told = absurd told
+tells-after S a b c (Err faults.NoMemory) same told = absurd told
+tells-after S a b c (Err faults.Geos) same told = absurd told
+tells-after S a b c (Err faults.Format) same told = absurd told
 
 -- what a read of the device tells
 pub failed-there : {D T E : Type 0} (S : History D) (a b : D) (r : Result T E) → is_err r ≡ true

@@ -30,7 +30,7 @@ use Rattle.keeper_commands.proofs.Padded.{other-changed, other-not_so, so-stored
 use Rattle.keeper_commands.proofs.Printing.{not-err, read-fails}
 use Rattle.keeper_commands.specs.Stores.{IsSo, NewRecord, with_stored}
 use Rattle.keeper_commands.specs.Storing.{IsStoringOver, StoresOne}
-use Rattle.keeper_commands.specs.declared.faults.KeepFault.TheVariants as keep
+use Rattle.command_faults.specs.declared.faults.CommandFault.TheVariants as faults
 
 -- a record that is there asks for no growth
 pub grown-none : (img : Image) (f : File) (r : ℕ) → r ≤ records_had f → grown_to img f r ≡ records img f
@@ -136,7 +136,7 @@ module _ {D : Type 0} (S : History D) (a b : D) (l : Layout) (n : ℕ) (f : File
       (reads_change S a b 3 _ read.reads (records (S.image a) f, inl refl, has_same (S.image a) l n f v of))
 
   -- the record wasn't read
-  pub not-read : is_err r ≡ true → StoresOne S a b l n f v v x (Err keep.Device)
+  pub not-read : is_err r ≡ true → StoresOne S a b l n f v v x (Err faults.Device)
   not-read err = record {
     ok = tt;
     moments = as-it-is;
@@ -204,7 +204,7 @@ module _ {D : Type 0} (S : History D) (a b : D) (l : Layout) (n : ℕ) (f : File
       not-so so = other-not_so (record_length f.slot) (records (S.image a) f) x text there.there long fits other so
 
       -- it wasn't written
-      pub not-written : is_err s ≡ true → StoresOne S a d l n f v w x (Err keep.Device)
+      pub not-written : is_err s ≡ true → StoresOne S a d l n f v w x (Err faults.Device)
       not-written err = record {
         ok = tt;
         moments = over;

@@ -6,27 +6,27 @@ use Rattle.std.proofs.lemmas.Option.{slice_get_within}
 use Rattle.d64_image.specs.History.{History}
 use Rattle.disk_layout.specs.Layout.{File, record_length}
 use Rattle.rel_records.specs.growth.Growth.{IsTooLarge, blocks_for, records_had}
-use Rattle.keeper_commands.specs.Faults.{IsCleanFault}
+use Rattle.command_faults.specs.Faults.{IsCleanFault}
 use Rattle.keeper_commands.specs.Stores.{AreLinesOf, AreSo, CanHave, NewRecord, greatest}
 use Rattle.keeper_commands.specs.Storing.{IsStoreFault}
-use Rattle.keeper_commands.specs.declared.faults.KeepFault.{KeepFault}
-use Rattle.keeper_commands.specs.declared.faults.KeepFault.TheVariants as keep
+use Rattle.command_faults.specs.declared.faults.CommandFault.{CommandFault}
+use Rattle.command_faults.specs.declared.faults.CommandFault.TheVariants as faults
 
 -- the image isn't that of a clean disk
-pub store-unclean : {D W : Type 0} (S : History D) (image name text : List ℕ) (a : D) (o : W) (fault : KeepFault)
+pub store-unclean : {D W : Type 0} (S : History D) (image name text : List ℕ) (a : D) (o : W) (fault : CommandFault)
     → IsCleanFault image fault
     → IsStoreFault S image name text a a o o fault
-store-unclean S image name text a o keep.ImageSize told = (told, refl, refl)
-store-unclean S image name text a o keep.NoMemory told = (told, refl, refl)
-store-unclean S image name text a o (keep.Layout fault) told = (told.0, told.1, refl, refl)
-store-unclean S image name text a o keep.NoFile told = absurd told
-store-unclean S image name text a o keep.FileExists told = absurd told
-store-unclean S image name text a o (keep.BadLine n) told = absurd told
-store-unclean S image name text a o keep.DiskFull told = absurd told
-store-unclean S image name text a o keep.File told = absurd told
-store-unclean S image name text a o keep.Device told = absurd told
-store-unclean S image name text a o keep.Geos told = absurd told
-store-unclean S image name text a o keep.Format told = absurd told
+store-unclean S image name text a o faults.ImageSize told = (told, refl, refl)
+store-unclean S image name text a o faults.NoMemory told = (told, refl, refl)
+store-unclean S image name text a o (faults.Layout fault) told = (told.0, told.1, refl, refl)
+store-unclean S image name text a o faults.NoFile told = absurd told
+store-unclean S image name text a o faults.FileExists told = absurd told
+store-unclean S image name text a o (faults.RecordsLine n) told = absurd told
+store-unclean S image name text a o faults.DiskFull told = absurd told
+store-unclean S image name text a o faults.File told = absurd told
+store-unclean S image name text a o faults.Device told = absurd told
+store-unclean S image name text a o faults.Geos told = absurd told
+store-unclean S image name text a o faults.Format told = absurd told
 
 -- the greatest number that lines give is one that the file can have
 greatest-can : (L had : ℕ) (ls : List (List ℕ)) (xs : List NewRecord) → AreLinesOf L had ls xs

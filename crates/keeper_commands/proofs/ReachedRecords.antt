@@ -7,12 +7,12 @@ use Rattle.d64_image.specs.declared.place.Place.{Place}
 use Rattle.disk_layout.specs.Fault.{Holds, nowhere}
 use Rattle.disk_layout.specs.declared.faults.Fault.{Fault}
 use Rattle.disk_layout.specs.declared.slot.Slot.{Slot}
-use Rattle.keeper_commands.specs.Faults.{IsLoadFault}
+use Rattle.command_faults.specs.Faults.{IsLoadFault}
 use Rattle.keeper_commands.specs.Found.{IsHad}
 use Rattle.keeper_commands.specs.Printed.{AreRecordsPrinted, IsReachedEnd, IsRecordsFault}
 use Rattle.keeper_commands.specs.Records.{IsReachedFile}
-use Rattle.keeper_commands.specs.declared.faults.KeepFault.{KeepFault}
-use Rattle.keeper_commands.specs.declared.faults.KeepFault.TheVariants as keep
+use Rattle.command_faults.specs.declared.faults.CommandFault.{CommandFault}
+use Rattle.command_faults.specs.declared.faults.CommandFault.TheVariants as faults
 use Rattle.keeper_commands.specs.declared.finding.Candidates.TheVariants.{Closed}
 use Rattle.keeper_commands.specs.declared.finding.Kind.TheVariants.{Records}
 use Rattle.keeper_commands.specs.declared.forms.RecordForm.{RecordForm}
@@ -34,46 +34,46 @@ reached-file img name first s blocks last own fault holds had is = record {
 
 -- the output failed, or there was no memory
 pub put-failed : {W : Type 0} (contents : W → Option (List ℕ)) (form : RecordForm) (img : Image) (name : List ℕ)
-    (old new : W) (why : KeepFault) (fault : Fault) → IsReachedFile img name fault
-    → (why ≡ keep.File) ⊎ ((why ≡ keep.NoMemory) × (new ≡ old)) → IsReachedEnd contents form img name old new why
+    (old new : W) (why : CommandFault) (fault : Fault) → IsReachedFile img name fault
+    → (why ≡ faults.File) ⊎ ((why ≡ faults.NoMemory) × (new ≡ old)) → IsReachedEnd contents form img name old new why
 put-failed contents form img name old new why fault file (inl is) =
-    subst (λ (w : KeepFault). IsReachedEnd contents form img name old new w) (sym is) (fault, file)
+    subst (λ (w : CommandFault). IsReachedEnd contents form img name old new w) (sym is) (fault, file)
 put-failed contents form img name old new why fault file (inr (is, same)) =
-    subst (λ (w : KeepFault). IsReachedEnd contents form img name old new w) (sym is) same
+    subst (λ (w : CommandFault). IsReachedEnd contents form img name old new w) (sym is) same
 
 module _ {W : Type 0} (contents : W → Option (List ℕ)) (form : RecordForm) (image name : List ℕ) (old : W) where
   -- what an image has wrong that isn't loaded
-  pub records-unloaded : (fault : KeepFault) → IsLoadFault image fault
+  pub records-unloaded : (fault : CommandFault) → IsLoadFault image fault
       → IsRecordsFault contents form image name old old fault
-  records-unloaded keep.ImageSize told = (told, refl)
-  records-unloaded keep.NoMemory told = (told, refl)
-  records-unloaded (keep.Layout fault) told = absurd told
-  records-unloaded keep.NoFile told = absurd told
-  records-unloaded keep.FileExists told = absurd told
-  records-unloaded (keep.BadLine k) told = absurd told
-  records-unloaded keep.DiskFull told = absurd told
-  records-unloaded keep.File told = absurd told
-  records-unloaded keep.Device told = absurd told
-  records-unloaded keep.Geos told = absurd told
-  records-unloaded keep.Format told = absurd told
+  records-unloaded faults.ImageSize told = (told, refl)
+  records-unloaded faults.NoMemory told = (told, refl)
+  records-unloaded (faults.Layout fault) told = absurd told
+  records-unloaded faults.NoFile told = absurd told
+  records-unloaded faults.FileExists told = absurd told
+  records-unloaded (faults.RecordsLine k) told = absurd told
+  records-unloaded faults.DiskFull told = absurd told
+  records-unloaded faults.File told = absurd told
+  records-unloaded faults.Device told = absurd told
+  records-unloaded faults.Geos told = absurd told
+  records-unloaded faults.Format told = absurd told
 
   -- how a disk that isn't sound ends it
-  reached-fault : (new : W) → length image ≡ 174848 → (fault : KeepFault)
+  reached-fault : (new : W) → length image ≡ 174848 → (fault : CommandFault)
       → IsReachedEnd contents form (sectors_in image) name old new fault
       → IsRecordsFault contents form image name old new fault
-  reached-fault new size keep.ImageSize told = absurd told
-  reached-fault new size keep.NoMemory told = (size, told)
-  reached-fault new size (keep.Layout fault) told = (size, told)
-  reached-fault new size keep.NoFile told = absurd told
-  reached-fault new size keep.FileExists told = absurd told
-  reached-fault new size (keep.BadLine k) told = absurd told
-  reached-fault new size keep.DiskFull told = absurd told
-  reached-fault new size keep.File told = inr (size, told)
-  reached-fault new size keep.Device told = absurd told
-  reached-fault new size keep.Geos told = absurd told
-  reached-fault new size keep.Format told = absurd told
+  reached-fault new size faults.ImageSize told = absurd told
+  reached-fault new size faults.NoMemory told = (size, told)
+  reached-fault new size (faults.Layout fault) told = (size, told)
+  reached-fault new size faults.NoFile told = absurd told
+  reached-fault new size faults.FileExists told = absurd told
+  reached-fault new size (faults.RecordsLine k) told = absurd told
+  reached-fault new size faults.DiskFull told = absurd told
+  reached-fault new size faults.File told = inr (size, told)
+  reached-fault new size faults.Device told = absurd told
+  reached-fault new size faults.Geos told = absurd told
+  reached-fault new size faults.Format told = absurd told
 
-  reached-told : (new : W) → length image ≡ 174848 → (r : Result Unit KeepFault)
+  reached-told : (new : W) → length image ≡ 174848 → (r : Result Unit CommandFault)
       → IsErrAnd r (IsReachedEnd contents form (sectors_in image) name old new)
       → OnOk r (AreRecordsPrinted contents form image name old new)
       × IfErr r (IsRecordsFault contents form image name old new)
@@ -81,7 +81,7 @@ module _ {W : Type 0} (contents : W → Option (List ℕ)) (form : RecordForm) (
   reached-told new size (Err fault) told = (tt, reached-fault new size fault told)
 
   -- the disk is that of the image
-  pub reached-end : (img : Image) (new : W) → length image ≡ 174848 → img ≡ sectors_in image → (r : Result Unit KeepFault)
+  pub reached-end : (img : Image) (new : W) → length image ≡ 174848 → img ≡ sectors_in image → (r : Result Unit CommandFault)
       → IsErrAnd r (IsReachedEnd contents form img name old new)
       → OnOk r (AreRecordsPrinted contents form image name old new)
       × IfErr r (IsRecordsFault contents form image name old new)

@@ -9,12 +9,12 @@ use Rattle.disk_layout.specs.Directory.{map_place}
 use Rattle.disk_layout.specs.Fault.{Holds, nowhere}
 use Rattle.disk_layout.specs.declared.faults.Fault.{Fault}
 use Rattle.disk_layout.specs.declared.faults.Fault.TheVariants as faults
-use Rattle.keeper_commands.specs.Faults.{IsLoadFault}
+use Rattle.command_faults.specs.Faults.{IsLoadFault}
 use Rattle.keeper_commands.specs.Kinds.{IsKindFault, IsPlainDisk}
 use Rattle.keeper_commands.specs.Rebuilds.{IsRebuildDone, IsRebuildFault, IsRebuildRun, IsRebuiltDisk}
 use Rattle.keeper_commands.specs.Repairs.{TellsKeep, changed_text, mended_on, repair_fault, up_to}
-use Rattle.keeper_commands.specs.declared.faults.KeepFault.{KeepFault}
-use Rattle.keeper_commands.specs.declared.faults.KeepFault.TheVariants as keep
+use Rattle.command_faults.specs.declared.faults.CommandFault.{CommandFault}
+use Rattle.command_faults.specs.declared.faults.CommandFault.TheVariants as faults
 use Rattle.side_rebuilding.specs.Rebuilt.{IsRebuilt, IsUnderRebuilding, RebuildsSides, RefusesSides}
 
 -- the lines of the tracks are all that is printed of two disks
@@ -31,33 +31,33 @@ all-changed a b old new old' new' had has same same' was is tracks =
 module _ {D : Type 0} (S : History D) (image : List ℕ) (a : D) where
   module _ {W : Type 0} (w : W) where
     -- the image wasn't taken into memory
-    pub load-unrebuilt : (fault : KeepFault) → IsLoadFault image fault → IsRebuildFault S image a a w w fault
-    load-unrebuilt keep.ImageSize told = (told, refl, refl)
-    load-unrebuilt keep.NoMemory told = (told, refl, refl)
-    load-unrebuilt (keep.Layout fault) told = absurd told
-    load-unrebuilt keep.NoFile told = absurd told
-    load-unrebuilt keep.FileExists told = absurd told
-    load-unrebuilt (keep.BadLine n) told = absurd told
-    load-unrebuilt keep.DiskFull told = absurd told
-    load-unrebuilt keep.File told = absurd told
-    load-unrebuilt keep.Device told = absurd told
-    load-unrebuilt keep.Geos told = absurd told
-    load-unrebuilt keep.Format told = absurd told
+    pub load-unrebuilt : (fault : CommandFault) → IsLoadFault image fault → IsRebuildFault S image a a w w fault
+    load-unrebuilt faults.ImageSize told = (told, refl, refl)
+    load-unrebuilt faults.NoMemory told = (told, refl, refl)
+    load-unrebuilt (faults.Layout fault) told = absurd told
+    load-unrebuilt faults.NoFile told = absurd told
+    load-unrebuilt faults.FileExists told = absurd told
+    load-unrebuilt (faults.RecordsLine n) told = absurd told
+    load-unrebuilt faults.DiskFull told = absurd told
+    load-unrebuilt faults.File told = absurd told
+    load-unrebuilt faults.Device told = absurd told
+    load-unrebuilt faults.Geos told = absurd told
+    load-unrebuilt faults.Format told = absurd told
 
     -- the disk is of another kind
-    pub kind-unrebuilt : (fault : KeepFault) → length image ≡ 174848 → IsKindFault (sector (S.image a) map_place) fault
+    pub kind-unrebuilt : (fault : CommandFault) → length image ≡ 174848 → IsKindFault (sector (S.image a) map_place) fault
         → IsRebuildFault S image a a w w fault
-    kind-unrebuilt keep.Geos size told = (size, told, refl, refl)
-    kind-unrebuilt keep.Format size told = (size, told, refl, refl)
-    kind-unrebuilt keep.ImageSize size told = absurd told
-    kind-unrebuilt keep.NoMemory size told = absurd told
-    kind-unrebuilt (keep.Layout fault) size told = absurd told
-    kind-unrebuilt keep.NoFile size told = absurd told
-    kind-unrebuilt keep.FileExists size told = absurd told
-    kind-unrebuilt (keep.BadLine n) size told = absurd told
-    kind-unrebuilt keep.DiskFull size told = absurd told
-    kind-unrebuilt keep.File size told = absurd told
-    kind-unrebuilt keep.Device size told = absurd told
+    kind-unrebuilt faults.Geos size told = (size, told, refl, refl)
+    kind-unrebuilt faults.Format size told = (size, told, refl, refl)
+    kind-unrebuilt faults.ImageSize size told = absurd told
+    kind-unrebuilt faults.NoMemory size told = absurd told
+    kind-unrebuilt (faults.Layout fault) size told = absurd told
+    kind-unrebuilt faults.NoFile size told = absurd told
+    kind-unrebuilt faults.FileExists size told = absurd told
+    kind-unrebuilt (faults.RecordsLine n) size told = absurd told
+    kind-unrebuilt faults.DiskFull size told = absurd told
+    kind-unrebuilt faults.File size told = absurd told
+    kind-unrebuilt faults.Device size told = absurd told
 
   module _ (size : length image ≡ 174848) (plain : IsPlainDisk (sector (S.image a) map_place)) (b : D)
       (r : Result (Unit {0}) Fault) (h : RebuildsSides S a b r) where
@@ -106,25 +106,25 @@ module _ {D : Type 0} (S : History D) (image : List ℕ) (a : D) where
         P i = (i ≡ S.image a) ⊎ IsUnderRebuilding (S.image a) i
 
     pub print-unrebuilt : {W : Type 0} (v w : W) → IsRebuilt (S.image a) (S.image b) → S.failures b ≡ S.failures a
-        → (c : D) → WritesNothing S b c → (end : Result (Unit {0}) KeepFault) → TellsKeep S b c end
+        → (c : D) → WritesNothing S b c → (end : Result (Unit {0}) CommandFault) → TellsKeep S b c end
         → IfErr end (IsRebuildFault S image a c v w)
     print-unrebuilt v w rebuilt same c quiet (Ok x) told = tt
-    print-unrebuilt v w rebuilt same c quiet (Err keep.File) told = rebuilt-quiet rebuilt c quiet
-    print-unrebuilt v w rebuilt same c quiet (Err keep.Device) told =
+    print-unrebuilt v w rebuilt same c quiet (Err faults.File) told = rebuilt-quiet rebuilt c quiet
+    print-unrebuilt v w rebuilt same c quiet (Err faults.Device) told =
         ((rebuilt-quiet rebuilt c quiet).run, failed_later S a b c same told)
-    print-unrebuilt v w rebuilt same c quiet (Err keep.ImageSize) told = absurd told
-    print-unrebuilt v w rebuilt same c quiet (Err (keep.Layout fault)) told = absurd told
-    print-unrebuilt v w rebuilt same c quiet (Err keep.NoFile) told = absurd told
-    print-unrebuilt v w rebuilt same c quiet (Err keep.FileExists) told = absurd told
-    print-unrebuilt v w rebuilt same c quiet (Err (keep.BadLine n)) told = absurd told
-    print-unrebuilt v w rebuilt same c quiet (Err keep.DiskFull) told = absurd told
-    print-unrebuilt v w rebuilt same c quiet (Err keep.NoMemory) told = absurd told
-    print-unrebuilt v w rebuilt same c quiet (Err keep.Geos) told = absurd told
-    print-unrebuilt v w rebuilt same c quiet (Err keep.Format) told = absurd told
+    print-unrebuilt v w rebuilt same c quiet (Err faults.ImageSize) told = absurd told
+    print-unrebuilt v w rebuilt same c quiet (Err (faults.Layout fault)) told = absurd told
+    print-unrebuilt v w rebuilt same c quiet (Err faults.NoFile) told = absurd told
+    print-unrebuilt v w rebuilt same c quiet (Err faults.FileExists) told = absurd told
+    print-unrebuilt v w rebuilt same c quiet (Err (faults.RecordsLine n)) told = absurd told
+    print-unrebuilt v w rebuilt same c quiet (Err faults.DiskFull) told = absurd told
+    print-unrebuilt v w rebuilt same c quiet (Err faults.NoMemory) told = absurd told
+    print-unrebuilt v w rebuilt same c quiet (Err faults.Geos) told = absurd told
+    print-unrebuilt v w rebuilt same c quiet (Err faults.Format) told = absurd told
 
     -- what was printed is of the disk as it is left
     pub done-rebuilt : {W : Type 0} (contents : W → Option (List ℕ)) (v w : W) → IsRebuilt (S.image a) (S.image b)
-        → (c : D) → WritesNothing S b c → (before : Image) → before ≡ S.image a → (end : Result (Unit {0}) KeepFault)
+        → (c : D) → WritesNothing S b c → (before : Image) → before ≡ S.image a → (end : Result (Unit {0}) CommandFault)
         → OnOk end (Appends (contents v) (contents w) (changed_text before (S.image b)))
         → OnOk end (IsRebuildDone S contents image a c v w)
     done-rebuilt contents v w rebuilt c quiet before same (Ok x) printed = record {

@@ -29,7 +29,7 @@ use Rattle.keeper_commands.specs.Refusals.{IsLeft}
 use Rattle.keeper_commands.specs.Stores.{AreLinesOf, IsFirstBad, NewRecord, TellsLast}
 use Rattle.keeper_commands.specs.Stores.{greatest, last_ones}
 use Rattle.keeper_commands.specs.Storing.{IsStoreFault, IsStoreRun, IsStoring}
-use Rattle.keeper_commands.specs.declared.faults.KeepFault.TheVariants as keep
+use Rattle.command_faults.specs.declared.faults.CommandFault.TheVariants as faults
 
 module _ {D W : Type 0} (S : History D) (image name text : List ℕ) (a b : D) (size : length image ≡ 174848)
     (clean : IsClean (S.image a)) (o : W) where
@@ -44,7 +44,7 @@ module _ {D W : Type 0} (S : History D) (image name text : List ℕ) (a b : D) (
   }
 
   -- the file isn't there, or the device failed while it was looked for
-  not-found : FindsFile S a b name (Err rel.NotFound) → IsStoreFault S image name text a b o o keep.NoFile
+  not-found : FindsFile S a b name (Err rel.NotFound) → IsStoreFault S image name text a b o o faults.NoFile
   not-found found = left b (found.not_found clean.0 clean.1.layout refl) (reads_no_write S a b 702 found.reads)
 
   no-other : (e : RelFault) → e ≢ rel.NotFound → e ≢ rel.Device → (e ≡ rel.NotFound) ⊎ (e ≡ rel.Device) → ⊥
@@ -79,7 +79,7 @@ module _ {D W : Type 0} (S : History D) (image name text : List ℕ) (a b : D) (
 
     -- a line is bad
     pub bad-line : (k : ℕ) → IsFirstBad (length_of v) (records_in v) (lines text) k
-        → IsStoreFault S image name text a b o o (keep.BadLine k)
+        → IsStoreFault S image name text a b o o (faults.RecordsLine k)
     bad-line k bad = left b (
       entry_of v,
       it.0,
@@ -93,7 +93,7 @@ module _ {D W : Type 0} (S : History D) (image name text : List ℕ) (a b : D) (
     module _ (xs : List NewRecord) (are : AreLinesOf (length_of v) (records_in v) (lines text) xs) (table : List ℕ)
         (tells : TellsLast table xs) (c : D) (w : RelFile) where
       -- there is no room
-      no-room : Grows S b c v w (greatest xs) (Err rel.Full) → IsStoreFault S image name text a c o o keep.DiskFull
+      no-room : Grows S b c v w (greatest xs) (Err rel.Full) → IsStoreFault S image name text a c o o faults.DiskFull
       no-room grows = left c (
         entry_of v,
         it.0,

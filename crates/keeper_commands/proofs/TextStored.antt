@@ -29,8 +29,8 @@ use Rattle.keeper_commands.specs.Stores.{AreLinesOf, AreSo, IsPartStored, NewRec
 use Rattle.keeper_commands.specs.Stores.{changed_text, greatest, last_ones, stored}
 use Rattle.keeper_commands.specs.Storing.{IsStoreDone, IsStoreFault, IsStoreRun, IsStoredDisk, IsStoring, IsStoringOver}
 use Rattle.keeper_commands.specs.Storing.{StoresLines}
-use Rattle.keeper_commands.specs.declared.faults.KeepFault.{KeepFault}
-use Rattle.keeper_commands.specs.declared.faults.KeepFault.TheVariants as keep
+use Rattle.command_faults.specs.declared.faults.CommandFault.{CommandFault}
+use Rattle.command_faults.specs.declared.faults.CommandFault.TheVariants as faults
 
 module _ {D W : Type 0} (S : History D) (image name text : List ℕ) (a b : D) (size : length image ≡ 174848)
     (clean : IsClean (S.image a)) (o : W) (v : RelFile) (found : FindsFile S a b name (Ok v)) (xs : List NewRecord)
@@ -53,7 +53,7 @@ module _ {D W : Type 0} (S : History D) (image name text : List ℕ) (a b : D) (
   abbrev long-as : record_length grown.file.slot ≡ record_length it.0.slot
   long-as = same-length S image name text a b size clean o v found xs are table tells c w grows
 
-  module _ (contents : W → Option (List ℕ)) (d : D) (q : W) (u : RelFile) (r : Result (Unit {0}) KeepFault)
+  module _ (contents : W → Option (List ℕ)) (d : D) (q : W) (u : RelFile) (r : Result (Unit {0}) CommandFault)
       (stores : (m : Layout) (j : ℕ) (e : File) → IsFileOf (S.image c) m j e w → (h : ℕ) (ys : List NewRecord)
       → AreLinesOf (length_of w) h (lines text) ys → greatest ys ≤ records_in w → TellsLast table ys
       → StoresLines S contents c d o q m j e w u (last_ones ys) r) where
@@ -140,41 +140,41 @@ module _ {D W : Type 0} (S : History D) (image name text : List ℕ) (a b : D) (
     no-failure : S.failures c ≡ S.failures a
     no-failure = grows.failures ∙ found.failures
 
-    device-run : Failed S c d → IsStoreFault S image name text a d o q keep.Device
+    device-run : Failed S c d → IsStoreFault S image name text a d o q faults.Device
     device-run failed = (failed_later S a c d no-failure failed, inr run-all)
 
   -- the device or the output failed while records were stored
   pub store-refused : (contents : W → Option (List ℕ)) (d : D)
-      (q : W) (u : RelFile) (fault : KeepFault)
+      (q : W) (u : RelFile) (fault : CommandFault)
       → ((m : Layout) (j : ℕ) (e : File) → IsFileOf (S.image c) m j e w → (h : ℕ) (ys : List NewRecord)
       → AreLinesOf (length_of w) h (lines text) ys → greatest ys ≤ records_in w → TellsLast table ys
       → StoresLines S contents c d o q m j e w u (last_ones ys) (Err fault))
       → IsStoreFault S image name text a d o q fault
-  store-refused contents d q u keep.Device stores =
-      device-run contents d q u (Err keep.Device) stores (then-stored contents d q u (Err keep.Device)
+  store-refused contents d q u faults.Device stores =
+      device-run contents d q u (Err faults.Device) stores (then-stored contents d q u (Err faults.Device)
       stores).told
-  store-refused contents d q u keep.File stores = (
-    run-all contents d q u (Err keep.File) stores,
-    (then-stored contents d q u (Err keep.File) stores).clean refl,
+  store-refused contents d q u faults.File stores = (
+    run-all contents d q u (Err faults.File) stores,
+    (then-stored contents d q u (Err faults.File) stores).clean refl,
   )
-  store-refused contents d q u keep.ImageSize stores =
-      absurd (then-stored contents d q u (Err keep.ImageSize) stores).told
-  store-refused contents d q u (keep.Layout x) stores =
-      absurd (then-stored contents d q u (Err (keep.Layout x)) stores).told
-  store-refused contents d q u keep.NoFile stores =
-      absurd (then-stored contents d q u (Err keep.NoFile) stores).told
-  store-refused contents d q u keep.FileExists stores =
-      absurd (then-stored contents d q u (Err keep.FileExists) stores).told
-  store-refused contents d q u (keep.BadLine k) stores =
-      absurd (then-stored contents d q u (Err (keep.BadLine k)) stores).told
-  store-refused contents d q u keep.DiskFull stores =
-      absurd (then-stored contents d q u (Err keep.DiskFull) stores).told
-  store-refused contents d q u keep.NoMemory stores =
-      absurd (then-stored contents d q u (Err keep.NoMemory) stores).told
-  store-refused contents d q u keep.Geos stores =
-      absurd (then-stored contents d q u (Err keep.Geos) stores).told
-  store-refused contents d q u keep.Format stores =
-      absurd (then-stored contents d q u (Err keep.Format) stores).told
+  store-refused contents d q u faults.ImageSize stores =
+      absurd (then-stored contents d q u (Err faults.ImageSize) stores).told
+  store-refused contents d q u (faults.Layout x) stores =
+      absurd (then-stored contents d q u (Err (faults.Layout x)) stores).told
+  store-refused contents d q u faults.NoFile stores =
+      absurd (then-stored contents d q u (Err faults.NoFile) stores).told
+  store-refused contents d q u faults.FileExists stores =
+      absurd (then-stored contents d q u (Err faults.FileExists) stores).told
+  store-refused contents d q u (faults.RecordsLine k) stores =
+      absurd (then-stored contents d q u (Err (faults.RecordsLine k)) stores).told
+  store-refused contents d q u faults.DiskFull stores =
+      absurd (then-stored contents d q u (Err faults.DiskFull) stores).told
+  store-refused contents d q u faults.NoMemory stores =
+      absurd (then-stored contents d q u (Err faults.NoMemory) stores).told
+  store-refused contents d q u faults.Geos stores =
+      absurd (then-stored contents d q u (Err faults.Geos) stores).told
+  store-refused contents d q u faults.Format stores =
+      absurd (then-stored contents d q u (Err faults.Format) stores).told
 
   module _ (contents : W → Option (List ℕ)) (d : D) (p q : W)
       (u : RelFile)
@@ -193,5 +193,5 @@ module _ {D W : Type 0} (S : History D) (image name text : List ℕ) (a b : D) (
           (printed-is contents d p u (Ok tt) stores) whole.ok.2) kept;
     }
 
-    pub store-unprinted : IsStoreFault S image name text a d o q keep.File
+    pub store-unprinted : IsStoreFault S image name text a d o q faults.File
     store-unprinted = (run-all contents d p u (Ok tt) stores, (whole.ok.0.layout, whole.ok.0.clean))

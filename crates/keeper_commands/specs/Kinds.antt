@@ -2,8 +2,8 @@
 -- the directory header. For the 1541: its format byte (Inside Commodore DOS).
 use Rattle.std.specs.Prelude.{◌≡◌, ◌≢◌, codes, slice_index, slice_range}
 use Rattle.d64_image.specs.Images.{Sector}
-use Rattle.keeper_commands.specs.declared.faults.KeepFault.{KeepFault}
-use Rattle.keeper_commands.specs.declared.faults.KeepFault.TheVariants as keep
+use Rattle.command_faults.specs.declared.faults.CommandFault.{CommandFault}
+use Rattle.command_faults.specs.declared.faults.CommandFault.TheVariants as faults
 
 -- GEOS wrote its signature from byte 173 on: GEOS format V1.0, or another version
 abbrev pub HasGeosSign : Sector → Type 0
@@ -19,7 +19,7 @@ pub record IsPlainDisk (bytes : Sector) : Type 0 where
   pub format : HasFormatByte bytes
 
 -- why a disk with this 18/0 is none
-abbrev pub IsKindFault : Sector → KeepFault → Type 0
-IsKindFault bytes keep.Geos = HasGeosSign bytes
-IsKindFault bytes keep.Format = ¬ (HasFormatByte bytes)
+abbrev pub IsKindFault : Sector → CommandFault → Type 0
+IsKindFault bytes faults.Geos = HasGeosSign bytes
+IsKindFault bytes faults.Format = ¬ (HasFormatByte bytes)
 IsKindFault bytes _ = ⊥

@@ -8,8 +8,8 @@ use Rattle.disk_layout.specs.Fault.{HoldsOfClean, nowhere}
 use Rattle.disk_layout.specs.Layout.{Layout}
 use Rattle.rel_records.specs.creation.Made.{HasFileMore, HasNoRoom, IsCreating, IsTakenName, creation_writes}
 use Rattle.keeper_commands.specs.Refusals.{IsLeft}
-use Rattle.keeper_commands.specs.declared.faults.KeepFault.{KeepFault}
-use Rattle.keeper_commands.specs.declared.faults.KeepFault.TheVariants as keep
+use Rattle.command_faults.specs.declared.faults.CommandFault.{CommandFault}
+use Rattle.command_faults.specs.declared.faults.CommandFault.TheVariants as faults
 
 -- a name that a new file can have: 1 to 16 bytes, the last of which isn't the shifted space that fills up a slot's name
 pub record IsNewName (name : List ℕ) : Type 0 where
@@ -39,19 +39,19 @@ pub record IsMakeDone {D W : Type 0} (S : History D) (contents : W → Option (L
   pub printed : Appends (contents before) (contents after) (codes "MADE\n")
 
 -- why a file isn't made, or that isn't printed. At a refusal something was printed only if the output failed
-abbrev pub IsMakeFault : {D W : Type 0} → History D → List ℕ → List ℕ → ℕ → D → D → W → W → KeepFault → Type 0
-IsMakeFault S image name L old new before after keep.ImageSize =
+abbrev pub IsMakeFault : {D W : Type 0} → History D → List ℕ → List ℕ → ℕ → D → D → W → W → CommandFault → Type 0
+IsMakeFault S image name L old new before after faults.ImageSize =
     (length image ≢ 174848) × (new ≡ old) × (after ≡ before)
-IsMakeFault S image name L old new before after keep.NoMemory =
+IsMakeFault S image name L old new before after faults.NoMemory =
     (length image ≡ 174848) × (new ≡ old) × (after ≡ before)
-IsMakeFault S image name L old new before after (keep.Layout fault) =
+IsMakeFault S image name L old new before after (faults.Layout fault) =
     (length image ≡ 174848) × HoldsOfClean nowhere (sectors_in image) fault × (new ≡ old) × (after ≡ before)
-IsMakeFault S image name L old new before after keep.FileExists =
+IsMakeFault S image name L old new before after faults.FileExists =
     IsLeft S image old new before after (λ l. IsTakenName l name)
-IsMakeFault S image name L old new before after keep.DiskFull =
+IsMakeFault S image name L old new before after faults.DiskFull =
     IsLeft S image old new before after (λ l. HasNoRoom (S.image old) l × ¬ (IsTakenName l name))
 -- the output failed: the file is made
-IsMakeFault S image name L old new before after keep.File = IsMadeDisk S image name L old new
-IsMakeFault S image name L old new before after keep.Device =
+IsMakeFault S image name L old new before after faults.File = IsMadeDisk S image name L old new
+IsMakeFault S image name L old new before after faults.Device =
     IsMakeRun S image name L old new × Failed S old new × (after ≡ before)
 IsMakeFault S image name L old new before after _ = ⊥

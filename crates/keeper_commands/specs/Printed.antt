@@ -13,8 +13,8 @@ use Rattle.rel_records.specs.reading.Kept.{IsKept}
 use Rattle.keeper_commands.specs.Bytes.{HasFile, HasNoFile, file_bytes}
 use Rattle.keeper_commands.specs.Forms.{bytes_as, form_line, records_as}
 use Rattle.keeper_commands.specs.Records.{HasNoReached, HasNoRecordFile, IsReachedFile, IsRecordFile, records_of}
-use Rattle.keeper_commands.specs.declared.faults.KeepFault.{KeepFault}
-use Rattle.keeper_commands.specs.declared.faults.KeepFault.TheVariants as keep
+use Rattle.command_faults.specs.declared.faults.CommandFault.{CommandFault}
+use Rattle.command_faults.specs.declared.faults.CommandFault.TheVariants as faults
 use Rattle.keeper_commands.specs.declared.finding.Candidates.{Candidates}
 use Rattle.keeper_commands.specs.declared.finding.Candidates.TheVariants.{All}
 use Rattle.keeper_commands.specs.declared.finding.Kind.{Kind}
@@ -39,25 +39,25 @@ pub record AreReachedPrinted {W : Type 0} (contents : W → Option (List ℕ)) (
       (records_as form (records_of (record_length file.slot) (file_bytes img file.blocks file.last)))
 
 -- how the printing of the records of a disk that isn't sound ends: never with all done
-abbrev pub IsReachedEnd : {W : Type 0} → (W → Option (List ℕ)) → RecordForm → Image → (name : List ℕ) → W → W → KeepFault
+abbrev pub IsReachedEnd : {W : Type 0} → (W → Option (List ℕ)) → RecordForm → Image → (name : List ℕ) → W → W → CommandFault
     → Type 0
-IsReachedEnd contents form img name old new (keep.Layout fault) =
+IsReachedEnd contents form img name old new (faults.Layout fault) =
     (HasNoReached img name fault × (new ≡ old)) ⊎ AreReachedPrinted contents form img name fault old new
-IsReachedEnd contents form img name old new keep.NoMemory = new ≡ old
-IsReachedEnd contents form img name old new keep.File = (fault : Fault) × IsReachedFile img name fault
+IsReachedEnd contents form img name old new faults.NoMemory = new ≡ old
+IsReachedEnd contents form img name old new faults.File = (fault : Fault) × IsReachedFile img name fault
 IsReachedEnd contents form img name old new _ = ⊥
 
 -- Why records aren't printed, or not surely all. If a disk isn't sound, those that can be reached are printed. If the
 -- output failed, there is such a file
-abbrev pub IsRecordsFault : {W : Type 0} → (W → Option (List ℕ)) → RecordForm → (image name : List ℕ) → W → W → KeepFault
+abbrev pub IsRecordsFault : {W : Type 0} → (W → Option (List ℕ)) → RecordForm → (image name : List ℕ) → W → W → CommandFault
     → Type 0
-IsRecordsFault contents form image name old new keep.ImageSize = (length image ≢ 174848) × (new ≡ old)
-IsRecordsFault contents form image name old new keep.NoMemory = (length image ≡ 174848) × (new ≡ old)
-IsRecordsFault contents form image name old new (keep.Layout fault) =
-    (length image ≡ 174848) × IsReachedEnd contents form (sectors_in image) name old new (keep.Layout fault)
-IsRecordsFault contents form image name old new keep.NoFile = HasNoRecordFile image name × (new ≡ old)
-IsRecordsFault contents form image name old new keep.File = ((file : File) × IsRecordFile image name file)
-    ⊎ ((length image ≡ 174848) × IsReachedEnd contents form (sectors_in image) name old new keep.File)
+IsRecordsFault contents form image name old new faults.ImageSize = (length image ≢ 174848) × (new ≡ old)
+IsRecordsFault contents form image name old new faults.NoMemory = (length image ≡ 174848) × (new ≡ old)
+IsRecordsFault contents form image name old new (faults.Layout fault) =
+    (length image ≡ 174848) × IsReachedEnd contents form (sectors_in image) name old new (faults.Layout fault)
+IsRecordsFault contents form image name old new faults.NoFile = HasNoRecordFile image name × (new ≡ old)
+IsRecordsFault contents form image name old new faults.File = ((file : File) × IsRecordFile image name file)
+    ⊎ ((length image ≡ 174848) × IsReachedEnd contents form (sectors_in image) name old new faults.File)
 IsRecordsFault contents form image name old new _ = ⊥
 
 -- the bytes that can be reached of the first file of that name, and nothing else, were; and this fault is in the way of
@@ -79,33 +79,33 @@ pub record AreUnclosedPrinted {W : Type 0} (contents : W → Option (List ℕ)) 
 -- Why not all of a file of that name and kind is printed. With a fault of the layout what can be reached is, as `Printed`
 -- says. If the output failed, there is such a file
 abbrev pub IsFileFault : {W : Type 0} → (image : List ℕ) → Kind → (name : List ℕ) → (Printed : Option Fault → Type 0)
-    → W → W → KeepFault → Type 0
-IsFileFault image kind name Printed old new keep.ImageSize = (length image ≢ 174848) × (new ≡ old)
-IsFileFault image kind name Printed old new keep.NoMemory = (length image ≡ 174848) × (new ≡ old)
-IsFileFault image kind name Printed old new (keep.Layout fault) =
+    → W → W → CommandFault → Type 0
+IsFileFault image kind name Printed old new faults.ImageSize = (length image ≢ 174848) × (new ≡ old)
+IsFileFault image kind name Printed old new faults.NoMemory = (length image ≡ 174848) × (new ≡ old)
+IsFileFault image kind name Printed old new (faults.Layout fault) =
     (HasNoFile image kind name (Some fault) × (new ≡ old)) ⊎ Printed (Some fault)
-IsFileFault image kind name Printed old new keep.NoFile = HasNoFile image kind name None × (new ≡ old)
-IsFileFault image kind name Printed old new keep.File = (fault : Option Fault) × HasFile image kind name fault
+IsFileFault image kind name Printed old new faults.NoFile = HasNoFile image kind name None × (new ≡ old)
+IsFileFault image kind name Printed old new faults.File = (fault : Option Fault) × HasFile image kind name fault
 IsFileFault image kind name Printed old new _ = ⊥
 
 -- why not all bytes of a file are printed
 abbrev pub IsBytesFault : {W : Type 0} → (W → Option (List ℕ)) → ByteForm → Candidates → (image name : List ℕ) → W → W
-    → KeepFault → Type 0
+    → CommandFault → Type 0
 IsBytesFault contents form candidates image name old new fault = IsFileFault image (Any candidates) name
     (AreBytesPrinted contents form candidates image name old new) old new fault
 
 -- why not all records of a file that may be unclosed are
 abbrev pub IsUnclosedFault : {W : Type 0} → (W → Option (List ℕ)) → RecordForm → (image name : List ℕ) → W → W
-    → KeepFault → Type 0
+    → CommandFault → Type 0
 IsUnclosedFault contents form image name old new fault = IsFileFault image (Records All) name
     (AreUnclosedPrinted contents form image name old new) old new fault
 
 -- The line of one record of a file was handed to an output that held `before` and holds `after`. The image that the disk
 -- holds stays.
 pub record IsLinePrinted (old new : Image) (file : RelFile) (last : LastBlock) (form : RecordForm) (number : ℕ)
-    (before after : Option (List ℕ)) (result : Result (Unit {0}) KeepFault) : Type 0 where
+    (before after : Option (List ℕ)) (result : Result (Unit {0}) CommandFault) : Type 0 where
   pub ok : OfItsFile old file (λ l n f. OnOk result
       (Appends before after (form_line form number (get_or (records old f) (number - 1) []))))
   pub same : new ≡ old
   pub kept : IsKept old file last
-  pub err : IfErr result (λ fault. fault ≡ keep.File)
+  pub err : IfErr result (λ fault. fault ≡ faults.File)

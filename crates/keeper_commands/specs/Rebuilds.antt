@@ -8,8 +8,8 @@ use Rattle.disk_layout.specs.Fault.{Holds, nowhere}
 use Rattle.disk_layout.specs.Layout.{IsSound}
 use Rattle.keeper_commands.specs.Kinds.{HasFormatByte, HasGeosSign, IsPlainDisk}
 use Rattle.keeper_commands.specs.Repairs.{changed_text}
-use Rattle.keeper_commands.specs.declared.faults.KeepFault.{KeepFault}
-use Rattle.keeper_commands.specs.declared.faults.KeepFault.TheVariants as keep
+use Rattle.command_faults.specs.declared.faults.CommandFault.{CommandFault}
+use Rattle.command_faults.specs.declared.faults.CommandFault.TheVariants as faults
 use Rattle.side_rebuilding.specs.Rebuilt.{IsRebuilt, IsUnderRebuilding}
 
 -- Whatever the disk held on the way is the first image, or has its directory and its chains with all bytes: only side
@@ -33,19 +33,19 @@ pub record IsRebuildDone {D W : Type 0} (S : History D) (contents : W → Option
   pub printed : Appends (contents before) (contents after) (changed_text (S.image old) (S.image new))
 
 -- why the side sectors of a disk aren't rebuilt, or that isn't printed
-abbrev pub IsRebuildFault : {D W : Type 0} → History D → List ℕ → D → D → W → W → KeepFault → Type 0
-IsRebuildFault S image old new before after keep.ImageSize =
+abbrev pub IsRebuildFault : {D W : Type 0} → History D → List ℕ → D → D → W → W → CommandFault → Type 0
+IsRebuildFault S image old new before after faults.ImageSize =
     (length image ≢ 174848) × (new ≡ old) × (after ≡ before)
-IsRebuildFault S image old new before after keep.NoMemory =
+IsRebuildFault S image old new before after faults.NoMemory =
     (length image ≡ 174848) × (new ≡ old) × (after ≡ before)
-IsRebuildFault S image old new before after keep.Geos =
+IsRebuildFault S image old new before after faults.Geos =
     (length image ≡ 174848) × HasGeosSign (sector (S.image old) map_place) × (new ≡ old) × (after ≡ before)
-IsRebuildFault S image old new before after keep.Format =
+IsRebuildFault S image old new before after faults.Format =
     (length image ≡ 174848) × ¬ (HasFormatByte (sector (S.image old) map_place)) × (new ≡ old) × (after ≡ before)
-IsRebuildFault S image old new before after (keep.Layout fault) =
+IsRebuildFault S image old new before after (faults.Layout fault) =
     (length image ≡ 174848) × IsPlainDisk (sector (S.image old) map_place) × Holds nowhere (S.image old) fault
     × (new ≡ old) × (after ≡ before)
 -- the output failed: the side sectors are rebuilt
-IsRebuildFault S image old new before after keep.File = IsRebuiltDisk S image old new
-IsRebuildFault S image old new before after keep.Device = IsRebuildRun S image old new × Failed S old new
+IsRebuildFault S image old new before after faults.File = IsRebuiltDisk S image old new
+IsRebuildFault S image old new before after faults.Device = IsRebuildRun S image old new × Failed S old new
 IsRebuildFault S image old new before after _ = ⊥

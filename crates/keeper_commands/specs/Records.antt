@@ -17,8 +17,8 @@ use Rattle.rel_records.specs.declared.rel_file.RelFile.{RelFile}
 use Rattle.rel_records.specs.declared.reading.record_order.LastBlock.{LastBlock}
 use Rattle.rel_records.specs.reading.Kept.{IsKept}
 use Rattle.keeper_commands.specs.Found.{HasNone, IsHad}
-use Rattle.keeper_commands.specs.declared.faults.KeepFault.{KeepFault}
-use Rattle.keeper_commands.specs.declared.faults.KeepFault.TheVariants as keep
+use Rattle.command_faults.specs.declared.faults.CommandFault.{CommandFault}
+use Rattle.command_faults.specs.declared.faults.CommandFault.TheVariants as faults
 use Rattle.keeper_commands.specs.declared.finding.Candidates.TheVariants.{Closed}
 use Rattle.keeper_commands.specs.declared.finding.Kind.TheVariants.{Records}
 
@@ -34,13 +34,13 @@ HandsOn old new held kept = (front : List ℕ) × Appends old new front × (held
 -- The line of a record of an image's file was put into a room of 4,096 bytes after the first `start`. The result is where
 -- it ends. A disk in memory isn't changed by that, nor does it fail.
 pub record IsGathered (old new : Image) (file : RelFile) (last : LastBlock) (number start : ℕ) (before after : List ℕ)
-    (result : Result ℕ KeepFault) : Type 0 where
+    (result : Result ℕ CommandFault) : Type 0 where
   pub ok : OfItsFile old file (λ l n f. IfOk result (λ end. take end after
       ≡ take start before ++ record_line number (get_or (records old f) (number - 1) [])))
   pub end : IfOk result (λ end. end ≤ start + 776)
   pub same : new ≡ old
   pub kept : IsKept old file last
-  pub err : IfErr result (λ fault. fault ≡ keep.File)
+  pub err : IfErr result (λ fault. fault ≡ faults.File)
 
 -- the lines of all of them
 unfoldable pub records_text : List (List ℕ) → List ℕ

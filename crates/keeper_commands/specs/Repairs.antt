@@ -20,8 +20,8 @@ use Rattle.layout_check.specs.Keeping.{AreStray, FreesNothing, IsCleanBut}
 use Rattle.layout_check.specs.RepairOrder.{ClearsSpare, IsRightBut, repair_order}
 use Rattle.layout_check.specs.Repaired.{MendsFrom}
 use Rattle.keeper_commands.specs.Kinds.{HasFormatByte, HasGeosSign, IsPlainDisk}
-use Rattle.keeper_commands.specs.declared.faults.KeepFault.{KeepFault}
-use Rattle.keeper_commands.specs.declared.faults.KeepFault.TheVariants as keep
+use Rattle.command_faults.specs.declared.faults.CommandFault.{CommandFault}
+use Rattle.command_faults.specs.declared.faults.CommandFault.TheVariants as faults
 
 -- the lines of 1, 2 and so on up to n
 unfoldable pub up_to : ℕ → (ℕ → List ℕ) → List ℕ
@@ -60,16 +60,16 @@ unfoldable pub changed_text : Image → Image → List ℕ
 changed_text old new = up_to 35 (mended_on old new (sector old map_place) (sector new map_place))
 
 -- only the output is reported as File, and only a failure of the device as Device
-abbrev pub TellsKeep : {D T : Type 0} → History D → D → D → Result T KeepFault → Type 0
+abbrev pub TellsKeep : {D T : Type 0} → History D → D → D → Result T CommandFault → Type 0
 TellsKeep S old new (Ok _) = S.failures new ≡ S.failures old
-TellsKeep S old new (Err keep.File) = S.failures new ≡ S.failures old
-TellsKeep S old new (Err keep.Device) = Failed S old new
+TellsKeep S old new (Err faults.File) = S.failures new ≡ S.failures old
+TellsKeep S old new (Err faults.Device) = Failed S old new
 TellsKeep S old new (Err _) = ⊥
 
 -- what is reported if a repair ends with this fault
-abbrev pub repair_fault : Fault → KeepFault
-repair_fault (Device p) = keep.Device
-repair_fault fault = keep.Layout fault
+abbrev pub repair_fault : Fault → CommandFault
+repair_fault (Device p) = faults.Device
+repair_fault fault = faults.Layout fault
 
 -- the sectors that stay taken though nobody owns them: none if these are freed, and otherwise all that there are
 abbrev pub AreLeft : (free : Bool) → Image → Layout → List Place → Type 0
@@ -137,19 +137,19 @@ pub record IsRepairDone {D W : Type 0} (free : Bool) (S : History D) (contents :
 
 -- why a disk isn't repaired, or that isn't printed. At a refusal something was printed only if the output or the device
 -- failed
-abbrev pub IsRepairFault : {D W : Type 0} → Bool → History D → List ℕ → D → D → W → W → KeepFault → Type 0
-IsRepairFault free S image old new before after keep.ImageSize =
+abbrev pub IsRepairFault : {D W : Type 0} → Bool → History D → List ℕ → D → D → W → W → CommandFault → Type 0
+IsRepairFault free S image old new before after faults.ImageSize =
     (length image ≢ 174848) × (new ≡ old) × (after ≡ before)
-IsRepairFault free S image old new before after keep.NoMemory =
+IsRepairFault free S image old new before after faults.NoMemory =
     (length image ≡ 174848) × (new ≡ old) × (after ≡ before)
-IsRepairFault free S image old new before after keep.Geos =
+IsRepairFault free S image old new before after faults.Geos =
     (length image ≡ 174848) × HasGeosSign (sector (S.image old) map_place) × (new ≡ old) × (after ≡ before)
-IsRepairFault free S image old new before after keep.Format =
+IsRepairFault free S image old new before after faults.Format =
     (length image ≡ 174848) × ¬ (HasFormatByte (sector (S.image old) map_place)) × (new ≡ old) × (after ≡ before)
-IsRepairFault free S image old new before after (keep.Layout fault) =
+IsRepairFault free S image old new before after (faults.Layout fault) =
     (length image ≡ 174848) × IsPlainDisk (sector (S.image old) map_place) × Holds nowhere (S.image old) fault
     × WritesNothing S old new × (after ≡ before)
 -- the output failed: the disk is mended
-IsRepairFault free S image old new before after keep.File = (n : ℕ) × IsMendedDisk free S image old new n
-IsRepairFault free S image old new before after keep.Device = IsRepairRun free S image old new × Failed S old new
+IsRepairFault free S image old new before after faults.File = (n : ℕ) × IsMendedDisk free S image old new n
+IsRepairFault free S image old new before after faults.Device = IsRepairRun free S image old new × Failed S old new
 IsRepairFault free S image old new before after _ = ⊥

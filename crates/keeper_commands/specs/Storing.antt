@@ -22,8 +22,8 @@ use Rattle.keeper_commands.specs.Refusals.{IsLeft}
 use Rattle.keeper_commands.specs.Repairs.{TellsKeep}
 use Rattle.keeper_commands.specs.Stores.{AreLinesOf, AreSo, IsFirstBad, IsPartStored, IsSo, NewRecord, changed_text}
 use Rattle.keeper_commands.specs.Stores.{greatest, is_changed, last_ones, stored, with_stored}
-use Rattle.keeper_commands.specs.declared.faults.KeepFault.{KeepFault}
-use Rattle.keeper_commands.specs.declared.faults.KeepFault.TheVariants as keep
+use Rattle.command_faults.specs.declared.faults.CommandFault.{CommandFault}
+use Rattle.command_faults.specs.declared.faults.CommandFault.TheVariants as faults
 
 -- an image held while these are stored over rs, the records of the file at place n: a prefix of them is stored, and
 -- perhaps the first part of the next
@@ -33,7 +33,7 @@ IsStoringOver old l n L xs rs c = (ts : List (List ℕ)) × IsPartStored L xs rs
 -- One record of f, the file at place n of the layout l, was stored, if it differed; the answer is whether it did. The
 -- caller's view of the file was v, and is w now.
 pub record StoresOne {D : Type 0} (S : History D) (old new : D) (l : Layout) (n : ℕ) (f : File) (v w : RelFile)
-    (x : NewRecord) (result : Result Bool KeepFault) : Type 0 where
+    (x : NewRecord) (result : Result Bool CommandFault) : Type 0 where
   pub ok : IfOk result (λ changed.
       LeavesRecords (S.image old) (S.image new) l n (with_stored (record_length f.slot) x (records (S.image old) f)) w
       × (length_of w ≡ length_of v) × (changed ≡ is_changed (record_length f.slot) x (records (S.image old) f)))
@@ -41,13 +41,13 @@ pub record StoresOne {D : Type 0} (S : History D) (old new : D) (l : Layout) (n 
       (IsStoringOver (S.image old) l n (record_length f.slot) (x ∷ []) (records (S.image old) f))
   pub whole : HoldsWhole S old new
   pub quiet : IsSo (record_length f.slot) (records (S.image old) f) x → WritesNothing S old new
-  pub err : IfErr result (λ fault. fault ≡ keep.Device)
+  pub err : IfErr result (λ fault. fault ≡ faults.Device)
   pub told : TellsKeep S old new result
 
 -- Records of f were stored, one after another, and the lines of those that changed were printed. The caller's view of the
 -- file was v, and is w now.
 pub record StoresLines {D W : Type 0} (S : History D) (contents : W → Option (List ℕ)) (old new : D) (before after : W)
-    (l : Layout) (n : ℕ) (f : File) (v w : RelFile) (xs : List NewRecord) (result : Result (Unit {0}) KeepFault) : Type
+    (l : Layout) (n : ℕ) (f : File) (v w : RelFile) (xs : List NewRecord) (result : Result (Unit {0}) CommandFault) : Type
     0
   where
     pub ok : OnOk result (
@@ -59,7 +59,7 @@ pub record StoresLines {D W : Type 0} (S : History D) (contents : W → Option (
     pub whole : HoldsWhole S old new
     pub quiet : AreSo (record_length f.slot) (records (S.image old) f) xs → WritesNothing S old new
     -- if the output failed, the disk is clean
-    pub clean : IfErr result (λ fault. fault ≡ keep.File → IsClean (S.image new))
+    pub clean : IfErr result (λ fault. fault ≡ faults.File → IsClean (S.image new))
     pub told : TellsKeep S old new result
 
 -- these records over those of the file, which has grown to them if it had fewer: what is after them stays
@@ -120,24 +120,24 @@ HasNoStoreRoom img name text l = (n : ℕ) × (f : File) × (xs : List NewRecord
 
 -- why records aren't stored, or that isn't printed. At a refusal something was printed only if the output or the device
 -- failed
-abbrev pub IsStoreFault : {D W : Type 0} → History D → List ℕ → List ℕ → List ℕ → D → D → W → W → KeepFault → Type 0
-IsStoreFault S image name text old new before after keep.ImageSize =
+abbrev pub IsStoreFault : {D W : Type 0} → History D → List ℕ → List ℕ → List ℕ → D → D → W → W → CommandFault → Type 0
+IsStoreFault S image name text old new before after faults.ImageSize =
     (length image ≢ 174848) × (new ≡ old) × (after ≡ before)
-IsStoreFault S image name text old new before after keep.NoMemory =
+IsStoreFault S image name text old new before after faults.NoMemory =
     (length image ≡ 174848) × (new ≡ old) × (after ≡ before)
-IsStoreFault S image name text old new before after (keep.Layout fault) =
+IsStoreFault S image name text old new before after (faults.Layout fault) =
     (length image ≡ 174848) × HoldsOfClean nowhere (sectors_in image) fault × (new ≡ old) × (after ≡ before)
-IsStoreFault S image name text old new before after keep.NoFile = IsLeft S image old new before after
+IsStoreFault S image name text old new before after faults.NoFile = IsLeft S image old new before after
     (λ l. (k : ℕ) (f : File) → slice_get l.files k ≡ Some f → ¬ (IsNamed name f))
-IsStoreFault S image name text old new before after (keep.BadLine k) =
+IsStoreFault S image name text old new before after (faults.RecordsLine k) =
     IsLeft S image old new before after (HasBadLine name text k)
-IsStoreFault S image name text old new before after keep.DiskFull =
+IsStoreFault S image name text old new before after faults.DiskFull =
     IsLeft S image old new before after (HasNoStoreRoom (S.image old) name text)
 -- the output failed: what was stored until then stays, and the disk is clean
-IsStoreFault S image name text old new before after keep.File =
+IsStoreFault S image name text old new before after faults.File =
     IsStoreRun S image name text old new × IsClean (S.image new)
 -- the device failed, when the file was looked for or after that
-IsStoreFault S image name text old new before after keep.Device =
+IsStoreFault S image name text old new before after faults.Device =
     Failed S old new
     × (IsLeft S image old new before after (λ l. Unit {0}) ⊎ IsStoreRun S image name text old new)
 IsStoreFault S image name text old new before after _ = ⊥

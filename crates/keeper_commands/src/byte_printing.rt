@@ -4,33 +4,31 @@ ghost use Rattle.keeper_commands.specs.Faults.{keep_ended, keep_none};
 ghost use Rattle.keeper_commands.specs.Printed.{AreBytesPrinted, IsBytesFault};
 
 use crate::chains::put_file;
-use crate::faults::KeepFault;
 use crate::finding::{Candidates, Kind, find_file};
 use crate::forms::ByteForm;
-use crate::loading::load;
-use crate::output::flush;
 use arrayvec::ArrayVec;
+use command_faults::{CommandFault, flush, load};
 use disk_layout::Fault;
 use std::alloc::Global;
 use std::io::Write;
 
 /// How a job over a file ends that has this fault, or none.
-pub(crate) fn ended(fault: Option<Fault>) -> Result<(), KeepFault>
+pub(crate) fn ended(fault: Option<Fault>) -> Result<(), CommandFault>
     ensures { result ≡ keep_ended fault }
 {
     match fault {
-        Some(fault) => Err(KeepFault::Layout(fault)),
+        Some(fault) => Err(CommandFault::Layout(fault)),
         None => Ok(()),
     }
 }
 
 /// Why there is no file, in a directory that ends early with this fault, or doesn't.
-pub(crate) fn no_file(ended: Option<Fault>) -> KeepFault
+pub(crate) fn no_file(ended: Option<Fault>) -> CommandFault
     ensures { result ≡ keep_none ended }
 {
     match ended {
-        Some(fault) => KeepFault::Layout(fault),
-        None => KeepFault::NoFile,
+        Some(fault) => CommandFault::Layout(fault),
+        None => CommandFault::NoFile,
     }
 }
 
@@ -52,7 +50,7 @@ pub fn bytes_image<W: Write>(
     name: &[u8],
     form: ByteForm,
     out: &mut W,
-) -> Result<(), KeepFault>
+) -> Result<(), CommandFault>
     ensures ok { OnOk result (AreBytesPrinted W.contents form candidates image.now name.now out.old out.new None) }
     ensures err { IfErr result (IsBytesFault W.contents form candidates image.now name.now out.old out.new) }
 {

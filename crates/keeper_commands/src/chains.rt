@@ -6,30 +6,29 @@ ghost use Rattle.d64_image.specs.Memory.{disk_image};
 ghost use Rattle.disk_layout.specs.Records.{joined};
 ghost use Rattle.keeper_commands.specs.Bytes.{file_bytes};
 ghost use Rattle.keeper_commands.specs.Forms.{bytes_as};
-ghost use Rattle.keeper_commands.specs.declared.faults.KeepFault.TheVariants as faults;
+ghost use Rattle.command_faults.specs.declared.faults.CommandFault.TheVariants as faults;
 ghost use Rattle.keeper_commands.specs.declared.forms.ByteForm.TheVariants as forms;
 
-use crate::faults::KeepFault;
 use crate::forms::ByteForm;
-use crate::output::put;
+use command_faults::{CommandFault, put};
 use d64_image::{MemDisk, Place, Sectors};
 use petscii_text::{CharacterSet, Readable};
 use std::alloc::Global;
 use std::io::Write;
 
 /// Prints bytes as text that people read. `File` if the output failed.
-fn put_text<W: Write>(out: &mut W, set: CharacterSet, bytes: &[u8]) -> Result<(), KeepFault>
+fn put_text<W: Write>(out: &mut W, set: CharacterSet, bytes: &[u8]) -> Result<(), CommandFault>
     ensures ok { OnOk result (Appends (W.contents out.old) (W.contents out.new) (bytes_as (forms.Text set) bytes.now)) }
     ensures err { IfErr result (λ fault. fault ≡ faults.File) }
 {
     if write!(out, "{}", Readable { set, bytes }).is_err() {
-        return Err(KeepFault::File);
+        return Err(CommandFault::File);
     }
     Ok(())
 }
 
 /// Prints bytes in this form. `File` if the output failed.
-fn put_as<W: Write>(out: &mut W, form: ByteForm, bytes: &[u8]) -> Result<(), KeepFault>
+fn put_as<W: Write>(out: &mut W, form: ByteForm, bytes: &[u8]) -> Result<(), CommandFault>
     ensures ok { OnOk result (Appends (W.contents out.old) (W.contents out.new) (bytes_as form bytes.now)) }
     ensures err { IfErr result (λ fault. fault ≡ faults.File) }
 {
@@ -46,7 +45,7 @@ fn put_block<W: Write>(
     place: Place,
     last: u8,
     form: ByteForm,
-) -> Result<(), KeepFault>
+) -> Result<(), CommandFault>
     ensures ok { OnOk result (Appends (W.contents out.old) (W.contents out.new)
         (bytes_as form (take (max last 1 - 1) (drop 2 (sector (disk_image disk.old) place))))) }
     ensures same { disk_image disk.new ≡ disk_image disk.old }
@@ -64,7 +63,7 @@ fn put_blocks<W: Write>(
     disk: &mut MemDisk,
     places: &[Place],
     form: ByteForm,
-) -> Result<(), KeepFault>
+) -> Result<(), CommandFault>
     ensures ok { OnOk result (Appends (W.contents out.old) (W.contents out.new)
         (bytes_as form (joined (disk_image disk.old) places.now))) }
     ensures same { disk_image disk.new ≡ disk_image disk.old }
@@ -84,7 +83,7 @@ pub fn put_file<W: Write>(
     blocks: &[Place],
     last: u8,
     form: ByteForm,
-) -> Result<(), KeepFault>
+) -> Result<(), CommandFault>
     ensures ok { OnOk result (Appends (W.contents out.old) (W.contents out.new)
         (bytes_as form (file_bytes (disk_image disk.old) blocks.now last))) }
     ensures same { disk_image disk.new ≡ disk_image disk.old }
@@ -105,17 +104,17 @@ pub fn read_file(
     disk: &mut MemDisk,
     blocks: &[Place],
     last: u8,
-) -> Result<Vec<u8>, KeepFault>
+) -> Result<Vec<u8>, CommandFault>
     requires { length blocks.now ≤ 720 }
     ensures ok { IfOk result (λ bytes. bytes.items ≡ file_bytes (disk_image disk.old) blocks.now last) }
     ensures err { IfErr result (λ fault. fault ≡ faults.NoMemory) }
     ensures same { disk_image disk.new ≡ disk_image disk.old }
 {
     let Ok(mut bytes) = Vec::with_capacity(alloc, 254 * blocks.len()) else {
-        return Err(KeepFault::NoMemory);
+        return Err(CommandFault::NoMemory);
     };
     match put_file(&mut bytes, disk, blocks, last, ByteForm::Plain) {
         Ok(()) => Ok(bytes),
-        Err(_) => Err(KeepFault::NoMemory),
+        Err(_) => Err(CommandFault::NoMemory),
     }
 }

@@ -4,14 +4,14 @@ ghost use Rattle.byte_text.specs.Lines.{IsLineOf};
 ghost use Rattle.byte_text.specs.Texts.{AreBytes};
 ghost use Rattle.keeper_commands.specs.Stores.{AreLinesOf, CanHave, CanStore, IsFirstBad, NewRecord, TellsLast};
 ghost use Rattle.keeper_commands.specs.Stores.{greatest, new_record};
-ghost use Rattle.keeper_commands.specs.declared.faults.KeepFault.TheVariants as faults;
+ghost use Rattle.command_faults.specs.declared.faults.CommandFault.TheVariants as faults;
 ghost use Rattle.rel_records.specs.File.{length_of, records_in};
 ghost use Rattle.script_lines.specs.Lines.{lines};
 
-use crate::faults::KeepFault;
 use crate::last_lines::LastLines;
 use arrayvec::ArrayVec;
 use byte_text::read_line;
+use command_faults::CommandFault;
 use disk_layout::DATA;
 use rel_records::{RelFile, blocks_for, has_records};
 use script_lines::next_line;
@@ -52,12 +52,12 @@ fn number_of(line: &[u8], file: &RelFile, bytes: &mut ArrayVec<u8, DATA>) -> Opt
 /// Checks the lines of the text, and returns the greatest of their numbers, 0 if there is no line. For each record the
 /// last line is counted in `last`, in which there was none before. `BadLine` for the first line that is of no record that
 /// the file has or can have.
-pub(crate) fn judge(text: &[u8], file: &RelFile, last: &mut LastLines) -> Result<u32, KeepFault>
+pub(crate) fn judge(text: &[u8], file: &RelFile, last: &mut LastLines) -> Result<u32, CommandFault>
     requires { TellsLast last.old.places.items [] }
     ensures ok { IfOk result (λ most. (xs : List NewRecord)
         × AreLinesOf (length_of file.now) (records_in file.now) (lines text.now) xs × (most ≡ greatest xs)
         × TellsLast last.new.places.items xs) }
-    ensures err { IfErr result (λ fault. (k : ℕ) × (fault ≡ faults.BadLine k)
+    ensures err { IfErr result (λ fault. (k : ℕ) × (fault ≡ faults.RecordsLine k)
         × IsFirstBad (length_of file.now) (records_in file.now) (lines text.now) k) }
 {
     let mut most = 0;
@@ -67,7 +67,7 @@ pub(crate) fn judge(text: &[u8], file: &RelFile, last: &mut LastLines) -> Result
     while let Some((line, more)) = next_line(rest) {
         count += 1;
         let Some(number) = number_of(line, file, &mut bytes) else {
-            return Err(KeepFault::BadLine(count));
+            return Err(CommandFault::RecordsLine(count));
         };
         last.count(number, count);
         if number > most {

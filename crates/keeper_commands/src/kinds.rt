@@ -5,7 +5,7 @@ ghost use Rattle.d64_image.specs.Memory.{disk_image};
 ghost use Rattle.disk_layout.specs.Directory.{map_place};
 ghost use Rattle.keeper_commands.specs.Kinds.{HasFormatByte, HasGeosSign, IsKindFault, IsPlainDisk};
 
-use crate::faults::KeepFault;
+use command_faults::CommandFault;
 use d64_image::{MemDisk, Sectors};
 use disk_layout::map_place;
 
@@ -20,7 +20,7 @@ fn has_geos_sign(bytes: &[u8; 256]) -> bool
 }
 
 /// Checks by 18/0 whether the disk is one of the 1541, and none of GEOS: `Geos` or `Format` if it isn't.
-pub(crate) fn judge_kind(disk: &mut MemDisk) -> Result<(), KeepFault>
+pub(crate) fn judge_kind(disk: &mut MemDisk) -> Result<(), CommandFault>
     ensures plain { OnOk result (IsPlainDisk (sector (disk_image disk.old) map_place)) }
     ensures other { IfErr result (IsKindFault (sector (disk_image disk.old) map_place)) }
     ensures same { disk_image disk.new ≡ disk_image disk.old }
@@ -28,10 +28,10 @@ pub(crate) fn judge_kind(disk: &mut MemDisk) -> Result<(), KeepFault>
     let mut bytes = [0; 256];
     let _ = disk.read(map_place(), &mut bytes);
     if has_geos_sign(&bytes) {
-        return Err(KeepFault::Geos);
+        return Err(CommandFault::Geos);
     }
     if bytes[2] != b'A' {
-        return Err(KeepFault::Format);
+        return Err(CommandFault::Format);
     }
     Ok(())
 }

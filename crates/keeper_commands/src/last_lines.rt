@@ -2,9 +2,9 @@
 ghost use Rattle.std.specs.Prelude.{◌≡◌, ◌≢◌, ◌↔◌, ◌<◌, ◌≤◌, ℕ, [], IfErr, IfOk, IsTrue, length, slice_index};
 ghost use Rattle.std.specs.Prelude.{vec_capacity};
 ghost use Rattle.keeper_commands.specs.Stores.{TellsLast};
-ghost use Rattle.keeper_commands.specs.declared.faults.KeepFault.TheVariants as faults;
+ghost use Rattle.command_faults.specs.declared.faults.CommandFault.TheVariants as faults;
 
-use crate::faults::KeepFault;
+use command_faults::CommandFault;
 use std::alloc::Global;
 
 /// One more than the greatest number that a line can have.
@@ -20,13 +20,13 @@ pub(crate) struct LastLines {
 
 impl LastLines {
     /// No line is counted yet. `NoMemory` if there is none for the table.
-    pub(crate) fn none(alloc: Global) -> Result<LastLines, KeepFault>
+    pub(crate) fn none(alloc: Global) -> Result<LastLines, CommandFault>
         ensures ok { IfOk result (λ last. TellsLast last.places.items []) }
         ensures err { IfErr result (λ fault. fault ≡ faults.NoMemory) }
     {
         match Vec::with_capacity(alloc, NUMBERS) {
             Ok(places) => Ok(LastLines { places }),
-            Err(_) => Err(KeepFault::NoMemory),
+            Err(_) => Err(CommandFault::NoMemory),
         }
     }
 

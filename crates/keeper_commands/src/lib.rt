@@ -16,7 +16,6 @@ mod line_printing;
 mod loading;
 mod making;
 mod mending;
-mod output;
 mod piece_printing;
 mod reached_records;
 mod rebuilding;
@@ -28,14 +27,12 @@ mod unclosed_records;
 pub use byte_printing::bytes_image;
 pub use chains::{put_file, read_file};
 pub use column_lines::plain_lines;
-pub use faults::KeepFault;
 pub use finding::{Candidates, length_of_records};
 pub use forms::{ByteForm, ColumnForm, RecordForm};
 pub use laws::{
     columns_come_back, last_lines_count, printed_records_are_stored, records_come_back,
     repairs_print_the_same, stored_again_is_quiet, stored_records_are_so,
 };
-pub use loading::load;
 pub use making::{is_new_name, make_image};
 pub use mending::repair_image;
 pub use piece_printing::put_pieces;

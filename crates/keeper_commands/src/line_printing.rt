@@ -6,14 +6,14 @@ ghost use Rattle.disk_layout.specs.Records as records_of;
 ghost use Rattle.keeper_commands.specs.Forms as forms;
 ghost use Rattle.keeper_commands.specs.Forms.{form_lines_to};
 ghost use Rattle.keeper_commands.specs.Printed.{IsLinePrinted};
-ghost use Rattle.keeper_commands.specs.declared.faults.KeepFault.TheVariants as faults;
+ghost use Rattle.command_faults.specs.declared.faults.CommandFault.TheVariants as faults;
 ghost use Rattle.rel_records.specs.File.{IsOf, OfItsFile};
 ghost use Rattle.rel_records.specs.reading.Kept.{IsKept};
 
-use crate::faults::KeepFault;
 use crate::forms::{ColumnForm, RecordForm};
 use arrayvec::ArrayVec;
 use byte_text::{trim, write_line};
+use command_faults::CommandFault;
 use d64_image::MemDisk;
 use disk_layout::DATA;
 use petscii_text::CharacterSet;
@@ -87,7 +87,7 @@ fn print_line<W: Write>(
     bytes: &mut ArrayVec<u8, DATA>,
     form: RecordForm,
     number: u32,
-) -> Result<(), KeepFault>
+) -> Result<(), CommandFault>
     requires of { IsOf (disk_image disk.old) file.now }
     requires kept { IsKept (disk_image disk.old) file.now last.old }
     requires there { OfItsFile (disk_image disk.old) file.now (λ l n f.
@@ -97,7 +97,7 @@ fn print_line<W: Write>(
 {
     let _ = read_next(disk, file, last, number, bytes);
     if write_form_line(out, form, number, bytes).is_err() {
-        return Err(KeepFault::File);
+        return Err(CommandFault::File);
     }
     Ok(())
 }
@@ -108,7 +108,7 @@ pub(crate) fn print_lines<W: Write>(
     disk: &mut MemDisk,
     file: &RelFile,
     form: RecordForm,
-) -> Result<(), KeepFault>
+) -> Result<(), CommandFault>
     requires of { IsOf (disk_image disk.old) file.now }
     ensures ok { OfItsFile (disk_image disk.old) file.now (λ l n f.
         OnOk result (Appends (W.contents out.old) (W.contents out.new)

@@ -1,29 +1,16 @@
-//! Images taken into memory.
-ghost use Rattle.std.specs.Prelude.{◌≡◌, IfErr, IfOk, MatchOption, OnOk, length};
+//! Images judged in memory.
+ghost use Rattle.std.specs.Prelude.{◌≡◌, IfErr, MatchOption, OnOk, length};
 ghost use Rattle.d64_image.specs.Memory.{disk_image, sectors_in};
 ghost use Rattle.disk_layout.specs.Clean.{IsClean};
 ghost use Rattle.disk_layout.specs.Fault.{Holds, nowhere};
 ghost use Rattle.disk_layout.specs.Layout.{IsSound};
-ghost use Rattle.keeper_commands.specs.Faults.{IsCleanFault, IsLoadFault};
+ghost use Rattle.command_faults.specs.Faults.{IsCleanFault};
 
-use crate::faults::KeepFault;
-use d64_image::{ImageFault, MemDisk};
+use command_faults::{CommandFault, load};
+use d64_image::MemDisk;
 use disk_layout::Fault;
 use layout_check::{check, survey};
 use std::alloc::Global;
-
-/// The disk in memory that holds the image.
-pub fn load(alloc: Global, image: &[u8]) -> Result<MemDisk, KeepFault>
-    ensures ok { IfOk result (λ disk. (length image.now ≡ 174848)
-        × (disk_image disk ≡ sectors_in image.now)) }
-    ensures err { IfErr result (IsLoadFault image.now) }
-{
-    match MemDisk::load(alloc, image) {
-        Ok(disk) => Ok(disk),
-        Err(ImageFault::Size) => Err(KeepFault::ImageSize),
-        Err(ImageFault::NoMemory) => Err(KeepFault::NoMemory),
-    }
-}
 
 /// What is wrong with the disk, if it isn't sound.
 pub(crate) fn unsoundness(disk: &mut MemDisk) -> Option<Fault>
@@ -37,13 +24,13 @@ pub(crate) fn unsoundness(disk: &mut MemDisk) -> Option<Fault>
 }
 
 /// Judges that the image is that of a clean disk.
-pub(crate) fn check_image(alloc: Global, image: &[u8]) -> Result<(), KeepFault>
+pub(crate) fn check_image(alloc: Global, image: &[u8]) -> Result<(), CommandFault>
     ensures ok { OnOk result ((length image.now ≡ 174848) × IsClean (sectors_in image.now)) }
     ensures err { IfErr result (IsCleanFault image.now) }
 {
     let mut disk = load(alloc, image)?;
     match check(&mut disk) {
         Ok(_) => Ok(()),
-        Err(fault) => Err(KeepFault::Layout(fault)),
+        Err(fault) => Err(CommandFault::Layout(fault)),
     }
 }

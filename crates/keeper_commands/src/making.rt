@@ -4,9 +4,9 @@ ghost use Rattle.d64_image.specs.Memory.{sectors_in};
 ghost use Rattle.keeper_commands.specs.Makes.{IsMakeDone, IsMakeFault, IsNewName};
 ghost use Rattle.rel_records.specs.File.{IsLength};
 
-use crate::faults::{KeepFault, refusal};
+use crate::faults::refusal;
 use crate::loading::check_image;
-use crate::output::{flush, put};
+use command_faults::{CommandFault, flush, put};
 use d64_image::Sectors;
 use rel_records::create;
 use std::alloc::Global;
@@ -36,7 +36,7 @@ pub fn make_image<D: Sectors, W: Write>(
     length: u8,
     disk: &mut D,
     out: &mut W,
-) -> Result<(), KeepFault>
+) -> Result<(), CommandFault>
     requires holds { D.history.image disk.old ≡ sectors_in image.now }
     requires name { IsNewName name.now }
     requires length { IsLength length }

@@ -9,12 +9,10 @@ ghost use Rattle.disk_layout.specs.Directory.{map_place};
 ghost use Rattle.keeper_commands.specs.Repairs.{IsRepairDone, IsRepairFault, MendsAs, TellsKeep, changed_text, freed_at};
 ghost use Rattle.keeper_commands.specs.Repairs.{is_freed as freed, mended_at, mended_on, mended_text, repair_fault};
 ghost use Rattle.keeper_commands.specs.Repairs.{kept_text, up_to};
-ghost use Rattle.keeper_commands.specs.declared.faults.KeepFault.TheVariants as faults;
+ghost use Rattle.command_faults.specs.declared.faults.CommandFault.TheVariants as faults;
 
-use crate::faults::KeepFault;
 use crate::kinds::judge_kind;
-use crate::loading::load;
-use crate::output::{flush, put};
+use command_faults::{CommandFault, flush, load, put};
 use d64_image::{MemDisk, Place, Sectors};
 use disk_layout::{BamView, Fault, map_place};
 use layout_check::{repair, repair_keeping};
@@ -35,7 +33,7 @@ struct Maps {
 }
 
 /// The maps of the two disks. `Device` if the second couldn't be read.
-fn maps_of<D: Sectors>(before: &mut MemDisk, after: &mut D) -> Result<Maps, KeepFault>
+fn maps_of<D: Sectors>(before: &mut MemDisk, after: &mut D) -> Result<Maps, CommandFault>
     ensures ok { IfOk result (λ maps. (maps.had ≡ sector (disk_image before.old) map_place)
         × (maps.has ≡ sector (D.history.image after.old) map_place)) }
     ensures same { disk_image before.new ≡ disk_image before.old }
@@ -45,7 +43,7 @@ fn maps_of<D: Sectors>(before: &mut MemDisk, after: &mut D) -> Result<Maps, Keep
     let (mut had, mut has) = ([0; 256], [0; 256]);
     let _ = before.read(map_place(), &mut had);
     if after.read(map_place(), &mut has).is_err() {
-        return Err(KeepFault::Device);
+        return Err(CommandFault::Device);
     }
     Ok(Maps { had, has })
 }
@@ -58,7 +56,7 @@ fn is_freed(maps: &Maps, place: Place) -> bool
 }
 
 /// Prints the line of a sector that became free, if it did.
-fn put_freed<W: Write>(out: &mut W, maps: &Maps, place: Place) -> Result<(), KeepFault>
+fn put_freed<W: Write>(out: &mut W, maps: &Maps, place: Place) -> Result<(), CommandFault>
     ensures ok { OnOk result (Appends (W.contents out.old) (W.contents out.new)
         (freed_at maps.now.had maps.now.has place)) }
     ensures err { IfErr result (λ fault. fault ≡ faults.File) }
@@ -67,7 +65,7 @@ fn put_freed<W: Write>(out: &mut W, maps: &Maps, place: Place) -> Result<(), Kee
         return Ok(());
     }
     if writeln!(out, "FREED {}/{}", place.track(), place.sector()).is_err() {
-        return Err(KeepFault::File);
+        return Err(CommandFault::File);
     }
     Ok(())
 }
@@ -79,7 +77,7 @@ fn put_place<D: Sectors, W: Write>(
     after: &mut D,
     maps: &Maps,
     place: Place,
-) -> Result<(), KeepFault>
+) -> Result<(), CommandFault>
     ensures ok { OnOk result (Appends (W.contents out.old) (W.contents out.new)
         (mended_at (disk_image before.old) (D.history.image after.old) maps.now.had maps.now.has (Some place))) }
     ensures same { disk_image before.new ≡ disk_image before.old }
@@ -89,13 +87,13 @@ fn put_place<D: Sectors, W: Write>(
     let (mut old, mut new) = ([0; 256], [0; 256]);
     let _ = before.read(place, &mut old);
     if after.read(place, &mut new).is_err() {
-        return Err(KeepFault::Device);
+        return Err(CommandFault::Device);
     }
     if old == new {
         return put_freed(out, maps, place);
     }
     if writeln!(out, "MENDED {}/{}", place.track(), place.sector()).is_err() {
-        return Err(KeepFault::File);
+        return Err(CommandFault::File);
     }
     Ok(())
 }
@@ -108,7 +106,7 @@ fn put_sector<D: Sectors, W: Write>(
     maps: &Maps,
     track: u8,
     sector: u8,
-) -> Result<(), KeepFault>
+) -> Result<(), CommandFault>
     ensures ok { OnOk result (Appends (W.contents out.old) (W.contents out.new)
         (mended_at (disk_image before.old) (D.history.image after.old) maps.now.had maps.now.has
         (place_at track sector))) }
@@ -129,7 +127,7 @@ fn put_track<D: Sectors, W: Write>(
     after: &mut D,
     maps: &Maps,
     track: u8,
-) -> Result<(), KeepFault>
+) -> Result<(), CommandFault>
     ensures ok { OnOk result (Appends (W.contents out.old) (W.contents out.new)
         (mended_on (disk_image before.old) (D.history.image after.old) maps.now.had maps.now.has track)) }
     ensures same { disk_image before.new ≡ disk_image before.old }
@@ -148,7 +146,7 @@ fn put_tracks<D: Sectors, W: Write>(
     before: &mut MemDisk,
     after: &mut D,
     maps: &Maps,
-) -> Result<(), KeepFault>
+) -> Result<(), CommandFault>
     ensures ok { OnOk result (Appends (W.contents out.old) (W.contents out.new)
         (up_to 35 (mended_on (disk_image before.old) (D.history.image after.old) maps.now.had maps.now.has))) }
     ensures same { disk_image before.new ≡ disk_image before.old }
@@ -162,7 +160,7 @@ fn put_tracks<D: Sectors, W: Write>(
 }
 
 /// Prints how a repair ends: `OK`, or `KEPT` and how many sectors stay taken that nobody owns. `File` if it failed.
-fn put_kept<W: Write>(out: &mut W, kept: u16) -> Result<(), KeepFault>
+fn put_kept<W: Write>(out: &mut W, kept: u16) -> Result<(), CommandFault>
     ensures ok { OnOk result (Appends (W.contents out.old) (W.contents out.new) (kept_text kept)) }
     ensures err { IfErr result (λ fault. fault ≡ faults.File) }
 {
@@ -170,7 +168,7 @@ fn put_kept<W: Write>(out: &mut W, kept: u16) -> Result<(), KeepFault>
         return put(out, b"OK\n");
     }
     if writeln!(out, "KEPT {kept}").is_err() {
-        return Err(KeepFault::File);
+        return Err(CommandFault::File);
     }
     Ok(())
 }
@@ -180,7 +178,7 @@ pub(crate) fn put_changed<D: Sectors, W: Write>(
     out: &mut W,
     before: &mut MemDisk,
     after: &mut D,
-) -> Result<(), KeepFault>
+) -> Result<(), CommandFault>
     ensures ok { OnOk result (Appends (W.contents out.old) (W.contents out.new)
         (changed_text (disk_image before.old) (D.history.image after.old))) }
     ensures quiet { WritesNothing D.history after.old after.new }
@@ -196,7 +194,7 @@ fn put_mended<D: Sectors, W: Write>(
     before: &mut MemDisk,
     after: &mut D,
     kept: u16,
-) -> Result<(), KeepFault>
+) -> Result<(), CommandFault>
     ensures ok { OnOk result (Appends (W.contents out.old) (W.contents out.new)
         (mended_text (disk_image before.old) (D.history.image after.old) kept)) }
     ensures quiet { WritesNothing D.history after.old after.new }
@@ -209,12 +207,12 @@ fn put_mended<D: Sectors, W: Write>(
 }
 
 /// What is reported if a repair ends with this fault.
-pub(crate) fn refusal(fault: Fault) -> KeepFault
+pub(crate) fn refusal(fault: Fault) -> CommandFault
     ensures { result ≡ repair_fault fault }
 {
     match fault {
-        Fault::Device(_) => KeepFault::Device,
-        fault => KeepFault::Layout(fault),
+        Fault::Device(_) => CommandFault::Device,
+        fault => CommandFault::Layout(fault),
     }
 }
 
@@ -247,7 +245,7 @@ pub fn repair_image<D: Sectors, W: Write>(
     free: bool,
     disk: &mut D,
     out: &mut W,
-) -> Result<u16, KeepFault>
+) -> Result<u16, CommandFault>
     requires holds { D.history.image disk.old ≡ sectors_in image.now }
     ensures ok { IfOk result
         (IsRepairDone free D.history W.contents image.now disk.old disk.new out.old out.new) }

@@ -3,12 +3,12 @@ ghost use Rattle.std.specs.Prelude.{◌≡◌, ◌≤◌, IfErr, OnOk, length};
 ghost use Rattle.std.specs.Io.KnownBytes.{Appends};
 ghost use Rattle.keeper_commands.specs.Forms.{form_line, records_as};
 ghost use Rattle.keeper_commands.specs.Records.{records_of};
-ghost use Rattle.keeper_commands.specs.declared.faults.KeepFault.TheVariants as faults;
+ghost use Rattle.command_faults.specs.declared.faults.CommandFault.TheVariants as faults;
 
-use crate::faults::KeepFault;
 use crate::forms::RecordForm;
 use crate::line_printing::write_form_line;
 use arrayvec::ArrayVec;
+use command_faults::CommandFault;
 use std::io::Write;
 
 /// Prints the line of a record. `File` if the output failed.
@@ -17,7 +17,7 @@ fn put_piece<W: Write>(
     form: RecordForm,
     number: u32,
     record: &[u8],
-) -> Result<(), KeepFault>
+) -> Result<(), CommandFault>
     requires { length record.now ≤ 254 }
     ensures ok { OnOk result (Appends (W.contents out.old) (W.contents out.new) (form_line form number record.now)) }
     ensures err { IfErr result (λ fault. fault ≡ faults.File) }
@@ -25,7 +25,7 @@ fn put_piece<W: Write>(
     let mut bytes = ArrayVec::new();
     let _ = bytes.try_extend_from_slice(record);
     if write_form_line(out, form, number, &bytes).is_err() {
-        return Err(KeepFault::File);
+        return Err(CommandFault::File);
     }
     Ok(())
 }
@@ -37,7 +37,7 @@ pub fn put_pieces<W: Write>(
     form: RecordForm,
     bytes: &[u8],
     size: usize,
-) -> Result<(), KeepFault>
+) -> Result<(), CommandFault>
     requires low { 1 ≤ size }
     requires high { size ≤ 254 }
     requires short { length bytes.now ≤ 182880 }

@@ -9,15 +9,14 @@ ghost use Rattle.keeper_commands.specs.Forms.{records_as};
 ghost use Rattle.keeper_commands.specs.Found.{has_records};
 ghost use Rattle.keeper_commands.specs.Printed.{IsReachedEnd};
 ghost use Rattle.keeper_commands.specs.Records.{records_of};
-ghost use Rattle.keeper_commands.specs.declared.faults.KeepFault.TheVariants as faults;
+ghost use Rattle.command_faults.specs.declared.faults.CommandFault.TheVariants as faults;
 
 use crate::chains::read_file;
-use crate::faults::KeepFault;
 use crate::finding::{Candidates, FoundFile, Kind, find_file};
 use crate::forms::RecordForm;
-use crate::output::flush;
 use crate::piece_printing::put_pieces;
 use arrayvec::ArrayVec;
+use command_faults::{CommandFault, flush};
 use d64_image::{MemDisk, Place};
 use disk_layout::{EntryView, Fault};
 use std::alloc::Global;
@@ -32,7 +31,7 @@ pub(crate) fn put_reached<W: Write>(
     blocks: &[Place],
     form: RecordForm,
     out: &mut W,
-) -> Result<(), KeepFault>
+) -> Result<(), CommandFault>
     requires records { IsTrue (has_records file.slot) }
     requires few { length blocks.now ≤ 720 }
     ensures ok { OnOk result (Appends (W.contents out.old) (W.contents out.new)
@@ -57,15 +56,15 @@ pub(crate) fn reached_records<W: Write>(
     form: RecordForm,
     first: Fault,
     out: &mut W,
-) -> Result<(), KeepFault>
+) -> Result<(), CommandFault>
     requires { Holds nowhere (disk_image disk.old) first }
     ensures { IsErrAnd result (IsReachedEnd W.contents form (disk_image disk.old) name.now out.old out.new) }
 {
     let mut blocks = ArrayVec::new();
     let Ok(file) = find_file(disk, Kind::Records(Candidates::Closed), name, &mut blocks) else {
-        return Err(KeepFault::Layout(first));
+        return Err(CommandFault::Layout(first));
     };
     put_reached(alloc, disk, file, blocks.as_slice(), form, out)?;
     flush(out)?;
-    Err(KeepFault::Layout(file.fault.unwrap_or(first)))
+    Err(CommandFault::Layout(file.fault.unwrap_or(first)))
 }

@@ -3,10 +3,9 @@ ghost use Rattle.std.specs.Prelude.{◌≡◌, IfErr, OnOk};
 ghost use Rattle.d64_image.specs.Memory.{sectors_in};
 ghost use Rattle.keeper_commands.specs.Rebuilds.{IsRebuildDone, IsRebuildFault};
 
-use crate::faults::KeepFault;
 use crate::kinds::judge_kind;
-use crate::loading::load;
 use crate::mending::{put_changed, refusal};
+use command_faults::{CommandFault, load};
 use d64_image::Sectors;
 use side_rebuilding::{Shortened, rebuild_sides};
 use std::alloc::Global;
@@ -28,7 +27,7 @@ pub fn rebuild_image<D: Sectors, W: Write>(
     shortened: Shortened,
     disk: &mut D,
     out: &mut W,
-) -> Result<(), KeepFault>
+) -> Result<(), CommandFault>
     requires holds { D.history.image disk.old ≡ sectors_in image.now }
     ensures ok { OnOk result (IsRebuildDone D.history W.contents image.now disk.old disk.new out.old out.new) }
     ensures err { IfErr result (IsRebuildFault D.history image.now disk.old disk.new out.old out.new) }

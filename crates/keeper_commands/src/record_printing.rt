@@ -6,18 +6,17 @@ ghost use Rattle.disk_layout.specs.Records as records_of;
 ghost use Rattle.keeper_commands.specs.Forms.{records_as};
 ghost use Rattle.keeper_commands.specs.Printed.{AreRecordsPrinted, IsRecordsFault};
 ghost use Rattle.keeper_commands.specs.Records.{HandsOn, IsGathered, records_text};
-ghost use Rattle.keeper_commands.specs.declared.faults.KeepFault.TheVariants as faults;
+ghost use Rattle.command_faults.specs.declared.faults.CommandFault.TheVariants as faults;
 ghost use Rattle.rel_records.specs.File.{IsOf, OfItsFile};
 ghost use Rattle.rel_records.specs.reading.Kept.{IsKept};
 
-use crate::faults::KeepFault;
 use crate::forms::RecordForm;
 use crate::line_printing::print_lines;
-use crate::loading::{load, unsoundness};
-use crate::output::{flush, put};
+use crate::loading::unsoundness;
 use crate::reached_records::reached_records;
 use arrayvec::ArrayVec;
 use byte_text::{LINE_ROOM, put_line};
+use command_faults::{CommandFault, flush, load, put};
 use d64_image::MemDisk;
 use disk_layout::DATA;
 use rel_records::{LastBlock, RelFault, RelFile, find, read_next, records};
@@ -53,7 +52,7 @@ fn gather_line(
 
 /// Passes the first `used` bytes of the room on, if the longest line may find no room after them. Returns how many of its
 /// bytes still count.
-fn hand_on<W: Write>(out: &mut W, room: &[u8; ROOM], used: usize) -> Result<usize, KeepFault>
+fn hand_on<W: Write>(out: &mut W, room: &[u8; ROOM], used: usize) -> Result<usize, CommandFault>
     requires { used ≤ 4096 }
     ensures room { IfOk result (λ start. start + 776 ≤ 4096) }
     ensures ok { IfOk result (λ start. HandsOn (W.contents out.old) (W.contents out.new) (take used room.now)
@@ -68,7 +67,11 @@ fn hand_on<W: Write>(out: &mut W, room: &[u8; ROOM], used: usize) -> Result<usiz
 }
 
 /// Prints the lines of the records of a file, record 1 first.
-fn put_records<W: Write>(out: &mut W, disk: &mut MemDisk, file: &RelFile) -> Result<(), KeepFault>
+fn put_records<W: Write>(
+    out: &mut W,
+    disk: &mut MemDisk,
+    file: &RelFile,
+) -> Result<(), CommandFault>
     requires of { IsOf (disk_image disk.old) file.now }
     ensures ok { OfItsFile (disk_image disk.old) file.now (λ l n f.
         OnOk result (Appends (W.contents out.old) (W.contents out.new)
@@ -100,7 +103,7 @@ fn put_records_as<W: Write>(
     disk: &mut MemDisk,
     file: &RelFile,
     form: RecordForm,
-) -> Result<(), KeepFault>
+) -> Result<(), CommandFault>
     requires of { IsOf (disk_image disk.old) file.now }
     ensures ok { OfItsFile (disk_image disk.old) file.now (λ l n f.
         OnOk result (Appends (W.contents out.old) (W.contents out.new)
@@ -129,7 +132,7 @@ pub fn records_image<W: Write>(
     name: &[u8],
     form: RecordForm,
     out: &mut W,
-) -> Result<(), KeepFault>
+) -> Result<(), CommandFault>
     ensures ok { OnOk result (AreRecordsPrinted W.contents form image.now name.now out.old out.new) }
     ensures err { IfErr result (IsRecordsFault W.contents form image.now name.now out.old out.new) }
 {
@@ -139,8 +142,8 @@ pub fn records_image<W: Write>(
     }
     let file = match find(&mut disk, name) {
         Ok(file) => file,
-        Err(RelFault::NotFound) => return Err(KeepFault::NoFile),
-        Err(_) => return Err(KeepFault::Device),
+        Err(RelFault::NotFound) => return Err(CommandFault::NoFile),
+        Err(_) => return Err(CommandFault::Device),
     };
     put_records_as(out, &mut disk, &file, form)?;
     flush(out)

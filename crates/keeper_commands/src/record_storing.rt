@@ -3,12 +3,12 @@ ghost use Rattle.std.specs.Prelude.{◌≡◌, IfErr, OnOk};
 ghost use Rattle.d64_image.specs.Memory.{sectors_in};
 ghost use Rattle.keeper_commands.specs.Storing.{IsStoreDone, IsStoreFault};
 
-use crate::faults::{KeepFault, refusal};
+use crate::faults::refusal;
 use crate::judging::judge;
 use crate::last_lines::LastLines;
 use crate::loading::check_image;
-use crate::output::flush;
 use crate::storing::store_lines;
+use command_faults::{CommandFault, flush};
 use d64_image::Sectors;
 use rel_records::{find, grow_to};
 use std::alloc::Global;
@@ -38,7 +38,7 @@ pub fn store_image<D: Sectors, W: Write>(
     text: &[u8],
     disk: &mut D,
     out: &mut W,
-) -> Result<(), KeepFault>
+) -> Result<(), CommandFault>
     requires holds { D.history.image disk.old ≡ sectors_in image.now }
     ensures ok { OnOk result (IsStoreDone D.history W.contents image.now name.now text.now disk.old disk.new
         out.old out.new) }

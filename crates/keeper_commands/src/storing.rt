@@ -16,10 +16,10 @@ ghost use Rattle.keeper_commands.specs.Storing.{StoresLines, StoresOne};
 ghost use Rattle.rel_records.specs.File.{IsOf, OfItsFile, length_of, records_in};
 ghost use Rattle.script_lines.specs.Lines.{lines};
 
-use crate::faults::KeepFault;
 use crate::last_lines::LastLines;
 use arrayvec::ArrayVec;
 use byte_text::{read_line, trim, write_line};
+use command_faults::CommandFault;
 use d64_image::Sectors;
 use disk_layout::DATA;
 use rel_records::{RelFile, read_record, write_record};
@@ -32,7 +32,7 @@ fn store_record<D: Sectors>(
     file: &mut RelFile,
     number: u32,
     bytes: &[u8],
-) -> Result<bool, KeepFault>
+) -> Result<bool, CommandFault>
     requires clean { IsClean (D.history.image disk.old) }
     requires of { IsOf (D.history.image disk.old) file.old }
     requires low { 1 ≤ number }
@@ -43,13 +43,13 @@ fn store_record<D: Sectors>(
 {
     let mut old = ArrayVec::new();
     if read_record(disk, file, number, &mut old).is_err() {
-        return Err(KeepFault::Device);
+        return Err(CommandFault::Device);
     }
     if trim(old.as_slice()) == trim(bytes) {
         return Ok(false);
     }
     if write_record(disk, file, number, 1, bytes).is_err() {
-        return Err(KeepFault::Device);
+        return Err(CommandFault::Device);
     }
     Ok(true)
 }
@@ -85,7 +85,7 @@ fn store_line<D: Sectors, W: Write>(
     last: &LastLines,
     bytes: &mut ArrayVec<u8, DATA>,
     out: &mut W,
-) -> Result<(), KeepFault>
+) -> Result<(), CommandFault>
     requires clean { IsClean (D.history.image disk.old) }
     requires of { IsOf (D.history.image disk.old) file.old }
     requires line { (h : ℕ) × (x : NewRecord) × IsLineOf line.now x.number x.bytes × CanStore (length_of file.old) h x
@@ -103,7 +103,7 @@ fn store_line<D: Sectors, W: Write>(
         return Ok(());
     }
     if write_line(out, number, bytes).is_err() {
-        return Err(KeepFault::File);
+        return Err(CommandFault::File);
     }
     Ok(())
 }
@@ -116,7 +116,7 @@ pub(crate) fn store_lines<D: Sectors, W: Write>(
     text: &[u8],
     last: &LastLines,
     out: &mut W,
-) -> Result<(), KeepFault>
+) -> Result<(), CommandFault>
     requires clean { IsClean (D.history.image disk.old) }
     requires of { IsOf (D.history.image disk.old) file.old }
     requires lines { (h : ℕ) × (xs : List NewRecord) × AreLinesOf (length_of file.old) h (lines text.now) xs

@@ -3,13 +3,11 @@ ghost use Rattle.std.specs.Prelude.{IfErr, None, OnOk};
 ghost use Rattle.keeper_commands.specs.Printed.{AreUnclosedPrinted, IsUnclosedFault};
 
 use crate::byte_printing::{ended, no_file};
-use crate::faults::KeepFault;
 use crate::finding::{Candidates, Kind, find_file};
 use crate::forms::RecordForm;
-use crate::loading::load;
-use crate::output::flush;
 use crate::reached_records::put_reached;
 use arrayvec::ArrayVec;
+use command_faults::{CommandFault, flush, load};
 use std::alloc::Global;
 use std::io::Write;
 
@@ -24,7 +22,7 @@ pub fn unclosed_records_image<W: Write>(
     name: &[u8],
     form: RecordForm,
     out: &mut W,
-) -> Result<(), KeepFault>
+) -> Result<(), CommandFault>
     ensures ok { OnOk result (AreUnclosedPrinted W.contents form image.now name.now out.old out.new None) }
     ensures err { IfErr result (IsUnclosedFault W.contents form image.now name.now out.old out.new) }
 {

@@ -5,8 +5,8 @@ use Rattle.std.specs.Prelude.{IfErr, OnOk, codes}
 use Rattle.std.specs.Io.KnownBytes.{Appends}
 use Rattle.host_session.specs.runs.Outputs.{AppendsPart}
 use Rattle.system_files.proofs.Filled.{in_three}
-use Rattle.shop_commands.specs.declared.faults.RunFault.{RunFault}
-use Rattle.shop_commands.specs.declared.faults.RunFault.TheVariants as run
+use Rattle.command_faults.specs.declared.faults.CommandFault.{CommandFault}
+use Rattle.command_faults.specs.declared.faults.CommandFault.TheVariants as faults
 use Rattle.ledger_cli.specs.Making.{AreWritten, AreWrittenInPart, IsImageCopied, IsImageHanded, image_writes}
 use Rattle.ledger_cli.proofs.Put.{image_put}
 
@@ -32,17 +32,17 @@ image_handed position bytes contents old new image size w = record {
 module _ {F W : Type 0} (position : F → Option ℕ) (bytes contents : F → Option (List ℕ)) (told : W → Option (List ℕ))
     (image : List ℕ) (file after : F) (old new : W) (size : length image ≡ 174848) where
   -- the file failed
-  pub copied_in_part : (fault : RunFault)
-      → (fault ≡ run.File) × AreWrittenInPart position bytes contents file after (image_writes image)
+  pub copied_in_part : (fault : CommandFault)
+      → (fault ≡ faults.File) × AreWrittenInPart position bytes contents file after (image_writes image)
       → new ≡ old → IsImageCopied position bytes contents told image file after old new (Err fault)
   copied_in_part fault part silent =
       subst (λ f. IsImageCopied position bytes contents told image file after old new (Err f)) (sym part.0)
       (size, inl (part.1, silent))
 
   -- it was copied, and that was said, or a part of it
-  pub copied : IsImageHanded position bytes contents image file after → (result : Result Unit RunFault)
+  pub copied : IsImageHanded position bytes contents image file after → (result : Result Unit CommandFault)
       → OnOk result (Appends (told old) (told new) (codes "COPIED\n"))
-      → IfErr result (λ fault. (fault ≡ run.File) × AppendsPart (told old) (told new) (codes "COPIED\n"))
+      → IfErr result (λ fault. (fault ≡ faults.File) × AppendsPart (told old) (told new) (codes "COPIED\n"))
       → IsImageCopied position bytes contents told image file after old new result
   copied whole (Ok _) said part = (size, whole, said)
   copied whole (Err fault) said part =

@@ -5,8 +5,8 @@ use Rattle.std.specs.Prelude.{IfErr, None, OnOk, codes}
 use Rattle.std.specs.Io.KnownBytes.{Appends}
 use Rattle.host_session.specs.runs.Outputs.{AppendsPart}
 use Rattle.system_files.proofs.Filled.{in_three}
-use Rattle.shop_commands.specs.declared.faults.RunFault.{RunFault}
-use Rattle.shop_commands.specs.declared.faults.RunFault.TheVariants as run
+use Rattle.command_faults.specs.declared.faults.CommandFault.{CommandFault}
+use Rattle.command_faults.specs.declared.faults.CommandFault.TheVariants as faults
 use Rattle.d64_image.specs.Mirrors.{IsHanded}
 use Rattle.ledger_cli.specs.Making.{AreWritten, AreWrittenInPart, IsHandedPart, IsImageBegun, IsImageMade, IsImageWritten}
 use Rattle.ledger_cli.specs.Making.{IsWriting, Piece, image_writes}
@@ -38,16 +38,16 @@ module _ {F : Type 0} (position : F → Option ℕ) (bytes contents : F → Opti
 module _ {F W : Type 0} (position : F → Option ℕ) (bytes contents : F → Option (List ℕ)) (told : W → Option (List ℕ))
     (Is : List ℕ → Type 0) (file new_file : F) (old new : W) where
   -- there was no memory for the disk
-  pub not_made : (result : Result Unit RunFault) (fault : RunFault) → result ≡ Err fault → fault ≡ run.NoMemory
+  pub not_made : (result : Result Unit CommandFault) (fault : CommandFault) → result ≡ Err fault → fault ≡ faults.NoMemory
       → new_file ≡ file → new ≡ old → IsImageMade position bytes contents told Is file new_file old new result
   not_made result fault is why same silent =
       subst (IsImageMade position bytes contents told Is file new_file old new) (sym is)
       (subst (λ f. IsImageMade position bytes contents told Is file new_file old new (Err f)) (sym why) (same, silent))
 
   -- the file failed
-  pub made_in_part : (image : List ℕ) → Is image → (result : Result Unit RunFault) (fault : RunFault)
+  pub made_in_part : (image : List ℕ) → Is image → (result : Result Unit CommandFault) (fault : CommandFault)
       → result ≡ Err fault
-      → (fault ≡ run.File) × AreWrittenInPart position bytes contents file new_file (image_writes image)
+      → (fault ≡ faults.File) × AreWrittenInPart position bytes contents file new_file (image_writes image)
       → new ≡ old → IsImageMade position bytes contents told Is file new_file old new result
   made_in_part image fresh result fault is part silent =
       subst (IsImageMade position bytes contents told Is file new_file old new) (sym is)
@@ -55,9 +55,9 @@ module _ {F W : Type 0} (position : F → Option ℕ) (bytes contents : F → Op
       (inl (record { image = image; is = fresh; written = part.1 }, silent)))
 
   -- it was made, and that was said, or a part of it
-  pub made : IsImageWritten position bytes contents Is file new_file → (result : Result Unit RunFault)
+  pub made : IsImageWritten position bytes contents Is file new_file → (result : Result Unit CommandFault)
       → OnOk result (Appends (told old) (told new) (codes "FORMATTED\n"))
-      → IfErr result (λ fault. (fault ≡ run.File) × AppendsPart (told old) (told new) (codes "FORMATTED\n"))
+      → IfErr result (λ fault. (fault ≡ faults.File) × AppendsPart (told old) (told new) (codes "FORMATTED\n"))
       → IsImageMade position bytes contents told Is file new_file old new result
   made whole (Ok _) said part = (whole, said)
   made whole (Err fault) said part =
@@ -66,8 +66,8 @@ module _ {F W : Type 0} (position : F → Option ℕ) (bytes contents : F → Op
 
 module _ {F : Type 0} (position : F → Option ℕ) (bytes contents : F → Option (List ℕ)) (old : F) where
   -- the file failed in the last of these pieces
-  pub writing_failed : (new : F) (ps : List Piece) (result : Result Unit RunFault) (fault : RunFault) → result ≡ Err fault
-      → fault ≡ run.File → AreWrittenInPart position bytes contents old new ps
+  pub writing_failed : (new : F) (ps : List Piece) (result : Result Unit CommandFault) (fault : CommandFault) → result ≡ Err fault
+      → fault ≡ faults.File → AreWrittenInPart position bytes contents old new ps
       → IsWriting position bytes contents old new ps result
   writing_failed new ps result fault is file part =
       subst (IsWriting position bytes contents old new ps) (sym is) (file, part)
@@ -77,9 +77,9 @@ module _ {F : Type 0} (position : F → Option ℕ) (bytes contents : F → Opti
       → IsHanded position bytes contents None old a 91648 (replicate 256 255)
       → IsHanded position bytes contents None a b 0 (take 91648 image)
       → IsHanded position bytes contents None b c 91904 (drop 91904 image)
-      → (result : Result Unit RunFault)
+      → (result : Result Unit CommandFault)
       → OnOk result (IsHanded position bytes contents None c new 91648 (take 256 (drop 91648 image)))
-      → IfErr result (λ fault. (fault ≡ run.File)
+      → IfErr result (λ fault. (fault ≡ faults.File)
       × IsHandedPart position bytes contents c new 91648 (take 256 (drop 91648 image)))
       → IsWriting position bytes contents old new (image_writes image) result
   written_whole a b c new image x y z (Ok _) ok err = (a, x, (b, y, (c, z, (new, ok, refl))))

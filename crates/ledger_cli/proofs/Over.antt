@@ -7,8 +7,8 @@ use Rattle.host_session.specs.declared.events.printing.Printer.{Printer}
 use Rattle.ledger_cli.specs.Runs.{IsOverFile, IsServiceEnd, IsServiceFault}
 use Rattle.ledger_cli.specs.Streams.{IsBegun, WhyUnbegun, stream_file}
 use Rattle.shop_commands.specs.Plays.{IsUntouched}
-use Rattle.shop_commands.specs.declared.faults.RunFault.{RunFault}
-use Rattle.shop_commands.specs.declared.faults.RunFault.TheVariants as run
+use Rattle.command_faults.specs.declared.faults.CommandFault.{CommandFault}
+use Rattle.command_faults.specs.declared.faults.CommandFault.TheVariants as faults
 use Rattle.ledger_jobs.specs.Ends.{Ended, JobEnd}
 use Rattle.ledger_jobs.specs.FileServes.{IsServeFault, IsUnserved}
 use Rattle.ledger_jobs.specs.Serves.{IsServeRun}
@@ -25,7 +25,7 @@ module _ {F W : Type 0} (image : List ℕ) (file after : Option F) (old new : W)
       inr (record { before = before; left = left; begun = begun.0; is_file = begun.1; is_left = is; run = run })
 
   -- it wasn't begun
-  pub unbegun : (fault : RunFault) → end ≡ Err (refusals.Run fault) → (after ≡ file) × WhyUnbegun image file fault
+  pub unbegun : (fault : CommandFault) → end ≡ Err (refusals.Fault fault) → (after ≡ file) × WhyUnbegun image file fault
       → new ≡ old → IsOverFile image file after old new end P
   unbegun fault is why silent = inl (record { fault = fault; is = is; why = why.1; same = why.0; silent = silent })
 
@@ -36,19 +36,19 @@ module _ {F R W : Type 0} (K : Keeps F) (i : Input R) (a : Answering (Printer (M
   lent : IsUnserved file after old_in new_in old new → IsUntouched file after first last
   lent u = (u.0.0, is (ap (λ p. p.out.ghost_name) (sym u.0.1)) ∙ ap (λ p. p.out.now) u.0.1 ∙ was)
 
-  fault_end : (fault : RunFault) → IsServeFault K i a image file after old_in new_in old new fault
+  fault_end : (fault : CommandFault) → IsServeFault K i a image file after old_in new_in old new fault
       → IsServiceFault image file after first last fault
-  fault_end run.ImageSize x = (x.0, lent x.1)
-  fault_end run.NoMemory x = (x.0, lent x.1)
-  fault_end run.File x = ⊎_elim (λ y. y.size) (λ y. y.size) x.1
-  fault_end run.Device x = ⊎_elim (λ y. y.size) (λ y. y.1.size) x.1
-  fault_end (run.BadLine line) x = x
-  fault_end (run.Layout fault) x = (x.0, lent x.1)
-  fault_end run.NoStock x = (x.0, lent x.1)
-  fault_end run.NoRequests x = (x.0, lent x.1)
-  fault_end (run.BadCard item) x = (x.0, lent x.1)
-  fault_end (run.BadRequestCard till) x = (x.0, lent x.1)
-  fault_end run.TwoIntents x = (x.0, lent x.1)
+  fault_end faults.ImageSize x = (x.0, lent x.1)
+  fault_end faults.NoMemory x = (x.0, lent x.1)
+  fault_end faults.File x = ⊎_elim (λ y. y.size) (λ y. y.size) x.1
+  fault_end faults.Device x = ⊎_elim (λ y. y.size) (λ y. y.1.size) x.1
+  fault_end (faults.ScriptLine line) x = x
+  fault_end (faults.Layout fault) x = (x.0, lent x.1)
+  fault_end faults.NoStock x = (x.0, lent x.1)
+  fault_end faults.NoRequests x = (x.0, lent x.1)
+  fault_end (faults.BadCard item) x = (x.0, lent x.1)
+  fault_end (faults.BadRequestCard till) x = (x.0, lent x.1)
+  fault_end faults.TwoIntents x = (x.0, lent x.1)
 
   pub service_end : (ended : Ended) → IsServeRun K i a image file after old_in new_in old new ended
       → IsServiceEnd image file after first last ended

@@ -7,8 +7,8 @@ use Rattle.d64_image.specs.Memory.{sectors_in}
 use Rattle.host_session.specs.events.Telling.{Output}
 use Rattle.host_session.specs.shop.Shop.{IsShop, Shop}
 use Rattle.shop_commands.specs.Plays.{IsFileFault, IsPlayEnd, IsPlayedOver, IsUntouched}
-use Rattle.shop_commands.specs.declared.faults.RunFault.{RunFault}
-use Rattle.shop_commands.specs.declared.faults.RunFault.TheVariants as run
+use Rattle.command_faults.specs.declared.faults.CommandFault.{CommandFault}
+use Rattle.command_faults.specs.declared.faults.CommandFault.TheVariants as faults
 use Rattle.ledger_jobs.specs.Ends.{Ended}
 use Rattle.ledger_jobs.specs.Runs.{IsPlayRun}
 use Rattle.disk_layout.specs.declared.faults.Fault.{Fault}
@@ -19,7 +19,7 @@ module _ {D T : Type 0} (h : History D) (o : Output T) (disk : D) (script : List
   at_ok : IsPlayEnd h o disk script old new (Ok left) → h.reached disk left
   at_ok x = (x.0.moments s is).reached
 
-  at_err : (fault : RunFault) → IsPlayEnd h o disk script old new (Err (fault, left)) → h.reached disk left
+  at_err : (fault : CommandFault) → IsPlayEnd h o disk script old new (Err (fault, left)) → h.reached disk left
   at_err fault x = ⊎_elim (λ y. (y.1.moments s is).reached) (λ y. (y.2.moments s is).reached) x
 
 module _ {F T : Type 0} (K : Keeps F) (o : Output T) (image script : List ℕ) (file after : F) (old new : T) (s : Shop)
@@ -28,7 +28,7 @@ module _ {F T : Type 0} (K : Keeps F) (o : Output T) (image script : List ℕ) (
   over_ok u = subst₂ (λ (a b : F). K.reached a b) u.is_file u.is_after
       (at_ok _ o u.disk script old new u.left s (subst (λ img. IsShop img s) (sym u.holds) is) u.ends).0
 
-  over_err : (fault : RunFault) → IsPlayedOver K o image script file after old new (λ left. Err (fault, left))
+  over_err : (fault : CommandFault) → IsPlayedOver K o image script file after old new (λ left. Err (fault, left))
       → K.reached file after
   over_err fault u = subst₂ (λ (a b : F). K.reached a b) u.is_file u.is_after
       (at_err _ o u.disk script old new u.left s (subst (λ img. IsShop img s) (sym u.holds) is) fault u.ends).0
@@ -36,18 +36,18 @@ module _ {F T : Type 0} (K : Keeps F) (o : Output T) (image script : List ℕ) (
   untouched : IsUntouched file after old new → K.reached file after
   untouched u = subst (λ (f : F). K.reached file f) (sym u.0) (K.reached_same file)
 
-  fault_reached : (fault : RunFault) → IsFileFault K o image script file after old new fault → K.reached file after
-  fault_reached run.ImageSize x = untouched x.1
-  fault_reached run.NoMemory x = untouched x.1
-  fault_reached (run.BadLine line) x = untouched x.2
-  fault_reached run.File x = over_err run.File x.1
-  fault_reached run.Device x = ⊎_elim over_ok (λ y. over_err y.0 y.1) x.1
-  fault_reached (run.Layout f) x = untouched x.2
-  fault_reached run.NoStock x = untouched x.2
-  fault_reached run.NoRequests x = untouched x.2
-  fault_reached (run.BadCard r) x = untouched x.2
-  fault_reached (run.BadRequestCard t) x = untouched x.2
-  fault_reached run.TwoIntents x = untouched x.2
+  fault_reached : (fault : CommandFault) → IsFileFault K o image script file after old new fault → K.reached file after
+  fault_reached faults.ImageSize x = untouched x.1
+  fault_reached faults.NoMemory x = untouched x.1
+  fault_reached (faults.ScriptLine line) x = untouched x.2
+  fault_reached faults.File x = over_err faults.File x.1
+  fault_reached faults.Device x = ⊎_elim over_ok (λ y. over_err y.0 y.1) x.1
+  fault_reached (faults.Layout f) x = untouched x.2
+  fault_reached faults.NoStock x = untouched x.2
+  fault_reached faults.NoRequests x = untouched x.2
+  fault_reached (faults.BadCard r) x = untouched x.2
+  fault_reached (faults.BadRequestCard t) x = untouched x.2
+  fault_reached faults.TwoIntents x = untouched x.2
 
   -- however the play ended
   pub played_reached : (ended : Ended) → IsPlayRun K o image script file after old new ended → K.reached file after

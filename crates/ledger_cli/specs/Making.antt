@@ -4,8 +4,8 @@ use Rattle.std.specs.Io.KnownBytes.{Appends, Keeps}
 use Rattle.std.specs.Io.Seek.{StaysAt}
 use Rattle.d64_image.specs.Mirrors.{IsHanded, IsSought}
 use Rattle.host_session.specs.runs.Outputs.{AppendsPart}
-use Rattle.shop_commands.specs.declared.faults.RunFault.{RunFault}
-use Rattle.shop_commands.specs.declared.faults.RunFault.TheVariants as run
+use Rattle.command_faults.specs.declared.faults.CommandFault.{CommandFault}
+use Rattle.command_faults.specs.declared.faults.CommandFault.TheVariants as faults
 use Rattle.system_files.specs.Remains.{put_in}
 
 -- Bytes, and where they go in a file.
@@ -43,9 +43,9 @@ module _ {F : Type 0} (position : F → Option ℕ) (bytes contents : F → Opti
       ⊎ ((next : F) × IsHanded position bytes contents None old next p.at p.bytes × AreWrittenInPart next new ps)
 
   -- what writing these pieces came to
-  abbrev pub IsWriting : F → F → List Piece → Result Unit RunFault → Type 0
+  abbrev pub IsWriting : F → F → List Piece → Result Unit CommandFault → Type 0
   IsWriting old new ps (Ok _) = AreWritten old new ps
-  IsWriting old new ps (Err fault) = (fault ≡ run.File) × AreWrittenInPart old new ps
+  IsWriting old new ps (Err fault) = (fault ≡ faults.File) × AreWrittenInPart old new ps
 
   -- This is what a file holds: bytes that it is handed at n stand there, in the place of those from n on.
   abbrev pub SaysWhatItHolds : (F → Option (List ℕ)) → Type 0
@@ -77,12 +77,12 @@ module _ {F : Type 0} (position : F → Option ℕ) (bytes contents : F → Opti
   -- what copying an image and printing that came to. All of it was written, and the message was printed; or it has
   -- another size, and nothing was done. Or the file failed, and nothing was printed; or the output failed
   abbrev pub IsImageCopied : {W : Type 0} → (W → Option (List ℕ)) → (image : List ℕ) → F → F → W → W
-      → Result Unit RunFault → Type 0
+      → Result Unit CommandFault → Type 0
   IsImageCopied told image file after old new (Ok _) = (length image ≡ 174848)
       × IsImageHanded image file after × Appends (told old) (told new) (codes "COPIED\n")
-  IsImageCopied told image file after old new (Err run.ImageSize) =
+  IsImageCopied told image file after old new (Err faults.ImageSize) =
       (length image ≢ 174848) × (after ≡ file) × (new ≡ old)
-  IsImageCopied told image file after old new (Err run.File) = (length image ≡ 174848)
+  IsImageCopied told image file after old new (Err faults.File) = (length image ≡ 174848)
       × ((AreWrittenInPart file after (image_writes image) × (new ≡ old))
       ⊎ (IsImageHanded image file after × AppendsPart (told old) (told new) (codes "COPIED\n")))
   IsImageCopied told image file after old new (Err _) = ⊥
@@ -90,11 +90,11 @@ module _ {F : Type 0} (position : F → Option ℕ) (bytes contents : F → Opti
   -- what making such an image and printing that came to. All of it was written, and the message was printed; or the file
   -- failed, and nothing was printed. Or the output failed; or there was no memory, and nothing was done
   abbrev pub IsImageMade : {W : Type 0} → (W → Option (List ℕ)) → (List ℕ → Type 0) → F → F → W → W
-      → Result Unit RunFault → Type 0
+      → Result Unit CommandFault → Type 0
   IsImageMade told Is file after old new (Ok _) =
       IsImageWritten Is file after × Appends (told old) (told new) (codes "FORMATTED\n")
-  IsImageMade told Is file after old new (Err run.File) =
+  IsImageMade told Is file after old new (Err faults.File) =
       (IsImageBegun Is file after × (new ≡ old))
       ⊎ (IsImageWritten Is file after × AppendsPart (told old) (told new) (codes "FORMATTED\n"))
-  IsImageMade told Is file after old new (Err run.NoMemory) = (after ≡ file) × (new ≡ old)
+  IsImageMade told Is file after old new (Err faults.NoMemory) = (after ≡ file) × (new ≡ old)
   IsImageMade told Is file after old new (Err _) = ⊥

@@ -9,23 +9,23 @@ use Rattle.file_changes.specs.declared.file_type.FileType.{FileType}
 use Rattle.host_session.specs.runs.Outputs.{AppendsPart, written}
 use Rattle.shop_commands.specs.Plays.{IsUntouched}
 use Rattle.shop_commands.specs.Shops.{IsOpenRefusal}
-use Rattle.shop_commands.specs.declared.faults.RunFault.{RunFault}
-use Rattle.shop_commands.specs.declared.faults.RunFault.TheVariants as run
+use Rattle.command_faults.specs.declared.faults.CommandFault.{CommandFault}
+use Rattle.command_faults.specs.declared.faults.CommandFault.TheVariants as faults
 use Rattle.ledger_jobs.specs.Comparisons.{IsComparingRun}
 use Rattle.ledger_jobs.specs.Drawings.{IsDrawingRun}
 use Rattle.ledger_jobs.specs.Edited.{IsDeleteOver, IsRenameOver}
 use Rattle.ledger_jobs.specs.EditRefusals.{IsEditEnd}
-use Rattle.ledger_jobs.specs.Ends.{Ended, EndsAs, JobEnd, as_drawn, as_job, end_of, end_status, refusal_line}
+use Rattle.ledger_jobs.specs.Ends.{Ended, EndsAs, JobEnd, as_job, as_run, end_status, refusal_line}
 use Rattle.ledger_jobs.specs.Keeping.{IsDryRepair, IsRepairOver}
 use Rattle.ledger_jobs.specs.Kept.{IsMakeOver, IsStoreOver}
-use Rattle.ledger_jobs.specs.Listings.{IsListingRun, as_listed}
-use Rattle.ledger_jobs.specs.Losses.{IsEditedEndOf, IsEndOf, IsGuarded, IsKeptEndOf, IsRepairedEndOf, IsTakingEnd}
+use Rattle.ledger_jobs.specs.Listings.{IsListingRun}
+use Rattle.ledger_jobs.specs.Losses.{IsEndOf, IsEndOfRun, IsGuarded, IsRepairedEndOf, IsTakingEnd}
 use Rattle.ledger_jobs.specs.Names.{name_bytes}
 use Rattle.ledger_jobs.specs.NewDisks.{IsNewImage}
 use Rattle.ledger_jobs.specs.Puts.{IsPutOver}
 use Rattle.shop_commands.specs.Images.{AreFreshBytes}
 use Rattle.ledger_jobs.specs.Runs.{IsPlayRun, IsReadingEnd}
-use Rattle.ledger_jobs.specs.Views.{IsViewRun, as_viewed}
+use Rattle.ledger_jobs.specs.Views.{IsViewRun}
 use Rattle.ledger_jobs.specs.declared.jobs.Job.{Job}
 use Rattle.ledger_jobs.specs.declared.jobs.Job.TheVariants as jobs
 use Rattle.ledger_jobs.specs.declared.jobs.Effect.{Effect}
@@ -47,12 +47,12 @@ IsRead contents what bytes old new end = EndsAs as_job end (IsReadingEnd content
 -- a check of these bytes, of the first fault or of all, ended so
 abbrev pub IsChecked : {W : Type 0} → (W → Option (List ℕ)) → Findings → List ℕ → W → W → JobEnd → Type 0
 IsChecked contents findings.First image old new end = IsRead contents readings.Check image old new end
-IsChecked contents findings.All image old new end = EndsAs as_listed end (IsListingRun contents image old new)
+IsChecked contents findings.All image old new end = EndsAs as_job end (IsListingRun contents image old new)
 
 -- A job that writes an image wasn't begun: the file and the output are as they were.
 pub record IsUnbegun {F W : Type 0} (image : List ℕ) (file after : Option F) (old new : W) (end : JobEnd) : Type 0 where
-  pub fault : RunFault
-  pub is : end ≡ Err (refusals.Run fault)
+  pub fault : CommandFault
+  pub is : end ≡ Err (refusals.Fault fault)
   pub why : WhyUnbegun image file fault
   pub same : after ≡ file
   pub silent : new ≡ old
@@ -74,12 +74,12 @@ IsOverFile image file after old new end P = IsUnbegun image file after old new e
 
 -- Why a shop wasn't served to the input's end: the image's size, no memory, or that it is no shop's, and then nothing was
 -- done; or the file or the output failed.
-abbrev pub IsServiceFault : {F W : Type 0} → (image : List ℕ) → F → F → W → W → RunFault → Type 0
-IsServiceFault image file after old new run.ImageSize = (length image ≢ 174848) × IsUntouched file after old new
-IsServiceFault image file after old new run.NoMemory = (length image ≡ 174848) × IsUntouched file after old new
-IsServiceFault image file after old new run.File = length image ≡ 174848
-IsServiceFault image file after old new run.Device = length image ≡ 174848
-IsServiceFault image file after old new (run.BadLine line) = ⊥
+abbrev pub IsServiceFault : {F W : Type 0} → (image : List ℕ) → F → F → W → W → CommandFault → Type 0
+IsServiceFault image file after old new faults.ImageSize = (length image ≢ 174848) × IsUntouched file after old new
+IsServiceFault image file after old new faults.NoMemory = (length image ≡ 174848) × IsUntouched file after old new
+IsServiceFault image file after old new faults.File = length image ≡ 174848
+IsServiceFault image file after old new faults.Device = length image ≡ 174848
+IsServiceFault image file after old new (faults.ScriptLine line) = ⊥
 IsServiceFault image file after old new fault = IsOpenRefusal image fault × IsUntouched file after old new
 
 -- A service ended so: the shop of the image was served to the input's end, or it wasn't for this reason.
@@ -95,23 +95,23 @@ frees unowned.Kept = false
 module _ {F : Type 0} (position : F → Option ℕ) (bytes contents : F → Option (List ℕ)) {W : Type 0} where
   -- the making of an image over the file ended so; without one it isn't made
   abbrev pub IsFormatted : (W → Option (List ℕ)) → ℕ → Option F → Option F → W → W → JobEnd → Type 0
-  IsFormatted told tills None after old new end = (after ≡ None) × (new ≡ old) × (end ≡ Err (refusals.Run run.File))
+  IsFormatted told tills None after old new end = (after ≡ None) × (new ≡ old) × (end ≡ Err (refusals.Fault faults.File))
   IsFormatted told tills (Some file) after old new end = (left : F) × (after ≡ Some left)
-      × EndsAs (λ ended. as_job (end_of ended)) end
+      × EndsAs as_run end
       (IsImageMade position bytes contents told (AreFreshBytes tills) file left old new)
 
   -- the making of the image of an empty disk did
   abbrev pub IsNewMade : (W → Option (List ℕ)) → (name id : List ℕ) → Option F → Option F → W → W → JobEnd → Type 0
-  IsNewMade told name id None after old new end = (after ≡ None) × (new ≡ old) × (end ≡ Err (refusals.Run run.File))
+  IsNewMade told name id None after old new end = (after ≡ None) × (new ≡ old) × (end ≡ Err (refusals.Fault faults.File))
   IsNewMade told name id (Some file) after old new end = (left : F) × (after ≡ Some left)
-      × EndsAs (λ ended. as_job (end_of ended)) end
+      × EndsAs as_run end
       (IsImageMade position bytes contents told (IsNewImage name id) file left old new)
 
   -- the copy of the image to the file ended so; without a file it isn't made
   abbrev pub IsCopyJob : (W → Option (List ℕ)) → List ℕ → Option F → Option F → W → W → JobEnd → Type 0
-  IsCopyJob told image None after old new end = (after ≡ None) × (new ≡ old) × (end ≡ Err (refusals.Run run.File))
+  IsCopyJob told image None after old new end = (after ≡ None) × (new ≡ old) × (end ≡ Err (refusals.Fault faults.File))
   IsCopyJob told image (Some file) after old new end = (left : F) × (after ≡ Some left)
-      × EndsAs (λ ended. as_job (end_of ended)) end (IsImageCopied position bytes contents told image file left old new)
+      × EndsAs as_run end (IsImageCopied position bytes contents told image file left old new)
 
   -- the play of a script did
   abbrev pub IsPlayed : (W → Option (List ℕ)) → (image script : List ℕ) → Option F → Option F → W → W → JobEnd → Type 0
@@ -144,14 +144,14 @@ module _ {F : Type 0} (position : F → Option ℕ) (bytes contents : F → Opti
       → Type 0
   IsMade told image name L loss file after old new end = IsOverFile image file after old new end
       (λ f left. IsGuarded image loss (IsUntouched f left old new)
-      (IsKeptEndOf (IsMakeOver (stream position bytes contents) told image name L f left old new)) end)
+      (IsEndOfRun (IsMakeOver (stream position bytes contents) told image name L f left old new)) end)
 
   -- the storing of records in one did
   abbrev pub IsStored : (W → Option (List ℕ)) → (image name text : List ℕ) → Loss → Option F → Option F → W → W
       → JobEnd → Type 0
   IsStored told image name text loss file after old new end = IsOverFile image file after old new end
       (λ f left. IsGuarded image loss (IsUntouched f left old new)
-      (IsKeptEndOf (IsStoreOver (stream position bytes contents) told image name text f left old new)) end)
+      (IsEndOfRun (IsStoreOver (stream position bytes contents) told image name text f left old new)) end)
 
   -- the renaming of a file did
   abbrev pub IsRenamed : (W → Option (List ℕ)) → (image from to : List ℕ) → Option F → Option F → W → W → JobEnd
@@ -171,7 +171,7 @@ module _ {F : Type 0} (position : F → Option ℕ) (bytes contents : F → Opti
       → JobEnd → Type 0
   IsPut told image name kind given file after old new end = IsOverFile image file after old new end
       (λ f left. IsGuarded image losses.Refused (IsUntouched f left old new)
-      (IsEditedEndOf (IsPutOver (stream position bytes contents) told image name kind given f left old new)) end)
+      (IsEndOfRun (IsPutOver (stream position bytes contents) told image name kind given f left old new)) end)
 
   -- what comes of each job: its run over the bytes that it reads, and over the file that it writes
   abbrev pub IsJobRun : (W → Option (List ℕ)) → Job → (image script : List ℕ) → Option F → Option F → W → W → JobEnd
@@ -214,23 +214,23 @@ module _ {F : Type 0} (position : F → Option ℕ) (bytes contents : F → Opti
   IsJobRun told (jobs.Take what path name) image script file after old new end =
       (after ≡ file) × IsTakingEnd told what image (name_bytes name) old new end
   IsJobRun told (jobs.Draw what path) image script file after old new end =
-      (after ≡ file) × EndsAs as_drawn end (IsDrawingRun told what image old new)
+      (after ≡ file) × EndsAs as_job end (IsDrawingRun told what image old new)
   IsJobRun told (jobs.View what path) image script file after old new end =
-      (after ≡ file) × EndsAs as_viewed end (IsViewRun told what image old new)
+      (after ≡ file) × EndsAs as_run end (IsViewRun told what image old new)
   IsJobRun told (jobs.Trim path) image script file after old new end =
-      (after ≡ file) × (new ≡ old) × (end ≡ Err (refusals.Run run.File))
+      (after ≡ file) × (new ≡ old) × (end ≡ Err (refusals.Fault faults.File))
   IsJobRun told (jobs.Compare before later) image script file after old new end =
-      (after ≡ file) × EndsAs as_drawn end (IsComparingRun told image script old new)
+      (after ≡ file) × EndsAs as_job end (IsComparingRun told image script old new)
   IsJobRun told (jobs.Several what paths) image script file after old new end =
-      (after ≡ file) × (new ≡ old) × (end ≡ Err (refusals.Run run.File))
+      (after ≡ file) × (new ≡ old) × (end ≡ Err (refusals.Fault faults.File))
   IsJobRun told (jobs.Sheet paths) image script file after old new end =
-      (after ≡ file) × (new ≡ old) × (end ≡ Err (refusals.Run run.File))
+      (after ≡ file) × (new ≡ old) × (end ≡ Err (refusals.Fault faults.File))
   IsJobRun told (jobs.Describe paths) image script file after old new end =
-      (after ≡ file) × (new ≡ old) × (end ≡ Err (refusals.Run run.File))
+      (after ≡ file) × (new ≡ old) × (end ≡ Err (refusals.Fault faults.File))
   IsJobRun told (jobs.RepairSides path loss unowned effect) image script file after old new end =
-      (after ≡ file) × (new ≡ old) × (end ≡ Err (refusals.Run run.File))
+      (after ≡ file) × (new ≡ old) × (end ≡ Err (refusals.Fault faults.File))
   IsJobRun told (jobs.Extract choice path folder) image script file after old new end =
-      (after ≡ file) × (new ≡ old) × (end ≡ Err (refusals.Run run.File))
+      (after ≡ file) × (new ≡ old) × (end ≡ Err (refusals.Fault faults.File))
 
 -- what is reported of a job's end: nothing if it is done; otherwise its line, or a first part of that
 abbrev pub IsEndTold : {E : Type 0} → (E → Option (List ℕ)) → E → E → JobEnd → Type 0

@@ -7,9 +7,9 @@ use Rattle.d64_image.specs.Mirrors.{IsMirrored, is_broken, mirror, mirror_at, mi
 use Rattle.d64_image.specs.declared.device_as_file.DeviceAsFile.{DeviceAsFile}
 use Rattle.d64_image.specs.declared.mirror.Mirror.{Mirror}
 use Rattle.host_session.specs.shop.Shop.{IsShop, Shop}
-use Rattle.shop_commands.specs.Images.{IsLoadFault}
-use Rattle.shop_commands.specs.declared.faults.RunFault.{RunFault}
-use Rattle.shop_commands.specs.declared.faults.RunFault.TheVariants as run
+use Rattle.command_faults.specs.Faults.{IsLoadFault}
+use Rattle.command_faults.specs.declared.faults.CommandFault.{CommandFault}
+use Rattle.command_faults.specs.declared.faults.CommandFault.TheVariants as faults
 
 -- what it keeps: what its memory holds, of which the file was handed each sector first
 abbrev pub stream : {F : Type 0} → (F → Option ℕ) → (F → Option (List ℕ)) → (F → Option (List ℕ)) → Keeps (DeviceAsFile (Mirror F))
@@ -27,8 +27,8 @@ pub record IsBegun {F : Type 0} (image : List ℕ) (s : DeviceAsFile (Mirror F))
   pub whole : is_broken (kept_disk s) → ⊥
 
 -- why no file is taken up: there is none, or the image has another size, or there was no memory for it
-abbrev pub WhyUnbegun : {F : Type 0} → (image : List ℕ) → Option F → RunFault → Type 0
-WhyUnbegun image file fault = ((file ≡ None) × (fault ≡ run.File)) ⊎ IsLoadFault image fault
+abbrev pub WhyUnbegun : {F : Type 0} → (image : List ℕ) → Option F → CommandFault → Type 0
+WhyUnbegun image file fault = ((file ≡ None) × (fault ≡ faults.File)) ⊎ IsLoadFault image fault
 
 -- If the image is a shop's, the file was handed only sectors, each at 256 times its index and before memory took it.
 abbrev pub HandsSectors : {F : Type 0} → (F → Option ℕ) → (F → Option (List ℕ)) → (F → Option (List ℕ)) → List ℕ

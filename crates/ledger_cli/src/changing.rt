@@ -3,35 +3,24 @@ ghost use Rattle.std.specs.Prelude.{◌≡◌, ◌≤◌, length};
 ghost use Rattle.keeper_commands.specs.Makes.{IsNewName};
 ghost use Rattle.ledger_cli.specs.Runs.{IsCopyJob, IsFormatted, IsMade, IsNewMade, IsPlayed, IsRepairJob, IsRepaired, IsServed, IsStored};
 ghost use Rattle.ledger_cli.specs.Runs.{frees as frees_of};
-ghost use Rattle.ledger_jobs.specs.Ends.{as_job, end_of};
 ghost use Rattle.ledger_jobs.specs.Names.{name_bytes};
 ghost use Rattle.rel_records.specs.File.{IsLength};
 
 use crate::making::{copy_image, make_disk, make_image};
 use crate::playing::play_written;
 use crate::stream::{begin, file_of};
+use command_faults::CommandFault;
 use disk_layout::Fault;
 use host_session::Printer;
 use ledger_jobs::{
     Effect, Loss, Name, Refusal, Unowned, dry_repair_guarded, job_end, loss_refusal, make_guarded,
-    repair_guarded, serve_run, store_guarded,
+    repair_guarded, run_end, serve_run, store_guarded,
 };
-use shop_commands::RunFault;
 use std::alloc::Global;
 use std::io::{Seek, Write};
 
 /// How a job ended.
 pub(crate) type Ended = Result<Option<Fault>, Refusal>;
-
-/// The end of a job that prints no fault.
-fn end_so(ended: Result<(), RunFault>) -> Ended
-    ensures { result ≡ as_job (end_of ended) }
-{
-    match ended {
-        Ok(()) => Ok(None),
-        Err(fault) => Err(Refusal::Run(fault)),
-    }
-}
 
 /// Makes the file the image of an empty shop.
 pub(crate) fn format<F: Write + Seek + Drop, W: Write>(
@@ -46,10 +35,10 @@ pub(crate) fn format<F: Write + Seek + Drop, W: Write>(
         out.old out.new result.1 }
 {
     let Some(mut file) = file else {
-        return (None, Err(Refusal::Run(RunFault::File)));
+        return (None, Err(Refusal::Fault(CommandFault::File)));
     };
     let ended = make_image(alloc, tills, &mut file, out);
-    (Some(file), end_so(ended))
+    (Some(file), run_end(ended))
 }
 
 /// Makes the file the image of an empty disk.
@@ -65,10 +54,10 @@ pub(crate) fn begin_disk<F: Write + Seek + Drop, W: Write>(
         out.old out.new result.1 }
 {
     let Some(mut file) = file else {
-        return (None, Err(Refusal::Run(RunFault::File)));
+        return (None, Err(Refusal::Fault(CommandFault::File)));
     };
     let ended = make_disk(alloc, name.as_bytes(), id, &mut file, out);
-    (Some(file), end_so(ended))
+    (Some(file), run_end(ended))
 }
 
 /// Copies the image to the file.
@@ -81,10 +70,10 @@ pub(crate) fn copy<F: Write + Seek + Drop, W: Write>(
         out.old out.new result.1 }
 {
     let Some(mut file) = file else {
-        return (None, Err(Refusal::Run(RunFault::File)));
+        return (None, Err(Refusal::Fault(CommandFault::File)));
     };
     let ended = copy_image(image, &mut file, out);
-    (Some(file), end_so(ended))
+    (Some(file), run_end(ended))
 }
 
 /// Plays a script on the image, over its file.
@@ -103,7 +92,7 @@ pub(crate) fn play<F: Write + Seek + Drop, W: Write>(
             let (stream, ended) = play_written(alloc, image, script, stream, out);
             (file_of(stream), job_end(ended))
         }
-        Err((fault, file)) => (file, Err(Refusal::Run(fault))),
+        Err((fault, file)) => (file, Err(Refusal::Fault(fault))),
     }
 }
 
@@ -121,7 +110,7 @@ pub(crate) fn serve<F: Write + Seek + Drop, W: Write>(
 {
     let stream = match begin(alloc, image, file) {
         Ok(stream) => stream,
-        Err((fault, file)) => return (file, Err(Refusal::Run(fault))),
+        Err((fault, file)) => return (file, Err(Refusal::Fault(fault))),
     };
     match loss_refusal(alloc, image, loss) {
         Some(refusal) => (file_of(stream), Err(refusal)),
@@ -151,7 +140,7 @@ fn mend<F: Write + Seek + Drop, W: Write>(
             let (stream, ended) = repair_guarded(alloc, image, free, stream, loss, out);
             (file_of(stream), ended)
         }
-        Err((fault, file)) => (file, Err(Refusal::Run(fault))),
+        Err((fault, file)) => (file, Err(Refusal::Fault(fault))),
     }
 }
 
@@ -208,7 +197,7 @@ pub(crate) fn make<F: Write + Seek + Drop, W: Write>(
             let (stream, ended) = make_guarded(alloc, image, name, length, stream, loss, out);
             (file_of(stream), ended)
         }
-        Err((fault, file)) => (file, Err(Refusal::Run(fault))),
+        Err((fault, file)) => (file, Err(Refusal::Fault(fault))),
     }
 }
 
@@ -231,6 +220,6 @@ pub(crate) fn store<F: Write + Seek + Drop, W: Write>(
             let (stream, ended) = store_guarded(alloc, image, name, records, stream, loss, out);
             (file_of(stream), ended)
         }
-        Err((fault, file)) => (file, Err(Refusal::Run(fault))),
+        Err((fault, file)) => (file, Err(Refusal::Fault(fault))),
     }
 }

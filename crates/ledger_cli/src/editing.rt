@@ -29,7 +29,7 @@ pub(crate) fn rename<F: Write + Seek + Drop, W: Write>(
             let (stream, ended) = rename_guarded(alloc, image, from, to, stream, out);
             (file_of(stream), ended)
         }
-        Err((fault, file)) => (file, Err(Refusal::Run(fault))),
+        Err((fault, file)) => (file, Err(Refusal::Fault(fault))),
     }
 }
 
@@ -50,7 +50,7 @@ pub(crate) fn delete<F: Write + Seek + Drop, W: Write>(
             let (stream, ended) = delete_guarded(alloc, image, name, stream, out);
             (file_of(stream), ended)
         }
-        Err((fault, file)) => (file, Err(Refusal::Run(fault))),
+        Err((fault, file)) => (file, Err(Refusal::Fault(fault))),
     }
 }
 
@@ -74,6 +74,6 @@ pub(crate) fn put<F: Write + Seek + Drop, W: Write>(
             let (stream, ended) = put_guarded(alloc, image, name, kind, data, stream, out);
             (file_of(stream), ended)
         }
-        Err((fault, file)) => (file, Err(Refusal::Run(fault))),
+        Err((fault, file)) => (file, Err(Refusal::Fault(fault))),
     }
 }

@@ -4,10 +4,11 @@ ghost use Rattle.d64_image.specs.Mirrors.{IsHanded};
 ghost use Rattle.ledger_jobs.specs.NewDisks.{IsNewImage};
 ghost use Rattle.shop_commands.specs.Images.{AreFreshBytes};
 ghost use Rattle.ledger_cli.specs.Making.{IsHandedPart, IsImageCopied, IsImageMade, IsWriting, image_writes};
-ghost use Rattle.shop_commands.specs.declared.faults.RunFault.TheVariants as faults;
+ghost use Rattle.command_faults.specs.declared.faults.CommandFault.TheVariants as faults;
 
+use command_faults::CommandFault;
 use file_changes::new_disk;
-use shop_commands::{RunFault, fresh_disk, put_whole};
+use shop_commands::{fresh_disk, put_whole};
 use std::alloc::Global;
 use std::io::{Seek, SeekFrom, Write};
 
@@ -24,20 +25,20 @@ const SPOILED: [u8; 256] = [255; 256];
 
 /// Seeks a place in a file, and hands it these bytes. `File` if the seek fails, and the file is as before; or if a write
 /// does, and the file has a prefix of the bytes, or all.
-fn hand_over<F: Write + Seek>(file: &mut F, bytes: &[u8], at: u64) -> Result<(), RunFault>
+fn hand_over<F: Write + Seek>(file: &mut F, bytes: &[u8], at: u64) -> Result<(), CommandFault>
     ensures ok { OnOk result (IsHanded F.stream_position F.stream_bytes F.contents None file.old file.new at bytes.now) }
     ensures err { IfErr result (λ fault. (fault ≡ faults.File)
         × IsHandedPart F.stream_position F.stream_bytes F.contents file.old file.new at bytes.now) }
 {
     match file.seek(SeekFrom::Start(at)) {
         Ok(_) => put_whole(file, bytes),
-        Err(_) => Err(RunFault::File),
+        Err(_) => Err(CommandFault::File),
     }
 }
 
 /// Writes an image over what a file holds. Its directory is spoiled first and written last, so that a file with a part of
 /// the writes isn't a sound disk's. `File` if the file failed, which has a prefix of the writes then.
-fn write_over<F: Write + Seek>(file: &mut F, image: &[u8]) -> Result<(), RunFault>
+fn write_over<F: Write + Seek>(file: &mut F, image: &[u8]) -> Result<(), CommandFault>
     requires size { length image.now ≡ 174848 }
     ensures { IsWriting F.stream_position F.stream_bytes F.contents file.old file.new (image_writes image.now) result }
 {
@@ -58,7 +59,7 @@ pub(crate) fn make_image<F: Write + Seek, W: Write>(
     tills: u8,
     file: &mut F,
     out: &mut W,
-) -> Result<(), RunFault>
+) -> Result<(), CommandFault>
     requires some { 1 ≤ tills }
     requires few { tills ≤ 64 }
     ensures { IsImageMade F.stream_position F.stream_bytes F.contents W.contents (AreFreshBytes tills) file.old file.new
@@ -80,13 +81,13 @@ pub(crate) fn make_disk<F: Write + Seek, W: Write>(
     id: [u8; 2],
     file: &mut F,
     out: &mut W,
-) -> Result<(), RunFault>
+) -> Result<(), CommandFault>
     requires name { length name.now ≤ 16 }
     ensures { IsImageMade F.stream_position F.stream_bytes F.contents W.contents (IsNewImage name.now id)
         file.old file.new out.old out.new result }
 {
     let Ok(disk) = new_disk(alloc, name, id) else {
-        return Err(RunFault::NoMemory);
+        return Err(CommandFault::NoMemory);
     };
     write_over(file, disk.bytes())?;
     put_whole(out, b"FORMATTED\n")
@@ -101,12 +102,12 @@ pub(crate) fn copy_image<F: Write + Seek, W: Write>(
     image: &[u8],
     file: &mut F,
     out: &mut W,
-) -> Result<(), RunFault>
+) -> Result<(), CommandFault>
     ensures { IsImageCopied F.stream_position F.stream_bytes F.contents W.contents image.now file.old file.new
         out.old out.new result }
 {
     if image.len() != IMAGE_BYTES {
-        return Err(RunFault::ImageSize);
+        return Err(CommandFault::ImageSize);
     }
     match write_over(file, image) {
         Ok(()) => put_whole(out, b"COPIED\n"),

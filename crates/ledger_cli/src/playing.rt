@@ -9,10 +9,11 @@ ghost use Rattle.shop_commands.specs.Faults.{script_fault};
 ghost use Rattle.shop_commands.specs.Plays.{IsFileFault, IsPlayEnd, IsPlayedFile};
 ghost use Rattle.ledger_jobs.specs.Runs.{IsPlayRun};
 
+use command_faults::{CommandFault, load};
 use d64_image::{KeptMirror, SectorFile, Sectors};
 use disk_layout::Fault;
 use host_session::{ScriptFault, run_script};
-use shop_commands::{RunFault, file_of, load};
+use shop_commands::{file_of, of_script};
 use std::alloc::Global;
 use std::io::{self, Write};
 
@@ -24,7 +25,7 @@ fn hand_on<W: Write>(out: &mut W) -> io::Result<()>
 }
 
 /// The outcome of a run that this fault ended. Replies that were written before it are handed on.
-fn told<W: Write>(fault: ScriptFault, out: &mut W) -> RunFault
+fn told<W: Write>(fault: ScriptFault, out: &mut W) -> CommandFault
     ensures value { result ≡ script_fault fault }
     ensures silent { (fault ≢ ScriptFault.Output) → (fault ≢ ScriptFault.Device) → out.new ≡ out.old }
     ensures told { TellsNone (written W.contents) out.old out.new }
@@ -32,20 +33,24 @@ fn told<W: Write>(fault: ScriptFault, out: &mut W) -> RunFault
     if matches!(fault, ScriptFault::Output | ScriptFault::Device) {
         // the fault is reported, whatever comes of this
         let _ = hand_on(out);
-        return RunFault::of_script(fault);
+        return of_script(fault);
     }
-    RunFault::of_script(fault)
+    of_script(fault)
 }
 
 /// Plays the lines of a script on the shop of a disk, and writes the reply to each before the next is played. What was
 /// written is handed on at the end. The disk is handed back.
-fn play_lines<D: Sectors, W: Write>(disk: D, script: &[u8], out: &mut W) -> Result<D, (RunFault, D)>
+fn play_lines<D: Sectors, W: Write>(
+    disk: D,
+    script: &[u8],
+    out: &mut W,
+) -> Result<D, (CommandFault, D)>
     ensures { IsPlayEnd D.history (written W.contents) disk script.now out.old out.new result }
 {
     match run_script(disk, script, out) {
         Ok(left) => match hand_on(out) {
             Ok(()) => Ok(left),
-            Err(_) => Err((RunFault::File, left)),
+            Err(_) => Err((CommandFault::File, left)),
         },
         Err((fault, left)) => Err((told(fault, out), left)),
     }
@@ -58,7 +63,7 @@ fn play_over<F: SectorFile, W: Write>(
     script: &[u8],
     file: F,
     out: &mut W,
-) -> Result<F, (RunFault, F)>
+) -> Result<F, (CommandFault, F)>
     requires agrees { Agrees (F.keeps.kept file) (sectors_in image.now) }
     ensures ok { IfOk result
         (λ after. IsPlayedFile F.keeps (written W.contents) image.now script.now file after out.old out.new) }
@@ -83,7 +88,7 @@ pub(crate) fn play_written<F: SectorFile, W: Write>(
     script: &[u8],
     file: F,
     out: &mut W,
-) -> (F, Result<Option<Fault>, RunFault>)
+) -> (F, Result<Option<Fault>, CommandFault>)
     // if it is known what the file keeps, it is this image
     requires agrees { Agrees (F.keeps.kept file) (sectors_in image.now) }
     ensures run { IsPlayRun F.keeps (written W.contents) image.now script.now file result.0 out.old out.new result.1 }

@@ -5,11 +5,11 @@ ghost use Rattle.ledger_jobs.specs.Jobs.{IsFit};
 
 use crate::changing::{Ended, begin_disk, copy, format, make, play, repair, serve, store};
 use crate::editing::{delete, put, rename};
+use command_faults::CommandFault;
 use ledger_jobs::{
-    Findings, Job, Reading, Refusal, comparing_run, drawing_run, drawn_end, end, job_end,
-    listed_end, listing_run, reading_run, take_told, view_run, viewed_end,
+    Findings, Job, Reading, Refusal, comparing_run, drawing_run, end, job_end, listing_run,
+    reading_run, run_end, take_told, view_run,
 };
-use shop_commands::RunFault;
 use std::alloc::Global;
 use std::io::{Seek, Write};
 
@@ -26,7 +26,7 @@ fn checked<W: Write>(alloc: Global, what: Findings, image: &[u8], out: &mut W) -
 {
     match what {
         Findings::First => read(alloc, Reading::Check, image, out),
-        Findings::All => listed_end(listing_run(alloc, image, out)),
+        Findings::All => job_end(listing_run(alloc, image, out)),
     }
 }
 
@@ -79,15 +79,18 @@ fn obey<F: Write + Seek + Drop, W: Write>(
             let ended = take_told(alloc, what, image, name.as_bytes(), out);
             (file, ended)
         }
-        Job::Draw { what, .. } => (file, drawn_end(drawing_run(alloc, what, image, out))),
-        Job::View { what, .. } => (file, viewed_end(view_run(alloc, what, image, out))),
-        Job::Compare { .. } => (file, drawn_end(comparing_run(alloc, image, script, out))),
+        Job::Draw { what, .. } => (file, job_end(drawing_run(alloc, what, image, out))),
+        Job::View { what, .. } => (file, run_end(view_run(alloc, what, image, out))),
+        Job::Compare { .. } => (file, job_end(comparing_run(alloc, image, script, out))),
         // it needs the bytes of each image, or standard error too
         Job::Several { .. } | Job::Sheet { .. } | Job::Describe { .. } | Job::Trim { .. } => {
-            (file, Err(Refusal::Run(RunFault::File)))
+            (file, Err(Refusal::Fault(CommandFault::File)))
         }
         // two steps over one file, or a folder
-        Job::RepairSides { .. } | Job::Extract { .. } => (file, Err(Refusal::Run(RunFault::File))),
+        Job::RepairSides { .. } | Job::Extract { .. } => (
+            file,
+            Err(Refusal::Fault(CommandFault::File)),
+        ),
     }
 }
 

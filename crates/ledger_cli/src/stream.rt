@@ -2,8 +2,8 @@
 ghost use Rattle.std.specs.Prelude.{◌≡◌, IfErr, IfOk, Some};
 ghost use Rattle.ledger_cli.specs.Streams.{IsBegun, WhyUnbegun, stream_file};
 
+use command_faults::{CommandFault, load};
 use d64_image::{DeviceAsFile, Mirror};
-use shop_commands::{RunFault, load};
 use std::alloc::Global;
 use std::io::{Seek, Write};
 
@@ -16,12 +16,12 @@ pub(crate) fn begin<F: Write + Seek>(
     alloc: Global,
     image: &[u8],
     file: Option<F>,
-) -> Result<Stream<F>, (RunFault, Option<F>)>
+) -> Result<Stream<F>, (CommandFault, Option<F>)>
     ensures ok { IfOk result (λ stream. IsBegun image.now stream × (file ≡ Some (stream_file stream))) }
     ensures err { IfErr result (λ e. (e.1 ≡ file) × WhyUnbegun image.now file e.0) }
 {
     let Some(file) = file else {
-        return Err((RunFault::File, None));
+        return Err((CommandFault::File, None));
     };
     match load(alloc, image) {
         Ok(disk) => Ok(DeviceAsFile::new(Mirror::new(file, disk))),

@@ -3,8 +3,8 @@ use Rattle.std.proofs.Common.{◌≡◌, ℕ, List, Option, Result, Ok, Err, inr
 use Rattle.std.specs.Prelude.{IfErr, OnOk, codes}
 use Rattle.std.specs.Io.KnownBytes.{Appends}
 use Rattle.host_session.specs.runs.Outputs.{AppendsPart}
-use Rattle.shop_commands.specs.declared.faults.RunFault.{RunFault}
-use Rattle.shop_commands.specs.declared.faults.RunFault.TheVariants as run
+use Rattle.command_faults.specs.declared.faults.CommandFault.{CommandFault}
+use Rattle.command_faults.specs.declared.faults.CommandFault.TheVariants as faults
 use Rattle.system_files.specs.Remains.{Remains}
 use Rattle.system_files.specs.Replacing.{IsReplaced}
 use Rattle.ledger_jobs.specs.Copies.{IsCopied, IsCopiedOver}
@@ -18,9 +18,9 @@ copied_over {F} {E} r image file after put ok is =
 
 -- it was, and that was said, or a part of it
 pub copied : {F W : Type 0} (r : Remains F) (contents : W → Option (List ℕ)) (image : List ℕ) (file after : F) (old new : W)
-    → length image ≡ 174848 → IsCopiedOver r image file after → (result : Result Unit RunFault)
+    → length image ≡ 174848 → IsCopiedOver r image file after → (result : Result Unit CommandFault)
     → OnOk result (Appends (contents old) (contents new) (codes "COPIED\n"))
-    → IfErr result (λ fault. (fault ≡ run.File) × AppendsPart (contents old) (contents new) (codes "COPIED\n"))
+    → IfErr result (λ fault. (fault ≡ faults.File) × AppendsPart (contents old) (contents new) (codes "COPIED\n"))
     → IsCopied r contents image file after old new result
 copied r contents image file after old new size whole (Ok _) said part = (size, whole, said)
 copied r contents image file after old new size whole (Err fault) said part =

@@ -3,13 +3,13 @@ use Rattle.std.proofs.Common.{◌≡◌, List, inl, inr, length, refl, ℕ}
 use Rattle.std.proofs.lemmas.Bool.{cases_eq}
 use Rattle.std.specs.Prelude.{Err, None, Ok, Option, Result, Some}
 use Rattle.d64_image.specs.declared.place.Place.{Place}
-use Rattle.keeper_commands.specs.declared.faults.KeepFault.{KeepFault}
+use Rattle.command_faults.specs.declared.faults.CommandFault.{CommandFault}
 use Rattle.ledger_jobs.specs.Keeping.{IsTakingRun}
 use Rattle.ledger_jobs.specs.Losses.{IsSeen, IsTakingEnd, taken_end}
 use Rattle.ledger_jobs.specs.declared.jobs.Taking.{Taking}
 
 pub taking-ended : {W : Type 0} (contents : W → Option (List ℕ)) (what : Taking) (image name : List ℕ) (old new : W)
-    (ended : Result (Unit {0}) KeepFault) (cut : Option Place) → IsTakingRun contents what image name old new ended
+    (ended : Result (Unit {0}) CommandFault) (cut : Option Place) → IsTakingRun contents what image name old new ended
     → IsSeen image (Some name) cut → IsTakingEnd contents what image name old new (taken_end ended cut)
 taking-ended contents what image name old new (Ok u) (Some p) run seen = (run, seen.1)
 taking-ended contents what image name old new (Ok u) None run seen = elim (cases_eq (length image) 174848) [

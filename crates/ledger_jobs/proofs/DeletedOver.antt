@@ -1,10 +1,10 @@
 -- What comes of deleting a file over the file of a mirror, from that over the mirror and whether it is broken.
 use Rattle.std.proofs.Common.{◌≡◌, ◌⊎◌, ℕ, List, Option, Result, Ok, Err, ap, arith, inl, length, refl, subst}
 use Rattle.std.specs.Prelude.{IfErr, OnOk}
-use Rattle.change_commands.specs.Faults.{IsLoadFault}
+use Rattle.command_faults.specs.Faults.{IsLoadFault}
 use Rattle.change_commands.specs.Deletes.{IsDeleteDone, IsDeleteFault, IsDeleteRun, IsDeletedDisk, IsLeftClean}
-use Rattle.change_commands.specs.declared.faults.EditFault.{EditFault}
-use Rattle.change_commands.specs.declared.faults.EditFault.TheVariants as edit
+use Rattle.command_faults.specs.declared.faults.CommandFault.{CommandFault}
+use Rattle.command_faults.specs.declared.faults.CommandFault.TheVariants as faults
 use Rattle.d64_image.proofs.FileRuns.{file_disk}
 use Rattle.d64_image.proofs.Moments.{changes_weaker, no_write_change}
 use Rattle.d64_image.specs.FileDisks.{in_run}
@@ -22,17 +22,17 @@ use Rattle.ledger_jobs.specs.Edited.{IsDeleteOver}
 
 module _ {F W : Type 0} (K : Keeps F) (contents : W → Option (List ℕ)) (image name : List ℕ) where
   -- the image wasn't taken into memory
-  pub delete-not-loaded : (file : F) (old : W) (fault : EditFault) → IsLoadFault image fault
+  pub delete-not-loaded : (file : F) (old : W) (fault : CommandFault) → IsLoadFault image fault
       → IsDeleteOver K contents image name file file old old (Err fault)
-  delete-not-loaded file old edit.ImageSize told = (told, (refl, refl))
-  delete-not-loaded file old edit.NoMemory told = (told, (refl, refl))
-  delete-not-loaded file old (edit.Layout fault) told = absurd told
-  delete-not-loaded file old edit.NoFile told = absurd told
-  delete-not-loaded file old edit.FileExists told = absurd told
-  delete-not-loaded file old edit.DiskFull told = absurd told
-  delete-not-loaded file old edit.Locked told = absurd told
-  delete-not-loaded file old edit.File told = absurd told
-  delete-not-loaded file old edit.Device told = absurd told
+  delete-not-loaded file old faults.ImageSize told = (told, (refl, refl))
+  delete-not-loaded file old faults.NoMemory told = (told, (refl, refl))
+  delete-not-loaded file old (faults.Layout fault) told = absurd told
+  delete-not-loaded file old faults.NoFile told = absurd told
+  delete-not-loaded file old faults.FileExists told = absurd told
+  delete-not-loaded file old faults.DiskFull told = absurd told
+  delete-not-loaded file old faults.Locked told = absurd told
+  delete-not-loaded file old faults.File told = absurd told
+  delete-not-loaded file old faults.Device told = absurd told
 
 module _ {F : Type 0} {G : Ghosts F} (start : KeptMirror F G) (sound : is_broken start → ⊥) (untaken : start.taken.n ≡ 0)
     (b : KeptMirror F G)
@@ -58,7 +58,7 @@ module _ {F : Type 0} {G : Ghosts F} (start : KeptMirror F G) (sound : is_broken
       (holds : mirror_image start ≡ sectors_in image)
       (old new : W) where
     -- the file didn't fail
-    whole-ended : (is_broken b → ⊥) → (r : Result Unit EditFault)
+    whole-ended : (is_broken b → ⊥) → (r : Result Unit CommandFault)
         → OnOk r (IsDeleteDone mirror contents image name start b old new)
         → IfErr r (IsDeleteFault mirror image name start b old new)
         → IsDeleteOver G.keeps contents image name start.file b.file old new r
@@ -69,21 +69,21 @@ module _ {F : Type 0} {G : Ghosts F} (start : KeptMirror F G) (sound : is_broken
         printed = ok.printed;
       }),
     )
-    whole-ended whole (Err edit.ImageSize) ok err = absurd (err.0 size)
-    whole-ended whole (Err edit.NoMemory) ok err = (size, (ap (λ (m : KeptMirror F G). m.file) err.1, err.2))
-    whole-ended whole (Err (edit.Layout fault)) ok err =
+    whole-ended whole (Err faults.ImageSize) ok err = absurd (err.0 size)
+    whole-ended whole (Err faults.NoMemory) ok err = (size, (ap (λ (m : KeptMirror F G). m.file) err.1, err.2))
+    whole-ended whole (Err (faults.Layout fault)) ok err =
         (err.0.0, err.0.1, (ap (λ (m : KeptMirror F G). m.file) err.1, err.2))
-    whole-ended whole (Err edit.NoFile) ok err =
+    whole-ended whole (Err faults.NoFile) ok err =
         clean-refused start sound untaken b image holds old new whole _ err
-    whole-ended whole (Err edit.Locked) ok err =
+    whole-ended whole (Err faults.Locked) ok err =
         clean-refused start sound untaken b image holds old new whole _ err
-    whole-ended whole (Err edit.FileExists) ok err = absurd err
-    whole-ended whole (Err edit.DiskFull) ok err = absurd err.0
-    whole-ended whole (Err edit.File) ok err = (
+    whole-ended whole (Err faults.FileExists) ok err = absurd err
+    whole-ended whole (Err faults.DiskFull) ok err = absurd err.0
+    whole-ended whole (Err faults.File) ok err = (
       whole_file start sound untaken b err.run.moments.held whole,
       taken_up start sound untaken b image size holds (done_of_file whole err),
     )
-    whole-ended whole (Err edit.Device) ok err = absurd (not_failed start sound untaken b whole err.1)
+    whole-ended whole (Err faults.Device) ok err = absurd (not_failed start sound untaken b whole err.1)
 
     -- a disk of which nothing was written is as it was
     left-run : (Why : Layout → Type 0) → IsLeftClean mirror image start b old new Why → IsDeleteRun mirror image name start b
@@ -97,26 +97,26 @@ module _ {F : Type 0} {G : Ghosts F} (start : KeptMirror F G) (sound : is_broken
     }
 
     -- whatever a run over a mirror that broke ended with, it was one, and nothing was printed
-    run-of : is_broken b → (r : Result Unit EditFault)
+    run-of : is_broken b → (r : Result Unit CommandFault)
         → OnOk r (IsDeleteDone mirror contents image name start b old new)
         → IfErr r (IsDeleteFault mirror image name start b old new) → IsDeleteRun mirror image name start b × (new ≡ old)
     run-of broken (Ok x) ok err = absurd (not_broken start sound untaken b ok.disk.unfailed broken)
-    run-of broken (Err edit.ImageSize) ok err = absurd (err.0 size)
-    run-of broken (Err edit.NoMemory) ok err = absurd (sound (subst (λ (m : KeptMirror F G). is_broken m) err.1 broken))
-    run-of broken (Err (edit.Layout fault)) ok err =
+    run-of broken (Err faults.ImageSize) ok err = absurd (err.0 size)
+    run-of broken (Err faults.NoMemory) ok err = absurd (sound (subst (λ (m : KeptMirror F G). is_broken m) err.1 broken))
+    run-of broken (Err (faults.Layout fault)) ok err =
         absurd (sound (subst (λ (m : KeptMirror F G). is_broken m) err.1 broken))
-    run-of broken (Err edit.NoFile) ok err = (left-run _ err, err.unprinted)
-    run-of broken (Err edit.Locked) ok err = (left-run _ err, err.unprinted)
-    run-of broken (Err edit.FileExists) ok err = absurd err
-    run-of broken (Err edit.DiskFull) ok err = absurd err.0
-    run-of broken (Err edit.File) ok err = absurd (not_broken start sound untaken b err.unfailed broken)
-    run-of broken (Err edit.Device) ok err = (err.0, err.2)
+    run-of broken (Err faults.NoFile) ok err = (left-run _ err, err.unprinted)
+    run-of broken (Err faults.Locked) ok err = (left-run _ err, err.unprinted)
+    run-of broken (Err faults.FileExists) ok err = absurd err
+    run-of broken (Err faults.DiskFull) ok err = absurd err.0
+    run-of broken (Err faults.File) ok err = absurd (not_broken start sound untaken b err.unfailed broken)
+    run-of broken (Err faults.Device) ok err = (err.0, err.2)
 
     -- the file failed
-    broken-ended : is_broken b → (r : Result Unit EditFault)
+    broken-ended : is_broken b → (r : Result Unit CommandFault)
         → OnOk r (IsDeleteDone mirror contents image name start b old new)
         → IfErr r (IsDeleteFault mirror image name start b old new)
-        → IsDeleteOver G.keeps contents image name start.file b.file old new (Err edit.Device)
+        → IsDeleteOver G.keeps contents image name start.file b.file old new (Err faults.Device)
     broken-ended broken r ok err =
         let run = run-of broken r ok err in (
           broken_file start sound untaken b run.0.moments.held broken,
@@ -125,11 +125,11 @@ module _ {F : Type 0} {G : Ghosts F} (start : KeptMirror F G) (sound : is_broken
         )
 
     -- the file that is handed back, and what is reported of it
-    pub delete-ended : (file : F) (r : Result Unit EditFault) (out : F × Result Unit EditFault) → start.file ≡ file
+    pub delete-ended : (file : F) (r : Result Unit CommandFault) (out : F × Result Unit CommandFault) → start.file ≡ file
         → out.0 ≡ b.file
         → OnOk r (IsDeleteDone mirror contents image name start b old new)
         → IfErr r (IsDeleteFault mirror image name start b old new)
-        → (is_broken b × (out.1 ≡ Err edit.Device)) ⊎ ((is_broken b → ⊥) × (out.1 ≡ r))
+        → (is_broken b × (out.1 ≡ Err faults.Device)) ⊎ ((is_broken b → ⊥) × (out.1 ≡ r))
         → IsDeleteOver G.keeps contents image name file out.0 old new out.1
     delete-ended file r out first after ok err end =
         handed-back (λ f a e. IsDeleteOver G.keeps contents image name f a old new e) start b file r out first after

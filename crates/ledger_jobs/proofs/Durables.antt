@@ -14,8 +14,8 @@ use Rattle.shop_commands.specs.ImageFile.{IsTakenUp, placed, placed_file}
 use Rattle.shop_commands.specs.Plays.{IsFileFault, IsUntouched}
 use Rattle.shop_commands.specs.declared.durability.Durability.{Durability}
 use Rattle.shop_commands.specs.declared.durability.WritesAt.{Ghosts}
-use Rattle.shop_commands.specs.declared.faults.RunFault.{RunFault}
-use Rattle.shop_commands.specs.declared.faults.RunFault.TheVariants as faults
+use Rattle.command_faults.specs.declared.faults.CommandFault.{CommandFault}
+use Rattle.command_faults.specs.declared.faults.CommandFault.TheVariants as faults
 use Rattle.shop_commands.specs.declared.image_file.ImageFile.{ImageFile}
 use Rattle.ledger_jobs.specs.DurableRuns.{IsDurableRun, IsFinished}
 use Rattle.ledger_jobs.specs.Ends.{Ended}
@@ -62,7 +62,7 @@ module _ {F : Type 0} {G : Ghosts F} (durability : Durability) (image : List ℕ
 
 -- a fault that blames neither the file nor the output tells that nothing was done
 module _ {F T : Type 0} (K : Keeps F) (o : Output T) (image script : List ℕ) (file after : F) (old new : T) where
-  nothing_done : (fault : RunFault) → IsFileFault K o image script file after old new fault → fault ≢ faults.File
+  nothing_done : (fault : CommandFault) → IsFileFault K o image script file after old new fault → fault ≢ faults.File
       → fault ≢ faults.Device → IsUntouched file after old new
   nothing_done faults.ImageSize is _ _ = is.1
   nothing_done (faults.Layout f) is _ _ = is.2
@@ -71,7 +71,7 @@ module _ {F T : Type 0} (K : Keeps F) (o : Output T) (image script : List ℕ) (
   nothing_done (faults.BadCard item) is _ _ = is.2
   nothing_done (faults.BadRequestCard till) is _ _ = is.2
   nothing_done faults.TwoIntents is _ _ = is.2
-  nothing_done (faults.BadLine line) is _ _ = is.2
+  nothing_done (faults.ScriptLine line) is _ _ = is.2
   nothing_done faults.File is other _ = absurd (other refl)
   nothing_done faults.NoMemory is _ _ = is.1
   nothing_done faults.Device is _ other = absurd (other refl)
@@ -84,7 +84,7 @@ module _ {F T : Type 0} (K : Keeps F) (o : Output T) (image script : List ℕ) (
 -- nor one of a service
 module _ {F R T : Type 0} (K : Keeps F) (i : Input R) (a : Answering T) (image : List ℕ) (file after : F)
     (old_in new_in : R) (old new : T) where
-  nothing_served : (fault : RunFault) → IsServeFault K i a image file after old_in new_in old new fault
+  nothing_served : (fault : CommandFault) → IsServeFault K i a image file after old_in new_in old new fault
       → fault ≢ faults.File → fault ≢ faults.Device → IsUnserved file after old_in new_in old new
   nothing_served faults.ImageSize is _ _ = is.1
   nothing_served (faults.Layout f) is _ _ = is.1
@@ -93,7 +93,7 @@ module _ {F R T : Type 0} (K : Keeps F) (i : Input R) (a : Answering T) (image :
   nothing_served (faults.BadCard item) is _ _ = is.1
   nothing_served (faults.BadRequestCard till) is _ _ = is.1
   nothing_served faults.TwoIntents is _ _ = is.1
-  nothing_served (faults.BadLine line) is _ _ = absurd is
+  nothing_served (faults.ScriptLine line) is _ _ = absurd is
   nothing_served faults.File is other _ = absurd (other refl)
   nothing_served faults.NoMemory is _ _ = is.1
   nothing_served faults.Device is _ other = absurd (other refl)

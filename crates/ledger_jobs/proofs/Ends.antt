@@ -7,15 +7,15 @@ use Rattle.script_lines.specs.Lines.{first_reset, lines}
 use Rattle.shop_commands.specs.Faults.{IsDryFault}
 use Rattle.shop_commands.specs.declared.dry_run.DryFault.{DryFault}
 use Rattle.shop_commands.specs.declared.dry_run.DryFault.TheVariants as dry
-use Rattle.shop_commands.specs.declared.faults.RunFault.{RunFault}
-use Rattle.shop_commands.specs.declared.faults.RunFault.TheVariants as run
+use Rattle.command_faults.specs.declared.faults.CommandFault.{CommandFault}
+use Rattle.command_faults.specs.declared.faults.CommandFault.TheVariants as faults
 
 module _ (Done Same : Type 0) where
   -- what was done, or why it wasn't, is said of that end
-  pub so-ended : (Why : RunFault → Type 0) (ended : Result Unit RunFault) → OnOk ended Done → IfErr ended Why
-      → IfErr ended (λ fault. fault ≢ run.File → Same)
+  pub so-ended : (Why : CommandFault → Type 0) (ended : Result Unit CommandFault) → OnOk ended Done → IfErr ended Why
+      → IfErr ended (λ fault. fault ≢ faults.File → Same)
       → IfOk (end_of ended) (λ found. (found ≡ None) × Done) × IfErr (end_of ended) Why
-      × IfErr (end_of ended) (λ fault. fault ≢ run.File → Same)
+      × IfErr (end_of ended) (λ fault. fault ≢ faults.File → Same)
   so-ended Why (Ok _) ok err untouched = ((refl, ok), tt, tt)
   so-ended Why (Err fault) ok err untouched = (tt, err, untouched)
 
@@ -23,7 +23,7 @@ module _ (Done Same : Type 0) where
   pub dry-ended : (script : List ℕ) (ended : Result Unit DryFault) → OnOk ended Done
       → IfErr ended (IsDryFault (first_reset (lines script))) → (IsSome (first_reset (lines script)) → Same)
       → IfOk (dry_end ended) (λ found. (found ≡ None) × Done) × IfErr (dry_end ended) (IsDryRefusal script)
-      × IfErr (dry_end ended) (λ fault. fault ≢ run.File → Same)
+      × IfErr (dry_end ended) (λ fault. fault ≢ faults.File → Same)
   dry-ended script (Ok _) ok err untouched = ((refl, ok), tt, tt)
   dry-ended script (Err (dry.BadLine line)) ok bad untouched = (tt, bad, λ _. untouched (ap is_some bad))
   dry-ended script (Err dry.Output) ok none untouched = (tt, none, λ other. absurd (other refl))

@@ -1,11 +1,11 @@
 -- How what changes the disk of an image ends over its file.
 use Rattle.std.proofs.Common.{◌≡◌, ℕ, List, Ok, Err, arith, inl, inr, length, refl}
-use Rattle.keeper_commands.specs.declared.faults.KeepFault.{KeepFault}
+use Rattle.command_faults.specs.declared.faults.CommandFault.{CommandFault}
 use Rattle.shop_commands.specs.Plays.{IsUntouched}
 use Rattle.ledger_jobs.specs.Keeping.{keep_end}
 use Rattle.ledger_jobs.specs.Kept.{IsKeptOver}
 
-module _ {F W : Type 0} (image : List ℕ) (file after : F) (old new : W) (Done : Type 0) (Fault : KeepFault
+module _ {F W : Type 0} (image : List ℕ) (file after : F) (old new : W) (Done : Type 0) (Fault : CommandFault
     → Type 0) where
   -- it is done
   pub is-done : length image ≡ 174848 → Done → IsKeptOver image file after old new Done Fault (Ok tt)
@@ -18,7 +18,7 @@ module _ {F W : Type 0} (image : List ℕ) (file after : F) (old new : W) (Done 
   }
 
   -- the output or the file failed, or there was no memory
-  pub is-stopped : (fault : KeepFault) → keep_end (Err fault) ≡ 3 → length image ≡ 174848 → Fault fault
+  pub is-stopped : (fault : CommandFault) → keep_end (Err fault) ≡ 3 → length image ≡ 174848 → Fault fault
       → IsKeptOver image file after old new Done Fault (Err fault)
   is-stopped fault three size told = record {
     done = λ zero'. absurd (omega (arith, three, zero'));
@@ -29,7 +29,7 @@ module _ {F W : Type 0} (image : List ℕ) (file after : F) (old new : W) (Done 
   }
 
   -- something is in the way
-  pub is-refused : (fault : KeepFault) → keep_end (Err fault) ≡ 1 → Fault fault → IsUntouched file after old new
+  pub is-refused : (fault : CommandFault) → keep_end (Err fault) ≡ 1 → Fault fault → IsUntouched file after old new
       → IsKeptOver image file after old new Done Fault (Err fault)
   is-refused fault one told same = record {
     done = λ zero'. absurd (omega (arith, one, zero'));

@@ -12,9 +12,9 @@ use Rattle.line_server.specs.Batches.{BatchInput}
 use Rattle.log_server.specs.Reporting.{LogOutput}
 use Rattle.log_server.specs.Serves.{IsServedOver}
 use Rattle.shop_commands.specs.Faults.{opening_fault}
-use Rattle.shop_commands.specs.Images.{IsLoadFault}
-use Rattle.shop_commands.specs.declared.faults.RunFault.{RunFault}
-use Rattle.shop_commands.specs.declared.faults.RunFault.TheVariants as run
+use Rattle.command_faults.specs.Faults.{IsLoadFault}
+use Rattle.command_faults.specs.declared.faults.CommandFault.{CommandFault}
+use Rattle.command_faults.specs.declared.faults.CommandFault.TheVariants as faults
 use Rattle.shop_log.specs.ImageLogs.{LogHistory}
 use Rattle.ledger_jobs.specs.FileServes.{loop_fault}
 use Rattle.ledger_jobs.specs.LoggedRuns.{IsLoggedFault, IsLoggedTo, IsUnlogged}
@@ -22,19 +22,19 @@ use Rattle.ledger_jobs.specs.LoggedRuns.{IsLoggedFault, IsLoggedTo, IsUnlogged}
 module _ {L R T : Type 0} (h : LogHistory L) (i : BatchInput R) (o : LogOutput L T) (image : List ℕ) (log after : L)
     (old_in new_in : R) (old new : T) where
   -- the image wasn't taken into memory
-  pub unloaded : (fault : RunFault) → IsLoadFault image fault → IsUnlogged log after old_in new_in old new
+  pub unloaded : (fault : CommandFault) → IsLoadFault image fault → IsUnlogged log after old_in new_in old new
       → IsLoggedFault h i o image log after old_in new_in old new fault
-  unloaded run.ImageSize why same = (why, same)
-  unloaded run.NoMemory why same = (why, same)
-  unloaded (run.Layout fault) why same = absurd why
-  unloaded run.NoStock why same = absurd why
-  unloaded run.NoRequests why same = absurd why
-  unloaded (run.BadCard item) why same = absurd why
-  unloaded (run.BadRequestCard till) why same = absurd why
-  unloaded run.TwoIntents why same = absurd why
-  unloaded (run.BadLine line) why same = absurd why
-  unloaded run.File why same = absurd why
-  unloaded run.Device why same = absurd why
+  unloaded faults.ImageSize why same = (why, same)
+  unloaded faults.NoMemory why same = (why, same)
+  unloaded (faults.Layout fault) why same = absurd why
+  unloaded faults.NoStock why same = absurd why
+  unloaded faults.NoRequests why same = absurd why
+  unloaded (faults.BadCard item) why same = absurd why
+  unloaded (faults.BadRequestCard till) why same = absurd why
+  unloaded faults.TwoIntents why same = absurd why
+  unloaded (faults.ScriptLine line) why same = absurd why
+  unloaded faults.File why same = absurd why
+  unloaded faults.Device why same = absurd why
 
   module _ (disk : MemDisk) (size : length image ≡ 174848) (holds : disk_image disk ≡ sectors_in image) where
     -- it was, and served to this end

@@ -10,11 +10,11 @@ use Rattle.d64_image.specs.KeptMirrors.{is_broken, mirror, mirror_image}
 use Rattle.d64_image.specs.declared.kept_mirror.KeptMirror.{KeptMirror}
 use Rattle.d64_image.specs.declared.sector_file.SectorFile.{Ghosts}
 use Rattle.disk_layout.specs.Layout.{Layout}
-use Rattle.keeper_commands.specs.Faults.{IsLoadFault}
+use Rattle.command_faults.specs.Faults.{IsLoadFault}
 use Rattle.keeper_commands.specs.Makes.{IsMadeDisk, IsMakeDone, IsMakeFault, IsMakeRun}
 use Rattle.keeper_commands.specs.Refusals.{IsLeft}
-use Rattle.keeper_commands.specs.declared.faults.KeepFault.{KeepFault}
-use Rattle.keeper_commands.specs.declared.faults.KeepFault.TheVariants as keep
+use Rattle.command_faults.specs.declared.faults.CommandFault.{CommandFault}
+use Rattle.command_faults.specs.declared.faults.CommandFault.TheVariants as faults
 use Rattle.shop_commands.specs.Plays.{IsUntouched}
 use Rattle.ledger_jobs.proofs.KeptOver.{is-done, is-refused, is-stopped}
 use Rattle.ledger_jobs.proofs.OverFiles.{broken_file, changes_of_file, handed-back, not_broken, not_failed}
@@ -28,23 +28,23 @@ few_writes l = grind arith
 
 module _ {F W : Type 0} (K : Keeps F) (contents : W → Option (List ℕ)) (image name : List ℕ) (L : ℕ) where
   -- the image wasn't taken into memory
-  pub make-not-loaded : (file : F) (old : W) (fault : KeepFault) → IsLoadFault image fault
+  pub make-not-loaded : (file : F) (old : W) (fault : CommandFault) → IsLoadFault image fault
       → IsMakeOver K contents image name L file file old old (Err fault)
-  make-not-loaded file old keep.ImageSize told =
-      is-refused image file file old old _ (IsMadeFault K image name L file file old old) keep.ImageSize refl
+  make-not-loaded file old faults.ImageSize told =
+      is-refused image file file old old _ (IsMadeFault K image name L file file old old) faults.ImageSize refl
       (told, (refl, refl)) (refl, refl)
-  make-not-loaded file old keep.NoMemory told =
-      is-stopped image file file old old _ (IsMadeFault K image name L file file old old) keep.NoMemory refl told
+  make-not-loaded file old faults.NoMemory told =
+      is-stopped image file file old old _ (IsMadeFault K image name L file file old old) faults.NoMemory refl told
       (told, (refl, refl))
-  make-not-loaded file old (keep.Layout fault) told = absurd told
-  make-not-loaded file old keep.NoFile told = absurd told
-  make-not-loaded file old keep.FileExists told = absurd told
-  make-not-loaded file old (keep.BadLine line) told = absurd told
-  make-not-loaded file old keep.DiskFull told = absurd told
-  make-not-loaded file old keep.File told = absurd told
-  make-not-loaded file old keep.Device told = absurd told
-  make-not-loaded file old keep.Geos told = absurd told
-  make-not-loaded file old keep.Format told = absurd told
+  make-not-loaded file old (faults.Layout fault) told = absurd told
+  make-not-loaded file old faults.NoFile told = absurd told
+  make-not-loaded file old faults.FileExists told = absurd told
+  make-not-loaded file old (faults.RecordsLine line) told = absurd told
+  make-not-loaded file old faults.DiskFull told = absurd told
+  make-not-loaded file old faults.File told = absurd told
+  make-not-loaded file old faults.Device told = absurd told
+  make-not-loaded file old faults.Geos told = absurd told
+  make-not-loaded file old faults.Format told = absurd told
 
 module _ {F : Type 0} {G : Ghosts F} (start : KeptMirror F G) (sound : is_broken start → ⊥) (untaken : start.taken.n ≡ 0)
     (b : KeptMirror F G)
@@ -74,11 +74,11 @@ module _ {F : Type 0} {G : Ghosts F} (start : KeptMirror F G) (sound : is_broken
     abbrev Made : Type 0
     Made = IsMadeFile G.keeps contents image name L start.file b.file old new
 
-    abbrev Fault : KeepFault → Type 0
+    abbrev Fault : CommandFault → Type 0
     Fault = IsMadeFault G.keeps image name L start.file b.file old new
 
     -- the file didn't fail
-    whole-ended : (is_broken b → ⊥) → (r : Result Unit KeepFault)
+    whole-ended : (is_broken b → ⊥) → (r : Result Unit CommandFault)
         → OnOk r (IsMakeDone mirror contents image name L start b old new)
         → IfErr r (IsMakeFault mirror image name L start b old new)
         → IsMakeOver G.keeps contents image name L start.file b.file old new r
@@ -90,32 +90,32 @@ module _ {F : Type 0} {G : Ghosts F} (start : KeptMirror F G) (sound : is_broken
             ok.printed;
       }),
     )
-    whole-ended whole (Err keep.Geos) ok err = absurd err
-    whole-ended whole (Err keep.Format) ok err = absurd err
-    whole-ended whole (Err keep.ImageSize) ok err = absurd (err.0 size)
-    whole-ended whole (Err keep.NoMemory) ok err = is-stopped image start.file b.file old new Made Fault keep.NoMemory
+    whole-ended whole (Err faults.Geos) ok err = absurd err
+    whole-ended whole (Err faults.Format) ok err = absurd err
+    whole-ended whole (Err faults.ImageSize) ok err = absurd (err.0 size)
+    whole-ended whole (Err faults.NoMemory) ok err = is-stopped image start.file b.file old new Made Fault faults.NoMemory
         refl size
         (size, (ap (λ (m : KeptMirror F G). m.file) err.1, err.2))
-    whole-ended whole (Err (keep.Layout fault)) ok err =
+    whole-ended whole (Err (faults.Layout fault)) ok err =
         let same : IsUntouched start.file b.file old new = (ap (λ (m : KeptMirror F G). m.file) err.2, err.3) in
-        is-refused image start.file b.file old new Made Fault (keep.Layout fault) refl (size, err.1, same) same
-    whole-ended whole (Err keep.FileExists) ok err =
+        is-refused image start.file b.file old new Made Fault (faults.Layout fault) refl (size, err.1, same) same
+    whole-ended whole (Err faults.FileExists) ok err =
         let x = refused_of_file start sound untaken b image size holds old new _ (λ l. IsTakenName l name) (λ l w. w)
         whole err in
-        is-refused image start.file b.file old new Made Fault keep.FileExists refl x x.untouched
-    whole-ended whole (Err keep.DiskFull) ok err =
+        is-refused image start.file b.file old new Made Fault faults.FileExists refl x x.untouched
+    whole-ended whole (Err faults.DiskFull) ok err =
         let x = refused_of_file start sound untaken b image size holds old new _ (λ l. HasNoRoom (sectors_in image) l
         × ¬ (IsTakenName l name))
         (λ l w. (subst (λ img. HasNoRoom img l) holds w.0, w.1)) whole err in
-        is-refused image start.file b.file old new Made Fault keep.DiskFull refl x x.untouched
-    whole-ended whole (Err keep.File) ok err =
-        is-stopped image start.file b.file old new Made Fault keep.File refl size (
+        is-refused image start.file b.file old new Made Fault faults.DiskFull refl x x.untouched
+    whole-ended whole (Err faults.File) ok err =
+        is-stopped image start.file b.file old new Made Fault faults.File refl size (
           whole_file start sound untaken b err.run.moments.held whole,
           taken_up start sound untaken b image size holds (made_of_file whole err),
         )
-    whole-ended whole (Err keep.Device) ok err = absurd (not_failed start sound untaken b whole err.1)
-    whole-ended whole (Err keep.NoFile) ok err = absurd err
-    whole-ended whole (Err (keep.BadLine line)) ok err = absurd err
+    whole-ended whole (Err faults.Device) ok err = absurd (not_failed start sound untaken b whole err.1)
+    whole-ended whole (Err faults.NoFile) ok err = absurd err
+    whole-ended whole (Err (faults.RecordsLine line)) ok err = absurd err
 
     -- a disk of which nothing was written has its files
     left-run : (Why : Layout → Type 0) → IsLeft mirror image start b old new Why → IsMakeRun mirror image name L start b
@@ -129,32 +129,32 @@ module _ {F : Type 0} {G : Ghosts F} (start : KeptMirror F G) (sound : is_broken
     }
 
     -- whatever a run over a mirror that broke ended with, it was one, and nothing was printed
-    run-of : is_broken b → (r : Result Unit KeepFault)
+    run-of : is_broken b → (r : Result Unit CommandFault)
         → OnOk r (IsMakeDone mirror contents image name L start b old new)
         → IfErr r (IsMakeFault mirror image name L start b old new) → IsMakeRun mirror image name L start b
         × (new ≡ old)
     run-of broken (Ok x) ok err = absurd (not_broken start sound untaken b ok.disk.unfailed broken)
-    run-of broken (Err keep.ImageSize) ok err = absurd (err.0 size)
-    run-of broken (Err keep.NoMemory) ok err = absurd (sound (subst (λ (m : KeptMirror F G). is_broken m) err.1 broken))
-    run-of broken (Err (keep.Layout fault)) ok err =
+    run-of broken (Err faults.ImageSize) ok err = absurd (err.0 size)
+    run-of broken (Err faults.NoMemory) ok err = absurd (sound (subst (λ (m : KeptMirror F G). is_broken m) err.1 broken))
+    run-of broken (Err (faults.Layout fault)) ok err =
         absurd (sound (subst (λ (m : KeptMirror F G). is_broken m) err.2 broken))
-    run-of broken (Err keep.FileExists) ok err = (left-run _ err, err.unprinted)
-    run-of broken (Err keep.DiskFull) ok err = (left-run _ err, err.unprinted)
-    run-of broken (Err keep.File) ok err = absurd (not_broken start sound untaken b err.unfailed broken)
-    run-of broken (Err keep.Device) ok err = (err.0, err.2)
-    run-of broken (Err keep.NoFile) ok err = absurd err
-    run-of broken (Err (keep.BadLine line)) ok err = absurd err
-    run-of broken (Err keep.Geos) ok err = absurd err
-    run-of broken (Err keep.Format) ok err = absurd err
+    run-of broken (Err faults.FileExists) ok err = (left-run _ err, err.unprinted)
+    run-of broken (Err faults.DiskFull) ok err = (left-run _ err, err.unprinted)
+    run-of broken (Err faults.File) ok err = absurd (not_broken start sound untaken b err.unfailed broken)
+    run-of broken (Err faults.Device) ok err = (err.0, err.2)
+    run-of broken (Err faults.NoFile) ok err = absurd err
+    run-of broken (Err (faults.RecordsLine line)) ok err = absurd err
+    run-of broken (Err faults.Geos) ok err = absurd err
+    run-of broken (Err faults.Format) ok err = absurd err
 
     -- the file failed
-    broken-ended : is_broken b → (r : Result Unit KeepFault)
+    broken-ended : is_broken b → (r : Result Unit CommandFault)
         → OnOk r (IsMakeDone mirror contents image name L start b old new)
         → IfErr r (IsMakeFault mirror image name L start b old new)
-        → IsMakeOver G.keeps contents image name L start.file b.file old new (Err keep.Device)
+        → IsMakeOver G.keeps contents image name L start.file b.file old new (Err faults.Device)
     broken-ended broken r ok err =
         let run = run-of broken r ok err in
-        is-stopped image start.file b.file old new Made Fault keep.Device refl size (
+        is-stopped image start.file b.file old new Made Fault faults.Device refl size (
           broken_file start sound untaken b run.0.moments.held broken,
           taken_up start sound untaken b image size holds
               (run_of_file run.0),
@@ -162,11 +162,11 @@ module _ {F : Type 0} {G : Ghosts F} (start : KeptMirror F G) (sound : is_broken
         )
 
     -- the file that is handed back, and what is told of it
-    pub make-ended : (file : F) (r : Result Unit KeepFault) (out : F × Result Unit KeepFault) → start.file ≡ file
+    pub make-ended : (file : F) (r : Result Unit CommandFault) (out : F × Result Unit CommandFault) → start.file ≡ file
         → out.0 ≡ b.file
         → OnOk r (IsMakeDone mirror contents image name L start b old new)
         → IfErr r (IsMakeFault mirror image name L start b old new)
-        → (is_broken b × (out.1 ≡ Err keep.Device)) ⊎ ((is_broken b → ⊥) × (out.1 ≡ r))
+        → (is_broken b × (out.1 ≡ Err faults.Device)) ⊎ ((is_broken b → ⊥) × (out.1 ≡ r))
         → IsMakeOver G.keeps contents image name L file out.0 old new out.1
     make-ended file r out first after ok err end =
         handed-back (λ f a e. IsMakeOver G.keeps contents image name L f a old new e) start b file r out first after

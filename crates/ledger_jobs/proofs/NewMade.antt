@@ -6,8 +6,8 @@ use Rattle.d64_image.specs.Images.{Image}
 use Rattle.d64_image.specs.Memory.{sectors_in}
 use Rattle.file_changes.specs.Formats.{IsNewDisk}
 use Rattle.host_session.specs.runs.Outputs.{AppendsPart}
-use Rattle.shop_commands.specs.declared.faults.RunFault.{RunFault}
-use Rattle.shop_commands.specs.declared.faults.RunFault.TheVariants as run
+use Rattle.command_faults.specs.declared.faults.CommandFault.{CommandFault}
+use Rattle.command_faults.specs.declared.faults.CommandFault.TheVariants as faults
 use Rattle.system_files.specs.Remains.{Remains}
 use Rattle.ledger_jobs.specs.Copies.{IsCopiedOver}
 use Rattle.ledger_jobs.specs.NewDisks.{IsNewImage, IsNewMade}
@@ -23,7 +23,7 @@ new-image name id bytes img size same is = record {
 module _ {F W : Type 0} (r : Remains F) (contents : W → Option (List ℕ)) (name id : List ℕ) (file after : F)
     (old new : W) where
   -- there was no memory for the disk
-  pub new-unmade : (result : Result Unit RunFault) (fault : RunFault) → result ≡ Err fault → fault ≡ run.NoMemory
+  pub new-unmade : (result : Result Unit CommandFault) (fault : CommandFault) → result ≡ Err fault → fault ≡ faults.NoMemory
       → IsNewMade r contents name id file file old old result
   new-unmade result fault told is =
       subst (IsNewMade r contents name id file file old old) (sym told)
@@ -31,8 +31,8 @@ module _ {F W : Type 0} (r : Remains F) (contents : W → Option (List ℕ)) (na
 
   -- the image was written whole, and that was said, or a part of it
   pub new-said : (image : List ℕ) → IsNewImage name id image → IsCopiedOver r image file after
-      → (result : Result Unit RunFault) → OnOk result (Appends (contents old) (contents new) (codes "FORMATTED\n"))
-      → IfErr result (λ fault. (fault ≡ run.File) × AppendsPart (contents old) (contents new) (codes "FORMATTED\n"))
+      → (result : Result Unit CommandFault) → OnOk result (Appends (contents old) (contents new) (codes "FORMATTED\n"))
+      → IfErr result (λ fault. (fault ≡ faults.File) × AppendsPart (contents old) (contents new) (codes "FORMATTED\n"))
       → IsNewMade r contents name id file after old new result
   new-said image is whole (Ok _) said part = (image, is, whole, said)
   new-said image is whole (Err fault) said part =

@@ -21,10 +21,10 @@ use Rattle.log_server.proofs.UnderWay.{as_many_replies}
 use Rattle.request_cards.specs.Ledgers.{replies}
 use Rattle.request_cards.specs.declared.reply.Reply.{Reply}
 use Rattle.script_lines.specs.Lines.{lines}
-use Rattle.shop_commands.specs.declared.faults.RunFault.{RunFault}
+use Rattle.command_faults.specs.declared.faults.CommandFault.{CommandFault}
 use Rattle.shop_log.specs.ImageLogs.{LogHistory}
 use Rattle.shop_log.specs.declared.log_file.LogFile.{Ghosts}
-use Rattle.ledger_jobs.specs.Ends.{JobEnd, as_job, end_of}
+use Rattle.ledger_jobs.specs.Ends.{JobEnd, as_run}
 use Rattle.ledger_jobs.specs.LandedRuns.{HasLanded, IsDoneAndLanded, IsLandedEnd, watched_end}
 use Rattle.ledger_jobs.specs.LoggedPlays.{IsLoggedPlay, IsPlayedWhole}
 use Rattle.ledger_jobs.specs.LoggedRuns.{IsLoggedRun, IsLoggedTo}
@@ -73,7 +73,7 @@ module _ {L T : Type 0} (h : LogHistory L) (o : LogOutput L T) (image script : L
       }
 
   -- its lines were served, and ended so
-  pub logged_play : (ended : Result Unit RunFault)
+  pub logged_play : (ended : Result Unit CommandFault)
       → IsLoggedRun h of_script o image log after first left old new ended
       → IsLoggedPlay h o image script log after old new ended
   logged_play (Ok u) run = record {
@@ -88,10 +88,10 @@ module _ {L T : Type 0} (h : LogHistory L) (o : LogOutput L T) (image script : L
 module _ {F D T : Type 0} {G : Ghosts F} (h : FolderHistory D) (o : LogOutput (LiveLog F D G) T) (image script : List ℕ)
     (log left : LiveLog F D G) (old new : T) where
   -- a log that was landed at the end of a play has the shop after all messages
-  landed_shop : (s : Shop) (run : Result Unit RunFault) (gone : Bool) (folder : Option D) (end : JobEnd)
+  landed_shop : (s : Shop) (run : Result Unit CommandFault) (gone : Bool) (folder : Option D) (end : JobEnd)
       → IsShop (sectors_in image) s → (of_live h).stands_for log (sectors_in image)
       → IsLoggedPlay (of_live h) o image script log left old new run
-      → IsLandedEnd h left (watched_end gone (as_job (end_of run))) folder end → IsOk end
+      → IsLandedEnd h left (watched_end gone (as_run run)) folder end → IsOk end
       → HasLanded h (shop_behind s (lines script)) folder
   landed_shop s run gone folder (Err refusal) shop stands play landed ok = absurd (false≢true ok)
   landed_shop s run true folder (Ok printed) shop stands play landed ok = let bad = (landed.left refl).0 in cc
@@ -108,15 +108,15 @@ module _ {F D T : Type 0} {G : Ghosts F} (h : FolderHistory D) (o : LogOutput (L
       (whole.last, whole.rests, landed.landed whole.last (whole.stands stands) (inl ok))
 
   -- the end with which a log was landed, in the terms of the run
-  landed_as : (run : Result Unit RunFault) (ended served : JobEnd) (gone : Bool) (folder : Option D) (end : JobEnd)
-      → ended ≡ as_job (end_of run) → served ≡ watched_end gone ended → IsLandedEnd h left served folder end
-      → IsLandedEnd h left (watched_end gone (as_job (end_of run))) folder end
+  landed_as : (run : Result Unit CommandFault) (ended served : JobEnd) (gone : Bool) (folder : Option D) (end : JobEnd)
+      → ended ≡ as_run run → served ≡ watched_end gone ended → IsLandedEnd h left served folder end
+      → IsLandedEnd h left (watched_end gone (as_run run)) folder end
   landed_as run ended served gone folder end is told landed =
       subst (λ (j : JobEnd). IsLandedEnd h left j folder end) (told ∙ ap (λ (j : JobEnd). watched_end gone j) is) landed
 
   -- a play over a log that was landed then
-  pub begun_play : (run : Result Unit RunFault) (ended served : JobEnd) (gone : Bool) (folder : Option D) (end : JobEnd)
-      → ended ≡ as_job (end_of run) → served ≡ watched_end gone ended → IsLandedEnd h left served folder end
+  pub begun_play : (run : Result Unit CommandFault) (ended served : JobEnd) (gone : Bool) (folder : Option D) (end : JobEnd)
+      → ended ≡ as_run run → served ≡ watched_end gone ended → IsLandedEnd h left served folder end
       → IsLoggedPlay (of_live h) o image script log left old new run
       → (x : Bool) × IsDoneAndLanded h (λ after end. IsEndOfRun (IsLoggedPlay (of_live h) o image script log after old new) end)
       x folder end
@@ -124,14 +124,14 @@ module _ {F D T : Type 0} {G : Ghosts F} (h : FolderHistory D) (o : LogOutput (L
     gone,
     record {
       left = left;
-      ended = as_job (end_of run);
+      ended = as_run run;
       done = (run, refl, play);
       landed = landed_as run ended served gone folder end is told landed;
     },
   )
 
-  pub landed_play : (run : Result Unit RunFault) (ended served : JobEnd) (gone : Bool) (folder : Option D) (end : JobEnd)
-      → ended ≡ as_job (end_of run) → served ≡ watched_end gone ended → IsLandedEnd h left served folder end
+  pub landed_play : (run : Result Unit CommandFault) (ended served : JobEnd) (gone : Bool) (folder : Option D) (end : JobEnd)
+      → ended ≡ as_run run → served ≡ watched_end gone ended → IsLandedEnd h left served folder end
       → IsLoggedPlay (of_live h) o image script log left old new run
       → (s : Shop) → IsShop (sectors_in image) s → (of_live h).stands_for log (sectors_in image) → IsOk end
       → HasLanded h (shop_behind s (lines script)) folder

@@ -1,10 +1,10 @@
 -- What comes of renaming a file over the file of a mirror, from that over the mirror and whether it is broken.
 use Rattle.std.proofs.Common.{◌≡◌, ◌⊎◌, ℕ, List, Option, Result, Ok, Err, ap, arith, inl, length, refl, subst}
 use Rattle.std.specs.Prelude.{IfErr, OnOk}
-use Rattle.change_commands.specs.Faults.{IsLoadFault}
+use Rattle.command_faults.specs.Faults.{IsLoadFault}
 use Rattle.change_commands.specs.Renames.{IsLeftSound, IsRenameDone, IsRenameFault, IsRenameRun, IsRenamedDisk}
-use Rattle.change_commands.specs.declared.faults.EditFault.{EditFault}
-use Rattle.change_commands.specs.declared.faults.EditFault.TheVariants as edit
+use Rattle.command_faults.specs.declared.faults.CommandFault.{CommandFault}
+use Rattle.command_faults.specs.declared.faults.CommandFault.TheVariants as faults
 use Rattle.d64_image.proofs.FileRuns.{file_disk}
 use Rattle.d64_image.proofs.Moments.{changes_weaker, no_write_change}
 use Rattle.d64_image.specs.FileDisks.{in_run}
@@ -22,17 +22,17 @@ use Rattle.ledger_jobs.specs.Edited.{IsRenameOver}
 
 module _ {F W : Type 0} (K : Keeps F) (contents : W → Option (List ℕ)) (image from to : List ℕ) where
   -- the image wasn't taken into memory
-  pub rename-not-loaded : (file : F) (old : W) (fault : EditFault) → IsLoadFault image fault
+  pub rename-not-loaded : (file : F) (old : W) (fault : CommandFault) → IsLoadFault image fault
       → IsRenameOver K contents image from to file file old old (Err fault)
-  rename-not-loaded file old edit.ImageSize told = (told, (refl, refl))
-  rename-not-loaded file old edit.NoMemory told = (told, (refl, refl))
-  rename-not-loaded file old (edit.Layout fault) told = absurd told
-  rename-not-loaded file old edit.NoFile told = absurd told
-  rename-not-loaded file old edit.FileExists told = absurd told
-  rename-not-loaded file old edit.DiskFull told = absurd told
-  rename-not-loaded file old edit.Locked told = absurd told
-  rename-not-loaded file old edit.File told = absurd told
-  rename-not-loaded file old edit.Device told = absurd told
+  rename-not-loaded file old faults.ImageSize told = (told, (refl, refl))
+  rename-not-loaded file old faults.NoMemory told = (told, (refl, refl))
+  rename-not-loaded file old (faults.Layout fault) told = absurd told
+  rename-not-loaded file old faults.NoFile told = absurd told
+  rename-not-loaded file old faults.FileExists told = absurd told
+  rename-not-loaded file old faults.DiskFull told = absurd told
+  rename-not-loaded file old faults.Locked told = absurd told
+  rename-not-loaded file old faults.File told = absurd told
+  rename-not-loaded file old faults.Device told = absurd told
 
 module _ {F : Type 0} {G : Ghosts F} (start : KeptMirror F G) (sound : is_broken start → ⊥) (untaken : start.taken.n ≡ 0)
     (b : KeptMirror F G)
@@ -58,7 +58,7 @@ module _ {F : Type 0} {G : Ghosts F} (start : KeptMirror F G) (sound : is_broken
       (holds : mirror_image start ≡ sectors_in image)
       (old new : W) where
     -- the file didn't fail
-    whole-ended : (is_broken b → ⊥) → (r : Result Unit EditFault)
+    whole-ended : (is_broken b → ⊥) → (r : Result Unit CommandFault)
         → OnOk r (IsRenameDone mirror contents image from to start b old new)
         → IfErr r (IsRenameFault mirror image from to start b old new)
         → IsRenameOver G.keeps contents image from to start.file b.file old new r
@@ -69,21 +69,21 @@ module _ {F : Type 0} {G : Ghosts F} (start : KeptMirror F G) (sound : is_broken
         printed = ok.printed;
       }),
     )
-    whole-ended whole (Err edit.ImageSize) ok err = absurd (err.0 size)
-    whole-ended whole (Err edit.NoMemory) ok err = (size, (ap (λ (m : KeptMirror F G). m.file) err.1, err.2))
-    whole-ended whole (Err (edit.Layout fault)) ok err =
+    whole-ended whole (Err faults.ImageSize) ok err = absurd (err.0 size)
+    whole-ended whole (Err faults.NoMemory) ok err = (size, (ap (λ (m : KeptMirror F G). m.file) err.1, err.2))
+    whole-ended whole (Err (faults.Layout fault)) ok err =
         (err.0.0, err.0.1, (ap (λ (m : KeptMirror F G). m.file) err.1, err.2))
-    whole-ended whole (Err edit.NoFile) ok err =
+    whole-ended whole (Err faults.NoFile) ok err =
         sound-refused start sound untaken b image holds old new whole _ err
-    whole-ended whole (Err edit.FileExists) ok err =
+    whole-ended whole (Err faults.FileExists) ok err =
         sound-refused start sound untaken b image holds old new whole _ err
-    whole-ended whole (Err edit.Locked) ok err = absurd err
-    whole-ended whole (Err edit.DiskFull) ok err = absurd err.0
-    whole-ended whole (Err edit.File) ok err = (
+    whole-ended whole (Err faults.Locked) ok err = absurd err
+    whole-ended whole (Err faults.DiskFull) ok err = absurd err.0
+    whole-ended whole (Err faults.File) ok err = (
       whole_file start sound untaken b err.run.moments.held whole,
       taken_up start sound untaken b image size holds (done_of_file whole err),
     )
-    whole-ended whole (Err edit.Device) ok err = absurd (not_failed start sound untaken b whole err.1)
+    whole-ended whole (Err faults.Device) ok err = absurd (not_failed start sound untaken b whole err.1)
 
     -- a disk of which nothing was written is as it was
     left-run : (Why : Layout → Type 0) → IsLeftSound mirror image start b old new Why → IsRenameRun mirror image from to start b
@@ -97,26 +97,26 @@ module _ {F : Type 0} {G : Ghosts F} (start : KeptMirror F G) (sound : is_broken
     }
 
     -- whatever a run over a mirror that broke ended with, it was one, and nothing was printed
-    run-of : is_broken b → (r : Result Unit EditFault)
+    run-of : is_broken b → (r : Result Unit CommandFault)
         → OnOk r (IsRenameDone mirror contents image from to start b old new)
         → IfErr r (IsRenameFault mirror image from to start b old new) → IsRenameRun mirror image from to start b × (new ≡ old)
     run-of broken (Ok x) ok err = absurd (not_broken start sound untaken b ok.disk.unfailed broken)
-    run-of broken (Err edit.ImageSize) ok err = absurd (err.0 size)
-    run-of broken (Err edit.NoMemory) ok err = absurd (sound (subst (λ (m : KeptMirror F G). is_broken m) err.1 broken))
-    run-of broken (Err (edit.Layout fault)) ok err =
+    run-of broken (Err faults.ImageSize) ok err = absurd (err.0 size)
+    run-of broken (Err faults.NoMemory) ok err = absurd (sound (subst (λ (m : KeptMirror F G). is_broken m) err.1 broken))
+    run-of broken (Err (faults.Layout fault)) ok err =
         absurd (sound (subst (λ (m : KeptMirror F G). is_broken m) err.1 broken))
-    run-of broken (Err edit.NoFile) ok err = (left-run _ err, err.unprinted)
-    run-of broken (Err edit.FileExists) ok err = (left-run _ err, err.unprinted)
-    run-of broken (Err edit.Locked) ok err = absurd err
-    run-of broken (Err edit.DiskFull) ok err = absurd err.0
-    run-of broken (Err edit.File) ok err = absurd (not_broken start sound untaken b err.unfailed broken)
-    run-of broken (Err edit.Device) ok err = (err.0, err.2)
+    run-of broken (Err faults.NoFile) ok err = (left-run _ err, err.unprinted)
+    run-of broken (Err faults.FileExists) ok err = (left-run _ err, err.unprinted)
+    run-of broken (Err faults.Locked) ok err = absurd err
+    run-of broken (Err faults.DiskFull) ok err = absurd err.0
+    run-of broken (Err faults.File) ok err = absurd (not_broken start sound untaken b err.unfailed broken)
+    run-of broken (Err faults.Device) ok err = (err.0, err.2)
 
     -- the file failed
-    broken-ended : is_broken b → (r : Result Unit EditFault)
+    broken-ended : is_broken b → (r : Result Unit CommandFault)
         → OnOk r (IsRenameDone mirror contents image from to start b old new)
         → IfErr r (IsRenameFault mirror image from to start b old new)
-        → IsRenameOver G.keeps contents image from to start.file b.file old new (Err edit.Device)
+        → IsRenameOver G.keeps contents image from to start.file b.file old new (Err faults.Device)
     broken-ended broken r ok err =
         let run = run-of broken r ok err in (
           broken_file start sound untaken b run.0.moments.held broken,
@@ -125,11 +125,11 @@ module _ {F : Type 0} {G : Ghosts F} (start : KeptMirror F G) (sound : is_broken
         )
 
     -- the file that is handed back, and what is reported of it
-    pub rename-ended : (file : F) (r : Result Unit EditFault) (out : F × Result Unit EditFault) → start.file ≡ file
+    pub rename-ended : (file : F) (r : Result Unit CommandFault) (out : F × Result Unit CommandFault) → start.file ≡ file
         → out.0 ≡ b.file
         → OnOk r (IsRenameDone mirror contents image from to start b old new)
         → IfErr r (IsRenameFault mirror image from to start b old new)
-        → (is_broken b × (out.1 ≡ Err edit.Device)) ⊎ ((is_broken b → ⊥) × (out.1 ≡ r))
+        → (is_broken b × (out.1 ≡ Err faults.Device)) ⊎ ((is_broken b → ⊥) × (out.1 ≡ r))
         → IsRenameOver G.keeps contents image from to file out.0 old new out.1
     rename-ended file r out first after ok err end =
         handed-back (λ f a e. IsRenameOver G.keeps contents image from to f a old new e) start b file r out first after

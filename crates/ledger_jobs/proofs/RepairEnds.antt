@@ -7,17 +7,17 @@ use Rattle.d64_image.specs.Keeps.{Keeps}
 use Rattle.d64_image.specs.Memory.{memory, sectors_in}
 use Rattle.disk_layout.specs.Directory.{map_place}
 use Rattle.disk_layout.specs.Layout.{IsSound}
-use Rattle.keeper_commands.specs.Faults.{IsLoadFault, keep_status}
+use Rattle.command_faults.specs.Faults.{IsLoadFault, command_status}
 use Rattle.keeper_commands.specs.Kinds.{IsPlainDisk}
-use Rattle.keeper_commands.specs.declared.faults.KeepFault.{KeepFault}
-use Rattle.keeper_commands.specs.declared.faults.KeepFault.TheVariants as keep
+use Rattle.command_faults.specs.declared.faults.CommandFault.{CommandFault}
+use Rattle.command_faults.specs.declared.faults.CommandFault.TheVariants as faults
 use Rattle.shop_commands.specs.Plays.{IsUntouched}
 use Rattle.ledger_jobs.specs.Keeping.{IsRepairOver, IsRepairedFault, IsRepairedFile, repair_end}
 
 module _ {F W : Type 0} (free : Bool) (K : Keeps F) (contents : W → Option (List ℕ)) (image : List ℕ) (file after : F)
     (old new : W) where
   -- the output or the file failed, or there was no memory
-  pub stopped : (fault : KeepFault) → keep_status fault ≡ 3 → length image ≡ 174848
+  pub stopped : (fault : CommandFault) → command_status fault ≡ 3 → length image ≡ 174848
       → IsRepairedFault free K image file after old new fault
       → IsRepairOver free K contents image file after old new (Err fault)
   stopped fault three size told = record {
@@ -46,7 +46,7 @@ module _ {F W : Type 0} (free : Bool) (K : Keeps F) (contents : W → Option (Li
       ended false e = inr (inl (ap (λ (is : Bool). if is then 0 else 1) e))
 
   -- an image that is refused: nothing was done
-  pub refused : (fault : KeepFault) → keep_status fault ≡ 1 → length image ≡ 174848
+  pub refused : (fault : CommandFault) → command_status fault ≡ 1 → length image ≡ 174848
       → IsRepairedFault free K image file after old new fault → IsUntouched file after old new
       → ¬ (IsPlainDisk (sector (sectors_in image) map_place) × IsSound (sectors_in image))
       → IsRepairOver free K contents image file after old new (Err fault)
@@ -61,9 +61,9 @@ module _ {F W : Type 0} (free : Bool) (K : Keeps F) (contents : W → Option (Li
 
 -- the image wasn't taken into memory
 pub not-loaded : {F W : Type 0} (free : Bool) (K : Keeps F) (contents : W → Option (List ℕ)) (image : List ℕ) (file : F)
-    (old : W) (fault : KeepFault)
+    (old : W) (fault : CommandFault)
     → IsLoadFault image fault → IsRepairOver free K contents image file file old old (Err fault)
-not-loaded free K contents image file old keep.ImageSize told = record {
+not-loaded free K contents image file old faults.ImageSize told = record {
   done = tt;
   fault = (told, (refl, refl));
   size = λ _. refl;
@@ -71,14 +71,14 @@ not-loaded free K contents image file old keep.ImageSize told = record {
   untouched = λ _. (refl, refl);
   statuses = inr (inl refl);
 }
-not-loaded free K contents image file old keep.NoMemory told =
-    stopped free K contents image file file old old keep.NoMemory refl told (told, (refl, refl))
-not-loaded free K contents image file old (keep.Layout fault) told = absurd told
-not-loaded free K contents image file old keep.NoFile told = absurd told
-not-loaded free K contents image file old keep.FileExists told = absurd told
-not-loaded free K contents image file old (keep.BadLine line) told = absurd told
-not-loaded free K contents image file old keep.DiskFull told = absurd told
-not-loaded free K contents image file old keep.File told = absurd told
-not-loaded free K contents image file old keep.Device told = absurd told
-not-loaded free K contents image file old keep.Geos told = absurd told
-not-loaded free K contents image file old keep.Format told = absurd told
+not-loaded free K contents image file old faults.NoMemory told =
+    stopped free K contents image file file old old faults.NoMemory refl told (told, (refl, refl))
+not-loaded free K contents image file old (faults.Layout fault) told = absurd told
+not-loaded free K contents image file old faults.NoFile told = absurd told
+not-loaded free K contents image file old faults.FileExists told = absurd told
+not-loaded free K contents image file old (faults.RecordsLine line) told = absurd told
+not-loaded free K contents image file old faults.DiskFull told = absurd told
+not-loaded free K contents image file old faults.File told = absurd told
+not-loaded free K contents image file old faults.Device told = absurd told
+not-loaded free K contents image file old faults.Geos told = absurd told
+not-loaded free K contents image file old faults.Format told = absurd told

@@ -23,8 +23,8 @@ use Rattle.disk_layout.specs.declared.faults.Fault.{Fault}
 use Rattle.layout_check.specs.Keeping.{FreesNothing}
 use Rattle.keeper_commands.specs.Kinds.{HasFormatByte, HasGeosSign, IsPlainDisk}
 use Rattle.keeper_commands.specs.Repairs.{IsMendedDisk, IsRepairDone, IsRepairFault, IsRepairRun}
-use Rattle.keeper_commands.specs.declared.faults.KeepFault.{KeepFault}
-use Rattle.keeper_commands.specs.declared.faults.KeepFault.TheVariants as keep
+use Rattle.command_faults.specs.declared.faults.CommandFault.{CommandFault}
+use Rattle.command_faults.specs.declared.faults.CommandFault.TheVariants as faults
 use Rattle.shop_commands.proofs.FileEnds.{failed_stably}
 use Rattle.shop_commands.specs.Plays.{IsUntouched}
 use Rattle.ledger_jobs.proofs.OverFiles.{changes_of_file, handed-back, not_failed, same_file, taken_up}
@@ -103,7 +103,7 @@ module _ {F : Type 0} {G : Ghosts F} (start : KeptMirror F G) (sound : is_broken
         }
 
     -- the file didn't fail
-    pub whole-ended : (is_broken b → ⊥) → (r : Result ℕ KeepFault)
+    pub whole-ended : (is_broken b → ⊥) → (r : Result ℕ CommandFault)
         → IfOk r (IsRepairDone free mirror contents image start b old new)
         → IfErr r (IsRepairFault free mirror image start b old new)
         → IsRepairOver free G.keeps contents image start.file b.file old new r
@@ -112,70 +112,70 @@ module _ {F : Type 0} {G : Ghosts F} (start : KeptMirror F G) (sound : is_broken
       taken_up start sound untaken b image size holds
           (record { mended = mended_of_file free image n ok.mended; printed = ok.printed }),
     )
-    whole-ended whole (Err keep.ImageSize) ok err = absurd (err.0 size)
-    whole-ended whole (Err keep.NoMemory) ok err =
-        stopped free G.keeps contents image start.file b.file old new keep.NoMemory refl size
+    whole-ended whole (Err faults.ImageSize) ok err = absurd (err.0 size)
+    whole-ended whole (Err faults.NoMemory) ok err =
+        stopped free G.keeps contents image start.file b.file old new faults.NoMemory refl size
         (size, same_handed err.1 err.2)
-    whole-ended whole (Err keep.Geos) ok err =
+    whole-ended whole (Err faults.Geos) ok err =
         let same = same_handed err.2 err.3 in
         let sign = subst (λ img. HasGeosSign (sector img map_place)) holds err.1 in
-        refused free G.keeps contents image start.file b.file old new keep.Geos refl size (size, sign, same) same
+        refused free G.keeps contents image start.file b.file old new faults.Geos refl size (size, sign, same) same
         (λ x. x.0.geos sign)
-    whole-ended whole (Err keep.Format) ok err =
+    whole-ended whole (Err faults.Format) ok err =
         let same = same_handed err.2 err.3 in
         let other = subst (λ img. ¬ (HasFormatByte (sector img map_place))) holds err.1 in
-        refused free G.keeps contents image start.file b.file old new keep.Format refl size (size, other, same) same
+        refused free G.keeps contents image start.file b.file old new faults.Format refl size (size, other, same) same
         (λ x. other x.0.format)
-    whole-ended whole (Err (keep.Layout fault)) ok err =
+    whole-ended whole (Err (faults.Layout fault)) ok err =
         let same : IsUntouched start.file b.file old new = (same_file start sound untaken b err.3 whole, err.4) in
         let told : Holds nowhere (sectors_in image) fault = subst (λ img. Holds nowhere img fault) holds err.2 in
-        refused free G.keeps contents image start.file b.file old new (keep.Layout fault) refl size (size, told, same)
+        refused free G.keeps contents image start.file b.file old new (faults.Layout fault) refl size (size, told, same)
         same (λ x. told-unsound (sectors_in image) fault told x.1)
-    whole-ended whole (Err keep.File) ok err =
-        stopped free G.keeps contents image start.file b.file old new keep.File refl size (
+    whole-ended whole (Err faults.File) ok err =
+        stopped free G.keeps contents image start.file b.file old new faults.File refl size (
           (reached free image err.0 err.1).unfailed whole,
           taken_up start sound untaken b image size holds (err.0, mended_of_file free image err.0 err.1),
         )
-    whole-ended whole (Err keep.Device) ok err = absurd (not_failed start sound untaken b whole err.1)
-    whole-ended whole (Err keep.NoFile) ok err = absurd err
-    whole-ended whole (Err keep.FileExists) ok err = absurd err
-    whole-ended whole (Err (keep.BadLine line)) ok err = absurd err
-    whole-ended whole (Err keep.DiskFull) ok err = absurd err
+    whole-ended whole (Err faults.Device) ok err = absurd (not_failed start sound untaken b whole err.1)
+    whole-ended whole (Err faults.NoFile) ok err = absurd err
+    whole-ended whole (Err faults.FileExists) ok err = absurd err
+    whole-ended whole (Err (faults.RecordsLine line)) ok err = absurd err
+    whole-ended whole (Err faults.DiskFull) ok err = absurd err
 
     -- where the disk is the one that was handed in, the file hasn't failed
     not_handed : is_broken b → ¬ (b ≡ start)
     not_handed broken same = sound (subst (λ (m : KeptMirror F G). is_broken m) same broken)
 
     broken-run : is_broken b → (run : IsRepairRun free mirror image start b)
-        → IsRepairOver free G.keeps contents image start.file b.file old new (Err keep.Device)
-    broken-run broken run = stopped free G.keeps contents image start.file b.file old new keep.Device refl size
+        → IsRepairOver free G.keeps contents image start.file b.file old new (Err faults.Device)
+    broken-run broken run = stopped free G.keeps contents image start.file b.file old new faults.Device refl size
         (failed_file free image broken run, taken_up start sound untaken b image size holds (run_of_file free image run))
 
     -- the file failed
-    pub broken-ended : is_broken b → (r : Result ℕ KeepFault)
+    pub broken-ended : is_broken b → (r : Result ℕ CommandFault)
         → IfOk r (IsRepairDone free mirror contents image start b old new)
         → IfErr r (IsRepairFault free mirror image start b old new)
-        → IsRepairOver free G.keeps contents image start.file b.file old new (Err keep.Device)
+        → IsRepairOver free G.keeps contents image start.file b.file old new (Err faults.Device)
     broken-ended broken (Ok n) ok err = broken-run broken ok.mended.run
-    broken-ended broken (Err keep.ImageSize) ok err = absurd (err.0 size)
-    broken-ended broken (Err keep.NoMemory) ok err = absurd (not_handed broken err.1)
-    broken-ended broken (Err keep.Geos) ok err = absurd (not_handed broken err.2)
-    broken-ended broken (Err keep.Format) ok err = absurd (not_handed broken err.2)
-    broken-ended broken (Err (keep.Layout fault)) ok err =
+    broken-ended broken (Err faults.ImageSize) ok err = absurd (err.0 size)
+    broken-ended broken (Err faults.NoMemory) ok err = absurd (not_handed broken err.1)
+    broken-ended broken (Err faults.Geos) ok err = absurd (not_handed broken err.2)
+    broken-ended broken (Err faults.Format) ok err = absurd (not_handed broken err.2)
+    broken-ended broken (Err (faults.Layout fault)) ok err =
         broken-run broken (left-alone fault err.1 err.2 err.3)
-    broken-ended broken (Err keep.File) ok err = broken-run broken err.1.run
-    broken-ended broken (Err keep.Device) ok err = broken-run broken err.0
-    broken-ended broken (Err keep.NoFile) ok err = absurd err
-    broken-ended broken (Err keep.FileExists) ok err = absurd err
-    broken-ended broken (Err (keep.BadLine line)) ok err = absurd err
-    broken-ended broken (Err keep.DiskFull) ok err = absurd err
+    broken-ended broken (Err faults.File) ok err = broken-run broken err.1.run
+    broken-ended broken (Err faults.Device) ok err = broken-run broken err.0
+    broken-ended broken (Err faults.NoFile) ok err = absurd err
+    broken-ended broken (Err faults.FileExists) ok err = absurd err
+    broken-ended broken (Err (faults.RecordsLine line)) ok err = absurd err
+    broken-ended broken (Err faults.DiskFull) ok err = absurd err
 
     -- the file that is handed back, and what is told of it
-    pub file-ended : (file : F) (r : Result ℕ KeepFault) (out : F × Result ℕ KeepFault) → start.file ≡ file
+    pub file-ended : (file : F) (r : Result ℕ CommandFault) (out : F × Result ℕ CommandFault) → start.file ≡ file
         → out.0 ≡ b.file
         → IfOk r (IsRepairDone free mirror contents image start b old new)
         → IfErr r (IsRepairFault free mirror image start b old new)
-        → (is_broken b × (out.1 ≡ Err keep.Device)) ⊎ ((is_broken b → ⊥) × (out.1 ≡ r))
+        → (is_broken b × (out.1 ≡ Err faults.Device)) ⊎ ((is_broken b → ⊥) × (out.1 ≡ r))
         → IsRepairOver free G.keeps contents image file out.0 old new out.1
     file-ended file r out first after ok err end =
         handed-back (λ f a e. IsRepairOver free G.keeps contents image f a old new e) start b file r out first after

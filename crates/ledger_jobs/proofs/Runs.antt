@@ -5,12 +5,12 @@ use Rattle.std.specs.IoError.{error_kind}
 use Rattle.std.specs.declared.io.Error.{Error}
 use Rattle.std.specs.declared.io.ErrorKind.{ErrorKind}
 use Rattle.std.specs.declared.io.ErrorKind.TheVariants as kinds
-use Rattle.shop_commands.specs.Faults.{io_fault}
+use Rattle.command_faults.specs.Faults.{io_fault}
 use Rattle.ledger_jobs.specs.Ends.{Ended}
 use Rattle.ledger_jobs.specs.Jobs.{needed}
 use Rattle.ledger_jobs.specs.Runs.{IsReadingEnd, IsReadingOf}
 use Rattle.ledger_jobs.specs.declared.jobs.Reading.{Reading}
-use Rattle.shop_commands.specs.declared.faults.RunFault.TheVariants as run
+use Rattle.command_faults.specs.declared.faults.CommandFault.TheVariants as faults
 
 -- what is asked, and how it ended, are these
 pub reading-as : {W : Type 0} (contents : W → Option (List ℕ)) (what at : Reading) (bytes : List ℕ) (old new : W)
@@ -22,7 +22,7 @@ reading-as contents what at bytes old new ended end is told run =
     (subst (λ (e : Ended). IsReadingEnd contents at bytes old new e) (sym told) run)
 
 -- two words report the system's failures
-two-words : (kind : ErrorKind) → (io_fault kind ≡ run.File) ⊎ (io_fault kind ≡ run.NoMemory)
+two-words : (kind : ErrorKind) → (io_fault kind ≡ faults.File) ⊎ (io_fault kind ≡ faults.NoMemory)
 two-words kinds.OutOfMemory = inr refl
 two-words _ = inl refl
 

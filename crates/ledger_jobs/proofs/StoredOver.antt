@@ -11,11 +11,11 @@ use Rattle.d64_image.specs.declared.kept_mirror.KeptMirror.{KeptMirror}
 use Rattle.d64_image.specs.declared.sector_file.SectorFile.{Ghosts}
 use Rattle.disk_layout.specs.Layout.{File, Layout}
 use Rattle.disk_layout.specs.Rest.{IsNamed}
-use Rattle.keeper_commands.specs.Faults.{IsLoadFault}
+use Rattle.command_faults.specs.Faults.{IsLoadFault}
 use Rattle.keeper_commands.specs.Refusals.{IsLeft}
 use Rattle.keeper_commands.specs.Storing.{HasBadLine, HasNoStoreRoom, IsStoreDone, IsStoreFault, IsStoreRun}
-use Rattle.keeper_commands.specs.declared.faults.KeepFault.{KeepFault}
-use Rattle.keeper_commands.specs.declared.faults.KeepFault.TheVariants as keep
+use Rattle.command_faults.specs.declared.faults.CommandFault.{CommandFault}
+use Rattle.command_faults.specs.declared.faults.CommandFault.TheVariants as faults
 use Rattle.shop_commands.specs.Plays.{IsTakenUp, IsUntouched}
 use Rattle.ledger_jobs.proofs.KeptOver.{is-done, is-refused, is-stopped}
 use Rattle.ledger_jobs.proofs.OverFiles.{broken_file, handed-back, kept_of_file, not_failed, refused_of_file}
@@ -24,23 +24,23 @@ use Rattle.ledger_jobs.specs.Kept.{IsKeptAsItWas, IsStoreOver, IsStoredFault, Is
 
 module _ {F W : Type 0} (K : Keeps F) (contents : W → Option (List ℕ)) (image name text : List ℕ) where
   -- the image wasn't taken into memory
-  pub store-not-loaded : (file : F) (old : W) (fault : KeepFault) → IsLoadFault image fault
+  pub store-not-loaded : (file : F) (old : W) (fault : CommandFault) → IsLoadFault image fault
       → IsStoreOver K contents image name text file file old old (Err fault)
-  store-not-loaded file old keep.ImageSize told =
-      is-refused image file file old old _ (IsStoredFault K image name text file file old old) keep.ImageSize refl
+  store-not-loaded file old faults.ImageSize told =
+      is-refused image file file old old _ (IsStoredFault K image name text file file old old) faults.ImageSize refl
       (told, (refl, refl)) (refl, refl)
-  store-not-loaded file old keep.NoMemory told =
-      is-stopped image file file old old _ (IsStoredFault K image name text file file old old) keep.NoMemory refl told
+  store-not-loaded file old faults.NoMemory told =
+      is-stopped image file file old old _ (IsStoredFault K image name text file file old old) faults.NoMemory refl told
       (told, (refl, refl))
-  store-not-loaded file old (keep.Layout fault) told = absurd told
-  store-not-loaded file old keep.NoFile told = absurd told
-  store-not-loaded file old keep.FileExists told = absurd told
-  store-not-loaded file old (keep.BadLine line) told = absurd told
-  store-not-loaded file old keep.DiskFull told = absurd told
-  store-not-loaded file old keep.File told = absurd told
-  store-not-loaded file old keep.Device told = absurd told
-  store-not-loaded file old keep.Geos told = absurd told
-  store-not-loaded file old keep.Format told = absurd told
+  store-not-loaded file old (faults.Layout fault) told = absurd told
+  store-not-loaded file old faults.NoFile told = absurd told
+  store-not-loaded file old faults.FileExists told = absurd told
+  store-not-loaded file old (faults.RecordsLine line) told = absurd told
+  store-not-loaded file old faults.DiskFull told = absurd told
+  store-not-loaded file old faults.File told = absurd told
+  store-not-loaded file old faults.Device told = absurd told
+  store-not-loaded file old faults.Geos told = absurd told
+  store-not-loaded file old faults.Format told = absurd told
 
 module _ {F : Type 0} {G : Ghosts F} (start : KeptMirror F G) (sound : is_broken start → ⊥) (untaken : start.taken.n ≡ 0)
     (b : KeptMirror F G)
@@ -65,11 +65,11 @@ module _ {F : Type 0} {G : Ghosts F} (start : KeptMirror F G) (sound : is_broken
     abbrev Stored : Type 0
     Stored = IsStoredFile G.keeps contents image name text start.file b.file old new
 
-    abbrev Fault : KeepFault → Type 0
+    abbrev Fault : CommandFault → Type 0
     Fault = IsStoredFault G.keeps image name text start.file b.file old new
 
     -- the file didn't fail
-    whole-ended : (is_broken b → ⊥) → (r : Result Unit KeepFault)
+    whole-ended : (is_broken b → ⊥) → (r : Result Unit CommandFault)
         → OnOk r (IsStoreDone mirror contents image name text start b old new)
         → IfErr r (IsStoreFault mirror image name text start b old new)
         → IsStoreOver G.keeps contents image name text start.file b.file old new r
@@ -88,35 +88,35 @@ module _ {F : Type 0} {G : Ghosts F} (start : KeptMirror F G) (sound : is_broken
         printed = ok.printed;
       }),
     )
-    whole-ended whole (Err keep.Geos) ok err = absurd err
-    whole-ended whole (Err keep.Format) ok err = absurd err
-    whole-ended whole (Err keep.ImageSize) ok err = absurd (err.0 size)
-    whole-ended whole (Err keep.NoMemory) ok err = is-stopped image start.file b.file old new Stored Fault keep.NoMemory
+    whole-ended whole (Err faults.Geos) ok err = absurd err
+    whole-ended whole (Err faults.Format) ok err = absurd err
+    whole-ended whole (Err faults.ImageSize) ok err = absurd (err.0 size)
+    whole-ended whole (Err faults.NoMemory) ok err = is-stopped image start.file b.file old new Stored Fault faults.NoMemory
         refl size
         (size, (ap (λ (m : KeptMirror F G). m.file) err.1, err.2))
-    whole-ended whole (Err (keep.Layout fault)) ok err =
+    whole-ended whole (Err (faults.Layout fault)) ok err =
         let same : IsUntouched start.file b.file old new = (ap (λ (m : KeptMirror F G). m.file) err.2, err.3) in
-        is-refused image start.file b.file old new Stored Fault (keep.Layout fault) refl (size, err.1, same) same
-    whole-ended whole (Err keep.NoFile) ok err =
+        is-refused image start.file b.file old new Stored Fault (faults.Layout fault) refl (size, err.1, same) same
+    whole-ended whole (Err faults.NoFile) ok err =
         let x = refused_of_file start sound untaken b image size holds old new _
         (λ l. (k : ℕ) (f : File) → slice_get l.files k ≡ Some f → ¬ (IsNamed name f)) (λ l w. w) whole err in
-        is-refused image start.file b.file old new Stored Fault keep.NoFile refl x x.untouched
-    whole-ended whole (Err (keep.BadLine line)) ok err =
+        is-refused image start.file b.file old new Stored Fault faults.NoFile refl x x.untouched
+    whole-ended whole (Err (faults.RecordsLine line)) ok err =
         let x = refused_of_file start sound untaken b image size holds old new _ (HasBadLine name text line) (λ l w. w)
         whole err in
-        is-refused image start.file b.file old new Stored Fault (keep.BadLine line) refl x x.untouched
-    whole-ended whole (Err keep.DiskFull) ok err =
+        is-refused image start.file b.file old new Stored Fault (faults.RecordsLine line) refl x x.untouched
+    whole-ended whole (Err faults.DiskFull) ok err =
         let x = refused_of_file start sound untaken b image size holds old new _
         (HasNoStoreRoom (sectors_in image) name text)
         (λ l w. subst (λ img. HasNoStoreRoom img name text l) holds w) whole err in
-        is-refused image start.file b.file old new Stored Fault keep.DiskFull refl x x.untouched
-    whole-ended whole (Err keep.File) ok err = is-stopped image start.file b.file old new Stored Fault keep.File refl
+        is-refused image start.file b.file old new Stored Fault faults.DiskFull refl x x.untouched
+    whole-ended whole (Err faults.File) ok err = is-stopped image start.file b.file old new Stored Fault faults.File refl
         size (
           whole_file start sound untaken b err.0.moments.held whole,
           taken_up start sound untaken b image size holds (run_of_file err.0, err.1),
         )
-    whole-ended whole (Err keep.Device) ok err = absurd (not_failed start sound untaken b whole err.0)
-    whole-ended whole (Err keep.FileExists) ok err = absurd err
+    whole-ended whole (Err faults.Device) ok err = absurd (not_failed start sound untaken b whole err.0)
+    whole-ended whole (Err faults.FileExists) ok err = absurd err
 
     abbrev Kept : Type 0
     Kept = IsKeptAsItWas G.keeps image start.file b.file old new
@@ -137,37 +137,37 @@ module _ {F : Type 0} {G : Ghosts F} (start : KeptMirror F G) (sound : is_broken
     )
 
     -- whatever a run over a mirror that broke ended with
-    run-of : is_broken b → (r : Result Unit KeepFault)
+    run-of : is_broken b → (r : Result Unit CommandFault)
         → OnOk r (IsStoreDone mirror contents image name text start b old new)
         → IfErr r (IsStoreFault mirror image name text start b old new) → FileFailed G.keeps start.file b.file × Kept
     run-of broken (Ok x) ok err = kept-run broken ok.disk.run
-    run-of broken (Err keep.ImageSize) ok err = absurd (err.0 size)
-    run-of broken (Err keep.NoMemory) ok err = absurd (sound (subst (λ (m : KeptMirror F G). is_broken m) err.1 broken))
-    run-of broken (Err (keep.Layout fault)) ok err =
+    run-of broken (Err faults.ImageSize) ok err = absurd (err.0 size)
+    run-of broken (Err faults.NoMemory) ok err = absurd (sound (subst (λ (m : KeptMirror F G). is_broken m) err.1 broken))
+    run-of broken (Err (faults.Layout fault)) ok err =
         absurd (sound (subst (λ (m : KeptMirror F G). is_broken m) err.2 broken))
-    run-of broken (Err keep.NoFile) ok err = kept-left _ broken err
-    run-of broken (Err (keep.BadLine line)) ok err = kept-left _ broken err
-    run-of broken (Err keep.DiskFull) ok err = kept-left _ broken err
-    run-of broken (Err keep.File) ok err = kept-run broken err.0
-    run-of broken (Err keep.Device) ok err = ⊎_elim (λ x. kept-left _ broken x) (λ x. kept-run broken x) err.1
-    run-of broken (Err keep.FileExists) ok err = absurd err
-    run-of broken (Err keep.Geos) ok err = absurd err
-    run-of broken (Err keep.Format) ok err = absurd err
+    run-of broken (Err faults.NoFile) ok err = kept-left _ broken err
+    run-of broken (Err (faults.RecordsLine line)) ok err = kept-left _ broken err
+    run-of broken (Err faults.DiskFull) ok err = kept-left _ broken err
+    run-of broken (Err faults.File) ok err = kept-run broken err.0
+    run-of broken (Err faults.Device) ok err = ⊎_elim (λ x. kept-left _ broken x) (λ x. kept-run broken x) err.1
+    run-of broken (Err faults.FileExists) ok err = absurd err
+    run-of broken (Err faults.Geos) ok err = absurd err
+    run-of broken (Err faults.Format) ok err = absurd err
 
     -- the file failed
-    broken-ended : is_broken b → (r : Result Unit KeepFault)
+    broken-ended : is_broken b → (r : Result Unit CommandFault)
         → OnOk r (IsStoreDone mirror contents image name text start b old new)
         → IfErr r (IsStoreFault mirror image name text start b old new)
-        → IsStoreOver G.keeps contents image name text start.file b.file old new (Err keep.Device)
-    broken-ended broken r ok err = is-stopped image start.file b.file old new Stored Fault keep.Device refl size
+        → IsStoreOver G.keeps contents image name text start.file b.file old new (Err faults.Device)
+    broken-ended broken r ok err = is-stopped image start.file b.file old new Stored Fault faults.Device refl size
         (run-of broken r ok err)
 
     -- the file that is handed back, and what is told of it
-    pub store-ended : (file : F) (r : Result Unit KeepFault) (out : F × Result Unit KeepFault) → start.file ≡ file
+    pub store-ended : (file : F) (r : Result Unit CommandFault) (out : F × Result Unit CommandFault) → start.file ≡ file
         → out.0 ≡ b.file
         → OnOk r (IsStoreDone mirror contents image name text start b old new)
         → IfErr r (IsStoreFault mirror image name text start b old new)
-        → (is_broken b × (out.1 ≡ Err keep.Device)) ⊎ ((is_broken b → ⊥) × (out.1 ≡ r))
+        → (is_broken b × (out.1 ≡ Err faults.Device)) ⊎ ((is_broken b → ⊥) × (out.1 ≡ r))
         → IsStoreOver G.keeps contents image name text file out.0 old new out.1
     store-ended file r out first after ok err end =
         handed-back (λ f a e. IsStoreOver G.keeps contents image name text f a old new e) start b file r out first after

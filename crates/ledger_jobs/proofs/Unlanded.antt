@@ -2,28 +2,28 @@
 use Rattle.std.proofs.Common.{◌≡◌, ◌⊎◌, Err, Ok, inl, inr, refl}
 use Rattle.std.proofs.lemmas.Bool.{false≢true}
 use Rattle.log_files.specs.declared.landing.LogFault.{LogFault}
-use Rattle.shop_commands.specs.declared.faults.RunFault.TheVariants as run
+use Rattle.command_faults.specs.declared.faults.CommandFault.TheVariants as faults
 use Rattle.ledger_jobs.specs.Ends.{JobEnd, landing_fault, log_refusal, unlanded}
 use Rattle.ledger_jobs.specs.LandedRuns.{IsServedOut}
 use Rattle.ledger_jobs.specs.declared.refusals.Refusal.{Refusal}
 use Rattle.ledger_jobs.specs.declared.refusals.Refusal.TheVariants as refusals
 
 -- what is reported of a log that can't be landed: the device, or no memory
-landing_lost : (r : Refusal) → (landing_fault r ≡ refusals.Run run.Device) ⊎ (landing_fault r ≡ refusals.Run run.NoMemory)
-landing_lost (refusals.Run run.ImageSize) = inl refl
-landing_lost (refusals.Run run.NoMemory) = inr refl
-landing_lost (refusals.Run (run.Layout fault)) = inl refl
-landing_lost (refusals.Run run.NoStock) = inl refl
-landing_lost (refusals.Run run.NoRequests) = inl refl
-landing_lost (refusals.Run (run.BadCard item)) = inl refl
-landing_lost (refusals.Run (run.BadRequestCard till)) = inl refl
-landing_lost (refusals.Run run.TwoIntents) = inl refl
-landing_lost (refusals.Run (run.BadLine line)) = inl refl
-landing_lost (refusals.Run run.File) = inl refl
-landing_lost (refusals.Run run.Device) = inl refl
-landing_lost (refusals.Keep fault) = inl refl
-landing_lost (refusals.Edit fault) = inl refl
-landing_lost (refusals.Draw fault) = inl refl
+landing_lost : (r : Refusal) → (landing_fault r ≡ refusals.Fault faults.Device) ⊎ (landing_fault r ≡ refusals.Fault faults.NoMemory)
+landing_lost (refusals.Fault faults.ImageSize) = inl refl
+landing_lost (refusals.Fault faults.NoMemory) = inr refl
+landing_lost (refusals.Fault (faults.Layout fault)) = inl refl
+landing_lost (refusals.Fault faults.NoStock) = inl refl
+landing_lost (refusals.Fault faults.NoRequests) = inl refl
+landing_lost (refusals.Fault (faults.BadCard item)) = inl refl
+landing_lost (refusals.Fault (faults.BadRequestCard till)) = inl refl
+landing_lost (refusals.Fault faults.TwoIntents) = inl refl
+landing_lost (refusals.Fault (faults.ScriptLine line)) = inl refl
+landing_lost (refusals.Fault faults.File) = inl refl
+landing_lost (refusals.Fault faults.Device) = inl refl
+landing_lost (refusals.Fault fault) = inl refl
+landing_lost (refusals.Fault fault) = inl refl
+landing_lost (refusals.Fault fault) = inl refl
 landing_lost refusals.InUse = inl refl
 landing_lost (refusals.Kept n) = inl refl
 landing_lost refusals.Exists = inl refl
@@ -35,10 +35,10 @@ landing_lost (refusals.Several greatest) = inl refl
 
 -- how it ended, or that the log couldn't be landed; and a service that ended so didn't end well
 pub record IsUnlanded (ended end : JobEnd) : Type 0 where
-  pub told : (end ≡ ended) ⊎ ((end ≡ Err (refusals.Run run.Device)) ⊎ (end ≡ Err (refusals.Run run.NoMemory)))
+  pub told : (end ≡ ended) ⊎ ((end ≡ Err (refusals.Fault faults.Device)) ⊎ (end ≡ Err (refusals.Fault faults.NoMemory)))
   pub out : IsServedOut end → ⊥
 
-lost : (ended : JobEnd) (r : Refusal) → (r ≡ refusals.Run run.Device) ⊎ (r ≡ refusals.Run run.NoMemory)
+lost : (ended : JobEnd) (r : Refusal) → (r ≡ refusals.Fault faults.Device) ⊎ (r ≡ refusals.Fault faults.NoMemory)
     → IsUnlanded ended (Err r)
 lost ended r which = elim which [
   | inl d ↦ record { told = inr (inl (rw d refl)); out = λ out. elim out [ inl ok ↦ false≢true ok | inr e ↦ cc ] }
@@ -47,33 +47,33 @@ lost ended r which = elim which [
 
 pub unlanded_is : (ended : JobEnd) (fault : LogFault) → IsUnlanded ended (unlanded ended fault)
 unlanded_is (Ok printed) fault = lost (Ok printed) (landing_fault (log_refusal fault)) (landing_lost (log_refusal fault))
-unlanded_is (Err (refusals.Run run.File)) fault =
-    lost (Err (refusals.Run run.File)) (landing_fault (log_refusal fault)) (landing_lost (log_refusal fault))
-unlanded_is (Err (refusals.Run run.ImageSize)) fault =
+unlanded_is (Err (refusals.Fault faults.File)) fault =
+    lost (Err (refusals.Fault faults.File)) (landing_fault (log_refusal fault)) (landing_lost (log_refusal fault))
+unlanded_is (Err (refusals.Fault faults.ImageSize)) fault =
     record { told = inl refl; out = λ out. elim out [ inl ok ↦ false≢true ok | inr e ↦ cc ] }
-unlanded_is (Err (refusals.Run run.NoMemory)) fault =
+unlanded_is (Err (refusals.Fault faults.NoMemory)) fault =
     record { told = inl refl; out = λ out. elim out [ inl ok ↦ false≢true ok | inr e ↦ cc ] }
-unlanded_is (Err (refusals.Run (run.Layout why))) fault =
+unlanded_is (Err (refusals.Fault (faults.Layout why))) fault =
     record { told = inl refl; out = λ out. elim out [ inl ok ↦ false≢true ok | inr e ↦ cc ] }
-unlanded_is (Err (refusals.Run run.NoStock)) fault =
+unlanded_is (Err (refusals.Fault faults.NoStock)) fault =
     record { told = inl refl; out = λ out. elim out [ inl ok ↦ false≢true ok | inr e ↦ cc ] }
-unlanded_is (Err (refusals.Run run.NoRequests)) fault =
+unlanded_is (Err (refusals.Fault faults.NoRequests)) fault =
     record { told = inl refl; out = λ out. elim out [ inl ok ↦ false≢true ok | inr e ↦ cc ] }
-unlanded_is (Err (refusals.Run (run.BadCard item))) fault =
+unlanded_is (Err (refusals.Fault (faults.BadCard item))) fault =
     record { told = inl refl; out = λ out. elim out [ inl ok ↦ false≢true ok | inr e ↦ cc ] }
-unlanded_is (Err (refusals.Run (run.BadRequestCard till))) fault =
+unlanded_is (Err (refusals.Fault (faults.BadRequestCard till))) fault =
     record { told = inl refl; out = λ out. elim out [ inl ok ↦ false≢true ok | inr e ↦ cc ] }
-unlanded_is (Err (refusals.Run run.TwoIntents)) fault =
+unlanded_is (Err (refusals.Fault faults.TwoIntents)) fault =
     record { told = inl refl; out = λ out. elim out [ inl ok ↦ false≢true ok | inr e ↦ cc ] }
-unlanded_is (Err (refusals.Run (run.BadLine line))) fault =
+unlanded_is (Err (refusals.Fault (faults.ScriptLine line))) fault =
     record { told = inl refl; out = λ out. elim out [ inl ok ↦ false≢true ok | inr e ↦ cc ] }
-unlanded_is (Err (refusals.Run run.Device)) fault =
+unlanded_is (Err (refusals.Fault faults.Device)) fault =
     record { told = inl refl; out = λ out. elim out [ inl ok ↦ false≢true ok | inr e ↦ cc ] }
-unlanded_is (Err (refusals.Keep why)) fault =
+unlanded_is (Err (refusals.Fault why)) fault =
     record { told = inl refl; out = λ out. elim out [ inl ok ↦ false≢true ok | inr e ↦ cc ] }
-unlanded_is (Err (refusals.Edit why)) fault =
+unlanded_is (Err (refusals.Fault why)) fault =
     record { told = inl refl; out = λ out. elim out [ inl ok ↦ false≢true ok | inr e ↦ cc ] }
-unlanded_is (Err (refusals.Draw why)) fault =
+unlanded_is (Err (refusals.Fault why)) fault =
     record { told = inl refl; out = λ out. elim out [ inl ok ↦ false≢true ok | inr e ↦ cc ] }
 unlanded_is (Err refusals.InUse) fault =
     record { told = inl refl; out = λ out. elim out [ inl ok ↦ false≢true ok | inr e ↦ cc ] }

@@ -3,8 +3,8 @@ use Rattle.std.specs.Prelude.{◌≡◌, ◌≢◌, ◌⊎◌, List, ℕ, Option
 use Rattle.std.specs.Io.KnownBytes.{Appends}
 use Rattle.host_session.specs.runs.Outputs.{AppendsPart}
 use Rattle.shop_commands.specs.Plays.{IsUntouched}
-use Rattle.shop_commands.specs.declared.faults.RunFault.{RunFault}
-use Rattle.shop_commands.specs.declared.faults.RunFault.TheVariants as run
+use Rattle.command_faults.specs.declared.faults.CommandFault.{CommandFault}
+use Rattle.command_faults.specs.declared.faults.CommandFault.TheVariants as faults
 use Rattle.system_files.specs.Remains.{Remains}
 use Rattle.system_files.specs.Replacing.{IsNoDisk, NowAll, Since}
 
@@ -21,12 +21,12 @@ pub record IsCopiedOver {F : Type 0} (r : Remains F) (image : List ℕ) (old new
 -- what copying an image and printing that came to. All of it was written, and the message was printed; or the image has
 -- another size, and nothing was done. Or the file failed, and nothing was printed; or the output failed
 abbrev pub IsCopied : {F W : Type 0} → Remains F → (W → Option (List ℕ)) → (image : List ℕ) → F → F → W → W
-    → Result Unit RunFault → Type 0
+    → Result Unit CommandFault → Type 0
 IsCopied r contents image file after old new (Ok _) = (length image ≡ 174848)
     × IsCopiedOver r image file after × Appends (contents old) (contents new) (codes "COPIED\n")
-IsCopied r contents image file after old new (Err run.ImageSize) =
+IsCopied r contents image file after old new (Err faults.ImageSize) =
     (length image ≢ 174848) × IsUntouched file after old new
-IsCopied r contents image file after old new (Err run.File) = (length image ≡ 174848)
+IsCopied r contents image file after old new (Err faults.File) = (length image ≡ 174848)
     × ((RemainsOr r image file after × (new ≡ old))
     ⊎ (IsCopiedOver r image file after × AppendsPart (contents old) (contents new) (codes "COPIED\n")))
 IsCopied r contents image file after old new (Err _) = ⊥

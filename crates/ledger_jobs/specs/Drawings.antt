@@ -2,8 +2,8 @@
 use Rattle.std.specs.Prelude.{◌≡◌, ◌≢◌, ℕ, List, Option, Result, IfErr, IfOk}
 use Rattle.disk_layout.specs.declared.faults.Fault.{Fault}
 use Rattle.disk_pictures.specs.Outcomes.{IsMapPrinted, IsPictureFault, IsPicturePrinted, IsPosterPrinted}
-use Rattle.disk_pictures.specs.declared.faults.PictureFault.{PictureFault}
-use Rattle.disk_pictures.specs.declared.faults.PictureFault.TheVariants as faults
+use Rattle.command_faults.specs.declared.faults.CommandFault.{CommandFault}
+use Rattle.command_faults.specs.declared.faults.CommandFault.TheVariants as faults
 use Rattle.ledger_jobs.specs.declared.jobs.Drawing.{Drawing}
 use Rattle.ledger_jobs.specs.declared.jobs.Drawing.TheVariants as drawings
 
@@ -15,7 +15,7 @@ IsDrawnAs contents drawings.Poster image old new found = IsPosterPrinted content
 
 -- an image that was to be drawn ended so
 pub record IsDrawingRun {W : Type 0} (contents : W → Option (List ℕ)) (what : Drawing) (image : List ℕ) (old new : W)
-    (ended : Result (Option Fault) PictureFault) : Type 0 where
+    (ended : Result (Option Fault) CommandFault) : Type 0 where
   -- it was drawn, with the fault that a check reports, if it reports one
   pub done : IfOk ended (IsDrawnAs contents what image old new)
   -- otherwise this is why, and unless the output failed nothing was printed

@@ -7,7 +7,7 @@ use Rattle.shop_commands.specs.ImageFile.{IsTakenUp, KeepsOn, is_synced, placed,
 use Rattle.shop_commands.specs.declared.durability.Durability.{Durability}
 use Rattle.shop_commands.specs.declared.durability.Durability.TheVariants as durabilities
 use Rattle.shop_commands.specs.declared.durability.WritesAt.{Ghosts}
-use Rattle.shop_commands.specs.declared.faults.RunFault.TheVariants as faults
+use Rattle.command_faults.specs.declared.faults.CommandFault.TheVariants as faults
 use Rattle.shop_commands.specs.declared.image_file.ImageFile.{ImageFile}
 use Rattle.ledger_jobs.specs.Ends.{Ended}
 

@@ -1,9 +1,9 @@
 -- Why a file of an image isn't renamed or deleted before the disk is judged. All of it is our own.
 use Rattle.std.specs.Prelude.{◌≡◌, ◌⊎◌, List, ℕ, None, Option, Some, Result, Err}
-use Rattle.change_commands.specs.Faults.{IsLoadFault}
+use Rattle.command_faults.specs.Faults.{IsLoadFault}
 use Rattle.change_commands.specs.ShopFiles.{HasShopFile}
-use Rattle.change_commands.specs.declared.faults.EditFault.{EditFault}
-use Rattle.ledger_jobs.specs.Ends.{JobEnd, as_edited}
+use Rattle.command_faults.specs.declared.faults.CommandFault.{CommandFault}
+use Rattle.ledger_jobs.specs.Ends.{JobEnd, as_run}
 use Rattle.ledger_jobs.specs.Losses.{IsLossFault, MayBeLost}
 use Rattle.ledger_jobs.specs.declared.jobs.Loss.TheVariants as losses
 use Rattle.ledger_jobs.specs.declared.refusals.Refusal.{Refusal}
@@ -14,7 +14,7 @@ abbrev pub IsEditRefusal : (image name : List ℕ) → Refusal → Type 0
 IsEditRefusal image name refusal =
     IsLossFault image refusal
     ⊎ (((refusal ≡ refusals.ShopFile) × HasShopFile image name)
-    ⊎ ((fault : EditFault) × (refusal ≡ refusals.Edit fault) × IsLoadFault image fault))
+    ⊎ ((fault : CommandFault) × (refusal ≡ refusals.Fault fault) × IsLoadFault image fault))
 
 -- no file of the image is cut short, and that of this name isn't a shop's
 abbrev pub MayBeEdited : (image name : List ℕ) → Type 0
@@ -27,8 +27,8 @@ IsEditJudged image name (Some refusal) = IsEditRefusal image name refusal
 
 -- A job that may change the entry of this name ended so: it was refused, and what it was handed is untouched; or a run
 -- over the image ended so, and its end is the job's.
-abbrev pub IsEditEnd : (image name : List ℕ) → (Untouched : Type 0) → (IsRun : Result Unit EditFault → Type 0) → JobEnd
+abbrev pub IsEditEnd : (image name : List ℕ) → (Untouched : Type 0) → (IsRun : Result Unit CommandFault → Type 0) → JobEnd
     → Type 0
 IsEditEnd image name Untouched IsRun end =
     ((refusal : Refusal) × (end ≡ Err refusal) × IsEditRefusal image name refusal × Untouched)
-    ⊎ (MayBeEdited image name × ((ended : Result Unit EditFault) × (end ≡ as_edited ended) × IsRun ended))
+    ⊎ (MayBeEdited image name × ((ended : Result Unit CommandFault) × (end ≡ as_run ended) × IsRun ended))

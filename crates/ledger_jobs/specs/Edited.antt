@@ -3,8 +3,8 @@
 use Rattle.std.specs.Prelude.{◌≡◌, ◌≢◌, ℕ, List, Option, Result, Ok, Err, length}
 use Rattle.change_commands.specs.Deletes.{IsDeleteDone, IsDeleteRun, IsDeletedDisk, IsLockedName}
 use Rattle.change_commands.specs.Renames.{IsNoName, IsRenameDone, IsRenameRun, IsRenamedDisk}
-use Rattle.change_commands.specs.declared.faults.EditFault.{EditFault}
-use Rattle.change_commands.specs.declared.faults.EditFault.TheVariants as edit
+use Rattle.command_faults.specs.declared.faults.CommandFault.{CommandFault}
+use Rattle.command_faults.specs.declared.faults.CommandFault.TheVariants as faults
 use Rattle.d64_image.specs.FileDisks.{in_run}
 use Rattle.d64_image.specs.Images.{Image}
 use Rattle.d64_image.specs.Keeps.{FileFailed, Keeps}
@@ -40,30 +40,30 @@ IsRenamedFile K contents image from to file after old new =
 
 -- Why no file is renamed, or that isn't printed. What the image holds is in the way: then nothing was done. Or the output
 -- failed: then it is renamed. Or the file failed: then the entry has one of the two names, and nothing was printed.
-abbrev pub IsRenamedFault : {F W : Type 0} → Keeps F → (image from to : List ℕ) → F → F → W → W → EditFault → Type 0
-IsRenamedFault K image from to file after old new edit.ImageSize =
+abbrev pub IsRenamedFault : {F W : Type 0} → Keeps F → (image from to : List ℕ) → F → F → W → W → CommandFault → Type 0
+IsRenamedFault K image from to file after old new faults.ImageSize =
     (length image ≢ 174848) × IsUntouched file after old new
-IsRenamedFault K image from to file after old new edit.NoMemory =
+IsRenamedFault K image from to file after old new faults.NoMemory =
     (length image ≡ 174848) × IsUntouched file after old new
-IsRenamedFault K image from to file after old new (edit.Layout fault) =
+IsRenamedFault K image from to file after old new (faults.Layout fault) =
     IsFaulty (Holds nowhere) image fault file after old new
-IsRenamedFault K image from to file after old new edit.NoFile =
+IsRenamedFault K image from to file after old new faults.NoFile =
     IsRefusedBy IsLayout image file after old new (λ l. IsNoName l from)
-IsRenamedFault K image from to file after old new edit.FileExists =
+IsRenamedFault K image from to file after old new faults.FileExists =
     IsRefusedBy IsLayout image file after old new (λ l. ¬ (IsFreeName (entries_of l) (slot_name from))
     × ¬ (IsFreeName (entries_of l) (slot_name to)))
-IsRenamedFault K image from to file after old new edit.File =
+IsRenamedFault K image from to file after old new faults.File =
     IsUnfailed K file after
     × IsTakenUp K image file after (λ disk left. IsRenamedDisk (in_run K file) image from to disk left)
-IsRenamedFault K image from to file after old new edit.Device =
+IsRenamedFault K image from to file after old new faults.Device =
     FileFailed K file after
     × IsTakenUp K image file after (λ disk left. IsRenameRun (in_run K file) image from to disk left) × (new ≡ old)
-IsRenamedFault K image from to file after old new edit.DiskFull = ⊥
-IsRenamedFault K image from to file after old new edit.Locked = ⊥
+IsRenamedFault K image from to file after old new faults.DiskFull = ⊥
+IsRenamedFault K image from to file after old new faults.Locked = ⊥
 
 -- the renaming of a file on the disk of an image, over its file, ended so
 abbrev pub IsRenameOver : {F W : Type 0} → Keeps F → (W → Option (List ℕ)) → (image from to : List ℕ) → F → F → W → W
-    → Result Unit EditFault → Type 0
+    → Result Unit CommandFault → Type 0
 IsRenameOver K contents image from to file after old new (Ok _) =
     IsRenamedFile K contents image from to file after old new
 IsRenameOver K contents image from to file after old new (Err fault) =
@@ -78,29 +78,29 @@ IsDeletedFile K contents image name file after old new =
 
 -- Why no file is deleted, or that isn't printed. What the image holds is in the way: then nothing was done. Or the output
 -- failed: then it is deleted. Or the file failed: then the entry is there or not, and nothing was printed.
-abbrev pub IsDeletedFault : {F W : Type 0} → Keeps F → (image name : List ℕ) → F → F → W → W → EditFault → Type 0
-IsDeletedFault K image name file after old new edit.ImageSize =
+abbrev pub IsDeletedFault : {F W : Type 0} → Keeps F → (image name : List ℕ) → F → F → W → W → CommandFault → Type 0
+IsDeletedFault K image name file after old new faults.ImageSize =
     (length image ≢ 174848) × IsUntouched file after old new
-IsDeletedFault K image name file after old new edit.NoMemory =
+IsDeletedFault K image name file after old new faults.NoMemory =
     (length image ≡ 174848) × IsUntouched file after old new
-IsDeletedFault K image name file after old new (edit.Layout fault) =
+IsDeletedFault K image name file after old new (faults.Layout fault) =
     IsFaulty (HoldsOfClean nowhere) image fault file after old new
-IsDeletedFault K image name file after old new edit.NoFile =
+IsDeletedFault K image name file after old new faults.NoFile =
     IsRefusedBy IsCleanLayout image file after old new (λ l. IsNoName l name)
-IsDeletedFault K image name file after old new edit.Locked =
+IsDeletedFault K image name file after old new faults.Locked =
     IsRefusedBy IsCleanLayout image file after old new (λ l. IsLockedName l name)
-IsDeletedFault K image name file after old new edit.File =
+IsDeletedFault K image name file after old new faults.File =
     IsUnfailed K file after
     × IsTakenUp K image file after (λ disk left. IsDeletedDisk (in_run K file) image name disk left)
-IsDeletedFault K image name file after old new edit.Device =
+IsDeletedFault K image name file after old new faults.Device =
     FileFailed K file after
     × IsTakenUp K image file after (λ disk left. IsDeleteRun (in_run K file) image name disk left) × (new ≡ old)
-IsDeletedFault K image name file after old new edit.FileExists = ⊥
-IsDeletedFault K image name file after old new edit.DiskFull = ⊥
+IsDeletedFault K image name file after old new faults.FileExists = ⊥
+IsDeletedFault K image name file after old new faults.DiskFull = ⊥
 
 -- the deletion of a file on the disk of an image, over its file, ended so
 abbrev pub IsDeleteOver : {F W : Type 0} → Keeps F → (W → Option (List ℕ)) → (image name : List ℕ) → F → F → W → W
-    → Result Unit EditFault → Type 0
+    → Result Unit CommandFault → Type 0
 IsDeleteOver K contents image name file after old new (Ok _) = IsDeletedFile K contents image name file after old new
 IsDeleteOver K contents image name file after old new (Err fault) =
     IsDeletedFault K image name file after old new fault

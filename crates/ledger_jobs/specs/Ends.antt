@@ -5,20 +5,13 @@ use Rattle.std.specs.IoError.{error_kind}
 use Rattle.std.specs.declared.fs.locks.TryLockError.{TryLockError}
 use Rattle.std.specs.declared.fs.locks.TryLockError.TheVariants as locks
 use Rattle.std.specs.declared.io.Error.{Error}
-use Rattle.change_commands.specs.Faults.{edit_status, edit_text}
-use Rattle.change_commands.specs.declared.faults.EditFault.{EditFault}
+use Rattle.command_faults.specs.Faults.{command_status, command_text, io_fault}
+use Rattle.command_faults.specs.declared.faults.CommandFault.{CommandFault}
 use Rattle.disk_layout.specs.Texts.{place_text}
 use Rattle.disk_layout.specs.declared.faults.Fault.{Fault}
-use Rattle.disk_pictures.specs.Faults.{picture_status, picture_text}
-use Rattle.disk_pictures.specs.declared.faults.PictureFault.{PictureFault}
-use Rattle.keeper_commands.specs.Faults.{keep_status, keep_text}
-use Rattle.keeper_commands.specs.declared.faults.KeepFault.{KeepFault}
-use Rattle.shop_commands.specs.Faults.{io_fault, run_status}
 use Rattle.shop_commands.specs.declared.dry_run.DryFault.{DryFault}
 use Rattle.shop_commands.specs.declared.dry_run.DryFault.TheVariants as dry
-use Rattle.shop_commands.specs.declared.faults.RunFault.{RunFault}
-use Rattle.shop_commands.specs.declared.faults.RunFault.TheVariants as run
-use Rattle.shop_commands.specs.Texts.{refusal_text as run_text}
+use Rattle.command_faults.specs.declared.faults.CommandFault.TheVariants as faults
 use Rattle.log_files.specs.declared.landing.LogFault.{LogFault}
 use Rattle.log_files.specs.declared.landing.LogFault.TheVariants as logs
 use Rattle.ledger_jobs.specs.declared.refusals.Refusal.{Refusal}
@@ -26,10 +19,7 @@ use Rattle.ledger_jobs.specs.declared.refusals.Refusal.TheVariants as refusals
 
 -- the exit status of a job that isn't done
 abbrev pub refusal_status : Refusal → ℕ
-refusal_status (refusals.Run fault) = run_status fault
-refusal_status (refusals.Keep fault) = keep_status fault
-refusal_status (refusals.Edit fault) = edit_status fault
-refusal_status (refusals.Draw fault) = picture_status fault
+refusal_status (refusals.Fault fault) = command_status fault
 refusal_status refusals.InUse = 3
 refusal_status (refusals.Kept n) = 1
 refusal_status refusals.Exists = 1
@@ -41,10 +31,7 @@ refusal_status (refusals.Several greatest) = greatest
 
 -- what is reported of it
 abbrev pub refusal_text : Refusal → List ℕ
-refusal_text (refusals.Run fault) = run_text fault
-refusal_text (refusals.Keep fault) = keep_text fault
-refusal_text (refusals.Edit fault) = edit_text fault
-refusal_text (refusals.Draw fault) = picture_text fault
+refusal_text (refusals.Fault fault) = command_text fault
 refusal_text refusals.InUse = codes "IN USE"
 refusal_text (refusals.Kept n) = codes "KEPT " ++ decimal n
 refusal_text refusals.Exists = codes "FILE EXISTS"
@@ -56,10 +43,7 @@ refusal_text (refusals.Several greatest) = codes "STATUS " ++ decimal greatest
 
 -- it is reported on standard error, unless the output has reported it
 abbrev pub is_told : Refusal → Bool
-is_told (refusals.Run fault) = true
-is_told (refusals.Keep fault) = true
-is_told (refusals.Edit fault) = true
-is_told (refusals.Draw fault) = true
+is_told (refusals.Fault fault) = true
 is_told refusals.InUse = true
 is_told (refusals.Kept n) = false
 is_told refusals.Exists = true
@@ -76,12 +60,12 @@ refusal_line refusal = if is_told refusal then refusal_text refusal ++ codes "\n
 -- what is reported if a file isn't locked
 abbrev pub lock_refusal : TryLockError → Refusal
 lock_refusal locks.WouldBlock = refusals.InUse
-lock_refusal (locks.Error error) = refusals.Run (io_fault (error_kind error))
+lock_refusal (locks.Error error) = refusals.Fault (io_fault (error_kind error))
 
 -- what is reported of a log that a folder has
 abbrev pub log_refusal : LogFault → Refusal
 log_refusal (logs.Unfit why) = refusals.Log
-log_refusal (logs.File error) = refusals.Run (io_fault (error_kind error))
+log_refusal (logs.File error) = refusals.Fault (io_fault (error_kind error))
 
 -- a job is done, with the fault of the layout that it printed, if it printed one; or it isn't, for this reason
 abbrev pub JobEnd : Type 0
@@ -89,13 +73,13 @@ JobEnd = Result (Option Fault) Refusal
 
 -- what is reported of a log that can't be landed for this reason
 abbrev pub landing_fault : Refusal → Refusal
-landing_fault (refusals.Run run.NoMemory) = refusals.Run run.NoMemory
-landing_fault _ = refusals.Run run.Device
+landing_fault (refusals.Fault faults.NoMemory) = refusals.Fault faults.NoMemory
+landing_fault _ = refusals.Fault faults.Device
 
 -- how a service ends that ended so, and whose log can't be landed for this fault
 abbrev pub unlanded : JobEnd → LogFault → JobEnd
 unlanded (Ok _) fault = Err (landing_fault (log_refusal fault))
-unlanded (Err (refusals.Run run.File)) fault = Err (landing_fault (log_refusal fault))
+unlanded (Err (refusals.Fault faults.File)) fault = Err (landing_fault (log_refusal fault))
 unlanded (Err refusal) fault = Err refusal
 
 -- the exit status: 1 also if a fault was printed
@@ -112,48 +96,38 @@ end_line (Err refusal) = refusal_line refusal
 -- a run over the bytes of a job's files is done, with the fault of the layout that it printed, if it printed one; or it
 -- isn't, for a fault
 abbrev pub Ended : Type 0
-Ended = Result (Option Fault) RunFault
+Ended = Result (Option Fault) CommandFault
 
 -- the end of a job that prints no fault
-abbrev pub end_of : Result Unit RunFault → Ended
+abbrev pub end_of : Result Unit CommandFault → Ended
 end_of (Ok _) = Ok None
 end_of (Err fault) = Err fault
 
 -- the end of a run without a disk
 abbrev pub dry_end : Result Unit DryFault → Ended
 dry_end (Ok _) = Ok None
-dry_end (Err (dry.BadLine line)) = Err (run.BadLine line)
-dry_end (Err dry.Output) = Err run.File
+dry_end (Err (dry.BadLine line)) = Err (faults.ScriptLine line)
+dry_end (Err dry.Output) = Err faults.File
 
 -- what came of asking the system, as it is reported
 abbrev pub told_of : {T : Type 0} → Result T Error → Result T Refusal
 told_of (Ok it) = Ok it
-told_of (Err error) = Err (refusals.Run (io_fault (error_kind error)))
+told_of (Err error) = Err (refusals.Fault (io_fault (error_kind error)))
 
 -- what came of a run, as a job's end
 abbrev pub as_job : Ended → JobEnd
 as_job (Ok printed) = Ok printed
-as_job (Err fault) = Err (refusals.Run fault)
+as_job (Err fault) = Err (refusals.Fault fault)
 
--- what came of a run over the files of an image, as a job's end
-abbrev pub as_kept : Result Unit KeepFault → JobEnd
-as_kept (Ok _) = Ok None
-as_kept (Err fault) = Err (refusals.Keep fault)
-
--- what came of a change to the files of an image, as a job's end
-abbrev pub as_edited : Result Unit EditFault → JobEnd
-as_edited (Ok _) = Ok None
-as_edited (Err fault) = Err (refusals.Edit fault)
+-- what came of a run that prints no fault, as a job's end
+abbrev pub as_run : Result Unit CommandFault → JobEnd
+as_run (Ok _) = Ok None
+as_run (Err fault) = Err (refusals.Fault fault)
 
 -- what came of a repair, as a job's end: so many sectors are left, or it wasn't done
-abbrev pub as_repaired : Result ℕ KeepFault → JobEnd
+abbrev pub as_repaired : Result ℕ CommandFault → JobEnd
 as_repaired (Ok n) = if nat_eq n 0 then Ok None else Err (refusals.Kept n)
-as_repaired (Err fault) = Err (refusals.Keep fault)
-
--- what came of a drawing, as a job's end
-abbrev pub as_drawn : Result (Option Fault) PictureFault → JobEnd
-as_drawn (Ok printed) = Ok printed
-as_drawn (Err fault) = Err (refusals.Draw fault)
+as_repaired (Err fault) = Err (refusals.Fault fault)
 
 -- a run ended so, and this is how its job ended
 abbrev pub EndsAs : {A : Type 0} → (A → JobEnd) → JobEnd → (A → Type 0) → Type 0

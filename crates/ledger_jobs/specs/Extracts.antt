@@ -7,9 +7,8 @@ use Rattle.file_rescue.specs.Folders.{NewFile}
 use Rattle.file_rescue.specs.Rescues.{IsExtractFault, IsExtracted}
 use Rattle.file_rescue.specs.declared.choices.Choice.{Choice}
 use Rattle.host_session.specs.runs.Outputs.{AppendsPart}
-use Rattle.keeper_commands.specs.declared.faults.KeepFault.{KeepFault}
-use Rattle.keeper_commands.specs.declared.faults.KeepFault.TheVariants as keep
-use Rattle.shop_commands.specs.declared.faults.RunFault.TheVariants as run
+use Rattle.command_faults.specs.declared.faults.CommandFault.{CommandFault}
+use Rattle.command_faults.specs.declared.faults.CommandFault.TheVariants as faults
 use Rattle.ledger_jobs.specs.Ends.{JobEnd}
 use Rattle.ledger_jobs.specs.Losses.{IsSeen}
 use Rattle.ledger_jobs.specs.declared.refusals.Refusal.{Refusal}
@@ -19,26 +18,26 @@ use Rattle.ledger_jobs.specs.declared.refusals.Refusal.TheVariants as refusals
 abbrev pub refusal_found : Option Fault → Option Place → Option Refusal
 refusal_found None None = None
 refusal_found None (Some p) = Some (refusals.Short p)
-refusal_found (Some fault) cut = Some (refusals.Keep (keep.Layout fault))
+refusal_found (Some fault) cut = Some (refusals.Fault (faults.Layout fault))
 
 -- why they aren't all made and whole: that, or the fault for which they weren't made
-abbrev pub refusal_of : Result (Option Fault) KeepFault → Option Place → Option Refusal
+abbrev pub refusal_of : Result (Option Fault) CommandFault → Option Place → Option Refusal
 refusal_of (Ok found) cut = refusal_found found cut
-refusal_of (Err fault) cut = Some (refusals.Keep fault)
+refusal_of (Err fault) cut = Some (refusals.Fault fault)
 
 -- How it is reported whether the job is refused. If it isn't, that is printed, or the output failed
 abbrev pub IsExtractTold : {W : Type 0} → (W → Option (List ℕ)) → Option Refusal → W → W → JobEnd → Type 0
 IsExtractTold contents (Some refusal) old new end = (end ≡ Err refusal) × (new ≡ old)
 IsExtractTold contents None old new end =
     ((end ≡ Ok None) × Appends (contents old) (contents new) (codes "EXTRACTED\n"))
-    ⊎ ((end ≡ Err (refusals.Run run.File)) × AppendsPart (contents old) (contents new) (codes "EXTRACTED\n"))
+    ⊎ ((end ≡ Err (refusals.Fault faults.File)) × AppendsPart (contents old) (contents new) (codes "EXTRACTED\n"))
 
 -- The chosen files of the image were made in the folder, or not all for a fault. That was reported, with what is seen of files
 -- that are cut short. Or there was no memory to see that, and nothing was done.
 abbrev pub IsExtractEnd : {F W : Type 0} → (F → Option (List NewFile)) → (W → Option (List ℕ)) → Choice → (image : List ℕ)
     → F → F → W → W → JobEnd → Type 0
 IsExtractEnd files contents choice image folder left old new end =
-    ((end ≡ Err (refusals.Run run.NoMemory)) × (left ≡ folder) × (new ≡ old))
-    ⊎ ((ended : Result (Option Fault) KeepFault) × (cut : Option Place)
+    ((end ≡ Err (refusals.Fault faults.NoMemory)) × (left ≡ folder) × (new ≡ old))
+    ⊎ ((ended : Result (Option Fault) CommandFault) × (cut : Option Place)
     × MatchResult ended (IsExtracted files choice image folder left) (IsExtractFault files choice image folder left)
     × IsSeen image None cut × IsExtractTold contents (refusal_of ended cut) old new end)

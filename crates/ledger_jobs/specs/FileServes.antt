@@ -10,15 +10,15 @@ use Rattle.line_server.specs.Serves.{IsServed}
 use Rattle.shop_commands.specs.Faults.{opening_fault}
 use Rattle.shop_commands.specs.Plays.{IsTakenUp, IsUnfailed, IsUntouched}
 use Rattle.shop_commands.specs.Shops.{IsOpenRefusal}
-use Rattle.shop_commands.specs.declared.faults.RunFault.{RunFault}
-use Rattle.shop_commands.specs.declared.faults.RunFault.TheVariants as run
+use Rattle.command_faults.specs.declared.faults.CommandFault.{CommandFault}
+use Rattle.command_faults.specs.declared.faults.CommandFault.TheVariants as faults
 
 -- what is reported of a shop whose service this fault ended
-abbrev pub loop_fault : LoopFault → RunFault
+abbrev pub loop_fault : LoopFault → CommandFault
 loop_fault (loop.Open fault) = opening_fault fault
-loop_fault loop.Input = run.File
-loop_fault loop.Output = run.File
-loop_fault loop.Device = run.Device
+loop_fault loop.Input = faults.File
+loop_fault loop.Output = faults.File
+loop_fault loop.Device = faults.Device
 
 -- The shop was served on the disk of the file to this end.
 abbrev pub IsServedOver : {F R T : Type 0} → (K : Keeps F) → Input R → Answering T → (image : List ℕ)
@@ -48,16 +48,16 @@ IsUnserved file after old_in new_in old new = IsUntouched file after old new × 
 -- Why a shop isn't served to the end of the input. Its size, memory, or that it is no shop's: then nothing was done or
 -- read. Or the input or the output; or the file.
 abbrev pub IsServeFault : {F R T : Type 0} → Keeps F → Input R → Answering T → (image : List ℕ)
-    → F → F → R → R → T → T → RunFault → Type 0
-IsServeFault K i a image file after old_in new_in old new run.ImageSize =
+    → F → F → R → R → T → T → CommandFault → Type 0
+IsServeFault K i a image file after old_in new_in old new faults.ImageSize =
     (length image ≢ 174848) × IsUnserved file after old_in new_in old new
-IsServeFault K i a image file after old_in new_in old new run.NoMemory =
+IsServeFault K i a image file after old_in new_in old new faults.NoMemory =
     (length image ≡ 174848) × IsUnserved file after old_in new_in old new
-IsServeFault K i a image file after old_in new_in old new (run.BadLine line) = ⊥
-IsServeFault K i a image file after old_in new_in old new run.File = IsUnfailed K file after
+IsServeFault K i a image file after old_in new_in old new (faults.ScriptLine line) = ⊥
+IsServeFault K i a image file after old_in new_in old new faults.File = IsUnfailed K file after
     × (IsServedOver K i a image file after old_in new_in old new (λ left. Err (loop.Input, left))
     ⊎ IsServedOver K i a image file after old_in new_in old new (λ left. Err (loop.Output, left)))
-IsServeFault K i a image file after old_in new_in old new run.Device =
+IsServeFault K i a image file after old_in new_in old new faults.Device =
     IsServiceStopped K i a image file after old_in new_in old new
 IsServeFault K i a image file after old_in new_in old new fault =
     IsOpenRefusal image fault × IsUnserved file after old_in new_in old new

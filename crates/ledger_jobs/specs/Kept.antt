@@ -17,8 +17,8 @@ use Rattle.disk_layout.specs.declared.faults.Fault.{Fault}
 use Rattle.keeper_commands.specs.Makes.{IsMadeDisk, IsMakeDone, IsMakeRun}
 use Rattle.keeper_commands.specs.Stores.{AreLinesOf, AreSo, NewRecord, changed_text, greatest, last_ones, stored}
 use Rattle.keeper_commands.specs.Storing.{HasBadLine, HasNoStoreRoom, IsStoring}
-use Rattle.keeper_commands.specs.declared.faults.KeepFault.{KeepFault}
-use Rattle.keeper_commands.specs.declared.faults.KeepFault.TheVariants as keep
+use Rattle.command_faults.specs.declared.faults.CommandFault.{CommandFault}
+use Rattle.command_faults.specs.declared.faults.CommandFault.TheVariants as faults
 use Rattle.shop_commands.specs.Plays.{IsTakenUp, IsUnfailed, IsUntouched}
 use Rattle.ledger_jobs.specs.Keeping.{keep_end}
 use Rattle.rel_records.specs.Others.{HasRecords}
@@ -29,7 +29,7 @@ use Rattle.script_lines.specs.Lines.{lines}
 
 -- What changes the disk of an image, over the file that was handed in and is handed back, ended so.
 pub record IsKeptOver {F W : Type 0} (image : List ℕ) (file new_file : F) (old new : W) (Done : Type 0)
-    (Fault : KeepFault → Type 0) (ended : Result Unit KeepFault) : Type 0 where
+    (Fault : CommandFault → Type 0) (ended : Result Unit CommandFault) : Type 0 where
   -- 0: it is done, and that was printed
   pub done : keep_end ended ≡ 0 → Done
   -- otherwise the reported fault holds
@@ -64,25 +64,25 @@ IsMadeFile K contents image name L file after old new =
 -- Why no file is made, or that isn't printed. What the image holds is in the way: then nothing was done. Or the output
 -- failed: then it is made. Or the file failed: then it has the files of before, or those and the new one, and nothing was
 -- printed.
-abbrev pub IsMadeFault : {F W : Type 0} → Keeps F → (image name : List ℕ) → ℕ → F → F → W → W → KeepFault → Type 0
-IsMadeFault K image name L file after old new keep.ImageSize = (length image ≢ 174848) × IsUntouched file after old new
-IsMadeFault K image name L file after old new keep.NoMemory = (length image ≡ 174848) × IsUntouched file after old new
-IsMadeFault K image name L file after old new (keep.Layout fault) = IsUnclean image fault file after old new
-IsMadeFault K image name L file after old new keep.FileExists =
+abbrev pub IsMadeFault : {F W : Type 0} → Keeps F → (image name : List ℕ) → ℕ → F → F → W → W → CommandFault → Type 0
+IsMadeFault K image name L file after old new faults.ImageSize = (length image ≢ 174848) × IsUntouched file after old new
+IsMadeFault K image name L file after old new faults.NoMemory = (length image ≡ 174848) × IsUntouched file after old new
+IsMadeFault K image name L file after old new (faults.Layout fault) = IsUnclean image fault file after old new
+IsMadeFault K image name L file after old new faults.FileExists =
     IsRefused image file after old new (λ l. IsTakenName l name)
-IsMadeFault K image name L file after old new keep.DiskFull =
+IsMadeFault K image name L file after old new faults.DiskFull =
     IsRefused image file after old new (λ l. HasNoRoom (sectors_in image) l × ¬ (IsTakenName l name))
-IsMadeFault K image name L file after old new keep.File =
+IsMadeFault K image name L file after old new faults.File =
     IsUnfailed K file after
     × IsTakenUp K image file after (λ disk left. IsMadeDisk (in_run K file) image name L disk left)
-IsMadeFault K image name L file after old new keep.Device =
+IsMadeFault K image name L file after old new faults.Device =
     FileFailed K file after
     × IsTakenUp K image file after (λ disk left. IsMakeRun (in_run K file) image name L disk left) × (new ≡ old)
 IsMadeFault K image name L file after old new _ = ⊥
 
 -- the making of a relative file on the disk of an image, over its file, ended so
 abbrev pub IsMakeOver : {F W : Type 0} → Keeps F → (W → Option (List ℕ)) → (image name : List ℕ) → ℕ → F → F → W → W
-    → Result Unit KeepFault → Type 0
+    → Result Unit CommandFault → Type 0
 IsMakeOver K contents image name L file after old new ended =
     IsKeptOver image file after old new (IsMadeFile K contents image name L file after old new)
     (IsMadeFault K image name L file after old new) ended
@@ -132,22 +132,22 @@ IsKeptAsItWas K image file after old new =
 
 -- Why records aren't stored, or that isn't printed. What the image or the text holds is in the way: then nothing was
 -- done. Or the output or the file failed: then what was stored until then stays.
-abbrev pub IsStoredFault : {F W : Type 0} → Keeps F → (image name text : List ℕ) → F → F → W → W → KeepFault → Type 0
-IsStoredFault K image name text file after old new keep.ImageSize = (length image ≢ 174848)
+abbrev pub IsStoredFault : {F W : Type 0} → Keeps F → (image name text : List ℕ) → F → F → W → W → CommandFault → Type 0
+IsStoredFault K image name text file after old new faults.ImageSize = (length image ≢ 174848)
     × IsUntouched file after old new
-IsStoredFault K image name text file after old new keep.NoMemory = (length image ≡ 174848)
+IsStoredFault K image name text file after old new faults.NoMemory = (length image ≡ 174848)
     × IsUntouched file after old new
-IsStoredFault K image name text file after old new (keep.Layout fault) = IsUnclean image fault file after old new
-IsStoredFault K image name text file after old new keep.NoFile = IsRefused image file after old new
+IsStoredFault K image name text file after old new (faults.Layout fault) = IsUnclean image fault file after old new
+IsStoredFault K image name text file after old new faults.NoFile = IsRefused image file after old new
     (λ l. (k : ℕ) (f : File) → slice_get l.files k ≡ Some f → ¬ (IsNamed name f))
-IsStoredFault K image name text file after old new (keep.BadLine k) =
+IsStoredFault K image name text file after old new (faults.RecordsLine k) =
     IsRefused image file after old new (HasBadLine name text k)
-IsStoredFault K image name text file after old new keep.DiskFull =
+IsStoredFault K image name text file after old new faults.DiskFull =
     IsRefused image file after old new (HasNoStoreRoom (sectors_in image) name text)
-IsStoredFault K image name text file after old new keep.File =
+IsStoredFault K image name text file after old new faults.File =
     IsUnfailed K file after
     × IsTakenUp K image file after (λ disk left. IsStoringRun (in_run K file) name text disk left × IsClean left.image)
-IsStoredFault K image name text file after old new keep.Device =
+IsStoredFault K image name text file after old new faults.Device =
     FileFailed K file after
     × (IsKeptAsItWas K image file after old new
     ⊎ IsTakenUp K image file after (λ disk left. IsStoringRun (in_run K file) name text disk left))
@@ -155,7 +155,7 @@ IsStoredFault K image name text file after old new _ = ⊥
 
 -- the storing of records on the disk of an image, over its file, ended so
 abbrev pub IsStoreOver : {F W : Type 0} → Keeps F → (W → Option (List ℕ)) → (image name text : List ℕ) → F → F → W → W
-    → Result Unit KeepFault → Type 0
+    → Result Unit CommandFault → Type 0
 IsStoreOver K contents image name text file after old new ended =
     IsKeptOver image file after old new (IsStoredFile K contents image name text file after old new)
     (IsStoredFault K image name text file after old new) ended

@@ -6,31 +6,31 @@ use Rattle.log_files.specs.Bringing.{RestsAlone}
 use Rattle.log_files.specs.Folders.{FolderHistory}
 use Rattle.log_files.specs.LiveLogs.{of_live}
 use Rattle.log_files.specs.declared.live_log.LiveLog.{LiveLog}
-use Rattle.shop_commands.specs.declared.faults.RunFault.TheVariants as run
+use Rattle.command_faults.specs.declared.faults.CommandFault.TheVariants as faults
 use Rattle.shop_log.specs.declared.log_file.LogFile.{Ghosts}
 use Rattle.ledger_jobs.specs.Ends.{JobEnd}
 use Rattle.ledger_jobs.specs.declared.refusals.Refusal.TheVariants as refusals
 
 -- it ended well, or only its input or output failed
 abbrev pub IsServedOut : JobEnd → Type 0
-IsServedOut end = IsOk end ⊎ (end ≡ Err (refusals.Run run.File))
+IsServedOut end = IsOk end ⊎ (end ≡ Err (refusals.Fault faults.File))
 
 -- A service ended so over a log in a folder, and this end is reported.
 pub record IsLandedEnd {F D : Type 0} {G : Ghosts F} (h : FolderHistory D) (log : LiveLog F D G) (ended : JobEnd)
     (folder : Option D) (end : JobEnd) : Type 0 where
   -- the log of one that ended with `Device` is left where it is
-  pub left : ended ≡ Err (refusals.Run run.Device) → (end ≡ ended) × (folder ≡ None)
+  pub left : ended ≡ Err (refusals.Fault faults.Device) → (end ≡ ended) × (folder ≡ None)
   -- otherwise it is landed: if the end is reported as good, or as one of the input or the output, IMAGE has what the log
   -- stood for, and there is no log
-  pub tried : ended ≢ Err (refusals.Run run.Device) → IsSome folder
+  pub tried : ended ≢ Err (refusals.Fault faults.Device) → IsSome folder
   pub landed : (image : Image) → (of_live h).stands_for log image → IsServedOut end
       → IfSome folder (λ d. RestsAlone h d image)
   -- what is reported is how it ended, or that the log couldn't be landed
-  pub told : (end ≡ ended) ⊎ ((end ≡ Err (refusals.Run run.Device)) ⊎ (end ≡ Err (refusals.Run run.NoMemory)))
+  pub told : (end ≡ ended) ⊎ ((end ≡ Err (refusals.Fault faults.Device)) ⊎ (end ≡ Err (refusals.Fault faults.NoMemory)))
 
 -- the end of a service that ended so, and whose image's file has gone or hasn't
 abbrev pub watched_end : (gone : Bool) → JobEnd → JobEnd
-watched_end gone ended = if gone then Err (refusals.Run run.Device) else ended
+watched_end gone ended = if gone then Err (refusals.Fault faults.Device) else ended
 
 -- Something was done over a log in a folder, and left the log with this end. Then the log was landed, as after a service
 -- with this end; or as after one with `Device`, if the image's file had gone.

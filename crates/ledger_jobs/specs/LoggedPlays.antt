@@ -11,7 +11,7 @@ use Rattle.log_server.specs.Serves.{shop_behind}
 use Rattle.request_cards.specs.Ledgers.{replies}
 use Rattle.request_cards.specs.declared.reply.Reply.{Reply}
 use Rattle.script_lines.specs.Lines.{lines}
-use Rattle.shop_commands.specs.declared.faults.RunFault.{RunFault}
+use Rattle.command_faults.specs.declared.faults.CommandFault.{CommandFault}
 use Rattle.shop_log.specs.ImageLogs.{LogHistory}
 use Rattle.ledger_jobs.specs.LoggedRuns.{IsLoggedRun}
 
@@ -31,7 +31,7 @@ pub record IsPlayedWhole {L T : Type 0} (h : LogHistory L) (o : LogOutput L T) (
 
 -- A script was played so over a log that was `log` and is `after`.
 pub record IsLoggedPlay {L T : Type 0} (h : LogHistory L) (o : LogOutput L T) (image script : List ℕ) (log after : L)
-    (old new : T) (ended : Result Unit RunFault) : Type 0 where
+    (old new : T) (ended : Result Unit CommandFault) : Type 0 where
   -- its lines were served as those of an input
   pub first : ScriptBatches
   pub left : ScriptBatches

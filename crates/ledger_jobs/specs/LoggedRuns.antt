@@ -8,8 +8,8 @@ use Rattle.line_server.specs.Batches.{BatchInput}
 use Rattle.log_server.specs.Reporting.{LogOutput}
 use Rattle.log_server.specs.Serves.{IsServedOver}
 use Rattle.shop_commands.specs.Shops.{IsOpenRefusal}
-use Rattle.shop_commands.specs.declared.faults.RunFault.{RunFault}
-use Rattle.shop_commands.specs.declared.faults.RunFault.TheVariants as run
+use Rattle.command_faults.specs.declared.faults.CommandFault.{CommandFault}
+use Rattle.command_faults.specs.declared.faults.CommandFault.TheVariants as faults
 use Rattle.shop_log.specs.ImageLogs.{LogHistory}
 
 -- The disk of the image was served over the log to this end, batch by batch. Each batch was durable before its replies
@@ -29,23 +29,23 @@ IsUnlogged log after old_in new_in old new = (after ≡ log) × (new_in ≡ old_
 -- Why a shop isn't served over a log to the end of the input. Its size, memory, or that it is no shop's: then nothing was
 -- read, written or reported. Or the input or the output; or the log, which takes no more.
 abbrev pub IsLoggedFault : {L R T : Type 0} → LogHistory L → BatchInput R → LogOutput L T → (image : List ℕ)
-    → L → L → R → R → T → T → RunFault → Type 0
-IsLoggedFault h i o image log after old_in new_in old new run.ImageSize =
+    → L → L → R → R → T → T → CommandFault → Type 0
+IsLoggedFault h i o image log after old_in new_in old new faults.ImageSize =
     (length image ≢ 174848) × IsUnlogged log after old_in new_in old new
-IsLoggedFault h i o image log after old_in new_in old new run.NoMemory =
+IsLoggedFault h i o image log after old_in new_in old new faults.NoMemory =
     (length image ≡ 174848) × IsUnlogged log after old_in new_in old new
-IsLoggedFault h i o image log after old_in new_in old new (run.BadLine line) = ⊥
-IsLoggedFault h i o image log after old_in new_in old new run.File =
+IsLoggedFault h i o image log after old_in new_in old new (faults.ScriptLine line) = ⊥
+IsLoggedFault h i o image log after old_in new_in old new faults.File =
     IsLoggedTo h i o image log after old_in new_in old new (λ left. Err (loop.Input, left))
     ⊎ IsLoggedTo h i o image log after old_in new_in old new (λ left. Err (loop.Output, left))
-IsLoggedFault h i o image log after old_in new_in old new run.Device =
+IsLoggedFault h i o image log after old_in new_in old new faults.Device =
     IsLoggedTo h i o image log after old_in new_in old new (λ left. Err (loop.Device, left))
 IsLoggedFault h i o image log after old_in new_in old new fault =
     IsOpenRefusal image fault × IsUnlogged log after old_in new_in old new
 
 -- a run that serves the shop of an image over a log: to the input's end, or not for this fault
 abbrev pub IsLoggedRun : {L R T : Type 0} → LogHistory L → BatchInput R → LogOutput L T → (image : List ℕ)
-    → L → L → R → R → T → T → Result Unit RunFault → Type 0
+    → L → L → R → R → T → T → Result Unit CommandFault → Type 0
 IsLoggedRun h i o image log after old_in new_in old new (Ok _) =
     IsLoggedTo h i o image log after old_in new_in old new (λ left. Ok left)
 IsLoggedRun h i o image log after old_in new_in old new (Err fault) =

@@ -1,12 +1,10 @@
 -- What becomes of a disk that has lost a part of a file. All of it is our own.
 use Rattle.std.specs.Prelude.{◌≡◌, ◌⊎◌, List, ℕ, Option, Some, None, Result, Ok, Err, length}
 use Rattle.d64_image.specs.declared.place.Place.{Place}
-use Rattle.change_commands.specs.declared.faults.EditFault.{EditFault}
+use Rattle.command_faults.specs.declared.faults.CommandFault.{CommandFault}
 use Rattle.cut_files.specs.Told.{IsCutShort, IsToldOfImage}
-use Rattle.keeper_commands.specs.declared.faults.KeepFault.{KeepFault}
-use Rattle.shop_commands.specs.declared.faults.RunFault.{RunFault}
-use Rattle.shop_commands.specs.declared.faults.RunFault.TheVariants as run
-use Rattle.ledger_jobs.specs.Ends.{JobEnd, as_edited, as_job, as_kept, as_repaired, end_of, Ended}
+use Rattle.command_faults.specs.declared.faults.CommandFault.TheVariants as faults
+use Rattle.ledger_jobs.specs.Ends.{Ended, JobEnd, as_job, as_repaired, as_run}
 use Rattle.ledger_jobs.specs.Keeping.{IsTakingRun}
 use Rattle.ledger_jobs.specs.declared.jobs.Loss.{Loss}
 use Rattle.ledger_jobs.specs.declared.jobs.Loss.TheVariants as losses
@@ -23,7 +21,7 @@ IsSeen image name None = length image ≡ 174848 → IsToldOfImage image name No
 -- no memory to see.
 abbrev pub IsLossFault : (image : List ℕ) → Refusal → Type 0
 IsLossFault image refusal = ((p : Place) × (refusal ≡ refusals.Short p) × IsCutShort image p)
-    ⊎ (refusal ≡ refusals.Run run.NoMemory)
+    ⊎ (refusal ≡ refusals.Fault faults.NoMemory)
 
 -- no file of the image is cut short, or what is lost may be lost
 abbrev pub MayBeLost : (image : List ℕ) → Loss → Type 0
@@ -46,26 +44,18 @@ abbrev pub IsEndOf : (Ended → Type 0) → JobEnd → Type 0
 IsEndOf IsRun end = (ended : Ended) × (end ≡ as_job ended) × IsRun ended
 
 -- a run that prints no fault and ended so is reported as this end
-abbrev pub IsEndOfRun : (Result Unit RunFault → Type 0) → JobEnd → Type 0
-IsEndOfRun IsRun end = (ended : Result Unit RunFault) × (end ≡ as_job (end_of ended)) × IsRun ended
-
--- a run over the files of an image that ended so is reported as this end
-abbrev pub IsKeptEndOf : (Result Unit KeepFault → Type 0) → JobEnd → Type 0
-IsKeptEndOf IsRun end = (ended : Result Unit KeepFault) × (end ≡ as_kept ended) × IsRun ended
-
--- a change to the files of an image that ended so is reported as this end
-abbrev pub IsEditedEndOf : (Result Unit EditFault → Type 0) → JobEnd → Type 0
-IsEditedEndOf IsRun end = (ended : Result Unit EditFault) × (end ≡ as_edited ended) × IsRun ended
+abbrev pub IsEndOfRun : (Result Unit CommandFault → Type 0) → JobEnd → Type 0
+IsEndOfRun IsRun end = (ended : Result Unit CommandFault) × (end ≡ as_run ended) × IsRun ended
 
 -- a repair that ended so is reported as this end
-abbrev pub IsRepairedEndOf : (Result ℕ KeepFault → Type 0) → JobEnd → Type 0
-IsRepairedEndOf IsRun end = (ended : Result ℕ KeepFault) × (end ≡ as_repaired ended) × IsRun ended
+abbrev pub IsRepairedEndOf : (Result ℕ CommandFault → Type 0) → JobEnd → Type 0
+IsRepairedEndOf IsRun end = (ended : Result ℕ CommandFault) × (end ≡ as_repaired ended) × IsRun ended
 
 -- how a taking ends of a file that is cut short there, or isn't
-abbrev pub taken_end : Result Unit KeepFault → Option Place → JobEnd
+abbrev pub taken_end : Result Unit CommandFault → Option Place → JobEnd
 taken_end (Ok _) (Some p) = Err (refusals.Short p)
 taken_end (Ok _) None = Ok None
-taken_end (Err fault) _ = Err (refusals.Keep fault)
+taken_end (Err fault) _ = Err (refusals.Fault fault)
 
 -- What was asked for of the file of a name was printed, and then it is reported whether that is all that the file had; or
 -- it wasn't printed. There may be no memory to see, and then nothing was printed.
@@ -76,6 +66,6 @@ IsTakingEnd contents what image name old new (Ok None) =
 IsTakingEnd contents what image name old new (Ok (Some _)) = ⊥
 IsTakingEnd contents what image name old new (Err (refusals.Short p)) =
     IsTakingRun contents what image name old new (Ok tt) × IsToldOfImage image (Some name) (Some p)
-IsTakingEnd contents what image name old new (Err (refusals.Keep fault)) =
-    IsTakingRun contents what image name old new (Err fault)
-IsTakingEnd contents what image name old new (Err refusal) = (refusal ≡ refusals.Run run.NoMemory) × (new ≡ old)
+IsTakingEnd contents what image name old new (Err (refusals.Fault fault)) =
+    IsTakingRun contents what image name old new (Err fault) ⊎ ((fault ≡ faults.NoMemory) × (new ≡ old))
+IsTakingEnd contents what image name old new (Err _) = ⊥

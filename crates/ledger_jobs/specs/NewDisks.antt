@@ -5,8 +5,8 @@ use Rattle.d64_image.specs.Memory.{sectors_in}
 use Rattle.file_changes.specs.Formats.{IsNewDisk}
 use Rattle.host_session.specs.runs.Outputs.{AppendsPart}
 use Rattle.shop_commands.specs.Plays.{IsUntouched}
-use Rattle.shop_commands.specs.declared.faults.RunFault.{RunFault}
-use Rattle.shop_commands.specs.declared.faults.RunFault.TheVariants as run
+use Rattle.command_faults.specs.declared.faults.CommandFault.{CommandFault}
+use Rattle.command_faults.specs.declared.faults.CommandFault.TheVariants as faults
 use Rattle.system_files.specs.Remains.{Remains}
 use Rattle.ledger_jobs.specs.Copies.{IsCopiedOver, RemainsOr}
 
@@ -18,11 +18,11 @@ pub record IsNewImage (name id bytes : List ℕ) : Type 0 where
 -- What making such an image and printing that came to. All of it was written, and that was printed. Or the file failed,
 -- and nothing was printed; or the output failed. Or there was no memory, and nothing was done.
 abbrev pub IsNewMade : {F W : Type 0} → Remains F → (W → Option (List ℕ)) → (name id : List ℕ) → F → F → W → W
-    → Result Unit RunFault → Type 0
+    → Result Unit CommandFault → Type 0
 IsNewMade r contents name id file after old new (Ok _) = (image : List ℕ) × IsNewImage name id image
     × IsCopiedOver r image file after × Appends (contents old) (contents new) (codes "FORMATTED\n")
-IsNewMade r contents name id file after old new (Err run.File) = (image : List ℕ) × IsNewImage name id image
+IsNewMade r contents name id file after old new (Err faults.File) = (image : List ℕ) × IsNewImage name id image
     × ((RemainsOr r image file after × (new ≡ old))
     ⊎ (IsCopiedOver r image file after × AppendsPart (contents old) (contents new) (codes "FORMATTED\n")))
-IsNewMade r contents name id file after old new (Err run.NoMemory) = IsUntouched file after old new
+IsNewMade r contents name id file after old new (Err faults.NoMemory) = IsUntouched file after old new
 IsNewMade r contents name id file after old new (Err _) = ⊥

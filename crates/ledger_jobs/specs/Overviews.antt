@@ -3,8 +3,8 @@ use Rattle.std.specs.Prelude.{◌≡◌, ◌++◌, ℕ, List, [], Option, Some, 
 use Rattle.std.specs.declared.alloc.Global.{Global}
 use Rattle.std.specs.Io.KnownBytes.{Appends}
 use Rattle.ledger_jobs.specs.Drawings.{IsDrawingRun}
-use Rattle.ledger_jobs.specs.Ends.{EndsAs, JobEnd, as_drawn, as_job, end_line, end_status}
-use Rattle.ledger_jobs.specs.Listings.{IsListingRun, as_listed}
+use Rattle.ledger_jobs.specs.Ends.{EndsAs, JobEnd, as_job, end_line, end_status}
+use Rattle.ledger_jobs.specs.Listings.{IsListingRun}
 use Rattle.ledger_jobs.specs.Runs.{IsReadingEnd}
 use Rattle.ledger_jobs.specs.declared.jobs.Drawing.TheVariants as drawings
 use Rattle.ledger_jobs.specs.declared.jobs.Findings.TheVariants as findings
@@ -20,9 +20,9 @@ IsOverview contents (overviews.List form) image old new end =
 IsOverview contents (overviews.Check findings.First) image old new end =
     EndsAs as_job end (IsReadingEnd contents readings.Check image old new)
 IsOverview contents (overviews.Check findings.All) image old new end =
-    EndsAs as_listed end (IsListingRun contents image old new)
+    EndsAs as_job end (IsListingRun contents image old new)
 IsOverview contents overviews.Map image old new end =
-    EndsAs as_drawn end (IsDrawingRun contents drawings.Map image old new)
+    EndsAs as_job end (IsDrawingRun contents drawings.Map image old new)
 
 -- a text, and the line that reports this end, were printed with a name before each line; the end's status is this
 pub record IsToldAs {W : Type 0} (contents : W → Option (List ℕ)) (name text : List ℕ) (end : JobEnd) (old new : W)

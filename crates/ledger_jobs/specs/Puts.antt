@@ -1,8 +1,8 @@
 -- What comes of a file that is put on the disk of an image, over the image's bytes and its file. All of it is our own.
 use Rattle.std.specs.Prelude.{◌≡◌, ◌≢◌, ℕ, List, Option, Result, Ok, Err, length}
 use Rattle.change_commands.specs.Puts.{IsPutDisk, IsPutDone, IsPutRun}
-use Rattle.change_commands.specs.declared.faults.EditFault.{EditFault}
-use Rattle.change_commands.specs.declared.faults.EditFault.TheVariants as edit
+use Rattle.command_faults.specs.declared.faults.CommandFault.{CommandFault}
+use Rattle.command_faults.specs.declared.faults.CommandFault.TheVariants as faults
 use Rattle.d64_image.specs.FileDisks.{in_run}
 use Rattle.d64_image.specs.Keeps.{FileFailed, Keeps}
 use Rattle.d64_image.specs.Memory.{sectors_in}
@@ -23,31 +23,31 @@ IsPutFile K contents image name kind bytes file after old new =
 
 -- Why no file is put there, or that isn't printed. What the image holds is in the way: then nothing was done. Or the output
 -- failed: then it is there. Or the file failed: then it is there, whole, or not, and nothing was printed.
-abbrev pub IsUnput : {F W : Type 0} → Keeps F → (image name : List ℕ) → FileType → List ℕ → F → F → W → W → EditFault
+abbrev pub IsUnput : {F W : Type 0} → Keeps F → (image name : List ℕ) → FileType → List ℕ → F → F → W → W → CommandFault
     → Type 0
-IsUnput K image name kind bytes file after old new edit.ImageSize =
+IsUnput K image name kind bytes file after old new faults.ImageSize =
     (length image ≢ 174848) × IsUntouched file after old new
-IsUnput K image name kind bytes file after old new edit.NoMemory =
+IsUnput K image name kind bytes file after old new faults.NoMemory =
     (length image ≡ 174848) × IsUntouched file after old new
-IsUnput K image name kind bytes file after old new (edit.Layout fault) =
+IsUnput K image name kind bytes file after old new (faults.Layout fault) =
     IsFaulty (HoldsOfClean nowhere) image fault file after old new
-IsUnput K image name kind bytes file after old new edit.FileExists =
+IsUnput K image name kind bytes file after old new faults.FileExists =
     IsRefusedBy IsCleanLayout image file after old new (λ l. ¬ (IsNewName l name))
-IsUnput K image name kind bytes file after old new edit.DiskFull =
+IsUnput K image name kind bytes file after old new faults.DiskFull =
     IsRefusedBy IsCleanLayout image file after old new
     (λ l. HasNoRoomFor (sectors_in image) l (sectors_for (length (stored bytes))) × IsNewName l name)
-IsUnput K image name kind bytes file after old new edit.File =
+IsUnput K image name kind bytes file after old new faults.File =
     IsUnfailed K file after
     × IsTakenUp K image file after (λ disk left. IsPutDisk (in_run K file) image name kind bytes disk left)
-IsUnput K image name kind bytes file after old new edit.Device =
+IsUnput K image name kind bytes file after old new faults.Device =
     FileFailed K file after
     × IsTakenUp K image file after (λ disk left. IsPutRun (in_run K file) image name kind bytes disk left) × (new ≡ old)
-IsUnput K image name kind bytes file after old new edit.NoFile = ⊥
-IsUnput K image name kind bytes file after old new edit.Locked = ⊥
+IsUnput K image name kind bytes file after old new faults.NoFile = ⊥
+IsUnput K image name kind bytes file after old new faults.Locked = ⊥
 
 -- the putting of a file on the disk of an image, over its file, ended so
 abbrev pub IsPutOver : {F W : Type 0} → Keeps F → (W → Option (List ℕ)) → (image name : List ℕ) → FileType → List ℕ → F → F
-    → W → W → Result Unit EditFault → Type 0
+    → W → W → Result Unit CommandFault → Type 0
 IsPutOver K contents image name kind bytes file after old new (Ok _) =
     IsPutFile K contents image name kind bytes file after old new
 IsPutOver K contents image name kind bytes file after old new (Err fault) =

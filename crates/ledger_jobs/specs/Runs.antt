@@ -11,8 +11,8 @@ use Rattle.shop_commands.specs.Shops.{IsShowFault, IsShown}
 use Rattle.script_lines.specs.Lines.{first_reset, lines}
 use Rattle.shop_commands.specs.Texts.{verdict_text}
 use Rattle.shop_commands.specs.Tables.{dry_report}
-use Rattle.shop_commands.specs.declared.faults.RunFault.{RunFault}
-use Rattle.shop_commands.specs.declared.faults.RunFault.TheVariants as refusals
+use Rattle.command_faults.specs.declared.faults.CommandFault.{CommandFault}
+use Rattle.command_faults.specs.declared.faults.CommandFault.TheVariants as faults
 use Rattle.ledger_jobs.specs.Ends.{Ended}
 use Rattle.ledger_jobs.specs.declared.jobs.Reading.{Reading}
 use Rattle.ledger_jobs.specs.declared.jobs.Reading.TheVariants as readings
@@ -29,13 +29,13 @@ IsReadingDone contents readings.Dry bytes old new found = (found ≡ None)
     × ((first_reset (lines bytes) ≡ None) × Appends (contents old) (contents new) (dry_report bytes))
 
 -- why a script isn't played without a disk: its first bad line, or the output
-abbrev pub IsDryRefusal : List ℕ → RunFault → Type 0
-IsDryRefusal script (refusals.BadLine line) = first_reset (lines script) ≡ Some line
-IsDryRefusal script refusals.File = first_reset (lines script) ≡ None
+abbrev pub IsDryRefusal : List ℕ → CommandFault → Type 0
+IsDryRefusal script (faults.ScriptLine line) = first_reset (lines script) ≡ Some line
+IsDryRefusal script faults.File = first_reset (lines script) ≡ None
 IsDryRefusal script _ = ⊥
 
 -- why what is asked of these bytes isn't done: this holds of them
-abbrev pub HoldsOfBytes : Reading → List ℕ → RunFault → Type 0
+abbrev pub HoldsOfBytes : Reading → List ℕ → CommandFault → Type 0
 HoldsOfBytes (readings.List form) bytes fault = IsListFault bytes fault
 HoldsOfBytes readings.Check bytes fault = IsCheckFault bytes fault
 HoldsOfBytes readings.Show bytes fault = IsShowFault bytes fault
@@ -46,14 +46,14 @@ pub record IsReadingEnd {W : Type 0} (contents : W → Option (List ℕ)) (what 
     (ended : Ended) : Type 0 where
   pub done : IfOk ended (IsReadingDone contents what bytes old new)
   pub fault : IfErr ended (HoldsOfBytes what bytes)
-  pub untouched : IfErr ended (λ fault. fault ≢ refusals.File → new ≡ old)
+  pub untouched : IfErr ended (λ fault. fault ≢ faults.File → new ≡ old)
 
 -- what comes of what is asked of a file that has these bytes: they were read; or `File` or `NoMemory` is returned, and
 -- nothing was written
 abbrev pub IsReadingOf : {W : Type 0} → (W → Option (List ℕ)) → Reading → (bytes : List ℕ) → W → W → Ended → Type 0
 IsReadingOf contents what bytes old new ended =
     IsReadingEnd contents what bytes old new ended
-    ⊎ ((new ≡ old) × ((ended ≡ Err refusals.File) ⊎ (ended ≡ Err refusals.NoMemory)))
+    ⊎ ((new ≡ old) × ((ended ≡ Err faults.File) ⊎ (ended ≡ Err faults.NoMemory)))
 
 -- A run that plays a script on the shop of an image, over the file that was passed in, ended so: each line was played
 -- on the disk of the file, its reply printed, and all of them handed on; or it wasn't, for this reason.

@@ -1,12 +1,10 @@
 -- What comes of an image of which something is printed that isn't checked. Our own.
 use Rattle.std.specs.Prelude.{◌≡◌, ◌≢◌, List, ℕ, None, Option, Result, Ok, Err, IfErr, OnOk}
 use Rattle.disk_pictures.specs.Views.{AreFreePrinted, IsSectorPrinted, IsViewFault}
-use Rattle.disk_pictures.specs.declared.faults.PictureFault.{PictureFault}
-use Rattle.disk_pictures.specs.declared.faults.PictureFault.TheVariants as faults
-use Rattle.ledger_jobs.specs.Ends.{JobEnd}
+use Rattle.command_faults.specs.declared.faults.CommandFault.{CommandFault}
+use Rattle.command_faults.specs.declared.faults.CommandFault.TheVariants as faults
 use Rattle.ledger_jobs.specs.declared.jobs.View.{View}
 use Rattle.ledger_jobs.specs.declared.jobs.View.TheVariants as views
-use Rattle.ledger_jobs.specs.declared.refusals.Refusal.TheVariants as refusals
 
 -- what was asked for was printed
 abbrev pub IsViewed : {W : Type 0} → (W → Option (List ℕ)) → View → List ℕ → W → W → Type 0
@@ -15,14 +13,9 @@ IsViewed contents (views.Sector p) image old new = IsSectorPrinted contents imag
 
 -- what was to be printed ended so
 pub record IsViewRun {W : Type 0} (contents : W → Option (List ℕ)) (what : View) (image : List ℕ) (old new : W)
-    (ended : Result Unit PictureFault) : Type 0 where
+    (ended : Result Unit CommandFault) : Type 0 where
   -- it was printed
   pub done : OnOk ended (IsViewed contents what image old new)
   -- otherwise the reported fault holds, and nothing was printed, unless the output failed
   pub fault : IfErr ended (IsViewFault image)
   pub untouched : IfErr ended (λ fault. fault ≢ faults.File → new ≡ old)
-
--- what came of it, as a job's end
-abbrev pub as_viewed : Result Unit PictureFault → JobEnd
-as_viewed (Ok _) = Ok None
-as_viewed (Err fault) = Err (refusals.Draw fault)

@@ -1,15 +1,16 @@
 //! Two images compared, each read as if it were alone.
 ghost use Rattle.std.specs.Prelude.{take};
 ghost use Rattle.ledger_jobs.specs.Comparisons.{IsComparingRun};
-ghost use Rattle.ledger_jobs.specs.Ends.{EndsAs, as_drawn};
+ghost use Rattle.ledger_jobs.specs.Ends.{EndsAs, as_job};
 ghost use Rattle.ledger_jobs.specs.HostFiles.{OfImage, RunEnds};
 ghost use Rattle.ledger_jobs.specs.Rights.{MayReadImage};
 
-use crate::outcomes::drawn_end;
+use crate::outcomes::job_end;
 use crate::readings::image_at;
 use crate::refusals::Refusal;
+use command_faults::CommandFault;
 use disk_layout::Fault;
-use disk_pictures::{PictureFault, compare_images};
+use disk_pictures::compare_images;
 use host_files::HostFiles;
 use shop_commands::Locks;
 use std::alloc::Global;
@@ -24,7 +25,7 @@ pub fn comparing_run<W: Write>(
     before: &[u8],
     after: &[u8],
     out: &mut W,
-) -> Result<Option<Fault>, PictureFault>
+) -> Result<Option<Fault>, CommandFault>
     ensures run { IsComparingRun W.contents before.now after.now out.old out.new result }
 {
     compare_images(alloc, before, after, out)
@@ -44,10 +45,10 @@ where
     requires before { MayReadImage R.rights rt.now before.now }
     requires after { MayReadImage R.rights rt.now after.now }
     ensures { OfImage R.rights R.stands rt.now before.now (λ first. OfImage R.rights R.stands rt.now after.now
-        (λ second. RunEnds out.old out.new result (EndsAs as_drawn result
+        (λ second. RunEnds out.old out.new result (EndsAs as_job result
             (IsComparingRun W.contents (take 174849 first) (take 174849 second) out.old out.new)))) }
 {
     let first = image_at(rt, before)?;
     let second = image_at(rt, after)?;
-    drawn_end(comparing_run(rt.alloc(), first.as_slice(), second.as_slice(), out))
+    job_end(comparing_run(rt.alloc(), first.as_slice(), second.as_slice(), out))
 }

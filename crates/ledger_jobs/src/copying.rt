@@ -6,9 +6,10 @@ use crate::files::{AtPath, Older};
 use crate::outcomes::job_end;
 use crate::readings::image_at;
 use crate::refusals::Refusal;
+use command_faults::CommandFault;
 use disk_layout::Fault;
 use host_files::HostFiles;
-use shop_commands::{EndedFile, Locks, OverwrittenFile, RunFault, put_whole};
+use shop_commands::{EndedFile, Locks, OverwrittenFile, put_whole};
 use std::fs::OpenFile;
 use std::io::{Read, Write};
 use system_files::replace_image;
@@ -24,20 +25,20 @@ pub fn copy_run<F: EndedFile, W: Write>(
     image: &[u8],
     file: &mut F,
     out: &mut W,
-) -> Result<(), RunFault>
+) -> Result<(), CommandFault>
     ensures { IsCopied F.remains W.contents image.now file.old file.new out.old out.new result }
 {
     if image.len() != IMAGE_BYTES {
-        return Err(RunFault::ImageSize);
+        return Err(CommandFault::ImageSize);
     }
     match replace_image(file, image) {
         Ok(()) => put_whole(out, b"COPIED\n"),
-        Err(_) => Err(RunFault::File),
+        Err(_) => Err(CommandFault::File),
     }
 }
 
 /// The end of a copy.
-fn copied(ended: Result<(), RunFault>) -> Result<Option<Fault>, RunFault> {
+fn copied(ended: Result<(), CommandFault>) -> Result<Option<Fault>, CommandFault> {
     match ended {
         Ok(()) => Ok(None),
         Err(fault) => Err(fault),

@@ -1,7 +1,7 @@
 //! Doing a job: its files are opened and read, and what is printed goes to an output.
 ghost use Rattle.std.specs.Prelude.{◌≡◌, ◌≤◌, take};
 ghost use Rattle.ledger_jobs.specs.Drawings.{IsDrawingRun};
-ghost use Rattle.ledger_jobs.specs.Ends.{EndsAs, as_drawn};
+ghost use Rattle.ledger_jobs.specs.Ends.{EndsAs, as_job};
 ghost use Rattle.ledger_jobs.specs.HostFiles.{OfImage, RunEnds};
 ghost use Rattle.ledger_jobs.specs.Losses.{IsTakingEnd};
 ghost use Rattle.ledger_jobs.specs.Names.{name_bytes};
@@ -25,7 +25,7 @@ use crate::locks::own_image;
 use crate::losses::take_told;
 use crate::names::Name;
 use crate::new_disks::do_new;
-use crate::outcomes::{drawn_end, job_end, told};
+use crate::outcomes::{job_end, told};
 use crate::overviews::do_several;
 use crate::playing_logs::do_logged_playing;
 use crate::putting::do_put;
@@ -37,10 +37,11 @@ use crate::sheets::do_sheet;
 use crate::shop_runs::ended;
 use crate::side_repairs::do_repair_sides;
 use crate::viewing::do_viewing;
+use command_faults::CommandFault;
 use disk_layout::Fault;
 use host_files::HostFiles;
 use host_session::Printer;
-use shop_commands::{Durability, EndedFile, Locks, OverwrittenFile, RunFault, format_image};
+use shop_commands::{Durability, EndedFile, Locks, OverwrittenFile, format_image};
 use std::fs::OpenFile;
 use std::io::{Read, Write};
 
@@ -132,10 +133,10 @@ where
     W: Write,
     requires { MayReadImage R.rights rt.now path.now }
     ensures { OfImage R.rights R.stands rt.now path.now (λ all. RunEnds out.old out.new result
-        (EndsAs as_drawn result (IsDrawingRun W.contents what (take 174849 all) out.old out.new))) }
+        (EndsAs as_job result (IsDrawingRun W.contents what (take 174849 all) out.old out.new))) }
 {
     let image = image_at(rt, path)?;
-    drawn_end(drawing_run(rt.alloc(), what, image.as_slice(), out))
+    job_end(drawing_run(rt.alloc(), what, image.as_slice(), out))
 }
 
 /// Opens or reads the job's files and does it. What is printed goes to `out`, which is flushed at the end. An image is
@@ -237,7 +238,7 @@ where
         } => do_taking(rt, what, image, name, out),
         Job::Draw { what, image } => do_drawing(rt, what, image, out),
         Job::View { what, image } => do_viewing(rt, what, image, out),
-        Job::Trim { .. } => Err(Refusal::Run(RunFault::File)),
+        Job::Trim { .. } => Err(Refusal::Fault(CommandFault::File)),
         Job::Compare { before, after } => do_comparing(rt, before, after, out),
         Job::Sheet { ref images } => do_sheet(rt, images.as_slice(), out),
         Job::Describe { ref images } => do_describing(rt, images.as_slice(), out),

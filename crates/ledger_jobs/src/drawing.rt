@@ -2,8 +2,9 @@
 ghost use Rattle.ledger_jobs.specs.Drawings.{IsDrawingRun};
 
 use crate::jobs::Drawing;
+use command_faults::CommandFault;
 use disk_layout::Fault;
-use disk_pictures::{PictureFault, map_image, picture_image, poster_image};
+use disk_pictures::{map_image, picture_image, poster_image};
 use std::alloc::Global;
 use std::io::Write;
 
@@ -14,7 +15,7 @@ pub fn drawing_run<W: Write>(
     what: Drawing,
     image: &[u8],
     out: &mut W,
-) -> Result<Option<Fault>, PictureFault>
+) -> Result<Option<Fault>, CommandFault>
     ensures run { IsDrawingRun W.contents what image.now out.old out.new result }
 {
     match what {

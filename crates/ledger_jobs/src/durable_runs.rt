@@ -3,7 +3,7 @@ ghost use Rattle.std.specs.Prelude.{◌≡◌, ◌≢◌, IfErr, IfSome, take};
 ghost use Rattle.shop_commands.specs.Durable.{IsSynced};
 ghost use Rattle.shop_commands.specs.ImageFile.{placed};
 ghost use Rattle.shop_commands.specs.Plays.{IsUntouched};
-ghost use Rattle.shop_commands.specs.declared.faults.RunFault.TheVariants.{Device, File};
+ghost use Rattle.command_faults.specs.declared.faults.CommandFault.TheVariants.{Device, File};
 ghost use Rattle.ledger_jobs.specs.DurableRuns.{IsDurableRun};
 ghost use Rattle.ledger_jobs.specs.FileServes.{IsUnserved};
 ghost use Rattle.ledger_jobs.specs.Runs.{IsPlayRun};
@@ -12,11 +12,12 @@ ghost use Rattle.ledger_jobs.specs.Serves.{IsServeRun};
 use crate::locks::finished;
 use crate::serving_runs::serve_run;
 use crate::shop_runs::play_run;
+use command_faults::CommandFault;
 use d64_image::KeptMirror;
 use disk_layout::Fault;
 use host_session::ReplySink;
 use line_server::{Answers, LineSource};
-use shop_commands::{Durability, ImageFile, RunFault, WritesAt};
+use shop_commands::{Durability, ImageFile, WritesAt};
 use std::alloc::Global;
 
 /// Plays the script on the shop of the image that the file has, as `play_run` does, and hands the file back. Its sectors
@@ -29,7 +30,7 @@ pub fn play_durably<F: WritesAt, T: ReplySink<KeptMirror<ImageFile<F>>>>(
     file: F,
     durability: Durability,
     out: &mut T,
-) -> (F, Result<Option<Fault>, RunFault>)
+) -> (F, Result<Option<Fault>, CommandFault>)
     // if each sector is synced, what the file holds was synced too, and then these bytes were read from it
     requires synced { IsSynced F.held F.lasting durability file }
     requires image { IfSome (F.held file) (λ all. image.now ≡ take 174849 all) }
@@ -54,7 +55,7 @@ pub fn serve_durably<F, R, T>(
     durability: Durability,
     input: &mut R,
     out: &mut T,
-) -> (F, Result<Option<Fault>, RunFault>)
+) -> (F, Result<Option<Fault>, CommandFault>)
 where
     F: WritesAt,
     R: LineSource<KeptMirror<ImageFile<F>>>,

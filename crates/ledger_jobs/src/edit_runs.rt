@@ -6,7 +6,8 @@ ghost use Rattle.ledger_jobs.specs.Edited.{IsDeleteOver, IsRenameOver};
 ghost use Rattle.ledger_jobs.specs.Puts.{IsPutOver};
 
 use crate::keeper_runs::file_of;
-use change_commands::{EditFault, delete_image, load, put_image, rename_image};
+use change_commands::{delete_image, put_image, rename_image};
+use command_faults::{CommandFault, load};
 use d64_image::{KeptMirror, SectorFile};
 use file_changes::FileType;
 use std::alloc::Global;
@@ -24,7 +25,7 @@ pub fn rename_run<F: SectorFile, W: Write>(
     to: &[u8],
     file: F,
     out: &mut W,
-) -> (F, Result<(), EditFault>)
+) -> (F, Result<(), CommandFault>)
     requires to { length to.now ≤ 16 }
     // if it is known what the file keeps, it is this image
     requires agrees { Agrees (F.keeps.kept file) (sectors_in image.now) }
@@ -36,7 +37,7 @@ pub fn rename_run<F: SectorFile, W: Write>(
     };
     let mut mirror = KeptMirror::new(file, disk);
     let ended = rename_image(alloc, image, from, to, &mut mirror, out);
-    file_of(mirror, ended, EditFault::Device)
+    file_of(mirror, ended, CommandFault::Device)
 }
 
 /// Deletes the first file that has the name on the clean disk of the image that the file keeps, prints `DELETED`, and hands
@@ -50,7 +51,7 @@ pub fn delete_run<F: SectorFile, W: Write>(
     name: &[u8],
     file: F,
     out: &mut W,
-) -> (F, Result<(), EditFault>)
+) -> (F, Result<(), CommandFault>)
     // if it is known what the file keeps, it is this image
     requires agrees { Agrees (F.keeps.kept file) (sectors_in image.now) }
     ensures run { IsDeleteOver F.keeps W.contents image.now name.now file result.0 out.old out.new result.1 }
@@ -61,7 +62,7 @@ pub fn delete_run<F: SectorFile, W: Write>(
     };
     let mut mirror = KeptMirror::new(file, disk);
     let ended = delete_image(alloc, image, name, &mut mirror, out);
-    file_of(mirror, ended, EditFault::Device)
+    file_of(mirror, ended, CommandFault::Device)
 }
 
 /// How many bytes these are. As of each slice the number has 64 bits.
@@ -85,7 +86,7 @@ pub fn put_run<F: SectorFile, W: Write>(
     data: &[u8],
     file: F,
     out: &mut W,
-) -> (F, Result<(), EditFault>)
+) -> (F, Result<(), CommandFault>)
     requires name { length name.now ≤ 16 }
     // if it is known what the file keeps, it is this image
     requires agrees { Agrees (F.keeps.kept file) (sectors_in image.now) }
@@ -99,5 +100,5 @@ pub fn put_run<F: SectorFile, W: Write>(
     let _ = count_of(data);
     let mut mirror = KeptMirror::new(file, disk);
     let ended = put_image(alloc, image, name, kind, data, &mut mirror, out);
-    file_of(mirror, ended, EditFault::Device)
+    file_of(mirror, ended, CommandFault::Device)
 }

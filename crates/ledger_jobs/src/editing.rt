@@ -14,7 +14,7 @@ use crate::jobs::Loss;
 use crate::keeper_files::image_to_keep;
 use crate::losses::loss_refusal;
 use crate::names::Name;
-use crate::outcomes::edited_end;
+use crate::outcomes::run_end;
 use crate::refusals::Refusal;
 use change_commands::has_shop_file;
 use d64_image::SectorFile;
@@ -36,7 +36,7 @@ fn edit_refusal(alloc: Global, image: &[u8], name: &[u8]) -> Option<Refusal>
     match has_shop_file(alloc, image, name) {
         Ok(false) => None,
         Ok(true) => Some(Refusal::ShopFile),
-        Err(fault) => Some(Refusal::Edit(fault)),
+        Err(fault) => Some(Refusal::Fault(fault)),
     }
 }
 
@@ -61,7 +61,7 @@ pub fn rename_guarded<F: SectorFile, W: Write>(
         return (file, Err(refusal));
     }
     let (left, ended) = rename_run(alloc, image, from, to, file, out);
-    (left, edited_end(ended))
+    (left, run_end(ended))
 }
 
 /// Deletes a file on the disk of the image that the file keeps, as `delete_run` does. It is refused if a file of the disk
@@ -83,7 +83,7 @@ pub fn delete_guarded<F: SectorFile, W: Write>(
         return (file, Err(refusal));
     }
     let (left, ended) = delete_run(alloc, image, name, file, out);
-    (left, edited_end(ended))
+    (left, run_end(ended))
 }
 
 /// Renames a file of the image at a path, over its file.

@@ -8,12 +8,10 @@ use crate::job_files::{first_file, image_of, size_of, text_of};
 use crate::jobs::Job;
 use crate::near_names::tell_name;
 use crate::refusals::Refusal;
-use change_commands::EditFault;
-use disk_pictures::PictureFault;
+use command_faults::CommandFault;
 use host_files::{HostFiles, regular_at};
-use keeper_commands::KeepFault;
 use noted_files::Failure;
-use shop_commands::{Locks, RunFault};
+use shop_commands::Locks;
 use std::fmt::Display;
 use std::fs::OpenFile;
 use std::io::{self, ErrorKind, Read, Write};
@@ -71,61 +69,33 @@ const SHOP_FILE: &str =
 
 const BAD_LINE: &str = "nothing was done; mend the line, and run it again";
 
-fn about_run(fault: RunFault) -> About {
-    match fault {
-        RunFault::File => About::Files,
-        RunFault::ImageSize => About::Size,
-        RunFault::Layout(_) => About::Image(JUDGED),
-        RunFault::BadLine(_) => About::Text(BAD_LINE),
-        RunFault::Device => About::Device,
-        RunFault::NoMemory => About::Nothing,
-        _ => About::Image(NO_SHOP),
-    }
-}
+const GEOS: &str = "it is a disk of GEOS, which keeps sectors that no file owns";
 
-fn about_keep(fault: KeepFault) -> About {
-    match fault {
-        KeepFault::File => About::Files,
-        KeepFault::ImageSize => About::Size,
-        KeepFault::Layout(_) => About::Image(JUDGED),
-        KeepFault::NoFile => About::Name,
-        KeepFault::FileExists => About::Image(NAMED),
-        KeepFault::DiskFull => About::Image("too few blocks are free; nothing was done"),
-        KeepFault::BadLine(_) => About::Text(BAD_LINE),
-        KeepFault::Device => About::Device,
-        KeepFault::NoMemory => About::Nothing,
-        KeepFault::Geos => About::Image(
-            "it is a disk of GEOS, which keeps sectors that no file owns",
-        ),
-        KeepFault::Format => About::Image(
-            "its format byte isn't $41; it may be no disk of the 1541",
-        ),
-    }
-}
+const FORMAT: &str = "its format byte isn't $41; it may be no disk of the 1541";
 
-fn about_edit(fault: EditFault) -> About {
+fn about_fault(fault: CommandFault) -> About {
     match fault {
-        EditFault::File => About::Files,
-        EditFault::ImageSize => About::Size,
-        EditFault::Layout(_) => About::Image(JUDGED),
-        EditFault::NoFile => About::Name,
-        EditFault::FileExists => About::Image(NAMED),
-        EditFault::DiskFull => About::Image(NO_ROOM),
-        EditFault::Locked => About::Image(LOCKED),
-        EditFault::Device => About::Device,
-        EditFault::NoMemory => About::Nothing,
+        CommandFault::File => About::Files,
+        CommandFault::ImageSize => About::Size,
+        CommandFault::Layout(_) => About::Image(JUDGED),
+        CommandFault::NoFile => About::Name,
+        CommandFault::FileExists => About::Image(NAMED),
+        CommandFault::DiskFull => About::Image(NO_ROOM),
+        CommandFault::Locked => About::Image(LOCKED),
+        CommandFault::NoStock | CommandFault::NoRequests => About::Image(NO_SHOP),
+        CommandFault::BadCard(_) | CommandFault::BadRequestCard(_) => About::Image(NO_SHOP),
+        CommandFault::TwoIntents => About::Image(NO_SHOP),
+        CommandFault::ScriptLine(_) | CommandFault::RecordsLine(_) => About::Text(BAD_LINE),
+        CommandFault::Geos => About::Image(GEOS),
+        CommandFault::Format => About::Image(FORMAT),
+        CommandFault::Device => About::Device,
+        CommandFault::NoMemory => About::Nothing,
     }
 }
 
 fn subject_of(refusal: Refusal) -> About {
     match refusal {
-        Refusal::Run(fault) => about_run(fault),
-        Refusal::Keep(fault) => about_keep(fault),
-        Refusal::Edit(fault) => about_edit(fault),
-        Refusal::Draw(PictureFault::File) => About::Files,
-        Refusal::Draw(PictureFault::ImageSize) => About::Size,
-        Refusal::Draw(PictureFault::NoMemory) => About::Nothing,
-        Refusal::Draw(_) => About::Image(JUDGED),
+        Refusal::Fault(fault) => about_fault(fault),
         Refusal::InUse => About::Image("another program has it; end that one first"),
         Refusal::Kept(_) => About::Image(KEPT),
         Refusal::Exists => About::Made,

@@ -5,14 +5,15 @@ ghost use Rattle.ledger_jobs.specs.Extracts.{IsExtractEnd, IsExtractTold, refusa
 ghost use Rattle.ledger_jobs.specs.Rights.{MayFill, MayReadImage};
 ghost use Rattle.ledger_jobs.specs.Rights as specs;
 
-use crate::losses::{cut_in, run_end};
+use crate::losses::cut_in;
+use crate::outcomes::run_end;
 use crate::readings::image_at;
 use crate::refusals::Refusal;
+use command_faults::CommandFault;
 use d64_image::Place;
 use disk_layout::Fault;
 use file_rescue::{Choice, NewFolder, extract_image};
 use host_files::HostFiles;
-use keeper_commands::KeepFault;
 use shop_commands::{EndedFile, Locks, put_whole};
 use std::alloc::Global;
 use std::fs::OpenFile;
@@ -96,7 +97,7 @@ fn found_refusal(found: Option<Fault>, cut: Option<Place>) -> Option<Refusal>
     ensures { result ≡ refusal_found found cut }
 {
     if let Some(fault) = found {
-        return Some(Refusal::Keep(KeepFault::Layout(fault)));
+        return Some(Refusal::Fault(CommandFault::Layout(fault)));
     }
     match cut {
         Some(place) => Some(Refusal::Short(place)),
@@ -106,12 +107,15 @@ fn found_refusal(found: Option<Fault>, cut: Option<Place>) -> Option<Refusal>
 
 /// Why the files of an image aren't all made and whole. It is the fault for which they weren't made, the first fault of a
 /// file that was made, or the place where one is cut short.
-fn extract_refusal(ended: Result<Option<Fault>, KeepFault>, cut: Option<Place>) -> Option<Refusal>
+fn extract_refusal(
+    ended: Result<Option<Fault>, CommandFault>,
+    cut: Option<Place>,
+) -> Option<Refusal>
     ensures { result ≡ refusal_of ended cut }
 {
     match ended {
         Ok(found) => found_refusal(found, cut),
-        Err(fault) => Some(Refusal::Keep(fault)),
+        Err(fault) => Some(Refusal::Fault(fault)),
     }
 }
 

@@ -8,9 +8,10 @@ ghost use Rattle.host_files.specs.Rights.{Look, May};
 
 use crate::image_logs::is_there;
 use crate::refusals::Refusal;
+use command_faults::CommandFault;
 use host_files::{HostFiles, regular, regular_at};
 use log_files::{LogNames, forget_log};
-use shop_commands::{EndedFile, Locks, OpensFile, RunFault, read_script};
+use shop_commands::{EndedFile, Locks, OpensFile, read_script};
 use std::fs::OpenFile;
 use std::io;
 
@@ -162,7 +163,7 @@ where
     fn open(&mut self) -> io::Result<F> {
         match self.locked() {
             Err(error) if error.kind() == io::ErrorKind::OutOfMemory => {
-                Err(self.refuse(Refusal::Run(RunFault::NoMemory), error))
+                Err(self.refuse(Refusal::Fault(CommandFault::NoMemory), error))
             }
             opened => opened,
         }

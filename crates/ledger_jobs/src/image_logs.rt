@@ -10,9 +10,10 @@ ghost use Rattle.host_files.specs.Standing.{AreOf, IsMissing};
 use crate::locks::{lock_exclusive, lock_shared};
 use crate::outcomes::told;
 use crate::refusals::Refusal;
+use command_faults::CommandFault;
 use host_files::{HostFiles, opened_to_change, opened_to_read};
 use log_files::{ImageFolder, ImageView, LogFault, LogNames, land_in, sync_names, view_in};
-use shop_commands::{Durability, EndedFile, Locks, RunFault};
+use shop_commands::{Durability, EndedFile, Locks};
 use std::fs::OpenFile;
 use std::io::{self, ErrorKind};
 
@@ -25,7 +26,7 @@ pub(crate) fn log_refusal(fault: &LogFault) -> Refusal
 {
     match fault {
         LogFault::Unfit(_) => Refusal::Log,
-        LogFault::File(error) => Refusal::Run(RunFault::of_io(error)),
+        LogFault::File(error) => Refusal::Fault(CommandFault::of_io(error)),
     }
 }
 

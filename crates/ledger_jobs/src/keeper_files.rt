@@ -4,7 +4,7 @@ ghost use Rattle.d64_image.specs.Keeps.{Agrees};
 ghost use Rattle.d64_image.specs.Memory.{sectors_in};
 ghost use Rattle.keeper_commands.specs.Makes.{IsNewName};
 ghost use Rattle.shop_commands.specs.ImageFile.{is_synced, placed};
-ghost use Rattle.shop_commands.specs.declared.faults.RunFault.TheVariants.{NoMemory};
+ghost use Rattle.command_faults.specs.declared.faults.CommandFault.TheVariants.{NoMemory};
 ghost use Rattle.ledger_jobs.specs.Columns.{text_in};
 ghost use Rattle.ledger_jobs.specs.Names.{name_bytes};
 ghost use Rattle.ledger_jobs.specs.declared.refusals.Refusal.TheVariants as refusals;
@@ -20,10 +20,11 @@ use crate::names::Name;
 use crate::outcomes::told;
 use crate::readings::image_at;
 use crate::refusals::Refusal;
+use command_faults::CommandFault;
 use disk_layout::Fault;
 use host_files::HostFiles;
 use keeper_commands::plain_lines;
-use shop_commands::{Durability, EndedFile, ImageFile, Locks, RunFault};
+use shop_commands::{Durability, EndedFile, ImageFile, Locks};
 use std::alloc::Global;
 use std::fs::OpenFile;
 use std::io::{Read, Write};
@@ -120,13 +121,13 @@ where
 /// The text with one column for each record. `NoMemory` if there was none for it.
 fn one_column(alloc: Global, columns: Columns, text: Vec<u8>) -> Result<Vec<u8>, Refusal>
     ensures ok { IfOk result (λ plain. vec_items plain ≡ text_in columns (vec_items text)) }
-    ensures err { IfErr result (λ refusal. refusal ≡ refusals.Run NoMemory) }
+    ensures err { IfErr result (λ refusal. refusal ≡ refusals.Fault NoMemory) }
 {
     match columns {
         Columns::One => Ok(text),
         Columns::Several(form) => match plain_lines(alloc, form, text.as_slice()) {
             Ok(plain) => Ok(plain),
-            Err(_) => Err(Refusal::Run(RunFault::NoMemory)),
+            Err(_) => Err(Refusal::Fault(CommandFault::NoMemory)),
         },
     }
 }

@@ -9,9 +9,10 @@ ghost use Rattle.keeper_commands.specs.Makes.{IsNewName};
 ghost use Rattle.rel_records.specs.File.{IsLength};
 
 use crate::jobs::Taking;
+use command_faults::{CommandFault, load};
 use d64_image::{KeptMirror, SectorFile};
 use keeper_commands::{
-    Candidates, KeepFault, bytes_image, load, make_image, records_image, repair_image, store_image,
+    Candidates, bytes_image, make_image, records_image, repair_image, store_image,
     unclosed_records_image,
 };
 use std::alloc::Global;
@@ -24,7 +25,7 @@ pub fn taking_run<W: Write>(
     image: &[u8],
     name: &[u8],
     out: &mut W,
-) -> Result<(), KeepFault>
+) -> Result<(), CommandFault>
     ensures run { IsTakingRun W.contents what image.now name.now out.old out.new result }
 {
     match what {
@@ -62,7 +63,7 @@ pub fn repair_run<F: SectorFile, W: Write>(
     free: bool,
     file: F,
     out: &mut W,
-) -> (F, Result<u16, KeepFault>)
+) -> (F, Result<u16, CommandFault>)
     // if it is known what the file keeps, it is this image
     requires agrees { Agrees (F.keeps.kept file) (sectors_in image.now) }
     ensures run { IsRepairOver free F.keeps W.contents image.now file result.0 out.old out.new result.1 }
@@ -73,7 +74,7 @@ pub fn repair_run<F: SectorFile, W: Write>(
     };
     let mut mirror = KeptMirror::new(file, disk);
     let ended = repair_image(alloc, image, free, &mut mirror, out);
-    file_of(mirror, ended, KeepFault::Device)
+    file_of(mirror, ended, CommandFault::Device)
 }
 
 /// Repairs a copy of the image in memory, and prints what `repair_run` would print. Nothing else is written.
@@ -82,7 +83,7 @@ pub fn dry_repair_run<W: Write>(
     image: &[u8],
     free: bool,
     out: &mut W,
-) -> Result<u16, KeepFault>
+) -> Result<u16, CommandFault>
     ensures run { IsDryRepair free W.contents image.now out.old out.new result }
 {
     let mut copy = load(alloc, image)?;
@@ -100,7 +101,7 @@ pub fn make_run<F: SectorFile, W: Write>(
     length: u8,
     file: F,
     out: &mut W,
-) -> (F, Result<(), KeepFault>)
+) -> (F, Result<(), CommandFault>)
     requires name { IsNewName name.now }
     requires length { IsLength length }
     // if it is known what the file keeps, it is this image
@@ -113,7 +114,7 @@ pub fn make_run<F: SectorFile, W: Write>(
     };
     let mut mirror = KeptMirror::new(file, disk);
     let ended = make_image(alloc, image, name, length, &mut mirror, out);
-    file_of(mirror, ended, KeepFault::Device)
+    file_of(mirror, ended, CommandFault::Device)
 }
 
 /// Stores records, from the lines of a text, in the first closed relative file of this name of the clean disk of the
@@ -127,7 +128,7 @@ pub fn store_run<F: SectorFile, W: Write>(
     text: &[u8],
     file: F,
     out: &mut W,
-) -> (F, Result<(), KeepFault>)
+) -> (F, Result<(), CommandFault>)
     // if it is known what the file keeps, it is this image
     requires agrees { Agrees (F.keeps.kept file) (sectors_in image.now) }
     ensures run { IsStoreOver F.keeps W.contents image.now name.now text.now file result.0 out.old out.new result.1 }
@@ -138,5 +139,5 @@ pub fn store_run<F: SectorFile, W: Write>(
     };
     let mut mirror = KeptMirror::new(file, disk);
     let ended = store_image(alloc, image, name, text, &mut mirror, out);
-    file_of(mirror, ended, KeepFault::Device)
+    file_of(mirror, ended, CommandFault::Device)
 }

@@ -60,7 +60,7 @@ pub use jobs::{
     Columns, Drawing, Effect, Findings, Job, Loss, Overview, Reading, Taking, Unowned, View, Way,
 };
 pub use keeper_runs::{dry_repair_run, make_run, repair_run, store_run, taking_run};
-pub use listings::{listed_end, listing_run};
+pub use listings::listing_run;
 pub use logged_plays::play_logged;
 pub use logged_runs::serve_logged;
 pub use losses::{
@@ -69,7 +69,7 @@ pub use losses::{
 };
 pub use names::Name;
 pub use new_disks::new_run;
-pub use outcomes::{drawn_end, job_end};
+pub use outcomes::{job_end, run_end};
 pub use overviews::overview_run;
 pub use putting::put_guarded;
 pub use readings::do_over;
@@ -79,5 +79,5 @@ pub use serving_runs::serve_run;
 pub use shop_runs::{play_run, reading_run};
 pub use system_files::ClosedStreams;
 pub use trimming::{do_trim, trim_run};
-pub use viewing::{view_run, viewed_end};
+pub use viewing::view_run;
 pub use watched_files::WhileThere;

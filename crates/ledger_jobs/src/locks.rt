@@ -4,8 +4,9 @@ ghost use Rattle.shop_commands.specs.Durable.{IsSynced};
 ghost use Rattle.ledger_jobs.specs.DurableRuns.{IsFinished};
 
 use crate::refusals::Refusal;
+use command_faults::CommandFault;
 use disk_layout::Fault;
-use shop_commands::{Durability, ImageFile, Locks, RunFault, WritesAt};
+use shop_commands::{Durability, ImageFile, Locks, WritesAt};
 use std::alloc::Global;
 use std::io;
 
@@ -22,7 +23,7 @@ pub(crate) fn lock_exclusive<F: Locks>(file: &mut F, durability: Durability) -> 
         return Err(Refusal::of_lock(&error));
     }
     if durability == Durability::EachSector && file.sync().is_err() {
-        return Err(Refusal::Run(RunFault::Device));
+        return Err(Refusal::Fault(CommandFault::Device));
     }
     Ok(())
 }
@@ -79,7 +80,7 @@ pub(crate) fn own_image<F: Locks>(
     lock_exclusive(file, durability)?;
     match read_locked(alloc, file, durability) {
         Ok(bytes) => Ok(bytes),
-        Err(error) => Err(Refusal::Run(RunFault::of_io(&error))),
+        Err(error) => Err(Refusal::Fault(CommandFault::of_io(&error))),
     }
 }
 
@@ -88,14 +89,14 @@ pub(crate) fn own_image<F: Locks>(
 /// failed isn't synced again.
 pub(crate) fn finished<F: WritesAt>(
     file: &mut ImageFile<F>,
-    ended: Result<Option<Fault>, RunFault>,
-) -> Result<Option<Fault>, RunFault>
+    ended: Result<Option<Fault>, CommandFault>,
+) -> Result<Option<Fault>, CommandFault>
     ensures { IsFinished {G = F.WritesAt.own} ended file.old file.new result }
 {
     match &ended {
-        Ok(_) | Err(RunFault::File) => match file.finish() {
+        Ok(_) | Err(CommandFault::File) => match file.finish() {
             Ok(()) => ended,
-            Err(_) => Err(RunFault::Device),
+            Err(_) => Err(CommandFault::Device),
         },
         Err(_) => ended,
     }

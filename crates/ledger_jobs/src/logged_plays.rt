@@ -2,13 +2,13 @@
 ghost use Rattle.std.specs.Prelude.{◌≡◌, Err, IfSome, None};
 ghost use Rattle.ledger_jobs.specs.LoggedPlays.{IsLoggedPlay};
 ghost use Rattle.script_lines.specs.Lines.{first_reset, lines};
-ghost use Rattle.shop_commands.specs.declared.faults.RunFault.TheVariants as faults;
+ghost use Rattle.command_faults.specs.declared.faults.CommandFault.TheVariants as faults;
 
 use crate::logged_runs::serve_logged;
+use command_faults::CommandFault;
 use line_server::ScriptBatches;
 use log_server::Reports;
 use script_lines::first_reset_line;
-use shop_commands::RunFault;
 use shop_log::ImageLog;
 use std::alloc::Global;
 
@@ -23,14 +23,14 @@ pub fn play_logged<L: ImageLog, T: Reports<L>>(
     script: &[u8],
     log: &mut L,
     out: &mut T,
-) -> Result<(), RunFault>
+) -> Result<(), CommandFault>
     ensures bad_line { IfSome (first_reset (lines script.now))
-        (λ n. (result ≡ Err (faults.BadLine n)) × (log.new ≡ log.old) × (out.new ≡ out.old)) }
+        (λ n. (result ≡ Err (faults.ScriptLine n)) × (log.new ≡ log.old) × (out.new ≡ out.old)) }
     ensures run { first_reset (lines script.now) ≡ None
         → IsLoggedPlay L.history T.output image.now script.now log.old log.new out.old out.new result }
 {
     if let Some(line) = first_reset_line(script) {
-        return Err(RunFault::BadLine(line));
+        return Err(CommandFault::ScriptLine(line));
     }
     let mut left = ScriptBatches::new(script);
     serve_logged(alloc, image, log, &mut left, out)

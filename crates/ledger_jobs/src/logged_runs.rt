@@ -2,9 +2,9 @@
 ghost use Rattle.ledger_jobs.specs.LoggedRuns.{IsLoggedRun};
 
 use crate::serving_files::told;
+use command_faults::{CommandFault, load};
 use line_server::BatchSource;
 use log_server::{Reports, Room, serve_batches};
-use shop_commands::{RunFault, load};
 use shop_log::ImageLog;
 use std::alloc::Global;
 
@@ -23,7 +23,7 @@ pub fn serve_logged<L: ImageLog, R: BatchSource, T: Reports<L>>(
     log: &mut L,
     input: &mut R,
     out: &mut T,
-) -> Result<(), RunFault>
+) -> Result<(), CommandFault>
     ensures run { IsLoggedRun L.history R.input T.output image.now log.old log.new input.old input.new
         out.old out.new result }
 {
@@ -32,7 +32,7 @@ pub fn serve_logged<L: ImageLog, R: BatchSource, T: Reports<L>>(
         Err(fault) => return Err(fault),
     };
     let Ok(mut room) = Room::new(alloc) else {
-        return Err(RunFault::NoMemory);
+        return Err(CommandFault::NoMemory);
     };
     match serve_batches(disk, log, input, out, &mut room) {
         Ok(_left) => Ok(()),

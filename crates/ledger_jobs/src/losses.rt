@@ -7,14 +7,13 @@ ghost use Rattle.keeper_commands.specs.Makes.{IsNewName};
 ghost use Rattle.shop_commands.specs.Durable.{IsSynced};
 ghost use Rattle.shop_commands.specs.ImageFile.{placed};
 ghost use Rattle.shop_commands.specs.Plays.{IsUntouched};
-ghost use Rattle.shop_commands.specs.declared.faults.RunFault.TheVariants.{NoMemory};
+ghost use Rattle.command_faults.specs.declared.faults.CommandFault.TheVariants.{NoMemory};
 ghost use Rattle.ledger_jobs.specs.DurableRuns.{IsDurableRun};
-ghost use Rattle.ledger_jobs.specs.Ends.{as_job, end_of};
 ghost use Rattle.ledger_jobs.specs.FileServes.{IsUnserved};
 ghost use Rattle.ledger_jobs.specs.Keeping.{IsDryRepair, IsRepairOver};
 ghost use Rattle.ledger_jobs.specs.Kept.{IsMakeOver, IsStoreOver};
-ghost use Rattle.ledger_jobs.specs.Losses.{IsEndOf, IsGuarded, IsJudged, IsKeptEndOf, IsRepairedEndOf, IsSeen};
-ghost use Rattle.ledger_jobs.specs.Losses.{IsEndOfRun, IsTakingEnd, taken_end};
+ghost use Rattle.ledger_jobs.specs.Losses.{IsEndOf, IsEndOfRun, IsGuarded, IsJudged, IsRepairedEndOf, IsSeen};
+ghost use Rattle.ledger_jobs.specs.Losses.{IsTakingEnd, taken_end};
 ghost use Rattle.ledger_jobs.specs.LoggedRuns.{IsLoggedRun, IsUnlogged};
 ghost use Rattle.ledger_jobs.specs.Serves.{IsServeRun};
 ghost use Rattle.ledger_jobs.specs.declared.refusals.Refusal.TheVariants as refusals;
@@ -24,15 +23,15 @@ use crate::durable_runs::serve_durably;
 use crate::jobs::{Loss, Taking};
 use crate::keeper_runs::{dry_repair_run, make_run, repair_run, store_run, taking_run};
 use crate::logged_runs::serve_logged;
-use crate::outcomes::{job_end, kept_end, repaired_end};
+use crate::outcomes::{job_end, repaired_end, run_end};
 use crate::refusals::Refusal;
+use command_faults::CommandFault;
 use cut_files::find_image_cut;
 use d64_image::{ImageFault, KeptMirror, Place, SectorFile};
 use disk_layout::Fault;
-use keeper_commands::KeepFault;
 use line_server::{Answers, BatchSource, LineSource};
 use log_server::Reports;
-use shop_commands::{Durability, ImageFile, RunFault, WritesAt};
+use shop_commands::{Durability, ImageFile, WritesAt};
 use shop_log::ImageLog;
 use std::alloc::Global;
 use std::io::Write;
@@ -45,12 +44,12 @@ pub(crate) fn cut_in(
     name: Option<&[u8]>,
 ) -> Result<Option<Place>, Refusal>
     ensures ok { IfOk result (IsSeen image.now (option_map (λ n. n.now) name.entry)) }
-    ensures err { IfErr result (λ refusal. refusal ≡ refusals.Run NoMemory) }
+    ensures err { IfErr result (λ refusal. refusal ≡ refusals.Fault NoMemory) }
 {
     match find_image_cut(alloc, image, name) {
         Ok(cut) => Ok(cut),
         Err(ImageFault::Size) => Ok(None),
-        Err(ImageFault::NoMemory) => Err(Refusal::Run(RunFault::NoMemory)),
+        Err(ImageFault::NoMemory) => Err(Refusal::Fault(CommandFault::NoMemory)),
     }
 }
 
@@ -66,16 +65,6 @@ pub fn loss_refusal(alloc: Global, image: &[u8], loss: Loss) -> Option<Refusal>
             Ok(Some(place)) => Some(Refusal::Short(place)),
             Err(refusal) => Some(refusal),
         },
-    }
-}
-
-/// The end of a job whose run ended so, and which prints no fault.
-pub(crate) fn run_end(ended: Result<(), RunFault>) -> Result<Option<Fault>, Refusal>
-    ensures { result ≡ as_job (end_of ended) }
-{
-    match ended {
-        Ok(()) => Ok(None),
-        Err(fault) => Err(Refusal::Run(fault)),
     }
 }
 
@@ -185,13 +174,13 @@ pub fn make_guarded<F: SectorFile, W: Write>(
     // if it is known what the file keeps, it is this image
     requires agrees { Agrees (F.keeps.kept file) (sectors_in image.now) }
     ensures { IsGuarded image.now loss (IsUntouched file result.0 out.old out.new)
-        (IsKeptEndOf (IsMakeOver F.keeps W.contents image.now name.now length file result.0 out.old out.new)) result.1 }
+        (IsEndOfRun (IsMakeOver F.keeps W.contents image.now name.now length file result.0 out.old out.new)) result.1 }
 {
     if let Some(refusal) = loss_refusal(alloc, image, loss) {
         return (file, Err(refusal));
     }
     let (left, ended) = make_run(alloc, image, name, length, file, out);
-    (left, kept_end(ended))
+    (left, run_end(ended))
 }
 
 /// Stores records on the disk of the image that the file keeps, as `store_run` does. If a file of it is cut short and no
@@ -208,23 +197,23 @@ pub fn store_guarded<F: SectorFile, W: Write>(
     // if it is known what the file keeps, it is this image
     requires agrees { Agrees (F.keeps.kept file) (sectors_in image.now) }
     ensures { IsGuarded image.now loss (IsUntouched file result.0 out.old out.new)
-        (IsKeptEndOf (IsStoreOver F.keeps W.contents image.now name.now text.now file result.0 out.old out.new))
+        (IsEndOfRun (IsStoreOver F.keeps W.contents image.now name.now text.now file result.0 out.old out.new))
         result.1 }
 {
     if let Some(refusal) = loss_refusal(alloc, image, loss) {
         return (file, Err(refusal));
     }
     let (left, ended) = store_run(alloc, image, name, text, file, out);
-    (left, kept_end(ended))
+    (left, run_end(ended))
 }
 
 /// How a taking ended of a file that is cut short there, or isn't.
-fn taken_end(ended: Result<(), KeepFault>, cut: Option<Place>) -> Result<Option<Fault>, Refusal>
+fn taken_end(ended: Result<(), CommandFault>, cut: Option<Place>) -> Result<Option<Fault>, Refusal>
     ensures { result ≡ taken_end ended cut }
 {
     match (ended, cut) {
         (Ok(()), Some(place)) => Err(Refusal::Short(place)),
-        (ended, _) => kept_end(ended),
+        (ended, _) => run_end(ended),
     }
 }
 

@@ -2,7 +2,7 @@
 ghost use Rattle.std.specs.Prelude.{◌≡◌, ◌≤◌, IfErr, IfOk, length};
 ghost use Rattle.d64_image.specs.Memory.{disk_image};
 ghost use Rattle.file_changes.specs.Formats.{IsNewDisk};
-ghost use Rattle.shop_commands.specs.declared.faults.RunFault.TheVariants as faults;
+ghost use Rattle.command_faults.specs.declared.faults.CommandFault.TheVariants as faults;
 ghost use Rattle.ledger_jobs.specs.Names.{name_bytes};
 ghost use Rattle.ledger_jobs.specs.NewDisks.{IsNewMade};
 ghost use Rattle.ledger_jobs.specs.Rights.{MayMakeImage};
@@ -12,25 +12,26 @@ use crate::names::Name;
 use crate::outcomes::job_end;
 use crate::refusals::Refusal;
 use crate::shop_runs::ended;
+use command_faults::CommandFault;
 use d64_image::MemDisk;
 use disk_layout::Fault;
 use file_changes::new_disk;
 use host_files::HostFiles;
-use shop_commands::{EndedFile, Locks, OverwrittenFile, RunFault, put_whole};
+use shop_commands::{EndedFile, Locks, OverwrittenFile, put_whole};
 use std::alloc::Global;
 use std::fs::OpenFile;
 use std::io::Write;
 use system_files::replace_image;
 
 /// The empty disk of this name and this id. `NoMemory` if there is none for it.
-fn made_disk(alloc: Global, name: &[u8], id: [u8; 2]) -> Result<MemDisk, RunFault>
+fn made_disk(alloc: Global, name: &[u8], id: [u8; 2]) -> Result<MemDisk, CommandFault>
     requires name { length name.now ≤ 16 }
     ensures ok { IfOk result (λ disk. IsNewDisk name.now id (disk_image disk)) }
     ensures err { IfErr result (λ fault. fault ≡ faults.NoMemory) }
 {
     match new_disk(alloc, name, id) {
         Ok(disk) => Ok(disk),
-        Err(_) => Err(RunFault::NoMemory),
+        Err(_) => Err(CommandFault::NoMemory),
     }
 }
 
@@ -46,14 +47,14 @@ pub fn new_run<F: EndedFile, W: Write>(
     id: [u8; 2],
     file: &mut F,
     out: &mut W,
-) -> Result<(), RunFault>
+) -> Result<(), CommandFault>
     requires name { length name.now ≤ 16 }
     ensures { IsNewMade F.remains W.contents name.now id file.old file.new out.old out.new result }
 {
     let disk = made_disk(alloc, name, id)?;
     match replace_image(file, disk.bytes()) {
         Ok(()) => put_whole(out, b"FORMATTED\n"),
-        Err(_) => Err(RunFault::File),
+        Err(_) => Err(CommandFault::File),
     }
 }
 

@@ -1,7 +1,7 @@
 //! Several images, each read as if it were alone. What is printed of each stands after its name.
 ghost use Rattle.std.specs.Prelude.{◌≡◌, IfErr, IfOk, OnOk, Some, vec_items, All};
 ghost use Rattle.std.specs.Io.KnownBytes.{Appends};
-ghost use Rattle.shop_commands.specs.declared.faults.RunFault.TheVariants as faults;
+ghost use Rattle.command_faults.specs.declared.faults.CommandFault.TheVariants as faults;
 ghost use Rattle.ledger_jobs.specs.Ends.{EndsAs, as_job};
 ghost use Rattle.ledger_jobs.specs.Overviews.{IsOneOfSeveral, IsOverview, IsToldAs};
 ghost use Rattle.ledger_jobs.specs.Runs.{IsReadingEnd};
@@ -11,15 +11,16 @@ ghost use Rattle.ledger_jobs.specs.Rights.{MayReadImage};
 use crate::drawing::drawing_run;
 use crate::endings::end;
 use crate::jobs::{Drawing, Findings, Overview, Reading};
-use crate::listings::{listed_end, listing_run};
-use crate::outcomes::{drawn_end, job_end};
+use crate::listings::listing_run;
+use crate::outcomes::job_end;
 use crate::readings::image_at;
 use crate::refusals::Refusal;
 use crate::shop_runs::reading_run;
+use command_faults::CommandFault;
 use disk_layout::Fault;
 use host_files::HostFiles;
 use named_lines::put_named;
-use shop_commands::{Locks, RunFault};
+use shop_commands::Locks;
 use std::alloc::Global;
 use std::fs::OpenFile;
 use std::io::{Read, Write};
@@ -52,19 +53,19 @@ fn overview<W: Write>(
     match what {
         Overview::List(form) => read(alloc, Reading::List(form), image, out),
         Overview::Check(Findings::First) => read(alloc, Reading::Check, image, out),
-        Overview::Check(Findings::All) => listed_end(listing_run(alloc, image, out)),
-        Overview::Map => drawn_end(drawing_run(alloc, Drawing::Map, image, out)),
+        Overview::Check(Findings::All) => job_end(listing_run(alloc, image, out)),
+        Overview::Map => job_end(drawing_run(alloc, Drawing::Map, image, out)),
     }
 }
 
 /// Prints a text line by line, each after the image's name. `File` if the output failed.
-fn put_text<W: Write>(name: &[u8], text: &[u8], out: &mut W) -> Result<(), RunFault>
+fn put_text<W: Write>(name: &[u8], text: &[u8], out: &mut W) -> Result<(), CommandFault>
     ensures ok { OnOk result (Appends (W.contents out.old) (W.contents out.new) (named name.now text.now)) }
     ensures err { IfErr result (λ fault. fault ≡ faults.File) }
 {
     match put_named(out, name, text) {
         Ok(()) => Ok(()),
-        Err(_) => Err(RunFault::File),
+        Err(_) => Err(CommandFault::File),
     }
 }
 
@@ -75,13 +76,13 @@ fn tell_named<W: Write>(
     mut text: Vec<u8>,
     ended: Result<Option<Fault>, Refusal>,
     out: &mut W,
-) -> Result<u8, RunFault>
+) -> Result<u8, CommandFault>
     ensures ok { IfOk result (IsToldAs W.contents name.now (vec_items text) ended out.old out.new) }
     ensures err { IfErr result (λ fault. fault ≡ faults.File) }
 {
     let ending = end(ended, &mut text);
     let Ok(()) = ending.told else {
-        return Err(RunFault::File);
+        return Err(CommandFault::File);
     };
     put_text(name, text.as_slice(), out)?;
     Ok(ending.status)
@@ -98,19 +99,19 @@ pub fn overview_run<W: Write>(
     name: &[u8],
     image: &[u8],
     out: &mut W,
-) -> Result<u8, RunFault>
+) -> Result<u8, CommandFault>
     ensures ok { IfOk result (IsOneOfSeveral W.contents what name.now image.now out.old out.new) }
 {
     let mut text = match Vec::with_capacity(alloc, ROOM) {
         Ok(text) => text,
-        Err(_) => return Err(RunFault::NoMemory),
+        Err(_) => return Err(CommandFault::NoMemory),
     };
     let ended = overview(alloc, what, image, &mut text);
     tell_named(name, text, ended, out)
 }
 
 /// Prints what is asked of the image at a path, or why it can't be read, and returns its exit status.
-fn do_one<F, R, W>(rt: &R, what: Overview, path: &str, out: &mut W) -> Result<u8, RunFault>
+fn do_one<F, R, W>(rt: &R, what: Overview, path: &str, out: &mut W) -> Result<u8, CommandFault>
 where
     F: Read + Locks + OpenFile + Drop,
     R: HostFiles<File = F> + Input + AllocGlobal,
@@ -118,7 +119,7 @@ where
     requires { MayReadImage R.rights rt.now path.now }
 {
     let Ok(name) = format!(in rt.alloc(); "{}", ShownPath(path)) else {
-        return Err(RunFault::NoMemory);
+        return Err(CommandFault::NoMemory);
     };
     match image_at(rt, path) {
         Ok(image) => overview_run(rt.alloc(), what, name.as_bytes(), image.as_slice(), out),
@@ -147,11 +148,11 @@ where
     for path in paths {
         match do_one(rt, what, path, out) {
             Ok(status) => greatest = greatest.max(status),
-            Err(fault) => return Err(Refusal::Run(fault)),
+            Err(fault) => return Err(Refusal::Fault(fault)),
         }
     }
     if out.flush().is_err() {
-        return Err(Refusal::Run(RunFault::File));
+        return Err(Refusal::Fault(CommandFault::File));
     }
     match greatest {
         0 => Ok(None),

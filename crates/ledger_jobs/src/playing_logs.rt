@@ -13,19 +13,19 @@ ghost use Rattle.ledger_jobs.specs.Rights.{MayChangeImage, MayReadText};
 use crate::files::script_at;
 use crate::jobs::Loss;
 use crate::logged_plays::play_logged;
-use crate::losses::run_end;
-use crate::outcomes::told;
+use crate::outcomes::{run_end, told};
 use crate::refusals::Refusal;
 use crate::serving_images::name_of;
 use crate::serving_logs::{begun_beside, cleared_end, landed_end, opened_image};
 use crate::watched_files::served_end;
+use command_faults::CommandFault;
 use disk_layout::Fault;
 use host_files::{HostFiles, Stays};
 use host_session::Printer;
 use log_files::{LiveLog, LogFolder, LogNames};
 use log_server::Reports;
 use script_lines::first_reset_line;
-use shop_commands::{Durability, EndedFile, Locks, RunFault};
+use shop_commands::{Durability, EndedFile, Locks};
 use shop_log::LogFile;
 use std::alloc::Global;
 use std::fs::OpenFile;
@@ -68,7 +68,7 @@ fn plain_script<R: HostFiles + Input + AllocGlobal>(rt: &R, path: &str) -> Resul
     let script = told(script_at(rt, path))?;
     match first_reset_line(script.as_slice()) {
         None => Ok(script),
-        Some(line) => Err(Refusal::Run(RunFault::BadLine(line))),
+        Some(line) => Err(Refusal::Fault(CommandFault::ScriptLine(line))),
     }
 }
 

@@ -4,7 +4,7 @@ ghost use Rattle.d64_image.specs.Keeps.{Agrees};
 ghost use Rattle.d64_image.specs.Memory.{sectors_in};
 ghost use Rattle.shop_commands.specs.Plays.{IsUntouched};
 ghost use Rattle.keeper_commands.specs.Makes.{IsNewName};
-ghost use Rattle.ledger_jobs.specs.Losses.{IsEditedEndOf, IsGuarded};
+ghost use Rattle.ledger_jobs.specs.Losses.{IsEndOfRun, IsGuarded};
 ghost use Rattle.ledger_jobs.specs.Names.{name_bytes};
 ghost use Rattle.ledger_jobs.specs.Puts.{IsPutOver};
 ghost use Rattle.ledger_jobs.specs.declared.jobs.Loss.TheVariants as losses;
@@ -16,7 +16,7 @@ use crate::jobs::Loss;
 use crate::keeper_files::image_to_keep;
 use crate::losses::loss_refusal;
 use crate::names::Name;
-use crate::outcomes::{edited_end, told};
+use crate::outcomes::{run_end, told};
 use crate::refusals::Refusal;
 use d64_image::SectorFile;
 use disk_layout::Fault;
@@ -42,14 +42,14 @@ pub fn put_guarded<F: SectorFile, W: Write>(
     // if it is known what the file keeps, it is this image
     requires agrees { Agrees (F.keeps.kept file) (sectors_in image.now) }
     ensures { IsGuarded image.now losses.Refused (IsUntouched file result.0 out.old out.new)
-        (IsEditedEndOf (IsPutOver F.keeps W.contents image.now name.now kind data.now file result.0 out.old out.new))
+        (IsEndOfRun (IsPutOver F.keeps W.contents image.now name.now kind data.now file result.0 out.old out.new))
         result.1 }
 {
     if let Some(refusal) = loss_refusal(alloc, image, Loss::Refused) {
         return (file, Err(refusal));
     }
     let (left, ended) = put_run(alloc, image, name, kind, data, file, out);
-    (left, edited_end(ended))
+    (left, run_end(ended))
 }
 
 /// Puts the bytes of the file at a path, or of standard input, on the disk of the image at another, over its file.

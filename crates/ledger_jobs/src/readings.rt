@@ -1,7 +1,7 @@
 //! What is asked of the bytes of one file: it is opened, locked and read.
 ghost use Rattle.std.specs.Prelude.{◌≡◌, IfErr, IfOk, IfSome, IsNone, Err, take, vec_items};
 ghost use Rattle.std.specs.IoError.{error_kind};
-ghost use Rattle.shop_commands.specs.Faults.{io_fault};
+ghost use Rattle.command_faults.specs.Faults.{io_fault};
 ghost use Rattle.host_files.specs.Standing.{AreOf};
 ghost use Rattle.ledger_jobs.specs.Ends.{EndsAs, as_job};
 ghost use Rattle.ledger_jobs.specs.HostFiles.{HasNoLogFor, OfFile, OfImage, OfImageFile, OfRead, RunEnds};
@@ -16,9 +16,10 @@ use crate::locks::read_shared;
 use crate::outcomes::{job_end, told};
 use crate::refusals::Refusal;
 use crate::shop_runs::reading_run;
+use command_faults::CommandFault;
 use disk_layout::Fault;
 use host_files::HostFiles;
-use shop_commands::{Locks, RunFault, read_image, read_script};
+use shop_commands::{Locks, read_image, read_script};
 use std::alloc::Global;
 use std::fs::OpenFile;
 use std::io::{self, Read, Write};
@@ -45,14 +46,14 @@ fn over_read<W: Write>(
     what: Reading,
     read: io::Result<Vec<u8>>,
     out: &mut W,
-) -> Result<Option<Fault>, RunFault>
+) -> Result<Option<Fault>, CommandFault>
     ensures unread { IfErr read (λ e. (result ≡ Err (io_fault (error_kind e))) × (out.new ≡ out.old)) }
     ensures run { IfOk read
         (λ bytes. IsReadingEnd W.contents what (vec_items bytes) out.old out.new result) }
 {
     match read {
         Ok(bytes) => reading_run(alloc, what, bytes.as_slice(), out),
-        Err(error) => Err(RunFault::of_io(&error)),
+        Err(error) => Err(CommandFault::of_io(&error)),
     }
 }
 
@@ -64,14 +65,14 @@ pub fn do_over<R: Read + Drop, W: Write>(
     opened: io::Result<R>,
     room: usize,
     out: &mut W,
-) -> Result<Option<Fault>, RunFault>
+) -> Result<Option<Fault>, CommandFault>
     ensures unopened { IfErr opened (λ e. (result ≡ Err (io_fault (error_kind e))) × (out.new ≡ out.old)) }
     ensures run { IfOk opened (λ reader. IfSome (R.remaining reader)
         (λ all. IsReadingOf W.contents what (needed what all) out.old out.new result)) }
 {
     match opened {
         Ok(reader) => over_read(alloc, what, bytes_of(alloc, what, reader, room), out),
-        Err(unopened) => Err(RunFault::of_io(&unopened)),
+        Err(unopened) => Err(CommandFault::of_io(&unopened)),
     }
 }
 

@@ -2,11 +2,8 @@
 ghost use Rattle.std.specs.Prelude.{◌≡◌, Some};
 ghost use Rattle.ledger_jobs.specs.Ends.{is_told as told_there, lock_refusal, refusal_status, refusal_text};
 
-use change_commands::EditFault;
+use command_faults::CommandFault;
 use d64_image::Place;
-use disk_pictures::PictureFault;
-use keeper_commands::KeepFault;
-use shop_commands::RunFault;
 use std::error::Error;
 use std::fmt::{self, Display, Formatter};
 use std::fs::TryLockError;
@@ -14,14 +11,8 @@ use std::fs::TryLockError;
 /// Why a job isn't done, as it is reported on standard error.
 #[derive(Clone, Copy, Debug, PartialEq, Eq)]
 pub enum Refusal {
-    /// A fault of the image or the script; or of a file, the output or memory.
-    Run(RunFault),
-    /// A fault in a job over the files of an image.
-    Keep(KeepFault),
-    /// A fault in a job that renames or deletes a file of an image, or puts one there.
-    Edit(EditFault),
-    /// A fault in a job that draws an image.
-    Draw(PictureFault),
+    /// A fault of the image or of the script or the records; or of a file, the output or memory.
+    Fault(CommandFault),
     /// Another program has the image. Nothing was read or changed.
     InUse,
     /// The disk is repaired, except that this number of sectors stay taken though no file owns them. The output says
@@ -48,10 +39,7 @@ impl Refusal {
         ensures { result ≡ refusal_status self.now }
     {
         match self {
-            Refusal::Run(fault) => fault.status(),
-            Refusal::Keep(fault) => fault.status(),
-            Refusal::Edit(fault) => fault.status(),
-            Refusal::Draw(fault) => fault.status(),
+            Refusal::Fault(fault) => fault.status(),
             Refusal::InUse => 3,
             Refusal::Kept(_) => 1,
             Refusal::Exists => 1,
@@ -68,8 +56,7 @@ impl Refusal {
         ensures { result ≡ told_there self.now }
     {
         match self {
-            Refusal::Run(_) | Refusal::Keep(_) | Refusal::Edit(_) | Refusal::Draw(_) => true,
-            Refusal::InUse | Refusal::Exists | Refusal::Log => true,
+            Refusal::Fault(_) | Refusal::InUse | Refusal::Exists | Refusal::Log => true,
             Refusal::Short(_) | Refusal::ShopFile => true,
             Refusal::Kept(_) | Refusal::Trimmed | Refusal::Several(_) => false,
         }
@@ -82,7 +69,7 @@ impl Refusal {
     {
         match error {
             TryLockError::WouldBlock => Refusal::InUse,
-            TryLockError::Error(error) => Refusal::Run(RunFault::of_io(error)),
+            TryLockError::Error(error) => Refusal::Fault(CommandFault::of_io(error)),
         }
     }
 }
@@ -92,10 +79,7 @@ impl Display for Refusal {
 
     fn fmt<W: fmt::Write>(&self, f: &mut Formatter<W>) -> fmt::Result {
         match self {
-            Refusal::Run(fault) => fault.fmt(f),
-            Refusal::Keep(fault) => fault.fmt(f),
-            Refusal::Edit(fault) => fault.fmt(f),
-            Refusal::Draw(fault) => fault.fmt(f),
+            Refusal::Fault(fault) => fault.fmt(f),
             Refusal::InUse => f.write_str("IN USE"),
             Refusal::Kept(count) => write!(f, "KEPT {count}"),
             Refusal::Exists => f.write_str("FILE EXISTS"),

@@ -4,20 +4,21 @@ ghost use Rattle.d64_image.specs.Keeps.{Agrees};
 ghost use Rattle.d64_image.specs.Memory.{sectors_in};
 ghost use Rattle.ledger_jobs.specs.FileServes.{IsServeFault, IsServedFile, loop_fault};
 
+use command_faults::{CommandFault, load};
 use d64_image::{KeptMirror, SectorFile};
 use host_session::LoopFault;
 use line_server::{Answers, LineSource, serve};
-use shop_commands::{RunFault, file_of, load};
+use shop_commands::{file_of, of_opening};
 use std::alloc::Global;
 
 /// What is reported of a shop whose service this fault ended: `File` for its input and for its output.
-pub(crate) fn told(fault: LoopFault) -> RunFault
+pub(crate) fn told(fault: LoopFault) -> CommandFault
     ensures { result ≡ loop_fault fault }
 {
     match fault {
-        LoopFault::Open(fault) => RunFault::of_opening(fault),
-        LoopFault::Input | LoopFault::Output => RunFault::File,
-        LoopFault::Device => RunFault::Device,
+        LoopFault::Open(fault) => of_opening(fault),
+        LoopFault::Input | LoopFault::Output => CommandFault::File,
+        LoopFault::Device => CommandFault::Device,
     }
 }
 
@@ -35,7 +36,7 @@ pub fn serve_file<F: SectorFile, R: LineSource<KeptMirror<F>>, T: Answers<KeptMi
     file: F,
     input: &mut R,
     out: &mut T,
-) -> Result<F, (RunFault, F)>
+) -> Result<F, (CommandFault, F)>
     // if it is known what the file keeps, it is this image
     requires agrees { Agrees (F.keeps.kept file) (sectors_in image.now) }
     ensures ok { IfOk result (λ after.

@@ -11,10 +11,11 @@ use crate::losses::serve_guarded;
 use crate::outcomes::told;
 use crate::refusals::Refusal;
 use crate::watched_files::{WhileThere, served_end};
+use command_faults::CommandFault;
 use disk_layout::Fault;
 use host_files::{FileName, HostFiles, Stays};
 use host_session::Printer;
-use shop_commands::{Durability, EndedFile, Locks, RunFault, WritesAt};
+use shop_commands::{Durability, EndedFile, Locks, WritesAt};
 use std::fs::OpenFile;
 use std::io::{BufReader, Write};
 
@@ -62,7 +63,7 @@ pub(crate) fn name_of<'a, F: OpenFile, R: HostFiles<File = F>>(
 {
     let name = told(FileName::of(rt, path, file))?;
     if !name.is_there() {
-        return Err(Refusal::Run(RunFault::Device));
+        return Err(Refusal::Fault(CommandFault::Device));
     }
     Ok(name)
 }

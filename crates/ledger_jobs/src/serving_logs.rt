@@ -18,6 +18,7 @@ use crate::outcomes::told;
 use crate::refusals::Refusal;
 use crate::serving_images::name_of;
 use crate::watched_files::{WhileThere, served_end};
+use command_faults::CommandFault;
 use d64_image::MemDisk;
 use disk_layout::Fault;
 use host_files::{HostFiles, Stays, opened_to_change};
@@ -26,7 +27,7 @@ use line_server::{Answers, BatchSource};
 use log_files::{
     ImageFolder, LiveLog, LogFault, LogFolder, LogNames, SystemLog, forget_making, land_in,
 };
-use shop_commands::{Durability, EndedFile, Locks, RunFault};
+use shop_commands::{Durability, EndedFile, Locks};
 use shop_log::{LogFile, LogRoom, TouchedDisk};
 use std::alloc::Global;
 use std::fs::OpenFile;
@@ -74,8 +75,8 @@ fn landing_refusal(refusal: &Refusal) -> Refusal
     ensures { result ≡ landing_fault refusal.now }
 {
     match refusal {
-        Refusal::Run(RunFault::NoMemory) => Refusal::Run(RunFault::NoMemory),
-        _ => Refusal::Run(RunFault::Device),
+        Refusal::Fault(CommandFault::NoMemory) => Refusal::Fault(CommandFault::NoMemory),
+        _ => Refusal::Fault(CommandFault::Device),
     }
 }
 
@@ -87,7 +88,9 @@ fn unlanded(
     ensures { result ≡ unlanded_end ended fault.now }
 {
     match ended {
-        Ok(_) | Err(Refusal::Run(RunFault::File)) => Err(landing_refusal(&log_refusal(fault))),
+        Ok(_) | Err(Refusal::Fault(CommandFault::File)) => Err(landing_refusal(&log_refusal(
+            fault,
+        ))),
         Err(refusal) => Err(refusal),
     }
 }
@@ -100,7 +103,7 @@ pub(crate) fn landed_end<L: LogFile, D: LogFolder<L> + Drop>(
 ) -> (Option<D>, Result<Option<Fault>, Refusal>)
     ensures { IsLandedEnd D.history log ended result.0 result.1 }
 {
-    if let Err(Refusal::Run(RunFault::Device)) = ended {
+    if let Err(Refusal::Fault(CommandFault::Device)) = ended {
         return (None, ended);
     }
     let (folder, landed) = log.end();
@@ -193,7 +196,7 @@ where
     if is_sized(&image)? {
         return Ok(image);
     }
-    Err(Refusal::Run(RunFault::ImageSize))
+    Err(Refusal::Fault(CommandFault::ImageSize))
 }
 
 /// The bytes of the shop of the image at a path, and a log beside it that was begun with them. A log that stood there was

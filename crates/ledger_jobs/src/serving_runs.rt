@@ -4,10 +4,10 @@ ghost use Rattle.d64_image.specs.Memory.{sectors_in};
 ghost use Rattle.ledger_jobs.specs.Serves.{IsServeRun};
 
 use crate::serving_files::serve_file;
+use command_faults::CommandFault;
 use d64_image::{KeptMirror, SectorFile};
 use disk_layout::Fault;
 use line_server::{Answers, LineSource};
-use shop_commands::RunFault;
 use std::alloc::Global;
 
 /// Serves the shop of the image that the file keeps, line by line up to the end of the input, and hands the file back.
@@ -20,7 +20,7 @@ pub fn serve_run<F: SectorFile, R: LineSource<KeptMirror<F>>, T: Answers<KeptMir
     file: F,
     input: &mut R,
     out: &mut T,
-) -> (F, Result<Option<Fault>, RunFault>)
+) -> (F, Result<Option<Fault>, CommandFault>)
     // if it is known what the file keeps, it is this image
     requires agrees { Agrees (F.keeps.kept file) (sectors_in image.now) }
     ensures run { IsServeRun F.keeps R.input T.answering image.now file result.0

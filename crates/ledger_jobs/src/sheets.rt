@@ -5,8 +5,9 @@ ghost use Rattle.ledger_jobs.specs.Rights.{MayReadImage};
 
 use crate::readings::image_at;
 use crate::refusals::Refusal;
+use command_faults::CommandFault;
 use disk_layout::Fault;
-use disk_pictures::{PictureFault, sheet_begin, sheet_finish, sheet_refusal, sheet_tile};
+use disk_pictures::{sheet_begin, sheet_finish, sheet_refusal, sheet_tile};
 use host_files::HostFiles;
 use shop_commands::Locks;
 use std::alloc::Global;
@@ -52,11 +53,11 @@ fn put_unread<W: Write>(
     path: &str,
     refusal: Refusal,
     out: &mut W,
-) -> Result<u8, PictureFault>
+) -> Result<u8, CommandFault>
     ensures ok { IfOk result (IsUnreadTile W.contents path.now refusal out.old out.new) }
 {
     let Ok(told) = format!(in alloc; "{refusal}") else {
-        return Err(PictureFault::NoMemory);
+        return Err(CommandFault::NoMemory);
     };
     sheet_refusal(path, told.as_str(), out)?;
     Ok(refusal.status())
@@ -69,7 +70,7 @@ fn put_tile_of<W: Write>(
     path: &str,
     read: Result<Vec<u8>, Refusal>,
     out: &mut W,
-) -> Result<u8, PictureFault>
+) -> Result<u8, CommandFault>
     ensures ok { IfOk result (IsTileOf W.contents path.now (as_loaded read) out.old out.new) }
 {
     match read {
@@ -84,7 +85,7 @@ fn put_tile_at<S: ImageSource, W: Write>(
     source: &S,
     path: &str,
     out: &mut W,
-) -> Result<u8, PictureFault>
+) -> Result<u8, CommandFault>
     requires { S.may_give source.now path.now }
     ensures ok { IfOk result (IsTileFrom (S.gives source.now) W.contents path.now out.old out.new) }
 {
@@ -97,7 +98,7 @@ fn put_tiles<S: ImageSource, W: Write>(
     source: &S,
     paths: &[&str],
     out: &mut W,
-) -> Result<u8, PictureFault>
+) -> Result<u8, CommandFault>
     requires { All (λ path. S.may_give source.now path.now) paths.now }
     ensures ok { IfOk result
         (AreTiles (S.gives source.now) W.contents (map (λ path. path.now) paths.now) out.old out.new) }
@@ -116,7 +117,7 @@ fn put_sheet<S: ImageSource, W: Write>(
     source: &S,
     paths: &[&str],
     out: &mut W,
-) -> Result<u8, PictureFault>
+) -> Result<u8, CommandFault>
     requires { All (λ path. S.may_give source.now path.now) paths.now }
     ensures ok { IfOk result
         (IsSheetPrinted (S.gives source.now) W.contents (map (λ path. path.now) paths.now) out.old out.new) }
@@ -145,6 +146,6 @@ where
     match put_sheet(rt.alloc(), &FileImages(rt), paths, out) {
         Ok(0) => Ok(None),
         Ok(greatest) => Err(Refusal::Several(greatest)),
-        Err(fault) => Err(Refusal::Draw(fault)),
+        Err(fault) => Err(Refusal::Fault(fault)),
     }
 }

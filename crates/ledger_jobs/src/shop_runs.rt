@@ -6,15 +6,16 @@ ghost use Rattle.ledger_jobs.specs.Ends.{dry_end, end_of};
 ghost use Rattle.ledger_jobs.specs.Runs.{IsPlayRun, IsReadingEnd};
 
 use crate::jobs::Reading;
+use command_faults::CommandFault;
 use d64_image::{KeptMirror, SectorFile};
 use disk_layout::Fault;
 use host_session::ReplySink;
-use shop_commands::{DryFault, RunFault, check_image, dry, list_image, play_file, show_image};
+use shop_commands::{DryFault, check_image, dry, list_image, play_file, show_image};
 use std::alloc::Global;
 use std::io::Write;
 
 /// The end of a job that prints no fault.
-pub(crate) fn ended(end: Result<(), RunFault>) -> Result<Option<Fault>, RunFault>
+pub(crate) fn ended(end: Result<(), CommandFault>) -> Result<Option<Fault>, CommandFault>
     ensures { result ≡ end_of end }
 {
     match end {
@@ -24,13 +25,13 @@ pub(crate) fn ended(end: Result<(), RunFault>) -> Result<Option<Fault>, RunFault
 }
 
 /// The end of a run without a disk.
-fn dry_ended(end: Result<(), DryFault>) -> Result<Option<Fault>, RunFault>
+fn dry_ended(end: Result<(), DryFault>) -> Result<Option<Fault>, CommandFault>
     ensures { result ≡ dry_end end }
 {
     match end {
         Ok(()) => Ok(None),
-        Err(DryFault::BadLine(line)) => Err(RunFault::BadLine(line)),
-        Err(DryFault::Output) => Err(RunFault::File),
+        Err(DryFault::BadLine(line)) => Err(CommandFault::ScriptLine(line)),
+        Err(DryFault::Output) => Err(CommandFault::File),
     }
 }
 
@@ -42,7 +43,7 @@ pub fn reading_run<W: Write>(
     what: Reading,
     bytes: &[u8],
     out: &mut W,
-) -> Result<Option<Fault>, RunFault>
+) -> Result<Option<Fault>, CommandFault>
     ensures { IsReadingEnd W.contents what bytes.now out.old out.new result }
 {
     match what {
@@ -63,7 +64,7 @@ pub fn play_run<F: SectorFile, T: ReplySink<KeptMirror<F>>>(
     script: &[u8],
     file: F,
     out: &mut T,
-) -> (F, Result<Option<Fault>, RunFault>)
+) -> (F, Result<Option<Fault>, CommandFault>)
     // if it is known what the file keeps, it is this image
     requires agrees { Agrees (F.keeps.kept file) (sectors_in image.now) }
     ensures run { IsPlayRun F.keeps T.output image.now script.now file result.0 out.old out.new result.1 }

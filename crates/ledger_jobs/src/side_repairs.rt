@@ -9,10 +9,11 @@ use crate::keeper_files::image_to_keep;
 use crate::losses::{dry_repair_guarded, loss_refusal, repair_guarded};
 use crate::readings::image_at;
 use crate::refusals::Refusal;
+use command_faults::{CommandFault, load};
 use d64_image::{KeptMirror, MemDisk, SectorFile};
 use disk_layout::Fault;
 use host_files::HostFiles;
-use keeper_commands::{KeepFault, load, rebuild_image};
+use keeper_commands::rebuild_image;
 use shop_commands::{EndedFile, Locks};
 use side_rebuilding::Shortened;
 use std::alloc::Global;
@@ -33,7 +34,7 @@ fn rebuilt_copy<W: Write>(
     image: &[u8],
     loss: Loss,
     out: &mut W,
-) -> Result<MemDisk, KeepFault> {
+) -> Result<MemDisk, CommandFault> {
     let mut copy = load(alloc, image)?;
     rebuild_image(alloc, image, shortened(loss), &mut copy, out)?;
     Ok(copy)
@@ -44,7 +45,7 @@ fn rebuilt_copy<W: Write>(
 fn judge_sides(alloc: Global, image: &[u8], loss: Loss) -> Result<(), Refusal> {
     let mut lines = Vec::new(alloc);
     match rebuilt_copy(alloc, image, loss, &mut lines) {
-        Err(fault) => Err(Refusal::Keep(fault)),
+        Err(fault) => Err(Refusal::Fault(fault)),
         Ok(copy) => match loss_refusal(alloc, copy.bytes(), loss) {
             Some(refusal) => Err(refusal),
             None => Ok(()),
@@ -60,7 +61,7 @@ fn write_rebuilt<F: SectorFile + Drop, W: Write>(
     loss: Loss,
     file: F,
     out: &mut W,
-) -> Result<(F, MemDisk), KeepFault>
+) -> Result<(F, MemDisk), CommandFault>
     // if it is known what the file keeps, it is this image
     requires agrees { Agrees (F.keeps.kept file) (sectors_in image.now) }
     // and then it is that of the disk
@@ -70,7 +71,7 @@ fn write_rebuilt<F: SectorFile + Drop, W: Write>(
     let mut mirror = KeptMirror::new(file, disk);
     let ended = rebuild_image(alloc, image, shortened(loss), &mut mirror, out);
     if mirror.is_broken() {
-        return Err(KeepFault::Device);
+        return Err(CommandFault::Device);
     }
     let left = mirror.into_inner();
     match ended {
@@ -96,7 +97,7 @@ where
     let (image, file) = image_to_keep(rt, path)?;
     judge_sides(rt.alloc(), image.as_slice(), loss)?;
     match write_rebuilt(rt.alloc(), image.as_slice(), loss, file, out) {
-        Err(fault) => Err(Refusal::Keep(fault)),
+        Err(fault) => Err(Refusal::Fault(fault)),
         Ok((file, disk)) => {
             let (_, ended) = repair_guarded(rt.alloc(), disk.bytes(), free, file, loss, out);
             ended
@@ -128,6 +129,6 @@ where
     judge_sides(rt.alloc(), image.as_slice(), loss)?;
     match rebuilt_copy(rt.alloc(), image.as_slice(), loss, out) {
         Ok(copy) => dry_repair_guarded(rt.alloc(), copy.bytes(), free, loss, out),
-        Err(fault) => Err(Refusal::Keep(fault)),
+        Err(fault) => Err(Refusal::Fault(fault)),
     }
 }

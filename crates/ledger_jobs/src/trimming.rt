@@ -9,8 +9,9 @@ use crate::files::STANDARD_INPUT;
 use crate::image_logs::{logged_image, opened_shared};
 use crate::outcomes::told;
 use crate::refusals::Refusal;
+use command_faults::CommandFault;
 use disk_layout::Fault;
-use disk_pictures::{PictureFault, trim_image};
+use disk_pictures::trim_image;
 use host_files::HostFiles;
 use shop_commands::{Locks, read_script};
 use std::alloc::Global;
@@ -21,13 +22,13 @@ use std::io::{self, Read, Write};
 const IMAGE_BYTES: u64 = 197_377;
 
 /// The end of a job that trimmed an image.
-fn trimmed_end(ended: Result<bool, PictureFault>) -> Result<Option<Fault>, Refusal>
+fn trimmed_end(ended: Result<bool, CommandFault>) -> Result<Option<Fault>, Refusal>
     ensures { result ≡ as_trimmed ended }
 {
     match ended {
         Ok(true) => Ok(None),
         Ok(false) => Err(Refusal::Trimmed),
-        Err(fault) => Err(Refusal::Draw(fault)),
+        Err(fault) => Err(Refusal::Fault(fault)),
     }
 }
 

@@ -1,15 +1,17 @@
 //! What is printed of an image that isn't checked, done over its bytes and its file.
-ghost use Rattle.std.specs.Prelude.{◌≡◌, take};
-ghost use Rattle.ledger_jobs.specs.Ends.{EndsAs};
+ghost use Rattle.std.specs.Prelude.{take};
+ghost use Rattle.ledger_jobs.specs.Ends.{EndsAs, as_run};
 ghost use Rattle.ledger_jobs.specs.HostFiles.{OfImage, RunEnds};
-ghost use Rattle.ledger_jobs.specs.Views.{IsViewRun, as_viewed};
+ghost use Rattle.ledger_jobs.specs.Views.{IsViewRun};
 ghost use Rattle.ledger_jobs.specs.Rights.{MayReadImage};
 
 use crate::jobs::View;
+use crate::outcomes::run_end;
 use crate::readings::image_at;
 use crate::refusals::Refusal;
+use command_faults::CommandFault;
 use disk_layout::Fault;
-use disk_pictures::{PictureFault, free_image, sector_image};
+use disk_pictures::{free_image, sector_image};
 use host_files::HostFiles;
 use shop_commands::Locks;
 use std::alloc::Global;
@@ -22,22 +24,12 @@ pub fn view_run<W: Write>(
     what: View,
     image: &[u8],
     out: &mut W,
-) -> Result<(), PictureFault>
+) -> Result<(), CommandFault>
     ensures run { IsViewRun W.contents what image.now out.old out.new result }
 {
     match what {
         View::Free => free_image(alloc, image, out),
         View::Sector(place) => sector_image(alloc, image, place, out),
-    }
-}
-
-/// What came of it, as a job's end.
-pub fn viewed_end(ended: Result<(), PictureFault>) -> Result<Option<Fault>, Refusal>
-    ensures { result ≡ as_viewed ended }
-{
-    match ended {
-        Ok(()) => Ok(None),
-        Err(fault) => Err(Refusal::Draw(fault)),
     }
 }
 
@@ -54,8 +46,8 @@ where
     W: Write,
     requires { MayReadImage R.rights rt.now path.now }
     ensures { OfImage R.rights R.stands rt.now path.now (λ all. RunEnds out.old out.new result
-        (EndsAs as_viewed result (IsViewRun W.contents what (take 174849 all) out.old out.new))) }
+        (EndsAs as_run result (IsViewRun W.contents what (take 174849 all) out.old out.new))) }
 {
     let image = image_at(rt, path)?;
-    viewed_end(view_run(rt.alloc(), what, image.as_slice(), out))
+    run_end(view_run(rt.alloc(), what, image.as_slice(), out))
 }

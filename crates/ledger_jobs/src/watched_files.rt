@@ -1,17 +1,17 @@
 //! Replies that are passed only while the shop's file is there.
 ghost use Rattle.std.specs.Prelude.{◌≡◌, if◌then◌else◌, Err};
-ghost use Rattle.shop_commands.specs.declared.faults.RunFault.TheVariants.{Device};
+ghost use Rattle.command_faults.specs.declared.faults.CommandFault.TheVariants.{Device};
 ghost use Rattle.ledger_jobs.specs.WatchedFiles.{media_for as media, while_there};
-ghost use Rattle.ledger_jobs.specs.declared.refusals.Refusal.TheVariants.{Run};
+ghost use Rattle.ledger_jobs.specs.declared.refusals.Refusal.TheVariants.{Fault};
 
 use crate::refusals::Refusal;
+use command_faults::CommandFault;
 use d64_image::Sectors;
 use disk_layout::Fault;
 use host_files::Stays;
 use host_session::{NotTaken, ReplySink};
 use line_server::Answers;
 use request_cards::{Reply, Word};
-use shop_commands::RunFault;
 
 /// What is passed in the place of a reply if the file has gone: MEDIA to its request. The reply to a message that is no
 /// request is MEDIA too.
@@ -85,7 +85,7 @@ pub(crate) fn served_end(
     ensures { result ≡ (if gone then Err (Run Device) else ended) }
 {
     if gone {
-        return Err(Refusal::Run(RunFault::Device));
+        return Err(Refusal::Fault(CommandFault::Device));
     }
     ended
 }

@@ -13,12 +13,12 @@ use Rattle.request_cards.specs.declared.answer.Answer.TheVariants.{Done, Moved}
 use Rattle.request_cards.specs.declared.kind.Kind.TheVariants.{Issue, Move}
 use Rattle.request_cards.specs.Ledgers.{State}
 use Rattle.request_cards.specs.Trade.{put}
-use Rattle.shop_commands.specs.Faults.{run_status}
+use Rattle.command_faults.specs.Faults.{command_status, command_text}
 use Rattle.shop_commands.specs.Shows.{shown_shop, told_part, up_to}
-use Rattle.shop_commands.specs.Texts.{disk_text, dry_text, entry_text, listing, quoted, refusal_text, type_text}
+use Rattle.shop_commands.specs.Texts.{disk_text, dry_text, entry_text, listing, quoted, type_text}
 use Rattle.shop_commands.specs.Texts.{verdict_text}
 use Rattle.shop_commands.specs.declared.dry_run.DryFault.TheVariants as dry
-use Rattle.shop_commands.specs.declared.faults.RunFault.TheVariants as run
+use Rattle.command_faults.specs.declared.faults.CommandFault.TheVariants as faults
 use Rattle.shop_commands.specs.declared.texts.NameForm.TheVariants as names
 
 pub verdict_of_a_clean_disk : verdict_text None ≡ codes "OK\n"
@@ -28,7 +28,7 @@ pub verdict_names_fault_and_place : verdict_text (Some (MapWrong map_place)) ≡
 unfolding digits
 verdict_names_fault_and_place = refl
 
-pub fault_of_the_directory_is_told_with_its_place : refusal_text (run.Layout (Loop directory_start)) ≡ codes
+pub fault_of_the_directory_is_told_with_its_place : command_text (faults.Layout (Loop directory_start)) ≡ codes
     "LAYOUT LOOP 18/1"
 unfolding digits
 fault_of_the_directory_is_told_with_its_place = refl
@@ -73,12 +73,12 @@ pub listing_of_a_disk : listing names.Ascii map_sector (stock ∷ []) ≡ codes
 unfolding listing disk_text entry_text quoted blocks_free digits
 listing_of_a_disk = refl
 
-pub want_of_memory_isnt_a_file : run_status run.NoMemory ≡ 3
+pub want_of_memory_isnt_a_file : command_status faults.NoMemory ≡ 3
 want_of_memory_isnt_a_file = refl
 
 pub faults_of_an_opening_are_told_so :
-    refusal_text (run.BadCard 15) ++ codes ", " ++ refusal_text (run.BadRequestCard 64) ++ codes ", " ++ refusal_text
-    run.TwoIntents
+    command_text (faults.BadCard 15) ++ codes ", " ++ command_text (faults.BadRequestCard 64) ++ codes ", " ++ command_text
+    faults.TwoIntents
     ≡ codes "BAD CARD 15, BAD REQUEST CARD 64, TWO INTENTS"
 unfolding digits
 faults_of_an_opening_are_told_so = refl

@@ -21,10 +21,10 @@ use Rattle.host_session.specs.session.Opening.{Refuses}
 use Rattle.script_lines.specs.Lines.{lines}
 use Rattle.script_lines.specs.Resets.{first_bad}
 use Rattle.shop_commands.specs.Faults.{opening_fault, script_fault}
-use Rattle.shop_commands.specs.Images.{IsLoadFault}
+use Rattle.command_faults.specs.Faults.{IsLoadFault}
 use Rattle.shop_commands.specs.Plays.{IsFileFault, IsPlayEnd, IsPlayedFile, IsStopped, IsTakenUp}
-use Rattle.shop_commands.specs.declared.faults.RunFault.{RunFault}
-use Rattle.shop_commands.specs.declared.faults.RunFault.TheVariants as run
+use Rattle.command_faults.specs.declared.faults.CommandFault.{CommandFault}
+use Rattle.command_faults.specs.declared.faults.CommandFault.TheVariants as faults
 use Rattle.shop_commands.proofs.FileScripts.{end_of_file, refused_reached, refuses_so, script_of_file}
 use Rattle.shop_commands.proofs.PlayEnds.{fault_in, left_in, none-of}
 
@@ -56,7 +56,7 @@ module _ {F T : Type 0} {G : Ghosts F} (o : Output T) (image script : List ℕ) 
     ends = ends;
   }
 
-  over_file : (r : Result (KeptMirror F G) (RunFault × KeptMirror F G)) → IsPlayEnd mirror o start script old new r
+  over_file : (r : Result (KeptMirror F G) (CommandFault × KeptMirror F G)) → IsPlayEnd mirror o start script old new r
       → IsPlayEnd (in_run G.keeps start.file) o (file_disk start) script old new (end_of_file r)
   over_file (Ok left) x = (script_of_file o start sound untaken old new script (Ok left) x.0, x.1)
   over_file (Err e) x = ⊎_elim
@@ -72,9 +72,9 @@ module _ {F T : Type 0} {G : Ghosts F} (o : Output T) (image script : List ℕ) 
       → IsPlayedFile G.keeps o image script start.file m.file old new
   whole_at_ok whole x = ((reached_at_ok x.0).unfailed whole, taken_up (over_file (Ok m) x))
 
-  file_at : (is_broken m → ⊥) → IsMirrored start m → IsPlayEnd mirror o start script old new (Err (run.File, m))
-      → IsFileFault G.keeps o image script start.file m.file old new run.File
-  file_at whole reached x = (reached.unfailed whole, taken_up (over_file (Err (run.File, m)) x))
+  file_at : (is_broken m → ⊥) → IsMirrored start m → IsPlayEnd mirror o start script old new (Err (faults.File, m))
+      → IsFileFault G.keeps o image script start.file m.file old new faults.File
+  file_at whole reached x = (reached.unfailed whole, taken_up (over_file (Err (faults.File, m)) x))
 
   refused_at : (f : OpenFault) → f ≢ opening.Device → first_bad (lines script) ≡ None → m.file ≡ start.file → new ≡ old
       → Refuses ⊥ (sectors_in image) f → IsFileFault G.keeps o image script start.file m.file old new (opening_fault f)
@@ -119,7 +119,7 @@ module _ {F T : Type 0} {G : Ghosts F} (o : Output T) (image script : List ℕ) 
       file_at whole (x.moments s.0 s.1).reached (inr (script_faults.Output, refl, x))
   script_at whole script_faults.Device x = absurd (not_failed start m whole (x.cause refl).1)
 
-  pub whole_at_err : (is_broken m → ⊥) → (fault : RunFault) → IsPlayEnd mirror o start script old new (Err (fault, m))
+  pub whole_at_err : (is_broken m → ⊥) → (fault : CommandFault) → IsPlayEnd mirror o start script old new (Err (fault, m))
       → IsFileFault G.keeps o image script start.file m.file old new fault
   whole_at_err whole fault x = ⊎_elim
       (λ y. subst (λ f. IsFileFault G.keeps o image script start.file m.file old new f) (sym y.0)
@@ -147,7 +147,7 @@ module _ {F T : Type 0} {G : Ghosts F} (o : Output T) (image script : List ℕ) 
       → IsStopped G.keeps o image script start.file m.file old new
   broken_at_ok broken x = (file_failed start sound m (reached_at_ok x.0) broken, inl (taken_up (over_file (Ok m) x)))
 
-  pub broken_at_err : is_broken m → (fault : RunFault) → IsPlayEnd mirror o start script old new (Err (fault, m))
+  pub broken_at_err : is_broken m → (fault : CommandFault) → IsPlayEnd mirror o start script old new (Err (fault, m))
       → IsStopped G.keeps o image script start.file m.file old new
   broken_at_err broken fault x = (
     ⊎_elim (λ y. file_failed start sound m (reached_at_ok y.1) broken) (λ y. failed_at_err broken y.0 y.2) x,
@@ -156,15 +156,15 @@ module _ {F T : Type 0} {G : Ghosts F} (o : Output T) (image script : List ℕ) 
 
 -- nothing was done where the image wasn't loaded
 pub unloaded : {F T : Type 0} (K : Keeps F) (o : Output T) (image script : List ℕ) (file : F) (out : T)
-    (fault : RunFault) → IsLoadFault image fault → IsFileFault K o image script file file out out fault
-unloaded K o image script file out run.ImageSize size = (size, (refl, refl))
-unloaded K o image script file out run.NoMemory size = (size, (refl, refl))
-unloaded K o image script file out (run.Layout fault) never = absurd never
-unloaded K o image script file out run.NoStock never = absurd never
-unloaded K o image script file out run.NoRequests never = absurd never
-unloaded K o image script file out (run.BadCard item) never = absurd never
-unloaded K o image script file out (run.BadRequestCard till) never = absurd never
-unloaded K o image script file out run.TwoIntents never = absurd never
-unloaded K o image script file out (run.BadLine line) never = absurd never
-unloaded K o image script file out run.File never = absurd never
-unloaded K o image script file out run.Device never = absurd never
+    (fault : CommandFault) → IsLoadFault image fault → IsFileFault K o image script file file out out fault
+unloaded K o image script file out faults.ImageSize size = (size, (refl, refl))
+unloaded K o image script file out faults.NoMemory size = (size, (refl, refl))
+unloaded K o image script file out (faults.Layout fault) never = absurd never
+unloaded K o image script file out faults.NoStock never = absurd never
+unloaded K o image script file out faults.NoRequests never = absurd never
+unloaded K o image script file out (faults.BadCard item) never = absurd never
+unloaded K o image script file out (faults.BadRequestCard till) never = absurd never
+unloaded K o image script file out faults.TwoIntents never = absurd never
+unloaded K o image script file out (faults.ScriptLine line) never = absurd never
+unloaded K o image script file out faults.File never = absurd never
+unloaded K o image script file out faults.Device never = absurd never

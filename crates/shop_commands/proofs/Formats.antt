@@ -11,17 +11,17 @@ use Rattle.host_session.specs.runs.Outputs.{AppendsPart}
 use Rattle.system_files.specs.Remains.{Remains}
 use Rattle.system_files.specs.Replacing.{IsNoDisk, IsReplaced, Since}
 use Rattle.shop_commands.specs.Images.{AreFreshBytes, IsFormatted, IsHandedOver, IsHandedPart, IsUncut, IsWritten}
-use Rattle.shop_commands.specs.declared.faults.RunFault.{RunFault}
-use Rattle.shop_commands.specs.declared.faults.RunFault.TheVariants as run
+use Rattle.command_faults.specs.declared.faults.CommandFault.{CommandFault}
+use Rattle.command_faults.specs.declared.faults.CommandFault.TheVariants as faults
 
 -- what holds, holds where it was done
-pub on_ok : (result : Result Unit RunFault) (P : Type 0) → P → OnOk result P
+pub on_ok : (result : Result Unit CommandFault) (P : Type 0) → P → OnOk result P
 on_ok (Ok _) P holds = holds
 on_ok (Err _) P holds = tt
 
 -- there was no memory for the disk
-pub no_memory : {F : Type 0} (into : Remains F) (tills : ℕ) (file : F) (result : Result Unit RunFault)
-    (fault : RunFault) → result ≡ Err fault → fault ≡ run.NoMemory → IsWritten into tills file file result
+pub no_memory : {F : Type 0} (into : Remains F) (tills : ℕ) (file : F) (result : Result Unit CommandFault)
+    (fault : CommandFault) → result ≡ Err fault → fault ≡ faults.NoMemory → IsWritten into tills file file result
 no_memory into tills file result fault told is =
     subst (IsWritten into tills file file) (sym told)
     (subst (λ f. IsWritten into tills file file (Err f)) (sym is) refl)
@@ -74,30 +74,30 @@ written_part into tills file new_file bytes some few fresh put is =
 
 -- the image wasn't written whole, and nothing was said
 pub not_written : {F W : Type 0} (into : Remains F) (contents : W → Option (List ℕ)) (tills : ℕ)
-    (file new_file : F) (out : W) (result : Result Unit RunFault) (fault : RunFault) → result ≡ Err fault
+    (file new_file : F) (out : W) (result : Result Unit CommandFault) (fault : CommandFault) → result ≡ Err fault
     → IsWritten into tills file new_file (Err fault) → IsFormatted into contents tills file new_file out out result
 not_written {F} {W} into contents tills file new_file out result fault told is =
     subst (IsFormatted into contents tills file new_file out out) (sym told) (so fault is)
   where
-    so : (f : RunFault) → IsWritten into tills file new_file (Err f)
+    so : (f : CommandFault) → IsWritten into tills file new_file (Err f)
         → IsFormatted into contents tills file new_file out out (Err f)
-    so run.File part = inl (part, refl)
-    so run.NoMemory same = (same, refl)
-    so run.ImageSize never = absurd never
-    so (run.Layout fault) never = absurd never
-    so run.NoStock never = absurd never
-    so run.NoRequests never = absurd never
-    so (run.BadCard item) never = absurd never
-    so (run.BadRequestCard till) never = absurd never
-    so run.TwoIntents never = absurd never
-    so (run.BadLine line) never = absurd never
-    so run.Device never = absurd never
+    so faults.File part = inl (part, refl)
+    so faults.NoMemory same = (same, refl)
+    so faults.ImageSize never = absurd never
+    so (faults.Layout fault) never = absurd never
+    so faults.NoStock never = absurd never
+    so faults.NoRequests never = absurd never
+    so (faults.BadCard item) never = absurd never
+    so (faults.BadRequestCard till) never = absurd never
+    so faults.TwoIntents never = absurd never
+    so (faults.ScriptLine line) never = absurd never
+    so faults.Device never = absurd never
 
 -- it was, and that was said, or a part of it
 pub formatted : {F W : Type 0} (into : Remains F) (contents : W → Option (List ℕ)) (tills : ℕ)
-    (file new_file : F) (old new : W) → IsHandedOver into tills file new_file → (result : Result Unit RunFault)
+    (file new_file : F) (old new : W) → IsHandedOver into tills file new_file → (result : Result Unit CommandFault)
     → OnOk result (Appends (contents old) (contents new) (codes "FORMATTED\n"))
-    → IfErr result (λ fault. (fault ≡ run.File) × AppendsPart (contents old) (contents new) (codes "FORMATTED\n"))
+    → IfErr result (λ fault. (fault ≡ faults.File) × AppendsPart (contents old) (contents new) (codes "FORMATTED\n"))
     → IsFormatted into contents tills file new_file old new result
 formatted into contents tills file new_file old new made (Ok _) said part = (made, said)
 formatted into contents tills file new_file old new made (Err fault) said part =

@@ -13,9 +13,10 @@ use Rattle.disk_layout.specs.Directory.{map_place, type_byte}
 use Rattle.disk_layout.specs.Layout.{count_field}
 use Rattle.disk_layout.specs.View.{IsUnpadded, blocks_free}
 use Rattle.disk_layout.specs.declared.slot.Slot.{Slot}
-use Rattle.shop_commands.specs.Images.{HasDirectory, IsListFault, IsListed, IsLoadFault}
-use Rattle.shop_commands.specs.declared.faults.RunFault.{RunFault}
-use Rattle.shop_commands.specs.declared.faults.RunFault.TheVariants as run
+use Rattle.command_faults.specs.Faults.{IsLoadFault}
+use Rattle.shop_commands.specs.Images.{HasDirectory, IsListFault, IsListed}
+use Rattle.command_faults.specs.declared.faults.CommandFault.{CommandFault}
+use Rattle.command_faults.specs.declared.faults.CommandFault.TheVariants as faults
 use Rattle.shop_commands.specs.declared.texts.NameForm.{NameForm}
 use Rattle.shop_commands.specs.Texts.{disk_text, entry_line, entry_text, free_text, listing, name_text, quoted, type_text}
 
@@ -102,20 +103,20 @@ is-listed contents form image old new directory bytes slots here same printed = 
 }
 
 -- what isn't loaded isn't listed
-pub load-listed : {T : Type 0} (image : List ℕ) (fault : RunFault) (r : Result T RunFault) → r ≡ Err fault
+pub load-listed : {T : Type 0} (image : List ℕ) (fault : CommandFault) (r : Result T CommandFault) → r ≡ Err fault
     → IsLoadFault image fault → IfErr r (IsListFault image)
-load-listed {T = T} image fault r told load = subst (λ (x : Result T RunFault). IfErr x (IsListFault image)) (sym told)
+load-listed {T = T} image fault r told load = subst (λ (x : Result T CommandFault). IfErr x (IsListFault image)) (sym told)
     (by fault load)
   where
-    by : (f : RunFault) → IsLoadFault image f → IsListFault image f
-    by run.ImageSize h = h
-    by run.NoMemory h = h
-    by (run.Layout x) h = absurd h
-    by run.NoStock h = absurd h
-    by run.NoRequests h = absurd h
-    by (run.BadCard x) h = absurd h
-    by (run.BadRequestCard x) h = absurd h
-    by run.TwoIntents h = absurd h
-    by (run.BadLine x) h = absurd h
-    by run.File h = absurd h
-    by run.Device h = absurd h
+    by : (f : CommandFault) → IsLoadFault image f → IsListFault image f
+    by faults.ImageSize h = h
+    by faults.NoMemory h = h
+    by (faults.Layout x) h = absurd h
+    by faults.NoStock h = absurd h
+    by faults.NoRequests h = absurd h
+    by (faults.BadCard x) h = absurd h
+    by (faults.BadRequestCard x) h = absurd h
+    by faults.TwoIntents h = absurd h
+    by (faults.ScriptLine x) h = absurd h
+    by faults.File h = absurd h
+    by faults.Device h = absurd h

@@ -15,9 +15,9 @@ use Rattle.host_session.specs.runs.Outputs.{AppendsPart}
 use Rattle.system_files.specs.Remains.{Remains}
 use Rattle.system_files.specs.Replacing.{IsNoDisk, NowAll, Since}
 use Rattle.shop_commands.specs.Texts.{listing}
-use Rattle.shop_commands.specs.declared.faults.RunFault.{RunFault}
+use Rattle.command_faults.specs.declared.faults.CommandFault.{CommandFault}
 use Rattle.shop_commands.specs.declared.texts.NameForm.{NameForm}
-use Rattle.shop_commands.specs.declared.faults.RunFault.TheVariants as run
+use Rattle.command_faults.specs.declared.faults.CommandFault.TheVariants as faults
 
 -- every byte of the image is 0
 abbrev pub IsZero : Image → Type 0
@@ -61,10 +61,10 @@ pub record IsHandedPart {F : Type 0} (r : Remains F) (tills : ℕ) (old new : F)
 
 -- what writing such an image came to: it was handed over whole; or in part, if the file failed; or there was no memory,
 -- and nothing was done
-abbrev pub IsWritten : {F : Type 0} → Remains F → ℕ → F → F → Result Unit RunFault → Type 0
+abbrev pub IsWritten : {F : Type 0} → Remains F → ℕ → F → F → Result Unit CommandFault → Type 0
 IsWritten r tills old new (Ok _) = IsHandedOver r tills old new
-IsWritten r tills old new (Err run.File) = IsHandedPart r tills old new
-IsWritten r tills old new (Err run.NoMemory) = new ≡ old
+IsWritten r tills old new (Err faults.File) = IsHandedPart r tills old new
+IsWritten r tills old new (Err faults.NoMemory) = new ≡ old
 IsWritten r tills old new (Err _) = ⊥
 
 -- the file or the output failed: the file was handed a part of the image, and nothing was printed; or it was handed all
@@ -77,12 +77,12 @@ IsFormattedPart into contents tills file new_file old new =
 -- what making such an image and printing that came to: the file was handed all of it, and the message was printed; or in
 -- part; or there was no memory, and nothing was done
 abbrev pub IsFormatted : {F W : Type 0} → Remains F → (W → Option (List ℕ)) → ℕ → F → F → W → W
-    → Result Unit RunFault → Type 0
+    → Result Unit CommandFault → Type 0
 IsFormatted into contents tills file new_file old new (Ok _) =
     IsHandedOver into tills file new_file × Appends (contents old) (contents new) (codes "FORMATTED\n")
-IsFormatted into contents tills file new_file old new (Err run.File) =
+IsFormatted into contents tills file new_file old new (Err faults.File) =
     IsFormattedPart into contents tills file new_file old new
-IsFormatted into contents tills file new_file old new (Err run.NoMemory) = (new_file ≡ file) × (new ≡ old)
+IsFormatted into contents tills file new_file old new (Err faults.NoMemory) = (new_file ≡ file) × (new ≡ old)
 IsFormatted into contents tills file new_file old new (Err _) = ⊥
 
 -- the image's directory, of an image that has the size of a disk
@@ -101,18 +101,12 @@ pub record IsListed {W : Type 0} (contents : W → Option (List ℕ)) (form : Na
     pub printed : Appends (contents old) (contents new)
         (listing form (sector (sectors_in image) map_place) listed.entries)
 
--- why an image isn't taken into memory
-abbrev pub IsLoadFault : List ℕ → RunFault → Type 0
-IsLoadFault image run.ImageSize = length image ≢ 174848
-IsLoadFault image run.NoMemory = length image ≡ 174848
-IsLoadFault image _ = ⊥
-
 -- why an image isn't listed: its size, a fault of its directory that holds, the output, or memory
-abbrev pub IsListFault : List ℕ → RunFault → Type 0
-IsListFault image run.ImageSize = length image ≢ 174848
-IsListFault image (run.Layout fault) = (length image ≡ 174848) × HoldsOfDirectory nowhere (sectors_in image) fault
-IsListFault image run.File = HasDirectory image
-IsListFault image run.NoMemory = length image ≡ 174848
+abbrev pub IsListFault : List ℕ → CommandFault → Type 0
+IsListFault image faults.ImageSize = length image ≢ 174848
+IsListFault image (faults.Layout fault) = (length image ≡ 174848) × HoldsOfDirectory nowhere (sectors_in image) fault
+IsListFault image faults.File = HasDirectory image
+IsListFault image faults.NoMemory = length image ≡ 174848
 IsListFault image _ = ⊥
 
 -- what is said of an image: that it is clean, or a fault that holds of it
@@ -121,10 +115,10 @@ IsVerdict img None = IsClean img
 IsVerdict img (Some fault) = HoldsOfClean nowhere img fault
 
 -- why an image isn't checked: its size, the output, or memory
-abbrev pub IsCheckFault : List ℕ → RunFault → Type 0
-IsCheckFault image run.File = length image ≡ 174848
+abbrev pub IsCheckFault : List ℕ → CommandFault → Type 0
+IsCheckFault image faults.File = length image ≡ 174848
 IsCheckFault image fault = IsLoadFault image fault
 
 -- why no disk is made: the file or the output, or memory
-abbrev pub IsFormatFault : RunFault → Type 0
-IsFormatFault fault = (fault ≡ run.File) ⊎ (fault ≡ run.NoMemory)
+abbrev pub IsFormatFault : CommandFault → Type 0
+IsFormatFault fault = (fault ≡ faults.File) ⊎ (fault ≡ faults.NoMemory)

@@ -11,15 +11,15 @@ use Rattle.script_lines.specs.Lines.{lines}
 use Rattle.script_lines.specs.Resets.{first_bad}
 use Rattle.shop_commands.specs.Faults.{script_fault}
 use Rattle.shop_commands.specs.Shops.{IsOpenRefusal}
-use Rattle.shop_commands.specs.declared.faults.RunFault.{RunFault}
-use Rattle.shop_commands.specs.declared.faults.RunFault.TheVariants as run
+use Rattle.command_faults.specs.declared.faults.CommandFault.{CommandFault}
+use Rattle.command_faults.specs.declared.faults.CommandFault.TheVariants as faults
 
 -- How a play of a script ended. Either the run of the script ended so, and its replies were handed on; or each line was
 -- played and its reply passed, but the replies weren't handed on.
-abbrev pub IsPlayEnd : {D T : Type 0} → History D → Output T → D → List ℕ → T → T → Result D (RunFault × D) → Type 0
+abbrev pub IsPlayEnd : {D T : Type 0} → History D → Output T → D → List ℕ → T → T → Result D (CommandFault × D) → Type 0
 IsPlayEnd h o disk script old new (Ok left) = IsScriptRun h o disk script old new (Ok left) × o.is_handed_on new
 IsPlayEnd h o disk script old new (Err e) =
-    ((e.0 ≡ run.File) × IsScriptRun h o disk script old new (Ok e.1))
+    ((e.0 ≡ faults.File) × IsScriptRun h o disk script old new (Ok e.1))
     ⊎ ((fault : ScriptFault) × (e.0 ≡ script_fault fault) × IsScriptRun h o disk script old new (Err (fault, e.1)))
 
 -- The image of a file was taken up: the file is a disk that holds it, and was left as another, in the end `after`.
@@ -35,7 +35,7 @@ pub record IsTakenUp {F : Type 0} (K : Keeps F) (image : List ℕ) (file after :
 
 -- The script was played on the disk of the file to this end.
 abbrev pub IsPlayedOver : {F T : Type 0} → (K : Keeps F) → Output T → (image script : List ℕ) → F → F → T → T
-    → (FileDisk K → Result (FileDisk K) (RunFault × FileDisk K)) → Type 0
+    → (FileDisk K → Result (FileDisk K) (CommandFault × FileDisk K)) → Type 0
 IsPlayedOver K o image script file after old new end =
     IsTakenUp K image file after (λ disk left. IsPlayEnd (in_run K file) o disk script old new (end left))
 
@@ -52,7 +52,7 @@ IsPlayedFile K o image script file after old new =
 abbrev pub IsStopped : {F T : Type 0} → Keeps F → Output T → (image script : List ℕ) → F → F → T → T → Type 0
 IsStopped {F} {T} K o image script file after old new =
     FileFailed K file after × (IsPlayedOver K o image script file after old new (λ left. Ok left)
-    ⊎ ((fault : RunFault) × IsPlayedOver K o image script file after old new (λ left. Err (fault, left))))
+    ⊎ ((fault : CommandFault) × IsPlayedOver K o image script file after old new (λ left. Err (fault, left))))
 
 -- the file and the output are as they were
 abbrev pub IsUntouched : {F T : Type 0} → F → F → T → T → Type 0
@@ -60,14 +60,14 @@ IsUntouched file after old new = (after ≡ file) × (new ≡ old)
 
 -- Why a script isn't played to its end: its size, memory, a bad line or that it is no shop's, and then nothing was
 -- done; the output; or the file.
-abbrev pub IsFileFault : {F T : Type 0} → Keeps F → Output T → (image script : List ℕ) → F → F → T → T → RunFault
+abbrev pub IsFileFault : {F T : Type 0} → Keeps F → Output T → (image script : List ℕ) → F → F → T → T → CommandFault
     → Type 0
-IsFileFault K o image script file after old new run.ImageSize = (length image ≢ 174848) × IsUntouched file after old new
-IsFileFault K o image script file after old new run.NoMemory = (length image ≡ 174848) × IsUntouched file after old new
-IsFileFault K o image script file after old new (run.BadLine line) =
+IsFileFault K o image script file after old new faults.ImageSize = (length image ≢ 174848) × IsUntouched file after old new
+IsFileFault K o image script file after old new faults.NoMemory = (length image ≡ 174848) × IsUntouched file after old new
+IsFileFault K o image script file after old new (faults.ScriptLine line) =
     (length image ≡ 174848) × (first_bad (lines script) ≡ Some line) × IsUntouched file after old new
-IsFileFault K o image script file after old new run.File =
-    IsUnfailed K file after × IsPlayedOver K o image script file after old new (λ left. Err (run.File, left))
-IsFileFault K o image script file after old new run.Device = IsStopped K o image script file after old new
+IsFileFault K o image script file after old new faults.File =
+    IsUnfailed K file after × IsPlayedOver K o image script file after old new (λ left. Err (faults.File, left))
+IsFileFault K o image script file after old new faults.Device = IsStopped K o image script file after old new
 IsFileFault K o image script file after old new fault =
     (first_bad (lines script) ≡ None) × IsOpenRefusal image fault × IsUntouched file after old new

@@ -7,8 +7,8 @@ use Rattle.host_session.specs.session.Opening.{IsAShop, Refuses}
 use Rattle.host_session.specs.shop.Shop.{IsShop, Shop}
 use Rattle.shop_commands.specs.Faults.{opening_fault}
 use Rattle.shop_commands.specs.Shows.{shown_shop}
-use Rattle.shop_commands.specs.declared.faults.RunFault.{RunFault}
-use Rattle.shop_commands.specs.declared.faults.RunFault.TheVariants as run
+use Rattle.command_faults.specs.declared.faults.CommandFault.{CommandFault}
+use Rattle.command_faults.specs.declared.faults.CommandFault.TheVariants as faults
 
 -- the image is a shop's, and what is shown of that was handed over on an output that held `old` and holds `new`
 pub record IsShown {W : Type 0} (contents : W → Option (List ℕ)) (image : List ℕ) (old new : W) : Type 0 where
@@ -18,7 +18,7 @@ pub record IsShown {W : Type 0} (contents : W → Option (List ℕ)) (image : Li
   pub printed : Appends (contents old) (contents new) (shown_shop shop.top shop.state)
 
 -- an image of the size of a disk is no shop's, for this fault: it holds, and none that is checked before it
-pub record IsOpenRefusal (image : List ℕ) (fault : RunFault) : Type 0 where
+pub record IsOpenRefusal (image : List ℕ) (fault : CommandFault) : Type 0 where
   pub size : length image ≡ 174848
   pub opening : OpenFault
   pub is : opening_fault opening ≡ fault
@@ -26,8 +26,8 @@ pub record IsOpenRefusal (image : List ℕ) (fault : RunFault) : Type 0 where
   pub refuses : Refuses ⊥ (sectors_in image) opening
 
 -- why an image isn't shown: its size, memory, the output, or that it is no shop's
-abbrev pub IsShowFault : List ℕ → RunFault → Type 0
-IsShowFault image run.ImageSize = length image ≢ 174848
-IsShowFault image run.NoMemory = length image ≡ 174848
-IsShowFault image run.File = (length image ≡ 174848) × IsAShop (sectors_in image)
+abbrev pub IsShowFault : List ℕ → CommandFault → Type 0
+IsShowFault image faults.ImageSize = length image ≢ 174848
+IsShowFault image faults.NoMemory = length image ≡ 174848
+IsShowFault image faults.File = (length image ≡ 174848) × IsAShop (sectors_in image)
 IsShowFault image fault = IsOpenRefusal image fault

@@ -13,24 +13,8 @@ use Rattle.disk_layout.specs.declared.slot.Slot.{Slot}
 use Rattle.quoted_text.specs.Quoted.{one_line}
 use Rattle.shop_commands.specs.declared.dry_run.DryFault.{DryFault}
 use Rattle.shop_commands.specs.declared.dry_run.DryFault.TheVariants as dry
-use Rattle.shop_commands.specs.declared.faults.RunFault.{RunFault}
-use Rattle.shop_commands.specs.declared.faults.RunFault.TheVariants as run
 use Rattle.shop_commands.specs.declared.texts.NameForm.{NameForm}
 use Rattle.shop_commands.specs.declared.texts.NameForm.TheVariants as names
-
--- why a command over an image isn't done
-abbrev pub refusal_text : RunFault → List ℕ
-refusal_text run.ImageSize = codes "IMAGE SIZE"
-refusal_text (run.Layout fault) = codes "LAYOUT " ++ fault_text fault
-refusal_text run.NoStock = codes "NO STOCK"
-refusal_text run.NoRequests = codes "NO REQUESTS"
-refusal_text (run.BadCard item) = codes "BAD CARD " ++ decimal item
-refusal_text (run.BadRequestCard till) = codes "BAD REQUEST CARD " ++ decimal till
-refusal_text run.TwoIntents = codes "TWO INTENTS"
-refusal_text (run.BadLine line) = codes "SCRIPT LINE " ++ decimal line
-refusal_text run.File = codes "FILE"
-refusal_text run.NoMemory = codes "NO MEMORY"
-refusal_text run.Device = codes "DEVICE"
 
 -- why a script isn't played
 abbrev pub dry_text : DryFault → List ℕ

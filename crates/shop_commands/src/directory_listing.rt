@@ -6,31 +6,31 @@ ghost use Rattle.d64_image.specs.Memory.{disk_image};
 ghost use Rattle.disk_layout.specs.Directory.{map_place as directory_map};
 ghost use Rattle.shop_commands.specs.Images.{IsListFault, IsListed};
 ghost use Rattle.shop_commands.specs.Texts.{entry_line, listing};
-ghost use Rattle.shop_commands.specs.declared.faults.RunFault.TheVariants as faults;
+ghost use Rattle.command_faults.specs.declared.faults.CommandFault.TheVariants as faults;
 
-use crate::bytes::{flush, load, put_line};
-use crate::faults::RunFault;
+use crate::bytes::put_line;
 use crate::texts::{DiskText, EntryText, FreeText, NameForm};
 use arrayvec::ArrayVec;
+use command_faults::{CommandFault, flush, load};
 use d64_image::{MemDisk, Sectors};
 use disk_layout::{BamView, Slot, map_place, read_directory};
 use std::alloc::Global;
 use std::io::Write;
 
 /// The bytes of 18/0. A disk in memory gives them always.
-fn map_of(disk: &mut MemDisk) -> Result<[u8; 256], RunFault>
+fn map_of(disk: &mut MemDisk) -> Result<[u8; 256], CommandFault>
     ensures ok { IfOk result (λ bytes. bytes ≡ sector (disk_image disk.old) directory_map) }
     ensures err { IfErr result (λ _. ⊥) }
 {
     let mut map = [0; 256];
     if disk.read(map_place(), &mut map).is_err() {
-        return Err(RunFault::Device);
+        return Err(CommandFault::Device);
     }
     Ok(map)
 }
 
 /// Prints a line for each of these entries.
-fn put_entries<W: Write>(out: &mut W, form: NameForm, slots: &[Slot]) -> Result<(), RunFault>
+fn put_entries<W: Write>(out: &mut W, form: NameForm, slots: &[Slot]) -> Result<(), CommandFault>
     ensures ok { OnOk result
         (Appends (W.contents out.old) (W.contents out.new) (flat_map (entry_line form) slots.now)) }
     ensures err { IfErr result (λ fault. fault ≡ faults.File) }
@@ -48,7 +48,7 @@ fn put_directory<W: Write>(
     form: NameForm,
     map: &BamView<'_>,
     slots: &[Slot],
-) -> Result<(), RunFault>
+) -> Result<(), CommandFault>
     ensures ok { OnOk result
         (Appends (W.contents out.old) (W.contents out.new) (listing form map.now.bytes.now slots.now)) }
     ensures err { IfErr result (λ fault. fault ≡ faults.File) }
@@ -69,7 +69,7 @@ pub fn list_image<W: Write>(
     image: &[u8],
     form: NameForm,
     out: &mut W,
-) -> Result<(), RunFault>
+) -> Result<(), CommandFault>
     // What is listed has a directory, whose listing was printed; and what is reported holds.
     ensures ok { OnOk result (IsListed W.contents form image.now out.old out.new) }
     ensures err { IfErr result (IsListFault image.now) }
@@ -79,7 +79,7 @@ pub fn list_image<W: Write>(
     let mut disk = load(alloc, image)?;
     let mut slots = ArrayVec::new();
     if let Err(fault) = read_directory(&mut disk, &mut slots) {
-        return Err(RunFault::Layout(fault));
+        return Err(CommandFault::Layout(fault));
     }
     let map = map_of(&mut disk)?;
     put_directory(out, form, &BamView::new(&map), slots.as_slice())

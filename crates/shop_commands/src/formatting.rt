@@ -2,10 +2,10 @@
 ghost use Rattle.std.specs.Prelude.{◌≡◌, ◌≤◌, IfErr, IfOk};
 ghost use Rattle.d64_image.specs.Memory.{disk_image};
 ghost use Rattle.shop_commands.specs.Images.{IsFormatted, IsFreshDisk, IsWritten};
-ghost use Rattle.shop_commands.specs.declared.faults.RunFault.TheVariants as faults;
+ghost use Rattle.command_faults.specs.declared.faults.CommandFault.TheVariants as faults;
 
 use crate::bytes::put_whole;
-use crate::faults::RunFault;
+use command_faults::CommandFault;
 use d64_image::MemDisk;
 use disk_layout::blank_image;
 use std::alloc::Global;
@@ -20,24 +20,24 @@ const ID: [u8; 2] = *b"01";
 
 /// A disk in memory that holds an empty shop with 1 to 64 tills. An odd number of tills gives one more. `NoMemory` if
 /// there is none for the disk.
-pub fn fresh_disk(alloc: Global, tills: u8) -> Result<MemDisk, RunFault>
+pub fn fresh_disk(alloc: Global, tills: u8) -> Result<MemDisk, CommandFault>
     requires some { 1 ≤ tills }
     requires few { tills ≤ 64 }
     ensures ok { IfOk result (λ disk. IsFreshDisk (disk_image disk) tills) }
     ensures err { IfErr result (λ fault. fault ≡ faults.NoMemory) }
 {
     let Ok(mut disk) = MemDisk::zeroed(alloc) else {
-        return Err(RunFault::NoMemory);
+        return Err(CommandFault::NoMemory);
     };
     match blank_image(&mut disk, NAME, ID, tills) {
         Ok(()) => Ok(disk),
-        Err(_) => Err(RunFault::Device),
+        Err(_) => Err(CommandFault::Device),
     }
 }
 
 /// Makes the disk of an empty shop with 1 to 64 tills, and writes the 174,848 bytes of its image over the file. An odd
 /// number of tills gives one more.
-fn write_image<F: EndedFile>(alloc: Global, tills: u8, file: &mut F) -> Result<(), RunFault>
+fn write_image<F: EndedFile>(alloc: Global, tills: u8, file: &mut F) -> Result<(), CommandFault>
     requires some { 1 ≤ tills }
     requires few { tills ≤ 64 }
     ensures { IsWritten F.remains tills file.old file.new result }
@@ -45,7 +45,7 @@ fn write_image<F: EndedFile>(alloc: Global, tills: u8, file: &mut F) -> Result<(
     let disk = fresh_disk(alloc, tills)?;
     match replace_image(file, disk.bytes()) {
         Ok(()) => Ok(()),
-        Err(_) => Err(RunFault::File),
+        Err(_) => Err(CommandFault::File),
     }
 }
 
@@ -60,7 +60,7 @@ pub fn format_image<F: EndedFile, W: Write>(
     tills: u8,
     file: &mut F,
     out: &mut W,
-) -> Result<(), RunFault>
+) -> Result<(), CommandFault>
     requires some { 1 ≤ tills }
     requires few { tills ≤ 64 }
     ensures { IsFormatted F.remains W.contents tills file.old file.new out.old out.new result }

@@ -5,10 +5,10 @@ ghost use Rattle.d64_image.specs.Memory.{disk_image, sectors_in};
 ghost use Rattle.disk_layout.specs.declared.faults.Fault.{Fault};
 ghost use Rattle.shop_commands.specs.Images.{IsCheckFault, IsVerdict};
 ghost use Rattle.shop_commands.specs.Texts.{verdict_text};
-ghost use Rattle.shop_commands.specs.declared.faults.RunFault.TheVariants as faults;
+ghost use Rattle.command_faults.specs.declared.faults.CommandFault.TheVariants as faults;
 
-use crate::bytes::{flush, load, put_line};
-use crate::faults::RunFault;
+use crate::bytes::put_line;
+use command_faults::{CommandFault, flush, load};
 use d64_image::MemDisk;
 use disk_layout::Fault;
 use layout_check::check;
@@ -26,7 +26,7 @@ fn verdict(disk: &mut MemDisk) -> Option<Fault>
 }
 
 /// Prints what a check found on a line of its own.
-fn put_verdict<W: Write>(out: &mut W, found: Option<Fault>) -> Result<(), RunFault>
+fn put_verdict<W: Write>(out: &mut W, found: Option<Fault>) -> Result<(), CommandFault>
     ensures ok { OnOk result
         (Appends (W.contents out.old) (W.contents out.new) (verdict_text found)) }
     ensures err { IfErr result (λ fault. fault ≡ faults.File) }
@@ -45,7 +45,7 @@ pub fn check_image<W: Write>(
     alloc: Global,
     image: &[u8],
     out: &mut W,
-) -> Result<Option<Fault>, RunFault>
+) -> Result<Option<Fault>, CommandFault>
     ensures size { IfOk result (λ _. length image.now ≡ 174848) }
     // A clean image is called so, and a fault that is returned holds.
     ensures verdict { IfOk result (IsVerdict (sectors_in image.now)) }

@@ -18,11 +18,11 @@ mod shows;
 mod table;
 mod texts;
 
-pub use bytes::{load, put_whole};
+pub use bytes::put_whole;
 pub use directory_listing::list_image;
 pub use dry_run::{DryFault, dry};
 pub use durability::{Durability, WritesAt};
-pub use faults::RunFault;
+pub use faults::{of_opening, of_script};
 pub use formatting::{format_image, fresh_disk};
 pub use image_file::ImageFile;
 pub use judging::check_image;

@@ -6,16 +6,16 @@ ghost use Rattle.d64_image.specs.KeptMirrors.{is_broken, mirror_file};
 ghost use Rattle.host_session.specs.events.Telling.{TellsNone};
 ghost use Rattle.shop_commands.specs.Faults.{script_fault};
 ghost use Rattle.shop_commands.specs.Plays.{IsFileFault, IsPlayEnd, IsPlayedFile};
-ghost use Rattle.shop_commands.specs.declared.faults.RunFault.TheVariants as faults;
+ghost use Rattle.command_faults.specs.declared.faults.CommandFault.TheVariants as faults;
 
-use crate::bytes::load;
-use crate::faults::RunFault;
+use crate::faults::of_script;
+use command_faults::{CommandFault, load};
 use d64_image::{KeptMirror, SectorFile, Sectors};
 use host_session::{ReplySink, ScriptFault, play_script};
 use std::alloc::Global;
 
 /// The outcome of a run that this fault ended. Replies that were passed before it are handed on.
-fn told<D: Sectors, T: ReplySink<D>>(fault: ScriptFault, out: &mut T) -> RunFault
+fn told<D: Sectors, T: ReplySink<D>>(fault: ScriptFault, out: &mut T) -> CommandFault
     ensures value { result ≡ script_fault fault }
     ensures silent { (fault ≢ ScriptFault.Output) → (fault ≢ ScriptFault.Device) → out.new ≡ out.old }
     ensures told { TellsNone T.output out.old out.new }
@@ -27,7 +27,7 @@ fn told<D: Sectors, T: ReplySink<D>>(fault: ScriptFault, out: &mut T) -> RunFaul
         }
         ScriptFault::Open(_) | ScriptFault::BadLine(_) => {}
     }
-    RunFault::of_script(fault)
+    of_script(fault)
 }
 
 /// Plays the lines of a script on the shop of a disk, and passes the reply to each before the next is played. What was
@@ -40,13 +40,13 @@ pub fn play_image<D: Sectors, T: ReplySink<D>>(
     disk: D,
     script: &[u8],
     out: &mut T,
-) -> Result<D, (RunFault, D)>
+) -> Result<D, (CommandFault, D)>
     ensures { IsPlayEnd D.history T.output disk script.now out.old out.new result }
 {
     match play_script(disk, script, out) {
         Ok(left) => match out.hand_on() {
             Ok(()) => Ok(left),
-            Err(_) => Err((RunFault::File, left)),
+            Err(_) => Err((CommandFault::File, left)),
         },
         Err((fault, left)) => Err((told::<D, T>(fault, out), left)),
     }
@@ -55,8 +55,8 @@ pub fn play_image<D: Sectors, T: ReplySink<D>>(
 /// The file of a mirror whose run ended so: `Device` if the file failed.
 pub fn file_of<F: SectorFile>(
     mirror: KeptMirror<F>,
-    end: Result<(), RunFault>,
-) -> Result<F, (RunFault, F)>
+    end: Result<(), CommandFault>,
+) -> Result<F, (CommandFault, F)>
     ensures ok { IfOk result (λ file. (file ≡ mirror_file mirror) × ¬ (is_broken mirror) × IsOk end) }
     ensures err { IfErr result (λ e. (e.1 ≡ mirror_file mirror)
         × ((is_broken mirror × (e.0 ≡ faults.Device)) ⊎ (¬ (is_broken mirror) × (end ≡ Err e.0)))) }
@@ -64,7 +64,7 @@ pub fn file_of<F: SectorFile>(
     let failed = mirror.is_broken();
     let (file, _) = mirror.into_inner();
     if failed {
-        return Err((RunFault::Device, file));
+        return Err((CommandFault::Device, file));
     }
     match end {
         Ok(()) => Ok(file),
@@ -87,7 +87,7 @@ pub fn play_file<F: SectorFile, T: ReplySink<KeptMirror<F>>>(
     script: &[u8],
     file: F,
     out: &mut T,
-) -> Result<F, (RunFault, F)>
+) -> Result<F, (CommandFault, F)>
     // if it is known what the file keeps, it is this image
     requires agrees { Agrees (F.keeps.kept file) (sectors_in image.now) }
     ensures ok { IfOk result (λ after. IsPlayedFile F.keeps T.output image.now script.now file after out.old out.new) }

@@ -4,11 +4,11 @@ ghost use Rattle.std.specs.Io.KnownBytes.{Appends};
 ghost use Rattle.host_session.specs.shop.Shop.{IsShop, Shop};
 ghost use Rattle.shop_commands.specs.Shops.{IsShowFault, IsShown};
 ghost use Rattle.shop_commands.specs.Shows.{card_lines, cards_to, shown_shop, till_lines};
-ghost use Rattle.shop_commands.specs.declared.faults.RunFault.TheVariants as faults;
+ghost use Rattle.command_faults.specs.declared.faults.CommandFault.TheVariants as faults;
 
-use crate::bytes::{flush, load, put};
-use crate::faults::RunFault;
+use crate::faults::of_opening;
 use crate::shows::{put_till, put_top, write_item};
+use command_faults::{CommandFault, flush, load, put};
 use d64_image::Sectors;
 use host_session::Session;
 use std::alloc::Global;
@@ -32,7 +32,7 @@ fn write_cards<D: Sectors>(
     session: &Session<D>,
     before: u16,
     room: &mut [u8; LINES],
-) -> Result<usize, RunFault>
+) -> Result<usize, CommandFault>
     requires alive { session.now.dead ≡ false }
     requires few { before + 80 ≤ 10160 }
     ensures ok { (s : Shop) → IsShop (D.history.image session.now.disk) s
@@ -45,7 +45,7 @@ fn write_cards<D: Sectors>(
     for written in 0..AT_ONCE {
         let item = before + AT_ONCE - written;
         let Ok(quantity) = session.card(item) else {
-            return Err(RunFault::Device);
+            return Err(CommandFault::Device);
         };
         start = write_item(item, quantity, room, start);
     }
@@ -53,7 +53,7 @@ fn write_cards<D: Sectors>(
 }
 
 /// Prints the cards of the shop, in the order of the items.
-fn put_cards<D: Sectors, W: Write>(session: &Session<D>, out: &mut W) -> Result<(), RunFault>
+fn put_cards<D: Sectors, W: Write>(session: &Session<D>, out: &mut W) -> Result<(), CommandFault>
     requires alive { session.now.dead ≡ false }
     ensures ok { (s : Shop) → IsShop (D.history.image session.now.disk) s
         → OnOk result (Appends (W.contents out.old) (W.contents out.new) (card_lines s.state)) }
@@ -68,7 +68,7 @@ fn put_cards<D: Sectors, W: Write>(session: &Session<D>, out: &mut W) -> Result<
 }
 
 /// Prints the last two requests of each till, in the order of the tills.
-fn put_tills<D: Sectors, W: Write>(session: &Session<D>, out: &mut W) -> Result<(), RunFault>
+fn put_tills<D: Sectors, W: Write>(session: &Session<D>, out: &mut W) -> Result<(), CommandFault>
     requires alive { session.now.dead ≡ false }
     ensures ok { (s : Shop) → IsShop (D.history.image session.now.disk) s
         → OnOk result (Appends (W.contents out.old) (W.contents out.new) (till_lines s.state)) }
@@ -77,7 +77,7 @@ fn put_tills<D: Sectors, W: Write>(session: &Session<D>, out: &mut W) -> Result<
     for before in 0..MOST_TILLS {
         let till = before + 1;
         let (Ok(kept), Ok(prior)) = (session.kept(till), session.prior(till)) else {
-            return Err(RunFault::Device);
+            return Err(CommandFault::Device);
         };
         put_till(out, kept, prior)?;
     }
@@ -88,7 +88,7 @@ fn put_tills<D: Sectors, W: Write>(session: &Session<D>, out: &mut W) -> Result<
 pub(crate) fn put_shop<D: Sectors, W: Write>(
     session: &Session<D>,
     out: &mut W,
-) -> Result<(), RunFault>
+) -> Result<(), CommandFault>
     requires alive { session.now.dead ≡ false }
     ensures ok { (s : Shop) → IsShop (D.history.image session.now.disk) s
         → OnOk result (Appends (W.contents out.old) (W.contents out.new) (shown_shop s.top s.state)) }
@@ -109,7 +109,7 @@ pub(crate) fn put_shop<D: Sectors, W: Write>(
 /// output failed, which may then have a part.
 // Out of line: a session is large, and a frame that has its room touches each page of it.
 #[inline(never)]
-pub fn show_image<W: Write>(alloc: Global, image: &[u8], out: &mut W) -> Result<(), RunFault>
+pub fn show_image<W: Write>(alloc: Global, image: &[u8], out: &mut W) -> Result<(), CommandFault>
     // What is shown is the shop that the image is, at rest.
     ensures ok { OnOk result (IsShown W.contents image.now out.old out.new) }
     // What is reported holds, and a shop is refused only for memory or the output.
@@ -124,6 +124,6 @@ pub fn show_image<W: Write>(alloc: Global, image: &[u8], out: &mut W) -> Result<
             let _ = session.close();
             shown
         }
-        Err((fault, _)) => Err(RunFault::of_opening(fault)),
+        Err((fault, _)) => Err(of_opening(fault)),
     }
 }

@@ -2,11 +2,11 @@
 ghost use Rattle.std.specs.Prelude.{◌≡◌, ◌≤◌, ◌+◌, ◌++◌, IfErr, OnOk, Some, decimal, drop, length};
 ghost use Rattle.std.specs.Io.KnownBytes.{Appends};
 ghost use Rattle.shop_commands.specs.Shows.{card_line, card_part, told_line, told_part, till_part, top_line};
-ghost use Rattle.shop_commands.specs.declared.faults.RunFault.TheVariants as faults;
+ghost use Rattle.command_faults.specs.declared.faults.CommandFault.TheVariants as faults;
 ghost use Rattle.request_cards.specs.Texts.{answer_text};
 
-use crate::bytes::{put, put_line};
-use crate::faults::RunFault;
+use crate::bytes::put_line;
+use command_faults::{CommandFault, put};
 use itoa::write_digits;
 use request_cards::{Answer, Request, write_before};
 use std::fmt::{self, Display, Formatter};
@@ -33,12 +33,12 @@ impl Display for AnswerText {
 }
 
 /// Prints how far new cards may go.
-pub(crate) fn put_top<W: Write>(out: &mut W, top: u16) -> Result<(), RunFault>
+pub(crate) fn put_top<W: Write>(out: &mut W, top: u16) -> Result<(), CommandFault>
     ensures ok { OnOk result (Appends (W.contents out.old) (W.contents out.new) (top_line top)) }
     ensures err { IfErr result (λ fault. fault ≡ faults.File) }
 {
     if writeln!(out, "TOP {top}").is_err() {
-        return Err(RunFault::File);
+        return Err(CommandFault::File);
     }
     Ok(())
 }
@@ -86,7 +86,7 @@ fn put_line_of<W: Write>(
     word: &[u8],
     request: Request,
     answer: Answer,
-) -> Result<(), RunFault>
+) -> Result<(), CommandFault>
     ensures ok { OnOk result
         (Appends (W.contents out.old) (W.contents out.new) (told_line word.now request answer)) }
     ensures err { IfErr result (λ fault. fault ≡ faults.File) }
@@ -102,7 +102,7 @@ fn put_told<W: Write>(
     out: &mut W,
     word: &[u8],
     told: Option<(Request, Answer)>,
-) -> Result<(), RunFault>
+) -> Result<(), CommandFault>
     ensures ok { OnOk result (Appends (W.contents out.old) (W.contents out.new) (told_part word.now told)) }
     ensures err { IfErr result (λ fault. fault ≡ faults.File) }
 {
@@ -117,7 +117,7 @@ pub(crate) fn put_till<W: Write>(
     out: &mut W,
     kept: Option<(Request, Answer)>,
     prior: Option<(Request, Answer)>,
-) -> Result<(), RunFault>
+) -> Result<(), CommandFault>
     ensures ok { OnOk result (Appends (W.contents out.old) (W.contents out.new) (till_part kept prior)) }
     ensures err { IfErr result (λ fault. fault ≡ faults.File) }
 {

@@ -15,7 +15,7 @@ use Rattle.shop_commands.specs.ImageFile.{is_synced, placed, placed_file, seen_o
 use Rattle.shop_commands.specs.declared.durability.Durability.{Durability}
 use Rattle.shop_commands.specs.declared.durability.Durability.TheVariants as durabilities
 use Rattle.shop_commands.specs.declared.durability.WritesAt.{Ghosts}
-use Rattle.shop_commands.specs.declared.faults.RunFault.TheVariants as faults
+use Rattle.command_faults.specs.declared.faults.CommandFault.TheVariants as faults
 use Rattle.shop_commands.specs.declared.image_file.ImageFile.{ImageFile}
 use Rattle.ledger_jobs.specs.DurableRuns.{IsDurableRun}
 use Rattle.ledger_jobs.specs.Ends.{Ended}

@@ -10,8 +10,8 @@ use Rattle.host_session.specs.runs.Runs.{HeldBeginnings}
 use Rattle.host_session.specs.shop.Shop.{IsShop, Shop}
 use Rattle.script_lines.specs.Lines.{lines}
 use Rattle.shop_commands.specs.Plays.{IsFileFault, IsPlayEnd, IsPlayedOver}
-use Rattle.shop_commands.specs.declared.faults.RunFault.{RunFault}
-use Rattle.shop_commands.specs.declared.faults.RunFault.TheVariants as run
+use Rattle.command_faults.specs.declared.faults.CommandFault.{CommandFault}
+use Rattle.command_faults.specs.declared.faults.CommandFault.TheVariants as faults
 use Rattle.ledger_jobs.specs.Ends.{Ended}
 use Rattle.ledger_jobs.specs.Runs.{IsPlayRun}
 use Rattle.test_files.proofs.Begun.{IsSome, of_none, of_run}
@@ -21,7 +21,7 @@ module _ {D T : Type 0} (h : History D) (o : Output T) (script : List ℕ) (disk
   moments_ok : IsPlayEnd h o disk script old new (Ok left) → HeldBeginnings h s (messages_of (lines script)) disk left
   moments_ok end = end.0.moments s is
 
-  moments_err : (fault : RunFault) → IsPlayEnd h o disk script old new (Err (fault, left))
+  moments_err : (fault : CommandFault) → IsPlayEnd h o disk script old new (Err (fault, left))
       → HeldBeginnings h s (messages_of (lines script)) disk left
   moments_err fault end = ⊎_elim (λ e. e.1.moments s is) (λ e. e.2.moments s is) end
 
@@ -39,25 +39,25 @@ module _ {F T : Type 0} (K : Keeps F) (o : Output T) (image script : List ℕ) (
       (moments_ok (in_run K file) o script x.disk x.left old new s (subst (λ img. IsShop img s) (sym x.holds) is)
       x.ends)
 
-  of_part : (fault : RunFault) → IsPlayedOver K o image script file after old new (λ left. Err (fault, left))
+  of_part : (fault : CommandFault) → IsPlayedOver K o image script file after old new (λ left. Err (fault, left))
       → KeptOnly K file after (IsSome s ms)
   of_part fault x = of_run K (sectors_in image) file after s ms is kept x.disk x.left x.is_file x.is_after x.holds
       (moments_err (in_run K file) o script x.disk x.left old new s (subst (λ img. IsShop img s) (sym x.holds) is) fault
       x.ends)
 
-  of_fault : (fault : RunFault) → IsFileFault K o image script file after old new fault
+  of_fault : (fault : CommandFault) → IsFileFault K o image script file after old new fault
       → KeptOnly K file after (IsSome s ms)
-  of_fault run.ImageSize e = same e.1.0
-  of_fault run.NoMemory e = same e.1.0
-  of_fault (run.BadLine line) e = same e.2.0
-  of_fault run.File e = of_part run.File e.1
-  of_fault run.Device e = ⊎_elim (λ x. of_whole x) (λ x. of_part x.0 x.1) e.1
-  of_fault (run.Layout fault) e = same e.2.0
-  of_fault run.NoStock e = same e.2.0
-  of_fault run.NoRequests e = same e.2.0
-  of_fault (run.BadCard item) e = same e.2.0
-  of_fault (run.BadRequestCard till) e = same e.2.0
-  of_fault run.TwoIntents e = same e.2.0
+  of_fault faults.ImageSize e = same e.1.0
+  of_fault faults.NoMemory e = same e.1.0
+  of_fault (faults.ScriptLine line) e = same e.2.0
+  of_fault faults.File e = of_part faults.File e.1
+  of_fault faults.Device e = ⊎_elim (λ x. of_whole x) (λ x. of_part x.0 x.1) e.1
+  of_fault (faults.Layout fault) e = same e.2.0
+  of_fault faults.NoStock e = same e.2.0
+  of_fault faults.NoRequests e = same e.2.0
+  of_fault (faults.BadCard item) e = same e.2.0
+  of_fault (faults.BadRequestCard till) e = same e.2.0
+  of_fault faults.TwoIntents e = same e.2.0
 
   -- however the play ended
   pub of_play : (end : Ended) → IsPlayRun K o image script file after old new end → KeptOnly K file after (IsSome s ms)

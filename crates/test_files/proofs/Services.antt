@@ -25,8 +25,8 @@ use Rattle.line_server.specs.Read.{AreWhole, LacksLf}
 use Rattle.line_server.specs.Serves.{AreServed}
 use Rattle.ledger_jobs.specs.FileServes.{IsServeFault, IsServedOver, IsUnserved}
 use Rattle.shop_commands.specs.Shops.{IsOpenRefusal}
-use Rattle.shop_commands.specs.declared.faults.RunFault.{RunFault}
-use Rattle.shop_commands.specs.declared.faults.RunFault.TheVariants as run
+use Rattle.command_faults.specs.declared.faults.CommandFault.{CommandFault}
+use Rattle.command_faults.specs.declared.faults.CommandFault.TheVariants as faults
 use Rattle.ledger_jobs.specs.Ends.{Ended}
 use Rattle.ledger_jobs.specs.Serves.{IsServeRun}
 use Rattle.test_files.proofs.Begun.{IsSome, of_none, of_run}
@@ -68,15 +68,15 @@ module _ {F R T : Type 0} (K : Keeps F) (i : Input R) (a : Answering T) (image :
     pub kept : (s : Shop) → IsShop (sectors_in image) s → K.kept file ≡ Some (sectors_in image)
         → KeptOnly K file after (IsSome s (line_messages handled))
     pub done : OnOk end (AreServedOver handled)
-    pub well : IsSound handled → IsOk end ⊎ (end ≡ Err run.NoMemory)
-    pub told : IfErr end (λ fault. fault ≡ run.File → IsFileToldBy i a new_in new handled)
+    pub well : IsSound handled → IsOk end ⊎ (end ≡ Err faults.NoMemory)
+    pub told : IfErr end (λ fault. fault ≡ faults.File → IsFileToldBy i a new_in new handled)
     pub passed : OnOk end (i.has_failed new_in ≡ i.has_failed old_in)
-    pub unfailed : IfErr end (λ fault. fault ≢ run.File → fault ≢ run.Device
+    pub unfailed : IfErr end (λ fault. fault ≢ faults.File → fault ≢ faults.Device
         → i.has_failed new_in ≡ i.has_failed old_in)
 
   -- nothing was done or read
-  unserved : (fault : RunFault) → IsUnserved file after old_in new_in old new
-      → (IsSound [] → fault ≡ run.NoMemory) → (fault ≡ run.File → ⊥) → WereServed (Err fault)
+  unserved : (fault : CommandFault) → IsUnserved file after old_in new_in old new
+      → (IsSound [] → fault ≡ faults.NoMemory) → (fault ≡ faults.File → ⊥) → WereServed (Err fault)
   unserved fault x why other = record {
     handled = [];
     rest = [];
@@ -101,12 +101,12 @@ module _ {F R T : Type 0} (K : Keeps F) (i : Input R) (a : Answering T) (image :
       record { same = now ∙ sym before; not_spent = omega (arith, now) }
 
   -- a fault ended it, of which there is a reason
-  stopped : (fault : RunFault) (end : FileDisk K → Result (FileDisk K) (LoopFault × FileDisk K))
+  stopped : (fault : CommandFault) (end : FileDisk K → Result (FileDisk K) (LoopFault × FileDisk K))
       (x : IsServedOver K i a image file after old_in new_in old new end)
       → ((s : Shop) → IsShop x.disk.image s
       → HeldBeginnings (in_run K file) s (line_messages x.ends.handled) x.disk x.left)
-      → (IsSound x.ends.handled → ⊥) → (fault ≡ run.File → IsFileToldBy i a new_in new x.ends.handled)
-      → (fault ≢ run.File → fault ≢ run.Device → ⊥) → WereServed (Err fault)
+      → (IsSound x.ends.handled → ⊥) → (fault ≡ faults.File → IsFileToldBy i a new_in new x.ends.handled)
+      → (fault ≢ faults.File → fault ≢ faults.Device → ⊥) → WereServed (Err fault)
   stopped fault end x moments why told one = record {
     handled = x.ends.handled;
     rest = x.ends.rest;
@@ -133,8 +133,8 @@ module _ {F R T : Type 0} (K : Keeps F) (i : Input R) (a : Answering T) (image :
   -- the input or the output ended it
   ended_by : (why : LoopFault)
       → (x : IsServedOver K i a image file after old_in new_in old new (λ left. Err (why, left)))
-      → IsFileToldBy i a new_in new x.ends.handled → WereServed (Err run.File)
-  ended_by why x told = stopped run.File (λ left. Err (why, left)) x (λ s is. x.ends.moments s is) (λ sound.
+      → IsFileToldBy i a new_in new x.ends.handled → WereServed (Err faults.File)
+  ended_by why x told = stopped faults.File (λ left. Err (why, left)) x (λ s is. x.ends.moments s is) (λ sound.
       let shop : IsAShop x.disk.image =
       (sound.shop.0, subst (λ img. IsShop img sound.shop.0) (sym x.holds) sound.shop.1) in
       let ok = x.ends.well shop (never_failed x.ends.handled x.disk x.left x.is_file x.is_after sound) sound.input
@@ -169,51 +169,51 @@ module _ {F R T : Type 0} (K : Keeps F) (i : Input R) (a : Answering T) (image :
       }
 
   -- an image that no opening takes
-  refused : (fault : RunFault) → IsOpenRefusal image fault → IsUnserved file after old_in new_in old new
-      → (fault ≡ run.File → ⊥) → WereServed (Err fault)
+  refused : (fault : CommandFault) → IsOpenRefusal image fault → IsUnserved file after old_in new_in old new
+      → (fault ≡ faults.File → ⊥) → WereServed (Err fault)
   refused fault refusal x other = unserved fault x (λ sound. absurd (refused-no_shop (sectors_in image) refusal.opening
       sound.shop.0 refusal.refuses sound.shop.1)) other
 
-  by_fault : (fault : RunFault) → IsServeFault K i a image file after old_in new_in old new fault
+  by_fault : (fault : CommandFault) → IsServeFault K i a image file after old_in new_in old new fault
       → WereServed (Err fault)
-  by_fault run.ImageSize e = unserved run.ImageSize e.1 (λ sound. absurd (e.0 sound.size))
-      (λ (is : run.ImageSize ≡ run.File). cc)
-  by_fault run.NoMemory e = unserved run.NoMemory e.1 (λ _. refl) (λ (is : run.NoMemory ≡ run.File). cc)
-  by_fault (run.BadLine line) e = absurd e
-  by_fault run.File e = ⊎_elim
+  by_fault faults.ImageSize e = unserved faults.ImageSize e.1 (λ sound. absurd (e.0 sound.size))
+      (λ (is : faults.ImageSize ≡ faults.File). cc)
+  by_fault faults.NoMemory e = unserved faults.NoMemory e.1 (λ _. refl) (λ (is : faults.NoMemory ≡ faults.File). cc)
+  by_fault (faults.ScriptLine line) e = absurd e
+  by_fault faults.File e = ⊎_elim
       (λ x. ended_by loop.Input x (⊎_elim (λ failed. inl failed) (λ many. inr (inr many)) (x.ends.failed refl)))
       (λ x. let s = x.ends.after (inr refl) in
       ended_by loop.Output x (inr (inl (x.ends.output s.0 s.1 refl).told.1)))
       e.1
-  by_fault run.Device e = ⊎_elim
-      (λ x. stopped run.Device (λ left. Ok left) x (λ s is. x.ends.moments s is)
-      (λ sound. no_failure x.ends.handled sound e.0) (λ (is : run.Device ≡ run.File). cc) (λ _ device. device refl))
-      (λ y. stopped run.Device (λ left. Err (y.0, left)) y.1 (λ s is. y.1.ends.moments s is)
-      (λ sound. no_failure y.1.ends.handled sound e.0) (λ (is : run.Device ≡ run.File). cc) (λ _ device. device refl))
+  by_fault faults.Device e = ⊎_elim
+      (λ x. stopped faults.Device (λ left. Ok left) x (λ s is. x.ends.moments s is)
+      (λ sound. no_failure x.ends.handled sound e.0) (λ (is : faults.Device ≡ faults.File). cc) (λ _ device. device refl))
+      (λ y. stopped faults.Device (λ left. Err (y.0, left)) y.1 (λ s is. y.1.ends.moments s is)
+      (λ sound. no_failure y.1.ends.handled sound e.0) (λ (is : faults.Device ≡ faults.File). cc) (λ _ device. device refl))
       e.1
-  by_fault (run.Layout fault) e = refused (run.Layout fault) e.0 e.1 (λ (is : run.Layout fault ≡ run.File). cc)
-  by_fault run.NoStock e = refused run.NoStock e.0 e.1 (λ (is : run.NoStock ≡ run.File). cc)
-  by_fault run.NoRequests e = refused run.NoRequests e.0 e.1 (λ (is : run.NoRequests ≡ run.File). cc)
-  by_fault (run.BadCard item) e = refused (run.BadCard item) e.0 e.1 (λ (is : run.BadCard item ≡ run.File). cc)
-  by_fault (run.BadRequestCard till) e = refused (run.BadRequestCard till) e.0 e.1
-      (λ (is : run.BadRequestCard till ≡ run.File). cc)
-  by_fault run.TwoIntents e = refused run.TwoIntents e.0 e.1 (λ (is : run.TwoIntents ≡ run.File). cc)
+  by_fault (faults.Layout fault) e = refused (faults.Layout fault) e.0 e.1 (λ (is : faults.Layout fault ≡ faults.File). cc)
+  by_fault faults.NoStock e = refused faults.NoStock e.0 e.1 (λ (is : faults.NoStock ≡ faults.File). cc)
+  by_fault faults.NoRequests e = refused faults.NoRequests e.0 e.1 (λ (is : faults.NoRequests ≡ faults.File). cc)
+  by_fault (faults.BadCard item) e = refused (faults.BadCard item) e.0 e.1 (λ (is : faults.BadCard item ≡ faults.File). cc)
+  by_fault (faults.BadRequestCard till) e = refused (faults.BadRequestCard till) e.0 e.1
+      (λ (is : faults.BadRequestCard till ≡ faults.File). cc)
+  by_fault faults.TwoIntents e = refused faults.TwoIntents e.0 e.1 (λ (is : faults.TwoIntents ≡ faults.File). cc)
 
   pub were_served : (end : Ended) → IsServeRun K i a image file after old_in new_in old new end → WereServed end
   were_served (Ok v) x = served_whole v x.done.1.1
   were_served (Err fault) x = by_fault fault x.fault
 
   -- the fault that was told
-  abbrev told_in : Ended → RunFault
-  told_in (Ok _) = run.NoMemory
+  abbrev told_in : Ended → CommandFault
+  told_in (Ok _) = faults.NoMemory
   told_in (Err fault) = fault
 
-  pub file_told : (end : Ended) (x : WereServed end) → end ≡ Err run.File → IsFileToldBy i a new_in new x.handled
+  pub file_told : (end : Ended) (x : WereServed end) → end ≡ Err faults.File → IsFileToldBy i a new_in new x.handled
   file_told (Ok v) x is = absurd (let e = is in cc)
   file_told (Err fault) x is = x.told (ap told_in is)
 
-  pub input_passed : (end : Ended) (x : WereServed end) → end ≢ Err run.File → end ≢ Err run.Device
+  pub input_passed : (end : Ended) (x : WereServed end) → end ≢ Err faults.File → end ≢ Err faults.Device
       → i.has_failed new_in ≡ i.has_failed old_in
   input_passed (Ok v) x file device = x.passed
-  input_passed (Err fault) x file device = x.unfailed (λ is. file (ap (λ (f : RunFault). Err f) is))
-      (λ is. device (ap (λ (f : RunFault). Err f) is))
+  input_passed (Err fault) x file device = x.unfailed (λ is. file (ap (λ (f : CommandFault). Err f) is))
+      (λ is. device (ap (λ (f : CommandFault). Err f) is))

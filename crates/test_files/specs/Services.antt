@@ -16,7 +16,7 @@ use Rattle.line_server.specs.Giving.{Input}
 use Rattle.line_server.specs.Inputs.{line_messages}
 use Rattle.line_server.specs.Read.{AreWhole, LacksLf}
 use Rattle.line_server.specs.Serves.{SettledInTurn}
-use Rattle.shop_commands.specs.declared.faults.RunFault.TheVariants as faults
+use Rattle.command_faults.specs.declared.faults.CommandFault.TheVariants as faults
 use Rattle.ledger_jobs.specs.Ends.{Ended}
 use Rattle.test_files.specs.Disks.{changes_of}
 use Rattle.test_files.specs.Files.{file_disk, file_held, has_failed}

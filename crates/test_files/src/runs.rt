@@ -3,7 +3,7 @@
 ghost use Rattle.std.specs.Prelude.{◌≡◌, Err, OnOk, true};
 ghost use Rattle.host_session.specs.events.Events.{messages_of};
 ghost use Rattle.script_lines.specs.Lines.{lines};
-ghost use Rattle.shop_commands.specs.declared.faults.RunFault.TheVariants as faults;
+ghost use Rattle.command_faults.specs.declared.faults.CommandFault.TheVariants as faults;
 ghost use Rattle.test_files.specs.Files.{file_held, has_failed};
 ghost use Rattle.test_files.specs.Services.{IsServedToDisk};
 ghost use Rattle.test_files.specs.Shops.{IsPlayedToDisk, StaysAShop, bytes_there};
@@ -12,12 +12,13 @@ ghost use Rattle.test_files.specs.WholeShops.{HoldsAShop, IsPlayedInFile};
 
 use crate::disk_file::DiskFile;
 use crate::whole_file::WholeFile;
+use command_faults::CommandFault;
 use d64_image::KeptMirror;
 use disk_layout::Fault;
 use host_session::ReplySink;
 use ledger_jobs::{play_durably, serve_durably};
 use line_server::{Answers, LineSource};
-use shop_commands::{Durability, ImageFile, RunFault};
+use shop_commands::{Durability, ImageFile};
 use std::alloc::Global;
 
 /// Plays a script on the shop of the image that the file holds: the file then, and how that ended. Wherever power is
@@ -28,7 +29,7 @@ pub fn play_on_disk<T: ReplySink<KeptMirror<ImageFile<DiskFile>>>>(
     script: &[u8],
     file: DiskFile,
     out: &mut T,
-) -> (DiskFile, Result<Option<Fault>, RunFault>)
+) -> (DiskFile, Result<Option<Fault>, CommandFault>)
     requires there { bytes_there file ≡ file_held file }
     requires image { image.now ≡ file_held file }
     ensures done { OnOk result.1 (IsPlayedToDisk T.output script.now file result.0 out.old out.new) }
@@ -50,7 +51,7 @@ pub fn play_in_file<T: ReplySink<KeptMirror<ImageFile<WholeFile>>>>(
     script: &[u8],
     file: WholeFile,
     out: &mut T,
-) -> (WholeFile, Result<Option<Fault>, RunFault>)
+) -> (WholeFile, Result<Option<Fault>, CommandFault>)
     requires image { image.now ≡ whole_held file }
     ensures done { OnOk result.1 (IsPlayedInFile T.output script.now file result.0 out.old out.new) }
     // all that it holds then is there
@@ -71,7 +72,7 @@ pub fn serve_on_disk<R, T>(
     file: DiskFile,
     input: &mut R,
     out: &mut T,
-) -> (DiskFile, Result<Option<Fault>, RunFault>)
+) -> (DiskFile, Result<Option<Fault>, CommandFault>)
 where
     R: LineSource<KeptMirror<ImageFile<DiskFile>>>,
     T: Answers<KeptMirror<ImageFile<DiskFile>>>,

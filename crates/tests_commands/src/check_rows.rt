@@ -3,7 +3,7 @@ use crate::comparing::same;
 use crate::files::Full;
 use crate::images::{Bytes, S17_0, S17_1, S18_0, S18_1, changed, formatted, patch};
 use crate::runs::judged;
-use shop_commands::RunFault;
+use command_faults::CommandFault;
 use std::process::Abort;
 
 /// Changes of a disk for two tills, what is printed of it then, and how many faults are reported.
@@ -83,7 +83,7 @@ fn images_are_judged(rt: HostRuntime) {
 /// Checks that an output that takes so many bytes, or doesn't flush, is reported.
 fn is_full(rt: &(impl AllocGlobal + Abort), image: &[u8], room: usize, flushes: bool) {
     let ended = judged(rt, image, &mut Full { room, flushes });
-    same(rt, ended, Err(RunFault::File));
+    same(rt, ended, Err(CommandFault::File));
 }
 
 #[test]
@@ -103,7 +103,7 @@ fn is_no_disk(rt: &(impl AllocGlobal + Abort), image: &[u8]) {
     same(
         rt,
         (ended, out.is_empty()),
-        (Err(RunFault::ImageSize), true),
+        (Err(CommandFault::ImageSize), true),
     );
 }
 

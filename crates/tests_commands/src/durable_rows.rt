@@ -4,8 +4,9 @@ use crate::files::blank_paper;
 use crate::images::formatted;
 use crate::machine::{Machine, OnMachine};
 use crate::runs::shown;
+use command_faults::CommandFault;
 use host_session::Printer;
-use shop_commands::{Durability, ImageFile, RunFault, play_file};
+use shop_commands::{Durability, ImageFile, play_file};
 use std::process::Abort;
 
 /// What was played before, and then a script and its replies.
@@ -28,7 +29,7 @@ fn played(
     machine: &Machine,
     script: &[u8],
     durability: Durability,
-) -> (Result<(), RunFault>, Vec<u8>) {
+) -> (Result<(), CommandFault>, Vec<u8>) {
     let image = machine.disk(rt.alloc());
     let mut out = blank_paper(rt);
     let file = ImageFile::of_image(OnMachine { machine }, durability, image.as_slice());

@@ -4,7 +4,8 @@ use crate::files::{Full, filled, new_tape};
 use crate::images::{
     Bytes, S17_0, S17_1, S17_2, S17_3, S17_4, S18_0, S18_1, S19_13, formatted, patch, put,
 };
-use shop_commands::{RunFault, format_image};
+use command_faults::CommandFault;
+use shop_commands::format_image;
 use std::process::Abort;
 
 /// What an image has for two tills beside the records and zeros.
@@ -119,7 +120,7 @@ fn is_not_formatted(
     file.syncs = syncs;
     let mut out = out;
     let ended = format_image(rt.alloc(), 2, &mut file, &mut out);
-    same(rt, (ended, out.room), (Err(RunFault::File), left));
+    same(rt, (ended, out.room), (Err(CommandFault::File), left));
 }
 
 /// A writer that takes so many bytes, and flushes or doesn't.

@@ -4,9 +4,10 @@ use crate::comparing::{holds, same, same_at};
 use crate::images::formatted;
 use crate::machine::{Lines, Machine, OnMachine, Replies, Seen};
 use crate::runs::is_shown;
+use command_faults::CommandFault;
 use host_session::Printer;
 use ledger_jobs::serve_file;
-use shop_commands::{Durability, ImageFile, RunFault};
+use shop_commands::{Durability, ImageFile};
 use std::process::Abort;
 
 /// Lines: a set, its repeat, an issue, what is no request, a move, and the issue of more than there is.
@@ -37,7 +38,7 @@ fn served(
     machine: &Machine,
     input: &mut Lines<'_>,
     out: &mut Replies<'_>,
-) -> Result<(), RunFault> {
+) -> Result<(), CommandFault> {
     let file = ImageFile::of_image(OnMachine { machine }, Durability::EachSector, image);
     let mut printer = Printer::new(out);
     match serve_file(rt.alloc(), image, file, input, &mut printer) {

@@ -9,9 +9,10 @@ use crate::comparing::{holds, same_at};
 use crate::files::blank_paper;
 use crate::images::formatted;
 use crate::runs::{is_printed, is_shown, shows};
+use command_faults::CommandFault;
 use d64_image::{DeviceAsFile, MemDisk, OneFault};
 use host_session::Printer;
-use shop_commands::{RunFault, play_file};
+use shop_commands::play_file;
 use std::io::Write;
 use std::process::Abort;
 use test_devices::Recorder;
@@ -35,7 +36,7 @@ fn played_over<W: Write>(
     fails_at: u32,
     done: bool,
     out: &mut W,
-) -> (Result<(), RunFault>, Recorder<MemDisk>) {
+) -> (Result<(), CommandFault>, Recorder<MemDisk>) {
     let file = kept(rt, image, fails_at, done);
     let mut printer = Printer::new(out);
     match play_file(rt.alloc(), image, script, file, &mut printer) {
@@ -68,7 +69,7 @@ fn a_file_keeps_what_is_told(rt: HostRuntime) {
 fn is_stopped(rt: &(impl AllocGlobal + Abort), image: &[u8], done: bool) {
     let mut out = blank_paper(rt);
     let (ended, recorder) = played_over(rt, image, b"1,1,S,42,120\n", 0, done, &mut out);
-    same_at(rt, ended, Err(RunFault::Device), done);
+    same_at(rt, ended, Err(CommandFault::Device), done);
     is_printed(rt, &out, b"1,1,MEDIA\n");
     same_at(rt, recorder.moments() > 0, done, done);
     shows(rt, recorder.into_inner().bytes(), b"TOP 9256\n");
@@ -86,7 +87,12 @@ fn a_refused_script_leaves_the_file(rt: HostRuntime) {
     let image = formatted(&rt, 2);
     let mut out = blank_paper(&rt);
     let (ended, recorder) = played_over(&rt, image.as_slice(), b"@", u32::MAX, false, &mut out);
-    same_at(&rt, ended, Err(RunFault::BadLine(1)), out.bytes.len());
+    same_at(
+        &rt,
+        ended,
+        Err(CommandFault::ScriptLine(1)),
+        out.bytes.len(),
+    );
     same_at(&rt, recorder.moments(), 0, out.bytes.len());
     holds(
         &rt,

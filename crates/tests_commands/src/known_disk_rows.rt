@@ -1,8 +1,9 @@
 //! Days on files whose disks are known: played whole, and with a call that fails.
 use crate::images::formatted;
+use command_faults::CommandFault;
 use disk_layout::Fault;
 use host_session::Printer;
-use shop_commands::{RunFault, show_image};
+use shop_commands::show_image;
 use std::process::Abort;
 use test_files::{Bringing, DiskFile, IMAGE_BYTES, WholeFile, play_in_file, play_on_disk};
 
@@ -26,7 +27,7 @@ fn played(
     image: &[u8],
     bringing: Bringing,
     calls: u64,
-) -> (DiskFile, Result<Option<Fault>, RunFault>) {
+) -> (DiskFile, Result<Option<Fault>, CommandFault>) {
     if image.len() != IMAGE_BYTES {
         panic!(rt; "no image");
     }

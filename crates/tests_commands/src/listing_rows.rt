@@ -3,8 +3,9 @@ use crate::comparing::{holds, same, same_at};
 use crate::files::{Full, add, add_numbered, filled};
 use crate::images::{Bytes, S18_0, S18_1, changed, formatted};
 use crate::runs::{is_told, judged, listed, listed_as};
+use command_faults::CommandFault;
 use petscii_text::CharacterSet;
-use shop_commands::{NameForm, RunFault};
+use shop_commands::NameForm;
 use std::process::Abort;
 
 /// Where the third slot of the first directory sector begins.
@@ -133,7 +134,7 @@ static LISTINGS: [Listing; 13] = [
 fn is_listed(
     rt: &(impl AllocGlobal + Abort),
     image: &[u8],
-    ended: Result<(), RunFault>,
+    ended: Result<(), CommandFault>,
     printed: &[u8],
 ) {
     let mut out = Vec::new(rt.alloc());
@@ -252,7 +253,7 @@ fn a_bad_directory_is_told_and_nothing_is_printed(rt: HostRuntime) {
 /// Checks that the first so many bytes of the image aren't listed.
 fn is_no_disk(rt: &(impl AllocGlobal + Abort), image: &[u8], size: usize) {
     let part = image.get(..size).unwrap_or(&[]);
-    is_listed(rt, part, Err(RunFault::ImageSize), b"");
+    is_listed(rt, part, Err(CommandFault::ImageSize), b"");
 }
 
 #[test]
@@ -267,7 +268,7 @@ fn other_sizes_are_told(rt: HostRuntime) {
 /// Checks that an output that takes so many bytes, or doesn't flush, is reported.
 fn is_full(rt: &(impl AllocGlobal + Abort), image: &[u8], room: usize, flushes: bool) {
     let ended = listed(rt, image, &mut Full { room, flushes });
-    same(rt, ended, Err(RunFault::File));
+    same(rt, ended, Err(CommandFault::File));
 }
 
 #[test]

@@ -3,7 +3,7 @@ use crate::comparing::{holds, same_at};
 use crate::files::filled;
 use crate::images::{Bytes, S17_0, S17_2, S18_1, changed, formatted};
 use crate::runs::{is_told, played, shown};
-use shop_commands::RunFault;
+use command_faults::CommandFault;
 use std::process::Abort;
 
 /// Scripts with a line that can't be played, and what is reported of each.
@@ -37,7 +37,7 @@ static NO_SHOPS: [(&[Bytes], &str); 8] = [
 ];
 
 /// The exit status that a run so ended has.
-fn status_of(ended: Result<(), RunFault>) -> u8 {
+fn status_of(ended: Result<(), CommandFault>) -> u8 {
     match ended {
         Ok(()) => 0,
         Err(fault) => fault.status(),

@@ -1,9 +1,10 @@
 //! Runs of the commands: what they print, show and report.
 use crate::comparing::{holds, same};
 use crate::files::{Paper, Tape, new_tape};
+use command_faults::CommandFault;
 use host_session::Printer;
 use shop_commands::{
-    DryFault, ImageFile, NameForm, RunFault, check_image, dry, list_image, play_file, show_image,
+    DryFault, ImageFile, NameForm, check_image, dry, list_image, play_file, show_image,
 };
 use std::fmt::Display;
 use std::io::Write;
@@ -11,8 +12,8 @@ use std::process::Abort;
 
 /// How a run ended, and the file that it handed back.
 pub(crate) fn parted(
-    run: Result<ImageFile<Tape>, (RunFault, ImageFile<Tape>)>,
-) -> (Result<(), RunFault>, Tape) {
+    run: Result<ImageFile<Tape>, (CommandFault, ImageFile<Tape>)>,
+) -> (Result<(), CommandFault>, Tape) {
     match run {
         Ok(file) => (Ok(()), file.into_inner()),
         Err((fault, file)) => (Err(fault), file.into_inner()),
@@ -26,7 +27,7 @@ pub(crate) fn played_within<W: Write>(
     script: &[u8],
     room: usize,
     out: &mut W,
-) -> (Result<(), RunFault>, Tape) {
+) -> (Result<(), CommandFault>, Tape) {
     let file = ImageFile::new(new_tape(rt, image, room));
     let mut printer = Printer::new(out);
     parted(play_file(rt.alloc(), image, script, file, &mut printer))
@@ -38,7 +39,7 @@ pub(crate) fn played<W: Write>(
     image: &[u8],
     script: &[u8],
     out: &mut W,
-) -> (Result<(), RunFault>, Tape) {
+) -> (Result<(), CommandFault>, Tape) {
     played_within(rt, image, script, usize::MAX, out)
 }
 
@@ -52,7 +53,7 @@ pub(crate) fn judged<W: Write>(
     rt: &impl AllocGlobal,
     image: &[u8],
     out: &mut W,
-) -> Result<bool, RunFault> {
+) -> Result<bool, CommandFault> {
     match check_image(rt.alloc(), image, out) {
         Ok(found) => Ok(found.is_some()),
         Err(fault) => Err(fault),
@@ -65,7 +66,7 @@ pub(crate) fn listed_as<W: Write>(
     image: &[u8],
     form: NameForm,
     out: &mut W,
-) -> Result<(), RunFault> {
+) -> Result<(), CommandFault> {
     list_image(rt.alloc(), image, form, out)
 }
 
@@ -74,7 +75,7 @@ pub(crate) fn listed<W: Write>(
     rt: &impl AllocGlobal,
     image: &[u8],
     out: &mut W,
-) -> Result<(), RunFault> {
+) -> Result<(), CommandFault> {
     listed_as(rt, image, NameForm::Ascii, out)
 }
 
@@ -83,7 +84,7 @@ pub(crate) fn shown<W: Write>(
     rt: &impl AllocGlobal,
     image: &[u8],
     out: &mut W,
-) -> Result<(), RunFault> {
+) -> Result<(), CommandFault> {
     show_image(rt.alloc(), image, out)
 }
 
@@ -109,7 +110,11 @@ pub(crate) fn shows(rt: &(impl AllocGlobal + Abort), image: &[u8], text: &[u8]) 
 }
 
 /// Checks that a command isn't done, and that this is reported.
-pub(crate) fn is_told(rt: &(impl AllocGlobal + Abort), ended: Result<(), RunFault>, text: &str) {
+pub(crate) fn is_told(
+    rt: &(impl AllocGlobal + Abort),
+    ended: Result<(), CommandFault>,
+    text: &str,
+) {
     match ended {
         Ok(()) => holds(rt, false, text),
         Err(fault) => has_text(rt, fault, text),

@@ -5,9 +5,10 @@ use crate::images::formatted;
 use crate::pieces::Piece::{self, Bytes, Failed, Interrupted};
 use crate::pieces::{Line, Pieces, Talk};
 use crate::runs::{is_printed, is_shown, parted};
+use command_faults::CommandFault;
 use host_session::Printer;
 use ledger_jobs::serve_file;
-use shop_commands::{ImageFile, RunFault};
+use shop_commands::ImageFile;
 use std::cell::Cell;
 use std::io::{BufRead, Write};
 use std::process::Abort;
@@ -19,7 +20,7 @@ fn served<R: BufRead, W: Write>(
     input: &mut R,
     room: usize,
     out: &mut W,
-) -> (Result<(), RunFault>, Tape) {
+) -> (Result<(), CommandFault>, Tape) {
     let file = ImageFile::new(new_tape(rt, image, room));
     let mut printer = Printer::new(out);
     parted(serve_file(rt.alloc(), image, file, input, &mut printer))
@@ -93,7 +94,11 @@ fn are_served(rt: &(impl AllocGlobal + Abort), image: &[u8], services: &[Service
         let mut out = blank_paper(rt);
         let mut input = Pieces::new(pieces);
         let (ended, file) = served(rt, image, &mut input, usize::MAX, &mut out);
-        let wanted = if *whole { Ok(()) } else { Err(RunFault::File) };
+        let wanted = if *whole {
+            Ok(())
+        } else {
+            Err(CommandFault::File)
+        };
         same_at(rt, ended, wanted, replies);
         is_printed(rt, &out, replies);
         is_shown(rt, file.bytes(), shown);
@@ -111,7 +116,7 @@ fn is_told_full(rt: &(impl AllocGlobal + Abort), image: &[u8], room: usize, flus
     let mut full = Full { room, flushes };
     let mut input = Pieces::new(&[Bytes(b"1,1,S,42,120\n1,2,I,42,1\n")]);
     let (ended, file) = served(rt, image, &mut input, usize::MAX, &mut full);
-    same_at(rt, ended, Err(RunFault::File), room);
+    same_at(rt, ended, Err(CommandFault::File), room);
     is_shown(rt, file.bytes(), SET);
 }
 
@@ -147,6 +152,6 @@ fn a_file_that_fails_ends_the_service(rt: HostRuntime) {
     let mut out = blank_paper(&rt);
     let mut input = Pieces::new(&[Bytes(b"x\n1,1,S,15,7\n1,1,S,15,7\n")]);
     let (ended, _) = served(&rt, image.as_slice(), &mut input, 300, &mut out);
-    same(&rt, ended, Err(RunFault::Device));
+    same(&rt, ended, Err(CommandFault::Device));
     is_printed(&rt, &out, b"30,SYNTAX ERROR,00,00\n1,1,MEDIA\n");
 }

@@ -3,7 +3,7 @@ use crate::comparing::{same, same_at};
 use crate::files::{Full, blank_paper};
 use crate::images::formatted;
 use crate::runs::{is_printed, is_shown, played, played_within, shown};
-use shop_commands::RunFault;
+use command_faults::CommandFault;
 use std::io::Write;
 use std::process::Abort;
 
@@ -28,7 +28,7 @@ fn is_stopped<W: Write>(
     out: &mut W,
 ) {
     let (ended, _) = played_within(rt, image, script, room, out);
-    same_at(rt, ended, Err(RunFault::Device), script);
+    same_at(rt, ended, Err(CommandFault::Device), script);
 }
 
 /// Checks that each of these is printed; that the output fails there too isn't reported.
@@ -55,7 +55,7 @@ fn a_file_that_fails_ends_the_run(rt: HostRuntime) {
 fn stands(rt: &(impl AllocGlobal + Abort), image: &[u8], room: usize, flushes: bool, text: &[u8]) {
     let mut full = Full { room, flushes };
     let (ended, file) = played(rt, image, b"1,1,S,42,120\n", &mut full);
-    same(rt, ended, Err(RunFault::File));
+    same(rt, ended, Err(CommandFault::File));
     is_shown(rt, file.bytes(), text);
 }
 
@@ -70,7 +70,7 @@ fn after_an_output_that_fails_the_lines_stand(rt: HostRuntime) {
 /// Checks that an output that takes so many bytes, or doesn't flush, is reported if a disk is shown.
 fn is_not_shown(rt: &(impl AllocGlobal + Abort), image: &[u8], room: usize, flushes: bool) {
     let ended = shown(rt, image, &mut Full { room, flushes });
-    same(rt, ended, Err(RunFault::File));
+    same(rt, ended, Err(CommandFault::File));
 }
 
 #[test]

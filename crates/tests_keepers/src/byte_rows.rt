@@ -3,7 +3,8 @@
 use crate::comparing::same_at;
 use crate::disks::{Change, changed};
 use crate::outputs::{Full, is_told};
-use keeper_commands::{ByteForm, Candidates, KeepFault, bytes_image};
+use command_faults::CommandFault;
+use keeper_commands::{ByteForm, Candidates, bytes_image};
 use std::io::Write;
 use std::process::Abort;
 
@@ -289,7 +290,7 @@ fn bytes_are_refused(rt: HostRuntime) {
         ByteForm::Plain,
         &mut out,
     );
-    same_at(&rt, ended, Err(KeepFault::ImageSize), "size");
+    same_at(&rt, ended, Err(CommandFault::ImageSize), "size");
     let mut full = Full { room: 251 };
     is_told(
         &rt,

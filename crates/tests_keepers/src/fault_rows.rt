@@ -3,7 +3,8 @@
 use crate::comparing::same_at;
 use crate::disks::{Change, changed};
 use crate::outputs::Full;
-use disk_faults::{DescribeFault, describe_image, describe_refusal, strings_are_read_back};
+use command_faults::CommandFault;
+use disk_faults::{describe_image, describe_refusal, strings_are_read_back};
 use std::io::Write;
 use std::process::Abort;
 
@@ -98,11 +99,11 @@ fn refusals_are_described(rt: HostRuntime) {
 fn images_are_refused(rt: HostRuntime) {
     let mut text = Vec::new(rt.alloc());
     let short = describe_image(rt.alloc(), b"a", &[0; 256], &mut text);
-    same_at(&rt, short, Err(DescribeFault::ImageSize), "short");
+    same_at(&rt, short, Err(CommandFault::ImageSize), "short");
     same_at(&rt, text.len(), 0, "nothing is printed");
     let disk = changed(&rt, &[]);
     let full = describe_image(rt.alloc(), b"a", disk.bytes(), &mut Full { room: 9 });
-    same_at(&rt, full, Err(DescribeFault::File), "full");
+    same_at(&rt, full, Err(CommandFault::File), "full");
     let full = describe_refusal(b"a", None, b"FILE", &mut Full { room: 9 });
-    same_at(&rt, full, Err(DescribeFault::File), "full");
+    same_at(&rt, full, Err(CommandFault::File), "full");
 }

@@ -5,9 +5,10 @@ use crate::disks::{Change, changed};
 use crate::outputs::is_told;
 use crate::record_rows::lines;
 use crate::storing_rows::stored;
+use command_faults::CommandFault;
 use d64_image::{Fuse, MemDisk, OneFault};
 use keeper_commands::{
-    KeepFault, RecordForm, is_new_name, make_image, records_image, repair_image, store_image,
+    RecordForm, is_new_name, make_image, records_image, repair_image, store_image,
 };
 use std::process::Abort;
 
@@ -42,7 +43,7 @@ fn prints_what_is_stored(rt: &(impl Abort + AllocGlobal), at: u32, done: bool) {
                 &mut out,
             );
             let failed = faulty.place().is_some();
-            same_at(rt, ended == Err(KeepFault::Device), failed, at);
+            same_at(rt, ended == Err(CommandFault::Device), failed, at);
             same_at(rt, ended == Ok(()), !failed, at);
             let held = lines_of(rt, &faulty.into_inner());
             same_at(rt, held.as_slice().starts_with(out.as_slice()), true, at);
@@ -75,7 +76,7 @@ fn nothing_is_printed_of_a_repair_that_fails(rt: HostRuntime) {
                 let mut fuse = Fuse::new(disk, taken);
                 let mut out = Vec::new(rt.alloc());
                 let ended = repair_image(rt.alloc(), hurt.bytes(), false, &mut fuse, &mut out);
-                same_at(&rt, ended, Err(KeepFault::Device), taken);
+                same_at(&rt, ended, Err(CommandFault::Device), taken);
                 same_at(&rt, out.as_slice(), b"".as_slice(), taken);
             }
             Err(fault) => panic!(&rt; "the image isn't taken: {fault:?}"),

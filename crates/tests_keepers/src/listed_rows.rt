@@ -3,7 +3,8 @@
 use crate::comparing::same_at;
 use crate::disks::{Change, changed};
 use crate::outputs::Full;
-use disk_faults::{DescribeFault, list_faults, print_near_names};
+use command_faults::CommandFault;
+use disk_faults::{list_faults, print_near_names};
 use std::process::Abort;
 
 /// What is changed on the blank disk, and what is printed of it.
@@ -93,13 +94,13 @@ fn near_names_are_printed(rt: HostRuntime) {
 fn images_are_refused(rt: HostRuntime) {
     let mut text = Vec::new(rt.alloc());
     let short = list_faults(rt.alloc(), &[0; 256], &mut text);
-    same_at(&rt, short, Err(DescribeFault::ImageSize), "short");
+    same_at(&rt, short, Err(CommandFault::ImageSize), "short");
     let short = print_near_names(rt.alloc(), &[0; 256], b"A", &mut text);
-    same_at(&rt, short, Err(DescribeFault::ImageSize), "short");
+    same_at(&rt, short, Err(CommandFault::ImageSize), "short");
     same_at(&rt, text.len(), 0, "nothing is printed");
     let disk = changed(&rt, &[]);
     let full = list_faults(rt.alloc(), disk.bytes(), &mut Full { room: 2 });
-    same_at(&rt, full, Err(DescribeFault::File), "full");
+    same_at(&rt, full, Err(CommandFault::File), "full");
     let full = print_near_names(rt.alloc(), disk.bytes(), b"stock", &mut Full { room: 9 });
-    same_at(&rt, full, Err(DescribeFault::File), "full");
+    same_at(&rt, full, Err(CommandFault::File), "full");
 }

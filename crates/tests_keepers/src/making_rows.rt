@@ -3,8 +3,9 @@
 use crate::comparing::same_at;
 use crate::disks::{Change, changed, with_record};
 use crate::outputs::{Full, is_told};
+use command_faults::CommandFault;
 use d64_image::{MemDisk, Place, Sectors};
-use keeper_commands::{KeepFault, is_new_name, make_image};
+use keeper_commands::{is_new_name, make_image};
 use std::io::Write;
 use std::process::Abort;
 
@@ -30,7 +31,7 @@ fn made<W: Write>(
     name: &[u8],
     length: u8,
     out: &mut W,
-) -> (Result<(), KeepFault>, MemDisk) {
+) -> (Result<(), CommandFault>, MemDisk) {
     assert!(rt;
         is_new_name(name) && length >= 1 && length <= 254,
         "there is no such file"

@@ -1,6 +1,6 @@
 //! Outputs that fail, and what is reported.
 use crate::comparing::same_at;
-use keeper_commands::KeepFault;
+use command_faults::CommandFault;
 use std::io::{self, Write};
 use std::process::Abort;
 
@@ -35,7 +35,11 @@ fn status_of(told: &str) -> u8 {
 }
 
 /// Checks that a job ended so: with this report, and its status; or done, if there is no report.
-pub(crate) fn is_told(rt: &(impl AllocGlobal + Abort), ended: Result<(), KeepFault>, told: &str) {
+pub(crate) fn is_told(
+    rt: &(impl AllocGlobal + Abort),
+    ended: Result<(), CommandFault>,
+    told: &str,
+) {
     let mut text = Vec::new(rt.alloc());
     let mut status = 0;
     if let Err(fault) = ended {

@@ -2,10 +2,10 @@
 //! program (tests/pages.py) printed those of these disks; length and Adler-32 are compared with those.
 use crate::comparing::same_at;
 use crate::disks::{Change, changed};
+use command_faults::CommandFault;
 use disk_layout::Fault;
 use disk_pictures::{
-    PictureFault, map_image, picture_image, poster_image, sheet_begin, sheet_finish, sheet_refusal,
-    sheet_tile,
+    map_image, picture_image, poster_image, sheet_begin, sheet_finish, sheet_refusal, sheet_tile,
 };
 use std::io::Write;
 use std::process::Abort;
@@ -131,7 +131,7 @@ pub(crate) fn adler(bytes: &[u8]) -> u32 {
 /// Checks that a job ended so: with this fault of the disk reported, or with none.
 pub(crate) fn is_found(
     rt: &(impl AllocGlobal + Abort),
-    ended: Result<Option<Fault>, PictureFault>,
+    ended: Result<Option<Fault>, CommandFault>,
     told: &str,
 ) {
     let mut text = Vec::new(rt.alloc());

@@ -3,7 +3,8 @@
 use crate::comparing::same_at;
 use crate::disks::{Change, changed};
 use crate::outputs::{Full, is_told};
-use keeper_commands::{ByteForm, Candidates, KeepFault, RecordForm, bytes_image, records_image};
+use command_faults::CommandFault;
+use keeper_commands::{ByteForm, Candidates, RecordForm, bytes_image, records_image};
 use petscii_text::CharacterSet;
 use std::process::Abort;
 
@@ -63,7 +64,7 @@ fn records_are_readable(rt: HostRuntime) {
     let disk = changed(&rt, RECORDS);
     let mut out = Vec::new(rt.alloc());
     let ended = records_image(rt.alloc(), &disk.bytes()[1..], b"STOCK", form, &mut out);
-    same_at(&rt, ended, Err(KeepFault::ImageSize), "size");
+    same_at(&rt, ended, Err(CommandFault::ImageSize), "size");
     let mut full = Full { room: 20 };
     let ended = records_image(rt.alloc(), disk.bytes(), b"STOCK", form, &mut full);
     is_told(&rt, ended, "FILE");

@@ -3,7 +3,8 @@
 use crate::comparing::same_at;
 use crate::disks::{Change, changed, with_record};
 use crate::outputs::{Full, is_told};
-use keeper_commands::{KeepFault, RecordForm, records_image, unclosed_records_image};
+use command_faults::CommandFault;
+use keeper_commands::{RecordForm, records_image, unclosed_records_image};
 use std::io::Write;
 use std::process::Abort;
 
@@ -206,7 +207,7 @@ fn records_are_refused(rt: HostRuntime) {
         RecordForm::Lines,
         &mut out,
     );
-    same_at(&rt, ended, Err(KeepFault::ImageSize), "size");
+    same_at(&rt, ended, Err(CommandFault::ImageSize), "size");
     let mut full = Full { room: 20 };
     let ended = records_image(
         rt.alloc(),

@@ -2,8 +2,9 @@
 use crate::comparing::same_at;
 use crate::disks::{Change, changed};
 use crate::outputs::is_told;
+use command_faults::CommandFault;
 use d64_image::MemDisk;
-use keeper_commands::{KeepFault, repair_image};
+use keeper_commands::repair_image;
 use std::io::Write;
 use std::process::Abort;
 
@@ -36,7 +37,7 @@ fn repaired<W: Write>(
     image: &[u8],
     free: bool,
     out: &mut W,
-) -> (Result<u16, KeepFault>, MemDisk) {
+) -> (Result<u16, CommandFault>, MemDisk) {
     match MemDisk::load(rt.alloc(), image) {
         Ok(disk) => {
             let mut disk = disk;
@@ -48,7 +49,12 @@ fn repaired<W: Write>(
 }
 
 /// Checks that a repair ended so: with this report; or done, with so many sectors left, if there is no report.
-fn is_ended(rt: &(impl Abort + AllocGlobal), ended: Result<u16, KeepFault>, told: &str, left: u16) {
+fn is_ended(
+    rt: &(impl Abort + AllocGlobal),
+    ended: Result<u16, CommandFault>,
+    told: &str,
+    left: u16,
+) {
     let (ended, count) = match ended {
         Ok(count) => (Ok(()), count),
         Err(fault) => (Err(fault), left),

@@ -3,8 +3,9 @@
 use crate::comparing::same_at;
 use crate::disks::{Change, changed};
 use crate::outputs::{Full, is_told};
+use command_faults::CommandFault;
 use d64_image::MemDisk;
-use keeper_commands::{KeepFault, rebuild_image};
+use keeper_commands::rebuild_image;
 use side_rebuilding::Shortened;
 use std::io::Write;
 use std::process::Abort;
@@ -74,7 +75,7 @@ fn rebuilt<W: Write>(
     image: &[u8],
     shortened: Shortened,
     out: &mut W,
-) -> (Result<(), KeepFault>, MemDisk) {
+) -> (Result<(), CommandFault>, MemDisk) {
     match MemDisk::load(rt.alloc(), image) {
         Ok(disk) => {
             let mut disk = disk;

@@ -3,8 +3,9 @@
 use crate::comparing::same_at;
 use crate::disks::{Change, changed};
 use crate::outputs::{Full, is_told};
+use command_faults::CommandFault;
 use d64_image::MemDisk;
-use keeper_commands::{KeepFault, RecordForm, records_image, store_image};
+use keeper_commands::{RecordForm, records_image, store_image};
 use std::io::Write;
 use std::process::Abort;
 
@@ -15,7 +16,7 @@ pub(crate) fn stored<W: Write>(
     name: &[u8],
     text: &[u8],
     out: &mut W,
-) -> (Result<(), KeepFault>, MemDisk) {
+) -> (Result<(), CommandFault>, MemDisk) {
     match MemDisk::load(rt.alloc(), image) {
         Ok(disk) => {
             let mut disk = disk;

@@ -5,8 +5,9 @@ use crate::comparing::same_at;
 use crate::disks::{Change, changed};
 use crate::outputs::Full;
 use crate::picture_rows::adler;
+use command_faults::CommandFault;
 use d64_image::Place;
-use disk_pictures::{PictureFault, free_image, sector_image, trim_image};
+use disk_pictures::{free_image, sector_image, trim_image};
 use std::io::Write;
 use std::process::Abort;
 
@@ -116,7 +117,7 @@ fn free_sectors_are_counted(rt: HostRuntime) {
 }
 
 /// Checks that nothing is printed of this, and why.
-fn is_refused(rt: &(impl Abort + AllocGlobal), image: &[u8], why: PictureFault) {
+fn is_refused(rt: &(impl Abort + AllocGlobal), image: &[u8], why: CommandFault) {
     let mut out = Vec::new(rt.alloc());
     let mut err = Vec::new(rt.alloc());
     let place = Place::default();
@@ -143,9 +144,9 @@ fn is_refused(rt: &(impl Abort + AllocGlobal), image: &[u8], why: PictureFault) 
 
 #[test]
 fn other_sizes_are_refused(rt: HostRuntime) {
-    is_refused(&rt, b"", PictureFault::ImageSize);
+    is_refused(&rt, b"", CommandFault::ImageSize);
     let disk = changed(&rt, &[]);
-    is_refused(&rt, &disk.bytes()[1..], PictureFault::ImageSize);
+    is_refused(&rt, &disk.bytes()[1..], CommandFault::ImageSize);
 }
 
 #[test]
@@ -153,11 +154,11 @@ fn an_output_that_fails_is_told(rt: HostRuntime) {
     let disk = changed(&rt, &[]);
     let mut out = Full { room: 100 };
     let ended = free_image(rt.alloc(), disk.bytes(), &mut out);
-    same_at(&rt, ended, Err(PictureFault::File), "free");
+    same_at(&rt, ended, Err(CommandFault::File), "free");
     let mut out = Full { room: 1187 };
     let place = Place::new(17, 2).unwrap_or_default();
     let ended = sector_image(rt.alloc(), disk.bytes(), place, &mut out);
-    same_at(&rt, ended, Err(PictureFault::File), "sector");
+    same_at(&rt, ended, Err(CommandFault::File), "sector");
 }
 
 /// An image with so many bytes after its tracks, all 1 except these.

@@ -24,7 +24,7 @@ ends 1
 
 script 1400,A|
 person ledger_cli store a.d64 REQUESTS s.txt
-tells DISK FULL|ledger: a.d64: too few blocks are free; nothing was done|
+tells DISK FULL|ledger: a.d64: it has too few free blocks, or no room in its directory; nothing was done|
 ends 1
 
 script 1,1,S,1,5|

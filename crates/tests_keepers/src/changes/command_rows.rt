@@ -1,7 +1,8 @@
 //! Changes of an image as commands: what they print, and what they refuse.
 use crate::changes::disks::{blank, with_type};
 use crate::comparing::{differs_in, same_at};
-use change_commands::{EditFault, delete_image, put_image, rename_image};
+use change_commands::{delete_image, put_image, rename_image};
+use command_faults::CommandFault;
 use d64_image::MemDisk;
 use file_changes::FileType;
 use std::process::Abort;
@@ -12,7 +13,7 @@ fn renamed(
     before: &MemDisk,
     from: &[u8],
     to: &[u8],
-) -> (Result<(), EditFault>, Vec<u8>, MemDisk) {
+) -> (Result<(), CommandFault>, Vec<u8>, MemDisk) {
     assert!(rt; to.len() <= 16, "no entry has such a name");
     let mut out = Vec::new(rt.alloc());
     match MemDisk::load(rt.alloc(), before.bytes()) {
@@ -30,7 +31,7 @@ fn deleted(
     rt: &(impl Abort + AllocGlobal),
     before: &MemDisk,
     name: &[u8],
-) -> (Result<(), EditFault>, Vec<u8>, MemDisk) {
+) -> (Result<(), CommandFault>, Vec<u8>, MemDisk) {
     let mut out = Vec::new(rt.alloc());
     match MemDisk::load(rt.alloc(), before.bytes()) {
         Ok(disk) => {
@@ -47,7 +48,7 @@ fn put(
     rt: &(impl Abort + AllocGlobal),
     before: &MemDisk,
     name: &[u8],
-) -> (Result<(), EditFault>, Vec<u8>, MemDisk) {
+) -> (Result<(), CommandFault>, Vec<u8>, MemDisk) {
     assert!(rt; name.len() <= 16, "no entry has such a name");
     let mut out = Vec::new(rt.alloc());
     match MemDisk::load(rt.alloc(), before.bytes()) {
@@ -112,8 +113,8 @@ fn changes_are_printed(rt: HostRuntime) {
 fn is_refused(
     rt: &(impl Abort + AllocGlobal),
     before: &MemDisk,
-    got: (Result<(), EditFault>, Vec<u8>, MemDisk),
-    fault: EditFault,
+    got: (Result<(), CommandFault>, Vec<u8>, MemDisk),
+    fault: CommandFault,
     status: u8,
 ) {
     let (ended, out, disk) = got;
@@ -132,22 +133,28 @@ fn changes_are_refused(rt: HostRuntime) {
         &rt,
         &good,
         renamed(&rt, &good, long, b"OLD"),
-        EditFault::NoFile,
+        CommandFault::NoFile,
         1,
     );
     is_refused(
         &rt,
         &good,
         renamed(&rt, &good, b"STOCK", b"REQUESTS"),
-        EditFault::FileExists,
+        CommandFault::FileExists,
         1,
     );
-    is_refused(&rt, &good, deleted(&rt, &good, long), EditFault::NoFile, 1);
+    is_refused(
+        &rt,
+        &good,
+        deleted(&rt, &good, long),
+        CommandFault::NoFile,
+        1,
+    );
     is_refused(
         &rt,
         &good,
         put(&rt, &good, b"STOCK"),
-        EditFault::FileExists,
+        CommandFault::FileExists,
         1,
     );
     let locked = with_type(&rt, 0xC4);
@@ -155,7 +162,7 @@ fn changes_are_refused(rt: HostRuntime) {
         &rt,
         &locked,
         deleted(&rt, &locked, b"STOCK"),
-        EditFault::Locked,
+        CommandFault::Locked,
         1,
     );
     let unclosed = with_type(&rt, 0x04);

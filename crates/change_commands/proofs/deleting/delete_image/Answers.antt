@@ -6,7 +6,7 @@ use Rattle.d64_image.proofs.Told.{at-ok}
 use Rattle.disk_layout.specs.Clean.{IsClean}
 use Rattle.change_commands.proofs.DeletedImages.{delete-done, delete-long, delete-refused, delete-unclean}
 use Rattle.change_commands.specs.Deletes.{IsDeleteFault}
-use Rattle.change_commands.specs.declared.faults.EditFault.TheVariants as edit
+use Rattle.command_faults.specs.declared.faults.CommandFault.TheVariants as faults
 use Rattle.change_commands.proofs.deleting.delete_image.Goals as goal
 
 pub delete-requires-clause-clean : goal.delete-requires-clause-clean
@@ -54,7 +54,7 @@ returns-clause-ok g c =
 pub returns-clause-err : goal.returns-clause-err
 returns-clause-err g c =
     let clean = c.in_ok-judge_clean.ensures.ok in
-    IfErr-weaker c.flush.result (λ fault. fault ≡ edit.File)
+    IfErr-weaker c.flush.result (λ fault. fault ≡ faults.File)
     (IsDeleteFault g.D.Sectors.history c.args.image.now c.args.name.now c.args.disk.now
     c.delete.new.disk c.args.out.now c.flush.new.out)
     (λ fault is. rw is (delete-done g.D.Sectors.history c.args.image.now c.args.name.now c.args.disk.now

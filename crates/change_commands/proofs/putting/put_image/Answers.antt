@@ -6,7 +6,7 @@ use Rattle.d64_image.proofs.Told.{at-ok}
 use Rattle.disk_layout.specs.Clean.{IsClean}
 use Rattle.change_commands.proofs.PutImages.{put-done, put-refused, put-unclean}
 use Rattle.change_commands.specs.Puts.{IsPutFault}
-use Rattle.change_commands.specs.declared.faults.EditFault.TheVariants as edit
+use Rattle.command_faults.specs.declared.faults.CommandFault.TheVariants as faults
 use Rattle.change_commands.proofs.putting.put_image.Goals as goal
 
 pub put_file-requires-clause-clean : goal.put_file-requires-clause-clean
@@ -49,7 +49,7 @@ returns-clause-ok g c =
 pub returns-clause-err : goal.returns-clause-err
 returns-clause-err g c =
     let clean = c.in_ok-judge_clean.ensures.ok in
-    IfErr-weaker c.flush.result (λ fault. fault ≡ edit.File)
+    IfErr-weaker c.flush.result (λ fault. fault ≡ faults.File)
     (IsPutFault g.D.Sectors.history c.args.image.now c.args.name.now c.args.kind c.args.data.now c.args.disk.now
     c.put_file.new.disk c.args.out.now c.flush.new.out)
     (λ fault is. rw is (put-done g.D.Sectors.history c.args.image.now c.args.name.now c.args.kind c.args.data.now

@@ -6,7 +6,7 @@ use Rattle.d64_image.proofs.Told.{at-ok}
 use Rattle.disk_layout.specs.Layout.{IsSound}
 use Rattle.change_commands.proofs.RenamedImages.{rename-done, rename-long, rename-refused, rename-unsound}
 use Rattle.change_commands.specs.Renames.{IsRenameFault}
-use Rattle.change_commands.specs.declared.faults.EditFault.TheVariants as edit
+use Rattle.command_faults.specs.declared.faults.CommandFault.TheVariants as faults
 use Rattle.change_commands.proofs.renaming.rename_image.Goals as goal
 
 pub rename-requires-clause-sound : goal.rename-requires-clause-sound
@@ -48,7 +48,7 @@ returns-clause-ok g c =
 pub returns-clause-err : goal.returns-clause-err
 returns-clause-err g c =
     let sound = c.in_ok-judge_sound.ensures.ok in
-    IfErr-weaker c.flush.result (λ fault. fault ≡ edit.File)
+    IfErr-weaker c.flush.result (λ fault. fault ≡ faults.File)
     (IsRenameFault g.D.Sectors.history c.args.image.now c.args.from.now c.args.to.now c.args.disk.now
     c.rename.new.disk c.args.out.now c.flush.new.out)
     (λ fault is. rw is (rename-done g.D.Sectors.history c.args.image.now c.args.from.now c.args.to.now c.args.disk.now

@@ -6,15 +6,16 @@ use Rattle.d64_image.specs.Images.{Image, Sector, sector}
 use Rattle.disk_layout.specs.Directory.{map_place}
 use Rattle.disk_layout.specs.declared.slot.Slot.{Slot}
 use Rattle.disk_faults.specs.Objects.{object_text}
-use Rattle.disk_faults.specs.Outcomes.{AreFound, IsDescribeFault, IsLoadFault, IsVerdict}
-use Rattle.disk_faults.specs.declared.faults.DescribeFault.{DescribeFault}
-use Rattle.disk_faults.specs.declared.faults.DescribeFault.TheVariants as describe
+use Rattle.command_faults.specs.Faults.{IsLoadFault}
+use Rattle.disk_faults.specs.Outcomes.{AreFound, IsDescribeFault, IsVerdict}
+use Rattle.command_faults.specs.declared.faults.CommandFault.{CommandFault}
+use Rattle.command_faults.specs.declared.faults.CommandFault.TheVariants as faults
 use Rattle.disk_faults.proofs.describing.describe_image.Goals as goal
 
-load-described : (image : List ℕ) (fault : DescribeFault) → IsLoadFault image fault → IsDescribeFault image fault
-load-described image describe.ImageSize h = h
-load-described image describe.NoMemory h = h
-load-described image describe.File h = absurd h
+load-described : (image : List ℕ) (fault : CommandFault) → IsLoadFault image fault → IsDescribeFault image fault
+load-described image faults.ImageSize h = h
+load-described image faults.NoMemory h = h
+load-described image faults.File h = absurd h
 
 pub returns-in_err-disk : goal.returns-in_err-disk
 returns-in_err-disk g c =

@@ -4,19 +4,20 @@ use Rattle.std.specs.Prelude.{length}
 use Rattle.std.proofs.lemmas.Result.{err_from_is_err_and}
 use Rattle.d64_image.specs.Images.{Image}
 use Rattle.disk_faults.specs.AllFaults.{IsListed}
-use Rattle.disk_faults.specs.Outcomes.{IsDescribeFault, IsLoadFault, IsVerdict}
-use Rattle.disk_faults.specs.declared.faults.DescribeFault.{DescribeFault}
-use Rattle.disk_faults.specs.declared.faults.DescribeFault.TheVariants as describe
+use Rattle.command_faults.specs.Faults.{IsLoadFault}
+use Rattle.disk_faults.specs.Outcomes.{IsDescribeFault, IsVerdict}
+use Rattle.command_faults.specs.declared.faults.CommandFault.{CommandFault}
+use Rattle.command_faults.specs.declared.faults.CommandFault.TheVariants as faults
 use Rattle.disk_faults.proofs.listing.list_faults.Goals as goal
 
-load-described : (image : List ℕ) (fault : DescribeFault) → IsLoadFault image fault → IsDescribeFault image fault
-load-described image describe.ImageSize h = h
-load-described image describe.NoMemory h = h
-load-described image describe.File h = absurd h
+load-described : (image : List ℕ) (fault : CommandFault) → IsLoadFault image fault → IsDescribeFault image fault
+load-described image faults.ImageSize h = h
+load-described image faults.NoMemory h = h
+load-described image faults.File h = absurd h
 
-put-described : {W : Type 0} (image : List ℕ) (old new : W) (fault : DescribeFault) → length image ≡ 174848
-    → (fault ≡ describe.File) ⊎ ((fault ≡ describe.NoMemory) × (new ≡ old))
-    → IsDescribeFault image fault × ((fault ≢ describe.File) → new ≡ old)
+put-described : {W : Type 0} (image : List ℕ) (old new : W) (fault : CommandFault) → length image ≡ 174848
+    → (fault ≡ faults.File) ⊎ ((fault ≡ faults.NoMemory) × (new ≡ old))
+    → IsDescribeFault image fault × ((fault ≢ faults.File) → new ≡ old)
 put-described image old new fault size (inl is) = rw is (size, λ other. absurd (other refl))
 put-described image old new fault size (inr (is, same)) = rw is (size, λ _. same)
 

@@ -13,7 +13,6 @@ use Rattle.disk_pictures.specs.Held.{drawn_in}
 use Rattle.disk_pictures.specs.Html.{html_of}
 use Rattle.disk_pictures.specs.Petscii.{petscii_of}
 use Rattle.disk_pictures.specs.Pictures.{drawing_text, end_text, legend_text, page_text, picture_page, row_text}
-use Rattle.disk_pictures.specs.Petscii.{petscii_of}
 use Rattle.disk_pictures.specs.Pictures.{title_text, told_text}
 use Rattle.disk_pictures.specs.Texts.{numbered}
 use Rattle.disk_pictures.proofs.picture_printing.put_page.Goals as goal

@@ -6,11 +6,11 @@ use Rattle.d64_image.specs.Memory.{disk_image}
 use Rattle.disk_layout.specs.Fault.{HoldsOfDirectory, nowhere}
 use Rattle.disk_layout.specs.declared.faults.Fault.{Fault}
 use Rattle.disk_pictures.specs.Faults.{IsDrawFault, IsMemoryFault, layout_fault_of}
-use Rattle.disk_pictures.specs.declared.faults.PictureFault.{PictureFault}
-use Rattle.disk_pictures.specs.declared.faults.PictureFault.TheVariants as faults
+use Rattle.command_faults.specs.declared.faults.CommandFault.{CommandFault}
+use Rattle.command_faults.specs.declared.faults.CommandFault.TheVariants as faults
 use Rattle.disk_pictures.proofs.reading.draw_or_fault.Goals as goal
 
-told : (img : Image) (why : PictureFault) → IsDrawFault img why
+told : (img : Image) (why : CommandFault) → IsDrawFault img why
     → MatchOption (layout_fault_of why) (IsMemoryFault why) (HoldsOfDirectory nowhere img)
 told img (faults.Layout fault) is = is
 told img faults.ImageSize is = is

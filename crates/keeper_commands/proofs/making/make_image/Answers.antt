@@ -6,7 +6,7 @@ use Rattle.disk_layout.specs.Clean.{IsClean}
 use Rattle.keeper_commands.proofs.Made.{make-done, make-refused, make-unclean}
 use Rattle.d64_image.proofs.Told.{at-ok}
 use Rattle.keeper_commands.specs.Makes.{IsMakeFault}
-use Rattle.keeper_commands.specs.declared.faults.KeepFault.TheVariants as keep
+use Rattle.command_faults.specs.declared.faults.CommandFault.TheVariants as faults
 use Rattle.keeper_commands.proofs.making.make_image.Goals as goal
 
 pub create-requires-clause-clean : goal.create-requires-clause-clean
@@ -49,7 +49,7 @@ returns-clause-ok g c =
 pub returns-clause-err : goal.returns-clause-err
 returns-clause-err g c =
     let clean = c.in_ok-check_image.ensures.ok in
-    IfErr-weaker c.flush.result (λ fault. fault ≡ keep.File)
+    IfErr-weaker c.flush.result (λ fault. fault ≡ faults.File)
     (IsMakeFault g.D.Sectors.history c.args.image.now c.args.name.now c.args.length c.args.disk.now c.create.new.disk
     c.args.out.now c.flush.new.out)
     (λ fault is. rw is (make-done g.D.Sectors.history c.args.image.now c.args.name.now c.args.length c.args.disk.now

@@ -8,7 +8,7 @@ use Rattle.disk_layout.specs.Clean.{IsClean}
 use Rattle.d64_image.proofs.Told.{at-ok}
 use Rattle.keeper_commands.proofs.TextStored.{store-done, store-unprinted}
 use Rattle.keeper_commands.specs.Storing.{IsStoreFault}
-use Rattle.keeper_commands.specs.declared.faults.KeepFault.TheVariants as keep
+use Rattle.command_faults.specs.declared.faults.CommandFault.TheVariants as faults
 use Rattle.rel_records.specs.Calls.{Grows}
 use Rattle.keeper_commands.proofs.record_storing.store_image.Goals as goal
 use Rattle.keeper_commands.proofs.record_storing.store_image.Answers.Asked as asked
@@ -74,7 +74,7 @@ returns-clause-err g c =
     let S = g.D.Sectors.history in
     let clean = c.in_ok-check_image.ensures.ok in
     let (xs, are, is, tells) = c.in_ok-most.ensures.ok in
-    IfErr-weaker c.flush.result (λ fault. fault ≡ keep.File)
+    IfErr-weaker c.flush.result (λ fault. fault ≡ faults.File)
     (IsStoreFault S c.args.image.now c.args.name.now c.args.text.now c.args.disk.now c.store_lines.new.disk
     c.args.out.now c.flush.new.out)
     (λ fault told. rw told

@@ -11,8 +11,8 @@ use Rattle.keeper_commands.proofs.LineStored.{line-unprinted}
 use Rattle.keeper_commands.proofs.Printing.{not-err}
 use Rattle.keeper_commands.specs.Stores.{NewRecord, new_record}
 use Rattle.keeper_commands.specs.Storing.{StoresLines, StoresOne}
-use Rattle.keeper_commands.specs.declared.faults.KeepFault.{KeepFault}
-use Rattle.keeper_commands.specs.declared.faults.KeepFault.TheVariants as keep
+use Rattle.command_faults.specs.declared.faults.CommandFault.{CommandFault}
+use Rattle.command_faults.specs.declared.faults.CommandFault.TheVariants as faults
 use Rattle.keeper_commands.proofs.storing.store_line.Goals as goal
 use Rattle.keeper_commands.proofs.storing.store_line.Answers.Refused as refused
 
@@ -57,7 +57,7 @@ returns-then-is_err g c = λ l n f of h x is can there.
     let is_last = ap (λ (m : ℕ). slice_index c.args.last.now.places.items m) (sym one) ∙ c.in-Some.ensures.found.3 in
     subst (λ (ys : List NewRecord). StoresLines S g.W.Write.contents c.args.disk.now c.store_record.new.disk
     c.args.out.now
-    c.write_line.new.out l n f c.args.file.now c.store_record.new.file ys (Err keep.File))
+    c.write_line.new.out l n f c.args.file.now c.store_record.new.file ys (Err faults.File))
     (if-last c.args.last.now.places.items c.args.place x is_last)
     (line-unprinted S g.W.Write.contents c.args.disk.now c.store_record.new.disk c.args.out.now c.write_line.new.out l n
     f c.args.file.now c.store_record.new.file x

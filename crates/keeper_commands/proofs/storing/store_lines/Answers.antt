@@ -6,7 +6,7 @@ use Rattle.keeper_commands.proofs.Composed.{none-stored}
 use Rattle.keeper_commands.proofs.LinesStored.{all-stored, next-clean, next-file, next-line, one-failed, one-more}
 use Rattle.keeper_commands.specs.Stores.{last_ones}
 use Rattle.keeper_commands.specs.Storing.{StoresLines}
-use Rattle.keeper_commands.specs.declared.faults.KeepFault.{KeepFault}
+use Rattle.command_faults.specs.declared.faults.CommandFault.{CommandFault}
 use Rattle.keeper_commands.proofs.storing.store_lines.Goals as goal
 
 pub loop-line-init : goal.loop-line-init
@@ -73,7 +73,7 @@ pub returns-in_err-store_line : goal.returns-in_err-store_line
 returns-in_err-store_line g c = λ k n f of h xs are reach tells.
     let S = g.D.Sectors.history in
     let p = err_from_is_err_and c.from_residual.result c.from_residual.ensures.1 in
-    subst (λ (r : Result (Unit {0}) KeepFault). StoresLines S g.W.Write.contents c.args.disk.now c.store_line.new.disk
+    subst (λ (r : Result (Unit {0}) CommandFault). StoresLines S g.W.Write.contents c.args.disk.now c.store_line.new.disk
     c.args.out.now c.store_line.new.out k n f c.args.file.now c.store_line.new.file (last_ones xs) r)
     (sym (p.1 ∙ ap Err p.2))
     (one-failed S g.W.Write.contents c.args.disk.now c.loop-line.disk c.args.out.now c.loop-line.out k n f

@@ -4,7 +4,7 @@ use Rattle.ledger_cli.proofs.Over.{over}
 use Rattle.ledger_cli.specs.Streams.{stream}
 use Rattle.shop_commands.specs.Plays.{IsUntouched}
 use Rattle.ledger_jobs.specs.Kept.{IsStoreOver}
-use Rattle.ledger_jobs.specs.Losses.{IsGuarded, IsKeptEndOf}
+use Rattle.ledger_jobs.specs.Losses.{IsEndOfRun, IsGuarded}
 use Rattle.ledger_jobs.specs.Names.{name_bytes}
 use Rattle.ledger_cli.proofs.changing.store.Goals as goal
 
@@ -15,10 +15,10 @@ returns-in-Ok g c =
     let end = run.result.1 in
     over c.args.image.now c.args.file c.file_of.result old run.new.out end
     (λ b a. IsGuarded c.args.image.now c.args.loss (IsUntouched b a old run.new.out)
-    (IsKeptEndOf (IsStoreOver (stream g.F.Seek.stream_position g.F.Seek.stream_bytes g.F.Write.contents)
+    (IsEndOfRun (IsStoreOver (stream g.F.Seek.stream_position g.F.Seek.stream_bytes g.F.Write.contents)
     g.W.Write.contents c.args.image.now (name_bytes c.args.name.now) c.args.records.now b a old run.new.out)) end)
     c.in-Ok.stream run.result.0 c.in-Ok.ensures.ok c.file_of.ensures
     (subst (λ n. IsGuarded c.args.image.now c.args.loss (IsUntouched c.in-Ok.stream run.result.0 old run.new.out)
-    (IsKeptEndOf (IsStoreOver (stream g.F.Seek.stream_position g.F.Seek.stream_bytes g.F.Write.contents)
+    (IsEndOfRun (IsStoreOver (stream g.F.Seek.stream_position g.F.Seek.stream_bytes g.F.Write.contents)
     g.W.Write.contents c.args.image.now n c.args.records.now c.in-Ok.stream run.result.0 old run.new.out)) end)
     c.as_bytes-name.ensures run.ensures)

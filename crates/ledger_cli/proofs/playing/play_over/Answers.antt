@@ -8,8 +8,8 @@ use Rattle.d64_image.specs.Memory.{disk_image, sectors_in}
 use Rattle.d64_image.specs.KeptMirrors.{mirror_image}
 use Rattle.host_session.specs.runs.Outputs.{written}
 use Rattle.shop_commands.specs.Plays.{IsFileFault, IsPlayedFile}
-use Rattle.shop_commands.specs.declared.faults.RunFault.{RunFault}
-use Rattle.shop_commands.specs.declared.faults.RunFault.TheVariants as run
+use Rattle.command_faults.specs.declared.faults.CommandFault.{CommandFault}
+use Rattle.command_faults.specs.declared.faults.CommandFault.TheVariants as faults
 use Rattle.shop_commands.proofs.FileEnds.{broken_at_err, broken_at_ok, unloaded, whole_at_err, whole_at_ok}
 use Rattle.ledger_cli.proofs.playing.play_over.Goals as goal
 
@@ -53,9 +53,9 @@ returns-in-Ok-play_lines-clause-err g c =
     ∙ loaded.1) ∙ c.requires.agrees in
     let mirror = c.in-Ok-play_lines.mirror in
     IfErr-weaker c.file_of.result _ _ (λ e x. ⊎_elim
-    (λ broken. subst (λ (f : RunFault). IsFileFault g.F.SectorFile.keeps o image script c.args.file e.1 old new f)
+    (λ broken. subst (λ (f : CommandFault). IsFileFault g.F.SectorFile.keeps o image script c.args.file e.1 old new f)
     (sym broken.1)
-    (subst₂ (λ f d. IsFileFault g.F.SectorFile.keeps o image script f d old new run.Device) c.new.ensures.file (sym x.0)
+    (subst₂ (λ f d. IsFileFault g.F.SectorFile.keeps o image script f d old new faults.Device) c.new.ensures.file (sym x.0)
     (broken_at_ok o image script start c.new.ensures.whole c.new.ensures.untaken loaded.0 holds old new mirror broken.0
     c.in-Ok-play_lines.ensures)))
     (λ whole. let never = whole.1 in cc)
@@ -82,13 +82,13 @@ returns-in-Err-play_lines-clause-err g c =
     let mirror = c.in-Err-play_lines.mirror in
     let fault = c.in-Err-play_lines.fault in
     IfErr-weaker c.file_of-in-Err-play_lines.result _ _ (λ e x. ⊎_elim
-    (λ broken. subst (λ (f : RunFault). IsFileFault g.F.SectorFile.keeps o image script c.args.file e.1 old new f)
+    (λ broken. subst (λ (f : CommandFault). IsFileFault g.F.SectorFile.keeps o image script c.args.file e.1 old new f)
     (sym broken.1)
-    (subst₂ (λ f d. IsFileFault g.F.SectorFile.keeps o image script f d old new run.Device) c.new.ensures.file (sym x.0)
+    (subst₂ (λ f d. IsFileFault g.F.SectorFile.keeps o image script f d old new faults.Device) c.new.ensures.file (sym x.0)
     (broken_at_err o image script start c.new.ensures.whole c.new.ensures.untaken loaded.0 holds old new mirror broken.0
     fault c.in-Err-play_lines.ensures)))
     (λ whole. let same : fault ≡ e.0 = cc (whole.1) in
-    subst (λ (f : RunFault). IsFileFault g.F.SectorFile.keeps o image script c.args.file e.1 old new f) same
+    subst (λ (f : CommandFault). IsFileFault g.F.SectorFile.keeps o image script c.args.file e.1 old new f) same
     (subst₂ (λ f d. IsFileFault g.F.SectorFile.keeps o image script f d old new fault) c.new.ensures.file (sym x.0)
     (whole_at_err o image script start c.new.ensures.whole c.new.ensures.untaken loaded.0 holds old new mirror whole.0
     fault c.in-Err-play_lines.ensures)))

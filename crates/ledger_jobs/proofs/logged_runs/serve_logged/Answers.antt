@@ -1,6 +1,6 @@
 -- How the run ended is how the service did.
 use Rattle.std.proofs.Common.{Err, Ok, refl, subst, sym}
-use Rattle.shop_commands.specs.declared.faults.RunFault.{RunFault}
+use Rattle.command_faults.specs.declared.faults.CommandFault.{CommandFault}
 use Rattle.ledger_jobs.specs.LoggedRuns.{IsLoggedFault}
 use Rattle.ledger_jobs.proofs.Logged.{logged_fault, logged_to, unloaded}
 use Rattle.ledger_jobs.proofs.logged_runs.serve_logged.Goals as goal
@@ -27,7 +27,7 @@ pub returns : goal.returns
 returns g c =
     let loaded = c.in-Ok.ensures.ok in
     record {
-      run = subst (λ (f : RunFault). IsLoggedFault g.L.ImageLog.history g.R.BatchSource.input g.T.Reports.output
+      run = subst (λ (f : CommandFault). IsLoggedFault g.L.ImageLog.history g.R.BatchSource.input g.T.Reports.output
           c.args.image.now c.args.log.now c.serve_batches.new.log c.args.input.now c.serve_batches.new.input c.args.out.now
           c.serve_batches.new.out f) (sym c.told.ensures)
           (logged_fault g.L.ImageLog.history g.R.BatchSource.input g.T.Reports.output c.args.image.now c.args.log.now

@@ -6,4 +6,4 @@ pub returns-in-Some : goal.returns-in-Some
 returns-in-Some g c = inl (c.in-Some.refusal, refl, c.in-Some.ensures.0, c.in-Some.ensures.1, (refl, refl))
 
 pub returns : goal.returns
-returns g c = inr (c.in_default.ensures, (c.store_run-left.result.1, c.kept_end.ensures, c.store_run-left.ensures.run))
+returns g c = inr (c.in_default.ensures, (c.store_run-left.result.1, c.run_end.ensures, c.store_run-left.ensures.run))

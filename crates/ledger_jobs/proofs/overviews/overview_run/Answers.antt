@@ -4,11 +4,11 @@ use Rattle.std.specs.Prelude.{Err, IfOk, Ok, Result, vec_items}
 use Rattle.ledger_jobs.specs.Ends.{JobEnd}
 use Rattle.ledger_jobs.specs.Overviews.{IsOneOfSeveral, IsOverview, IsToldAs}
 use Rattle.ledger_jobs.specs.declared.jobs.Overview.{Overview}
-use Rattle.shop_commands.specs.declared.faults.RunFault.{RunFault}
+use Rattle.command_faults.specs.declared.faults.CommandFault.{CommandFault}
 use Rattle.ledger_jobs.proofs.overviews.overview_run.Goals as goal
 
 one-of : {W : Type 0} (contents : W → Option (List ℕ)) (what : Overview) (name image : List ℕ) (old new : W)
-    (before after : Vec ℕ Global) (end : JobEnd) (r : Result ℕ RunFault) → vec_items before ≡ []
+    (before after : Vec ℕ Global) (end : JobEnd) (r : Result ℕ CommandFault) → vec_items before ≡ []
     → IsOverview (λ (text : Vec ℕ Global). Some (vec_items text)) what image before after end
     → IfOk r (IsToldAs contents name (vec_items after) end old new)
     → IfOk r (IsOneOfSeveral contents what name image old new)

@@ -7,8 +7,8 @@ use Rattle.d64_image.specs.Keeps.{kept_or}
 use Rattle.d64_image.specs.Memory.{disk_image, sectors_in}
 use Rattle.d64_image.specs.KeptMirrors.{mirror_image}
 use Rattle.ledger_jobs.specs.FileServes.{IsServeFault, IsServedFile, loop_fault}
-use Rattle.shop_commands.specs.declared.faults.RunFault.{RunFault}
-use Rattle.shop_commands.specs.declared.faults.RunFault.TheVariants as run
+use Rattle.command_faults.specs.declared.faults.CommandFault.{CommandFault}
+use Rattle.command_faults.specs.declared.faults.CommandFault.TheVariants as faults
 use Rattle.ledger_jobs.proofs.ServeEnds.{served_at_err, served_at_ok, stopped_at_err, stopped_at_ok}
 use Rattle.ledger_jobs.proofs.serving_files.serve_file.Goals as goal
 
@@ -51,9 +51,9 @@ returns-in-Ok-serve-clause-err g c =
     ∙ c.requires.agrees in
     let mirror = c.in-Ok-serve.mirror in
     IfErr-weaker c.file_of.result _ _ (λ e x. ⊎_elim
-    (λ broken. subst (λ (f : RunFault). IsServeFault K left o image c.args.file e.1 old_in new_in old new f)
+    (λ broken. subst (λ (f : CommandFault). IsServeFault K left o image c.args.file e.1 old_in new_in old new f)
     (sym broken.1)
-    (subst₂ (λ f d. IsServeFault K left o image f d old_in new_in old new run.Device) c.new.ensures.file (sym x.0)
+    (subst₂ (λ f d. IsServeFault K left o image f d old_in new_in old new faults.Device) c.new.ensures.file (sym x.0)
     (stopped_at_ok left o image start c.new.ensures.whole c.new.ensures.untaken loaded.0 holds old_in new_in old new
     mirror broken.0 c.in-Ok-serve.ensures)))
     (λ whole. let never = whole.1 in cc)
@@ -83,13 +83,13 @@ returns-in-Err-serve-clause-err g c =
     let mirror = c.in-Err-serve.mirror in
     let fault = c.in-Err-serve.fault in
     IfErr-weaker c.file_of-in-Err-serve.result _ _ (λ e x. ⊎_elim
-    (λ broken. subst (λ (f : RunFault). IsServeFault K left o image c.args.file e.1 old_in new_in old new f)
+    (λ broken. subst (λ (f : CommandFault). IsServeFault K left o image c.args.file e.1 old_in new_in old new f)
     (sym broken.1)
-    (subst₂ (λ f d. IsServeFault K left o image f d old_in new_in old new run.Device) c.new.ensures.file (sym x.0)
+    (subst₂ (λ f d. IsServeFault K left o image f d old_in new_in old new faults.Device) c.new.ensures.file (sym x.0)
     (stopped_at_err left o image start c.new.ensures.whole c.new.ensures.untaken loaded.0 holds old_in new_in old new
     mirror broken.0 fault c.in-Err-serve.ensures)))
     (λ whole. let same : loop_fault fault ≡ e.0 = cc (c.told.ensures, whole.1) in
-    subst (λ (f : RunFault). IsServeFault K left o image c.args.file e.1 old_in new_in old new f) same
+    subst (λ (f : CommandFault). IsServeFault K left o image c.args.file e.1 old_in new_in old new f) same
     (subst₂ (λ f d. IsServeFault K left o image f d old_in new_in old new (loop_fault fault)) c.new.ensures.file
     (sym x.0)
     (served_at_err left o image start c.new.ensures.whole c.new.ensures.untaken loaded.0 holds old_in new_in old new

@@ -6,7 +6,7 @@ use Rattle.rel_records.specs.File.{length_of}
 use Rattle.keeper_commands.proofs.LineStored.{if-last, line-failed, line-record, line-same}
 use Rattle.keeper_commands.specs.Stores.{NewRecord, new_record}
 use Rattle.keeper_commands.specs.Storing.{StoresLines, StoresOne}
-use Rattle.keeper_commands.specs.declared.faults.KeepFault.{KeepFault}
+use Rattle.command_faults.specs.declared.faults.CommandFault.{CommandFault}
 use Rattle.keeper_commands.proofs.storing.store_line.Goals as goal
 
 pub returns-in_err-store_record : goal.returns-in_err-store_record
@@ -22,7 +22,7 @@ returns-in_err-store_record g c = λ l n f of h x is can there.
     c.args.out.now
     c.args.out.now l n f c.args.file.now c.store_record.new.file ys c.from_residual.result)
     (if-last c.args.last.now.places.items c.args.place x is_last)
-    (subst (λ (r : Result (Unit {0}) KeepFault). StoresLines S g.W.Write.contents c.args.disk.now
+    (subst (λ (r : Result (Unit {0}) CommandFault). StoresLines S g.W.Write.contents c.args.disk.now
     c.store_record.new.disk c.args.out.now c.args.out.now l n f c.args.file.now c.store_record.new.file (x ∷ []) r)
     (sym (p.1 ∙ ap Err p.2))
     (line-failed S g.W.Write.contents c.args.disk.now c.store_record.new.disk c.args.out.now c.args.out.now l n f

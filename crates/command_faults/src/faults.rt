@@ -1,0 +1,103 @@
+//! Why a command over an image isn't done.
+ghost use Rattle.std.specs.Prelude.{◌≡◌, Some};
+ghost use Rattle.std.specs.IoError.{error_kind};
+ghost use Rattle.command_faults.specs.Faults.{command_status, command_text, io_fault};
+
+use disk_layout::Fault;
+use std::error::Error;
+use std::fmt::{self, Display, Formatter};
+use std::io;
+
+/// Why a command over an image isn't done, as it is reported on standard error.
+#[derive(Clone, Copy, Debug, PartialEq, Eq)]
+pub enum CommandFault {
+    /// The image hasn't the 174,848 bytes of a disk of 35 tracks.
+    ImageSize,
+    /// What the layout of the image has wrong, and where.
+    Layout(Fault),
+    /// The image has no closed file of this name, or none of the kind that is asked for.
+    NoFile,
+    /// An entry of the directory has the new name already.
+    FileExists,
+    /// The disk has too few free sectors, or no room in its directory.
+    DiskFull,
+    /// The file is locked.
+    Locked,
+    /// The image has no closed relative file STOCK, or the first one has records of another length than 18.
+    NoStock,
+    /// The image has no closed relative file REQUESTS, or the first one has records of another length than 127.
+    NoRequests,
+    /// This record of STOCK is neither empty nor the card of its item; it is the first such one.
+    BadCard(u16),
+    /// This till's record of REQUESTS is neither empty nor a card, or is an open intent for an item whose record STOCK
+    /// hasn't; it is the first such one.
+    BadRequestCard(u8),
+    /// More than one intent is open.
+    TwoIntents,
+    /// A line of the script can't be played: the first such line, counted from 1.
+    ScriptLine(usize),
+    /// This line of records, counted from 1, is the first that is of no record that the file has or can have.
+    RecordsLine(usize),
+    /// The disk is one of GEOS, which keeps sectors that no file owns.
+    Geos,
+    /// The disk's format byte isn't $41, that of the 1541.
+    Format,
+    /// A file couldn't be opened or read, or a file or the output not written.
+    File,
+    /// There was no memory for the words, a file's bytes, the disk or the output.
+    NoMemory,
+    /// A sector couldn't be read or written. A disk in memory has no such fault; of a disk whose sectors go on to a
+    /// file the file failed.
+    Device,
+}
+
+impl CommandFault {
+    /// The exit status: 1 for what the image or the script holds, 3 for a file, the output, memory or the device.
+    pub fn status(&self) -> u8
+        ensures { result ≡ command_status self.now }
+    {
+        match self {
+            CommandFault::File | CommandFault::NoMemory | CommandFault::Device => 3,
+            _ => 1,
+        }
+    }
+
+    /// What is reported if a file or the output failed so: `NoMemory` for lack of memory, otherwise `File`.
+    pub fn of_io(error: &io::Error) -> CommandFault
+        ensures { result ≡ io_fault (error_kind error.now) }
+    {
+        match error.kind() {
+            io::ErrorKind::OutOfMemory => CommandFault::NoMemory,
+            _ => CommandFault::File,
+        }
+    }
+}
+
+impl Display for CommandFault {
+    ghost output = { λ fault. Some (command_text fault) };
+
+    fn fmt<W: fmt::Write>(&self, f: &mut Formatter<W>) -> fmt::Result {
+        match self {
+            CommandFault::ImageSize => f.write_str("IMAGE SIZE"),
+            CommandFault::Layout(fault) => write!(f, "LAYOUT {fault}"),
+            CommandFault::NoFile => f.write_str("NO FILE"),
+            CommandFault::FileExists => f.write_str("FILE EXISTS"),
+            CommandFault::DiskFull => f.write_str("DISK FULL"),
+            CommandFault::Locked => f.write_str("LOCKED"),
+            CommandFault::NoStock => f.write_str("NO STOCK"),
+            CommandFault::NoRequests => f.write_str("NO REQUESTS"),
+            CommandFault::BadCard(record) => write!(f, "BAD CARD {record}"),
+            CommandFault::BadRequestCard(till) => write!(f, "BAD REQUEST CARD {till}"),
+            CommandFault::TwoIntents => f.write_str("TWO INTENTS"),
+            CommandFault::ScriptLine(line) => write!(f, "SCRIPT LINE {line}"),
+            CommandFault::RecordsLine(line) => write!(f, "RECORDS LINE {line}"),
+            CommandFault::Geos => f.write_str("GEOS"),
+            CommandFault::Format => f.write_str("FORMAT"),
+            CommandFault::File => f.write_str("FILE"),
+            CommandFault::NoMemory => f.write_str("NO MEMORY"),
+            CommandFault::Device => f.write_str("DEVICE"),
+        }
+    }
+}
+
+impl Error for CommandFault {}

@@ -1,0 +1,11 @@
+//! Why a command over an image isn't done; and what every command does alike: an image taken into memory, and bytes
+//! handed to a writer.
+#![tactic(auto)]
+
+mod faults;
+mod loading;
+mod output;
+
+pub use faults::CommandFault;
+pub use loading::load;
+pub use output::{flush, put, put_text};
