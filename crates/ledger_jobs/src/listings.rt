@@ -1,7 +1,5 @@
 //! All faults of an image.
-ghost use Rattle.std.specs.Prelude.{take};
-ghost use Rattle.ledger_jobs.specs.Ends.{EndsAs, as_job};
-ghost use Rattle.ledger_jobs.specs.HostFiles.{OfImage, RunEnds};
+ghost use Rattle.ledger_jobs.specs.JobRuns.{IsListedOver};
 ghost use Rattle.ledger_jobs.specs.Listings.{IsListingRun};
 ghost use Rattle.ledger_jobs.specs.Rights.{MayReadImage};
 
@@ -37,8 +35,7 @@ where
     R: HostFiles<File = F> + Input + AllocGlobal,
     W: Write,
     requires { MayReadImage R.rights rt.now path.now }
-    ensures { OfImage R.rights R.stands rt.now path.now (λ all. RunEnds out.old out.new result
-        (EndsAs as_job result (IsListingRun W.contents (take 174849 all) out.old out.new))) }
+    ensures { IsListedOver R.rights R.stands W.contents rt.now path.now out.old out.new result }
 {
     let image = image_at(rt, path)?;
     job_end(listing_run(rt.alloc(), image.as_slice(), out))

@@ -1,7 +1,5 @@
 //! What is printed of an image that isn't checked, done over its bytes and its file.
-ghost use Rattle.std.specs.Prelude.{take};
-ghost use Rattle.ledger_jobs.specs.Ends.{EndsAs, as_run};
-ghost use Rattle.ledger_jobs.specs.HostFiles.{OfImage, RunEnds};
+ghost use Rattle.ledger_jobs.specs.JobRuns.{IsViewedOver};
 ghost use Rattle.ledger_jobs.specs.Views.{IsViewRun};
 ghost use Rattle.ledger_jobs.specs.Rights.{MayReadImage};
 
@@ -45,8 +43,7 @@ where
     R: HostFiles<File = F> + Input + AllocGlobal,
     W: Write,
     requires { MayReadImage R.rights rt.now path.now }
-    ensures { OfImage R.rights R.stands rt.now path.now (λ all. RunEnds out.old out.new result
-        (EndsAs as_run result (IsViewRun W.contents what (take 174849 all) out.old out.new))) }
+    ensures { IsViewedOver R.rights R.stands W.contents rt.now what path.now out.old out.new result }
 {
     let image = image_at(rt, path)?;
     run_end(view_run(rt.alloc(), what, image.as_slice(), out))
