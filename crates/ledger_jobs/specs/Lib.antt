@@ -9,6 +9,7 @@ pub mod Ends
 pub mod Extracts
 pub mod FileServes
 pub mod HostFiles
+pub mod JobRuns
 pub mod Jobs
 pub mod Keeping
 pub mod Kept

@@ -1,8 +1,6 @@
 //! Two images compared, each read as if it were alone.
-ghost use Rattle.std.specs.Prelude.{take};
 ghost use Rattle.ledger_jobs.specs.Comparisons.{IsComparingRun};
-ghost use Rattle.ledger_jobs.specs.Ends.{EndsAs, as_drawn};
-ghost use Rattle.ledger_jobs.specs.HostFiles.{OfImage, RunEnds};
+ghost use Rattle.ledger_jobs.specs.JobRuns.{IsComparedOver};
 ghost use Rattle.ledger_jobs.specs.Rights.{MayReadImage};
 
 use crate::outcomes::drawn_end;
@@ -43,9 +41,7 @@ where
     W: Write,
     requires before { MayReadImage R.rights rt.now before.now }
     requires after { MayReadImage R.rights rt.now after.now }
-    ensures { OfImage R.rights R.stands rt.now before.now (λ first. OfImage R.rights R.stands rt.now after.now
-        (λ second. RunEnds out.old out.new result (EndsAs as_drawn result
-            (IsComparingRun W.contents (take 174849 first) (take 174849 second) out.old out.new)))) }
+    ensures { IsComparedOver R.rights R.stands W.contents rt.now before.now after.now out.old out.new result }
 {
     let first = image_at(rt, before)?;
     let second = image_at(rt, after)?;

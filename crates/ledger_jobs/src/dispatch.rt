@@ -1,9 +1,6 @@
 //! Doing a job: its files are opened and read, and what is printed goes to an output.
-ghost use Rattle.std.specs.Prelude.{◌≡◌, ◌≤◌, take};
-ghost use Rattle.ledger_jobs.specs.Drawings.{IsDrawingRun};
-ghost use Rattle.ledger_jobs.specs.Ends.{EndsAs, as_drawn};
-ghost use Rattle.ledger_jobs.specs.HostFiles.{OfImage, RunEnds};
-ghost use Rattle.ledger_jobs.specs.Losses.{IsTakingEnd};
+ghost use Rattle.std.specs.Prelude.{◌≡◌, ◌≤◌};
+ghost use Rattle.ledger_jobs.specs.JobRuns.{IsDrawnOver, IsJobOver, IsTakenOver};
 ghost use Rattle.ledger_jobs.specs.Names.{name_bytes};
 ghost use Rattle.ledger_jobs.specs.Jobs.{IsFit};
 ghost use Rattle.ledger_jobs.specs.declared.files.Older.TheVariants.{Replaced};
@@ -112,8 +109,7 @@ where
     R: HostFiles<File = F> + Input + AllocGlobal,
     W: Write,
     requires { MayReadImage R.rights rt.now path.now }
-    ensures { OfImage R.rights R.stands rt.now path.now (λ all. RunEnds out.old out.new result
-        (IsTakingEnd W.contents what (take 174849 all) (name_bytes name.now) out.old out.new result)) }
+    ensures { IsTakenOver R.rights R.stands W.contents rt.now what path.now (name_bytes name.now) out.old out.new result }
 {
     let image = image_at(rt, path)?;
     take_told(rt.alloc(), what, image.as_slice(), name.as_bytes(), out)
@@ -131,8 +127,7 @@ where
     R: HostFiles<File = F> + Input + AllocGlobal,
     W: Write,
     requires { MayReadImage R.rights rt.now path.now }
-    ensures { OfImage R.rights R.stands rt.now path.now (λ all. RunEnds out.old out.new result
-        (EndsAs as_drawn result (IsDrawingRun W.contents what (take 174849 all) out.old out.new))) }
+    ensures { IsDrawnOver R.rights R.stands W.contents rt.now what path.now out.old out.new result }
 {
     let image = image_at(rt, path)?;
     drawn_end(drawing_run(rt.alloc(), what, image.as_slice(), out))
@@ -157,6 +152,7 @@ where
     W: Write,
     requires rights { MayDo R.rights rt.now job.now }
     requires fit { IsFit job.now }
+    ensures { IsJobOver R.rights R.stands W.contents rt.now job.now out.old out.new result }
 {
     match *job {
         Job::Format { image, tills } => do_format(rt, image, tills, Older::Replaced, out),

@@ -1,7 +1,6 @@
 //! All faults of an image.
-ghost use Rattle.std.specs.Prelude.{◌≡◌, IfErr, take};
-ghost use Rattle.ledger_jobs.specs.Ends.{EndsAs};
-ghost use Rattle.ledger_jobs.specs.HostFiles.{OfImage, RunEnds};
+ghost use Rattle.std.specs.Prelude.{◌≡◌, IfErr};
+ghost use Rattle.ledger_jobs.specs.JobRuns.{IsListedOver};
 ghost use Rattle.std.specs.Io.KnownBytes.{Keeps};
 ghost use Rattle.disk_faults.specs.declared.faults.DescribeFault.TheVariants as faults;
 ghost use Rattle.ledger_jobs.specs.Listings.{IsListingRun, as_listed};
@@ -60,8 +59,7 @@ where
     R: HostFiles<File = F> + Input + AllocGlobal,
     W: Write,
     requires { MayReadImage R.rights rt.now path.now }
-    ensures { OfImage R.rights R.stands rt.now path.now (λ all. RunEnds out.old out.new result
-        (EndsAs as_listed result (IsListingRun W.contents (take 174849 all) out.old out.new))) }
+    ensures { IsListedOver R.rights R.stands W.contents rt.now path.now out.old out.new result }
 {
     let image = image_at(rt, path)?;
     listed_end(listing_run(rt.alloc(), image.as_slice(), out))

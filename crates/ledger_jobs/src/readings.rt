@@ -3,8 +3,8 @@ ghost use Rattle.std.specs.Prelude.{◌≡◌, IfErr, IfOk, IfSome, IsNone, Err,
 ghost use Rattle.std.specs.IoError.{error_kind};
 ghost use Rattle.shop_commands.specs.Faults.{io_fault};
 ghost use Rattle.host_files.specs.Standing.{AreOf};
-ghost use Rattle.ledger_jobs.specs.Ends.{EndsAs, as_job};
-ghost use Rattle.ledger_jobs.specs.HostFiles.{HasNoLogFor, OfFile, OfImage, OfImageFile, OfRead, RunEnds};
+ghost use Rattle.ledger_jobs.specs.HostFiles.{HasNoLogFor, OfFile, OfImage, OfImageFile, OfRead};
+ghost use Rattle.ledger_jobs.specs.JobRuns.{IsReadOver};
 ghost use Rattle.ledger_jobs.specs.Jobs.{needed};
 ghost use Rattle.ledger_jobs.specs.Runs.{IsReadingEnd, IsReadingOf};
 ghost use Rattle.ledger_jobs.specs.Rights.{MayReadFile, MayReadFileFor, MayReadFor, MayReadImage};
@@ -117,8 +117,7 @@ fn over_reader<R: Read + Drop, W: Write>(
     room: usize,
     out: &mut W,
 ) -> Result<Option<Fault>, Refusal>
-    ensures { IfSome (R.remaining reader) (λ all. RunEnds out.old out.new result
-        (EndsAs as_job result (IsReadingEnd W.contents what (needed what all) out.old out.new))) }
+    ensures { IfSome (R.remaining reader) (IsReadOver W.contents what out.old out.new result) }
 {
     job_end(do_over(alloc, what, Ok(reader), room, out))
 }
@@ -135,8 +134,7 @@ where
     R: HostFiles<File = F> + AllocGlobal,
     W: Write,
     requires { MayReadFileFor R.rights rt.now what path.now }
-    ensures { OfFile R.rights R.stands rt.now what path.now (λ all. RunEnds out.old out.new result
-        (EndsAs as_job result (IsReadingEnd W.contents what (needed what all) out.old out.new))) }
+    ensures { OfFile R.rights R.stands rt.now what path.now (IsReadOver W.contents what out.old out.new result) }
 {
     let file = opened_for(rt, what, path)?;
     if let Some(image) = opened_log(rt, what, path, &file)? {
@@ -159,8 +157,7 @@ where
     R: HostFiles<File = F> + Input + AllocGlobal,
     W: Write,
     requires { MayReadFor R.rights rt.now what path.now }
-    ensures { OfRead R.rights R.stands rt.now what path.now (λ all. RunEnds out.old out.new result
-        (EndsAs as_job result (IsReadingEnd W.contents what (needed what all) out.old out.new))) }
+    ensures { OfRead R.rights R.stands rt.now what path.now (IsReadOver W.contents what out.old out.new result) }
 {
     if path == STANDARD_INPUT {
         return over_reader(rt.alloc(), what, rt.reader(), 0, out);

@@ -1,7 +1,6 @@
 //! What is printed of an image that isn't checked, done over its bytes and its file.
-ghost use Rattle.std.specs.Prelude.{◌≡◌, take};
-ghost use Rattle.ledger_jobs.specs.Ends.{EndsAs};
-ghost use Rattle.ledger_jobs.specs.HostFiles.{OfImage, RunEnds};
+ghost use Rattle.std.specs.Prelude.{◌≡◌};
+ghost use Rattle.ledger_jobs.specs.JobRuns.{IsViewedOver};
 ghost use Rattle.ledger_jobs.specs.Views.{IsViewRun, as_viewed};
 ghost use Rattle.ledger_jobs.specs.Rights.{MayReadImage};
 
@@ -53,8 +52,7 @@ where
     R: HostFiles<File = F> + Input + AllocGlobal,
     W: Write,
     requires { MayReadImage R.rights rt.now path.now }
-    ensures { OfImage R.rights R.stands rt.now path.now (λ all. RunEnds out.old out.new result
-        (EndsAs as_viewed result (IsViewRun W.contents what (take 174849 all) out.old out.new))) }
+    ensures { IsViewedOver R.rights R.stands W.contents rt.now what path.now out.old out.new result }
 {
     let image = image_at(rt, path)?;
     viewed_end(view_run(rt.alloc(), what, image.as_slice(), out))
