@@ -53,6 +53,13 @@ fn read_long<R: Read + Drop>(alloc: Global, reader: R) -> io::Result<Vec<u8>>
     read_script(alloc, reader.take(IMAGE_BYTES), IMAGE_BYTES as usize)
 }
 
+/// The bytes of an image's file, up to one more than the largest image has.
+fn read_long_file<F: Locks + Drop>(alloc: Global, file: F) -> io::Result<Vec<u8>>
+    ensures { IfOk result (λ bytes. IfSome (F.unread file) (λ all. vec_items bytes ≡ take 197377 all)) }
+{
+    read_long(alloc, file)
+}
+
 /// The bytes of the image at a path, as its shop is now, or of standard input.
 fn long_image_at<F, R>(rt: &R, path: &str) -> Result<Vec<u8>, Refusal>
 where
@@ -68,7 +75,7 @@ where
     let file = opened_shared(rt, path)?;
     match logged_image(rt, path, &file)? {
         Some(image) => told(read_long(rt.alloc(), image.as_slice().as_flattened())),
-        None => told(read_long(rt.alloc(), file)),
+        None => told(read_long_file(rt.alloc(), file)),
     }
 }
 

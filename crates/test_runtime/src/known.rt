@@ -1,6 +1,6 @@
 //! A runtime of one file, which says what that file holds.
 ghost use Rattle.std.specs.Prelude.{◌≡◌, Some, refl};
-ghost use Rattle.test_runtime.specs.Known.{is_known, known_rights, known_stands};
+ghost use Rattle.test_runtime.specs.Known.{known_rights, known_stands, standing};
 
 use crate::given::Given;
 use crate::stored::failed;
@@ -10,8 +10,7 @@ use std::alloc::{Allocator, Global};
 use std::fs::{Metadata, OpenFile, TryLockError};
 use std::io::{self, BufRead, ErrorKind, Lines, Read, Seek, SeekFrom};
 
-/// A runtime that has one file, `a.d64`, with these bytes. It says so: over it the contract of a job tells what the job
-/// prints. The file can't be written, and no file can be made.
+/// A runtime that has one file, `a.d64`, with these bytes, and says so. The file can't be written, and no file can be made.
 #[derive(Clone, Copy)]
 pub struct Known<'a> {
     pub alloc: Global,
@@ -26,11 +25,17 @@ pub struct KnownFile<'a> {
 }
 
 impl<'a> Known<'a> {
-    /// Whether a path is that of the file.
-    fn has(&self, path: &str) -> bool
-        ensures { result ≡ is_known path.now }
+    /// The file at a path, if it is there.
+    fn found(&self, path: &str) -> Option<KnownFile<'a>>
+        ensures { known_stands self.now.bytes.now path.now ≡ standing result }
     {
-        path == "a.d64"
+        if path == "a.d64" {
+            return Some(KnownFile {
+                left: self.bytes,
+                size: self.bytes.len(),
+            });
+        }
+        None
     }
 }
 
@@ -144,10 +149,10 @@ impl<'a> HostFiles for Known<'a> {
     ghost stands = { λ host path. known_stands host.bytes.now path };
 
     fn look_at(&self, path: &str) -> io::Result<Metadata> {
-        if self.has(path) {
-            return Ok(Metadata::of_file(self.bytes.len() as u64));
+        match self.found(path) {
+            Some(file) => file.metadata(),
+            None => failed(ErrorKind::NotFound),
         }
-        failed(ErrorKind::NotFound)
     }
 
     fn resolve(&self, alloc: Global, path: &str) -> io::Result<String> {
@@ -161,13 +166,10 @@ impl<'a> HostFiles for Known<'a> {
     }
 
     fn open_to_read(&self, path: &str) -> io::Result<KnownFile<'a>> {
-        if self.has(path) {
-            return Ok(KnownFile {
-                left: self.bytes,
-                size: self.bytes.len(),
-            });
+        match self.found(path) {
+            Some(file) => Ok(file),
+            None => failed(ErrorKind::NotFound),
         }
-        failed(ErrorKind::NotFound)
     }
 
     fn open_to_change(&self, _path: &str) -> io::Result<KnownFile<'a>> {
