@@ -12,6 +12,8 @@ use Rattle.change_commands.specs.Faults.{edit_fault}
 use Rattle.change_commands.specs.Deletes.{IsLeftClean, IsDeleteFault, IsDeleteRun, IsDeletedDisk}
 use Rattle.command_faults.specs.declared.faults.CommandFault.{CommandFault}
 use Rattle.command_faults.specs.declared.faults.CommandFault.TheVariants as faults
+use Rattle.command_faults.proofs.Loads.{by-fault}
+use Rattle.disk_layout.specs.Fault.{HoldsOfClean, nowhere}
 
 module _ {D : Type 0} (S : History D) (image name : List ℕ) (a b : D) (size : length image ≡ 174848)
     (clean : IsClean (S.image a)) where
@@ -74,12 +76,5 @@ delete-long S image name a w size clean long = record {
 -- the image isn't that of a clean disk
 pub delete-unclean : {D W : Type 0} (S : History D) (image name : List ℕ) (a : D) (w : W) (fault : CommandFault)
     → IsCleanFault image fault → IsDeleteFault S image name a a w w fault
-delete-unclean S image name a w faults.ImageSize told = (told, refl, refl)
-delete-unclean S image name a w faults.NoMemory told = (told, refl, refl)
-delete-unclean S image name a w (faults.Layout fault) told = (told, refl, refl)
-delete-unclean S image name a w faults.NoFile told = absurd told
-delete-unclean S image name a w faults.FileExists told = absurd told
-delete-unclean S image name a w faults.DiskFull told = absurd told
-delete-unclean S image name a w faults.Locked told = absurd told
-delete-unclean S image name a w faults.File told = absurd told
-delete-unclean S image name a w faults.Device told = absurd told
+delete-unclean S image name a w = by-fault (HoldsOfClean nowhere) image (IsDeleteFault S image name a a w w)
+    (λ told. (told, refl, refl)) (λ told. (told, refl, refl)) (λ fault size has. ((size, has), refl, refl))

@@ -13,7 +13,8 @@ use Rattle.command_faults.specs.Faults.{IsCleanFault}
 use Rattle.change_commands.specs.Faults.{edit_fault}
 use Rattle.change_commands.specs.Puts.{IsPutDisk, IsPutFault, IsPutRun}
 use Rattle.command_faults.specs.declared.faults.CommandFault.{CommandFault}
-use Rattle.command_faults.specs.declared.faults.CommandFault.TheVariants as faults
+use Rattle.command_faults.proofs.Loads.{by-fault}
+use Rattle.disk_layout.specs.Fault.{HoldsOfClean, nowhere}
 
 no-missing : (change.NotFound ≡ change.Exists) ⊎ ((change.NotFound ≡ change.Full) ⊎ (change.NotFound ≡ change.Device)) → ⊥
 no-missing told = ⊎_elim (λ e. cc) (⊎_elim (λ e. cc) (λ e. cc)) told
@@ -63,12 +64,5 @@ module _ {D : Type 0} (S : History D) (image name : List ℕ) (kind : FileType) 
 -- the image isn't that of a clean disk
 pub put-unclean : {D W : Type 0} (S : History D) (image name : List ℕ) (kind : FileType) (bytes : List ℕ) (a : D) (w : W)
     (fault : CommandFault) → IsCleanFault image fault → IsPutFault S image name kind bytes a a w w fault
-put-unclean S image name kind bytes a w faults.ImageSize told = (told, refl, refl)
-put-unclean S image name kind bytes a w faults.NoMemory told = (told, refl, refl)
-put-unclean S image name kind bytes a w (faults.Layout fault) told = (told, refl, refl)
-put-unclean S image name kind bytes a w faults.NoFile told = absurd told
-put-unclean S image name kind bytes a w faults.FileExists told = absurd told
-put-unclean S image name kind bytes a w faults.DiskFull told = absurd told
-put-unclean S image name kind bytes a w faults.Locked told = absurd told
-put-unclean S image name kind bytes a w faults.File told = absurd told
-put-unclean S image name kind bytes a w faults.Device told = absurd told
+put-unclean S image name kind bytes a w = by-fault (HoldsOfClean nowhere) image (IsPutFault S image name kind bytes a a w w)
+    (λ told. (told, refl, refl)) (λ told. (told, refl, refl)) (λ fault size has. ((size, has), refl, refl))

@@ -6,10 +6,13 @@ use Rattle.disk_layout.specs.Layout.{IsSound, Layout}
 use Rattle.file_changes.specs.Renames.{Renames}
 use Rattle.file_changes.specs.declared.faults.ChangeFault.{ChangeFault}
 use Rattle.file_changes.specs.declared.faults.ChangeFault.TheVariants as change
-use Rattle.change_commands.specs.Faults.{IsSoundFault, edit_fault}
+use Rattle.command_faults.specs.Faults.{IsSoundFault}
+use Rattle.change_commands.specs.Faults.{edit_fault}
 use Rattle.change_commands.specs.Renames.{IsLeftSound, IsRenameFault, IsRenameRun, IsRenamedDisk}
 use Rattle.command_faults.specs.declared.faults.CommandFault.{CommandFault}
 use Rattle.command_faults.specs.declared.faults.CommandFault.TheVariants as faults
+use Rattle.command_faults.proofs.Loads.{by-fault}
+use Rattle.disk_layout.specs.Fault.{Holds, nowhere}
 
 module _ {D : Type 0} (S : History D) (image from to : List ℕ) (a b : D) (size : length image ≡ 174848)
     (sound : IsSound (S.image a)) where
@@ -72,12 +75,5 @@ rename-long S image from to a w size sound long = record {
 -- the image isn't that of a sound disk
 pub rename-unsound : {D W : Type 0} (S : History D) (image from to : List ℕ) (a : D) (w : W) (fault : CommandFault)
     → IsSoundFault image fault → IsRenameFault S image from to a a w w fault
-rename-unsound S image from to a w faults.ImageSize told = (told, refl, refl)
-rename-unsound S image from to a w faults.NoMemory told = (told, refl, refl)
-rename-unsound S image from to a w (faults.Layout fault) told = (told, refl, refl)
-rename-unsound S image from to a w faults.NoFile told = absurd told
-rename-unsound S image from to a w faults.FileExists told = absurd told
-rename-unsound S image from to a w faults.DiskFull told = absurd told
-rename-unsound S image from to a w faults.Locked told = absurd told
-rename-unsound S image from to a w faults.File told = absurd told
-rename-unsound S image from to a w faults.Device told = absurd told
+rename-unsound S image from to a w = by-fault (Holds nowhere) image (IsRenameFault S image from to a a w w)
+    (λ told. (told, refl, refl)) (λ told. (told, refl, refl)) (λ fault size has. ((size, has), refl, refl))

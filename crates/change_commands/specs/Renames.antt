@@ -6,7 +6,7 @@ use Rattle.disk_layout.specs.Layout.{IsLayout, Layout}
 use Rattle.disk_layout.specs.Rest.{slot_name}
 use Rattle.file_changes.specs.Entries.{IsFreeName, entries_of}
 use Rattle.file_changes.specs.Renames.{HasNewName}
-use Rattle.change_commands.specs.Faults.{IsSoundFault}
+use Rattle.command_faults.specs.Faults.{IsSoundFault}
 use Rattle.command_faults.specs.declared.faults.CommandFault.{CommandFault}
 use Rattle.command_faults.specs.declared.faults.CommandFault.TheVariants as faults
 

@@ -3,8 +3,7 @@ ghost use Rattle.std.specs.Prelude.{◌≡◌, IfErr, OnOk, length};
 ghost use Rattle.d64_image.specs.Memory.{sectors_in};
 ghost use Rattle.disk_layout.specs.Clean.{IsClean};
 ghost use Rattle.disk_layout.specs.Layout.{IsSound};
-ghost use Rattle.command_faults.specs.Faults.{IsCleanFault};
-ghost use Rattle.change_commands.specs.Faults.{IsSoundFault};
+ghost use Rattle.command_faults.specs.Faults.{IsCleanFault, IsSoundFault};
 
 use command_faults::{CommandFault, load};
 use layout_check::{check, survey};
@@ -16,10 +15,8 @@ pub(crate) fn judge_sound(alloc: Global, image: &[u8]) -> Result<(), CommandFaul
     ensures err { IfErr result (IsSoundFault image.now) }
 {
     let mut disk = load(alloc, image)?;
-    match survey(&mut disk) {
-        Ok(_) => Ok(()),
-        Err(fault) => Err(CommandFault::Layout(fault)),
-    }
+    survey(&mut disk)?;
+    Ok(())
 }
 
 /// Judges that the image is that of a clean disk.
@@ -28,8 +25,6 @@ pub(crate) fn judge_clean(alloc: Global, image: &[u8]) -> Result<(), CommandFaul
     ensures err { IfErr result (IsCleanFault image.now) }
 {
     let mut disk = load(alloc, image)?;
-    match check(&mut disk) {
-        Ok(_) => Ok(()),
-        Err(fault) => Err(CommandFault::Layout(fault)),
-    }
+    check(&mut disk)?;
+    Ok(())
 }

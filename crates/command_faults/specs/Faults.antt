@@ -2,9 +2,13 @@
 use Rattle.std.specs.Prelude.{◌≡◌, ◌≢◌, ℕ, ◌++◌, List, codes, decimal, length}
 use Rattle.std.specs.declared.io.ErrorKind.{ErrorKind}
 use Rattle.std.specs.declared.io.ErrorKind.TheVariants as kinds
+use Rattle.d64_image.specs.Images.{Image}
 use Rattle.d64_image.specs.Memory.{sectors_in}
-use Rattle.disk_layout.specs.Fault.{HoldsOfClean, nowhere}
+use Rattle.d64_image.specs.declared.faults.ImageFault.{ImageFault}
+use Rattle.d64_image.specs.declared.faults.ImageFault.TheVariants as images
+use Rattle.disk_layout.specs.Fault.{Holds, HoldsOfClean, nowhere}
 use Rattle.disk_layout.specs.Texts.{fault_text}
+use Rattle.disk_layout.specs.declared.faults.Fault.{Fault}
 use Rattle.command_faults.specs.declared.faults.CommandFault.{CommandFault}
 use Rattle.command_faults.specs.declared.faults.CommandFault.TheVariants as faults
 
@@ -41,15 +45,28 @@ abbrev pub io_fault : ErrorKind → CommandFault
 io_fault kinds.OutOfMemory = faults.NoMemory
 io_fault _ = faults.File
 
+-- what is reported of an image that isn't taken into memory
+abbrev pub image_fault : ImageFault → CommandFault
+image_fault images.Size = faults.ImageSize
+image_fault images.NoMemory = faults.NoMemory
+
 -- why an image isn't taken into memory
 abbrev pub IsLoadFault : List ℕ → CommandFault → Type 0
 IsLoadFault image faults.ImageSize = length image ≢ 174848
 IsLoadFault image faults.NoMemory = length image ≡ 174848
 IsLoadFault image _ = ⊥
 
+-- why an image isn't that of a disk without such faults: it isn't taken into memory, or the disk has one
+abbrev pub IsFaultOf : (Image → Fault → Type 0) → List ℕ → CommandFault → Type 0
+IsFaultOf Has image faults.ImageSize = length image ≢ 174848
+IsFaultOf Has image faults.NoMemory = length image ≡ 174848
+IsFaultOf Has image (faults.Layout fault) = (length image ≡ 174848) × Has (sectors_in image) fault
+IsFaultOf Has image _ = ⊥
+
+-- why an image isn't that of a sound disk
+abbrev pub IsSoundFault : List ℕ → CommandFault → Type 0
+IsSoundFault image fault = IsFaultOf (Holds nowhere) image fault
+
 -- why an image isn't that of a clean disk
 abbrev pub IsCleanFault : List ℕ → CommandFault → Type 0
-IsCleanFault image faults.ImageSize = length image ≢ 174848
-IsCleanFault image faults.NoMemory = length image ≡ 174848
-IsCleanFault image (faults.Layout fault) = (length image ≡ 174848) × HoldsOfClean nowhere (sectors_in image) fault
-IsCleanFault image _ = ⊥
+IsCleanFault image fault = IsFaultOf (HoldsOfClean nowhere) image fault

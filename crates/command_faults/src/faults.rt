@@ -1,8 +1,10 @@
 //! Why a command over an image isn't done.
 ghost use Rattle.std.specs.Prelude.{◌≡◌, Some};
 ghost use Rattle.std.specs.IoError.{error_kind};
-ghost use Rattle.command_faults.specs.Faults.{command_status, command_text, io_fault};
+ghost use Rattle.command_faults.specs.Faults.{command_status, command_text, image_fault, io_fault};
+ghost use Rattle.command_faults.specs.declared.faults.CommandFault.TheVariants as faults;
 
+use d64_image::ImageFault;
 use disk_layout::Fault;
 use std::error::Error;
 use std::fmt::{self, Display, Formatter};
@@ -101,3 +103,22 @@ impl Display for CommandFault {
 }
 
 impl Error for CommandFault {}
+
+impl From<ImageFault> for CommandFault {
+    ghost from_gives = { λ e fault. fault ≡ image_fault e };
+
+    fn from(e: ImageFault) -> CommandFault {
+        match e {
+            ImageFault::Size => CommandFault::ImageSize,
+            ImageFault::NoMemory => CommandFault::NoMemory,
+        }
+    }
+}
+
+impl From<Fault> for CommandFault {
+    ghost from_gives = { λ e fault. fault ≡ faults.Layout e };
+
+    fn from(e: Fault) -> CommandFault {
+        CommandFault::Layout(e)
+    }
+}

@@ -3,9 +3,11 @@
 #![tactic(auto)]
 
 mod faults;
+mod files;
 mod loading;
 mod output;
 
 pub use faults::CommandFault;
+pub use files::file_of;
 pub use loading::load;
 pub use output::{flush, put, put_text};

@@ -4,7 +4,7 @@ ghost use Rattle.d64_image.specs.Memory.{disk_image, sectors_in};
 ghost use Rattle.command_faults.specs.Faults.{IsLoadFault};
 
 use crate::faults::CommandFault;
-use d64_image::{ImageFault, MemDisk};
+use d64_image::MemDisk;
 use std::alloc::Global;
 
 /// The disk in memory that holds the image. `ImageSize` if it hasn't the size of a disk, otherwise `NoMemory` if there
@@ -14,9 +14,5 @@ pub fn load(alloc: Global, image: &[u8]) -> Result<MemDisk, CommandFault>
         × (disk_image disk ≡ sectors_in image.now)) }
     ensures err { IfErr result (IsLoadFault image.now) }
 {
-    match MemDisk::load(alloc, image) {
-        Ok(disk) => Ok(disk),
-        Err(ImageFault::Size) => Err(CommandFault::ImageSize),
-        Err(ImageFault::NoMemory) => Err(CommandFault::NoMemory),
-    }
+    Ok(MemDisk::load(alloc, image)?)
 }

@@ -1,8 +1,8 @@
 //! An image described as an object of JSON.
-ghost use Rattle.std.specs.Prelude.{◌≡◌, ◌≢◌, IfErr, IfOk, OnOk, length};
+ghost use Rattle.std.specs.Prelude.{◌≡◌, ◌≢◌, IfErr, IfOk, OnOk};
 ghost use Rattle.std.specs.Io.KnownBytes.{Appends};
 ghost use Rattle.d64_image.specs.Images.{sector};
-ghost use Rattle.d64_image.specs.Memory.{disk_image, sectors_in};
+ghost use Rattle.d64_image.specs.Memory.{disk_image};
 ghost use Rattle.disk_layout.specs.Directory.{map_place as map_at};
 ghost use Rattle.disk_faults.specs.Objects.{refused_text};
 ghost use Rattle.disk_faults.specs.Outcomes.{IsDescribeFault, IsDescribed, IsVerdict};

@@ -1,5 +1,5 @@
 -- Why a disk isn't drawn. Our own.
-use Rattle.std.specs.Prelude.{◌≡◌, None, Option, Some}
+use Rattle.std.specs.Prelude.{◌≡◌, MatchOption, None, Option, Some}
 use Rattle.d64_image.specs.Images.{Image}
 use Rattle.disk_layout.specs.Fault.{HoldsOfDirectory, nowhere}
 use Rattle.disk_layout.specs.declared.faults.Fault.{Fault}
@@ -10,12 +10,11 @@ use Rattle.command_faults.specs.declared.faults.CommandFault.TheVariants as faul
 abbrev pub IsMemoryFault : CommandFault → Type 0
 IsMemoryFault fault = fault ≡ faults.NoMemory
 
--- why nothing is drawn of an image: no memory, or a fault that holds of the directory's chain
-abbrev pub IsDrawFault : Image → CommandFault → Type 0
-IsDrawFault img (faults.Layout fault) = HoldsOfDirectory nowhere img fault
-IsDrawFault img fault = IsMemoryFault fault
-
 -- what the directory has wrong, if that is why nothing is drawn
 abbrev pub layout_fault_of : CommandFault → Option Fault
 layout_fault_of (faults.Layout fault) = Some fault
 layout_fault_of _ = None
+
+-- why nothing is drawn of an image: no memory, or a fault that holds of the directory's chain
+abbrev pub IsDrawFault : Image → CommandFault → Type 0
+IsDrawFault img fault = MatchOption (layout_fault_of fault) (IsMemoryFault fault) (HoldsOfDirectory nowhere img)

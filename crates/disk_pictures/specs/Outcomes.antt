@@ -69,4 +69,4 @@ IsPictureFault image faults.ImageSize = length image ≢ 174848
 IsPictureFault image faults.NoMemory = length image ≡ 174848
 IsPictureFault image (faults.Layout fault) = (length image ≡ 174848) × HoldsOfDirectory nowhere (sectors_in image) fault
 IsPictureFault image faults.File = IsDrawable image
-IsPictureFault image faults.Device = ⊥
+IsPictureFault image _ = ⊥

@@ -20,6 +20,7 @@ use Rattle.command_faults.specs.declared.faults.CommandFault.{CommandFault}
 use Rattle.command_faults.specs.declared.faults.CommandFault.TheVariants as faults
 use Rattle.keeper_commands.specs.declared.finding.Kind.{Kind}
 use Rattle.rel_records.proofs.lemmas.reading.Found.{same-slot}
+use Rattle.command_faults.proofs.Loads.{by-load}
 
 -- the slot that is read is the entry's
 pub slot-is : (slots : List Slot) (kind : Kind) (name : List ℕ) (n : ℕ) (s : Slot) (first : IsFirstAsked slots kind name n)
@@ -86,17 +87,7 @@ module _ {W : Type 0} (image : List ℕ) (kind : Kind) (name : List ℕ) (Printe
 
   -- what an image has wrong that isn't loaded, a file of it has too
   pub load-refused : (fault : CommandFault) → IsLoadFault image fault → IsFileFault image kind name Printed old old fault
-  load-refused faults.ImageSize told = (told, refl)
-  load-refused faults.NoMemory told = (told, refl)
-  load-refused (faults.Layout fault) told = absurd told
-  load-refused faults.NoFile told = absurd told
-  load-refused faults.FileExists told = absurd told
-  load-refused (faults.RecordsLine k) told = absurd told
-  load-refused faults.DiskFull told = absurd told
-  load-refused faults.File told = absurd told
-  load-refused faults.Device told = absurd told
-  load-refused faults.Geos told = absurd told
-  load-refused faults.Format told = absurd told
+  load-refused = by-load image (IsFileFault image kind name Printed old old) (λ told. (told, refl)) (λ told. (told, refl))
 
   -- what was asked for was printed, as far as it can be reached
   pub printed-end : (new : W) (fault : Option Fault) (r : Result Unit CommandFault) → r ≡ keep_ended fault → Printed fault

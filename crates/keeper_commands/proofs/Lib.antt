@@ -16,6 +16,7 @@ pub mod Made
 pub mod Mendings
 pub mod Numbered
 pub mod OneStored
+pub mod OtherKinds
 pub mod Padded
 pub mod Pieced
 pub mod Printing

@@ -13,7 +13,8 @@ use Rattle.keeper_commands.specs.Faults.{keep_fault}
 use Rattle.keeper_commands.specs.Makes.{IsMadeDisk, IsMakeFault, IsMakeRun}
 use Rattle.keeper_commands.specs.Refusals.{IsLeft}
 use Rattle.command_faults.specs.declared.faults.CommandFault.{CommandFault}
-use Rattle.command_faults.specs.declared.faults.CommandFault.TheVariants as faults
+use Rattle.command_faults.proofs.Loads.{by-fault}
+use Rattle.disk_layout.specs.Fault.{HoldsOfClean, nowhere}
 
 module _ {D : Type 0} (S : History D) (image name : List ℕ) (L : ℕ) (a b : D) (size : length image ≡ 174848)
     (clean : IsClean (S.image a)) where
@@ -65,14 +66,5 @@ module _ {D : Type 0} (S : History D) (image name : List ℕ) (L : ℕ) (a b : D
 pub make-unclean : {D W : Type 0} (S : History D) (image name : List ℕ) (L : ℕ) (a : D) (w : W) (fault : CommandFault)
     → IsCleanFault image fault
     → IsMakeFault S image name L a a w w fault
-make-unclean S image name L a w faults.ImageSize told = (told, refl, refl)
-make-unclean S image name L a w faults.NoMemory told = (told, refl, refl)
-make-unclean S image name L a w (faults.Layout fault) told = (told.0, told.1, refl, refl)
-make-unclean S image name L a w faults.NoFile told = absurd told
-make-unclean S image name L a w faults.FileExists told = absurd told
-make-unclean S image name L a w (faults.RecordsLine n) told = absurd told
-make-unclean S image name L a w faults.DiskFull told = absurd told
-make-unclean S image name L a w faults.File told = absurd told
-make-unclean S image name L a w faults.Device told = absurd told
-make-unclean S image name L a w faults.Geos told = absurd told
-make-unclean S image name L a w faults.Format told = absurd told
+make-unclean S image name L a w = by-fault (HoldsOfClean nowhere) image (IsMakeFault S image name L a a w w)
+    (λ told. (told, refl, refl)) (λ told. (told, refl, refl)) (λ fault size has. (size, has, refl, refl))

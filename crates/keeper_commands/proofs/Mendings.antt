@@ -68,21 +68,35 @@ pub tells-output : {D T : Type 0} (S : History D) (a b : D) (r : Result T Comman
 tells-output S a b (Ok x) same told = same
 tells-output S a b (Err fault) same told = subst (λ (f : CommandFault). TellsKeep {T = ℕ} S a b (Err f)) (sym told) same
 
+-- only the output and the device fail
+pub by-tell : {D : Type 0} (S : History D) (a b : D) (P : CommandFault → Type 0)
+    → (S.failures b ≡ S.failures a → P faults.File) → (Failed S a b → P faults.Device)
+    → (fault : CommandFault) → TellsKeep {T = Unit} S a b (Err fault) → P fault
+by-tell S a b P file device faults.File told = file told
+by-tell S a b P file device faults.Device told = device told
+by-tell S a b P file device faults.ImageSize told = absurd told
+by-tell S a b P file device faults.NoMemory told = absurd told
+by-tell S a b P file device (faults.Layout fault) told = absurd told
+by-tell S a b P file device faults.NoFile told = absurd told
+by-tell S a b P file device faults.FileExists told = absurd told
+by-tell S a b P file device faults.DiskFull told = absurd told
+by-tell S a b P file device faults.Locked told = absurd told
+by-tell S a b P file device faults.NoStock told = absurd told
+by-tell S a b P file device faults.NoRequests told = absurd told
+by-tell S a b P file device (faults.BadCard item) told = absurd told
+by-tell S a b P file device (faults.BadRequestCard till) told = absurd told
+by-tell S a b P file device faults.TwoIntents told = absurd told
+by-tell S a b P file device (faults.ScriptLine line) told = absurd told
+by-tell S a b P file device (faults.RecordsLine line) told = absurd told
+by-tell S a b P file device faults.Geos told = absurd told
+by-tell S a b P file device faults.Format told = absurd told
+
 -- what a call tells behind others that met no failure
 pub tells-after : {D T : Type 0} (S : History D) (a b c : D) (r : Result T CommandFault) → S.failures b ≡ S.failures a
     → TellsKeep S b c r → TellsKeep S a c r
 tells-after S a b c (Ok x) same told = told ∙ same
-tells-after S a b c (Err faults.File) same told = told ∙ same
-tells-after S a b c (Err faults.Device) same told = failed_later S a b c same told
-tells-after S a b c (Err faults.ImageSize) same told = absurd told
-tells-after S a b c (Err (faults.Layout fault)) same told = absurd told
-tells-after S a b c (Err faults.NoFile) same told = absurd told
-tells-after S a b c (Err faults.FileExists) same told = absurd told
-tells-after S a b c (Err (faults.RecordsLine n)) same told = absurd told
-tells-after S a b c (Err faults.DiskFull) same told = absurd told
-tells-after S a b c (Err faults.NoMemory) same told = absurd told
-tells-after S a b c (Err faults.Geos) same told = absurd told
-tells-after S a b c (Err faults.Format) same told = absurd told
+tells-after {T = T} S a b c (Err fault) same told =
+    by-tell S b c (λ f. TellsKeep {T = T} S a c (Err f)) (λ told. told ∙ same) (failed_later S a b c same) fault told
 
 -- what a read of the device tells
 pub failed-there : {D T E : Type 0} (S : History D) (a b : D) (r : Result T E) → is_err r ≡ true

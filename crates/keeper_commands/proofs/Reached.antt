@@ -10,23 +10,15 @@ use Rattle.command_faults.specs.Faults.{IsCleanFault}
 use Rattle.keeper_commands.specs.Stores.{AreLinesOf, AreSo, CanHave, NewRecord, greatest}
 use Rattle.keeper_commands.specs.Storing.{IsStoreFault}
 use Rattle.command_faults.specs.declared.faults.CommandFault.{CommandFault}
-use Rattle.command_faults.specs.declared.faults.CommandFault.TheVariants as faults
+use Rattle.command_faults.proofs.Loads.{by-fault}
+use Rattle.disk_layout.specs.Fault.{HoldsOfClean, nowhere}
 
 -- the image isn't that of a clean disk
 pub store-unclean : {D W : Type 0} (S : History D) (image name text : List ℕ) (a : D) (o : W) (fault : CommandFault)
     → IsCleanFault image fault
     → IsStoreFault S image name text a a o o fault
-store-unclean S image name text a o faults.ImageSize told = (told, refl, refl)
-store-unclean S image name text a o faults.NoMemory told = (told, refl, refl)
-store-unclean S image name text a o (faults.Layout fault) told = (told.0, told.1, refl, refl)
-store-unclean S image name text a o faults.NoFile told = absurd told
-store-unclean S image name text a o faults.FileExists told = absurd told
-store-unclean S image name text a o (faults.RecordsLine n) told = absurd told
-store-unclean S image name text a o faults.DiskFull told = absurd told
-store-unclean S image name text a o faults.File told = absurd told
-store-unclean S image name text a o faults.Device told = absurd told
-store-unclean S image name text a o faults.Geos told = absurd told
-store-unclean S image name text a o faults.Format told = absurd told
+store-unclean S image name text a o = by-fault (HoldsOfClean nowhere) image (IsStoreFault S image name text a a o o)
+    (λ told. (told, refl, refl)) (λ told. (told, refl, refl)) (λ fault size has. (size, has, refl, refl))
 
 -- the greatest number that lines give is one that the file can have
 greatest-can : (L had : ℕ) (ls : List (List ℕ)) (xs : List NewRecord) → AreLinesOf L had ls xs

@@ -16,6 +16,7 @@ use Rattle.command_faults.specs.declared.faults.CommandFault.TheVariants as faul
 use Rattle.keeper_commands.specs.declared.finding.Candidates.TheVariants.{Closed}
 use Rattle.keeper_commands.specs.declared.finding.Kind.TheVariants.{Records}
 use Rattle.keeper_commands.specs.declared.forms.RecordForm.{RecordForm}
+use Rattle.command_faults.proofs.Loads.{by-load}
 
 -- what is known of the file that was found
 abbrev pub reached-file : (img : Image) (name : List ℕ) (first : Fault) (s : Slot) (blocks : List Place) (last : ℕ)
@@ -45,17 +46,8 @@ module _ {W : Type 0} (contents : W → Option (List ℕ)) (form : RecordForm) (
   -- what an image has wrong that isn't loaded
   pub records-unloaded : (fault : CommandFault) → IsLoadFault image fault
       → IsRecordsFault contents form image name old old fault
-  records-unloaded faults.ImageSize told = (told, refl)
-  records-unloaded faults.NoMemory told = (told, refl)
-  records-unloaded (faults.Layout fault) told = absurd told
-  records-unloaded faults.NoFile told = absurd told
-  records-unloaded faults.FileExists told = absurd told
-  records-unloaded (faults.RecordsLine k) told = absurd told
-  records-unloaded faults.DiskFull told = absurd told
-  records-unloaded faults.File told = absurd told
-  records-unloaded faults.Device told = absurd told
-  records-unloaded faults.Geos told = absurd told
-  records-unloaded faults.Format told = absurd told
+  records-unloaded = by-load image (IsRecordsFault contents form image name old old)
+      (λ told. (told, refl)) (λ told. (told, refl))
 
   -- how a disk that isn't sound ends it
   reached-fault : (new : W) → length image ≡ 174848 → (fault : CommandFault)
@@ -64,14 +56,21 @@ module _ {W : Type 0} (contents : W → Option (List ℕ)) (form : RecordForm) (
   reached-fault new size faults.ImageSize told = absurd told
   reached-fault new size faults.NoMemory told = (size, told)
   reached-fault new size (faults.Layout fault) told = (size, told)
+  reached-fault new size faults.File told = inr (size, told)
   reached-fault new size faults.NoFile told = absurd told
   reached-fault new size faults.FileExists told = absurd told
-  reached-fault new size (faults.RecordsLine k) told = absurd told
   reached-fault new size faults.DiskFull told = absurd told
-  reached-fault new size faults.File told = inr (size, told)
-  reached-fault new size faults.Device told = absurd told
+  reached-fault new size faults.Locked told = absurd told
+  reached-fault new size faults.NoStock told = absurd told
+  reached-fault new size faults.NoRequests told = absurd told
+  reached-fault new size (faults.BadCard item) told = absurd told
+  reached-fault new size (faults.BadRequestCard till) told = absurd told
+  reached-fault new size faults.TwoIntents told = absurd told
+  reached-fault new size (faults.ScriptLine line) told = absurd told
+  reached-fault new size (faults.RecordsLine line) told = absurd told
   reached-fault new size faults.Geos told = absurd told
   reached-fault new size faults.Format told = absurd told
+  reached-fault new size faults.Device told = absurd told
 
   reached-told : (new : W) → length image ≡ 174848 → (r : Result Unit CommandFault)
       → IsErrAnd r (IsReachedEnd contents form (sectors_in image) name old new)

@@ -14,8 +14,10 @@ use Rattle.keeper_commands.specs.Kinds.{IsKindFault, IsPlainDisk}
 use Rattle.keeper_commands.specs.Rebuilds.{IsRebuildDone, IsRebuildFault, IsRebuildRun, IsRebuiltDisk}
 use Rattle.keeper_commands.specs.Repairs.{TellsKeep, changed_text, mended_on, repair_fault, up_to}
 use Rattle.command_faults.specs.declared.faults.CommandFault.{CommandFault}
-use Rattle.command_faults.specs.declared.faults.CommandFault.TheVariants as faults
 use Rattle.side_rebuilding.specs.Rebuilt.{IsRebuilt, IsUnderRebuilding, RebuildsSides, RefusesSides}
+use Rattle.command_faults.proofs.Loads.{by-load}
+use Rattle.keeper_commands.proofs.OtherKinds.{by-kind}
+use Rattle.keeper_commands.proofs.Mendings.{by-tell}
 
 -- the lines of the tracks are all that is printed of two disks
 pub all-changed : (a b : Option (List ℕ)) (old new old' new' : Image) (had has : Sector) → old' ≡ old → new' ≡ new
@@ -32,32 +34,14 @@ module _ {D : Type 0} (S : History D) (image : List ℕ) (a : D) where
   module _ {W : Type 0} (w : W) where
     -- the image wasn't taken into memory
     pub load-unrebuilt : (fault : CommandFault) → IsLoadFault image fault → IsRebuildFault S image a a w w fault
-    load-unrebuilt faults.ImageSize told = (told, refl, refl)
-    load-unrebuilt faults.NoMemory told = (told, refl, refl)
-    load-unrebuilt (faults.Layout fault) told = absurd told
-    load-unrebuilt faults.NoFile told = absurd told
-    load-unrebuilt faults.FileExists told = absurd told
-    load-unrebuilt (faults.RecordsLine n) told = absurd told
-    load-unrebuilt faults.DiskFull told = absurd told
-    load-unrebuilt faults.File told = absurd told
-    load-unrebuilt faults.Device told = absurd told
-    load-unrebuilt faults.Geos told = absurd told
-    load-unrebuilt faults.Format told = absurd told
+    load-unrebuilt = by-load image (IsRebuildFault S image a a w w)
+        (λ told. (told, refl, refl)) (λ told. (told, refl, refl))
 
     -- the disk is of another kind
     pub kind-unrebuilt : (fault : CommandFault) → length image ≡ 174848 → IsKindFault (sector (S.image a) map_place) fault
         → IsRebuildFault S image a a w w fault
-    kind-unrebuilt faults.Geos size told = (size, told, refl, refl)
-    kind-unrebuilt faults.Format size told = (size, told, refl, refl)
-    kind-unrebuilt faults.ImageSize size told = absurd told
-    kind-unrebuilt faults.NoMemory size told = absurd told
-    kind-unrebuilt (faults.Layout fault) size told = absurd told
-    kind-unrebuilt faults.NoFile size told = absurd told
-    kind-unrebuilt faults.FileExists size told = absurd told
-    kind-unrebuilt (faults.RecordsLine n) size told = absurd told
-    kind-unrebuilt faults.DiskFull size told = absurd told
-    kind-unrebuilt faults.File size told = absurd told
-    kind-unrebuilt faults.Device size told = absurd told
+    kind-unrebuilt fault size told = by-kind (sector (S.image a) map_place) (IsRebuildFault S image a a w w)
+        (λ told. (size, told, refl, refl)) (λ told. (size, told, refl, refl)) fault told
 
   module _ (size : length image ≡ 174848) (plain : IsPlainDisk (sector (S.image a) map_place)) (b : D)
       (r : Result (Unit {0}) Fault) (h : RebuildsSides S a b r) where
@@ -109,18 +93,9 @@ module _ {D : Type 0} (S : History D) (image : List ℕ) (a : D) where
         → (c : D) → WritesNothing S b c → (end : Result (Unit {0}) CommandFault) → TellsKeep S b c end
         → IfErr end (IsRebuildFault S image a c v w)
     print-unrebuilt v w rebuilt same c quiet (Ok x) told = tt
-    print-unrebuilt v w rebuilt same c quiet (Err faults.File) told = rebuilt-quiet rebuilt c quiet
-    print-unrebuilt v w rebuilt same c quiet (Err faults.Device) told =
-        ((rebuilt-quiet rebuilt c quiet).run, failed_later S a b c same told)
-    print-unrebuilt v w rebuilt same c quiet (Err faults.ImageSize) told = absurd told
-    print-unrebuilt v w rebuilt same c quiet (Err (faults.Layout fault)) told = absurd told
-    print-unrebuilt v w rebuilt same c quiet (Err faults.NoFile) told = absurd told
-    print-unrebuilt v w rebuilt same c quiet (Err faults.FileExists) told = absurd told
-    print-unrebuilt v w rebuilt same c quiet (Err (faults.RecordsLine n)) told = absurd told
-    print-unrebuilt v w rebuilt same c quiet (Err faults.DiskFull) told = absurd told
-    print-unrebuilt v w rebuilt same c quiet (Err faults.NoMemory) told = absurd told
-    print-unrebuilt v w rebuilt same c quiet (Err faults.Geos) told = absurd told
-    print-unrebuilt v w rebuilt same c quiet (Err faults.Format) told = absurd told
+    print-unrebuilt v w rebuilt same c quiet (Err fault) told = by-tell S b c (IsRebuildFault S image a c v w)
+        (λ told. rebuilt-quiet rebuilt c quiet)
+        (λ told. ((rebuilt-quiet rebuilt c quiet).run, failed_later S a b c same told)) fault told
 
     -- what was printed is of the disk as it is left
     pub done-rebuilt : {W : Type 0} (contents : W → Option (List ℕ)) (v w : W) → IsRebuilt (S.image a) (S.image b)

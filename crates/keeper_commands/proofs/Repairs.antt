@@ -24,7 +24,10 @@ use Rattle.keeper_commands.specs.Kinds.{IsKindFault, IsPlainDisk}
 use Rattle.keeper_commands.specs.Repairs.{GoesInOrder, IsMendedAs, IsMendedDisk, IsRepairFault, IsRepairRun, MendsAs, TellsKeep}
 use Rattle.keeper_commands.specs.Repairs.{repair_fault}
 use Rattle.command_faults.specs.declared.faults.CommandFault.{CommandFault}
-use Rattle.command_faults.specs.declared.faults.CommandFault.TheVariants as faults
+use Rattle.command_faults.specs.declared.faults.CommandFault.TheVariants as commands
+use Rattle.command_faults.proofs.Loads.{by-load}
+use Rattle.keeper_commands.proofs.OtherKinds.{by-kind}
+use Rattle.keeper_commands.proofs.Mendings.{by-tell}
 
 module _ {D : Type 0} (S : History D) where
   -- images held, and then nothing written
@@ -173,7 +176,7 @@ module _ {D : Type 0} (S : History D) where
   module _ {W : Type 0} (free : Bool) (image : List ℕ) (a b : D) (w : W) (size : length image ≡ 174848)
       (plain : IsPlainDisk (sector (S.image a) map_place)) (unsound : (IsSound (S.image a) → ⊥) → OnlyReads S a b 2114) where
     not-sound : (fault : Fault) → ((p : Place) → fault ≢ faults.Device p) → Holds (S.failed_at b) (S.image a) fault
-        → Holds nowhere (S.image a) fault → IsRepairFault free S image a b w w (faults.Layout fault)
+        → Holds nowhere (S.image a) fault → IsRepairFault free S image a b w w (commands.Layout fault)
     not-sound fault other told holds = (
       size,
       plain,
@@ -200,47 +203,20 @@ module _ {D : Type 0} (S : History D) where
   -- the image wasn't taken into memory
   pub load-refused : {W : Type 0} (free : Bool) (image : List ℕ) (a : D) (w : W) (fault : CommandFault) → IsLoadFault image fault
       → IsRepairFault free S image a a w w fault
-  load-refused free image a w faults.ImageSize told = (told, refl, refl)
-  load-refused free image a w faults.NoMemory told = (told, refl, refl)
-  load-refused free image a w (faults.Layout fault) told = absurd told
-  load-refused free image a w faults.NoFile told = absurd told
-  load-refused free image a w faults.FileExists told = absurd told
-  load-refused free image a w (faults.RecordsLine n) told = absurd told
-  load-refused free image a w faults.DiskFull told = absurd told
-  load-refused free image a w faults.File told = absurd told
-  load-refused free image a w faults.Device told = absurd told
-  load-refused free image a w faults.Geos told = absurd told
-  load-refused free image a w faults.Format told = absurd told
+  load-refused free image a w = by-load image (IsRepairFault free S image a a w w)
+      (λ told. (told, refl, refl)) (λ told. (told, refl, refl))
 
   -- the disk is of another kind
   pub kind-refused : {W : Type 0} (free : Bool) (image : List ℕ) (a : D) (w : W) (fault : CommandFault)
       → length image ≡ 174848 → IsKindFault (sector (S.image a) map_place) fault
       → IsRepairFault free S image a a w w fault
-  kind-refused free image a w faults.Geos size told = (size, told, refl, refl)
-  kind-refused free image a w faults.Format size told = (size, told, refl, refl)
-  kind-refused free image a w faults.ImageSize size told = absurd told
-  kind-refused free image a w faults.NoMemory size told = absurd told
-  kind-refused free image a w (faults.Layout fault) size told = absurd told
-  kind-refused free image a w faults.NoFile size told = absurd told
-  kind-refused free image a w faults.FileExists size told = absurd told
-  kind-refused free image a w (faults.RecordsLine n) size told = absurd told
-  kind-refused free image a w faults.DiskFull size told = absurd told
-  kind-refused free image a w faults.File size told = absurd told
-  kind-refused free image a w faults.Device size told = absurd told
+  kind-refused free image a w fault size told = by-kind (sector (S.image a) map_place) (IsRepairFault free S image a a w w)
+      (λ told. (size, told, refl, refl)) (λ told. (size, told, refl, refl)) fault told
 
   -- the disk was mended, and the output or the device failed then
   pub print-refused : {W : Type 0} (free : Bool) (image : List ℕ) (a b c : D) (v w : W) (r : Result Unit CommandFault)
       → (n : ℕ) → IsMendedDisk free S image a c n
       → S.failures b ≡ S.failures a → TellsKeep S b c r → IfErr r (IsRepairFault free S image a c v w)
   print-refused free image a b c v w (Ok x) n mended same told = tt
-  print-refused free image a b c v w (Err faults.File) n mended same told = (n, mended)
-  print-refused free image a b c v w (Err faults.Device) n mended same told = (mended.run, failed_later S a b c same told)
-  print-refused free image a b c v w (Err faults.ImageSize) n mended same told = absurd told
-  print-refused free image a b c v w (Err (faults.Layout fault)) n mended same told = absurd told
-  print-refused free image a b c v w (Err faults.NoFile) n mended same told = absurd told
-  print-refused free image a b c v w (Err faults.FileExists) n mended same told = absurd told
-  print-refused free image a b c v w (Err (faults.RecordsLine line)) n mended same told = absurd told
-  print-refused free image a b c v w (Err faults.DiskFull) n mended same told = absurd told
-  print-refused free image a b c v w (Err faults.NoMemory) n mended same told = absurd told
-  print-refused free image a b c v w (Err faults.Geos) n mended same told = absurd told
-  print-refused free image a b c v w (Err faults.Format) n mended same told = absurd told
+  print-refused free image a b c v w (Err fault) n mended same told = by-tell S b c (IsRepairFault free S image a c v w)
+      (λ told. (n, mended)) (λ told. (mended.run, failed_later S a b c same told)) fault told

@@ -25,6 +25,7 @@ use Rattle.keeper_commands.proofs.LastOnes.{lines-numbers, ones-greatest, stored
 use Rattle.keeper_commands.proofs.OneStored.{grown-none}
 use Rattle.keeper_commands.proofs.Reached.{so-there}
 use Rattle.keeper_commands.proofs.TextGrown.{found-of, grown-are, growing-whole, run-over, same-length}
+use Rattle.keeper_commands.proofs.Mendings.{by-tell}
 use Rattle.keeper_commands.specs.Stores.{AreLinesOf, AreSo, IsPartStored, NewRecord, TellsLast}
 use Rattle.keeper_commands.specs.Stores.{changed_text, greatest, last_ones, stored}
 use Rattle.keeper_commands.specs.Storing.{IsStoreDone, IsStoreFault, IsStoreRun, IsStoredDisk, IsStoring, IsStoringOver}
@@ -150,31 +151,16 @@ module _ {D W : Type 0} (S : History D) (image name text : List ℕ) (a b : D) (
       → AreLinesOf (length_of w) h (lines text) ys → greatest ys ≤ records_in w → TellsLast table ys
       → StoresLines S contents c d o q m j e w u (last_ones ys) (Err fault))
       → IsStoreFault S image name text a d o q fault
-  store-refused contents d q u faults.Device stores =
-      device-run contents d q u (Err faults.Device) stores (then-stored contents d q u (Err faults.Device)
-      stores).told
-  store-refused contents d q u faults.File stores = (
-    run-all contents d q u (Err faults.File) stores,
-    (then-stored contents d q u (Err faults.File) stores).clean refl,
-  )
-  store-refused contents d q u faults.ImageSize stores =
-      absurd (then-stored contents d q u (Err faults.ImageSize) stores).told
-  store-refused contents d q u (faults.Layout x) stores =
-      absurd (then-stored contents d q u (Err (faults.Layout x)) stores).told
-  store-refused contents d q u faults.NoFile stores =
-      absurd (then-stored contents d q u (Err faults.NoFile) stores).told
-  store-refused contents d q u faults.FileExists stores =
-      absurd (then-stored contents d q u (Err faults.FileExists) stores).told
-  store-refused contents d q u (faults.RecordsLine k) stores =
-      absurd (then-stored contents d q u (Err (faults.RecordsLine k)) stores).told
-  store-refused contents d q u faults.DiskFull stores =
-      absurd (then-stored contents d q u (Err faults.DiskFull) stores).told
-  store-refused contents d q u faults.NoMemory stores =
-      absurd (then-stored contents d q u (Err faults.NoMemory) stores).told
-  store-refused contents d q u faults.Geos stores =
-      absurd (then-stored contents d q u (Err faults.Geos) stores).told
-  store-refused contents d q u faults.Format stores =
-      absurd (then-stored contents d q u (Err faults.Format) stores).told
+  store-refused contents d q u fault stores = by-tell S c d
+      (λ f. ((m : Layout) (j : ℕ) (e : File) → IsFileOf (S.image c) m j e w → (h : ℕ) (ys : List NewRecord)
+      → AreLinesOf (length_of w) h (lines text) ys → greatest ys ≤ records_in w → TellsLast table ys
+      → StoresLines S contents c d o q m j e w u (last_ones ys) (Err f)) → IsStoreFault S image name text a d o q f)
+      (λ told stores. (
+        run-all contents d q u (Err faults.File) stores,
+        (then-stored contents d q u (Err faults.File) stores).clean refl,
+      ))
+      (λ told stores. device-run contents d q u (Err faults.Device) stores told)
+      fault (then-stored contents d q u (Err fault) stores).told stores
 
   module _ (contents : W → Option (List ℕ)) (d : D) (p q : W)
       (u : RelFile)

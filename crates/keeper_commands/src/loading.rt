@@ -29,8 +29,6 @@ pub(crate) fn check_image(alloc: Global, image: &[u8]) -> Result<(), CommandFaul
     ensures err { IfErr result (IsCleanFault image.now) }
 {
     let mut disk = load(alloc, image)?;
-    match check(&mut disk) {
-        Ok(_) => Ok(()),
-        Err(fault) => Err(CommandFault::Layout(fault)),
-    }
+    check(&mut disk)?;
+    Ok(())
 }

@@ -49,6 +49,13 @@ module _ {F R W : Type 0} (K : Keeps F) (i : Input R) (a : Answering (Printer (M
   fault_end (faults.BadCard item) x = (x.0, lent x.1)
   fault_end (faults.BadRequestCard till) x = (x.0, lent x.1)
   fault_end faults.TwoIntents x = (x.0, lent x.1)
+  fault_end faults.NoFile x = (x.0, lent x.1)
+  fault_end faults.FileExists x = (x.0, lent x.1)
+  fault_end faults.DiskFull x = (x.0, lent x.1)
+  fault_end faults.Locked x = (x.0, lent x.1)
+  fault_end (faults.RecordsLine line) x = (x.0, lent x.1)
+  fault_end faults.Geos x = (x.0, lent x.1)
+  fault_end faults.Format x = (x.0, lent x.1)
 
   pub service_end : (ended : Ended) → IsServeRun K i a image file after old_in new_in old new ended
       → IsServiceEnd image file after first last ended

@@ -48,6 +48,13 @@ module _ {F T : Type 0} (K : Keeps F) (o : Output T) (image script : List ℕ) (
   fault_reached (faults.BadCard r) x = untouched x.2
   fault_reached (faults.BadRequestCard t) x = untouched x.2
   fault_reached faults.TwoIntents x = untouched x.2
+  fault_reached faults.NoFile x = untouched x.2
+  fault_reached faults.FileExists x = untouched x.2
+  fault_reached faults.DiskFull x = untouched x.2
+  fault_reached faults.Locked x = untouched x.2
+  fault_reached (faults.RecordsLine line) x = untouched x.2
+  fault_reached faults.Geos x = untouched x.2
+  fault_reached faults.Format x = untouched x.2
 
   -- however the play ended
   pub played_reached : (ended : Ended) → IsPlayRun K o image script file after old new ended → K.reached file after

@@ -16,5 +16,5 @@ taking-ended contents what image name old new (Ok u) None run seen = elim (cases
   | inl size ↦ (run, seen size)
   | inr other ↦ let none : ◌≡◌ {A = ℕ} 0 1 = (run.size other).0 in cc
 ]
-taking-ended contents what image name old new (Err fault) (Some p) run seen = run
-taking-ended contents what image name old new (Err fault) None run seen = run
+taking-ended contents what image name old new (Err fault) (Some p) run seen = inl run
+taking-ended contents what image name old new (Err fault) None run seen = inl run

@@ -9,6 +9,7 @@ use Rattle.keeper_commands.specs.Repairs.{IsRepairDone, IsRepairFault}
 use Rattle.command_faults.specs.declared.faults.CommandFault.{CommandFault}
 use Rattle.command_faults.specs.declared.faults.CommandFault.TheVariants as faults
 use Rattle.ledger_jobs.specs.Keeping.{IsDryRepair}
+use Rattle.command_faults.proofs.Loads.{by-load}
 
 -- a repair of a copy in memory
 pub dry-ended : {W : Type 0} (free : Bool) (contents : W → Option (List ℕ)) (image : List ℕ) (copy left : MemDisk)
@@ -27,17 +28,15 @@ dry-ended free contents image copy left old new (Err faults.File) holds ok err =
 dry-ended free contents image copy left old new (Err faults.Device) holds ok err = (copy, left, holds, err)
 dry-ended free contents image copy left old new (Err faults.Geos) holds ok err = (copy, left, holds, err)
 dry-ended free contents image copy left old new (Err faults.Format) holds ok err = (copy, left, holds, err)
+dry-ended free contents image copy left old new (Err faults.Locked) holds ok err = (copy, left, holds, err)
+dry-ended free contents image copy left old new (Err faults.NoStock) holds ok err = (copy, left, holds, err)
+dry-ended free contents image copy left old new (Err faults.NoRequests) holds ok err = (copy, left, holds, err)
+dry-ended free contents image copy left old new (Err (faults.BadCard item)) holds ok err = (copy, left, holds, err)
+dry-ended free contents image copy left old new (Err (faults.BadRequestCard till)) holds ok err = (copy, left, holds, err)
+dry-ended free contents image copy left old new (Err faults.TwoIntents) holds ok err = (copy, left, holds, err)
+dry-ended free contents image copy left old new (Err (faults.ScriptLine line)) holds ok err = (copy, left, holds, err)
 
 pub dry-unloaded : {W : Type 0} (free : Bool) (contents : W → Option (List ℕ)) (image : List ℕ) (old : W)
     (fault : CommandFault) → IsLoadFault image fault → IsDryRepair free contents image old old (Err fault)
-dry-unloaded free contents image old faults.ImageSize told = (told, refl)
-dry-unloaded free contents image old faults.NoMemory told = (told, refl)
-dry-unloaded free contents image old (faults.Layout fault) told = absurd told
-dry-unloaded free contents image old faults.NoFile told = absurd told
-dry-unloaded free contents image old faults.FileExists told = absurd told
-dry-unloaded free contents image old (faults.RecordsLine line) told = absurd told
-dry-unloaded free contents image old faults.DiskFull told = absurd told
-dry-unloaded free contents image old faults.File told = absurd told
-dry-unloaded free contents image old faults.Device told = absurd told
-dry-unloaded free contents image old faults.Geos told = absurd told
-dry-unloaded free contents image old faults.Format told = absurd told
+dry-unloaded free contents image old = by-load image (λ fault. IsDryRepair free contents image old old (Err fault))
+    (λ told. (told, refl)) (λ told. (told, refl))

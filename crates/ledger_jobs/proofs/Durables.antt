@@ -75,6 +75,13 @@ module _ {F T : Type 0} (K : Keeps F) (o : Output T) (image script : List ℕ) (
   nothing_done faults.File is other _ = absurd (other refl)
   nothing_done faults.NoMemory is _ _ = is.1
   nothing_done faults.Device is _ other = absurd (other refl)
+  nothing_done faults.NoFile is _ _ = is.2
+  nothing_done faults.FileExists is _ _ = is.2
+  nothing_done faults.DiskFull is _ _ = is.2
+  nothing_done faults.Locked is _ _ = is.2
+  nothing_done (faults.RecordsLine line) is _ _ = is.2
+  nothing_done faults.Geos is _ _ = is.2
+  nothing_done faults.Format is _ _ = is.2
 
   pub undone : (end : Ended) → IfErr end (IsFileFault K o image script file after old new)
       → IfErr end (λ fault. fault ≢ faults.File → fault ≢ faults.Device → IsUntouched file after old new)
@@ -97,6 +104,13 @@ module _ {F R T : Type 0} (K : Keeps F) (i : Input R) (a : Answering T) (image :
   nothing_served faults.File is other _ = absurd (other refl)
   nothing_served faults.NoMemory is _ _ = is.1
   nothing_served faults.Device is _ other = absurd (other refl)
+  nothing_served faults.NoFile is _ _ = is.1
+  nothing_served faults.FileExists is _ _ = is.1
+  nothing_served faults.DiskFull is _ _ = is.1
+  nothing_served faults.Locked is _ _ = is.1
+  nothing_served (faults.RecordsLine line) is _ _ = is.1
+  nothing_served faults.Geos is _ _ = is.1
+  nothing_served faults.Format is _ _ = is.1
 
   pub unserved : (end : Ended) → IfErr end (IsServeFault K i a image file after old_in new_in old new)
       → IfErr end (λ fault. fault ≢ faults.File → fault ≢ faults.Device → IsUnserved file after old_in new_in old new)

@@ -18,23 +18,15 @@ use Rattle.command_faults.specs.declared.faults.CommandFault.TheVariants as faul
 use Rattle.shop_log.specs.ImageLogs.{LogHistory}
 use Rattle.ledger_jobs.specs.FileServes.{loop_fault}
 use Rattle.ledger_jobs.specs.LoggedRuns.{IsLoggedFault, IsLoggedTo, IsUnlogged}
+use Rattle.command_faults.proofs.Loads.{by-load}
 
 module _ {L R T : Type 0} (h : LogHistory L) (i : BatchInput R) (o : LogOutput L T) (image : List ℕ) (log after : L)
     (old_in new_in : R) (old new : T) where
   -- the image wasn't taken into memory
   pub unloaded : (fault : CommandFault) → IsLoadFault image fault → IsUnlogged log after old_in new_in old new
       → IsLoggedFault h i o image log after old_in new_in old new fault
-  unloaded faults.ImageSize why same = (why, same)
-  unloaded faults.NoMemory why same = (why, same)
-  unloaded (faults.Layout fault) why same = absurd why
-  unloaded faults.NoStock why same = absurd why
-  unloaded faults.NoRequests why same = absurd why
-  unloaded (faults.BadCard item) why same = absurd why
-  unloaded (faults.BadRequestCard till) why same = absurd why
-  unloaded faults.TwoIntents why same = absurd why
-  unloaded (faults.ScriptLine line) why same = absurd why
-  unloaded faults.File why same = absurd why
-  unloaded faults.Device why same = absurd why
+  unloaded fault why same = by-load image (IsLoggedFault h i o image log after old_in new_in old new)
+      (λ size. (size, same)) (λ size. (size, same)) fault why
 
   module _ (disk : MemDisk) (size : length image ≡ 174848) (holds : disk_image disk ≡ sectors_in image) where
     -- it was, and served to this end

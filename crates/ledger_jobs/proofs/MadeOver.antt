@@ -21,6 +21,7 @@ use Rattle.ledger_jobs.proofs.OverFiles.{broken_file, changes_of_file, handed-ba
 use Rattle.ledger_jobs.proofs.OverFiles.{refused_of_file, same_failures, taken_up, whole_file}
 use Rattle.ledger_jobs.specs.Kept.{IsMadeFault, IsMadeFile, IsMakeOver}
 use Rattle.rel_records.specs.creation.Made.{HasNoRoom, IsCreating, IsTakenName, creation_writes}
+use Rattle.command_faults.proofs.Loads.{by-load}
 
 -- a creation writes five sectors at most
 few_writes : (l : Layout) → creation_writes l < 1000
@@ -30,21 +31,11 @@ module _ {F W : Type 0} (K : Keeps F) (contents : W → Option (List ℕ)) (imag
   -- the image wasn't taken into memory
   pub make-not-loaded : (file : F) (old : W) (fault : CommandFault) → IsLoadFault image fault
       → IsMakeOver K contents image name L file file old old (Err fault)
-  make-not-loaded file old faults.ImageSize told =
-      is-refused image file file old old _ (IsMadeFault K image name L file file old old) faults.ImageSize refl
-      (told, (refl, refl)) (refl, refl)
-  make-not-loaded file old faults.NoMemory told =
-      is-stopped image file file old old _ (IsMadeFault K image name L file file old old) faults.NoMemory refl told
-      (told, (refl, refl))
-  make-not-loaded file old (faults.Layout fault) told = absurd told
-  make-not-loaded file old faults.NoFile told = absurd told
-  make-not-loaded file old faults.FileExists told = absurd told
-  make-not-loaded file old (faults.RecordsLine line) told = absurd told
-  make-not-loaded file old faults.DiskFull told = absurd told
-  make-not-loaded file old faults.File told = absurd told
-  make-not-loaded file old faults.Device told = absurd told
-  make-not-loaded file old faults.Geos told = absurd told
-  make-not-loaded file old faults.Format told = absurd told
+  make-not-loaded file old = by-load image (λ fault. IsMakeOver K contents image name L file file old old (Err fault))
+      (λ told. is-refused image file file old old _ (IsMadeFault K image name L file file old old) faults.ImageSize refl
+      (told, (refl, refl)) (refl, refl))
+      (λ told. is-stopped image file file old old _ (IsMadeFault K image name L file file old old) faults.NoMemory refl told
+      (told, (refl, refl)))
 
 module _ {F : Type 0} {G : Ghosts F} (start : KeptMirror F G) (sound : is_broken start → ⊥) (untaken : start.taken.n ≡ 0)
     (b : KeptMirror F G)
@@ -116,6 +107,13 @@ module _ {F : Type 0} {G : Ghosts F} (start : KeptMirror F G) (sound : is_broken
     whole-ended whole (Err faults.Device) ok err = absurd (not_failed start sound untaken b whole err.1)
     whole-ended whole (Err faults.NoFile) ok err = absurd err
     whole-ended whole (Err (faults.RecordsLine line)) ok err = absurd err
+    whole-ended whole (Err faults.Locked) ok err = absurd err
+    whole-ended whole (Err faults.NoStock) ok err = absurd err
+    whole-ended whole (Err faults.NoRequests) ok err = absurd err
+    whole-ended whole (Err (faults.BadCard item)) ok err = absurd err
+    whole-ended whole (Err (faults.BadRequestCard till)) ok err = absurd err
+    whole-ended whole (Err faults.TwoIntents) ok err = absurd err
+    whole-ended whole (Err (faults.ScriptLine line)) ok err = absurd err
 
     -- a disk of which nothing was written has its files
     left-run : (Why : Layout → Type 0) → IsLeft mirror image start b old new Why → IsMakeRun mirror image name L start b
@@ -146,6 +144,13 @@ module _ {F : Type 0} {G : Ghosts F} (start : KeptMirror F G) (sound : is_broken
     run-of broken (Err (faults.RecordsLine line)) ok err = absurd err
     run-of broken (Err faults.Geos) ok err = absurd err
     run-of broken (Err faults.Format) ok err = absurd err
+    run-of broken (Err faults.Locked) ok err = absurd err
+    run-of broken (Err faults.NoStock) ok err = absurd err
+    run-of broken (Err faults.NoRequests) ok err = absurd err
+    run-of broken (Err (faults.BadCard item)) ok err = absurd err
+    run-of broken (Err (faults.BadRequestCard till)) ok err = absurd err
+    run-of broken (Err faults.TwoIntents) ok err = absurd err
+    run-of broken (Err (faults.ScriptLine line)) ok err = absurd err
 
     -- the file failed
     broken-ended : is_broken b → (r : Result Unit CommandFault)

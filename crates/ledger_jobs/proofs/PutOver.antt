@@ -23,6 +23,7 @@ use Rattle.ledger_jobs.proofs.OverFiles.{broken_file, changes_of_run, handed-bac
 use Rattle.ledger_jobs.proofs.OverFiles.{same_failures, taken_up, whole_file}
 use Rattle.ledger_jobs.specs.Edited.{IsRefusedBy}
 use Rattle.ledger_jobs.specs.Puts.{IsPutOver}
+use Rattle.command_faults.proofs.Loads.{by-load}
 
 -- no slice has so many bytes that its sectors can't be counted
 pub few-sectors : (bytes : List ℕ) → length bytes < 18446744073709551616
@@ -35,15 +36,8 @@ module _ {F W : Type 0} (K : Keeps F) (contents : W → Option (List ℕ)) (imag
   -- the image wasn't taken into memory
   pub put-not-loaded : (file : F) (old : W) (fault : CommandFault) → IsLoadFault image fault
       → IsPutOver K contents image name kind bytes file file old old (Err fault)
-  put-not-loaded file old faults.ImageSize told = (told, (refl, refl))
-  put-not-loaded file old faults.NoMemory told = (told, (refl, refl))
-  put-not-loaded file old (faults.Layout fault) told = absurd told
-  put-not-loaded file old faults.NoFile told = absurd told
-  put-not-loaded file old faults.FileExists told = absurd told
-  put-not-loaded file old faults.DiskFull told = absurd told
-  put-not-loaded file old faults.Locked told = absurd told
-  put-not-loaded file old faults.File told = absurd told
-  put-not-loaded file old faults.Device told = absurd told
+  put-not-loaded file old = by-load image (λ fault. IsPutOver K contents image name kind bytes file file old old (Err fault))
+      (λ told. (told, (refl, refl))) (λ told. (told, (refl, refl)))
 
 module _ {F : Type 0} {G : Ghosts F} (start : KeptMirror F G) (sound : is_broken start → ⊥) (untaken : start.taken.n ≡ 0)
     (b : KeptMirror F G)
@@ -99,6 +93,15 @@ module _ {F : Type 0} {G : Ghosts F} (start : KeptMirror F G) (sound : is_broken
       taken_up start sound untaken b image size holds (done_of_file whole err),
     )
     whole-ended whole (Err faults.Device) ok err = absurd (not_failed start sound untaken b whole err.1)
+    whole-ended whole (Err faults.NoStock) ok err = absurd err.0
+    whole-ended whole (Err faults.NoRequests) ok err = absurd err.0
+    whole-ended whole (Err (faults.BadCard item)) ok err = absurd err.0
+    whole-ended whole (Err (faults.BadRequestCard till)) ok err = absurd err.0
+    whole-ended whole (Err faults.TwoIntents) ok err = absurd err.0
+    whole-ended whole (Err (faults.ScriptLine line)) ok err = absurd err.0
+    whole-ended whole (Err (faults.RecordsLine line)) ok err = absurd err.0
+    whole-ended whole (Err faults.Geos) ok err = absurd err.0
+    whole-ended whole (Err faults.Format) ok err = absurd err.0
 
     -- a disk of which nothing was written has its files
     left-run : (Why : Layout → Type 0) → IsLeftClean mirror image start b old new Why
@@ -128,6 +131,15 @@ module _ {F : Type 0} {G : Ghosts F} (start : KeptMirror F G) (sound : is_broken
     run-of broken (Err faults.Locked) ok err = absurd err
     run-of broken (Err faults.File) ok err = absurd (not_broken start sound untaken b err.unfailed broken)
     run-of broken (Err faults.Device) ok err = (err.0, err.2)
+    run-of broken (Err faults.NoStock) ok err = absurd err.0
+    run-of broken (Err faults.NoRequests) ok err = absurd err.0
+    run-of broken (Err (faults.BadCard item)) ok err = absurd err.0
+    run-of broken (Err (faults.BadRequestCard till)) ok err = absurd err.0
+    run-of broken (Err faults.TwoIntents) ok err = absurd err.0
+    run-of broken (Err (faults.ScriptLine line)) ok err = absurd err.0
+    run-of broken (Err (faults.RecordsLine line)) ok err = absurd err.0
+    run-of broken (Err faults.Geos) ok err = absurd err.0
+    run-of broken (Err faults.Format) ok err = absurd err.0
 
     -- the file failed
     broken-ended : is_broken b → (r : Result Unit CommandFault)

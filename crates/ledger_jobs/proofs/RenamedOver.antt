@@ -19,20 +19,14 @@ use Rattle.ledger_jobs.proofs.EditOver.{sound-refused}
 use Rattle.ledger_jobs.proofs.OverFiles.{broken_file, changes_of_file, handed-back, not_broken, not_failed}
 use Rattle.ledger_jobs.proofs.OverFiles.{same_failures, taken_up, whole_file}
 use Rattle.ledger_jobs.specs.Edited.{IsRenameOver}
+use Rattle.command_faults.proofs.Loads.{by-load}
 
 module _ {F W : Type 0} (K : Keeps F) (contents : W → Option (List ℕ)) (image from to : List ℕ) where
   -- the image wasn't taken into memory
   pub rename-not-loaded : (file : F) (old : W) (fault : CommandFault) → IsLoadFault image fault
       → IsRenameOver K contents image from to file file old old (Err fault)
-  rename-not-loaded file old faults.ImageSize told = (told, (refl, refl))
-  rename-not-loaded file old faults.NoMemory told = (told, (refl, refl))
-  rename-not-loaded file old (faults.Layout fault) told = absurd told
-  rename-not-loaded file old faults.NoFile told = absurd told
-  rename-not-loaded file old faults.FileExists told = absurd told
-  rename-not-loaded file old faults.DiskFull told = absurd told
-  rename-not-loaded file old faults.Locked told = absurd told
-  rename-not-loaded file old faults.File told = absurd told
-  rename-not-loaded file old faults.Device told = absurd told
+  rename-not-loaded file old = by-load image (λ fault. IsRenameOver K contents image from to file file old old (Err fault))
+      (λ told. (told, (refl, refl))) (λ told. (told, (refl, refl)))
 
 module _ {F : Type 0} {G : Ghosts F} (start : KeptMirror F G) (sound : is_broken start → ⊥) (untaken : start.taken.n ≡ 0)
     (b : KeptMirror F G)
@@ -84,6 +78,15 @@ module _ {F : Type 0} {G : Ghosts F} (start : KeptMirror F G) (sound : is_broken
       taken_up start sound untaken b image size holds (done_of_file whole err),
     )
     whole-ended whole (Err faults.Device) ok err = absurd (not_failed start sound untaken b whole err.1)
+    whole-ended whole (Err faults.NoStock) ok err = absurd err.0
+    whole-ended whole (Err faults.NoRequests) ok err = absurd err.0
+    whole-ended whole (Err (faults.BadCard item)) ok err = absurd err.0
+    whole-ended whole (Err (faults.BadRequestCard till)) ok err = absurd err.0
+    whole-ended whole (Err faults.TwoIntents) ok err = absurd err.0
+    whole-ended whole (Err (faults.ScriptLine line)) ok err = absurd err.0
+    whole-ended whole (Err (faults.RecordsLine line)) ok err = absurd err.0
+    whole-ended whole (Err faults.Geos) ok err = absurd err.0
+    whole-ended whole (Err faults.Format) ok err = absurd err.0
 
     -- a disk of which nothing was written is as it was
     left-run : (Why : Layout → Type 0) → IsLeftSound mirror image start b old new Why → IsRenameRun mirror image from to start b
@@ -111,6 +114,15 @@ module _ {F : Type 0} {G : Ghosts F} (start : KeptMirror F G) (sound : is_broken
     run-of broken (Err faults.DiskFull) ok err = absurd err.0
     run-of broken (Err faults.File) ok err = absurd (not_broken start sound untaken b err.unfailed broken)
     run-of broken (Err faults.Device) ok err = (err.0, err.2)
+    run-of broken (Err faults.NoStock) ok err = absurd err.0
+    run-of broken (Err faults.NoRequests) ok err = absurd err.0
+    run-of broken (Err (faults.BadCard item)) ok err = absurd err.0
+    run-of broken (Err (faults.BadRequestCard till)) ok err = absurd err.0
+    run-of broken (Err faults.TwoIntents) ok err = absurd err.0
+    run-of broken (Err (faults.ScriptLine line)) ok err = absurd err.0
+    run-of broken (Err (faults.RecordsLine line)) ok err = absurd err.0
+    run-of broken (Err faults.Geos) ok err = absurd err.0
+    run-of broken (Err faults.Format) ok err = absurd err.0
 
     -- the file failed
     broken-ended : is_broken b → (r : Result Unit CommandFault)

@@ -13,6 +13,7 @@ use Rattle.command_faults.specs.declared.faults.CommandFault.{CommandFault}
 use Rattle.command_faults.specs.declared.faults.CommandFault.TheVariants as faults
 use Rattle.shop_commands.specs.Plays.{IsUntouched}
 use Rattle.ledger_jobs.specs.Keeping.{IsRepairOver, IsRepairedFault, IsRepairedFile, repair_end}
+use Rattle.command_faults.proofs.Loads.{by-load}
 
 module _ {F W : Type 0} (free : Bool) (K : Keeps F) (contents : W → Option (List ℕ)) (image : List ℕ) (file after : F)
     (old new : W) where
@@ -63,22 +64,14 @@ module _ {F W : Type 0} (free : Bool) (K : Keeps F) (contents : W → Option (Li
 pub not-loaded : {F W : Type 0} (free : Bool) (K : Keeps F) (contents : W → Option (List ℕ)) (image : List ℕ) (file : F)
     (old : W) (fault : CommandFault)
     → IsLoadFault image fault → IsRepairOver free K contents image file file old old (Err fault)
-not-loaded free K contents image file old faults.ImageSize told = record {
-  done = tt;
-  fault = (told, (refl, refl));
-  size = λ _. refl;
-  refused = λ _ same. absurd (told same);
-  untouched = λ _. (refl, refl);
-  statuses = inr (inl refl);
-}
-not-loaded free K contents image file old faults.NoMemory told =
-    stopped free K contents image file file old old faults.NoMemory refl told (told, (refl, refl))
-not-loaded free K contents image file old (faults.Layout fault) told = absurd told
-not-loaded free K contents image file old faults.NoFile told = absurd told
-not-loaded free K contents image file old faults.FileExists told = absurd told
-not-loaded free K contents image file old (faults.RecordsLine line) told = absurd told
-not-loaded free K contents image file old faults.DiskFull told = absurd told
-not-loaded free K contents image file old faults.File told = absurd told
-not-loaded free K contents image file old faults.Device told = absurd told
-not-loaded free K contents image file old faults.Geos told = absurd told
-not-loaded free K contents image file old faults.Format told = absurd told
+not-loaded free K contents image file old =
+    by-load image (λ fault. IsRepairOver free K contents image file file old old (Err fault))
+    (λ told. record {
+      done = tt;
+      fault = (told, (refl, refl));
+      size = λ _. refl;
+      refused = λ _ same. absurd (told same);
+      untouched = λ _. (refl, refl);
+      statuses = inr (inl refl);
+    })
+    (λ told. stopped free K contents image file file old old faults.NoMemory refl told (told, (refl, refl)))

@@ -141,6 +141,13 @@ module _ {F : Type 0} {G : Ghosts F} (start : KeptMirror F G) (sound : is_broken
     whole-ended whole (Err faults.FileExists) ok err = absurd err
     whole-ended whole (Err (faults.RecordsLine line)) ok err = absurd err
     whole-ended whole (Err faults.DiskFull) ok err = absurd err
+    whole-ended whole (Err faults.Locked) ok err = absurd err
+    whole-ended whole (Err faults.NoStock) ok err = absurd err
+    whole-ended whole (Err faults.NoRequests) ok err = absurd err
+    whole-ended whole (Err (faults.BadCard item)) ok err = absurd err
+    whole-ended whole (Err (faults.BadRequestCard till)) ok err = absurd err
+    whole-ended whole (Err faults.TwoIntents) ok err = absurd err
+    whole-ended whole (Err (faults.ScriptLine line)) ok err = absurd err
 
     -- where the disk is the one that was handed in, the file hasn't failed
     not_handed : is_broken b → ¬ (b ≡ start)
@@ -169,6 +176,13 @@ module _ {F : Type 0} {G : Ghosts F} (start : KeptMirror F G) (sound : is_broken
     broken-ended broken (Err faults.FileExists) ok err = absurd err
     broken-ended broken (Err (faults.RecordsLine line)) ok err = absurd err
     broken-ended broken (Err faults.DiskFull) ok err = absurd err
+    broken-ended broken (Err faults.Locked) ok err = absurd err
+    broken-ended broken (Err faults.NoStock) ok err = absurd err
+    broken-ended broken (Err faults.NoRequests) ok err = absurd err
+    broken-ended broken (Err (faults.BadCard item)) ok err = absurd err
+    broken-ended broken (Err (faults.BadRequestCard till)) ok err = absurd err
+    broken-ended broken (Err faults.TwoIntents) ok err = absurd err
+    broken-ended broken (Err (faults.ScriptLine line)) ok err = absurd err
 
     -- the file that is handed back, and what is told of it
     pub file-ended : (file : F) (r : Result ℕ CommandFault) (out : F × Result ℕ CommandFault) → start.file ≡ file

@@ -21,26 +21,17 @@ use Rattle.ledger_jobs.proofs.KeptOver.{is-done, is-refused, is-stopped}
 use Rattle.ledger_jobs.proofs.OverFiles.{broken_file, handed-back, kept_of_file, not_failed, refused_of_file}
 use Rattle.ledger_jobs.proofs.OverFiles.{same_file, taken_up, whole_file}
 use Rattle.ledger_jobs.specs.Kept.{IsKeptAsItWas, IsStoreOver, IsStoredFault, IsStoredFile, IsStoringRun}
+use Rattle.command_faults.proofs.Loads.{by-load}
 
 module _ {F W : Type 0} (K : Keeps F) (contents : W → Option (List ℕ)) (image name text : List ℕ) where
   -- the image wasn't taken into memory
   pub store-not-loaded : (file : F) (old : W) (fault : CommandFault) → IsLoadFault image fault
       → IsStoreOver K contents image name text file file old old (Err fault)
-  store-not-loaded file old faults.ImageSize told =
-      is-refused image file file old old _ (IsStoredFault K image name text file file old old) faults.ImageSize refl
-      (told, (refl, refl)) (refl, refl)
-  store-not-loaded file old faults.NoMemory told =
-      is-stopped image file file old old _ (IsStoredFault K image name text file file old old) faults.NoMemory refl told
-      (told, (refl, refl))
-  store-not-loaded file old (faults.Layout fault) told = absurd told
-  store-not-loaded file old faults.NoFile told = absurd told
-  store-not-loaded file old faults.FileExists told = absurd told
-  store-not-loaded file old (faults.RecordsLine line) told = absurd told
-  store-not-loaded file old faults.DiskFull told = absurd told
-  store-not-loaded file old faults.File told = absurd told
-  store-not-loaded file old faults.Device told = absurd told
-  store-not-loaded file old faults.Geos told = absurd told
-  store-not-loaded file old faults.Format told = absurd told
+  store-not-loaded file old = by-load image (λ fault. IsStoreOver K contents image name text file file old old (Err fault))
+      (λ told. is-refused image file file old old _ (IsStoredFault K image name text file file old old) faults.ImageSize refl
+      (told, (refl, refl)) (refl, refl))
+      (λ told. is-stopped image file file old old _ (IsStoredFault K image name text file file old old) faults.NoMemory refl told
+      (told, (refl, refl)))
 
 module _ {F : Type 0} {G : Ghosts F} (start : KeptMirror F G) (sound : is_broken start → ⊥) (untaken : start.taken.n ≡ 0)
     (b : KeptMirror F G)
@@ -117,6 +108,13 @@ module _ {F : Type 0} {G : Ghosts F} (start : KeptMirror F G) (sound : is_broken
         )
     whole-ended whole (Err faults.Device) ok err = absurd (not_failed start sound untaken b whole err.0)
     whole-ended whole (Err faults.FileExists) ok err = absurd err
+    whole-ended whole (Err faults.Locked) ok err = absurd err
+    whole-ended whole (Err faults.NoStock) ok err = absurd err
+    whole-ended whole (Err faults.NoRequests) ok err = absurd err
+    whole-ended whole (Err (faults.BadCard item)) ok err = absurd err
+    whole-ended whole (Err (faults.BadRequestCard till)) ok err = absurd err
+    whole-ended whole (Err faults.TwoIntents) ok err = absurd err
+    whole-ended whole (Err (faults.ScriptLine line)) ok err = absurd err
 
     abbrev Kept : Type 0
     Kept = IsKeptAsItWas G.keeps image start.file b.file old new
@@ -153,6 +151,13 @@ module _ {F : Type 0} {G : Ghosts F} (start : KeptMirror F G) (sound : is_broken
     run-of broken (Err faults.FileExists) ok err = absurd err
     run-of broken (Err faults.Geos) ok err = absurd err
     run-of broken (Err faults.Format) ok err = absurd err
+    run-of broken (Err faults.Locked) ok err = absurd err
+    run-of broken (Err faults.NoStock) ok err = absurd err
+    run-of broken (Err faults.NoRequests) ok err = absurd err
+    run-of broken (Err (faults.BadCard item)) ok err = absurd err
+    run-of broken (Err (faults.BadRequestCard till)) ok err = absurd err
+    run-of broken (Err faults.TwoIntents) ok err = absurd err
+    run-of broken (Err (faults.ScriptLine line)) ok err = absurd err
 
     -- the file failed
     broken-ended : is_broken b → (r : Result Unit CommandFault)

@@ -69,6 +69,13 @@ module _ {W : Type 0} (contents : W → Option (List ℕ)) (image name : List �
   records-run form (Err faults.DiskFull) ok err = absurd err
   records-run form (Err faults.Geos) ok err = absurd err
   records-run form (Err faults.Format) ok err = absurd err
+  records-run form (Err faults.Locked) ok err = absurd err
+  records-run form (Err faults.NoStock) ok err = absurd err
+  records-run form (Err faults.NoRequests) ok err = absurd err
+  records-run form (Err (faults.BadCard item)) ok err = absurd err
+  records-run form (Err (faults.BadRequestCard till)) ok err = absurd err
+  records-run form (Err faults.TwoIntents) ok err = absurd err
+  records-run form (Err (faults.ScriptLine line)) ok err = absurd err
 
   -- what a fault says of a file of this kind is what is said of what was asked for
   pub file-run : (what : Taking) (kind : Kind) (Printed : Option Fault → Type 0)
@@ -99,3 +106,10 @@ module _ {W : Type 0} (contents : W → Option (List ℕ)) (image name : List �
   file-run what kind Printed say all has (Err faults.DiskFull) ok err = absurd err
   file-run what kind Printed say all has (Err faults.Geos) ok err = absurd err
   file-run what kind Printed say all has (Err faults.Format) ok err = absurd err
+  file-run what kind Printed say all has (Err faults.Locked) ok err = absurd err
+  file-run what kind Printed say all has (Err faults.NoStock) ok err = absurd err
+  file-run what kind Printed say all has (Err faults.NoRequests) ok err = absurd err
+  file-run what kind Printed say all has (Err (faults.BadCard item)) ok err = absurd err
+  file-run what kind Printed say all has (Err (faults.BadRequestCard till)) ok err = absurd err
+  file-run what kind Printed say all has (Err faults.TwoIntents) ok err = absurd err
+  file-run what kind Printed say all has (Err (faults.ScriptLine line)) ok err = absurd err

@@ -21,9 +21,6 @@ landing_lost (refusals.Fault faults.TwoIntents) = inl refl
 landing_lost (refusals.Fault (faults.ScriptLine line)) = inl refl
 landing_lost (refusals.Fault faults.File) = inl refl
 landing_lost (refusals.Fault faults.Device) = inl refl
-landing_lost (refusals.Fault fault) = inl refl
-landing_lost (refusals.Fault fault) = inl refl
-landing_lost (refusals.Fault fault) = inl refl
 landing_lost refusals.InUse = inl refl
 landing_lost (refusals.Kept n) = inl refl
 landing_lost refusals.Exists = inl refl
@@ -32,6 +29,13 @@ landing_lost (refusals.Short p) = inl refl
 landing_lost refusals.ShopFile = inl refl
 landing_lost refusals.Trimmed = inl refl
 landing_lost (refusals.Several greatest) = inl refl
+landing_lost (refusals.Fault faults.NoFile) = inl refl
+landing_lost (refusals.Fault faults.FileExists) = inl refl
+landing_lost (refusals.Fault faults.DiskFull) = inl refl
+landing_lost (refusals.Fault faults.Locked) = inl refl
+landing_lost (refusals.Fault (faults.RecordsLine line)) = inl refl
+landing_lost (refusals.Fault faults.Geos) = inl refl
+landing_lost (refusals.Fault faults.Format) = inl refl
 
 -- how it ended, or that the log couldn't be landed; and a service that ended so didn't end well
 pub record IsUnlanded (ended end : JobEnd) : Type 0 where
@@ -69,12 +73,6 @@ unlanded_is (Err (refusals.Fault (faults.ScriptLine line))) fault =
     record { told = inl refl; out = λ out. elim out [ inl ok ↦ false≢true ok | inr e ↦ cc ] }
 unlanded_is (Err (refusals.Fault faults.Device)) fault =
     record { told = inl refl; out = λ out. elim out [ inl ok ↦ false≢true ok | inr e ↦ cc ] }
-unlanded_is (Err (refusals.Fault why)) fault =
-    record { told = inl refl; out = λ out. elim out [ inl ok ↦ false≢true ok | inr e ↦ cc ] }
-unlanded_is (Err (refusals.Fault why)) fault =
-    record { told = inl refl; out = λ out. elim out [ inl ok ↦ false≢true ok | inr e ↦ cc ] }
-unlanded_is (Err (refusals.Fault why)) fault =
-    record { told = inl refl; out = λ out. elim out [ inl ok ↦ false≢true ok | inr e ↦ cc ] }
 unlanded_is (Err refusals.InUse) fault =
     record { told = inl refl; out = λ out. elim out [ inl ok ↦ false≢true ok | inr e ↦ cc ] }
 unlanded_is (Err (refusals.Kept n)) fault =
@@ -90,4 +88,18 @@ unlanded_is (Err refusals.ShopFile) fault =
 unlanded_is (Err refusals.Trimmed) fault =
     record { told = inl refl; out = λ out. elim out [ inl ok ↦ false≢true ok | inr e ↦ cc ] }
 unlanded_is (Err (refusals.Several greatest)) fault =
+    record { told = inl refl; out = λ out. elim out [ inl ok ↦ false≢true ok | inr e ↦ cc ] }
+unlanded_is (Err (refusals.Fault faults.NoFile)) fault =
+    record { told = inl refl; out = λ out. elim out [ inl ok ↦ false≢true ok | inr e ↦ cc ] }
+unlanded_is (Err (refusals.Fault faults.FileExists)) fault =
+    record { told = inl refl; out = λ out. elim out [ inl ok ↦ false≢true ok | inr e ↦ cc ] }
+unlanded_is (Err (refusals.Fault faults.DiskFull)) fault =
+    record { told = inl refl; out = λ out. elim out [ inl ok ↦ false≢true ok | inr e ↦ cc ] }
+unlanded_is (Err (refusals.Fault faults.Locked)) fault =
+    record { told = inl refl; out = λ out. elim out [ inl ok ↦ false≢true ok | inr e ↦ cc ] }
+unlanded_is (Err (refusals.Fault (faults.RecordsLine line))) fault =
+    record { told = inl refl; out = λ out. elim out [ inl ok ↦ false≢true ok | inr e ↦ cc ] }
+unlanded_is (Err (refusals.Fault faults.Geos)) fault =
+    record { told = inl refl; out = λ out. elim out [ inl ok ↦ false≢true ok | inr e ↦ cc ] }
+unlanded_is (Err (refusals.Fault faults.Format)) fault =
     record { told = inl refl; out = λ out. elim out [ inl ok ↦ false≢true ok | inr e ↦ cc ] }

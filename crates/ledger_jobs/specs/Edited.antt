@@ -58,8 +58,7 @@ IsRenamedFault K image from to file after old new faults.File =
 IsRenamedFault K image from to file after old new faults.Device =
     FileFailed K file after
     × IsTakenUp K image file after (λ disk left. IsRenameRun (in_run K file) image from to disk left) × (new ≡ old)
-IsRenamedFault K image from to file after old new faults.DiskFull = ⊥
-IsRenamedFault K image from to file after old new faults.Locked = ⊥
+IsRenamedFault K image from to file after old new _ = ⊥
 
 -- the renaming of a file on the disk of an image, over its file, ended so
 abbrev pub IsRenameOver : {F W : Type 0} → Keeps F → (W → Option (List ℕ)) → (image from to : List ℕ) → F → F → W → W
@@ -95,8 +94,7 @@ IsDeletedFault K image name file after old new faults.File =
 IsDeletedFault K image name file after old new faults.Device =
     FileFailed K file after
     × IsTakenUp K image file after (λ disk left. IsDeleteRun (in_run K file) image name disk left) × (new ≡ old)
-IsDeletedFault K image name file after old new faults.FileExists = ⊥
-IsDeletedFault K image name file after old new faults.DiskFull = ⊥
+IsDeletedFault K image name file after old new _ = ⊥
 
 -- the deletion of a file on the disk of an image, over its file, ended so
 abbrev pub IsDeleteOver : {F W : Type 0} → Keeps F → (W → Option (List ℕ)) → (image name : List ℕ) → F → F → W → W

@@ -1,5 +1,5 @@
 -- What comes of listing all faults of an image. Our own.
-use Rattle.std.specs.Prelude.{◌≡◌, ◌≢◌, List, Option, Result, Ok, Err, IfErr, IfOk, ℕ}
+use Rattle.std.specs.Prelude.{◌≡◌, ◌≢◌, List, Option, Result, IfErr, IfOk, ℕ}
 use Rattle.disk_faults.specs.AllFaults.{AreListed}
 use Rattle.disk_faults.specs.Outcomes.{IsDescribeFault}
 use Rattle.command_faults.specs.declared.faults.CommandFault.{CommandFault}

@@ -42,8 +42,7 @@ IsUnput K image name kind bytes file after old new faults.File =
 IsUnput K image name kind bytes file after old new faults.Device =
     FileFailed K file after
     × IsTakenUp K image file after (λ disk left. IsPutRun (in_run K file) image name kind bytes disk left) × (new ≡ old)
-IsUnput K image name kind bytes file after old new faults.NoFile = ⊥
-IsUnput K image name kind bytes file after old new faults.Locked = ⊥
+IsUnput K image name kind bytes file after old new _ = ⊥
 
 -- the putting of a file on the disk of an image, over its file, ended so
 abbrev pub IsPutOver : {F W : Type 0} → Keeps F → (W → Option (List ℕ)) → (image name : List ℕ) → FileType → List ℕ → F → F

@@ -5,9 +5,8 @@ ghost use Rattle.d64_image.specs.Memory.{sectors_in};
 ghost use Rattle.ledger_jobs.specs.Edited.{IsDeleteOver, IsRenameOver};
 ghost use Rattle.ledger_jobs.specs.Puts.{IsPutOver};
 
-use crate::keeper_runs::file_of;
 use change_commands::{delete_image, put_image, rename_image};
-use command_faults::{CommandFault, load};
+use command_faults::{CommandFault, file_of, load};
 use d64_image::{KeptMirror, SectorFile};
 use file_changes::FileType;
 use std::alloc::Global;
@@ -37,7 +36,7 @@ pub fn rename_run<F: SectorFile, W: Write>(
     };
     let mut mirror = KeptMirror::new(file, disk);
     let ended = rename_image(alloc, image, from, to, &mut mirror, out);
-    file_of(mirror, ended, CommandFault::Device)
+    file_of(mirror, ended)
 }
 
 /// Deletes the first file that has the name on the clean disk of the image that the file keeps, prints `DELETED`, and hands
@@ -62,7 +61,7 @@ pub fn delete_run<F: SectorFile, W: Write>(
     };
     let mut mirror = KeptMirror::new(file, disk);
     let ended = delete_image(alloc, image, name, &mut mirror, out);
-    file_of(mirror, ended, CommandFault::Device)
+    file_of(mirror, ended)
 }
 
 /// How many bytes these are. As of each slice the number has 64 bits.
@@ -100,5 +99,5 @@ pub fn put_run<F: SectorFile, W: Write>(
     let _ = count_of(data);
     let mut mirror = KeptMirror::new(file, disk);
     let ended = put_image(alloc, image, name, kind, data, &mut mirror, out);
-    file_of(mirror, ended, CommandFault::Device)
+    file_of(mirror, ended)
 }

@@ -1,15 +1,13 @@
 //! What a keeper asks of an image, done over its bytes and its file.
-ghost use Rattle.std.specs.Prelude.{◌≡◌, ◌⊎◌, Err};
 ghost use Rattle.d64_image.specs.Keeps.{Agrees};
 ghost use Rattle.d64_image.specs.Memory.{sectors_in};
-ghost use Rattle.d64_image.specs.KeptMirrors.{is_broken, mirror_file};
 ghost use Rattle.ledger_jobs.specs.Keeping.{IsDryRepair, IsRepairOver, IsTakingRun};
 ghost use Rattle.ledger_jobs.specs.Kept.{IsMakeOver, IsStoreOver};
 ghost use Rattle.keeper_commands.specs.Makes.{IsNewName};
 ghost use Rattle.rel_records.specs.File.{IsLength};
 
 use crate::jobs::Taking;
-use command_faults::{CommandFault, load};
+use command_faults::{CommandFault, file_of, load};
 use d64_image::{KeptMirror, SectorFile};
 use keeper_commands::{
     Candidates, bytes_image, make_image, records_image, repair_image, store_image,
@@ -37,23 +35,6 @@ pub fn taking_run<W: Write>(
     }
 }
 
-/// The file of a mirror over which a run ended so, and how it ends over the file: with this fault if the file failed.
-pub(crate) fn file_of<F: SectorFile, T: Drop, E: Drop>(
-    mirror: KeptMirror<F>,
-    ended: Result<T, E>,
-    fault: E,
-) -> (F, Result<T, E>)
-    ensures file { result.0 ≡ mirror_file mirror }
-    ensures end { (is_broken mirror × (result.1 ≡ Err fault)) ⊎ ((is_broken mirror → ⊥) × (result.1 ≡ ended)) }
-{
-    let failed = mirror.is_broken();
-    let (file, _) = mirror.into_inner();
-    if failed {
-        return (file, Err(fault));
-    }
-    (file, ended)
-}
-
 /// Repairs the disk of the image that the file keeps as `repair_image` does, prints what was mended, and hands the file
 /// back, with the number of sectors that stay taken though no file owns them. Each sector is handed to the file before
 /// memory takes it. `Device` if the file failed, `File` if the output did.
@@ -74,7 +55,7 @@ pub fn repair_run<F: SectorFile, W: Write>(
     };
     let mut mirror = KeptMirror::new(file, disk);
     let ended = repair_image(alloc, image, free, &mut mirror, out);
-    file_of(mirror, ended, CommandFault::Device)
+    file_of(mirror, ended)
 }
 
 /// Repairs a copy of the image in memory, and prints what `repair_run` would print. Nothing else is written.
@@ -114,7 +95,7 @@ pub fn make_run<F: SectorFile, W: Write>(
     };
     let mut mirror = KeptMirror::new(file, disk);
     let ended = make_image(alloc, image, name, length, &mut mirror, out);
-    file_of(mirror, ended, CommandFault::Device)
+    file_of(mirror, ended)
 }
 
 /// Stores records, from the lines of a text, in the first closed relative file of this name of the clean disk of the
@@ -139,5 +120,5 @@ pub fn store_run<F: SectorFile, W: Write>(
     };
     let mut mirror = KeptMirror::new(file, disk);
     let ended = store_image(alloc, image, name, text, &mut mirror, out);
-    file_of(mirror, ended, CommandFault::Device)
+    file_of(mirror, ended)
 }

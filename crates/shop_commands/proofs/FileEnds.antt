@@ -27,6 +27,7 @@ use Rattle.command_faults.specs.declared.faults.CommandFault.{CommandFault}
 use Rattle.command_faults.specs.declared.faults.CommandFault.TheVariants as faults
 use Rattle.shop_commands.proofs.FileScripts.{end_of_file, refused_reached, refuses_so, script_of_file}
 use Rattle.shop_commands.proofs.PlayEnds.{fault_in, left_in, none-of}
+use Rattle.command_faults.proofs.Loads.{by-load}
 
 -- a file failed, or it didn't
 pub failed_stably : {F : Type 0} (K : Keeps F) (a b : F) → ((FileFailed K a b → ⊥) → ⊥) → FileFailed K a b
@@ -157,14 +158,5 @@ module _ {F T : Type 0} {G : Ghosts F} (o : Output T) (image script : List ℕ) 
 -- nothing was done where the image wasn't loaded
 pub unloaded : {F T : Type 0} (K : Keeps F) (o : Output T) (image script : List ℕ) (file : F) (out : T)
     (fault : CommandFault) → IsLoadFault image fault → IsFileFault K o image script file file out out fault
-unloaded K o image script file out faults.ImageSize size = (size, (refl, refl))
-unloaded K o image script file out faults.NoMemory size = (size, (refl, refl))
-unloaded K o image script file out (faults.Layout fault) never = absurd never
-unloaded K o image script file out faults.NoStock never = absurd never
-unloaded K o image script file out faults.NoRequests never = absurd never
-unloaded K o image script file out (faults.BadCard item) never = absurd never
-unloaded K o image script file out (faults.BadRequestCard till) never = absurd never
-unloaded K o image script file out faults.TwoIntents never = absurd never
-unloaded K o image script file out (faults.ScriptLine line) never = absurd never
-unloaded K o image script file out faults.File never = absurd never
-unloaded K o image script file out faults.Device never = absurd never
+unloaded K o image script file out = by-load image (IsFileFault K o image script file file out out)
+    (λ size. (size, (refl, refl))) (λ size. (size, (refl, refl)))

@@ -19,6 +19,7 @@ use Rattle.command_faults.specs.declared.faults.CommandFault.{CommandFault}
 use Rattle.command_faults.specs.declared.faults.CommandFault.TheVariants as faults
 use Rattle.shop_commands.specs.declared.texts.NameForm.{NameForm}
 use Rattle.shop_commands.specs.Texts.{disk_text, entry_line, entry_text, free_text, listing, name_text, quoted, type_text}
+use Rattle.command_faults.proofs.Loads.{by-load}
 
 -- a byte that pads nothing
 plain-byte : (b : ℕ) → b ≢ 160 → not (nat_eq b 160) ≡ true
@@ -106,17 +107,4 @@ is-listed contents form image old new directory bytes slots here same printed = 
 pub load-listed : {T : Type 0} (image : List ℕ) (fault : CommandFault) (r : Result T CommandFault) → r ≡ Err fault
     → IsLoadFault image fault → IfErr r (IsListFault image)
 load-listed {T = T} image fault r told load = subst (λ (x : Result T CommandFault). IfErr x (IsListFault image)) (sym told)
-    (by fault load)
-  where
-    by : (f : CommandFault) → IsLoadFault image f → IsListFault image f
-    by faults.ImageSize h = h
-    by faults.NoMemory h = h
-    by (faults.Layout x) h = absurd h
-    by faults.NoStock h = absurd h
-    by faults.NoRequests h = absurd h
-    by (faults.BadCard x) h = absurd h
-    by (faults.BadRequestCard x) h = absurd h
-    by faults.TwoIntents h = absurd h
-    by (faults.ScriptLine x) h = absurd h
-    by faults.File h = absurd h
-    by faults.Device h = absurd h
+    (by-load image (IsListFault image) (λ h. h) (λ h. h) fault load)

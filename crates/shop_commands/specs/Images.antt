@@ -15,6 +15,7 @@ use Rattle.host_session.specs.runs.Outputs.{AppendsPart}
 use Rattle.system_files.specs.Remains.{Remains}
 use Rattle.system_files.specs.Replacing.{IsNoDisk, NowAll, Since}
 use Rattle.shop_commands.specs.Texts.{listing}
+use Rattle.command_faults.specs.Faults.{IsLoadFault}
 use Rattle.command_faults.specs.declared.faults.CommandFault.{CommandFault}
 use Rattle.shop_commands.specs.declared.texts.NameForm.{NameForm}
 use Rattle.command_faults.specs.declared.faults.CommandFault.TheVariants as faults

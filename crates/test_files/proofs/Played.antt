@@ -58,6 +58,13 @@ module _ {F T : Type 0} (K : Keeps F) (o : Output T) (image script : List ℕ) (
   of_fault (faults.BadCard item) e = same e.2.0
   of_fault (faults.BadRequestCard till) e = same e.2.0
   of_fault faults.TwoIntents e = same e.2.0
+  of_fault faults.NoFile e = same e.2.0
+  of_fault faults.FileExists e = same e.2.0
+  of_fault faults.DiskFull e = same e.2.0
+  of_fault faults.Locked e = same e.2.0
+  of_fault (faults.RecordsLine line) e = same e.2.0
+  of_fault faults.Geos e = same e.2.0
+  of_fault faults.Format e = same e.2.0
 
   -- however the play ended
   pub of_play : (end : Ended) → IsPlayRun K o image script file after old new end → KeptOnly K file after (IsSome s ms)

@@ -198,6 +198,13 @@ module _ {F R T : Type 0} (K : Keeps F) (i : Input R) (a : Answering T) (image :
   by_fault (faults.BadRequestCard till) e = refused (faults.BadRequestCard till) e.0 e.1
       (λ (is : faults.BadRequestCard till ≡ faults.File). cc)
   by_fault faults.TwoIntents e = refused faults.TwoIntents e.0 e.1 (λ (is : faults.TwoIntents ≡ faults.File). cc)
+  by_fault faults.NoFile e = refused faults.NoFile e.0 e.1 (λ (is : faults.NoFile ≡ faults.File). cc)
+  by_fault faults.FileExists e = refused faults.FileExists e.0 e.1 (λ (is : faults.FileExists ≡ faults.File). cc)
+  by_fault faults.DiskFull e = refused faults.DiskFull e.0 e.1 (λ (is : faults.DiskFull ≡ faults.File). cc)
+  by_fault faults.Locked e = refused faults.Locked e.0 e.1 (λ (is : faults.Locked ≡ faults.File). cc)
+  by_fault (faults.RecordsLine line) e = refused (faults.RecordsLine line) e.0 e.1 (λ (is : faults.RecordsLine line ≡ faults.File). cc)
+  by_fault faults.Geos e = refused faults.Geos e.0 e.1 (λ (is : faults.Geos ≡ faults.File). cc)
+  by_fault faults.Format e = refused faults.Format e.0 e.1 (λ (is : faults.Format ≡ faults.File). cc)
 
   pub were_served : (end : Ended) → IsServeRun K i a image file after old_in new_in old new end → WereServed end
   were_served (Ok v) x = served_whole v x.done.1.1

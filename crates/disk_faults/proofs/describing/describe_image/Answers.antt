@@ -6,22 +6,16 @@ use Rattle.d64_image.specs.Images.{Image, Sector, sector}
 use Rattle.disk_layout.specs.Directory.{map_place}
 use Rattle.disk_layout.specs.declared.slot.Slot.{Slot}
 use Rattle.disk_faults.specs.Objects.{object_text}
-use Rattle.command_faults.specs.Faults.{IsLoadFault}
+use Rattle.command_faults.proofs.Loads.{by-load}
 use Rattle.disk_faults.specs.Outcomes.{AreFound, IsDescribeFault, IsVerdict}
-use Rattle.command_faults.specs.declared.faults.CommandFault.{CommandFault}
-use Rattle.command_faults.specs.declared.faults.CommandFault.TheVariants as faults
 use Rattle.disk_faults.proofs.describing.describe_image.Goals as goal
-
-load-described : (image : List ℕ) (fault : CommandFault) → IsLoadFault image fault → IsDescribeFault image fault
-load-described image faults.ImageSize h = h
-load-described image faults.NoMemory h = h
-load-described image faults.File h = absurd h
 
 pub returns-in_err-disk : goal.returns-in_err-disk
 returns-in_err-disk g c =
     let p = err_from_is_err_and c.from_residual.result c.from_residual.ensures.1 in record {
       ok = rw p.1 tt;
-      err = rw (p.1, p.2) (load-described c.args.image.now _ c.in_err-disk.ensures.err);
+      err = rw (p.1, p.2) (by-load c.args.image.now (IsDescribeFault c.args.image.now)
+          (λ told. told) (λ told. told) _ c.in_err-disk.ensures.err);
       untouched = rw p.1 (λ _. refl);
     }
 

@@ -4,16 +4,11 @@ use Rattle.std.specs.Prelude.{length}
 use Rattle.std.proofs.lemmas.Result.{err_from_is_err_and}
 use Rattle.d64_image.specs.Images.{Image}
 use Rattle.disk_faults.specs.AllFaults.{IsListed}
-use Rattle.command_faults.specs.Faults.{IsLoadFault}
+use Rattle.command_faults.proofs.Loads.{by-load}
 use Rattle.disk_faults.specs.Outcomes.{IsDescribeFault, IsVerdict}
 use Rattle.command_faults.specs.declared.faults.CommandFault.{CommandFault}
 use Rattle.command_faults.specs.declared.faults.CommandFault.TheVariants as faults
 use Rattle.disk_faults.proofs.listing.list_faults.Goals as goal
-
-load-described : (image : List ℕ) (fault : CommandFault) → IsLoadFault image fault → IsDescribeFault image fault
-load-described image faults.ImageSize h = h
-load-described image faults.NoMemory h = h
-load-described image faults.File h = absurd h
 
 put-described : {W : Type 0} (image : List ℕ) (old new : W) (fault : CommandFault) → length image ≡ 174848
     → (fault ≡ faults.File) ⊎ ((fault ≡ faults.NoMemory) × (new ≡ old))
@@ -25,7 +20,8 @@ pub returns-in_err-disk : goal.returns-in_err-disk
 returns-in_err-disk g c =
     let p = err_from_is_err_and c.from_residual.result c.from_residual.ensures.1 in record {
       ok = rw p.1 tt;
-      err = rw (p.1, p.2) (load-described c.args.image.now _ c.in_err-disk.ensures.err);
+      err = rw (p.1, p.2) (by-load c.args.image.now (IsDescribeFault c.args.image.now)
+          (λ told. told) (λ told. told) _ c.in_err-disk.ensures.err);
       untouched = rw p.1 (λ _. refl);
     }
 

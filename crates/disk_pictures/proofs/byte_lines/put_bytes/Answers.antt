@@ -13,7 +13,7 @@ pub loop-number-preserved : goal.loop-number-preserved
 loop-number-preserved g c =
     below-more _ _ _ c.loop-number.number
     (λ k. bytes_line k (slice_range c.args.bytes.now (16 * k) (16 * k + 16))) c.loop-number.invariant
-    c.in_ok-put.ensures.ok
+    c.in_ok-put_text.ensures.ok
 
 pub returns-clause-ok : goal.returns-clause-ok
 returns-clause-ok g c =

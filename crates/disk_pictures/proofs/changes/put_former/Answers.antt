@@ -15,14 +15,14 @@ use Rattle.disk_pictures.proofs.changes.put_former.Goals as goal
 pub returns-in-None-clause-ok : goal.returns-in-None-clause-ok
 returns-in-None-clause-ok g c =
     let told = g.W.Write.contents in
-    on_ok_weaker c.put.result
-    (λ done. subst (Appends (told c.args.out.now) (told c.put.new.out))
+    on_ok_weaker c.put_text.result
+    (λ done. subst (Appends (told c.args.out.now) (told c.put_text.new.out))
     (ap (gone_row html_of petscii_of) c.entry_name.ensures
     ∙ former-by (disk_in c.args.before.now) (disk_in c.args.after.now) c.args.number (file_in c.args.file.now) None
     (map file_in c.as_slice-others.result.now) (map file_in c.as_slice.result.now)
     (ap (option_map (λ o. file_in o.now)) (sym c.in-None.is) ∙ c.counterpart.ensures)
     (ap (map file_in) c.as_slice-others.ensures.value) (ap (map file_in) c.as_slice.ensures.value)) done)
-    c.put.ensures.ok
+    c.put_text.ensures.ok
 
 pub returns-in-Some-clause-ok : goal.returns-in-Some-clause-ok
 returns-in-Some-clause-ok g c =

@@ -7,7 +7,7 @@ use Rattle.disk_pictures.proofs.changes.put_row.Goals as goal
 
 pub returns-clause-ok : goal.returns-clause-ok
 unfolding difference_row
-returns-clause-ok g c = on_ok_weaker c.put-2.result
+returns-clause-ok g c = on_ok_weaker c.put_text-2.result
     (λ end. row-printed _ _ _ _ c.args.number (file_in c.args.file.now.file.now) _ _ _ _ _ _ _
     c.parts_of-parts.ensures.entry c.parts_of-parts.ensures.sectors c.parts_of-parts.ensures.bytes
-    c.in_ok-put.ensures.ok c.in_ok-put_records.ensures.ok end) c.put-2.ensures.ok
+    c.in_ok-put_text.ensures.ok c.in_ok-put_records.ensures.ok end) c.put_text-2.ensures.ok

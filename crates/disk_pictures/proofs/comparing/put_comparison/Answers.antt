@@ -31,5 +31,5 @@ pub returns-clause-ok : goal.returns-clause-ok
 unfolding end_text
 returns-clause-ok g c =
     at-ok c.flush.result (all-printed _ _ _ _ _ _ _ _ _ (disk_in c.args.before.now) (disk_in c.args.after.now)
-    c.in_ok-put.ensures.ok c.in_ok-put-2.ensures.ok c.in_ok-put_drawing.ensures.ok c.in_ok-put_marks.ensures.ok
-    c.in_ok-put-3.ensures.ok c.in_ok-put_changes.ensures.ok c.in_ok-put-4.ensures.ok c.flush.ensures.kept)
+    c.in_ok-put_text.ensures.ok c.in_ok-put_text-2.ensures.ok c.in_ok-put_drawing.ensures.ok c.in_ok-put_marks.ensures.ok
+    c.in_ok-put_text-3.ensures.ok c.in_ok-put_changes.ensures.ok c.in_ok-put_text-4.ensures.ok c.flush.ensures.kept)

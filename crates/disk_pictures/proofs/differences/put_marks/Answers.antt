@@ -12,7 +12,7 @@ use Rattle.disk_pictures.proofs.differences.put_marks.Goals as goal
 
 pub loop-below-init : goal.loop-below-init
 unfolding marks_head
-loop-below-init g c = begun _ _ _ _ c.in_ok-put.ensures.ok
+loop-below-init g c = begun _ _ _ _ c.in_ok-put_text.ensures.ok
 
 pub loop-below-preserved : goal.loop-below-preserved
 loop-below-preserved g c =
@@ -25,8 +25,8 @@ pub returns-clause-ok : goal.returns-clause-ok
 unfolding marks_text each_difference each_place
 returns-clause-ok g c =
     let line = marked c.args.before.now.sectors.now c.args.after.now.sectors.now in
-    on_ok_weaker c.put-2.result
+    on_ok_weaker c.put_text-2.result
     (λ end. ended _ _ _ marks_head _ c.loop-below.below 35
     (λ b. each_below 21 (λ s. at_place line (place_at (b + 1) s)))
     (omega (arith, c.loop-below-test.false, c.loop-below.auto.below-end)) c.loop-below.invariant end)
-    c.put-2.ensures.ok
+    c.put_text-2.ensures.ok

@@ -9,5 +9,5 @@ use Rattle.disk_pictures.proofs.free_printing.put_free.Goals as goal
 pub returns-clause-ok : goal.returns-clause-ok
 returns-clause-ok g c =
     at-ok c.flush.result (free-written _ _ _ _ c.args.map.now c.blocks_free.result
-    (c.blocks_free.ensures ∙ ap blocks_free c.new.ensures) c.in_ok-put_tracks.ensures.ok c.in_ok-put.ensures.ok
+    (c.blocks_free.ensures ∙ ap blocks_free c.new.ensures) c.in_ok-put_tracks.ensures.ok c.in_ok-put_text.ensures.ok
     c.flush.ensures.kept)

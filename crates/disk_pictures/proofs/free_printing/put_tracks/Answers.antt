@@ -15,8 +15,8 @@ loop-below-preserved g c =
     let map = c.args.map.now in
     let count = c.free_on.ensures ∙ ap (λ (bytes : Sector). map_count bytes (c.loop-below.below + 1)) c.new-view.ensures in
     below-more _ _ _ c.loop-below.below (λ b. free_line (b + 1) (map_count map (b + 1))) c.loop-below.invariant
-    (subst (λ n. Appends (g.W.Write.contents c.loop-below.out) (g.W.Write.contents c.put.new.out)
-    (free_line (c.loop-below.below + 1) n)) count c.in_ok-put.ensures.ok)
+    (subst (λ n. Appends (g.W.Write.contents c.loop-below.out) (g.W.Write.contents c.put_text.new.out)
+    (free_line (c.loop-below.below + 1) n)) count c.in_ok-put_text.ensures.ok)
 
 pub returns-clause-ok : goal.returns-clause-ok
 returns-clause-ok g c =

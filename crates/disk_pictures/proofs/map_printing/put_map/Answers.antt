@@ -29,4 +29,4 @@ returns-clause-ok g c =
     subst (λ fs. Appends (g.W.Write.contents c.put_either_tracks.new.out) (g.W.Write.contents c.put_entries.new.out)
     (numbered (entry_line c.is_wide-wide.result) 0 (map file_in fs))) c.as_slice.ensures.value c.in_ok-put_entries.ensures.ok in
     at-ok c.flush.result (all-printed _ _ _ _ _ _ _ c.args.found d.map (drawn_in d) c.is_wide-wide.ensures
-    c.in_ok-put_either_tracks.ensures.ok entries c.in_ok-put.ensures.ok c.in_ok-put-2.ensures.ok c.flush.ensures.kept)
+    c.in_ok-put_either_tracks.ensures.ok entries c.in_ok-put_text.ensures.ok c.in_ok-put_text-2.ensures.ok c.flush.ensures.kept)

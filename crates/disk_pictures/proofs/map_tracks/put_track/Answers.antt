@@ -10,11 +10,11 @@ use Rattle.disk_pictures.proofs.Printing.{ascii, begun, begun-no-place, begun-pl
 use Rattle.disk_pictures.specs.Held.{drawn_in}
 use Rattle.disk_pictures.specs.Maps.{mark_of, track_line, track_text}
 use Rattle.disk_pictures.specs.Texts.{at_place}
-use Rattle.disk_pictures.proofs.map_tracks.put_track.Goals.{in-Some+in_ok-put-2, in_default}
+use Rattle.disk_pictures.proofs.map_tracks.put_track.Goals.{in-Some+in_ok-put_text-2, in_default}
 use Rattle.disk_pictures.proofs.map_tracks.put_track.Goals as goal
 
 pub loop-sector-init : goal.loop-sector-init
-loop-sector-init g c = begun _ _ _ _ c.in_ok-put.ensures.ok
+loop-sector-init g c = begun _ _ _ _ c.in_ok-put_text.ensures.ok
 
 pub loop-sector-preserved : goal.loop-sector-preserved
 loop-sector-preserved g c =
@@ -25,12 +25,12 @@ loop-sector-preserved g c =
     let number = track_text c.args.track in
     let all = c.loop-sector.invariant in
     elim c.match-new.branch [
-      | in-Some+in_ok-put-2 w ↦
+      | in-Some+in_ok-put_text-2 w ↦
           let p = w.in-Some.place in
           begun-place-more told one (place_at c.args.track) (told c.args.out.now) number c.loop-sector.out
-          w.put-in-Some.new.out c.match-new.out c.loop-sector.sector p w.out-is (sym c.new.ensures.value ∙ w.in-Some.is) all
-          (subst (Appends (told c.loop-sector.out) (told w.put-in-Some.new.out)) (ap encode_utf8 w.sign.ensures
-          ∙ ascii (mark p) (mark-small c.args.found d.map (drawn_in d) p)) w.in_ok-put-2.ensures.ok)
+          w.put_text-in-Some.new.out c.match-new.out c.loop-sector.sector p w.out-is (sym c.new.ensures.value ∙ w.in-Some.is) all
+          (subst (Appends (told c.loop-sector.out) (told w.put_text-in-Some.new.out)) (ap encode_utf8 w.sign.ensures
+          ∙ ascii (mark p) (mark-small c.args.found d.map (drawn_in d) p)) w.in_ok-put_text-2.ensures.ok)
       | in_default w ↦ begun-no-place told one (place_at c.args.track) (told c.args.out.now) number
           c.loop-sector.out c.match-new.out c.loop-sector.sector w.out-is (sym c.new.ensures.value ∙ w.in_default.is)
           all
@@ -40,8 +40,8 @@ pub returns-clause-ok : goal.returns-clause-ok
 unfolding track_line
 returns-clause-ok g c =
     let d = c.args.drawing.now in
-    on_ok_weaker c.put-2.result
+    on_ok_weaker c.put_text-2.result
     (λ end. ended _ _ _ (track_text c.args.track) _ c.loop-sector.sector 21
     (λ s. at_place (λ p. mark_of c.args.found d.map (drawn_in d) p ∷ []) (place_at c.args.track s))
     (omega (arith, c.loop-sector-test.false, c.loop-sector.auto.sector-end)) c.loop-sector.invariant end)
-    c.put-2.ensures.ok
+    c.put_text-2.ensures.ok

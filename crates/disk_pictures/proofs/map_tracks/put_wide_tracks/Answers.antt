@@ -19,7 +19,7 @@ all-tracks a b v map l n all lines =
     subst (λ (k : ℕ). Appends a b (wide_head ++ each_below k (λ below. wide_line v map l (below + 1)))) all lines
 
 pub loop-below-init : goal.loop-below-init
-loop-below-init g c = begun _ _ _ _ c.in_ok-put.ensures.ok
+loop-below-init g c = begun _ _ _ _ c.in_ok-put_text.ensures.ok
 
 pub loop-below-preserved : goal.loop-below-preserved
 loop-below-preserved g c =

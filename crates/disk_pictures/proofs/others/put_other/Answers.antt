@@ -20,13 +20,13 @@ pub returns-then-free-clause-ok : goal.returns-then-free-clause-ok
 unfolding free_arc
 returns-then-free-clause-ok g c =
     let free : is_free c.args.drawing.now.map c.args.place ≡ true = search rules in
-    on_ok_weaker c.put.result
-    (subst (Appends _ _) (nobodys _ _ c.args.place true (sym c.in-Nobody.is ∙ c.owner.ensures) free)) c.put.ensures.ok
+    on_ok_weaker c.put_text.result
+    (subst (Appends _ _) (nobodys _ _ c.args.place true (sym c.in-Nobody.is ∙ c.owner.ensures) free)) c.put_text.ensures.ok
 
 pub returns-else-free-clause-ok : goal.returns-else-free-clause-ok
 unfolding lost_arc
 returns-else-free-clause-ok g c =
     let taken : is_free c.args.drawing.now.map c.args.place ≡ false = search rules in
-    on_ok_weaker c.put-else-free.result
+    on_ok_weaker c.put_text-else-free.result
     (subst (Appends _ _) (nobodys _ _ c.args.place false (sym c.in-Nobody.is ∙ c.owner.ensures) taken))
-    c.put-else-free.ensures.ok
+    c.put_text-else-free.ensures.ok

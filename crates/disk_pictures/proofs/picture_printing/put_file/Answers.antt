@@ -6,6 +6,6 @@ use Rattle.disk_pictures.proofs.picture_printing.put_file.Goals as goal
 
 pub returns-clause-ok : goal.returns-clause-ok
 unfolding file_group
-returns-clause-ok g c = on_ok_weaker c.put-2.result
-    (λ end. four _ _ _ _ _ _ _ _ _ c.in_ok-put.ensures.ok c.in_ok-put_blocks.ensures.ok c.in_ok-put_sides.ensures.ok
-    end) c.put-2.ensures.ok
+returns-clause-ok g c = on_ok_weaker c.put_text-2.result
+    (λ end. four _ _ _ _ _ _ _ _ _ c.in_ok-put_text.ensures.ok c.in_ok-put_blocks.ensures.ok c.in_ok-put_sides.ensures.ok
+    end) c.put_text-2.ensures.ok

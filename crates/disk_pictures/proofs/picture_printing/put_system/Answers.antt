@@ -10,17 +10,17 @@ use Rattle.disk_pictures.proofs.picture_printing.put_system.Goals as goal
 
 pub loop-place-init : goal.loop-place-init
 unfolding map_arc ring_text digits
-loop-place-init g c = begun-flat directory_arc _ _ (codes "<g id=\"m\">\n" ++ map_arc) c.in_ok-put.ensures.ok
+loop-place-init g c = begun-flat directory_arc _ _ (codes "<g id=\"m\">\n" ++ map_arc) c.in_ok-put_text.ensures.ok
 
 pub loop-place-preserved : goal.loop-place-preserved
 unfolding directory_arc
 loop-place-preserved g c = begun-flat-more directory_arc _ _ _ (codes "<g id=\"m\">\n" ++ map_arc) _
     c.loop-place.place-index c.place-item.result c.loop-place-test.true (sym c.place-item.is)
-    c.loop-place.invariant c.in_ok-put-2.ensures.ok
+    c.loop-place.invariant c.in_ok-put_text-2.ensures.ok
 
 pub returns-clause-ok : goal.returns-clause-ok
 unfolding system_group
-returns-clause-ok g c = on_ok_weaker c.put-2.result
+returns-clause-ok g c = on_ok_weaker c.put_text-2.result
     (λ end. ended-flat directory_arc _ _ _ (codes "<g id=\"m\">\n" ++ map_arc) _ _ _
     (take_all _ c.as_slice-place-items.result.now c.loop-place-test.false ∙ c.as_slice-place-items.ensures.value)
-    c.loop-place.invariant end) c.put-2.ensures.ok
+    c.loop-place.invariant end) c.put_text-2.ensures.ok

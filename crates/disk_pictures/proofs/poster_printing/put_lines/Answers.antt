@@ -14,4 +14,4 @@ pub loop-number-preserved : goal.loop-number-preserved
 loop-number-preserved g c =
     item-more file_in (poster_line html_of petscii_of) _ _ _ c.args.files.now c.loop-number.number c.index-files-number.result
     c.loop-number-test.true
-    (sym c.index-files-number.is) c.loop-number.invariant c.in_ok-put.ensures.ok
+    (sym c.index-files-number.is) c.loop-number.invariant c.in_ok-put_text.ensures.ok

@@ -33,9 +33,9 @@ pub returns-clause-ok : goal.returns-clause-ok
 unfolding poster_legend
 returns-clause-ok g c =
     let d = c.args.drawing.now in
-    let lines = subst (λ fs. Appends (g.W.Write.contents c.put-3.new.out) (g.W.Write.contents c.put_lines.new.out)
+    let lines = subst (λ fs. Appends (g.W.Write.contents c.put_text-3.new.out) (g.W.Write.contents c.put_lines.new.out)
     (numbered (poster_line html_of petscii_of) 0 (map file_in fs))) c.as_slice.ensures.value c.in_ok-put_lines.ensures.ok in
     at-ok c.flush.result (all-printed _ _ _ _ _ _ _ _ c.args.found d.map (drawn_in d)
-    c.in_ok-put.ensures.ok
-    c.in_ok-put-2.ensures.ok
-    c.in_ok-put_drawing.ensures.ok c.in_ok-put-3.ensures.ok lines c.in_ok-put-4.ensures.ok c.flush.ensures.kept)
+    c.in_ok-put_text.ensures.ok
+    c.in_ok-put_text-2.ensures.ok
+    c.in_ok-put_drawing.ensures.ok c.in_ok-put_text-3.ensures.ok lines c.in_ok-put_text-4.ensures.ok c.flush.ensures.kept)

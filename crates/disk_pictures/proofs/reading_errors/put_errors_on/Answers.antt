@@ -7,7 +7,7 @@ use Rattle.disk_rescue.specs.Sizes.{error_of}
 use Rattle.disk_pictures.proofs.Printing.{all-below, no-place-more, none-below, place-more}
 use Rattle.disk_pictures.specs.Texts.{at_place}
 use Rattle.disk_pictures.specs.Trims.{error_line}
-use Rattle.disk_pictures.proofs.reading_errors.put_errors_on.Goals.{in-Some+in_ok-put, in_default}
+use Rattle.disk_pictures.proofs.reading_errors.put_errors_on.Goals.{in-Some+in_ok-put_text, in_default}
 use Rattle.disk_pictures.proofs.reading_errors.put_errors_on.Goals as goal
 
 pub loop-sector-init : goal.loop-sector-init
@@ -19,12 +19,12 @@ loop-sector-preserved g c =
     let line : Place → List ℕ = λ p. error_line p (error_of c.args.image.now p) in
     let all = c.loop-sector.invariant in
     elim c.match-new.branch [
-      | in-Some+in_ok-put w ↦
+      | in-Some+in_ok-put_text w ↦
           let p = w.in-Some.place in
           place-more told line (place_at c.args.track) (told c.args.err.now) c.loop-sector.err
-          w.put.new.out c.match-new.err c.loop-sector.sector p w.err-is (sym c.new.ensures.value ∙ w.in-Some.is)
-          all (subst (λ e. Appends (told c.loop-sector.err) (told w.put.new.out) (error_line p e)) w.error_at-error.ensures
-          w.in_ok-put.ensures.ok)
+          w.put_text.new.out c.match-new.err c.loop-sector.sector p w.err-is (sym c.new.ensures.value ∙ w.in-Some.is)
+          all (subst (λ e. Appends (told c.loop-sector.err) (told w.put_text.new.out) (error_line p e)) w.error_at-error.ensures
+          w.in_ok-put_text.ensures.ok)
       | in_default w ↦ no-place-more told line (place_at c.args.track) (told c.args.err.now)
           c.loop-sector.err c.match-new.err c.loop-sector.sector w.err-is (sym c.new.ensures.value ∙ w.in_default.is)
           all

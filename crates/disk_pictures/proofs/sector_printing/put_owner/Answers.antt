@@ -5,14 +5,14 @@ use Rattle.disk_pictures.proofs.Viewed.{block-owned, side-owned}
 use Rattle.disk_pictures.specs.Held.{drawn_in}
 use Rattle.disk_pictures.proofs.sector_printing.put_owner.Goals as goal
 
-pub returns-in_ok-put-in-Blocks-clause-ok : goal.returns-in_ok-put-in-Blocks-clause-ok
-returns-in_ok-put-in-Blocks-clause-ok g c =
+pub returns-in_ok-put_text-in-Blocks-clause-ok : goal.returns-in_ok-put_text-in-Blocks-clause-ok
+returns-in_ok-put_text-in-Blocks-clause-ok g c =
     let d = c.args.drawing.now in
     on_ok_weaker c.put_entry.result (block-owned _ _ _ d.map (drawn_in d) c.args.place c.in-Blocks.number
-    (sym c.owner.ensures ∙ c.in-Blocks.is) c.in_ok-put-in-Blocks.ensures.ok) c.put_entry.ensures.ok
+    (sym c.owner.ensures ∙ c.in-Blocks.is) c.in_ok-put_text-in-Blocks.ensures.ok) c.put_entry.ensures.ok
 
-pub returns-in_ok-put-in-Sides-clause-ok : goal.returns-in_ok-put-in-Sides-clause-ok
-returns-in_ok-put-in-Sides-clause-ok g c =
+pub returns-in_ok-put_text-in-Sides-clause-ok : goal.returns-in_ok-put_text-in-Sides-clause-ok
+returns-in_ok-put_text-in-Sides-clause-ok g c =
     let d = c.args.drawing.now in
     on_ok_weaker c.put_entry-in-Sides.result (side-owned _ _ _ d.map (drawn_in d) c.args.place c.in-Sides.number
-    (sym c.owner.ensures ∙ c.in-Sides.is) c.in_ok-put-in-Sides.ensures.ok) c.put_entry-in-Sides.ensures.ok
+    (sym c.owner.ensures ∙ c.in-Sides.is) c.in_ok-put_text-in-Sides.ensures.ok) c.put_entry-in-Sides.ensures.ok

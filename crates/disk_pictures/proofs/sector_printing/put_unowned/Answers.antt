@@ -9,4 +9,4 @@ returns-clause-ok g c =
     on_ok_weaker c.put_link.result
     (sector-written _ _ _ _ c.args.bytes.now
     (unknown_owner c.args.fault)
-    c.in_ok-put_bytes.ensures.ok c.in_ok-put.ensures.ok) c.put_link.ensures.ok
+    c.in_ok-put_bytes.ensures.ok c.in_ok-put_text.ensures.ok) c.put_link.ensures.ok

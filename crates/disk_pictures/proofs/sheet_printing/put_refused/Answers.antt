@@ -7,5 +7,5 @@ use Rattle.disk_pictures.proofs.sheet_printing.put_refused.Goals as goal
 pub returns-clause-ok : goal.returns-clause-ok
 unfolding refused_tile
 returns-clause-ok g c =
-    on_ok_weaker c.put-3.result
-    (λ end. three _ _ _ _ _ _ _ c.in_ok-put.ensures.ok c.in_ok-put-2.ensures.ok end) c.put-3.ensures.ok
+    on_ok_weaker c.put_text-3.result
+    (λ end. three _ _ _ _ _ _ _ c.in_ok-put_text.ensures.ok c.in_ok-put_text-2.ensures.ok end) c.put_text-3.ensures.ok

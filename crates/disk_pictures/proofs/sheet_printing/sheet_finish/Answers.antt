@@ -7,4 +7,4 @@ use Rattle.disk_pictures.proofs.sheet_printing.sheet_finish.Goals as goal
 pub returns-clause-ok : goal.returns-clause-ok
 unfolding sheet_end
 returns-clause-ok g c =
-    at-ok c.flush.result (Appends-kept _ _ _ _ c.in_ok-put.ensures.ok c.flush.ensures.kept)
+    at-ok c.flush.result (Appends-kept _ _ _ _ c.in_ok-put_text.ensures.ok c.flush.ensures.kept)

@@ -10,6 +10,6 @@ use Rattle.disk_pictures.proofs.sheet_printing.sheet_refusal.Goals as goal
 pub returns-clause-ok : goal.returns-clause-ok
 unfolding refused_tile
 returns-clause-ok g c =
-    let words = subst (λ (bytes : List ℕ). Appends (g.W.Write.contents c.put.new.out) (g.W.Write.contents c.put-2.new.out)
-    (html_of bytes)) c.as_bytes.ensures.value c.in_ok-put-2.ensures.ok in
-    on_ok_weaker c.put-3.result (λ end. three _ _ _ _ _ _ _ c.in_ok-put.ensures.ok words end) c.put-3.ensures.ok
+    let words = subst (λ (bytes : List ℕ). Appends (g.W.Write.contents c.put_text.new.out) (g.W.Write.contents c.put_text-2.new.out)
+    (html_of bytes)) c.as_bytes.ensures.value c.in_ok-put_text-2.ensures.ok in
+    on_ok_weaker c.put_text-3.result (λ end. three _ _ _ _ _ _ _ c.in_ok-put_text.ensures.ok words end) c.put_text-3.ensures.ok

@@ -10,7 +10,7 @@ use Rattle.disk_pictures.specs.Texts.{at_place, each_below}
 use Rattle.disk_pictures.proofs.tiles.put_shade.Goals as goal
 
 pub loop-below-init : goal.loop-below-init
-loop-below-init g c = begun _ _ _ _ c.in_ok-put.ensures.ok
+loop-below-init g c = begun _ _ _ _ c.in_ok-put_text.ensures.ok
 
 pub loop-below-preserved : goal.loop-below-preserved
 loop-below-preserved g c =
@@ -23,8 +23,8 @@ pub returns-clause-ok : goal.returns-clause-ok
 unfolding shade_path each_place
 returns-clause-ok g c =
     let d = c.args.drawing.now in
-    on_ok_weaker c.put-2.result
+    on_ok_weaker c.put_text-2.result
     (λ end. ended _ _ _ (shade_head c.args.number) _ c.loop-below.below 35
     (λ b. each_below 21 (λ s. at_place (own_stroke c.args.found d.map (drawn_in d) c.args.number) (place_at (b + 1) s)))
     (omega (arith, c.loop-below-test.false, c.loop-below.auto.below-end)) c.loop-below.invariant end)
-    c.put-2.ensures.ok
+    c.put_text-2.ensures.ok

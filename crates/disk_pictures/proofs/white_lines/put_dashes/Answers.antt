@@ -6,7 +6,7 @@ use Rattle.d64_image.specs.declared.place.Place.{Place}
 use Rattle.disk_pictures.proofs.Printing.{all-below, no-place-more, none-below, place-more}
 use Rattle.disk_pictures.specs.Held.{drawn_in}
 use Rattle.disk_pictures.specs.Pictures.{dash_text, is_open, track_dashes}
-use Rattle.disk_pictures.proofs.white_lines.put_dashes.Goals.{in-Some+in_ok-put, in_default}
+use Rattle.disk_pictures.proofs.white_lines.put_dashes.Goals.{in-Some+in_ok-put_text, in_default}
 use Rattle.disk_pictures.proofs.white_lines.put_dashes.Goals as goal
 
 pub loop-sector-init : goal.loop-sector-init
@@ -19,12 +19,12 @@ loop-sector-preserved g c =
     let told = g.W.Write.contents in
     let all = c.loop-sector.invariant in
     elim c.match-new.branch [
-      | in-Some+in_ok-put w ↦
+      | in-Some+in_ok-put_text w ↦
           let p = w.in-Some.place in
           place-more told dash (place_at c.args.track) (told c.args.out.now) c.loop-sector.out
-          w.put.new.out c.match-new.out c.loop-sector.sector p w.out-is (sym c.new.ensures.value ∙ w.in-Some.is) all
-          (subst (Appends (told c.loop-sector.out) (told w.put.new.out))
-          (ap (λ white. dash_text white p) w.is_open-white.ensures) w.in_ok-put.ensures.ok)
+          w.put_text.new.out c.match-new.out c.loop-sector.sector p w.out-is (sym c.new.ensures.value ∙ w.in-Some.is) all
+          (subst (Appends (told c.loop-sector.out) (told w.put_text.new.out))
+          (ap (λ white. dash_text white p) w.is_open-white.ensures) w.in_ok-put_text.ensures.ok)
       | in_default w ↦ no-place-more told dash (place_at c.args.track) (told c.args.out.now)
           c.loop-sector.out c.match-new.out c.loop-sector.sector w.out-is (sym c.new.ensures.value ∙ w.in_default.is)
           all

@@ -8,7 +8,7 @@ use Rattle.disk_pictures.specs.Pictures.{open_group, own_ring}
 use Rattle.disk_pictures.proofs.white_lines.put_open.Goals as goal
 
 pub loop-below-init : goal.loop-below-init
-loop-below-init g c = begun _ _ _ _ c.in_ok-put.ensures.ok
+loop-below-init g c = begun _ _ _ _ c.in_ok-put_text.ensures.ok
 
 pub loop-below-preserved : goal.loop-below-preserved
 loop-below-preserved g c =
@@ -20,8 +20,8 @@ pub returns-clause-ok : goal.returns-clause-ok
 unfolding open_group
 returns-clause-ok g c =
     let d = c.args.drawing.now in
-    on_ok_weaker c.put-2.result
+    on_ok_weaker c.put_text-2.result
     (λ end. ended _ _ _ (codes "<g class=\"open\">\n") _ c.loop-below.below 35
     (λ b. own_ring d.map (drawn_in d) (b + 1))
     (omega (arith, c.loop-below-test.false, c.loop-below.auto.below-end)) c.loop-below.invariant end)
-    c.put-2.ensures.ok
+    c.put_text-2.ensures.ok

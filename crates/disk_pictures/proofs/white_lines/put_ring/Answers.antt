@@ -15,6 +15,6 @@ opened map l track found = rw found refl
 pub returns-in_ok-put_dashes-clause-ok : goal.returns-in_ok-put_dashes-clause-ok
 unfolding white_ring
 returns-in_ok-put_dashes-clause-ok g c =
-    on_ok_weaker c.put-then-is_track_open.result (λ end. subst (Appends _ _)
+    on_ok_weaker c.put_text-then-is_track_open.result (λ end. subst (Appends _ _)
     (opened _ _ c.args.track (sym c.is_track_open.ensures ∙ c.if-is_track_open.true))
-    (three _ _ _ _ _ _ _ c.in_ok-put.ensures.ok c.in_ok-put_dashes.ensures.ok end)) c.put-then-is_track_open.ensures.ok
+    (three _ _ _ _ _ _ _ c.in_ok-put_text.ensures.ok c.in_ok-put_dashes.ensures.ok end)) c.put_text-then-is_track_open.ensures.ok

@@ -11,7 +11,6 @@ use Rattle.keeper_commands.proofs.LineStored.{line-unprinted}
 use Rattle.keeper_commands.proofs.Printing.{not-err}
 use Rattle.keeper_commands.specs.Stores.{NewRecord, new_record}
 use Rattle.keeper_commands.specs.Storing.{StoresLines, StoresOne}
-use Rattle.command_faults.specs.declared.faults.CommandFault.{CommandFault}
 use Rattle.command_faults.specs.declared.faults.CommandFault.TheVariants as faults
 use Rattle.keeper_commands.proofs.storing.store_line.Goals as goal
 use Rattle.keeper_commands.proofs.storing.store_line.Answers.Refused as refused

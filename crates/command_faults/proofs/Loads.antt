@@ -1,0 +1,59 @@
+-- What holds of any fault by which an image isn't taken into memory, or isn't that of a disk without such faults.
+use Rattle.std.proofs.Common.{◌≡◌, ◌≢◌, ℕ, List, length}
+use Rattle.d64_image.specs.Images.{Image}
+use Rattle.d64_image.specs.Memory.{sectors_in}
+use Rattle.disk_layout.specs.declared.faults.Fault.{Fault}
+use Rattle.command_faults.specs.Faults.{IsFaultOf, IsLoadFault}
+use Rattle.command_faults.specs.declared.faults.CommandFault.{CommandFault}
+use Rattle.command_faults.specs.declared.faults.CommandFault.TheVariants as faults
+
+-- it isn't taken into memory
+pub by-load : (image : List ℕ) (P : CommandFault → Type 0) → (length image ≢ 174848 → P faults.ImageSize)
+    → (length image ≡ 174848 → P faults.NoMemory) → (fault : CommandFault) → IsLoadFault image fault → P fault
+by-load image P size memory faults.ImageSize told = size told
+by-load image P size memory faults.NoMemory told = memory told
+by-load image P size memory (faults.Layout fault) told = absurd told
+by-load image P size memory faults.NoFile told = absurd told
+by-load image P size memory faults.FileExists told = absurd told
+by-load image P size memory faults.DiskFull told = absurd told
+by-load image P size memory faults.Locked told = absurd told
+by-load image P size memory faults.NoStock told = absurd told
+by-load image P size memory faults.NoRequests told = absurd told
+by-load image P size memory (faults.BadCard item) told = absurd told
+by-load image P size memory (faults.BadRequestCard till) told = absurd told
+by-load image P size memory faults.TwoIntents told = absurd told
+by-load image P size memory (faults.ScriptLine line) told = absurd told
+by-load image P size memory (faults.RecordsLine line) told = absurd told
+by-load image P size memory faults.Geos told = absurd told
+by-load image P size memory faults.Format told = absurd told
+by-load image P size memory faults.File told = absurd told
+by-load image P size memory faults.Device told = absurd told
+
+-- or the disk has a fault
+pub by-fault : (Has : Image → Fault → Type 0) (image : List ℕ) (P : CommandFault → Type 0)
+    → (length image ≢ 174848 → P faults.ImageSize) → (length image ≡ 174848 → P faults.NoMemory)
+    → ((fault : Fault) → length image ≡ 174848 → Has (sectors_in image) fault → P (faults.Layout fault))
+    → (fault : CommandFault) → IsFaultOf Has image fault → P fault
+by-fault Has image P size memory layout faults.ImageSize told = size told
+by-fault Has image P size memory layout faults.NoMemory told = memory told
+by-fault Has image P size memory layout (faults.Layout fault) told = layout fault told.0 told.1
+by-fault Has image P size memory layout faults.NoFile told = absurd told
+by-fault Has image P size memory layout faults.FileExists told = absurd told
+by-fault Has image P size memory layout faults.DiskFull told = absurd told
+by-fault Has image P size memory layout faults.Locked told = absurd told
+by-fault Has image P size memory layout faults.NoStock told = absurd told
+by-fault Has image P size memory layout faults.NoRequests told = absurd told
+by-fault Has image P size memory layout (faults.BadCard item) told = absurd told
+by-fault Has image P size memory layout (faults.BadRequestCard till) told = absurd told
+by-fault Has image P size memory layout faults.TwoIntents told = absurd told
+by-fault Has image P size memory layout (faults.ScriptLine line) told = absurd told
+by-fault Has image P size memory layout (faults.RecordsLine line) told = absurd told
+by-fault Has image P size memory layout faults.Geos told = absurd told
+by-fault Has image P size memory layout faults.Format told = absurd told
+by-fault Has image P size memory layout faults.File told = absurd told
+by-fault Has image P size memory layout faults.Device told = absurd told
+
+-- an image that isn't taken into memory isn't that of a disk without such faults
+pub load-is : (Has : Image → Fault → Type 0) (image : List ℕ) (fault : CommandFault) → IsLoadFault image fault
+    → IsFaultOf Has image fault
+load-is Has image = by-load image (IsFaultOf Has image) (λ size. size) (λ size. size)
