@@ -62,3 +62,15 @@ reading-ends contents what bytes old new ended end told (inr (same, inr memory))
 pub some-weaker : {A : Type 0} (o : Option A) (P Q : A → Type 0) → ((a : A) → P a → Q a) → IfSome o P → IfSome o Q
 some-weaker None P Q weaker given = tt
 some-weaker (Some a) P Q weaker given = weaker a given
+
+-- the same of two images
+pub over-images : {H W : Type 0} (rights : Rights H) (stands : H → List ℕ → Stands) (host : H)
+    (before after : List ℕ) (old new : W) (end : JobEnd) (first second : List ℕ) (P : List ℕ → List ℕ → Type 0)
+    → OfImage rights stands host before (λ all. first ≡ take 174849 all)
+    → OfImage rights stands host after (λ all. second ≡ take 174849 all) → P first second
+    → OfImage rights stands host before (λ one. OfImage rights stands host after (λ other.
+      RunEnds old new end (P (take 174849 one) (take 174849 other))))
+over-images rights stands host before after old new end first second P is are run =
+    λ named none one holds named_too none_too other holds_too.
+    inl (subst (λ (xs : List ℕ). P xs (take 174849 other)) (is named none one holds)
+      (subst (λ (ys : List ℕ). P first ys) (are named_too none_too other holds_too) run))
