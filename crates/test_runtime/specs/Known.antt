@@ -1,0 +1,27 @@
+-- What a runtime of one file says. Our own.
+use Rattle.std.specs.Prelude.{ℕ, Bool, List, None, Option, Some, bytes_eq, codes, false, if◌then◌else◌, true}
+use Rattle.host_files.specs.Rights.{Look, Read, Rights, Use}
+use Rattle.host_files.specs.Standing.{Holds, Missing, Stands}
+use Rattle.test_runtime.specs.declared.known.KnownFile.{KnownFile}
+
+-- it is the path of the file
+abbrev pub is_known : List ℕ → Bool
+is_known path = bytes_eq path (codes "a.d64")
+
+-- the file has these bytes, and nothing else is there
+abbrev pub known_stands : List ℕ → List ℕ → Stands
+known_stands bytes path = if is_known path then Holds bytes else Missing
+
+-- what a file that was found says of its path
+abbrev pub standing : Option KnownFile → Stands
+standing None = Missing
+standing (Some file) = Holds file.left.now
+
+-- every path may be looked at and read, and leads to itself
+abbrev pub may_see : Use → Bool
+may_see Look = true
+may_see Read = true
+may_see _ = false
+
+abbrev pub known_rights : {H : Type 0} → Rights H
+known_rights = record { may = λ _ how path. may_see how; leads = λ _ from to. bytes_eq from to }
