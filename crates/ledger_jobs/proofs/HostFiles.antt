@@ -78,8 +78,8 @@ pub over-images : {H W : Type 0} (rights : Rights H) (stands : H → List ℕ �
     → OfImage rights stands host after (λ all. second ≡ take 174849 all) → one_slice ≡ first → other_slice ≡ second
     → P one_slice other_slice
     → OfImage rights stands host before (λ one. OfImage rights stands host after (λ other.
-      RunEnds old new end (P (take 174849 one) (take 174849 other))))
+    RunEnds old new end (P (take 174849 one) (take 174849 other))))
 over-images rights stands host before after old new end first second one_slice other_slice P is are same same_too run =
     λ named none one holds named_too none_too other holds_too.
     inl (subst (λ (xs : List ℕ). P xs (take 174849 other)) (same ∙ is named none one holds)
-      (subst (λ (ys : List ℕ). P one_slice ys) (same_too ∙ are named_too none_too other holds_too) run))
+    (subst (λ (ys : List ℕ). P one_slice ys) (same_too ∙ are named_too none_too other holds_too) run))

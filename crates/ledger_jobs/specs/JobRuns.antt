@@ -51,7 +51,7 @@ module _ {H W : Type 0} (rights : Rights H) (stands : H → List ℕ → Stands)
   abbrev pub IsComparedOver : List ℕ → List ℕ → W → W → JobEnd → Type 0
   IsComparedOver before after old new end = OfImage rights stands host before (λ first.
       OfImage rights stands host after (λ second. RunEnds old new end
-        (EndsAs as_job end (IsComparingRun contents (take 174849 first) (take 174849 second) old new))))
+      (EndsAs as_job end (IsComparingRun contents (take 174849 first) (take 174849 second) old new))))
 
   -- a job that only prints was done so over the bytes that the host has at the paths of its words
   abbrev pub IsJobOver : Job → W → W → JobEnd → Type 0

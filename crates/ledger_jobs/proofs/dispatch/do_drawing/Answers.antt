@@ -10,5 +10,5 @@ returns g c =
     over-image g.R.HostFiles.rights g.R.HostFiles.stands c.args.rt.now c.args.path.now c.args.out.now c.drawing_run.new.out
     c.job_end.result (vec_items c.in_ok-image.image) c.as_slice.result.now
     (λ image. EndsAs as_job c.job_end.result
-      (IsDrawingRun g.W.Write.contents c.args.what image c.args.out.now c.drawing_run.new.out))
+    (IsDrawingRun g.W.Write.contents c.args.what image c.args.out.now c.drawing_run.new.out))
     c.in_ok-image.ensures c.as_slice.ensures.value (c.drawing_run.result, c.job_end.ensures, c.drawing_run.ensures.run)
