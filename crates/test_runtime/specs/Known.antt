@@ -1,7 +1,8 @@
 -- What a runtime of one file says. Our own.
-use Rattle.std.specs.Prelude.{ℕ, Bool, List, None, Option, Some, bytes_eq, codes, false, if◌then◌else◌, true}
-use Rattle.host_files.specs.Rights.{Look, Read, Rights, Use}
+use Rattle.std.specs.Prelude.{ℕ, Bool, List, None, Option, Some, bytes_eq, codes, if◌then◌else◌}
+use Rattle.host_files.specs.Rights.{Rights}
 use Rattle.host_files.specs.Standing.{Holds, Missing, Stands}
+use Rattle.test_runtime.specs.ReadOnly.{may_use}
 use Rattle.test_runtime.specs.declared.known.KnownFile.{KnownFile}
 
 -- it is the path of the file
@@ -17,11 +18,6 @@ abbrev pub standing : Option KnownFile → Stands
 standing None = Missing
 standing (Some file) = Holds file.left.now
 
--- every path may be looked at and read, and leads to itself
-abbrev pub may_see : Use → Bool
-may_see Look = true
-may_see Read = true
-may_see _ = false
-
+-- as of files that nobody may write; and each path leads to itself
 abbrev pub known_rights : {H : Type 0} → Rights H
-known_rights = record { may = λ _ how path. may_see how; leads = λ _ from to. bytes_eq from to }
+known_rights = record { may = λ _ how path. may_use how path; leads = λ _ from to. bytes_eq from to }
