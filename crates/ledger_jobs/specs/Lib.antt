@@ -8,6 +8,8 @@ pub mod Edited
 pub mod Ends
 pub mod Extracts
 pub mod FileServes
+pub mod HostFiles
+pub mod JobRuns
 pub mod Jobs
 pub mod Keeping
 pub mod Kept

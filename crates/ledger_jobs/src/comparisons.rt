@@ -1,5 +1,6 @@
 //! Two images compared, each read as if it were alone.
 ghost use Rattle.ledger_jobs.specs.Comparisons.{IsComparingRun};
+ghost use Rattle.ledger_jobs.specs.JobRuns.{IsComparedOver};
 ghost use Rattle.ledger_jobs.specs.Rights.{MayReadImage};
 
 use crate::outcomes::job_end;
@@ -41,6 +42,7 @@ where
     W: Write,
     requires before { MayReadImage R.rights rt.now before.now }
     requires after { MayReadImage R.rights rt.now after.now }
+    ensures { IsComparedOver R.rights R.stands W.contents rt.now before.now after.now out.old out.new result }
 {
     let first = image_at(rt, before)?;
     let second = image_at(rt, after)?;

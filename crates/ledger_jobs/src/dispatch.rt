@@ -1,5 +1,7 @@
 //! Doing a job: its files are opened and read, and what is printed goes to an output.
 ghost use Rattle.std.specs.Prelude.{◌≡◌, ◌≤◌};
+ghost use Rattle.ledger_jobs.specs.JobRuns.{IsDrawnOver, IsJobOver, IsTakenOver};
+ghost use Rattle.ledger_jobs.specs.Names.{name_bytes};
 ghost use Rattle.ledger_jobs.specs.Jobs.{IsFit};
 ghost use Rattle.ledger_jobs.specs.declared.files.Older.TheVariants.{Replaced};
 ghost use Rattle.ledger_jobs.specs.Rights.{MayChangeImage, MayDo, MayMakeImage, MayOverwrite, MayReadImage, MayReadText};
@@ -108,6 +110,7 @@ where
     R: HostFiles<File = F> + Input + AllocGlobal,
     W: Write,
     requires { MayReadImage R.rights rt.now path.now }
+    ensures { IsTakenOver R.rights R.stands W.contents rt.now what path.now (name_bytes name.now) out.old out.new result }
 {
     let image = image_at(rt, path)?;
     take_told(rt.alloc(), what, image.as_slice(), name.as_bytes(), out)
@@ -125,6 +128,7 @@ where
     R: HostFiles<File = F> + Input + AllocGlobal,
     W: Write,
     requires { MayReadImage R.rights rt.now path.now }
+    ensures { IsDrawnOver R.rights R.stands W.contents rt.now what path.now out.old out.new result }
 {
     let image = image_at(rt, path)?;
     job_end(drawing_run(rt.alloc(), what, image.as_slice(), out))
@@ -149,6 +153,7 @@ where
     W: Write,
     requires rights { MayDo R.rights rt.now job.now }
     requires fit { IsFit job.now }
+    ensures { IsJobOver R.rights R.stands W.contents rt.now job.now out.old out.new result }
 {
     match *job {
         Job::Format { image, tills } => do_format(rt, image, tills, Older::Replaced, out),

@@ -1,6 +1,7 @@
 //! The files that a job names, opened and read.
-ghost use Rattle.std.specs.Prelude.{◌≡◌, IfOk, string_bytes, true};
+ghost use Rattle.std.specs.Prelude.{◌≡◌, IfOk, string_bytes, true, vec_items};
 ghost use Rattle.std.proofs.Props.{props};
+ghost use Rattle.ledger_jobs.specs.HostFiles.{OfText};
 ghost use Rattle.ledger_jobs.specs.Rights.{MayMakeImage, MayOverwrite, MayReadText};
 ghost use Rattle.ledger_jobs.specs.declared.files.Older.TheVariants.{Kept, Replaced};
 ghost use Rattle.host_files.specs.Rights.{Look, May};
@@ -18,13 +19,10 @@ use std::io;
 /// again.
 pub(crate) const STANDARD_INPUT: &str = "/dev/stdin";
 
-/// One more than how many bytes the file has; 0 if it isn't opened, or the system doesn't say.
-pub(crate) fn room_for<F: OpenFile>(opened: &io::Result<F>) -> usize {
-    match opened {
-        Ok(file) => match file.metadata() {
-            Ok(told) => told.len().saturating_add(1) as usize,
-            Err(_) => 0,
-        },
+/// One more than how many bytes the file has; 0 if the system doesn't say.
+pub(crate) fn room_for<F: OpenFile>(file: &F) -> usize {
+    match file.metadata() {
+        Ok(told) => told.len().saturating_add(1) as usize,
         Err(_) => 0,
     }
 }
@@ -35,13 +33,14 @@ pub(crate) fn script_at<R: HostFiles + Input + AllocGlobal>(
     path: &str,
 ) -> io::Result<Vec<u8>>
     requires { MayReadText R.rights rt.now path.now }
+    ensures { OfText R.stands rt.now path.now (λ all. IfOk result (λ bytes. vec_items bytes ≡ all)) }
 {
     if path == STANDARD_INPUT {
         return read_script(rt.alloc(), rt.reader(), 0);
     }
-    let opened = rt.open_to_read(path);
-    let room = room_for(&opened);
-    read_script(rt.alloc(), opened?, room)
+    let file = rt.open_to_read(path)?;
+    let room = room_for(&file);
+    read_script(rt.alloc(), file, room)
 }
 
 /// Whether a regular file stands at a path. An error if another thing does.

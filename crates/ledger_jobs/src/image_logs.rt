@@ -1,11 +1,13 @@
 //! The log beside an image: it is landed before the image is written, and read in the place of the image.
-ghost use Rattle.std.specs.Prelude.{◌≡◌, IfOk, string_bytes};
+ghost use Rattle.std.specs.Prelude.{◌≡◌, IfOk, IsNone, false, string_bytes};
 ghost use Rattle.ledger_jobs.specs.Ends.{log_refusal as refusal_of};
+ghost use Rattle.ledger_jobs.specs.HostFiles.{HasNoLog};
 ghost use Rattle.ledger_jobs.specs.Rights.{MayChangeImage, MayReadFile};
 ghost use Rattle.log_files.specs.LogRights.{MayKeepLog, MayKeepLogOf, MayReadLog};
 ghost use Rattle.host_files.specs.Rights.{Look, May, MayRead, MayWrite};
+ghost use Rattle.host_files.specs.Standing.{AreOf, IsMissing};
 
-use crate::locks::lock_exclusive;
+use crate::locks::{lock_exclusive, lock_shared};
 use crate::outcomes::told;
 use crate::refusals::Refusal;
 use command_faults::CommandFault;
@@ -37,6 +39,7 @@ pub(crate) fn is_sized<F: OpenFile>(file: &F) -> Result<bool, Refusal> {
 /// Whether anything stands at a path.
 pub(crate) fn is_there<R: HostFiles>(rt: &R, path: &str) -> io::Result<bool>
     requires { May R.rights rt.now Look path.now }
+    ensures { IsMissing R.stands rt.now path.now → IfOk result (λ there. there ≡ false) }
 {
     match rt.look_at(path) {
         Ok(_) => Ok(true),
@@ -52,9 +55,24 @@ where
     R: HostFiles<File = F>,
     requires { MayWrite R.rights rt.now path.now }
     ensures owned { IfOk result F.IsOwned }
+    ensures bytes { IfOk result (λ image. AreOf R.stands rt.now path.now (F.unread image)) }
 {
     let mut file = told(opened_to_change(rt, path))?;
     lock_exclusive(&mut file, Durability::AtEnd)?;
+    Ok(file)
+}
+
+/// The regular file at a path, opened to be read, which nobody writes while it is read. `InUse`: nothing was read.
+pub(crate) fn opened_shared<F, R>(rt: &R, path: &str) -> Result<F, Refusal>
+where
+    F: Locks + Drop,
+    R: HostFiles<File = F>,
+    requires { MayRead R.rights rt.now path.now }
+    ensures shared { IfOk result F.IsShared }
+    ensures bytes { IfOk result (λ file. AreOf R.stands rt.now path.now (F.unread file)) }
+{
+    let mut file = told(opened_to_read(rt, path))?;
+    lock_shared(&mut file)?;
     Ok(file)
 }
 
@@ -104,6 +122,7 @@ where
     R: HostFiles<File = F> + AllocGlobal,
     requires { MayChangeImage R.rights rt.now path.now }
     ensures owned { IfOk result F.IsOwned }
+    ensures bytes { IfOk result (λ image. AreOf R.stands rt.now path.now (F.unread image)) }
 {
     let image = opened_alone(rt, path)?;
     settle_log(rt, path, &image)?;
@@ -121,6 +140,7 @@ where
     F: OpenFile + Drop,
     R: HostFiles<File = F> + AllocGlobal,
     requires { MayReadFile R.rights rt.now path.now }
+    ensures { HasNoLog R.rights R.stands rt.now path.now → IfOk result IsNone }
 {
     if !is_sized(image)? {
         return Ok(None);

@@ -1,4 +1,5 @@
 //! All faults of an image.
+ghost use Rattle.ledger_jobs.specs.JobRuns.{IsListedOver};
 ghost use Rattle.ledger_jobs.specs.Listings.{IsListingRun};
 ghost use Rattle.ledger_jobs.specs.Rights.{MayReadImage};
 
@@ -34,6 +35,7 @@ where
     R: HostFiles<File = F> + Input + AllocGlobal,
     W: Write,
     requires { MayReadImage R.rights rt.now path.now }
+    ensures { IsListedOver R.rights R.stands W.contents rt.now path.now out.old out.new result }
 {
     let image = image_at(rt, path)?;
     job_end(listing_run(rt.alloc(), image.as_slice(), out))

@@ -17,6 +17,7 @@ pub(crate) fn lock_exclusive<F: Locks>(file: &mut F, durability: Durability) -> 
     ensures shared { OnOk result (F.IsShared file.new) }
     ensures synced { OnOk result (IsSynced F.held F.lasting durability file.new) }
     ensures untouched { F.held file.new ≡ F.held file.old }
+    ensures unread { F.unread file.new ≡ F.unread file.old }
 {
     if let Err(error) = file.lock_alone() {
         return Err(Refusal::of_lock(&error));
@@ -31,6 +32,7 @@ pub(crate) fn lock_exclusive<F: Locks>(file: &mut F, durability: Durability) -> 
 pub(crate) fn lock_shared<F: Locks>(file: &mut F) -> Result<(), Refusal>
     ensures shared { OnOk result (F.IsShared file.new) }
     ensures untouched { F.held file.new ≡ F.held file.old }
+    ensures unread { F.unread file.new ≡ F.unread file.old }
 {
     match file.lock_shared() {
         Ok(()) => Ok(()),
@@ -42,6 +44,7 @@ pub(crate) fn lock_shared<F: Locks>(file: &mut F) -> Result<(), Refusal>
 pub(crate) fn read_shared<F: Locks>(alloc: Global, file: &mut F) -> io::Result<Vec<u8>>
     requires shared { F.IsShared file.old }
     ensures bytes { IfOk result (λ bytes. IfSome (F.held file.old) (λ all. vec_items bytes ≡ take 174849 all)) }
+    ensures read { IfOk result (λ bytes. IfSome (F.unread file.old) (λ all. vec_items bytes ≡ take 174849 all)) }
     ensures untouched { F.held file.new ≡ F.held file.old }
 {
     file.image(alloc)
@@ -53,6 +56,7 @@ fn read_locked<F: Locks>(alloc: Global, file: &mut F, durability: Durability) ->
     requires shared { F.IsShared file.old }
     requires synced { IsSynced F.held F.lasting durability file.old }
     ensures bytes { IfOk result (λ bytes. IfSome (F.held file.new) (λ all. vec_items bytes ≡ take 174849 all)) }
+    ensures read { IfOk result (λ bytes. IfSome (F.unread file.old) (λ all. vec_items bytes ≡ take 174849 all)) }
     ensures owned { F.IsOwned file.new }
     ensures synced { IsSynced F.held F.lasting durability file.new }
     ensures untouched { F.held file.new ≡ F.held file.old }
@@ -68,6 +72,7 @@ pub(crate) fn own_image<F: Locks>(
     durability: Durability,
 ) -> Result<Vec<u8>, Refusal>
     ensures bytes { IfOk result (λ bytes. IfSome (F.held file.new) (λ all. vec_items bytes ≡ take 174849 all)) }
+    ensures read { IfOk result (λ bytes. IfSome (F.unread file.old) (λ all. vec_items bytes ≡ take 174849 all)) }
     ensures owned { OnOk result (F.IsOwned file.new) }
     ensures synced { OnOk result (IsSynced F.held F.lasting durability file.new) }
     ensures untouched { F.held file.new ≡ F.held file.old }

@@ -1,21 +1,24 @@
 //! What is asked of the bytes of one file: it is opened, locked and read.
-ghost use Rattle.std.specs.Prelude.{◌≡◌, IfErr, IfOk, IfSome, Err, vec_items};
+ghost use Rattle.std.specs.Prelude.{◌≡◌, IfErr, IfOk, IfSome, IsNone, Err, take, vec_items};
 ghost use Rattle.std.specs.IoError.{error_kind};
 ghost use Rattle.command_faults.specs.Faults.{io_fault};
+ghost use Rattle.host_files.specs.Standing.{AreOf};
+ghost use Rattle.ledger_jobs.specs.HostFiles.{HasNoLogFor, OfFile, OfImage, OfImageFile, OfRead};
+ghost use Rattle.ledger_jobs.specs.JobRuns.{IsReadOver};
 ghost use Rattle.ledger_jobs.specs.Jobs.{needed};
 ghost use Rattle.ledger_jobs.specs.Runs.{IsReadingEnd, IsReadingOf};
 ghost use Rattle.ledger_jobs.specs.Rights.{MayReadFile, MayReadFileFor, MayReadFor, MayReadImage};
 
 use crate::files::{STANDARD_INPUT, room_for};
-use crate::image_logs::logged_image;
+use crate::image_logs::{logged_image, opened_shared};
 use crate::jobs::Reading;
-use crate::locks::{lock_shared, read_shared};
+use crate::locks::read_shared;
 use crate::outcomes::{job_end, told};
 use crate::refusals::Refusal;
 use crate::shop_runs::reading_run;
 use command_faults::CommandFault;
 use disk_layout::Fault;
-use host_files::{HostFiles, opened_to_read};
+use host_files::HostFiles;
 use shop_commands::{Locks, read_image, read_script};
 use std::alloc::Global;
 use std::fs::OpenFile;
@@ -73,21 +76,18 @@ pub fn do_over<R: Read + Drop, W: Write>(
     }
 }
 
-/// Locks an image, if it could be opened, so that nobody writes it while it is read. A script isn't locked.
-fn lock_opened<F: Locks>(what: Reading, opened: &mut io::Result<F>) -> Result<(), Refusal> {
-    match (what, opened) {
-        (Reading::Dry, _) | (_, Err(_)) => Ok(()),
-        (_, Ok(file)) => lock_shared(file),
-    }
-}
-
-/// The file that is read for this. An image is a regular file; a script may be a pipe.
-fn opened_for<R: HostFiles>(rt: &R, what: Reading, path: &str) -> io::Result<R::File>
+/// The file that is read for this. An image is a regular file that nobody writes while it is read. A script may be a
+/// pipe, and isn't locked.
+fn opened_for<F, R>(rt: &R, what: Reading, path: &str) -> Result<F, Refusal>
+where
+    F: Locks + Drop,
+    R: HostFiles<File = F>,
     requires { MayReadFileFor R.rights rt.now what path.now }
+    ensures { IfOk result (λ file. AreOf R.stands rt.now path.now (F.remaining file)) }
 {
     match what {
-        Reading::Dry => rt.open_to_read(path),
-        Reading::List(_) | Reading::Check | Reading::Show => opened_to_read(rt, path),
+        Reading::Dry => told(rt.open_to_read(path)),
+        Reading::List(_) | Reading::Check | Reading::Show => opened_shared(rt, path),
     }
 }
 
@@ -96,17 +96,54 @@ fn opened_log<F, R>(
     rt: &R,
     what: Reading,
     path: &str,
-    opened: &io::Result<F>,
+    file: &F,
 ) -> Result<Option<Vec<[u8; 256]>>, Refusal>
 where
     F: OpenFile + Drop,
     R: HostFiles<File = F> + AllocGlobal,
     requires { MayReadFileFor R.rights rt.now what path.now }
+    ensures { HasNoLogFor R.rights R.stands rt.now what path.now → IfOk result IsNone }
 {
-    match (what, opened) {
-        (Reading::Dry, _) | (_, Err(_)) => Ok(None),
-        (_, Ok(file)) => logged_image(rt, path, file),
+    match what {
+        Reading::Dry => Ok(None),
+        Reading::List(_) | Reading::Check | Reading::Show => logged_image(rt, path, file),
     }
+}
+
+/// Does what is asked of the bytes that a reader has.
+fn over_reader<R: Read + Drop, W: Write>(
+    alloc: Global,
+    what: Reading,
+    reader: R,
+    room: usize,
+    out: &mut W,
+) -> Result<Option<Fault>, Refusal>
+    ensures { IfSome (R.remaining reader) (IsReadOver W.contents what out.old out.new result) }
+{
+    job_end(do_over(alloc, what, Ok(reader), room, out))
+}
+
+/// Does what is asked of the file at a path. An image is read as its shop is now.
+fn reading_at<F, R, W>(
+    rt: &R,
+    what: Reading,
+    path: &str,
+    out: &mut W,
+) -> Result<Option<Fault>, Refusal>
+where
+    F: Locks + OpenFile + Drop,
+    R: HostFiles<File = F> + AllocGlobal,
+    W: Write,
+    requires { MayReadFileFor R.rights rt.now what path.now }
+    ensures { OfFile R.rights R.stands rt.now what path.now (IsReadOver W.contents what out.old out.new result) }
+{
+    let file = opened_for(rt, what, path)?;
+    if let Some(image) = opened_log(rt, what, path, &file)? {
+        let bytes = image.as_slice().as_flattened();
+        return job_end(reading_run(rt.alloc(), what, bytes, out));
+    }
+    let room = room_for(&file);
+    over_reader(rt.alloc(), what, file, room, out)
 }
 
 /// Does what is asked of the file at a path, or of standard input. An image is read as its shop is now.
@@ -117,34 +154,29 @@ pub(crate) fn do_reading<F, R, W>(
     out: &mut W,
 ) -> Result<Option<Fault>, Refusal>
 where
-    F: Read + Locks + OpenFile + Drop,
+    F: Locks + OpenFile + Drop,
     R: HostFiles<File = F> + Input + AllocGlobal,
     W: Write,
     requires { MayReadFor R.rights rt.now what path.now }
+    ensures { OfRead R.rights R.stands rt.now what path.now (IsReadOver W.contents what out.old out.new result) }
 {
     if path == STANDARD_INPUT {
-        return job_end(do_over(rt.alloc(), what, Ok(rt.reader()), 0, out));
+        return over_reader(rt.alloc(), what, rt.reader(), 0, out);
     }
-    let mut opened = opened_for(rt, what, path);
-    lock_opened(what, &mut opened)?;
-    if let Some(image) = opened_log(rt, what, path, &opened)? {
-        let bytes = image.as_slice().as_flattened();
-        return job_end(reading_run(rt.alloc(), what, bytes, out));
-    }
-    let room = room_for(&opened);
-    job_end(do_over(rt.alloc(), what, opened, room, out))
+    reading_at(rt, what, path, out)
 }
 
 /// The bytes of the image at a path as its shop is now: of its log, if one stands beside it. Nobody begins to write the
 /// image while it is read.
 pub(crate) fn image_of_file<F, R>(rt: &R, path: &str) -> Result<Vec<u8>, Refusal>
 where
-    F: Read + Locks + OpenFile + Drop,
+    F: Locks + OpenFile + Drop,
     R: HostFiles<File = F> + AllocGlobal,
     requires { MayReadFile R.rights rt.now path.now }
+    ensures { OfImageFile R.rights R.stands rt.now path.now
+        (λ all. IfOk result (λ image. vec_items image ≡ take 174849 all)) }
 {
-    let mut file = told(opened_to_read(rt, path))?;
-    lock_shared(&mut file)?;
+    let mut file = opened_shared(rt, path)?;
     match logged_image(rt, path, &file)? {
         Some(image) => told(read_image(rt.alloc(), image.as_slice().as_flattened())),
         None => told(read_shared(rt.alloc(), &mut file)),
@@ -154,9 +186,11 @@ where
 /// The bytes of the image at a path, as its shop is now, or of standard input.
 pub(crate) fn image_at<F, R>(rt: &R, path: &str) -> Result<Vec<u8>, Refusal>
 where
-    F: Read + Locks + OpenFile + Drop,
+    F: Locks + OpenFile + Drop,
     R: HostFiles<File = F> + Input + AllocGlobal,
     requires { MayReadImage R.rights rt.now path.now }
+    ensures { OfImage R.rights R.stands rt.now path.now
+        (λ all. IfOk result (λ image. vec_items image ≡ take 174849 all)) }
 {
     if path == STANDARD_INPUT {
         return told(read_image(rt.alloc(), rt.reader()));

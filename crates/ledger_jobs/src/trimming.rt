@@ -1,18 +1,18 @@
 //! Tracks 1 to 35 of an image of another size, over its bytes and over its file.
-ghost use Rattle.std.specs.Prelude.{◌≡◌};
+ghost use Rattle.std.specs.Prelude.{◌≡◌, IfOk, IfSome, take, vec_items};
+ghost use Rattle.ledger_jobs.specs.HostFiles.{OfImage, TrimEnds};
 ghost use Rattle.ledger_jobs.specs.Ends.{EndsAs};
 ghost use Rattle.ledger_jobs.specs.Trims.{IsTrimRun, as_trimmed};
 ghost use Rattle.ledger_jobs.specs.Rights.{MayReadImage};
 
 use crate::files::STANDARD_INPUT;
-use crate::image_logs::logged_image;
-use crate::locks::lock_shared;
+use crate::image_logs::{logged_image, opened_shared};
 use crate::outcomes::told;
 use crate::refusals::Refusal;
 use command_faults::CommandFault;
 use disk_layout::Fault;
 use disk_pictures::trim_image;
-use host_files::{HostFiles, opened_to_read};
+use host_files::HostFiles;
 use shop_commands::{Locks, read_script};
 use std::alloc::Global;
 use std::fs::OpenFile;
@@ -47,8 +47,17 @@ pub fn trim_run<W: Write, E: Write>(
 }
 
 /// The bytes that a reader has, up to one more than the largest image has.
-fn read_long<R: Read + Drop>(alloc: Global, reader: R) -> io::Result<Vec<u8>> {
+fn read_long<R: Read + Drop>(alloc: Global, reader: R) -> io::Result<Vec<u8>>
+    ensures { IfOk result (λ bytes. IfSome (R.remaining reader) (λ all. vec_items bytes ≡ take 197377 all)) }
+{
     read_script(alloc, reader.take(IMAGE_BYTES), IMAGE_BYTES as usize)
+}
+
+/// The bytes of an image's file, up to one more than the largest image has.
+fn read_long_file<F: Locks + Drop>(alloc: Global, file: F) -> io::Result<Vec<u8>>
+    ensures { IfOk result (λ bytes. IfSome (F.unread file) (λ all. vec_items bytes ≡ take 197377 all)) }
+{
+    read_long(alloc, file)
 }
 
 /// The bytes of the image at a path, as its shop is now, or of standard input.
@@ -57,15 +66,16 @@ where
     F: Read + Locks + OpenFile + Drop,
     R: HostFiles<File = F> + Input + AllocGlobal,
     requires { MayReadImage R.rights rt.now path.now }
+    ensures { OfImage R.rights R.stands rt.now path.now
+        (λ all. IfOk result (λ image. vec_items image ≡ take 197377 all)) }
 {
     if path == STANDARD_INPUT {
         return told(read_long(rt.alloc(), rt.reader()));
     }
-    let mut file = told(opened_to_read(rt, path))?;
-    lock_shared(&mut file)?;
+    let file = opened_shared(rt, path)?;
     match logged_image(rt, path, &file)? {
         Some(image) => told(read_long(rt.alloc(), image.as_slice().as_flattened())),
-        None => told(read_long(rt.alloc(), file)),
+        None => told(read_long_file(rt.alloc(), file)),
     }
 }
 
@@ -82,6 +92,8 @@ where
     W: Write,
     E: Write,
     requires { MayReadImage R.rights rt.now path.now }
+    ensures { OfImage R.rights R.stands rt.now path.now (λ all. TrimEnds out.old out.new err.old err.new result
+        (EndsAs as_trimmed result (IsTrimRun W.contents E.contents (take 197377 all) out.old out.new err.old err.new))) }
 {
     let image = long_image_at(rt, path)?;
     trim_run(rt.alloc(), image.as_slice(), out, err)

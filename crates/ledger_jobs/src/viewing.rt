@@ -1,4 +1,5 @@
 //! What is printed of an image that isn't checked, at its path.
+ghost use Rattle.ledger_jobs.specs.JobRuns.{IsViewedOver};
 ghost use Rattle.ledger_jobs.specs.Rights.{MayReadImage};
 
 use crate::outcomes::run_end;
@@ -23,6 +24,7 @@ where
     R: HostFiles<File = F> + Input + AllocGlobal,
     W: Write,
     requires { MayReadImage R.rights rt.now path.now }
+    ensures { IsViewedOver R.rights R.stands W.contents rt.now what path.now out.old out.new result }
 {
     let image = image_at(rt, path)?;
     run_end(view_image(rt.alloc(), what, image.as_slice(), out))

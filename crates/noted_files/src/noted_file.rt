@@ -155,6 +155,10 @@ impl<F: WritesAt> WritesAt for NotedFile<'_, '_, F> {
 }
 
 impl<F: Locks + Read> Locks for NotedFile<'_, '_, F> {
+    ghost use Rattle.std.specs.Prelude.{refl};
+
+    ghost reads = { λ _. refl };
+
     fn lock_alone(&mut self) -> Result<(), TryLockError> {
         let outcome = self.file.lock_alone();
         self.noted_lock(outcome)

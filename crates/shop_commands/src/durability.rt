@@ -27,6 +27,9 @@ pub trait WritesAt {
 
     ghost IsOwned: { Self → Type 0 } = { λ _. ⊤ };
 
+    // the bytes that reads give from here on, if they are known
+    ghost unread: { Self → Option (List ℕ) } = { λ _. None };
+
     // whether one of its calls may have failed
     ghost has_failed: { Self → Bool } = { λ _. true };
 
@@ -52,7 +55,8 @@ pub trait WritesAt {
             → StaysOr lasting self.old self.new (held self.old) }
         ensures whole { StaysOr whole.lasting self.old self.new (whole.lasting.bytes self.old) }
         ensures owned { IsOwned self.old → IsOwned self.new }
-        ensures shared { IsShared self.old → IsShared self.new };
+        ensures shared { IsShared self.old → IsShared self.new }
+        ensures unread { unread self.new ≡ unread self.old };
 }
 
 impl WritesAt for File {

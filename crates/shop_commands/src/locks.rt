@@ -3,23 +3,25 @@ use crate::durability::WritesAt;
 use crate::reading::read_image;
 use std::alloc::Global;
 use std::fs::{File, TryLockError};
-use std::io;
+use std::io::{self, Read};
 
 /// A file that programs lock before they read or write it. The lock isn't waited for, and it falls with the open file,
 /// also if the program dies. It binds programs that ask for it, and no others.
-pub trait Locks: WritesAt {
+pub trait Locks: WritesAt + Read {
     ghost use Rattle.std.specs.Prelude.{◌≡◌, IfOk, IfSome, OnOk, take, vec_items};
 
     /// Locks the file for this program alone. `WouldBlock` if another has a lock on it.
     fn lock_alone(&mut self) -> Result<(), TryLockError>
         ensures owned { OnOk result (Self.IsOwned self.new) }
         ensures shared { OnOk result (Self.IsShared self.new) }
-        ensures held { Self.held self.new ≡ Self.held self.old };
+        ensures held { Self.held self.new ≡ Self.held self.old }
+        ensures unread { Self.unread self.new ≡ Self.unread self.old };
 
     /// Locks the file so that others may read it too, and none writes it. `WouldBlock` if another has it alone.
     fn lock_shared(&mut self) -> Result<(), TryLockError>
         ensures shared { OnOk result (Self.IsShared self.new) }
-        ensures held { Self.held self.new ≡ Self.held self.old };
+        ensures held { Self.held self.new ≡ Self.held self.old }
+        ensures unread { Self.unread self.new ≡ Self.unread self.old };
 
     /// The bytes of the image in this file: the first 174,849, or all of them if there are fewer. Nothing was read of it
     /// before. Its error if reading failed, or if there was no memory for them.
@@ -27,12 +29,20 @@ pub trait Locks: WritesAt {
         // it is locked first, alone or with others that read it
         requires shared { Self.IsShared self.old }
         ensures ok { IfOk result (λ bytes. IfSome (Self.held self.old) (λ all. vec_items bytes ≡ take 174849 all)) }
+        ensures read { IfOk result (λ bytes. IfSome (Self.unread self.old) (λ all. vec_items bytes ≡ take 174849 all)) }
         ensures owned { Self.IsOwned self.old → Self.IsOwned self.new }
         ensures held { Self.held self.new ≡ Self.held self.old }
         ensures lasting { Self.lasting.bytes self.new ≡ Self.lasting.bytes self.old };
+
+    // what is left of it is what reads give
+    ghost reads: { (file : Self) → Self.WritesAt.unread file ≡ Self.Read.remaining file };
 }
 
 impl Locks for File {
+    ghost use Rattle.std.specs.Prelude.{refl};
+
+    ghost reads = { λ _. refl };
+
     fn lock_alone(&mut self) -> Result<(), TryLockError> {
         self.try_lock()
     }

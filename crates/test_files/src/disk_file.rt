@@ -9,7 +9,7 @@ use crate::disk::Disk;
 use shop_commands::{Locks, WritesAt};
 use std::alloc::{AllocError, Global};
 use std::fs::TryLockError;
-use std::io::{self, ErrorKind};
+use std::io::{self, ErrorKind, Read};
 
 /// When what is written to a file comes to its disk.
 #[derive(Clone, Copy, Debug, PartialEq, Eq)]
@@ -246,7 +246,18 @@ impl WritesAt for DiskFile {
     }
 }
 
+impl Read for DiskFile {
+    // It is read as a whole, by `image`.
+    fn read(&mut self, _buf: &mut [u8]) -> io::Result<usize> {
+        Err(io::Error::from(io::ErrorKind::Unsupported))
+    }
+}
+
 impl Locks for DiskFile {
+    ghost use Rattle.std.specs.Prelude.{refl};
+
+    ghost reads = { λ _. refl };
+
     fn lock_alone(&mut self) -> Result<(), TryLockError> {
         self.lock = Lock::Alone;
         Ok(())

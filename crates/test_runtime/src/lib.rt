@@ -3,6 +3,7 @@
 #![tactic(auto)]
 
 mod given;
+mod known;
 mod memory;
 mod opened;
 mod read_only;
@@ -10,6 +11,7 @@ mod runtime;
 mod stored;
 
 pub use given::Given;
+pub use known::{Known, KnownFile};
 pub use memory::{Errors, Memory};
 pub use opened::Opened;
 pub use read_only::ReadOnly;

@@ -73,6 +73,10 @@ impl WritesAt for Opened<'_> {
 }
 
 impl Locks for Opened<'_> {
+    ghost use Rattle.std.specs.Prelude.{refl};
+
+    ghost reads = { λ _. refl };
+
     fn lock_alone(&mut self) -> Result<(), TryLockError> {
         match self.stored.others.get() {
             Others::Away => {}

@@ -32,6 +32,8 @@ mod jobs;
 #[cfg(test)]
 mod keeper_rows;
 #[cfg(test)]
+mod known_rows;
+#[cfg(test)]
 mod leavings;
 #[cfg(test)]
 mod lock_rows;

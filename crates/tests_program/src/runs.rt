@@ -14,7 +14,7 @@ pub(crate) fn texts_of<'a>(alloc: Global, words: &'a [u8]) -> Vec<&'a str> {
 }
 
 /// The bytes that stand at a place; none if there is no file.
-fn bytes_at(alloc: Global, place: &Stored) -> Vec<u8> {
+pub(crate) fn bytes_at(alloc: Global, place: &Stored) -> Vec<u8> {
     let mut bytes = Vec::new(alloc);
     if let Ok(held) = place.bytes.try_borrow() {
         let _ = bytes.extend_from_slice(held.get_ref().as_slice());

@@ -1,0 +1,14 @@
+-- What was drawn of the image's bytes is of those that the host says.
+use Rattle.std.specs.Prelude.{vec_items}
+use Rattle.ledger_jobs.specs.Drawings.{IsDrawingRun}
+use Rattle.ledger_jobs.specs.Ends.{EndsAs, as_job}
+use Rattle.ledger_jobs.proofs.HostFiles.{over-image}
+use Rattle.ledger_jobs.proofs.dispatch.do_drawing.Goals as goal
+
+pub returns : goal.returns
+returns g c =
+    over-image g.R.HostFiles.rights g.R.HostFiles.stands c.args.rt.now c.args.path.now c.args.out.now c.drawing_run.new.out
+    c.job_end.result (vec_items c.in_ok-image.image) c.as_slice.result.now
+    (λ image. EndsAs as_job c.job_end.result
+    (IsDrawingRun g.W.Write.contents c.args.what image c.args.out.now c.drawing_run.new.out))
+    c.in_ok-image.ensures c.as_slice.ensures.value (c.drawing_run.result, c.job_end.ensures, c.drawing_run.ensures.run)

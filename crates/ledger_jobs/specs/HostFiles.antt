@@ -1,0 +1,47 @@
+-- Which bytes a job is done over, where the host says what its files hold. Our own.
+use Rattle.std.specs.Prelude.{◌≡◌, ◌≢◌, ◌⊎◌, ⊤, ℕ, IsErr, List}
+use Rattle.host_files.specs.Rights.{Rights}
+use Rattle.host_files.specs.Standing.{Holds, IsMissing, Stands}
+use Rattle.ledger_jobs.specs.Ends.{JobEnd}
+use Rattle.ledger_jobs.specs.Rights.{standard_input}
+use Rattle.ledger_jobs.specs.declared.jobs.Reading.{Reading}
+use Rattle.ledger_jobs.specs.declared.jobs.Reading.TheVariants as readings
+use Rattle.log_files.specs.LogRights.{WhereItLeads, log_of}
+
+module _ {H : Type 0} (stands : H → List ℕ → Stands) (host : H) where
+  -- this holds of the bytes of the script or the text at a path, if the host says them
+  abbrev pub OfText : List ℕ → (List ℕ → Type 0) → Type 0
+  OfText path P = path ≢ standard_input → (all : List ℕ) → stands host path ≡ Holds all → P all
+
+module _ {H : Type 0} (rights : Rights H) (stands : H → List ℕ → Stands) (host : H) where
+  -- no log stands beside the image at a path
+  abbrev pub HasNoLog : List ℕ → Type 0
+  HasNoLog path = WhereItLeads rights host (λ image. IsMissing stands host (log_of image)) path
+
+  -- a script never has one
+  abbrev pub HasNoLogFor : Reading → List ℕ → Type 0
+  HasNoLogFor readings.Dry path = ⊤
+  HasNoLogFor _ path = HasNoLog path
+
+  -- this holds of the bytes of the file at a path that is read for this, if the host says them, and that it has no log
+  abbrev pub OfFile : Reading → List ℕ → (List ℕ → Type 0) → Type 0
+  OfFile what path P = HasNoLogFor what path → (all : List ℕ) → stands host path ≡ Holds all → P all
+
+  -- the same of an image
+  abbrev pub OfImageFile : List ℕ → (List ℕ → Type 0) → Type 0
+  OfImageFile path P = HasNoLog path → (all : List ℕ) → stands host path ≡ Holds all → P all
+
+  -- the same, unless the path is that of standard input, of which a host says nothing
+  abbrev pub OfRead : Reading → List ℕ → (List ℕ → Type 0) → Type 0
+  OfRead what path P = path ≢ standard_input → OfFile what path P
+
+  abbrev pub OfImage : List ℕ → (List ℕ → Type 0) → Type 0
+  OfImage path P = path ≢ standard_input → OfImageFile path P
+
+-- the run over the bytes of a job's files ended so, and the job with it; or the run wasn't begun, and nothing was printed
+abbrev pub RunEnds : {W : Type 0} → W → W → JobEnd → Type 0 → Type 0
+RunEnds old new end run = run ⊎ ((new ≡ old) × IsErr end)
+
+-- the same of a run that prints to two outputs
+abbrev pub TrimEnds : {W E : Type 0} → W → W → E → E → JobEnd → Type 0 → Type 0
+TrimEnds old new old_err new_err end run = run ⊎ ((new ≡ old) × (new_err ≡ old_err) × IsErr end)

@@ -1,0 +1,23 @@
+-- What a runtime of one file says. Our own.
+use Rattle.std.specs.Prelude.{ℕ, Bool, List, None, Option, Some, bytes_eq, codes, if◌then◌else◌}
+use Rattle.host_files.specs.Rights.{Rights}
+use Rattle.host_files.specs.Standing.{Holds, Missing, Stands}
+use Rattle.test_runtime.specs.ReadOnly.{may_use}
+use Rattle.test_runtime.specs.declared.known.KnownFile.{KnownFile}
+
+-- it is the path of the file
+abbrev pub is_known : List ℕ → Bool
+is_known path = bytes_eq path (codes "a.d64")
+
+-- the file has these bytes, and nothing else is there
+abbrev pub known_stands : List ℕ → List ℕ → Stands
+known_stands bytes path = if is_known path then Holds bytes else Missing
+
+-- what a file that was found says of its path
+abbrev pub standing : Option KnownFile → Stands
+standing None = Missing
+standing (Some file) = Holds file.left.now
+
+-- as of files that nobody may write; and each path leads to itself
+abbrev pub known_rights : {H : Type 0} → Rights H
+known_rights = record { may = λ _ how path. may_use how path; leads = λ _ from to. bytes_eq from to }
