@@ -1,5 +1,5 @@
 use Rattle.std.proofs.Common.{◌≡◌, ◌<◌, ◌+◌, ℕ, get_or}
-use Rattle.request_cards.proofs.request_card.zeros_at.Given as goal
+use Rattle.request_cards.proofs.request_card.reading.zeros_at.Given as goal
 
 -- the bytes so far are zeros
 abbrev pub invariant-loop-i : goal.invariant-loop-i
