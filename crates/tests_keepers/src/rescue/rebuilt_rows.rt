@@ -2,11 +2,10 @@
 ghost use Rattle.std.specs.Prelude.{◌≡◌};
 ghost use Rattle.d64_image.specs.Memory.{disk_image};
 
-use crate::planning::Shortened;
-use crate::rebuilding::rebuild_sides;
 use arrayvec::ArrayVec;
 use d64_image::{MemDisk, Place, Sectors};
 use disk_layout::{blank_image, side_bytes};
+use side_rebuilding::{Shortened, rebuild_sides};
 use std::process::Abort;
 
 /// A copy of a disk.
