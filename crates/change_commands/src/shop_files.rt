@@ -8,14 +8,16 @@ ghost use Rattle.change_commands.specs.ShopFiles.{HasShopFile, IsNamedShopSlot, 
 
 use arrayvec::ArrayVec;
 use command_faults::{CommandFault, load};
-use disk_layout::{EntryView, Slot, padded_name, read_directory};
+use disk_layout::{
+    EntryView, REQUESTS_LENGTH, REQUESTS_NAME, STOCK_LENGTH, STOCK_NAME, Slot, read_directory,
+};
 use std::alloc::Global;
 
 /// Whether the slot has this name.
 fn has_name(slot: &Slot, name: &[u8]) -> bool
     ensures { IsTrue result ↔ HasName (slot_name name.now) slot.now }
 {
-    name.len() <= 16 && &slot.bytes[5..21] == padded_name(name).as_slice()
+    EntryView::new(&slot.bytes).has_name(name)
 }
 
 /// Whether the slot is that of a closed relative file of this name, with records of `length` bytes.
@@ -30,7 +32,8 @@ fn is_relative_of(slot: &Slot, name: &[u8], length: u8) -> bool
 fn is_shop_slot(slot: &Slot) -> bool
     ensures { IsTrue result ↔ IsShopSlot slot.now }
 {
-    is_relative_of(slot, b"STOCK", 18) || is_relative_of(slot, b"REQUESTS", 127)
+    is_relative_of(slot, STOCK_NAME, STOCK_LENGTH)
+        || is_relative_of(slot, REQUESTS_NAME, REQUESTS_LENGTH)
 }
 
 /// Whether the slot has this name and is that of one of a shop's two files.

@@ -4,13 +4,13 @@ ghost use Rattle.disk_layout.specs.Rest.{slot_name};
 ghost use Rattle.disk_layout.specs.declared.slot.Slot.{Slot};
 ghost use Rattle.disk_layout.specs.Listed.{IsStock, NeverGrows, is_plain};
 
-use disk_layout::{EntryView, Slot, padded_name};
+use disk_layout::{EntryView, REQUESTS_LENGTH, REQUESTS_NAME, STOCK_LENGTH, STOCK_NAME, Slot};
 
 /// Whether the slot has this name.
 pub(crate) fn has_name(slot: &Slot, name: &[u8]) -> bool
     ensures { IsTrue result ↔ (slice_range slot.now.bytes 5 21 ≡ slot_name name.now) }
 {
-    name.len() <= 16 && EntryView::new(&slot.bytes).has_padded_name(&padded_name(name))
+    EntryView::new(&slot.bytes).has_name(name)
 }
 
 /// Whether the slot is that of a shop's `STOCK`.
@@ -18,7 +18,7 @@ fn is_stock(slot: &Slot) -> bool
     ensures { IsTrue result ↔ IsStock slot.now }
 {
     let entry = EntryView::new(&slot.bytes);
-    entry.is_relative() && entry.record_length() == 18 && has_name(slot, b"STOCK")
+    entry.is_relative() && entry.record_length() == STOCK_LENGTH && has_name(slot, STOCK_NAME)
 }
 
 /// Whether one of these slots is that of a shop's `STOCK`.
@@ -37,12 +37,13 @@ pub(crate) fn has_stock(slots: &[Slot]) -> bool
 pub(crate) fn never_grows(slot: &Slot, shop: bool) -> bool
     ensures { IsTrue result ↔ NeverGrows (IsTrue shop) slot.now }
 {
-    shop && EntryView::new(&slot.bytes).record_length() == 127 && has_name(slot, b"REQUESTS")
+    let entry = EntryView::new(&slot.bytes);
+    shop && entry.record_length() == REQUESTS_LENGTH && entry.has_name(REQUESTS_NAME)
 }
 
 /// Whether the slot is that of a closed SEQ, PRG or USR, locked or not.
 pub(crate) fn is_plain(slot: &Slot) -> bool
     ensures { result ≡ is_plain slot.now }
 {
-    matches!(slot.bytes[2], 129..=131 | 193..=195)
+    matches!(EntryView::new(&slot.bytes).type_byte(), 129..=131 | 193..=195)
 }

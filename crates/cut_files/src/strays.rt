@@ -6,7 +6,7 @@ ghost use Rattle.disk_layout.specs.Layout.{Layout, owners};
 ghost use Rattle.disk_layout.specs.Map.{IsFree};
 ghost use Rattle.layout_check.specs.Survey.{IsSurveyOf};
 
-use d64_image::Place;
+use d64_image::{Place, TRACK_SECTORS, TRACKS};
 use disk_layout::BamView;
 use layout_check::Survey;
 
@@ -24,7 +24,7 @@ fn has_stray_on(map: &[u8; 256], found: &Survey, track: u8) -> bool
         → (IsTrue result ↔ ((p : Place) × (p.track ≡ track) × ¬ (IsFree map.now p)
         × ¬ (Contains (map_place ∷ owners l) p))) }
 {
-    for sector in 0..21u8 {
+    for sector in 0..TRACK_SECTORS {
         if let Some(place) = Place::new(track, sector) {
             if is_stray(map, found, place) {
                 return true;
@@ -39,8 +39,8 @@ pub(crate) fn has_stray(map: &[u8; 256], found: &Survey) -> bool
     ensures { (l : Layout) → IsSurveyOf l found.now
         → (IsTrue result ↔ ((p : Place) × ¬ (IsFree map.now p) × ¬ (Contains (map_place ∷ owners l) p))) }
 {
-    for track in 1..=35u8 {
-        if has_stray_on(map, found, track) {
+    for below in 0..TRACKS {
+        if has_stray_on(map, found, below + 1) {
             return true;
         }
     }

@@ -4,15 +4,10 @@ ghost use Rattle.d64_image.specs.Images.{IsImage};
 ghost use Rattle.std.proofs.Props.{props};
 
 use crate::faults::{DeviceFault, ImageFault};
+use crate::geometry::{IMAGE_BYTES, SECTORS};
 use crate::place::Place;
 use crate::sectors::Sectors;
 use std::alloc::Global;
-
-/// The number of sectors of a disk of 35 tracks.
-const SECTORS: usize = 683;
-
-/// The number of bytes of its image: 683 sectors of 256 bytes.
-const IMAGE_SIZE: usize = 174_848;
 
 /// A disk in memory, as the bytes of a D64 image: sector after sector in the order of their indices.
 #[derive(Drop)]
@@ -34,7 +29,7 @@ impl MemDisk {
         ensures ok { IfOk result (λ disk. disk_bytes disk ≡ bytes.now) }
         ensures image { IfOk result (λ disk. disk_image disk ≡ sectors_in bytes.now) }
     {
-        if bytes.len() != IMAGE_SIZE {
+        if bytes.len() != IMAGE_BYTES {
             return Err(ImageFault::Size);
         }
         let (sectors, _) = bytes.as_chunks::<256>();

@@ -2,25 +2,14 @@
 ghost use Rattle.std.specs.Prelude.{◌<◌, ◌≡◌, ◌↔◌, IsSome, Some};
 ghost use Rattle.d64_image.specs.Geometry.{sectors_on};
 
+use crate::geometry::sectors_on;
+
 /// A place on the disk: a track from 1 to 35, and a sector from 0 on that the track has.
 #[derive(Clone, Copy, Debug, PartialEq, Eq)]
 pub struct Place {
     track: u8,
     sector: u8,
     ghost on_disk: { sector < sectors_on track },
-}
-
-/// The number of sectors of a track, and 0 if there is no such track: the four speed zones of the 1541.
-fn sectors_of(track: u8) -> u8
-    ensures { result ≡ sectors_on track }
-{
-    match track {
-        1..=17 => 21,
-        18..=24 => 19,
-        25..=30 => 18,
-        31..=35 => 17,
-        _ => 0,
-    }
 }
 
 /// For each track the number of sectors on all tracks below it.
@@ -37,7 +26,7 @@ impl Place {
         ensures value { result ≡ place_at track sector }
         ensures on_disk { IsSome result ↔ (sector < sectors_on track) }
     {
-        if sector < sectors_of(track) {
+        if sector < sectors_on(track) {
             Some(Place { track, sector })
         } else {
             None

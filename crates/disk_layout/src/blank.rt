@@ -10,15 +10,10 @@ use crate::blank_map::blank_map;
 use crate::directory::{directory_start, map_place};
 use crate::entries::relative_entry;
 use crate::filling::fill;
+use crate::shop_files::{REQUESTS_LENGTH, REQUESTS_NAME, STOCK_LENGTH, STOCK_NAME};
 use crate::side::side_bytes;
 use arrayvec::ArrayVec;
 use d64_image::{DeviceFault, Place, Sectors};
-
-/// The length of a record of STOCK, in bytes.
-const STOCK_LENGTH: u8 = 18;
-
-/// The length of a record of REQUESTS, in bytes.
-const REQUEST_LENGTH: u8 = 127;
 
 /// The place after the one with this number.
 fn next_of(places: &[Place], number: usize) -> Option<Place>
@@ -53,7 +48,7 @@ fn request_sector(requests: &[Place], number: usize) -> (Place, [u8; 256])
 {
     (
         requests[number],
-        empty_block(next_of(requests, number), 255, REQUEST_LENGTH, 2),
+        empty_block(next_of(requests, number), 255, REQUESTS_LENGTH, 2),
     )
 }
 
@@ -63,17 +58,17 @@ fn directory_bytes(blocks: u8) -> [u8; 256]
     ensures { result ≡ blank_directory blocks }
 {
     let stock = relative_entry(
-        b"STOCK",
+        STOCK_NAME,
         Place::known(17, 0),
         Place::known(17, 1),
         STOCK_LENGTH,
         2,
     );
     let requests = relative_entry(
-        b"REQUESTS",
+        REQUESTS_NAME,
         Place::known(17, 2),
         Place::known(17, 3),
-        REQUEST_LENGTH,
+        REQUESTS_LENGTH,
         blocks as u16 + 1,
     );
     let mut bytes = [0; 256];
@@ -106,7 +101,7 @@ fn blank_sector(number: usize, name: &[u8], id: [u8; 2], requests: &[Place]) -> 
         ),
         4 => (
             requests_side,
-            side_bytes(0, requests, &[requests_side], REQUEST_LENGTH),
+            side_bytes(0, requests, &[requests_side], REQUESTS_LENGTH),
         ),
         _ => request_sector(requests, number - 5),
     }

@@ -5,7 +5,7 @@ ghost use Rattle.disk_layout.specs.Free.{IsFreeFrom, IsWithoutFree};
 
 use crate::bam::Bam;
 use crate::entries::padded_name;
-use d64_image::Place;
+use d64_image::{Place, TRACKS};
 
 /// 18/0 with no sector free: the bytes before the map, 140 zeros, the name and the id.
 fn blank_header(name: &[u8], id: [u8; 2]) -> [u8; 256]
@@ -57,8 +57,8 @@ pub(crate) fn blank_map(name: &[u8], id: [u8; 2], blocks: u8) -> [u8; 256]
     ensures { IsBlankMap result name.now id blocks }
 {
     let mut map = Bam::new(blank_header(name, id));
-    for track in 1..=35u8 {
-        free_from(&mut map, track, taken_on(track, blocks));
+    for below in 0..TRACKS {
+        free_from(&mut map, below + 1, taken_on(below + 1, blocks));
     }
     map.bytes
 }

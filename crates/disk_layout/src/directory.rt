@@ -16,10 +16,10 @@ use arrayvec::ArrayVec;
 use d64_image::{Place, Sectors};
 
 /// The track of the map and of the directory, on which no data block is placed.
-pub(crate) const DIRECTORY_TRACK: u8 = 18;
+pub const DIRECTORY_TRACK: u8 = 18;
 
 /// The greatest number of sectors of a directory: those of track 18 except the map's.
-const DIRECTORY_SECTORS: usize = 18;
+pub const DIRECTORY_SECTORS: usize = 18;
 
 /// 18/0, the sector of the map of free sectors.
 pub fn map_place() -> Place
@@ -44,7 +44,7 @@ fn is_directory_place(place: Place) -> bool
 
 /// The sector to which a directory sector with these bytes links. None if it links to no sector that a directory may
 /// have: those of track 18 except the map's.
-fn next_sector(bytes: &[u8; 256]) -> Option<Place>
+pub fn next_directory_sector(bytes: &[u8; 256]) -> Option<Place>
     ensures { MatchOption result (LinksOut bytes.now) (λ next. Names bytes.now 0 next × IsDirectoryPlace next) }
 {
     let next = Place::new(bytes[0], bytes[1])?;
@@ -62,8 +62,8 @@ fn contains(places: &ArrayVec<Place, DIRECTORY_SECTORS>, place: Place) -> bool
     places.as_slice().contains(&place)
 }
 
-/// Adds the used slots of the directory sector at `place`, which holds these bytes.
-fn add_used(bytes: &[u8; 256], place: Place, slots: &mut ArrayVec<Slot, 144>)
+/// Adds the used slots of the directory sector at `place`, which holds these bytes: those whose type byte isn't 0.
+pub fn add_used(bytes: &[u8; 256], place: Place, slots: &mut ArrayVec<Slot, 144>)
     requires { array_vec_len slots.old + 8 ≤ 144 }
     ensures items { slots.new.items ≡ slots.old.items ++ filter is_used (slots_in place bytes.now) }
     ensures room { array_vec_len slots.new ≤ array_vec_len slots.old + 8 }
@@ -106,7 +106,7 @@ pub fn read_directory<D: Sectors>(
         if sector[0] == 0 {
             return Ok(());
         }
-        let Some(next) = next_sector(&sector) else {
+        let Some(next) = next_directory_sector(&sector) else {
             return Err(Fault::BadLink(at));
         };
         if contains(&visited, next) {

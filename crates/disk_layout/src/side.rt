@@ -15,8 +15,11 @@ pub const MOST_BLOCKS: usize = 720;
 /// The index of the pointers to data blocks in a side sector, two bytes each.
 pub const POINTERS_AT: usize = 16;
 
-/// The greatest number of side sectors that a side sector lists: a file has six or fewer.
-const LISTED: usize = 6;
+/// The greatest number of side sectors of a relative file. Each side sector lists all of them.
+pub const MOST_SIDES: usize = 6;
+
+/// The index of the list of side sectors in a side sector, two bytes each.
+pub const LIST_AT: usize = 4;
 
 /// The data blocks that side sector `number` points to: 120 from block 120 * number on, or fewer if the file ends
 /// there.
@@ -68,7 +71,7 @@ pub fn side_bytes(number: u8, blocks: &[Place], sides: &[Place], length: u8) -> 
     bytes[1] = sector;
     bytes[2] = number;
     bytes[3] = length;
-    put_places(&mut bytes, 4, &sides[..sides.len().min(LISTED)]);
+    put_places(&mut bytes, LIST_AT, &sides[..sides.len().min(MOST_SIDES)]);
     put_places(&mut bytes, POINTERS_AT, pointers);
     bytes
 }

@@ -4,12 +4,13 @@ ghost use Rattle.byteorder.specs.Endian.{little_number};
 ghost use Rattle.disk_layout.specs.Chain.{named_at};
 ghost use Rattle.disk_layout.specs.Layout.{is_rel_type};
 ghost use Rattle.disk_layout.specs.Map.{IsFree, map_count};
+ghost use Rattle.disk_layout.specs.Rest.{slot_name};
 ghost use Rattle.disk_layout.specs.View.{IsUnpadded, blocks_free, data_count, entry_bytes};
 
 use crate::directory::DIRECTORY_TRACK;
-use crate::entries::{LOCKED_REL, REL};
+use crate::entries::{LOCKED_REL, REL, padded_name};
 use byteorder::{ByteOrder, LittleEndian};
-use d64_image::Place;
+use d64_image::{Place, TRACKS};
 
 /// What pads a name to its sixteen bytes: a shifted space.
 const PADDING: u8 = 0xA0;
@@ -88,8 +89,8 @@ impl<'a> BamView<'a> {
         ensures { result ≡ blocks_free self.now.bytes.now }
     {
         let mut sum = 0;
-        for track in 1..=35u8 {
-            sum += self.data_count(track) as u16;
+        for below in 0..TRACKS {
+            sum += self.data_count(below + 1) as u16;
         }
         sum
     }
@@ -166,6 +167,13 @@ impl<'a> EntryView<'a> {
         self.bytes[2]
     }
 
+    /// Whether the entry is closed: bit 7 of the type byte is set.
+    pub fn is_closed(&self) -> bool
+        ensures { IsTrue result ↔ (128 ≤ slice_index self.now.bytes.now 2) }
+    {
+        self.type_byte() >= 128
+    }
+
     /// Whether the entry is that of a closed relative file, locked or not.
     pub fn is_relative(&self) -> bool
         ensures { result ≡ is_rel_type (slice_index self.now.bytes.now 2) }
@@ -185,6 +193,13 @@ impl<'a> EntryView<'a> {
         ensures { IsTrue result ↔ (slice_range self.now.bytes.now 5 21 ≡ padded.now) }
     {
         &self.bytes[5..21] == padded.as_slice()
+    }
+
+    /// Whether the entry has this name. It is false of a name of more than sixteen bytes.
+    pub fn has_name(&self, name: &[u8]) -> bool
+        ensures { IsTrue result ↔ (slice_range self.now.bytes.now 5 21 ≡ slot_name name.now) }
+    {
+        name.len() <= 16 && self.has_padded_name(&padded_name(name))
     }
 
     /// Whether the slot names a first data block in bytes 3-4: track 0 means that there is none.

@@ -1,12 +1,12 @@
 //! Which sectors a walk has reached: a table with one mark for each place.
 ghost use Rattle.std.specs.Prelude.{◌≡◌, length};
 
-use d64_image::Place;
+use d64_image::{Place, SECTORS};
 
 /// A set of places, with one mark for each place of the disk. Looking up and adding take the same time for each place.
 #[derive(Drop)]
 pub(crate) struct Visited {
-    seen: [bool; 683],
+    seen: [bool; SECTORS],
     pub ghost full: { length seen ≡ 683 },
 }
 
@@ -19,7 +19,9 @@ impl Visited {
         ensures empty { (p : Place) → is_in result p ≡ false }
         ensures room { room result ≡ 683 }
     {
-        Visited { seen: [false; 683] }
+        Visited {
+            seen: [false; SECTORS],
+        }
     }
 
     /// Whether the place has been added.

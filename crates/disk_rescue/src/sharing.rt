@@ -1,13 +1,13 @@
 //! Sectors that several have.
 ghost use Rattle.std.specs.Prelude.{◌≡◌, length};
 
-use d64_image::Place;
+use d64_image::{Place, SECTORS};
 use disk_layout::map_place;
 
 /// How many have each sector of a disk: none, one, or several.
 #[derive(Drop)]
 pub struct Owners {
-    counts: [u8; 683],
+    counts: [u8; SECTORS],
     ghost full: { length counts ≡ 683 },
 }
 
@@ -22,7 +22,9 @@ impl Owners {
     pub fn of_directory(directory: &[Place]) -> Owners
         ensures { (i : ℕ) → min 2 (owners_at result i) ≡ min 2 (count_at i (directories.map_place ∷ directory.now)) }
     {
-        let mut owners = Owners { counts: [0; 683] };
+        let mut owners = Owners {
+            counts: [0; SECTORS],
+        };
         owners.add_one(map_place());
         owners.add(directory);
         owners

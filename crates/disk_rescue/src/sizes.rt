@@ -2,10 +2,7 @@
 ghost use Rattle.std.specs.Prelude.{◌≡◌, ◌↔◌, IsTrue, MatchOption, length, take};
 ghost use Rattle.disk_rescue.specs.Sizes.{IsImageSize, error_of};
 
-use d64_image::Place;
-
-/// How many bytes the sectors of tracks 1 to 35 have: an image that every command takes.
-const SIZE: usize = 174_848;
+use d64_image::{IMAGE_BYTES, Place};
 
 /// How many bytes tracks 1 to 40 have.
 const FORTY_TRACKS: usize = 196_608;
@@ -20,7 +17,7 @@ const FORTY_WITH_ERRORS: usize = 197_376;
 fn is_image_size(size: usize) -> bool
     ensures { IsTrue result ↔ IsImageSize size }
 {
-    size == SIZE || size == WITH_ERRORS || size == FORTY_TRACKS || size == FORTY_WITH_ERRORS
+    size == IMAGE_BYTES || size == WITH_ERRORS || size == FORTY_TRACKS || size == FORTY_WITH_ERRORS
 }
 
 /// The 174,848 bytes of tracks 1 to 35 of an image of one of the four sizes: 35 or 40 tracks, with an error byte for
@@ -33,7 +30,7 @@ pub fn first_tracks(image: &[u8]) -> Option<&[u8]>
     if !is_image_size(image.len()) {
         return None;
     }
-    Some(&image[..SIZE])
+    Some(&image[..IMAGE_BYTES])
 }
 
 /// How the drive failed to read this sector when the image was made: the error byte, such as 5 for error 23. None if
@@ -43,7 +40,7 @@ pub fn error_at(image: &[u8], place: Place) -> Option<u8>
     ensures { result ≡ error_of image.now place }
 {
     let start = match image.len() {
-        WITH_ERRORS => SIZE,
+        WITH_ERRORS => IMAGE_BYTES,
         FORTY_WITH_ERRORS => FORTY_TRACKS,
         _ => return None,
     };

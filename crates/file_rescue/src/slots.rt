@@ -1,14 +1,13 @@
 //! The entries of directory sectors.
-ghost use Rattle.std.specs.Prelude.{◌≡◌, ◌≤◌, ◌+◌, ◌++◌, filter, length};
-ghost use Rattle.arrayvec.specs.ArrayVec.{array_vec_len};
+ghost use Rattle.std.specs.Prelude.{◌≡◌, ◌≤◌, length};
 ghost use Rattle.d64_image.specs.Images.{sector};
 ghost use Rattle.d64_image.specs.Memory.{disk_image};
-ghost use Rattle.disk_layout.specs.Directory.{is_used, slots_in, used_slots};
+ghost use Rattle.disk_layout.specs.Directory.{used_slots};
 
 use arrayvec::ArrayVec;
 use d64_image::{MemDisk, Place, Sectors};
 use disk_entries::Entries;
-use disk_layout::Slot;
+use disk_layout::add_used;
 
 /// The bytes of a sector. A disk in memory gives each.
 pub(crate) fn read_sector(disk: &mut MemDisk, place: Place) -> [u8; 256]
@@ -18,20 +17,6 @@ pub(crate) fn read_sector(disk: &mut MemDisk, place: Place) -> [u8; 256]
     let mut bytes = [0; 256];
     let _ = disk.read(place, &mut bytes);
     bytes
-}
-
-/// Adds the entries of the directory sector at `place`, which holds these bytes.
-fn add_used(bytes: &[u8; 256], place: Place, entries: &mut Entries)
-    requires { array_vec_len entries.old + 8 ≤ 144 }
-    ensures items { entries.new.items ≡ entries.old.items ++ filter is_used (slots_in place bytes.now) }
-    ensures room { array_vec_len entries.new ≤ array_vec_len entries.old + 8 }
-{
-    for number in 0..8u8 {
-        let slot = Slot::in_sector(bytes, place, number);
-        if slot.bytes[2] != 0 {
-            entries.push(slot);
-        }
-    }
 }
 
 /// The entries of these directory sectors, in order.

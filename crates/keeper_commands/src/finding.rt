@@ -1,5 +1,5 @@
 //! The file that is asked for, on a disk that may be hurt.
-ghost use Rattle.std.specs.Prelude.{◌≡◌, ◌↔◌, IfErr, IfOk, IsTrue, MatchOption, slice_range};
+ghost use Rattle.std.specs.Prelude.{◌≡◌, ◌↔◌, IfErr, IfOk, IsTrue, MatchOption};
 ghost use Rattle.d64_image.specs.Memory.{disk_image};
 ghost use Rattle.disk_rescue.specs.Sharing as sharing;
 ghost use Rattle.keeper_commands.specs.Found as found;
@@ -8,7 +8,7 @@ ghost use Rattle.keeper_commands.specs.Found.{HasNone, HasNoneAsked, IsAsked, Is
 use arrayvec::ArrayVec;
 use d64_image::{MemDisk, Place};
 use disk_entries::read_so_far;
-use disk_layout::{EntryView, Fault, MOST_BLOCKS, Slot, padded_name};
+use disk_layout::{EntryView, Fault, MOST_BLOCKS, Slot};
 use disk_rescue::{owners_of, reach_file};
 
 /// Which entries may be found by their name.
@@ -40,19 +40,12 @@ pub(crate) struct FoundFile {
     pub(crate) fault: Option<Fault>,
 }
 
-/// Whether the entry has the name.
-fn has_padded_name(slot: &Slot, padded: &[u8; 16]) -> bool
-    ensures { IsTrue result ↔ (slice_range slot.now.bytes 5 21 ≡ padded.now) }
-{
-    &slot.bytes[5..21] == &padded[..]
-}
-
 /// Whether the entry may be found by its name.
 fn is_candidate(slot: &Slot, candidates: Candidates) -> bool
     ensures { IsTrue result ↔ IsCandidate candidates slot.now }
 {
     match candidates {
-        Candidates::Closed => slot.bytes[2] >= 128,
+        Candidates::Closed => EntryView::new(&slot.bytes).is_closed(),
         Candidates::All => true,
     }
 }
@@ -61,10 +54,7 @@ fn is_candidate(slot: &Slot, candidates: Candidates) -> bool
 fn is_named(slot: &Slot, candidates: Candidates, name: &[u8]) -> bool
     ensures { IsTrue result ↔ IsNamedSo candidates name.now slot.now }
 {
-    if name.len() > 16 || !is_candidate(slot, candidates) {
-        return false;
-    }
-    has_padded_name(slot, &padded_name(name))
+    is_candidate(slot, candidates) && EntryView::new(&slot.bytes).has_name(name)
 }
 
 /// The length of the entry's records in bytes, 1 to 254, if it is relative, closed or not, and has such a length.
@@ -118,10 +108,10 @@ fn shared_fault(shared: Option<Place>) -> Option<Fault>
 fn unclosed_fault(slot: &Slot) -> Option<Fault>
     ensures { result ≡ found.unclosed slot.now }
 {
-    if slot.bytes[2] < 128 {
-        Some(Fault::Unclosed(slot.sector))
-    } else {
+    if EntryView::new(&slot.bytes).is_closed() {
         None
+    } else {
+        Some(Fault::Unclosed(slot.sector))
     }
 }
 

@@ -16,17 +16,11 @@ ghost use Rattle.command_faults.specs.declared.faults.CommandFault.TheVariants a
 use crate::kinds::judge_kind;
 use arrayvec::ArrayVec;
 use command_faults::{CommandFault, flush, load, put};
-use d64_image::{MemDisk, Place, Sectors};
+use d64_image::{MemDisk, Place, Sectors, TRACK_SECTORS, TRACKS};
 use disk_layout::{BamView, Fault, map_place};
 use layout_check::{repair, repair_keeping};
 use std::alloc::Global;
 use std::io::Write;
-
-/// How many tracks a disk has.
-const TRACKS: u8 = 35;
-
-/// How many sectors a track has at most.
-const SECTORS: u8 = 21;
 
 /// More bytes than the longest line has: `MENDED 35/16` and its end have 13.
 const LINE: usize = 16;
@@ -167,7 +161,7 @@ fn put_track<D: Sectors, W: Write>(
     ensures quiet { WritesNothing D.history after.old after.new }
     ensures told { TellsKeep D.history after.old after.new result }
 {
-    for sector in 0..SECTORS {
+    for sector in 0..TRACK_SECTORS {
         put_sector(out, before, after, maps, track, sector)?;
     }
     Ok(())

@@ -10,7 +10,7 @@ ghost use Rattle.layout_check.specs.Survey.{IsToldBy};
 
 use crate::owners::Owners;
 use crate::survey_outcome::Survey;
-use d64_image::{Place, Sectors};
+use d64_image::{Place, Sectors, TRACKS};
 use disk_layout::{BamView, Fault, map_place, read_sector};
 
 /// The number of a stray sector: it is taken in the map, but nobody owns it.
@@ -58,8 +58,8 @@ fn mark_strays(map: &[u8; 256], owners: &mut Owners) -> u16
         × AreMarked map.now owners.old owners.new (λ p. p.track < 36) ps × (result ≡ length ps) }
 {
     let mut count = 0;
-    for track in 0..36u8 {
-        count += mark_track(map, owners, track);
+    for below in 0..TRACKS {
+        count += mark_track(map, owners, below + 1);
     }
     count
 }

@@ -3,7 +3,7 @@ ghost use Rattle.std.specs.Prelude.{◌≤◌, IfErr, IsTrue, OnOk};
 ghost use Rattle.layout_check.specs.Marked.{IsRightMap, IsRightTrack, IsWrongMap};
 
 use crate::owners::Owners;
-use d64_image::Place;
+use d64_image::{Place, TRACKS};
 use disk_layout::{BamView, Fault, map_place};
 
 /// Whether the map has the right bit for each sector of a track, and the right count of them. No branch depends on a
@@ -55,9 +55,9 @@ pub(crate) fn check_bits(map: &[u8; 256], owners: &Owners) -> Result<(), Fault>
     ensures ok { OnOk result (IsRightMap map.now owners.now) }
     ensures err { IfErr result (IsWrongMap map.now owners.now) }
 {
-    for track in 1..=35u8 {
-        if !is_right_track(map, owners, track) {
-            check_track(map, owners, track)?;
+    for below in 0..TRACKS {
+        if !is_right_track(map, owners, below + 1) {
+            check_track(map, owners, below + 1)?;
         }
     }
     Ok(())

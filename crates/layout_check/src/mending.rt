@@ -14,7 +14,7 @@ use crate::owners::Owners;
 use crate::parts::Parts;
 use crate::sides::find_parts;
 use arrayvec::ArrayVec;
-use d64_image::{Place, Sectors};
+use d64_image::{Place, Sectors, TRACKS};
 use disk_layout::{
     Bam, EntryView, Fault, Slot, map_place, read_directory, read_sector, side_bytes, write_other,
 };
@@ -41,8 +41,8 @@ fn map_of(old: &[u8; 256], owners: &Owners) -> [u8; 256]
     let mut bytes = *old;
     bytes[4..144].fill(0);
     let mut map = Bam::new(bytes);
-    for track in 1..=35u8 {
-        free_track(&mut map, owners, track);
+    for below in 0..TRACKS {
+        free_track(&mut map, owners, below + 1);
     }
     map.bytes
 }

@@ -1,7 +1,7 @@
 //! The owner of each sector of a disk, as far as a survey has come: a table with one number for each place.
 ghost use Rattle.std.specs.Prelude.{◌≡◌, length};
 
-use d64_image::Place;
+use d64_image::{Place, SECTORS};
 use disk_layout::{Fault, map_place};
 
 /// The number of a sector that nobody owns.
@@ -14,7 +14,7 @@ const SYSTEM: u8 = 254;
 /// among the used entries, from 0. A look-up takes the same time for each sector, however much is owned.
 #[derive(Drop)]
 pub(crate) struct Owners {
-    numbers: [u8; 683],
+    numbers: [u8; SECTORS],
     pub ghost full: { length numbers ≡ 683 },
 }
 
@@ -30,7 +30,7 @@ impl Owners {
         ensures { (p : Place) → owner_of result p ≡ 255 }
     {
         Owners {
-            numbers: [NOBODY; 683],
+            numbers: [NOBODY; SECTORS],
         }
     }
 
@@ -73,7 +73,7 @@ impl Owners {
     }
 
     /// The numbers of the owners of all sectors, in the order of their indices.
-    pub(crate) fn numbers(&self) -> &[u8; 683]
+    pub(crate) fn numbers(&self) -> &[u8; SECTORS]
         ensures { (p : Place) → slice_index result.now (index_of p) ≡ owner_of self.now p }
     {
         &self.numbers

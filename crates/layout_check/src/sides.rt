@@ -12,11 +12,8 @@ use crate::parts::Parts;
 use arrayvec::ArrayVec;
 use d64_image::{Place, Sectors};
 use disk_layout::{
-    EntryView, Fault, POINTERS, POINTERS_AT, SideView, Slot, read_sector, side_bytes,
+    EntryView, Fault, LIST_AT, POINTERS, POINTERS_AT, SideView, Slot, read_sector, side_bytes,
 };
-
-/// The index of the list of all side sectors in a side sector.
-const LIST_AT: usize = 4;
 
 /// Whether the bytes from `at` on name these places in order, track and sector of each.
 fn names_each(sector: &[u8; 256], at: usize, places: &[Place]) -> bool

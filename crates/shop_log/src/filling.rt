@@ -4,12 +4,10 @@ ghost use Rattle.d64_image.specs.Images.{Image};
 ghost use Rattle.shop_log.specs.Blocks.{IsCommit, brought, is_last, is_whole, pair_at, part, replayed, with_sectors, written};
 
 use crate::blocks::{put_pair, seal};
+use d64_image::SECTORS;
 
 /// How many sectors a block has room for.
 const PER: usize = 15;
-
-/// How many sectors a disk has.
-const SECTORS: usize = 683;
 
 /// Puts a sector's bytes in their place.
 fn put_bytes(block: &mut [u8; 4096], at: usize, bytes: &[u8; 256])
@@ -36,7 +34,7 @@ fn put_sector(block: &mut [u8; 4096], k: usize, index: usize, bytes: &[u8; 256])
 fn put_sectors(
     block: &mut [u8; 4096],
     now: &[[u8; 256]],
-    touched: &[bool; 683],
+    touched: &[bool; SECTORS],
     from: usize,
 ) -> (usize, usize)
     requires sized { length now.now ≡ 683 }
@@ -79,7 +77,7 @@ fn put_header(block: &mut [u8; 4096], last: bool, n: usize, place: usize)
 fn make_block(
     block: &mut [u8; 4096],
     now: &[[u8; 256]],
-    touched: &[bool; 683],
+    touched: &[bool; SECTORS],
     from: usize,
     place: usize,
 ) -> usize
@@ -106,7 +104,7 @@ fn make_block(
 pub(crate) fn fill(
     room: &mut [[u8; 4096]],
     now: &[[u8; 256]],
-    touched: &[bool; 683],
+    touched: &[bool; SECTORS],
     place: usize,
 ) -> usize
     requires room { length room.old ≡ 46 }

@@ -1,15 +1,12 @@
 //! A disk that notes which sectors are written.
-use d64_image::{DeviceFault, Place, Sectors};
-
-/// How many sectors a disk of 35 tracks has.
-const SECTORS: usize = 683;
+use d64_image::{DeviceFault, Place, SECTORS, Sectors};
 
 /// Passes each read and write on to the disk beneath it, and marks each sector that a write was asked for. So a commit
 /// takes the marked sectors, and compares none.
 #[derive(Drop)]
 pub struct TouchedDisk<D> {
     disk: D,
-    touched: [bool; 683],
+    touched: [bool; SECTORS],
 }
 
 impl<D: Sectors> TouchedDisk<D> {
@@ -29,7 +26,7 @@ impl<D: Sectors> TouchedDisk<D> {
     }
 
     /// For each sector, by its index from 0 to 682, whether a write of it was asked for since the marks were cleared.
-    pub fn touched(&self) -> &[bool; 683]
+    pub fn touched(&self) -> &[bool; SECTORS]
         ensures { result.now ≡ touched_of self.now }
     {
         &self.touched

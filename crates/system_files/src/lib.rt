@@ -10,6 +10,6 @@ mod streams;
 
 pub use overwritten_file::{OpensFile, OverwrittenFile};
 pub use remaining::EndedFile;
-pub use replacing::replace_image;
+pub use replacing::{DIRECTORY_END, DIRECTORY_START, SPOILED_DIRECTORY, replace_image};
 pub use shown_paths::ShownPath;
 pub use streams::ClosedStreams;

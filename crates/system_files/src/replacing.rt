@@ -3,24 +3,23 @@ ghost use Rattle.std.specs.Prelude.{◌≡◌, length};
 ghost use Rattle.system_files.specs.Replacing.{AllAreFilled, AllAreSpoiled, IsFilling, IsReplaced, IsSealing, IsSpoiling};
 
 use crate::remaining::EndedFile;
+use d64_image::IMAGE_BYTES;
 use std::io;
 
-/// How many bytes an image has.
-const IMAGE_BYTES: u64 = 174_848;
+/// The byte of an image at which the first sector of the directory, 18/1, begins.
+pub const DIRECTORY_START: usize = 91_648;
 
-/// The byte at which the first sector of the directory, 18/1, begins, and the one at which the next sector does.
-const DIRECTORY: usize = 91_648;
-
-const BEHIND: usize = 91_904;
+/// The byte of an image at which the sector after it begins.
+pub const DIRECTORY_END: usize = 91_904;
 
 /// A first sector of a directory that links to track 255, which no disk has.
-const SPOILED: [u8; 256] = [255; 256];
+pub const SPOILED_DIRECTORY: [u8; 256] = [255; 256];
 
 /// Spoils the directory of the image that a file may hold, and syncs that.
 fn spoil<F: EndedFile>(file: &mut F) -> io::Result<()>
     ensures { IsSpoiling F.remains file.old file.new result }
 {
-    file.put_over(&SPOILED, DIRECTORY as u64)?;
+    file.put_over(&SPOILED_DIRECTORY, DIRECTORY_START as u64)?;
     file.sync_whole()
 }
 
@@ -31,9 +30,9 @@ fn fill<F: EndedFile>(file: &mut F, image: &[u8]) -> io::Result<()>
     requires spoiled { AllAreSpoiled F.remains file.old }
     ensures { IsFilling F.remains file.old file.new image.now result }
 {
-    file.put_over(&image[..DIRECTORY], 0)?;
-    file.put_over(&image[BEHIND..], BEHIND as u64)?;
-    file.end_at(IMAGE_BYTES)?;
+    file.put_over(&image[..DIRECTORY_START], 0)?;
+    file.put_over(&image[DIRECTORY_END..], DIRECTORY_END as u64)?;
+    file.end_at(IMAGE_BYTES as u64)?;
     file.sync_whole()
 }
 
@@ -43,7 +42,10 @@ fn seal<F: EndedFile>(file: &mut F, image: &[u8]) -> io::Result<()>
     requires filled { AllAreFilled F.remains file.old image.now }
     ensures { IsSealing F.remains file.old file.new image.now result }
 {
-    file.put_over(&image[DIRECTORY..BEHIND], DIRECTORY as u64)?;
+    file.put_over(
+        &image[DIRECTORY_START..DIRECTORY_END],
+        DIRECTORY_START as u64,
+    )?;
     file.sync_whole()
 }
 

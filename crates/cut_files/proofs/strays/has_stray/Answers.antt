@@ -1,5 +1,5 @@
 -- Track by track.
-use Rattle.std.proofs.Common.{inl, inr, refl, sym, ◌∙◌}
+use Rattle.std.proofs.Common.{inl, inr, refl, sym, ◌+◌, ◌∙◌}
 use Rattle.std.proofs.lemmas.Bool.{false≢true}
 use Rattle.cut_files.proofs.Places.{below-or-here}
 use Rattle.cut_files.proofs.strays.has_stray.Goals as goal
@@ -12,10 +12,10 @@ returns-then-has_stray_on c l of = (
   λ _. refl,
 )
 
-pub loop-track-preserved : goal.loop-track-preserved
-loop-track-preserved c = record {
-  none = λ m of p on taken unowned. elim (below-or-here p.track c.loop-track.track on) [
-    | inl lower ↦ c.loop-track.invariant.none m of p lower taken unowned
+pub loop-below-preserved : goal.loop-below-preserved
+loop-below-preserved c = record {
+  none = λ m of p on taken unowned. elim (below-or-here p.track (c.loop-below.below + 1) on) [
+    | inl lower ↦ c.loop-below.invariant.none m of p lower taken unowned
     | inr here ↦ false≢true (sym c.if-has_stray_on.false
         ∙ (c.has_stray_on.ensures m of).1 (p, here, taken, unowned))
   ];

@@ -1,4 +1,4 @@
-use Rattle.std.proofs.Common.{◌<◌, ◌∷◌}
+use Rattle.std.proofs.Common.{◌<◌, ◌+◌, ◌∷◌}
 use Rattle.std.specs.Prelude.{Contains}
 use Rattle.d64_image.specs.declared.place.Place.{Place}
 use Rattle.disk_layout.specs.Directory.{map_place}
@@ -7,8 +7,8 @@ use Rattle.disk_layout.specs.Map.{IsFree}
 use Rattle.layout_check.specs.Survey.{IsSurveyOf}
 use Rattle.cut_files.proofs.strays.has_stray.Given as goal
 
-abbrev pub invariant-loop-track : goal.invariant-loop-track
-invariant-loop-track l = record {
-  none : (m : Layout) → IsSurveyOf m l.found → (p : Place) → p.track < l.track → ¬ (IsFree l.map p)
+abbrev pub invariant-loop-below : goal.invariant-loop-below
+invariant-loop-below l = record {
+  none : (m : Layout) → IsSurveyOf m l.found → (p : Place) → p.track < l.below + 1 → ¬ (IsFree l.map p)
       → ¬ (Contains (map_place ∷ owners m) p) → ⊥;
 }

@@ -25,7 +25,7 @@ loop-place-preserved c =
     take_more ps k p c.loop-place-test.true ∙ ap (λ (q : Place). take k ps ++ q ∷ []) (sym c.place-item.is) in
     record {
       items = used-more (disk_image c.args.disk.now) (take k ps) p c.read_sector-bytes.result c.loop-place.entries.items
-          c.add_used.new.entries.items old.items
+          c.add_used.new.slots.items old.items
           (c.read_sector-bytes.ensures.bytes ∙ ap (λ (i : Image). sector i p) old.same) c.add_used.ensures.items
           ∙ ap (used_slots (disk_image c.args.disk.now)) (sym taken);
       room = omega (arith, old.room, c.add_used.ensures.room);

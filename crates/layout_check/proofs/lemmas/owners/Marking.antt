@@ -5,7 +5,7 @@ use Rattle.std.specs.Prelude.{Contains}
 use Rattle.std.proofs.Math.Decide.{dec_lt}
 use Rattle.std.proofs.lemmas.Bool.{cases_eq}
 use Rattle.std.proofs.lemmas.List.Elements.{Contains-append_cases, Contains-append_left, Contains-append_right}
-use Rattle.d64_image.proofs.Places.{place_at-some, same_place, sector_small, track_fits}
+use Rattle.d64_image.proofs.Places.{place_at-some, same_place, sector_small, track_fits, track_from_1}
 use Rattle.d64_image.specs.Geometry.{sectors_on}
 use Rattle.d64_image.specs.Images.{Image, Sector, sector}
 use Rattle.d64_image.specs.Places.{place_at}
@@ -152,8 +152,8 @@ module _ (map : Sector) where
   track-end a b track n ps all = marked-as a b (On track n) (λ p. p.track ≡ track) ps
       (λ p. (λ on. on.0, λ e. (e, omega (arith, all, sector_small p))))
 
-  pub tracks-start : (t : Owners) → AreMarked map t t (λ p. p.track < 0) []
-  tracks-start t = marked-none t (λ p. p.track < 0) (λ p below. absurd (omega (arith, below)))
+  pub tracks-start : (t : Owners) → AreMarked map t t (λ p. p.track < 1) []
+  tracks-start t = marked-none t (λ p. p.track < 1) (λ p below. absurd (omega (arith, below, track_from_1 p)))
 
   pub tracks-more : (a b c : Owners) (n : ℕ) (ps qs : List Place) → AreMarked map a b (λ p. p.track < n) ps
       → AreMarked map b c (λ p. p.track ≡ n) qs → AreMarked map a c (λ p. p.track < n + 1) (ps ++ qs)

@@ -1,7 +1,7 @@
 -- What the two bytes name, and whether a directory may have it.
 use Rattle.std.proofs.Common.{inr, sym, ◌∙◌}
 use Rattle.std.proofs.lemmas.Bool.{false≢true}
-use Rattle.disk_entries.proofs.directory.next_sector.Goals as goal
+use Rattle.disk_layout.proofs.directory.next_directory_sector.Goals as goal
 use Rattle.disk_layout.proofs.lemmas.chains.Directories.{names-here}
 
 pub returns-then-is_directory_place : goal.returns-then-is_directory_place

@@ -1,15 +1,17 @@
-use Rattle.std.proofs.Common.{◌≡◌, ◌+◌, length}
+-- The sectors so far were visited each once, and the next one not yet.
+use Rattle.std.proofs.Common.{◌≡◌, ◌+◌, false, length}
 use Rattle.d64_image.specs.History.{OnlyReads}
 use Rattle.disk_layout.specs.Chain.{Leads, EachOnce}
-use Rattle.disk_layout.specs.Visited.{IsSetOf, room}
-use Rattle.disk_layout.proofs.chain.walk_chain.Given as goal
+use Rattle.disk_layout.specs.Visited.{IsSetOf, is_in, room}
+use Rattle.disk_layout.proofs.walk.walk.Given as goal
 
-abbrev pub invariant-chain : goal.invariant-chain
-invariant-chain g l =
+abbrev pub invariant-walk : goal.invariant-walk
+invariant-walk g l =
     let S = g.D.Sectors.history in
     record {
       leads : Leads (S.image l.fn.disk) l.fn.first l.places.items l.at;
       once : EachOnce l.places.items;
+      fresh : is_in l.visited l.at ≡ false;
       marks : IsSetOf l.visited l.places.items;
       count : length l.places.items + room l.visited ≡ 683;
       reads : OnlyReads S l.fn.disk l.disk (length l.places.items);
@@ -17,5 +19,5 @@ invariant-chain g l =
     }
 
 -- how many sectors have not been visited
-abbrev pub decreases-chain : goal.decreases-chain
-decreases-chain g l = room l.visited
+abbrev pub decreases-walk : goal.decreases-walk
+decreases-walk g l = room l.visited

@@ -1,5 +1,5 @@
 -- A turn visits one more sector; where the walk stops, the sectors visited are all that the links come to.
-use Rattle.std.proofs.Common.{sym, subst, ◌∙◌, ℕ, inl, inr, length, lit<, refl}
+use Rattle.std.proofs.Common.{sym, subst, ◌∙◌, length, lit<, refl}
 use Rattle.std.proofs.lemmas.Bool.{false≢true}
 use Rattle.std.proofs.lemmas.Result.{err_from_is_err_and}
 use Rattle.std.specs.Prelude.{Err}
@@ -13,7 +13,8 @@ use Rattle.disk_layout.proofs.lemmas.chains.AsFar.{walk-stops}
 use Rattle.disk_layout.specs.AsFar.{IsDeviceFault}
 use Rattle.disk_layout.specs.Fault.{TellsFault}
 use Rattle.disk_layout.specs.declared.faults.Fault.{Fault}
-use Rattle.disk_layout.proofs.chain_prefix.walk_as_far.Goals as goal
+use Rattle.disk_layout.specs.declared.walk.WalkEnd.{WalkEnd}
+use Rattle.disk_layout.proofs.walk.walk.Goals as goal
 
 -- the next one
 pub insert-requires : goal.insert-requires
@@ -34,7 +35,7 @@ returns-in_err-read_sector g c =
       walk = rw p.1 tt;
       fault = let P : Fault → Type 0 = IsDeviceFault (S.failed_at c.read_sector.new.disk) in
           rw (p.1, p.2) (subst P (sym c.in_err-read_sector.ensures.told) c.in_err-read_sector.ensures.failed);
-      failures = let P : Fault → Type 0 = λ f. TellsFault {T = ℕ} S c.args.disk.now c.read_sector.new.disk (Err f) in
+      failures = let P : Fault → Type 0 = λ f. TellsFault {T = WalkEnd} S c.args.disk.now c.read_sector.new.disk (Err f) in
           rw (p.1, p.2) (subst P (sym c.in_err-read_sector.ensures.told) (failed_later S c.args.disk.now c.walk.disk
           c.read_sector.new.disk c.walk.invariant.failures c.in_err-read_sector.ensures.failures));
       reads = reads_then S _ _ _ (length c.walk.places.items) 1 (length c.push.new.self.items)
@@ -47,8 +48,8 @@ returns-then-sector-eq0 g c = record {
   walk = let old = c.walk.invariant in
       let new = not_in c.walk.visited _ _ old.marks old.fresh in
       rw c.push.ensures.items (walk-stops _ _ _ _ _ old.leads old.once new
-      (inl (end-read _ _ c.walk.at c.read_sector.new.to old.reads.image c.in_ok-read_sector.ensures.sector
-      c.if-sector-eq0.true)));
+      (end-read _ _ c.walk.at c.read_sector.new.to old.reads.image c.in_ok-read_sector.ensures.sector
+      c.if-sector-eq0.true));
   fault = tt;
   failures = c.in_ok-read_sector.ensures.failures ∙ c.walk.invariant.failures;
   reads = reads_then g.D.Sectors.history _ _ _ (length c.walk.places.items) 1 (length c.push.new.self.items)
@@ -60,13 +61,11 @@ pub returns-in_default : goal.returns-in_default
 returns-in_default g c = record {
   walk = let old = c.walk.invariant in
       let new = not_in c.walk.visited _ _ old.marks old.fresh in
-      rw c.push.ensures.items (walk-stops _ _ _ _ _ old.leads old.once new
-      (inr (
+      rw c.push.ensures.items (walk-stops _ _ _ _ _ old.leads old.once new (
         refl,
-        inl (nowhere-read _ _ c.walk.at c.read_sector.new.to old.reads.image c.in_ok-read_sector.ensures.sector
-            c.if-sector-eq0.false
-            (λ h. false≢true (c.in_default.ensures.on_disk.1 h))),
-      )));
+        nowhere-read _ _ c.walk.at c.read_sector.new.to old.reads.image c.in_ok-read_sector.ensures.sector
+            c.if-sector-eq0.false (λ h. false≢true (c.in_default.ensures.on_disk.1 h)),
+      ));
   fault = tt;
   failures = c.in_ok-read_sector.ensures.failures ∙ c.walk.invariant.failures;
   reads = reads_then g.D.Sectors.history _ _ _ (length c.walk.places.items) 1 (length c.push.new.self.items)
@@ -83,7 +82,7 @@ returns-then-contains g c = record {
       (place_at-some _ _ _ (sym c.new.ensures.value ∙ c.in-Some.is)) in
       let marks = IsSetOf-push c.walk.visited c.insert.new.self _ _ old.marks c.insert.ensures.now in
       rw c.push.ensures.items (walk-stops _ _ _ _ _ old.leads old.once new
-      (inr (refl, inr (c.in-Some.next, link, (marks c.in-Some.next).0 (sym c.contains.ensures ∙ c.if-contains.true)))));
+      (link, (marks c.in-Some.next).0 (sym c.contains.ensures ∙ c.if-contains.true)));
   fault = tt;
   failures = c.in_ok-read_sector.ensures.failures ∙ c.walk.invariant.failures;
   reads = reads_then g.D.Sectors.history _ _ _ (length c.walk.places.items) 1 (length c.push.new.self.items)
