@@ -229,6 +229,14 @@ waiting ledger_cli play a.d64 s.txt
 prints 250*1,1,DONE,5|
 tells \rledger: 100 lines\rledger: 200 lines\r                                   \r
 written
+
+script 1,1,S,1,5|1,2,S,1,6|
+output-takes 12 bytes
+waiting ledger_cli play a.d64 s.txt
+prints 1,1,DONE,5|1
+tells FILE|ledger: standard output: no storage space|
+ends 3
+written
 ";
 
 #[test]
