@@ -11,15 +11,9 @@ use crate::links::Links;
 use crate::objects::fault_place;
 use crate::showing;
 use command_faults::CommandFault;
-use d64_image::Place;
+use d64_image::{Place, TRACK_SECTORS, TRACKS};
 use disk_layout::Fault;
 use std::alloc::Global;
-
-/// How many tracks there are.
-const TRACKS: u8 = 35;
-
-/// How many sectors a track has at most.
-const SECTORS: u8 = 21;
 
 /// The faults that a sector may have, in the order in which they are listed.
 fn faults_of(place: Place) -> [Fault; 9]
@@ -140,7 +134,7 @@ fn add_track(
     ensures ok { OnOk result (IsGathered links.now first (faults_to track 21) found.old.items found.new.items) }
     ensures err { IfErr result (λ fault. fault ≡ faults.NoMemory) }
 {
-    for sector in 0..SECTORS {
+    for sector in 0..TRACK_SECTORS {
         add_sector(links, first, track, sector, found)?;
     }
     Ok(())

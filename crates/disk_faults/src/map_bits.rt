@@ -4,7 +4,7 @@ ghost use Rattle.disk_layout.specs.Map.{map_count};
 ghost use Rattle.layout_check.specs.Marked.{ones_on};
 ghost use Rattle.disk_faults.specs.AllFaults.{HasWrongCount, IsWrongAt, IsWrongBit};
 
-use d64_image::Place;
+use d64_image::{Place, TRACKS};
 use disk_layout::{BamView, map_place};
 
 /// Whether a track's number of free sectors is that of its bits.
@@ -28,7 +28,7 @@ fn is_counted(map: &[u8; 256], track: u8) -> bool
 fn has_wrong_count(map: &[u8; 256]) -> bool
     ensures { IsTrue result ↔ HasWrongCount map.now }
 {
-    for below in 0..35u8 {
+    for below in 0..TRACKS {
         if !is_counted(map, below + 1) {
             return true;
         }

@@ -6,10 +6,9 @@ ghost use Rattle.disk_layout.specs.Chain.{LinksTo, NamesNone};
 ghost use Rattle.disk_faults.specs.Trails.{AreLinked, AreSides, AreWrong, IsReachedBy, IsWrongSide};
 
 use crate::slots::{first_side, is_relative};
-use crate::trail::MOST_SIDES;
 use arrayvec::ArrayVec;
 use d64_image::{MemDisk, Place, Sectors};
-use disk_layout::{EntryView, Fault, POINTERS, Slot, side_bytes};
+use disk_layout::{EntryView, Fault, MOST_SIDES, POINTERS, Slot, side_bytes};
 
 /// The sector to which this one links; None if it links to no place of the disk.
 fn next_of(disk: &mut MemDisk, place: Place) -> Option<Place>

@@ -1,10 +1,7 @@
 //! What the links of an entry come to.
 use arrayvec::ArrayVec;
 use d64_image::Place;
-use disk_layout::{Fault, MOST_BLOCKS, Slot};
-
-/// How many side sectors a relative file has at most.
-pub(crate) const MOST_SIDES: usize = 6;
+use disk_layout::{Fault, MOST_BLOCKS, MOST_SIDES, Slot};
 
 /// A used entry of the directory, and what its links come to.
 #[derive(Drop)]

@@ -18,7 +18,6 @@ pub mod Named
 pub mod Opening
 pub mod Owned
 pub mod Owning
-pub mod Paddings
 pub mod PageMarkup
 pub mod PetsciiMarkup
 pub mod PlainBytes

@@ -7,7 +7,6 @@ pub mod Held
 pub mod Html
 pub mod Maps
 pub mod Markup
-pub mod Names
 pub mod Outcomes
 pub mod Owners
 pub mod Petscii

@@ -10,32 +10,19 @@ ghost use Rattle.disk_pictures.specs.Pictures.{ring_of, ring_text, side_arc};
 
 use crate::html::Html;
 use crate::texts::fault_place;
-use d64_image::Place;
+use d64_image::{Place, sectors_on};
 use disk_layout::Fault;
 use std::fmt::{self, Display, Formatter};
 
 /// The radius of the mark at the rim.
 const RIM: u16 = 35_700;
 
-/// How many sectors a track has; 0 if there is no such track.
-fn sectors(track: u8) -> u8
-    ensures { result ≡ sectors_on track }
-{
-    match track {
-        1..=17 => 21,
-        18..=24 => 19,
-        25..=30 => 18,
-        31..=35 => 17,
-        _ => 0,
-    }
-}
-
 /// How long the arc of the sector is on a ring of this radius.
 fn arc_length(radius: u16, place: Place) -> u32
     ensures value { result ≡ arc radius (sectors_on (track_of place)) }
     ensures small { result ≤ 710 * radius }
 {
-    710 * radius as u32 / (113 * sectors(place.track()) as u32)
+    710 * radius as u32 / (113 * sectors_on(place.track()) as u32)
 }
 
 /// The radius of a track's ring.

@@ -20,11 +20,11 @@ use crate::counterparts::counterpart;
 use crate::differences::are_changed;
 use crate::drawn_file::DrawnFile;
 use crate::html::Html;
-use crate::names::entry_name;
 use crate::page::Link;
 use crate::petscii::Petscii;
 use crate::versions::Versions;
 use command_faults::{CommandFault, put_text};
+use disk_entries::entry_name;
 use std::fmt::{self, Display, Formatter};
 use std::io::Write;
 

@@ -10,11 +10,11 @@ use crate::changes::put_changes;
 use crate::compared::Compared;
 use crate::differences::{count, put_marks};
 use crate::html::Html;
-use crate::names::header_name;
 use crate::page::{END, Title, Told};
 use crate::picture_printing::put_drawing;
 use crate::texts::VerdictText;
 use command_faults::{CommandFault, flush, put_text};
+use disk_entries::disk_name;
 use disk_layout::Fault;
 use std::alloc::Global;
 use std::fmt::{self, Display, Formatter};
@@ -44,7 +44,7 @@ impl Display for ComparedText<'_> {
             <li class=\"open\"><i></i>in use, but free in the map</li>\n\
             <li class=\"fault\"><i></i>the fault, with a mark at the rim</li>\n</ul>\n<table>\n\
             <tr><th></th><th></th><th>name</th><th>differs in</th><th>records</th></tr>\n",
-            Html(header_name(&self.before.drawing.map)),
+            Html(disk_name(&self.before.drawing.map)),
             VerdictText(self.before.found),
             count(self.before, self.after)
         )

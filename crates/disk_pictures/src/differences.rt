@@ -10,9 +10,9 @@ ghost use Rattle.command_faults.specs.declared.faults.CommandFault.TheVariants a
 
 use crate::arcs::Ring;
 use crate::compared::Compared;
-use crate::others::{GROUP_END, SECTORS, TRACKS};
+use crate::others::GROUP_END;
 use command_faults::{CommandFault, put_text};
-use d64_image::Place;
+use d64_image::{Place, TRACK_SECTORS, TRACKS};
 use std::fmt::{self, Display, Formatter};
 use std::io::Write;
 
@@ -61,7 +61,7 @@ fn count_on(before: &Compared<'_>, after: &Compared<'_>, track: u8) -> u16
     ensures few { result ≤ 21 }
 {
     let mut count = 0;
-    for sector in 0..SECTORS {
+    for sector in 0..TRACK_SECTORS {
         count += count_at(before, after, track, sector);
     }
     count
@@ -120,7 +120,7 @@ fn put_marks_on<W: Write>(
         then mark_arc p else []) (place_at track sector)))) }
     ensures err { IfErr result (λ fault. fault ≡ faults.File) }
 {
-    for sector in 0..SECTORS {
+    for sector in 0..TRACK_SECTORS {
         if let Some(place) = Place::new(track, sector) {
             put_mark(out, before, after, place)?;
         }

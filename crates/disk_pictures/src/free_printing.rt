@@ -6,9 +6,9 @@ ghost use Rattle.disk_pictures.specs.Texts.{each_below};
 ghost use Rattle.disk_pictures.specs.Views.{AreFreePrinted, IsViewFault, free_line, free_text, free_total};
 ghost use Rattle.command_faults.specs.declared.faults.CommandFault.TheVariants as faults;
 
-use crate::others::TRACKS;
 use crate::reading::read_map;
 use command_faults::{CommandFault, flush, load, put_text};
+use d64_image::TRACKS;
 use disk_layout::BamView;
 use std::alloc::Global;
 use std::fmt::{self, Display, Formatter};

@@ -18,7 +18,6 @@ mod html;
 mod laws;
 mod map_printing;
 mod map_tracks;
-mod names;
 mod others;
 mod owners;
 mod page;

@@ -13,12 +13,12 @@ ghost use Rattle.command_faults.specs.declared.faults.CommandFault.TheVariants a
 use crate::drawing::Drawing;
 use crate::drawn_file::DrawnFile;
 use crate::map_tracks::put_either_tracks;
-use crate::names::entry_name;
 use crate::signs::EntryMark;
 use crate::texts::{TypeText, VerdictText};
 use crate::verdicts::judged;
 use byte_text::Text;
 use command_faults::{CommandFault, flush, put_text};
+use disk_entries::entry_name;
 use disk_layout::{EntryView, Fault};
 use std::alloc::Global;
 use std::fmt::{self, Display, Formatter};

@@ -9,16 +9,10 @@ ghost use Rattle.command_faults.specs.declared.faults.CommandFault.TheVariants a
 use crate::drawing::Drawing;
 use crate::signs::{Cell, sign};
 use command_faults::{CommandFault, put_text};
-use d64_image::Place;
+use d64_image::{Place, TRACK_SECTORS, TRACKS};
 use disk_layout::Fault;
 use std::fmt::{self, Display, Formatter};
 use std::io::Write;
-
-/// How many tracks a disk has.
-const TRACKS: u8 = 35;
-
-/// How many sectors a track has at most.
-const SECTORS: u8 = 21;
 
 /// What stands above the tracks: the numbers of the sectors.
 const HEAD: &str = "   0         1         2\n   012345678901234567890\n";
@@ -38,7 +32,7 @@ fn put_track<W: Write>(
     ensures err { IfErr result (λ fault. fault ≡ faults.File) }
 {
     put_text(out, TrackText(track))?;
-    for sector in 0..SECTORS {
+    for sector in 0..TRACK_SECTORS {
         if let Some(place) = Place::new(track, sector) {
             put_text(out, sign(found, drawing, place))?;
         }
@@ -75,7 +69,7 @@ fn put_wide_track<W: Write>(
     ensures err { IfErr result (λ fault. fault ≡ faults.File) }
 {
     put_text(out, TrackNumber(track))?;
-    for sector in 0..SECTORS {
+    for sector in 0..TRACK_SECTORS {
         if let Some(place) = Place::new(track, sector) {
             put_text(
                 out,

@@ -11,15 +11,9 @@ use crate::arcs::PlainArc;
 use crate::drawing::Drawing;
 use crate::owners::Owner;
 use command_faults::{CommandFault, put_text};
-use d64_image::Place;
+use d64_image::{Place, TRACK_SECTORS, TRACKS};
 use disk_layout::BamView;
 use std::io::Write;
-
-/// How many tracks a disk has.
-pub(crate) const TRACKS: u8 = 35;
-
-/// How many sectors a track has at most.
-pub(crate) const SECTORS: u8 = 21;
 
 /// The end of a group.
 pub(crate) const GROUP_END: &str = "</g>\n";
@@ -60,7 +54,7 @@ fn put_others_on<W: Write>(out: &mut W, drawing: &Drawing, track: u8) -> Result<
         at_place (other_arc drawing.now.map (drawn_in drawing.now)) (place_at track sector)))) }
     ensures err { IfErr result (λ fault. fault ≡ faults.File) }
 {
-    for sector in 0..SECTORS {
+    for sector in 0..TRACK_SECTORS {
         if let Some(place) = Place::new(track, sector) {
             put_other(out, drawing, place)?;
         }

@@ -2,7 +2,7 @@
 ghost use Rattle.std.specs.Prelude.{◌≡◌, length};
 
 use crate::drawn_file::DrawnFile;
-use d64_image::Place;
+use d64_image::{Place, SECTORS};
 use disk_layout::map_place;
 
 /// Whose a sector is. If several have it, it is the first one's, in the order of these. If several entries have it, it is
@@ -24,7 +24,7 @@ pub(crate) enum Owner {
 /// An owner for each place of the disk, so that each is found in equal time.
 #[derive(Drop)]
 pub(crate) struct Owners {
-    owners: [Owner; 683],
+    owners: [Owner; SECTORS],
     pub ghost full: { length owners ≡ 683 },
 }
 
@@ -50,7 +50,7 @@ impl Owners {
         ensures { (p : Place) → owner_in result p ≡ owners.Nobody }
     {
         Owners {
-            owners: [Owner::Nobody; 683],
+            owners: [Owner::Nobody; SECTORS],
         }
     }
 

@@ -10,10 +10,10 @@ use crate::arcs::Look;
 use crate::drawing::Drawing;
 use crate::drawn_file::DrawnFile;
 use crate::html::Html;
-use crate::names::{entry_name, header_name};
 use crate::petscii::Petscii;
 use crate::sentences::Summary;
 use crate::texts::{TypeText, VerdictText};
+use disk_entries::{disk_name, entry_name};
 use disk_layout::{BamView, EntryView, Fault};
 use std::fmt::{self, Display, Formatter};
 
@@ -143,7 +143,7 @@ impl Display for Title<'_> {
     ghost output = { λ title. Some (title_text html_of petscii_of title.0.now) };
 
     fn fmt<W: fmt::Write>(&self, f: &mut Formatter<W>) -> fmt::Result {
-        let bytes = header_name(self.0);
+        let bytes = disk_name(self.0);
         let (name, signs) = (Html(bytes), Petscii(bytes));
         write!(
             f,
@@ -184,7 +184,7 @@ impl Display for Told<'_> {
             Html(view.version()),
             class_of(self.found),
             VerdictText(self.found),
-            Html(header_name(map))
+            Html(disk_name(map))
         )
     }
 }

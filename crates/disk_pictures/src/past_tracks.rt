@@ -8,10 +8,10 @@ ghost use Rattle.disk_pictures.specs.Trims.{past_line, sides_past as sides_past_
 ghost use Rattle.command_faults.specs.declared.faults.CommandFault.TheVariants as faults;
 
 use crate::drawn_file::DrawnFile;
-use crate::names::entry_name;
 use byte_text::Text;
 use command_faults::{CommandFault, put_text};
 use d64_image::Place;
+use disk_entries::entry_name;
 use disk_layout::{EntryView, Slot};
 use std::fmt::{self, Display, Formatter};
 use std::io::Write;

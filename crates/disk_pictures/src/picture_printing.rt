@@ -16,7 +16,6 @@ ghost use Rattle.command_faults.specs.declared.faults.CommandFault.TheVariants a
 use crate::arcs::{BlockArc, FaultGroup, Look, PlainArc, SideArc};
 use crate::drawing::Drawing;
 use crate::drawn_file::DrawnFile;
-use crate::names::entry_name;
 use crate::others::{GROUP_END, put_others};
 use crate::owners::Owner;
 use crate::page::{END, LEGEND, Row, Title, Told};
@@ -24,6 +23,7 @@ use crate::verdicts::judged;
 use crate::white_lines::put_open;
 use command_faults::{CommandFault, flush, put_text};
 use d64_image::Place;
+use disk_entries::entry_name;
 use disk_layout::Fault;
 use std::alloc::Global;
 use std::fmt::{self, Display, Formatter};

@@ -10,11 +10,11 @@ use crate::arcs::Look;
 use crate::drawing::Drawing;
 use crate::drawn_file::DrawnFile;
 use crate::html::Html;
-use crate::names::{entry_name, header_name};
 use crate::page::DASHES;
 use crate::petscii::Petscii;
 use crate::sentences::Summary;
 use crate::texts::TypeText;
+use disk_entries::{disk_name, entry_name};
 use disk_layout::{BamView, EntryView, Fault};
 use std::fmt::{self, Display, Formatter};
 
@@ -64,7 +64,7 @@ impl Display for Head<'_> {
     ghost output = { λ head. Some (poster_head html_of petscii_of head.0.now) };
 
     fn fmt<W: fmt::Write>(&self, f: &mut Formatter<W>) -> fmt::Result {
-        let bytes = header_name(self.0);
+        let bytes = disk_name(self.0);
         let (name, signs) = (Html(bytes), Petscii(bytes));
         write!(
             f,
@@ -105,7 +105,7 @@ impl Display for Heading<'_> {
             <text class=\"hub\" y=\"400\">{}</text></svg>\n<g transform=\"rotate(-90)\">\n",
             Html(view.id()),
             Html(view.version()),
-            Html(header_name(map))
+            Html(disk_name(map))
         )
     }
 }

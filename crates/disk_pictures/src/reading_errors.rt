@@ -8,9 +8,8 @@ ghost use Rattle.disk_pictures.specs.Texts.{at_place, each_below};
 ghost use Rattle.disk_pictures.specs.Trims.{error_line, error_number, errors_text};
 ghost use Rattle.command_faults.specs.declared.faults.CommandFault.TheVariants as faults;
 
-use crate::others::{SECTORS, TRACKS};
 use command_faults::{CommandFault, put_text};
-use d64_image::Place;
+use d64_image::{Place, TRACK_SECTORS, TRACKS};
 use disk_rescue::error_at;
 use std::fmt::{self, Display, Formatter};
 use std::io::Write;
@@ -56,7 +55,7 @@ fn put_errors_on<E: Write>(err: &mut E, image: &[u8], track: u8) -> Result<(), C
         (each_below 21 (λ sector. at_place (λ p. error_line p (error_of image.now p)) (place_at track sector)))) }
     ensures err { IfErr result (λ fault. fault ≡ faults.File) }
 {
-    for sector in 0..SECTORS {
+    for sector in 0..TRACK_SECTORS {
         if let Some(place) = Place::new(track, sector) {
             let error = error_at(image, place);
             put_text(err, ErrorLine { place, error })?;
@@ -87,7 +86,7 @@ fn is_sector_read(image: &[u8], place: Place) -> bool
 fn is_track_read(image: &[u8], track: u8) -> bool
     ensures { IsTrue result ↔ ((p : Place) → p.track ≡ track → error_of image.now p ≡ None) }
 {
-    for sector in 0..SECTORS {
+    for sector in 0..TRACK_SECTORS {
         if let Some(place) = Place::new(track, sector) {
             if !is_sector_read(image, place) {
                 return false;

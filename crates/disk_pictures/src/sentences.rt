@@ -8,11 +8,11 @@ ghost use Rattle.disk_pictures.specs.Sentences.{words_after, words_before};
 use crate::arcs::PlaceText;
 use crate::drawing::Drawing;
 use crate::html::Html;
-use crate::names::entry_name;
 use crate::owners::Owner;
 use crate::sharing::{Two, two_owners};
 use crate::texts::fault_place;
 use d64_image::Place;
+use disk_entries::entry_name;
 use disk_layout::{BamView, Fault};
 use std::fmt::{self, Display, Formatter};
 

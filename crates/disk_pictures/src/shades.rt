@@ -4,10 +4,9 @@ ghost use Rattle.disk_pictures.specs.Held.{drawn_in};
 ghost use Rattle.disk_pictures.specs.Sheets.{shade as shade_of};
 
 use crate::drawing::Drawing;
-use crate::others::{SECTORS, TRACKS};
 use crate::owners::Owner;
 use crate::texts::is_fault_at;
-use d64_image::Place;
+use d64_image::{Place, TRACK_SECTORS, TRACKS};
 use disk_layout::{BamView, Fault};
 
 /// How many shades there are.
@@ -112,7 +111,7 @@ impl Shades {
             → has_shade self.new below (shade_of found drawing.now.map (drawn_in drawing.now) p) ≡ true }
         ensures kept { (b n : ℕ) → has_shade self.old b n ≡ true → has_shade self.new b n ≡ true }
     {
-        for sector in 0..SECTORS {
+        for sector in 0..TRACK_SECTORS {
             self.insert_at(drawing, found, below, Place::new(below + 1, sector));
         }
     }

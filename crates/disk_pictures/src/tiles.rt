@@ -13,14 +13,13 @@ ghost use Rattle.command_faults.specs.declared.faults.CommandFault.TheVariants a
 
 use crate::drawing::Drawing;
 use crate::html::Html;
-use crate::names::header_name;
-use crate::others::{SECTORS, TRACKS};
 use crate::page::class_of;
 use crate::petscii::Petscii;
 use crate::shades::{SHADES, Shades, shade};
 use crate::texts::VerdictText;
 use command_faults::{CommandFault, put_text};
-use d64_image::Place;
+use d64_image::{Place, TRACK_SECTORS, TRACKS};
+use disk_entries::disk_name;
 use disk_layout::{BamView, Fault};
 use std::fmt::{self, Display, Formatter};
 use std::io::Write;
@@ -80,7 +79,7 @@ fn put_strokes_on<W: Write>(
         at_place (own_stroke found drawing.now.map (drawn_in drawing.now) number) (place_at track sector)))) }
     ensures err { IfErr result (λ fault. fault ≡ faults.File) }
 {
-    for sector in 0..SECTORS {
+    for sector in 0..TRACK_SECTORS {
         if let Some(place) = Place::new(track, sector) {
             put_stroke(out, found, drawing, number, place)?;
         }
@@ -177,7 +176,7 @@ impl Display for Caption<'_> {
     ghost output = { λ told. Some (caption html_of petscii_of told.path.now told.found told.map.now) };
 
     fn fmt<W: fmt::Write>(&self, f: &mut Formatter<W>) -> fmt::Result {
-        let name = header_name(self.map);
+        let name = disk_name(self.map);
         let free = BamView::new(self.map).blocks_free();
         writeln!(
             f,

@@ -11,10 +11,10 @@ ghost use Rattle.command_faults.specs.declared.faults.CommandFault.TheVariants a
 
 use crate::arcs::{Dash, radius};
 use crate::drawing::Drawing;
-use crate::others::{GROUP_END, SECTORS, TRACKS};
+use crate::others::GROUP_END;
 use crate::owners::Owner;
 use command_faults::{CommandFault, put_text};
-use d64_image::Place;
+use d64_image::{Place, TRACK_SECTORS, TRACKS};
 use disk_layout::BamView;
 use std::fmt::{self, Display, Formatter};
 use std::io::Write;
@@ -44,7 +44,7 @@ fn is_track_open(drawing: &Drawing, track: u8) -> bool
     ensures { result ≡ track_open drawing.now.map (drawn_in drawing.now) track }
 {
     let mut found = false;
-    for sector in 0..SECTORS {
+    for sector in 0..TRACK_SECTORS {
         let here = is_open_at(drawing, track, sector);
         found = found || here;
     }
@@ -57,7 +57,7 @@ fn put_dashes<W: Write>(out: &mut W, drawing: &Drawing, track: u8) -> Result<(),
         (track_dashes drawing.now.map (drawn_in drawing.now) track)) }
     ensures err { IfErr result (λ fault. fault ≡ faults.File) }
 {
-    for sector in 0..SECTORS {
+    for sector in 0..TRACK_SECTORS {
         if let Some(place) = Place::new(track, sector) {
             let white = is_open(drawing, place);
             put_text(out, Dash { white, place })?;

@@ -7,9 +7,7 @@ ghost use Rattle.file_changes.specs.Puts.{HoldsChain, chain_sector};
 ghost use Rattle.rel_records.specs.Calls.{WritesAtMost};
 
 use d64_image::{DeviceFault, Place, Sectors};
-
-/// The number of data bytes in a sector.
-const DATA: usize = 254;
+use disk_layout::DATA;
 
 /// Bytes 0-1 of a sector of a chain that holds `used` bytes.
 fn link(next: Option<Place>, used: u8) -> (u8, u8)

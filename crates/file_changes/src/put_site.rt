@@ -12,7 +12,7 @@ ghost use Rattle.file_changes.specs.Puts.{HasNoRoomFor};
 ghost use Rattle.rel_records.specs.creation.Site.{IsRoomOf};
 
 use arrayvec::ArrayVec;
-use d64_image::Place;
+use d64_image::{Place, SECTORS};
 use disk_layout::Bam;
 use rel_records::{Room, take_next};
 
@@ -20,7 +20,7 @@ use rel_records::{Room, take_next};
 #[derive(Drop)]
 pub(crate) struct PutSite {
     pub(crate) map: Bam,
-    pub(crate) blocks: ArrayVec<Place, 683>,
+    pub(crate) blocks: ArrayVec<Place, SECTORS>,
     /// The directory sector that is written last, and its bytes before that: the one with the first free slot, or the
     /// directory's last if all slots are used.
     pub(crate) place: Place,
@@ -32,7 +32,7 @@ pub(crate) struct PutSite {
 }
 
 /// Takes this number of free sectors for data, and returns them in the order in which they were taken.
-pub(crate) fn take_sectors(map: &mut Bam, count: usize) -> ArrayVec<Place, 683>
+pub(crate) fn take_sectors(map: &mut Bam, count: usize) -> ArrayVec<Place, SECTORS>
     requires room { count ≤ blocks_free map.old.bytes }
     requires map { (owned : List Place) × IsMapOf map.old.bytes owned }
     ensures taken { TakesSectors map.old.bytes map.new.bytes result.items }

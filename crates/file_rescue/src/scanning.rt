@@ -13,10 +13,7 @@ use crate::choices::Choice;
 use crate::slots::read_sector;
 use d64_image::{MemDisk, Place};
 use disk_entries::DirectorySectors;
-use disk_layout::{EntryView, Slot};
-
-/// The track of the directory.
-const TRACK: u8 = 18;
+use disk_layout::{DIRECTORY_TRACK, EntryView, Slot};
 
 /// Whether the first two bytes end a directory, or link to one of its sectors.
 fn has_directory_link(bytes: &[u8; 256]) -> bool
@@ -25,7 +22,7 @@ fn has_directory_link(bytes: &[u8; 256]) -> bool
     if bytes[0] == 0 {
         return bytes[1] == 255;
     }
-    bytes[0] == TRACK && 1 <= bytes[1] && bytes[1] <= 18
+    bytes[0] == DIRECTORY_TRACK && 1 <= bytes[1] && bytes[1] <= 18
 }
 
 /// Whether a drive may have written this slot.
@@ -103,7 +100,7 @@ fn add_next(disk: &mut MemDisk, sectors: &mut DirectorySectors, number: u8)
     ensures items { sectors.new.items ≡ scanned.with_next (disk_image disk.old) sectors.old.items (place_at 18 number) }
     ensures same { disk_image disk.new ≡ disk_image disk.old }
 {
-    let Some(place) = Place::new(TRACK, number) else {
+    let Some(place) = Place::new(DIRECTORY_TRACK, number) else {
         return;
     };
     if is_among(place, sectors.as_slice()) {

@@ -19,11 +19,11 @@ mod starting;
 use crate::shop::shop_drive::ShopDrive;
 use d64_image::{Fuse, Sectors};
 use drive_channels::Dead;
-use request_cards::{Answer, Request, RequestCard};
+use request_cards::{Answer, LAST_CARD, Request, RequestCard};
 use std::marker::Model;
 
 /// The greatest number of items of a shop: as many as the largest file has records.
-pub(crate) const ITEMS: usize = 10160;
+pub(crate) const ITEMS: usize = LAST_CARD as usize;
 
 /// An open ledger: a shop on a disk.
 ///

@@ -7,21 +7,12 @@ ghost use Rattle.ledger_cli.specs.Making.{IsHandedPart, IsImageCopied, IsImageMa
 ghost use Rattle.command_faults.specs.declared.faults.CommandFault.TheVariants as faults;
 
 use command_faults::CommandFault;
+use d64_image::IMAGE_BYTES;
 use file_changes::new_disk;
 use shop_commands::{fresh_disk, put_whole};
 use std::alloc::Global;
 use std::io::{Seek, SeekFrom, Write};
-
-/// Where 18/1 begins in an image, the first sector of the directory, and where the next sector does.
-const DIRECTORY: usize = 91_648;
-
-const BEHIND: usize = 91_904;
-
-/// How many bytes an image has.
-const IMAGE_BYTES: usize = 174_848;
-
-/// A first sector of a directory that links to track 255, which no disk has.
-const SPOILED: [u8; 256] = [255; 256];
+use system_files::{DIRECTORY_END, DIRECTORY_START, SPOILED_DIRECTORY};
 
 /// Seeks a place in a file, and hands it these bytes. `File` if the seek fails, and the file is as before; or if a write
 /// does, and the file has a prefix of the bytes, or all.
@@ -42,10 +33,14 @@ fn write_over<F: Write + Seek>(file: &mut F, image: &[u8]) -> Result<(), Command
     requires size { length image.now ≡ 174848 }
     ensures { IsWriting F.stream_position F.stream_bytes F.contents file.old file.new (image_writes image.now) result }
 {
-    hand_over(file, &SPOILED, DIRECTORY as u64)?;
-    hand_over(file, &image[..DIRECTORY], 0)?;
-    hand_over(file, &image[BEHIND..], BEHIND as u64)?;
-    hand_over(file, &image[DIRECTORY..BEHIND], DIRECTORY as u64)
+    hand_over(file, &SPOILED_DIRECTORY, DIRECTORY_START as u64)?;
+    hand_over(file, &image[..DIRECTORY_START], 0)?;
+    hand_over(file, &image[DIRECTORY_END..], DIRECTORY_END as u64)?;
+    hand_over(
+        file,
+        &image[DIRECTORY_START..DIRECTORY_END],
+        DIRECTORY_START as u64,
+    )
 }
 
 /// Makes the image of an empty shop with 1 to 64 tills (an odd number gives one more). It writes the 174,848 bytes over

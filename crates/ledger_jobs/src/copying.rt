@@ -7,15 +7,13 @@ use crate::outcomes::job_end;
 use crate::readings::image_at;
 use crate::refusals::Refusal;
 use command_faults::CommandFault;
+use d64_image::IMAGE_BYTES;
 use disk_layout::Fault;
 use host_files::HostFiles;
 use shop_commands::{EndedFile, Locks, OverwrittenFile, put_whole};
 use std::fs::OpenFile;
 use std::io::{Read, Write};
 use system_files::replace_image;
-
-/// How many bytes an image has.
-const IMAGE_BYTES: usize = 174_848;
 
 /// Writes an image over all that a file holds, syncs it, and prints `COPIED`. If power goes on the way, the file has what
 /// it could have before, or is no sound disk's, or has the image. `ImageSize`: nothing was done. `File` if the file

@@ -11,14 +11,12 @@ use crate::locks::{lock_exclusive, lock_shared};
 use crate::outcomes::told;
 use crate::refusals::Refusal;
 use command_faults::CommandFault;
+use d64_image::IMAGE_BYTES;
 use host_files::{HostFiles, opened_to_change, opened_to_read};
 use log_files::{ImageFolder, ImageView, LogFault, LogNames, land_in, sync_names, view_in};
 use shop_commands::{Durability, EndedFile, Locks};
 use std::fs::OpenFile;
 use std::io::{self, ErrorKind};
-
-/// How many bytes an image has.
-const IMAGE_BYTES: u64 = 174_848;
 
 /// What is reported for this fault of a log.
 pub(crate) fn log_refusal(fault: &LogFault) -> Refusal
@@ -33,7 +31,7 @@ pub(crate) fn log_refusal(fault: &LogFault) -> Refusal
 /// Whether a file has as many bytes as an image.
 pub(crate) fn is_sized<F: OpenFile>(file: &F) -> Result<bool, Refusal> {
     let found = told(OpenFile::metadata(file))?;
-    Ok(found.len() == IMAGE_BYTES)
+    Ok(found.len() == IMAGE_BYTES as u64)
 }
 
 /// Whether anything stands at a path.

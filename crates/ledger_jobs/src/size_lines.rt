@@ -5,6 +5,7 @@ ghost use Rattle.ledger_jobs.specs.Rights.{MayExplain, MayLook};
 use crate::failure_lines::tell_of;
 use crate::job_files::{first_file, size_of};
 use crate::jobs::Job;
+use d64_image::IMAGE_BYTES;
 use host_files::HostFiles;
 use std::io::Write;
 use system_files::ShownPath;
@@ -16,7 +17,7 @@ pub(crate) fn missized_of<'a, R: HostFiles>(rt: &R, job: &Job<'a>) -> Option<&'a
 {
     match job {
         Job::Compare { before, after } => {
-            if size_of(rt, before) == Some(174_848) {
+            if size_of(rt, before) == Some(IMAGE_BYTES as u64) {
                 Some(after)
             } else {
                 Some(before)

@@ -19,7 +19,7 @@ use std::fs::OpenFile;
 use std::io::{self, Read, Write};
 
 /// The greatest number of bytes of an image that are read: one more than one of 40 tracks with error bytes has.
-const IMAGE_BYTES: u64 = 197_377;
+const MOST_READ: u64 = 197_377;
 
 /// The end of a job that trimmed an image.
 fn trimmed_end(ended: Result<bool, CommandFault>) -> Result<Option<Fault>, Refusal>
@@ -50,7 +50,7 @@ pub fn trim_run<W: Write, E: Write>(
 fn read_long<R: Read + Drop>(alloc: Global, reader: R) -> io::Result<Vec<u8>>
     ensures { IfOk result (λ bytes. IfSome (R.remaining reader) (λ all. vec_items bytes ≡ take 197377 all)) }
 {
-    read_script(alloc, reader.take(IMAGE_BYTES), IMAGE_BYTES as usize)
+    read_script(alloc, reader.take(MOST_READ), MOST_READ as usize)
 }
 
 /// The bytes of an image's file, up to one more than the largest image has.

@@ -5,11 +5,9 @@ ghost use Rattle.log_files.specs.Bringing.{HasLog, IsAlone, IsBrought, RestsAlon
 ghost use Rattle.log_files.specs.Folders.{AllLeft, Folder, HasImage, LeavesFolders, with_image, with_sector};
 
 use crate::log_folder::LogFolder;
+use d64_image::SECTORS;
 use shop_log::LogFile;
 use std::io;
-
-/// How many sectors an image has.
-const SECTORS: usize = 683;
 
 /// Writes a sector of IMAGE, if it differs from what IMAGE has there.
 fn bring_sector<F: LogFile, D: LogFolder<F>>(

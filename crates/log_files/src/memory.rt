@@ -10,12 +10,10 @@ ghost use Rattle.log_files.specs.Views.{IsLogViewed, Seen, SeenGives};
 use crate::landing::{LogFault, land};
 use crate::log_folder::LogFolder;
 use crate::viewing::{ViewsImage, view};
+use d64_image::SECTORS;
 use shop_log::LogFile;
 use std::alloc::Global;
 use std::io;
-
-/// How many sectors an image has.
-const SECTORS: usize = 683;
 
 /// Memory for an image.
 pub(crate) fn image_room(alloc: Global) -> io::Result<Vec<[u8; 256]>>

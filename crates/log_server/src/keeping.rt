@@ -3,16 +3,13 @@ ghost use Rattle.std.specs.Prelude.{◌≡◌, length};
 ghost use Rattle.shop_log.specs.Marks.{Covers, NoneTouched};
 ghost use Rattle.log_server.specs.Keeping.{IsKept};
 
-use d64_image::MemDisk;
+use d64_image::{MemDisk, SECTORS};
 use shop_log::{ImageLog, TouchedDisk};
 use std::io;
 
-/// How many sectors a disk has.
-const SECTORS: usize = 683;
-
 /// Copies each marked sector of the image of now into the kept image, which is the one committed last. Returns which of
 /// them changed.
-fn bring(kept: &mut [[u8; 256]], now: &[[u8; 256]], marked: &[bool; 683]) -> [bool; 683]
+fn bring(kept: &mut [[u8; 256]], now: &[[u8; 256]], marked: &[bool; SECTORS]) -> [bool; SECTORS]
     requires kept { length kept.old ≡ 683 }
     requires now { length now.now ≡ 683 }
     ensures kept { length kept.new ≡ 683 }

@@ -2,12 +2,10 @@
 ghost use Rattle.std.specs.Prelude.{◌≡◌, ◌≤◌, length, vec_capacity};
 
 use arrayvec::ArrayVec;
+use d64_image::SECTORS;
 use line_server::MOST_LINES;
 use request_cards::Reply;
 use std::alloc::{AllocError, Global};
-
-/// How many sectors a disk has.
-const SECTORS: usize = 683;
 
 /// Memory for a batch of lines and its replies, and for the image that was committed last: about 230 kB.
 #[derive(Drop)]

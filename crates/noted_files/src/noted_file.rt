@@ -4,7 +4,7 @@ ghost use Rattle.d64_image.specs.Places.{index_of};
 
 use crate::failures::Failures;
 use crate::subjects::Subject;
-use d64_image::Place;
+use d64_image::{Place, TRACK_SECTORS, TRACKS};
 use shop_commands::{EndedFile, Locks, WritesAt, read_image};
 use std::alloc::Global;
 use std::fs::{Metadata, OpenFile, TryLockError};
@@ -14,9 +14,9 @@ use std::io::{self, Read, Seek, SeekFrom, Write};
 fn place_at(index: u64) -> Option<Place>
     ensures { IfSome result (λ place. index_of place ≡ index) }
 {
-    for track in 1..=35 {
-        for sector in 0..=20 {
-            if let Some(place) = Place::new(track, sector) {
+    for below in 0..TRACKS {
+        for sector in 0..TRACK_SECTORS {
+            if let Some(place) = Place::new(below + 1, sector) {
                 if place.index() as u64 == index {
                     return Some(place);
                 }

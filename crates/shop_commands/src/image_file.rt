@@ -5,7 +5,7 @@ ghost use Rattle.shop_commands.specs.Lasting.{seen};
 ghost use Rattle.shop_commands.specs.declared.durability.Durability.TheVariants as durabilities;
 
 use crate::durability::{Durability, WritesAt, write_sector};
-use d64_image::{Place, SectorFile};
+use d64_image::{IMAGE_BYTES, Place, SectorFile};
 use std::io;
 
 /// A file that has a sector at 256 times its index. Writing at a place needs no seek, so one call of the system writes a
@@ -27,9 +27,6 @@ pub struct ImageFile<F: WritesAt> {
     ghost blamed: { 1 ≤ failed → F.has_failed file ≡ true },
     ghost there: { synced ≡ true → failed ≡ 0 → F.lasting.bytes file ≡ F.held file } by { Prim.hlevel props },
 }
-
-/// How many bytes an image has.
-const IMAGE_BYTES: usize = 174_848;
 
 /// Whether these bytes are an image each sector of which is synced.
 fn is_brought(durability: Durability, image: &[u8]) -> bool

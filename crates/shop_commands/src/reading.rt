@@ -1,12 +1,13 @@
 //! The bytes of the files that a job reads.
 ghost use Rattle.std.specs.Prelude.{◌≡◌, IfOk, IfSome, take, vec_items};
 
+use d64_image::IMAGE_BYTES;
 use std::alloc::Global;
 use std::io::{self, Read};
 
-/// How many bytes of an image are read: one more than a disk has, which is enough to see that there are
-/// too many.
-const IMAGE_BYTES: u64 = 174_849;
+/// How many bytes of an image are read: one more than a disk has, which is enough to see that there are too
+/// many.
+const MOST_READ: u64 = IMAGE_BYTES as u64 + 1;
 
 /// The bytes of a script: all that the reader has left. Its error if reading failed, or if there was no memory for them.
 /// `room` is how many bytes memory is taken for at once: any number will do, and with one more than the file has it need
@@ -26,5 +27,5 @@ pub fn read_image<R: Read + Drop>(alloc: Global, reader: R) -> io::Result<Vec<u8
     ensures { IfOk result (λ bytes. IfSome (R.remaining reader)
         (λ all. vec_items bytes ≡ take 174849 all)) }
 {
-    read_script(alloc, reader.take(IMAGE_BYTES), IMAGE_BYTES as usize)
+    read_script(alloc, reader.take(MOST_READ), MOST_READ as usize)
 }

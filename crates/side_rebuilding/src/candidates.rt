@@ -2,12 +2,12 @@
 ghost use Rattle.std.specs.Prelude.{◌≡◌, ◌≤◌, length};
 ghost use Rattle.d64_image.specs.Memory.{disk_image};
 
-use crate::readable::{MOST_SIDES, find_readable, lists_more, sides_needed};
+use crate::readable::{find_readable, lists_more, sides_needed};
 use crate::sectors::bytes_at;
 use crate::taken::contains;
 use arrayvec::ArrayVec;
 use d64_image::{MemDisk, Place};
-use disk_layout::{BamView, EntryView, SideView, Slot, map_place};
+use disk_layout::{BamView, EntryView, MOST_SIDES, SideView, Slot, map_place};
 
 /// The first of these sectors that is free in the map and not among `chosen`.
 fn first_free(map: &[u8; 256], unowned: &[Place], chosen: &[Place]) -> Option<Place> {

@@ -9,11 +9,9 @@ ghost use Rattle.side_rebuilding.specs.Rebuilt.{IsRebuilt};
 
 use crate::comparing::keeps_chains;
 use crate::sectors::is_same;
-use d64_image::{MemDisk, Place};
+use d64_image::{MemDisk, Place, TRACK_SECTORS, TRACKS};
+use disk_layout::DIRECTORY_TRACK;
 use layout_check::{Survey, survey};
-
-/// The track of the map and of the directory.
-const DIRECTORY_TRACK: u8 = 18;
 
 /// Whether the two disks have the same bytes at the place, or it is outside track 18 and somebody's in the survey.
 fn is_same_or_owned(before: &mut MemDisk, after: &mut MemDisk, found: &Survey, place: Place) -> bool
@@ -32,7 +30,7 @@ fn is_same_or_owned_on(before: &mut MemDisk, after: &mut MemDisk, found: &Survey
     ensures before { disk_image before.new ≡ disk_image before.old }
     ensures after { disk_image after.new ≡ disk_image after.old }
 {
-    for sector in 0..21u8 {
+    for sector in 0..TRACK_SECTORS {
         if let Some(place) = Place::new(track, sector) {
             if !is_same_or_owned(before, after, found, place) {
                 return false;
@@ -49,8 +47,8 @@ fn changes_owned(before: &mut MemDisk, after: &mut MemDisk, found: &Survey) -> b
     ensures before { disk_image before.new ≡ disk_image before.old }
     ensures after { disk_image after.new ≡ disk_image after.old }
 {
-    for track in 1..=35u8 {
-        if !is_same_or_owned_on(before, after, found, track) {
+    for below in 0..TRACKS {
+        if !is_same_or_owned_on(before, after, found, below + 1) {
             return false;
         }
     }

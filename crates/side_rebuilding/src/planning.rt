@@ -3,13 +3,13 @@ ghost use Rattle.std.specs.Prelude.{◌≡◌, ◌≤◌, length};
 ghost use Rattle.d64_image.specs.Memory.{disk_image};
 
 use crate::candidates::{choose_places, is_shortened};
-use crate::readable::{MOST_SIDES, are_in_order};
+use crate::readable::are_in_order;
 use crate::taken::{add_all, unowned_places};
 use arrayvec::ArrayVec;
 use d64_image::{MemDisk, Place, Sectors};
 use disk_layout::{
-    EntryView, MOST_BLOCKS, Slot, directory_start, map_place, read_directory, side_bytes,
-    walk_chain,
+    EntryView, MOST_BLOCKS, MOST_SIDES, Slot, directory_start, map_place, read_directory,
+    side_bytes, walk_chain,
 };
 
 /// What is done with a file that is shorter than its side sectors or its block count say.

@@ -6,13 +6,9 @@ ghost use Rattle.disk_layout.specs.Layout.{sides_for};
 use crate::sectors::bytes_at;
 use arrayvec::ArrayVec;
 use d64_image::{MemDisk, Place};
-use disk_layout::{EntryView, POINTERS, POINTERS_AT, SideView, Slot, side_bytes};
-
-/// The index of the list of all side sectors in a side sector.
-const LIST_AT: usize = 4;
-
-/// How many side sectors a file has at most.
-pub(crate) const MOST_SIDES: usize = 6;
+use disk_layout::{
+    EntryView, LIST_AT, MOST_SIDES, POINTERS, POINTERS_AT, SideView, Slot, side_bytes,
+};
 
 /// How many side sectors a file of so many blocks needs.
 pub(crate) fn sides_needed(blocks: usize) -> usize

@@ -2,14 +2,8 @@
 ghost use Rattle.std.specs.Prelude.{◌↔◌, Contains, IsTrue};
 
 use arrayvec::ArrayVec;
-use d64_image::Place;
-use disk_layout::MOST_BLOCKS;
-
-/// The track of the map and of the directory.
-const DIRECTORY_TRACK: u8 = 18;
-
-/// How many sectors a disk has.
-const SECTORS: usize = 683;
+use d64_image::{Place, SECTORS, TRACK_SECTORS, TRACKS};
+use disk_layout::{DIRECTORY_TRACK, MOST_BLOCKS};
 
 /// Adds these sectors to those that are somebody's. There is room for all that a disk has; those past it are left out.
 pub(crate) fn add_all(taken: &mut ArrayVec<Place, MOST_BLOCKS>, places: &[Place]) {
@@ -32,7 +26,7 @@ fn may_hold_side(taken: &[Place], place: Place) -> bool {
 
 /// Adds the sectors of a track where a side sector may be put.
 fn add_unowned(unowned: &mut ArrayVec<Place, SECTORS>, taken: &[Place], track: u8) {
-    for sector in 0..21u8 {
+    for sector in 0..TRACK_SECTORS {
         if let Some(place) = Place::new(track, sector) {
             if may_hold_side(taken, place) {
                 let _ = unowned.try_push(place);
@@ -44,8 +38,8 @@ fn add_unowned(unowned: &mut ArrayVec<Place, SECTORS>, taken: &[Place], track: u
 /// The sectors where a side sector may be put, by track and sector: those outside track 18 that nobody owns.
 pub(crate) fn unowned_places(taken: &[Place]) -> ArrayVec<Place, SECTORS> {
     let mut unowned = ArrayVec::new();
-    for track in 1..=35u8 {
-        add_unowned(&mut unowned, taken, track);
+    for below in 0..TRACKS {
+        add_unowned(&mut unowned, taken, below + 1);
     }
     unowned
 }

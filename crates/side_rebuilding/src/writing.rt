@@ -5,7 +5,7 @@ ghost use Rattle.d64_image.specs.Places.{place_at};
 ghost use Rattle.side_rebuilding.specs.Taken.{Takes};
 
 use crate::sectors::bytes_at;
-use d64_image::{MemDisk, Place, Sectors};
+use d64_image::{MemDisk, Place, Sectors, TRACK_SECTORS, TRACKS};
 use disk_layout::{Fault, write_sector};
 
 /// Writes the sector that `after` has at the place, if `before` has another.
@@ -39,7 +39,7 @@ fn write_track<D: Sectors>(
     ensures before { disk_image before.new ≡ disk_image before.old }
     ensures after { disk_image after.new ≡ disk_image after.old }
 {
-    for sector in 0..21u8 {
+    for sector in 0..TRACK_SECTORS {
         if let Some(place) = Place::new(track, sector) {
             write_place(before, after, place, disk)?;
         }
@@ -57,8 +57,8 @@ pub(crate) fn write_changes<D: Sectors>(
     ensures before { disk_image before.new ≡ disk_image before.old }
     ensures after { disk_image after.new ≡ disk_image after.old }
 {
-    for track in 1..=35u8 {
-        write_track(before, after, track, disk)?;
+    for below in 0..TRACKS {
+        write_track(before, after, below + 1, disk)?;
     }
     Ok(())
 }

@@ -17,6 +17,7 @@ ghost use Rattle.rel_records.specs.Written.{IsInOneBlock};
 ghost use Rattle.rel_records.specs.growth.Growth.{records_had};
 
 use d64_image::Sectors;
+use disk_layout::{REQUESTS_NAME, STOCK_NAME};
 use drive_channels::{Dead, Drive};
 use request_cards::{REQUEST_CARD_LENGTH, STOCK_CARD_LENGTH};
 use std::marker::Model;
@@ -35,8 +36,8 @@ impl ShopFile {
         ensures name { IsName result.now }
     {
         match self {
-            ShopFile::Stock => b"STOCK",
-            ShopFile::Requests => b"REQUESTS",
+            ShopFile::Stock => STOCK_NAME,
+            ShopFile::Requests => REQUESTS_NAME,
         }
     }
 

@@ -17,7 +17,7 @@ returns-in-None-clause-ok g c =
     let told = g.W.Write.contents in
     on_ok_weaker c.put_text.result
     (λ done. subst (Appends (told c.args.out.now) (told c.put_text.new.out))
-    (ap (gone_row html_of petscii_of) c.entry_name.ensures
+    (ap (gone_row html_of petscii_of) c.entry_name.ensures.name
     ∙ former-by (disk_in c.args.before.now) (disk_in c.args.after.now) c.args.number (file_in c.args.file.now) None
     (map file_in c.as_slice-others.result.now) (map file_in c.as_slice.result.now)
     (ap (option_map (λ o. file_in o.now)) (sym c.in-None.is) ∙ c.counterpart.ensures)

@@ -9,5 +9,5 @@ pub returns : goal.returns
 unfolding counterpart
 returns c =
     c.nth_called.ensures
-    ∙ by-name (map file_in c.args.others.now) c.args.files.now c.args.number _ _ _ c.entry_name-name.ensures
+    ∙ by-name (map file_in c.args.others.now) c.args.files.now c.args.number _ _ _ c.entry_name-name.ensures.name
     c.count_called.ensures

@@ -1,4 +1,4 @@
-use Rattle.std.proofs.Common.{◌≡◌, ◌<◌}
+use Rattle.std.proofs.Common.{◌≡◌, ◌<◌, ◌+◌}
 use Rattle.d64_image.specs.Memory.{disk_image}
 use Rattle.d64_image.specs.declared.place.Place.{Place}
 use Rattle.disk_layout.specs.Layout.{Layout}
@@ -6,10 +6,10 @@ use Rattle.layout_check.specs.Survey.{IsSurveyOf}
 use Rattle.side_rebuilding.specs.Compared.{SameOrOwned}
 use Rattle.side_rebuilding.proofs.judging.changes_owned.Given as goal
 
-abbrev pub invariant-loop-track : goal.invariant-loop-track
-invariant-loop-track l = record {
+abbrev pub invariant-loop-below : goal.invariant-loop-below
+invariant-loop-below l = record {
   before : disk_image l.before ≡ disk_image l.fn.before;
   after : disk_image l.after ≡ disk_image l.fn.after;
-  told : (m : Layout) → IsSurveyOf m l.found → (p : Place) → p.track < l.track
+  told : (m : Layout) → IsSurveyOf m l.found → (p : Place) → p.track < l.below + 1
       → SameOrOwned (disk_image l.fn.before) (disk_image l.fn.after) m p;
 }

@@ -11,31 +11,31 @@ use Rattle.side_rebuilding.proofs.writing.write_changes.Goals as goal
 pub returns-in_err-write_track-clause-takes : goal.returns-in_err-write_track-clause-takes
 returns-in_err-write_track-clause-takes g c =
     let S = g.D.Sectors.history in
-    let old = c.loop-track.invariant in
+    let old = c.loop-below.invariant in
     let a = disk_image c.args.before.now in
     let b = disk_image c.args.after.now in
     let p = err_from_is_err_and c.from_residual.result c.from_residual.ensures.1 in
-    let These : Place → Type 0 = λ q. q.track < c.loop-track.track in
-    let Those : Place → Type 0 = λ q. q.track ≡ c.loop-track.track in
+    let These : Place → Type 0 = λ q. q.track < (c.loop-below.below + 1) in
+    let Those : Place → Type 0 = λ q. q.track ≡ (c.loop-below.below + 1) in
     let All : Place → Type 0 = λ q. ⊤ in
-    rw (p.1, p.2) (so-far-failed S a b These Those All c.args.disk.now c.loop-track.disk c.write_track.new.disk _
-    old.takes (takes-from S a b (disk_image c.loop-track.before) (disk_image c.loop-track.after) Those
-    c.loop-track.disk c.write_track.new.disk _ old.before old.after c.in_err-write_track.ensures.takes))
+    rw (p.1, p.2) (so-far-failed S a b These Those All c.args.disk.now c.loop-below.disk c.write_track.new.disk _
+    old.takes (takes-from S a b (disk_image c.loop-below.before) (disk_image c.loop-below.after) Those
+    c.loop-below.disk c.write_track.new.disk _ old.before old.after c.in_err-write_track.ensures.takes))
 
-pub loop-track-preserved : goal.loop-track-preserved
-loop-track-preserved g c =
+pub loop-below-preserved : goal.loop-below-preserved
+loop-below-preserved g c =
     let S = g.D.Sectors.history in
-    let old = c.loop-track.invariant in
+    let old = c.loop-below.invariant in
     let a = disk_image c.args.before.now in
     let b = disk_image c.args.after.now in
-    let These : Place → Type 0 = λ q. q.track < c.loop-track.track in
-    let Those : Place → Type 0 = λ q. q.track ≡ c.loop-track.track in
-    let All : Place → Type 0 = λ q. q.track < c.loop-track.track + 1 in
+    let These : Place → Type 0 = λ q. q.track < (c.loop-below.below + 1) in
+    let Those : Place → Type 0 = λ q. q.track ≡ (c.loop-below.below + 1) in
+    let All : Place → Type 0 = λ q. q.track < (c.loop-below.below + 1) + 1 in
     record {
       before = c.write_track.ensures.before ∙ old.before;
       after = c.write_track.ensures.after ∙ old.after;
-      takes = so-far-more S a b These Those All c.args.disk.now c.loop-track.disk c.write_track.new.disk tt
-          (λ q lt. below-or-here q.track c.loop-track.track lt) old.takes
-          (takes-from S a b (disk_image c.loop-track.before) (disk_image c.loop-track.after) Those c.loop-track.disk
+      takes = so-far-more S a b These Those All c.args.disk.now c.loop-below.disk c.write_track.new.disk tt
+          (λ q lt. below-or-here q.track (c.loop-below.below + 1) lt) old.takes
+          (takes-from S a b (disk_image c.loop-below.before) (disk_image c.loop-below.after) Those c.loop-below.disk
           c.write_track.new.disk _ old.before old.after c.in_ok-write_track.ensures.takes);
     }

@@ -7,4 +7,4 @@ use Rattle.disk_pictures.proofs.changes.EntryHeadDisplay.fmt.Goals as goal
 pub returns-clause-writes : goal.returns-clause-writes
 unfolding entry_head
 returns-clause-writes g c = λ plain done. has_written_of_eq _ _ _ _ _
-    (rw (c.entry_name-name.ensures) refl) (c.write.ensures.writes plain done)
+    (rw (c.entry_name-name.ensures.name) refl) (c.write.ensures.writes plain done)

@@ -9,5 +9,5 @@ returns-clause-writes g c = λ plain done. has_written_of_eq _ _ _ _ _
     (row-written c.args.self.now.number (file_in c.args.self.now.file.now) c.block_count.result c.type_byte.result
     c.entry_name-name.result.now
     (rw c.new-entry.ensures at c.block_count.ensures) (rw c.new-entry.ensures at c.type_byte.ensures)
-    c.entry_name-name.ensures)
+    c.entry_name-name.ensures.name)
     (c.writeln.ensures.writes plain done)

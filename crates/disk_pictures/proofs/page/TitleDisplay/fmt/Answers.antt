@@ -7,4 +7,4 @@ use Rattle.disk_pictures.proofs.page.TitleDisplay.fmt.Goals as goal
 pub returns-clause-writes : goal.returns-clause-writes
 unfolding dashes style title_text
 returns-clause-writes g c = λ plain done. has_written_of_eq _ _ _ _ _
-    (rw (c.header_name-bytes.ensures) refl) (c.write.ensures.writes plain done)
+    (rw (c.disk_name-bytes.ensures) refl) (c.write.ensures.writes plain done)

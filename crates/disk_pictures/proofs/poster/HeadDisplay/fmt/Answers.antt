@@ -8,4 +8,4 @@ use Rattle.disk_pictures.proofs.poster.HeadDisplay.fmt.Goals as goal
 pub returns-clause-writes : goal.returns-clause-writes
 unfolding dashes poster_style poster_head
 returns-clause-writes g c = λ plain done. has_written_of_eq _ _ _ _ _
-    (rw (c.header_name-bytes.ensures) refl) (c.write.ensures.writes plain done)
+    (rw (c.disk_name-bytes.ensures) refl) (c.write.ensures.writes plain done)

@@ -1,6 +1,0 @@
-use Rattle.disk_pictures.proofs.Paddings.{unpadded-is}
-use Rattle.disk_pictures.proofs.names.without_padding.Goals as goal
-
-pub returns : goal.returns
-returns c = unpadded-is c.args.bytes.now c.end_of.result c.end_of.ensures.high c.end_of.ensures.padding
-    c.end_of.ensures.last
