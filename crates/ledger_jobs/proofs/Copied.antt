@@ -1,5 +1,5 @@
 -- An image that is copied to a file, by how its two steps ended.
-use Rattle.std.proofs.Common.{◌≡◌, ℕ, List, Option, Result, Ok, Err, inr, length, subst, sym}
+use Rattle.std.proofs.Common.{◌≡◌, ℕ, List, Option, Result, Ok, Err, inl, inr, length, subst, sym}
 use Rattle.std.specs.Prelude.{IfErr, OnOk, codes}
 use Rattle.std.specs.Io.KnownBytes.{Appends}
 use Rattle.host_session.specs.runs.Outputs.{AppendsPart}
@@ -7,7 +7,7 @@ use Rattle.command_faults.specs.declared.faults.CommandFault.{CommandFault}
 use Rattle.command_faults.specs.declared.faults.CommandFault.TheVariants as faults
 use Rattle.system_files.specs.Remains.{Remains}
 use Rattle.system_files.specs.Replacing.{IsReplaced}
-use Rattle.ledger_jobs.specs.Copies.{IsCopied, IsCopiedOver}
+use Rattle.ledger_jobs.specs.Copies.{IsCopied, IsCopiedOver, IsCopyTold}
 
 -- the image was written whole
 pub copied_over : {F E : Type 0} (r : Remains F) (image : List ℕ) (file after : F) (put : Result Unit E) → put ≡ Ok tt
@@ -25,3 +25,13 @@ pub copied : {F W : Type 0} (r : Remains F) (contents : W → Option (List ℕ))
 copied r contents image file after old new size whole (Ok _) said part = (size, whole, said)
 copied r contents image file after old new size whole (Err fault) said part =
     subst (λ f. IsCopied r contents image file after old new (Err f)) (sym part.0) (size, inr (whole, part.1))
+
+-- what is printed of that, however it ended
+pub copy-told : {F W : Type 0} (r : Remains F) (contents : W → Option (List ℕ)) (image : List ℕ) (file after : F) (old new : W)
+    (ended : Result Unit CommandFault) → IsCopied r contents image file after old new ended
+    → IsCopyTold contents image old new ended
+copy-told r contents image file after old new (Ok _) (size, whole, said) = (size, said)
+copy-told r contents image file after old new (Err faults.ImageSize) (size, (same, quiet)) = (size, quiet)
+copy-told r contents image file after old new (Err faults.File) (size, inl (remain, quiet)) = (size, inl quiet)
+copy-told r contents image file after old new (Err faults.File) (size, inr (whole, part)) = (size, inr part)
+copy-told r contents image file after old new (Err _) none = none

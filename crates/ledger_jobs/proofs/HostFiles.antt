@@ -1,14 +1,17 @@
 -- What is done over the bytes that a host says, from what was read of its files.
 use Rattle.std.proofs.Common.{◌≡◌, ℕ, List, inl, inr, refl, subst, sym, ◌∙◌}
-use Rattle.std.specs.Prelude.{IfSome, IsErr, None, Option, Some, option_map, take}
+use Rattle.std.specs.Prelude.{IfOk, IfSome, IsErr, None, Option, Result, Ok, Err, Some, Vec, option_map, take, vec_items}
 use Rattle.std.specs.Io.Take.{take_inner, take_limit, take_remaining}
+use Rattle.std.specs.declared.alloc.Global.{Global}
 use Rattle.std.specs.declared.io.traits.Take.{Take}
 use Rattle.host_files.specs.Rights.{Rights}
 use Rattle.host_files.specs.Standing.{AreOf, Holds, Stands}
+use Rattle.ledger_jobs.specs.EachImage.{as_loaded}
 use Rattle.ledger_jobs.specs.Ends.{EndsAs, Ended, JobEnd, as_job}
-use Rattle.ledger_jobs.specs.HostFiles.{OfImage, RunEnds, TrimEnds}
+use Rattle.ledger_jobs.specs.HostFiles.{IsReadAt, OfImage, OfWritten, RunEnds, TrimEnds}
 use Rattle.ledger_jobs.specs.Runs.{IsReadingEnd, IsReadingOf}
 use Rattle.ledger_jobs.specs.declared.jobs.Reading.{Reading}
+use Rattle.ledger_jobs.specs.declared.refusals.Refusal.{Refusal}
 
 -- what holds of the bytes that are left of a file holds of those that the host says
 pub of-file : {H : Type 0} (stands : H → List ℕ → Stands) (host : H) (path : List ℕ) (left : Option (List ℕ))
@@ -25,7 +28,15 @@ pub over-image : {H W : Type 0} (rights : Rights H) (stands : H → List ℕ →
 over-image rights stands host path old new end items slice P is same run =
     λ other none all holds. inl (subst P (same ∙ is other none all holds) run)
 
--- the same of a longer image, and of two outputs
+-- the same of an image that is written
+pub over-written : {H W : Type 0} (stands : H → List ℕ → Stands) (host : H) (path : List ℕ) (old new : W) (end : JobEnd)
+    (items slice : List ℕ) (P : List ℕ → Type 0)
+    → OfWritten stands host path (λ all. items ≡ take 174849 all) → slice ≡ items → P slice
+    → OfWritten stands host path (λ all. RunEnds old new end (P (take 174849 all)))
+over-written stands host path old new end items slice P is same run =
+    λ all holds. inl (subst P (same ∙ is all holds) run)
+
+-- and of a longer one, and of two outputs
 pub over-long : {H W E : Type 0} (rights : Rights H) (stands : H → List ℕ → Stands) (host : H) (path : List ℕ)
     (old new : W) (err new_err : E) (end : JobEnd) (items slice : List ℕ) (P : List ℕ → Type 0)
     → OfImage rights stands host path (λ all. items ≡ take 197377 all) → slice ≡ items → P slice
@@ -83,3 +94,16 @@ over-images rights stands host before after old new end first second one_slice o
     λ named none one holds named_too none_too other holds_too.
     inl (subst (λ (xs : List ℕ). P xs (take 174849 other)) (same ∙ is named none one holds)
     (subst (λ (ys : List ℕ). P one_slice ys) (same_too ∙ are named_too none_too other holds_too) run))
+
+loaded : (read : Result (Vec ℕ Global) Refusal) (front : List ℕ) → IfOk read (λ image. vec_items image ≡ front)
+    → IfOk (as_loaded read) (λ image. image ≡ front)
+loaded (Ok image) front is = is
+loaded (Err refusal) front is = tt
+
+-- what was read of an image, as a job over several holds it
+pub read-at : {H : Type 0} (rights : Rights H) (stands : H → List ℕ → Stands) (host : H) (path : List ℕ)
+    (read : Result (Vec ℕ Global) Refusal)
+    → OfImage rights stands host path (λ all. IfOk read (λ image. vec_items image ≡ take 174849 all))
+    → IsReadAt rights stands host path (as_loaded read)
+read-at rights stands host path read is =
+    λ other none all holds. loaded read (take 174849 all) (is other none all holds)

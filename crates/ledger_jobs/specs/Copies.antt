@@ -5,6 +5,7 @@ use Rattle.host_session.specs.runs.Outputs.{AppendsPart}
 use Rattle.shop_commands.specs.Plays.{IsUntouched}
 use Rattle.command_faults.specs.declared.faults.CommandFault.{CommandFault}
 use Rattle.command_faults.specs.declared.faults.CommandFault.TheVariants as faults
+use Rattle.ledger_jobs.specs.Ends.{IsEndOver, JobEnd}
 use Rattle.system_files.specs.Remains.{Remains}
 use Rattle.system_files.specs.Replacing.{IsNoDisk, NowAll, Since}
 
@@ -30,3 +31,17 @@ IsCopied r contents image file after old new (Err faults.File) = (length image �
     × ((RemainsOr r image file after × (new ≡ old))
     ⊎ (IsCopiedOver r image file after × AppendsPart (contents old) (contents new) (codes "COPIED\n")))
 IsCopied r contents image file after old new (Err _) = ⊥
+
+-- what is printed of an image that is copied, by how that ended
+abbrev pub IsCopyTold : {W : Type 0} → (W → Option (List ℕ)) → (image : List ℕ) → W → W → Result Unit CommandFault → Type 0
+IsCopyTold contents image old new (Ok _) =
+    (length image ≡ 174848) × Appends (contents old) (contents new) (codes "COPIED\n")
+IsCopyTold contents image old new (Err faults.ImageSize) = (length image ≢ 174848) × (new ≡ old)
+IsCopyTold contents image old new (Err faults.File) =
+    (length image ≡ 174848) × ((new ≡ old) ⊎ AppendsPart (contents old) (contents new) (codes "COPIED\n"))
+IsCopyTold contents image old new (Err _) = ⊥
+
+-- an image was copied to a file that is made, and its job ended so
+abbrev pub IsCopyEnd : {W : Type 0} → (W → Option (List ℕ)) → (image : List ℕ) → W → W → JobEnd → Type 0
+IsCopyEnd contents image old new end =
+    (ended : Result Unit CommandFault) × IsCopyTold contents image old new ended × IsEndOver ended end

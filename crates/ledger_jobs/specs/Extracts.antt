@@ -41,3 +41,18 @@ IsExtractEnd files contents choice image folder left old new end =
     ⊎ ((ended : Result (Option Fault) CommandFault) × (cut : Option Place)
     × MatchResult ended (IsExtracted files choice image folder left) (IsExtractFault files choice image folder left)
     × IsSeen image None cut × IsExtractTold contents (refusal_of ended cut) old new end)
+
+-- the same, if nothing is known of the folder
+abbrev pub IsExtractSaid : {W : Type 0} → (W → Option (List ℕ)) → Choice → (image : List ℕ) → W → W → JobEnd → Type 0
+IsExtractSaid contents choice image old new end =
+    IsExtractEnd {F = Unit} (λ _. None) contents choice image tt tt old new end
+
+-- a run that fills a folder ended so, and its job with it; a folder that was there is refused
+abbrev pub IsFolderEnd : JobEnd → JobEnd → Type 0
+IsFolderEnd (Ok found) end = end ≡ Ok found
+IsFolderEnd (Err refusal) end = (end ≡ Err refusal) ⊎ (end ≡ Err refusals.Exists)
+
+-- the files of an image were made in a folder that is made, or not, and its job ended so
+abbrev pub IsExtractedTo : {W : Type 0} → (W → Option (List ℕ)) → Choice → (image : List ℕ) → W → W → JobEnd → Type 0
+IsExtractedTo contents choice image old new end =
+    (ended : JobEnd) × IsExtractSaid contents choice image old new ended × IsFolderEnd ended end

@@ -2,6 +2,7 @@
 use Rattle.std.specs.Prelude.{◌≡◌, ◌≢◌, ◌⊎◌, ⊤, ℕ, IsErr, List}
 use Rattle.host_files.specs.Rights.{Rights}
 use Rattle.host_files.specs.Standing.{Holds, IsMissing, Stands}
+use Rattle.ledger_jobs.specs.EachImage.{IsLoadedOf, Loaded}
 use Rattle.ledger_jobs.specs.Ends.{JobEnd}
 use Rattle.ledger_jobs.specs.Rights.{standard_input}
 use Rattle.ledger_jobs.specs.declared.jobs.Reading.{Reading}
@@ -12,6 +13,10 @@ module _ {H : Type 0} (stands : H → List ℕ → Stands) (host : H) where
   -- this holds of the bytes of the script or the text at a path, if the host says them
   abbrev pub OfText : List ℕ → (List ℕ → Type 0) → Type 0
   OfText path P = path ≢ standard_input → (all : List ℕ) → stands host path ≡ Holds all → P all
+
+  -- the same of an image that is written
+  abbrev pub OfWritten : List ℕ → (List ℕ → Type 0) → Type 0
+  OfWritten path P = (all : List ℕ) → stands host path ≡ Holds all → P all
 
 module _ {H : Type 0} (rights : Rights H) (stands : H → List ℕ → Stands) (host : H) where
   -- no log stands beside the image at a path
@@ -37,6 +42,10 @@ module _ {H : Type 0} (rights : Rights H) (stands : H → List ℕ → Stands) (
 
   abbrev pub OfImage : List ℕ → (List ℕ → Type 0) → Type 0
   OfImage path P = path ≢ standard_input → OfImageFile path P
+
+  -- what was read of the image at a path is of the bytes that the host says
+  abbrev pub IsReadAt : List ℕ → Loaded → Type 0
+  IsReadAt path read = OfImage path (λ all. IsLoadedOf all read)
 
 -- the run over the bytes of a job's files ended so, and the job with it; or the run wasn't begun, and nothing was printed
 abbrev pub RunEnds : {W : Type 0} → W → W → JobEnd → Type 0 → Type 0

@@ -1,30 +1,51 @@
--- What a job that reads comes to over the bytes that the host says. Our own.
-use Rattle.std.specs.Prelude.{⊤, ℕ, List, Option, take}
+-- What a job that reads its images comes to over the bytes that the host says. Our own.
+use Rattle.std.specs.Borrow.{Bor}
+use Rattle.std.specs.Prelude.{◌≡◌, ⊤, ℕ, List, Option, Vec, codes, map, take, vec_items}
+use Rattle.std.specs.declared.alloc.Global.{Global}
+use Rattle.file_rescue.specs.declared.choices.Choice.{Choice}
 use Rattle.host_files.specs.Rights.{Rights}
 use Rattle.host_files.specs.Standing.{Stands}
+use Rattle.ledger_jobs.specs.Changes.{IsChangeEnd, IsMakingEnd, IsQuietEnd, IsRepairTold}
 use Rattle.ledger_jobs.specs.Comparisons.{IsComparingRun}
+use Rattle.ledger_jobs.specs.Copies.{IsCopyEnd}
+use Rattle.ledger_jobs.specs.Descriptions.{IsObjectOf}
 use Rattle.ledger_jobs.specs.Drawings.{IsDrawingRun}
+use Rattle.ledger_jobs.specs.EachImage.{AreHandedOn, IsSeveralEnd}
 use Rattle.ledger_jobs.specs.Ends.{EndsAs, JobEnd, as_job, as_run}
-use Rattle.ledger_jobs.specs.HostFiles.{OfImage, OfRead, RunEnds}
-use Rattle.ledger_jobs.specs.Jobs.{needed}
+use Rattle.ledger_jobs.specs.Extracts.{IsExtractedTo}
+use Rattle.ledger_jobs.specs.HostFiles.{IsReadAt, OfImage, OfRead, OfWritten, RunEnds}
+use Rattle.ledger_jobs.specs.Jobs.{frees, needed}
+use Rattle.ledger_jobs.specs.Keeping.{IsDryRepair}
 use Rattle.ledger_jobs.specs.Listings.{IsListingRun}
-use Rattle.ledger_jobs.specs.Losses.{IsTakingEnd}
+use Rattle.ledger_jobs.specs.Losses.{IsGuarded, IsRepairedEndOf, IsTakingEnd}
 use Rattle.ledger_jobs.specs.Names.{name_bytes}
+use Rattle.ledger_jobs.specs.Overviews.{IsOverviewOf}
 use Rattle.ledger_jobs.specs.Runs.{IsReadingEnd}
+use Rattle.ledger_jobs.specs.SheetPages.{IsSheetPrinted}
+use Rattle.ledger_jobs.specs.SideRepairs.{IsSidesEnd}
 use Rattle.disk_pictures.specs.Views.{IsViewRun}
 use Rattle.ledger_jobs.specs.declared.jobs.Drawing.{Drawing}
+use Rattle.ledger_jobs.specs.declared.jobs.Effect.{Effect}
+use Rattle.ledger_jobs.specs.declared.jobs.Effect.TheVariants.{Printed, Written}
 use Rattle.ledger_jobs.specs.declared.jobs.Findings.TheVariants.{First, All}
 use Rattle.ledger_jobs.specs.declared.jobs.Job.{Job}
 use Rattle.ledger_jobs.specs.declared.jobs.Job.TheVariants as jobs
+use Rattle.ledger_jobs.specs.declared.jobs.Loss.{Loss}
+use Rattle.ledger_jobs.specs.declared.jobs.Overview.{Overview}
 use Rattle.ledger_jobs.specs.declared.jobs.Reading.{Reading}
 use Rattle.ledger_jobs.specs.declared.jobs.Reading.TheVariants as readings
 use Rattle.ledger_jobs.specs.declared.jobs.Taking.{Taking}
+use Rattle.ledger_jobs.specs.declared.jobs.Unowned.{Unowned}
 use Rattle.disk_pictures.specs.declared.views.View.{View}
 
 -- what was asked of these bytes, as far as they are needed, ended so; or it wasn't begun
 abbrev pub IsReadOver : {W : Type 0} → (W → Option (List ℕ)) → Reading → W → W → JobEnd → List ℕ → Type 0
 IsReadOver contents what old new end all =
     RunEnds old new end (EndsAs as_job end (IsReadingEnd contents what (needed what all) old new))
+
+-- the paths of several words
+abbrev pub paths_of : Vec (Bor (List ℕ)) Global → List (List ℕ)
+paths_of images = map (λ image. image.now) (vec_items images)
 
 module _ {H W : Type 0} (rights : Rights H) (stands : H → List ℕ → Stands) (contents : W → Option (List ℕ)) (host : H) where
   -- all faults of the image at a path were listed
@@ -53,7 +74,55 @@ module _ {H W : Type 0} (rights : Rights H) (stands : H → List ℕ → Stands)
       OfImage rights stands host after (λ second. RunEnds old new end
       (EndsAs as_job end (IsComparingRun contents (take 174849 first) (take 174849 second) old new))))
 
-  -- a job that only prints was done so over the bytes that the host has at the paths of its words
+  -- it was copied to a file that is made; nothing is said of that file
+  abbrev pub IsCopiedFrom : List ℕ → W → W → JobEnd → Type 0
+  IsCopiedFrom path old new end = OfImage rights stands host path
+      (λ all. RunEnds old new end (IsCopyEnd contents (take 174849 all) old new end))
+
+  -- its files were made in a folder that is made; nothing is said of that folder
+  abbrev pub IsExtractedFrom : Choice → List ℕ → W → W → JobEnd → Type 0
+  IsExtractedFrom choice path old new end = OfImage rights stands host path
+      (λ all. RunEnds old new end (IsExtractedTo contents choice (take 174849 all) old new end))
+
+  -- what a repair of it would do was printed
+  abbrev pub IsRepairShown : Unowned → Loss → List ℕ → W → W → JobEnd → Type 0
+  IsRepairShown unowned loss path old new end = OfImage rights stands host path
+      (λ all. RunEnds old new end (IsGuarded (take 174849 all) loss (new ≡ old)
+      (IsRepairedEndOf (IsDryRepair (frees unowned) contents (take 174849 all) old new)) end))
+
+  -- it was repaired
+  abbrev pub IsRepairedOver : Unowned → Loss → List ℕ → W → W → JobEnd → Type 0
+  IsRepairedOver unowned loss path old new end = OfWritten stands host path
+      (λ all. RunEnds old new end (IsGuarded (take 174849 all) loss (new ≡ old)
+      (IsRepairedEndOf (IsRepairTold (frees unowned) contents (take 174849 all) old new)) end))
+
+  -- it was, or only that was printed
+  abbrev pub IsRepairDoneOver : Effect → Unowned → Loss → List ℕ → W → W → JobEnd → Type 0
+  IsRepairDoneOver Printed unowned loss path old new end = IsRepairShown unowned loss path old new end
+  IsRepairDoneOver Written unowned loss path old new end = IsRepairedOver unowned loss path old new end
+
+  -- its side sectors were built anew and it was repaired in memory; nothing is said of that over its file
+  abbrev pub AreSidesDoneOver : Effect → Unowned → Loss → List ℕ → W → W → JobEnd → Type 0
+  AreSidesDoneOver Printed unowned loss path old new end = OfImage rights stands host path
+      (λ all. RunEnds old new end (IsSidesEnd (frees unowned) contents loss (take 174849 all) old new end))
+  AreSidesDoneOver Written unowned loss path old new end = ⊤
+
+  -- the images at these paths were drawn on a sheet
+  abbrev pub AreDrawnOnSheet : List (List ℕ) → W → W → JobEnd → Type 0
+  AreDrawnOnSheet paths old new end =
+      IsSeveralEnd (IsSheetPrinted (IsReadAt rights stands host) contents paths old new) end
+
+  -- each of them was described
+  abbrev pub AreDescribed : List (List ℕ) → W → W → JobEnd → Type 0
+  AreDescribed paths old new end =
+      IsSeveralEnd (AreHandedOn (IsReadAt rights stands host) (IsObjectOf contents) contents paths old new) end
+
+  -- what is asked of each of them was printed after a name
+  abbrev pub AreOverviewed : Overview → List (List ℕ) → W → W → JobEnd → Type 0
+  AreOverviewed what paths old new end =
+      IsSeveralEnd (AreHandedOn (IsReadAt rights stands host) (IsOverviewOf contents what) contents paths old new) end
+
+  -- a job that reads its images was done so over the bytes that the host has at the paths of its words
   abbrev pub IsJobOver : Job → W → W → JobEnd → Type 0
   IsJobOver (jobs.List form image) old new end = OfRead rights stands host (readings.List form) image.now
       (IsReadOver contents (readings.List form) old new end)
@@ -68,4 +137,23 @@ module _ {H W : Type 0} (rights : Rights H) (stands : H → List ℕ → Stands)
   IsJobOver (jobs.Draw what image) old new end = IsDrawnOver what image.now old new end
   IsJobOver (jobs.View what image) old new end = IsViewedOver what image.now old new end
   IsJobOver (jobs.Compare before after) old new end = IsComparedOver before.now after.now old new end
+  IsJobOver (jobs.Copy image copy) old new end = IsCopiedFrom image.now old new end
+  IsJobOver (jobs.Extract choice image folder) old new end = IsExtractedFrom choice image.now old new end
+  IsJobOver (jobs.Repair image loss unowned effect) old new end =
+      IsRepairDoneOver effect unowned loss image.now old new end
+  IsJobOver (jobs.Format image tills) old new end = IsMakingEnd contents (codes "FORMATTED\n") old new end
+  IsJobOver (jobs.FormatNew image tills) old new end = IsMakingEnd contents (codes "FORMATTED\n") old new end
+  IsJobOver (jobs.New image name id) old new end = IsMakingEnd contents (codes "FORMATTED\n") old new end
+  IsJobOver (jobs.Make image name size loss) old new end = IsChangeEnd contents (codes "MADE\n") old new end
+  IsJobOver (jobs.Rename image from to) old new end = IsChangeEnd contents (codes "RENAMED\n") old new end
+  IsJobOver (jobs.Delete image name) old new end = IsChangeEnd contents (codes "DELETED\n") old new end
+  IsJobOver (jobs.Put image name file kind) old new end = IsChangeEnd contents (codes "PUT\n") old new end
+  IsJobOver (jobs.Store image name records columns loss) old new end = IsQuietEnd old new end
+  IsJobOver (jobs.Play image script) old new end = IsQuietEnd old new end
+  IsJobOver (jobs.PlaySynced image script) old new end = IsQuietEnd old new end
+  IsJobOver (jobs.RepairSides image loss unowned effect) old new end =
+      AreSidesDoneOver effect unowned loss image.now old new end
+  IsJobOver (jobs.Sheet images) old new end = AreDrawnOnSheet (paths_of images) old new end
+  IsJobOver (jobs.Describe images) old new end = AreDescribed (paths_of images) old new end
+  IsJobOver (jobs.Several what images) old new end = AreOverviewed what (paths_of images) old new end
   IsJobOver _ old new end = ⊤

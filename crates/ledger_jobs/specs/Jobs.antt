@@ -1,11 +1,13 @@
 -- What holds of each job. Our own.
-use Rattle.std.specs.Prelude.{◌≤◌, ⊤, ℕ, List, length, take}
+use Rattle.std.specs.Prelude.{◌≤◌, ⊤, ℕ, Bool, List, false, length, take, true}
 use Rattle.keeper_commands.specs.Makes.{IsNewName}
 use Rattle.ledger_jobs.specs.Names.{name_bytes}
 use Rattle.ledger_jobs.specs.declared.jobs.Job.{Job}
 use Rattle.ledger_jobs.specs.declared.jobs.Job.TheVariants as jobs
 use Rattle.ledger_jobs.specs.declared.jobs.Reading.{Reading}
 use Rattle.ledger_jobs.specs.declared.jobs.Reading.TheVariants as readings
+use Rattle.ledger_jobs.specs.declared.jobs.Unowned.{Unowned}
+use Rattle.ledger_jobs.specs.declared.jobs.Unowned.TheVariants.{Freed, Kept}
 use Rattle.rel_records.specs.File.{IsLength}
 
 -- the numbers of a job are in their ranges: tills 1 to 64, and the bytes of a record of a file that is made 1 to 254. A
@@ -23,3 +25,8 @@ IsFit _ = ⊤
 abbrev pub needed : Reading → List ℕ → List ℕ
 needed readings.Dry all = all
 needed _ all = take 174849 all
+
+-- a repair frees the sectors that are taken and no file's
+abbrev pub frees : Unowned → Bool
+frees Kept = false
+frees Freed = true

@@ -1,8 +1,11 @@
+pub mod Changes
 pub mod Columns
 pub mod Comparisons
 pub mod Copies
+pub mod Descriptions
 pub mod Drawings
 pub mod DurableRuns
+pub mod EachImage
 pub mod EditRefusals
 pub mod Edited
 pub mod Ends
@@ -26,5 +29,6 @@ pub mod Rights
 pub mod Runs
 pub mod Serves
 pub mod SheetPages
+pub mod SideRepairs
 pub mod Trims
 pub mod WatchedFiles

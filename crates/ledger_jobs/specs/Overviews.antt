@@ -1,8 +1,9 @@
 -- What comes of one image of several. All of it is our own.
-use Rattle.std.specs.Prelude.{◌≡◌, ◌++◌, ℕ, List, [], Option, Some, Vec, vec_items}
+use Rattle.std.specs.Prelude.{◌≡◌, ◌++◌, ℕ, List, [], Option, Some, Ok, Err, Vec, vec_items}
 use Rattle.std.specs.declared.alloc.Global.{Global}
 use Rattle.std.specs.Io.KnownBytes.{Appends}
 use Rattle.ledger_jobs.specs.Drawings.{IsDrawingRun}
+use Rattle.ledger_jobs.specs.EachImage.{Loaded}
 use Rattle.ledger_jobs.specs.Ends.{EndsAs, JobEnd, as_job, end_line, end_status}
 use Rattle.ledger_jobs.specs.Listings.{IsListingRun}
 use Rattle.ledger_jobs.specs.Runs.{IsReadingEnd}
@@ -39,3 +40,10 @@ pub record IsOneOfSeveral {W : Type 0} (contents : W → Option (List ℕ)) (wha
   pub end : JobEnd
   pub alone : IsOverview (λ text. Some (vec_items text)) what image before after end
   pub told : IsToldAs contents name (vec_items after) end old new status
+
+-- what is asked of an image at this path, from which this was read, was printed, each line after a name
+abbrev pub IsOverviewOf : {W : Type 0} → (W → Option (List ℕ)) → Overview → List ℕ → Loaded → W → W → ℕ → Type 0
+IsOverviewOf contents what path (Ok image) old new status =
+    (name : List ℕ) × IsOneOfSeveral contents what name image old new status
+IsOverviewOf contents what path (Err refusal) old new status =
+    (name : List ℕ) × IsToldAs contents name [] (Err refusal) old new status

@@ -1,9 +1,10 @@
 //! Copies of images, as their shops are now.
 ghost use Rattle.ledger_jobs.specs.Copies.{IsCopied};
+ghost use Rattle.ledger_jobs.specs.JobRuns.{IsCopiedFrom};
 ghost use Rattle.ledger_jobs.specs.Rights.{MayMakeImage, MayReadImage};
 
 use crate::files::{AtPath, Older};
-use crate::outcomes::job_end;
+use crate::outcomes::over_end;
 use crate::readings::image_at;
 use crate::refusals::Refusal;
 use command_faults::CommandFault;
@@ -35,14 +36,6 @@ pub fn copy_run<F: EndedFile, W: Write>(
     }
 }
 
-/// The end of a copy.
-fn copied(ended: Result<(), CommandFault>) -> Result<Option<Fault>, CommandFault> {
-    match ended {
-        Ok(()) => Ok(None),
-        Err(fault) => Err(fault),
-    }
-}
-
 /// Copies the image at a path, as its shop is now, to a file at another path, at which there must be none.
 pub(crate) fn do_copying<F, R, W>(
     rt: &R,
@@ -56,12 +49,10 @@ where
     W: Write,
     requires image { MayReadImage R.rights rt.now path.now }
     requires copy { MayMakeImage R.rights rt.now copy.now }
+    ensures { IsCopiedFrom R.rights R.stands W.contents rt.now path.now out.old out.new result }
 {
     let image = image_at(rt, path)?;
     let mut file = OverwrittenFile::new(AtPath::new(rt, copy, Older::Kept));
     let ended = copy_run(image.as_slice(), &mut file, out);
-    match file.opener().refused() {
-        Some(refusal) => Err(refusal),
-        None => job_end(copied(ended)),
-    }
+    over_end(ended, file.opener().refused())
 }

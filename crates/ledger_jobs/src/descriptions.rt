@@ -1,8 +1,13 @@
 //! Images that are read, each described by an object of JSON.
-ghost use Rattle.std.specs.Prelude.{All};
+ghost use Rattle.std.specs.Prelude.{All, IfOk, map};
+ghost use Rattle.ledger_jobs.specs.Descriptions.{IsImageObject, IsObjectOf, IsRefusedObject};
+ghost use Rattle.ledger_jobs.specs.EachImage.{AreEach, IsOneFrom, as_loaded};
+ghost use Rattle.ledger_jobs.specs.HostFiles.{IsReadAt};
+ghost use Rattle.ledger_jobs.specs.JobRuns.{AreDescribed};
 ghost use Rattle.ledger_jobs.specs.Rights.{MayLook, MayReadImage};
 
 use crate::job_files::size_of;
+use crate::outcomes::several_end;
 use crate::readings::image_at;
 use crate::refusals::Refusal;
 use command_faults::CommandFault;
@@ -20,6 +25,7 @@ where
     R: HostFiles + AllocGlobal,
     W: Write,
     requires { MayLook R.rights rt.now path.now }
+    ensures ok { IfOk result (IsRefusedObject W.contents path.now refusal out.old out.new) }
 {
     let Ok(why) = format!(in rt.alloc(); "{refusal}") else {
         return Err(CommandFault::NoMemory);
@@ -28,25 +34,72 @@ where
     Ok(refusal.status())
 }
 
-/// Prints the object of the image at a path, and returns the exit status that a check of it alone would have.
+/// Prints the object of the image at a path that has these bytes, and returns the exit status that a check of it alone
+/// would have.
+fn put_object<R, W>(rt: &R, path: &str, image: &[u8], out: &mut W) -> Result<u8, CommandFault>
+where
+    R: HostFiles + AllocGlobal,
+    W: Write,
+    requires { MayLook R.rights rt.now path.now }
+    ensures ok { IfOk result (IsImageObject W.contents path.now image.now out.old out.new) }
+{
+    match describe_image(rt.alloc(), path.as_bytes(), image, out) {
+        Ok(None) => Ok(0),
+        Ok(Some(_)) => Ok(1),
+        Err(CommandFault::File) => Err(CommandFault::File),
+        Err(fault) => put_refusal(rt, path, Refusal::Fault(fault), out),
+    }
+}
+
+/// Prints the object of the image at a path, from which this was read, and returns the exit status that a check of it
+/// alone would have.
+fn put_object_of<R, W>(
+    rt: &R,
+    path: &str,
+    read: Result<Vec<u8>, Refusal>,
+    out: &mut W,
+) -> Result<u8, CommandFault>
+where
+    R: HostFiles + AllocGlobal,
+    W: Write,
+    requires { MayLook R.rights rt.now path.now }
+    ensures ok { IfOk result (IsObjectOf W.contents path.now (as_loaded read) out.old out.new) }
+{
+    match read {
+        Ok(image) => put_object(rt, path, image.as_slice(), out),
+        Err(refusal) => put_refusal(rt, path, refusal, out),
+    }
+}
+
+/// Reads the image at a path and prints its object. Returns the exit status that a check of it alone would have.
 fn put_object_at<F, R, W>(rt: &R, path: &str, out: &mut W) -> Result<u8, CommandFault>
 where
     F: Read + Locks + OpenFile + Drop,
     R: HostFiles<File = F> + Input + AllocGlobal,
     W: Write,
     requires { MayReadImage R.rights rt.now path.now }
+    ensures ok { IfOk result
+        (IsOneFrom (IsReadAt R.rights R.stands rt.now) (IsObjectOf W.contents) path.now out.old out.new) }
 {
-    let image = match image_at(rt, path) {
-        Ok(image) => image,
-        Err(refusal) => return put_refusal(rt, path, refusal, out),
-    };
-    let fault = match describe_image(rt.alloc(), path.as_bytes(), image.as_slice(), out) {
-        Ok(None) => return Ok(0),
-        Ok(Some(_)) => return Ok(1),
-        Err(CommandFault::File) => return Err(CommandFault::File),
-        Err(fault) => fault,
-    };
-    put_refusal(rt, path, Refusal::Fault(fault), out)
+    put_object_of(rt, path, image_at(rt, path), out)
+}
+
+/// Prints the object of each of these images, in their order, and returns the greatest exit status of theirs.
+fn put_objects<F, R, W>(rt: &R, paths: &[&str], out: &mut W) -> Result<u8, CommandFault>
+where
+    F: Read + Locks + OpenFile + Drop,
+    R: HostFiles<File = F> + Input + AllocGlobal,
+    W: Write,
+    requires { All (λ path. MayReadImage R.rights rt.now path.now) paths.now }
+    ensures ok { IfOk result (AreEach (IsReadAt R.rights R.stands rt.now) (IsObjectOf W.contents)
+        (map (λ path. path.now) paths.now) out.old out.new) }
+{
+    let mut greatest = 0;
+    for path in paths {
+        let status = put_object_at(rt, path, out)?;
+        greatest = status.max(greatest);
+    }
+    Ok(greatest)
 }
 
 /// Prints the object of each of these images, in their order, also of one that is refused. An image is locked with others
@@ -64,19 +117,10 @@ where
     R: HostFiles<File = F> + Input + AllocGlobal,
     W: Write,
     requires { All (λ path. MayReadImage R.rights rt.now path.now) paths.now }
+    ensures { AreDescribed R.rights R.stands W.contents rt.now (map (λ path. path.now) paths.now) out.old out.new result }
 {
-    let mut greatest = 0;
-    for path in paths {
-        match put_object_at(rt, path, out) {
-            Ok(status) => greatest = greatest.max(status),
-            Err(fault) => return Err(Refusal::Fault(fault)),
-        }
-    }
-    if out.flush().is_err() {
-        return Err(Refusal::Fault(CommandFault::File));
-    }
-    match greatest {
-        0 => Ok(None),
-        _ => Err(Refusal::Several(greatest)),
+    match put_objects(rt, paths, out) {
+        Ok(greatest) => several_end(greatest, out),
+        Err(fault) => Err(Refusal::Fault(fault)),
     }
 }

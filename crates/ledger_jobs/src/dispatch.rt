@@ -1,5 +1,6 @@
 //! Doing a job: its files are opened and read, and what is printed goes to an output.
-ghost use Rattle.std.specs.Prelude.{◌≡◌, ◌≤◌};
+ghost use Rattle.std.specs.Prelude.{◌≡◌, ◌≤◌, codes};
+ghost use Rattle.ledger_jobs.specs.Changes.{IsMakingEnd, IsQuietEnd};
 ghost use Rattle.ledger_jobs.specs.JobRuns.{IsDrawnOver, IsJobOver, IsTakenOver};
 ghost use Rattle.ledger_jobs.specs.Names.{name_bytes};
 ghost use Rattle.ledger_jobs.specs.Jobs.{IsFit};
@@ -22,7 +23,7 @@ use crate::locks::own_image;
 use crate::losses::take_told;
 use crate::names::Name;
 use crate::new_disks::do_new;
-use crate::outcomes::{job_end, told};
+use crate::outcomes::{job_end, over_end, told};
 use crate::overviews::do_several;
 use crate::playing_logs::do_logged_playing;
 use crate::putting::do_put;
@@ -31,7 +32,6 @@ use crate::refusals::Refusal;
 use crate::serving_images::do_serving;
 use crate::serving_logs::do_logged_serving;
 use crate::sheets::do_sheet;
-use crate::shop_runs::ended;
 use crate::side_repairs::do_repair_sides;
 use crate::viewing::do_viewing;
 use command_faults::CommandFault;
@@ -58,13 +58,11 @@ where
     requires overwrites { older ≡ Replaced → MayOverwrite R.rights rt.now path.now }
     requires some { 1 ≤ tills }
     requires few { tills ≤ 64 }
+    ensures { IsMakingEnd W.contents (codes "FORMATTED\n") out.old out.new result }
 {
     let mut file = OverwrittenFile::new(AtPath::new(rt, path, older));
     let made = format_image(rt.alloc(), tills, &mut file, out);
-    match file.opener().refused() {
-        Some(refusal) => Err(refusal),
-        None => job_end(ended(made)),
-    }
+    over_end(made, file.opener().refused())
 }
 
 /// Plays the script at a path on the image at another, over its file.
@@ -81,6 +79,7 @@ where
     W: Write,
     requires image { MayChangeImage R.rights rt.now path.now }
     requires script { MayReadText R.rights rt.now script.now }
+    ensures { IsQuietEnd out.old out.new result }
 {
     let mut file = opened_and_landed(rt, path)?;
     let image = own_image(rt.alloc(), &mut file, durability)?;

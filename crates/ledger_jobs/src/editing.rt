@@ -1,9 +1,10 @@
 //! A file of an image renamed or deleted, unless a file is cut short or that one is a shop's.
-ghost use Rattle.std.specs.Prelude.{◌≤◌, length};
+ghost use Rattle.std.specs.Prelude.{◌≤◌, codes, length};
 ghost use Rattle.d64_image.specs.Keeps.{Agrees};
 ghost use Rattle.d64_image.specs.Memory.{sectors_in};
 ghost use Rattle.shop_commands.specs.Plays.{IsUntouched};
 ghost use Rattle.keeper_commands.specs.Makes.{IsNewName};
+ghost use Rattle.ledger_jobs.specs.Changes.{IsChangeEnd};
 ghost use Rattle.ledger_jobs.specs.Edited.{IsDeleteOver, IsRenameOver};
 ghost use Rattle.ledger_jobs.specs.EditRefusals.{IsEditEnd, IsEditJudged};
 ghost use Rattle.ledger_jobs.specs.Names.{name_bytes};
@@ -100,6 +101,7 @@ where
     W: Write,
     requires image { MayChangeImage R.rights rt.now path.now }
     requires to { IsNewName (name_bytes to.now) }
+    ensures { IsChangeEnd W.contents (codes "RENAMED\n") out.old out.new result }
 {
     let (image, file) = image_to_keep(rt, path)?;
     let (from, to) = (from.as_bytes(), to.as_bytes());
@@ -119,6 +121,7 @@ where
     R: HostFiles<File = F> + AllocGlobal,
     W: Write,
     requires image { MayChangeImage R.rights rt.now path.now }
+    ensures { IsChangeEnd W.contents (codes "DELETED\n") out.old out.new result }
 {
     let (image, file) = image_to_keep(rt, path)?;
     let (_, ended) = delete_guarded(rt.alloc(), image.as_slice(), name.as_bytes(), file, out);

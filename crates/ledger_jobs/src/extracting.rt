@@ -1,7 +1,8 @@
 //! All files of an image, taken out to a folder that is new.
 ghost use Rattle.std.specs.Prelude.{◌≡◌, IfOk, string_bytes};
 ghost use Rattle.std.proofs.Props.{props};
-ghost use Rattle.ledger_jobs.specs.Extracts.{IsExtractEnd, IsExtractTold, refusal_found, refusal_of};
+ghost use Rattle.ledger_jobs.specs.Extracts.{IsExtractEnd, IsExtractTold, IsFolderEnd, refusal_found, refusal_of};
+ghost use Rattle.ledger_jobs.specs.JobRuns.{IsExtractedFrom};
 ghost use Rattle.ledger_jobs.specs.Rights.{MayFill, MayReadImage};
 ghost use Rattle.ledger_jobs.specs.Rights as specs;
 
@@ -19,13 +20,13 @@ use std::alloc::Global;
 use std::fs::OpenFile;
 use std::io::{self, Read, Write};
 
-/// A folder of the system, which is made when the first file in it is.
+/// A folder of the system, which is made when the first file in it is; and whether something stood at its path then.
 #[derive(Drop)]
 struct SystemFolder<'a, R: HostFiles> {
     rt: &'a R,
     path: &'a str,
     is_made: bool,
-    refused: Option<Refusal>,
+    has_stood: bool,
     // it may be made, and files in it
     ghost fills: { MayFill R.rights rt.now path.now } by { Prim.hlevel props },
 }
@@ -39,13 +40,13 @@ impl<'a, R: HostFiles> SystemFolder<'a, R> {
             rt,
             path,
             is_made: false,
-            refused: None,
+            has_stood: false,
         }
     }
 }
 
 impl<R: HostFiles> SystemFolder<'_, R> {
-    /// Checks that the folder is made. An error, and a refusal, if something stood at its path before.
+    /// Checks that the folder is made. An error if something stood at its path before.
     fn see_made(&mut self) -> io::Result<()> {
         if self.is_made {
             return Ok(());
@@ -57,7 +58,7 @@ impl<R: HostFiles> SystemFolder<'_, R> {
             }
             Err(error) => {
                 if error.kind() == io::ErrorKind::AlreadyExists {
-                    self.refused = Some(Refusal::Exists);
+                    self.has_stood = true;
                 }
                 Err(error)
             }
@@ -146,6 +147,19 @@ pub fn extract_run<N: NewFolder, W: Write>(
     tell_extracted(extract_refusal(ended, cut), out)
 }
 
+/// The end of a job that fills a folder. If it isn't done, and something stood at the folder's path, that is why.
+fn folder_end(
+    ended: Result<Option<Fault>, Refusal>,
+    has_stood: bool,
+) -> Result<Option<Fault>, Refusal>
+    ensures { IsFolderEnd ended result }
+{
+    match ended {
+        Err(_) if has_stood => Err(Refusal::Exists),
+        ended => ended,
+    }
+}
+
 /// Makes the chosen files of the image at a path, as its shop is now, in a folder at another path, at which there must be
 /// nothing.
 pub(crate) fn do_extracting<F, R, W>(
@@ -161,12 +175,10 @@ where
     W: Write,
     requires image { MayReadImage R.rights rt.now path.now }
     requires folder { MayFill R.rights rt.now folder.now }
+    ensures { IsExtractedFrom R.rights R.stands W.contents rt.now choice path.now out.old out.new result }
 {
     let image = image_at(rt, path)?;
     let mut files = SystemFolder::new(rt, folder);
     let ended = extract_run(rt.alloc(), choice, image.as_slice(), &mut files, out);
-    match files.refused {
-        Some(refusal) => Err(refusal),
-        None => ended,
-    }
+    folder_end(ended, files.has_stood)
 }

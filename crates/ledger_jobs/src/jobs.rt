@@ -1,4 +1,7 @@
 //! What the program can be asked to do.
+ghost use Rattle.std.specs.Prelude.{◌≡◌};
+ghost use Rattle.ledger_jobs.specs.Jobs.{frees};
+
 use crate::names::Name;
 use disk_pictures::View;
 use file_changes::FileType;
@@ -93,6 +96,18 @@ pub enum Unowned {
     Kept,
     /// They become free.
     Freed,
+}
+
+impl Unowned {
+    /// Whether they become free.
+    pub(crate) fn is_freed(self) -> bool
+        ensures { result ≡ frees self }
+    {
+        match self {
+            Unowned::Kept => false,
+            Unowned::Freed => true,
+        }
+    }
 }
 
 /// What a repair does with the sectors that it makes right.

@@ -1,15 +1,18 @@
 //! What a keeper's job writes: the image at a path, over its file.
-ghost use Rattle.std.specs.Prelude.{◌≡◌, IfErr, IfOk, length, vec_items};
+ghost use Rattle.std.specs.Prelude.{◌≡◌, IfErr, IfOk, codes, length, take, vec_items};
 ghost use Rattle.d64_image.specs.Keeps.{Agrees};
 ghost use Rattle.d64_image.specs.Memory.{sectors_in};
 ghost use Rattle.keeper_commands.specs.Makes.{IsNewName};
 ghost use Rattle.shop_commands.specs.ImageFile.{is_synced, placed};
 ghost use Rattle.command_faults.specs.declared.faults.CommandFault.TheVariants.{NoMemory};
+ghost use Rattle.ledger_jobs.specs.Changes.{IsChangeEnd, IsQuietEnd};
 ghost use Rattle.ledger_jobs.specs.Columns.{text_in};
+ghost use Rattle.ledger_jobs.specs.HostFiles.{OfWritten};
+ghost use Rattle.ledger_jobs.specs.JobRuns.{IsRepairDoneOver, IsRepairShown, IsRepairedOver};
 ghost use Rattle.ledger_jobs.specs.Names.{name_bytes};
 ghost use Rattle.ledger_jobs.specs.declared.refusals.Refusal.TheVariants as refusals;
 ghost use Rattle.rel_records.specs.File.{IsLength};
-ghost use Rattle.ledger_jobs.specs.Rights.{MayChangeImage, MayReadText, MayRepair};
+ghost use Rattle.ledger_jobs.specs.Rights.{MayChangeImage, MayReadImage, MayReadText, MayRepair};
 
 use crate::files::script_at;
 use crate::image_logs::opened_and_landed;
@@ -38,6 +41,8 @@ where
     requires image { MayChangeImage R.rights rt.now path.now }
     ensures synced { IfOk result (λ taken. length (vec_items taken.0) ≡ 174848 → is_synced taken.1) }
     ensures agrees { IfOk result (λ taken. Agrees (placed.kept taken.1) (sectors_in (vec_items taken.0))) }
+    ensures read { OfWritten R.stands rt.now path.now
+        (λ all. IfOk result (λ taken. vec_items taken.0 ≡ take 174849 all)) }
 {
     let durability = Durability::EachSector;
     let mut file = opened_and_landed(rt, path)?;
@@ -50,7 +55,7 @@ where
 fn do_written_repair<F, R, W>(
     rt: &R,
     path: &str,
-    free: bool,
+    unowned: Unowned,
     loss: Loss,
     out: &mut W,
 ) -> Result<Option<Fault>, Refusal>
@@ -59,10 +64,31 @@ where
     R: HostFiles<File = F> + AllocGlobal,
     W: Write,
     requires image { MayChangeImage R.rights rt.now path.now }
+    ensures { IsRepairedOver R.rights R.stands W.contents rt.now unowned loss path.now out.old out.new result }
 {
     let (image, file) = image_to_keep(rt, path)?;
+    let free = unowned.is_freed();
     let (_, ended) = repair_guarded(rt.alloc(), image.as_slice(), free, file, loss, out);
     ended
+}
+
+/// Repairs a copy of the image at a path in memory.
+fn do_printed_repair<F, R, W>(
+    rt: &R,
+    path: &str,
+    unowned: Unowned,
+    loss: Loss,
+    out: &mut W,
+) -> Result<Option<Fault>, Refusal>
+where
+    F: Read + Locks + OpenFile + Drop,
+    R: HostFiles<File = F> + Input + AllocGlobal,
+    W: Write,
+    requires image { MayReadImage R.rights rt.now path.now }
+    ensures { IsRepairShown R.rights R.stands W.contents rt.now unowned loss path.now out.old out.new result }
+{
+    let image = image_at(rt, path)?;
+    dry_repair_guarded(rt.alloc(), image.as_slice(), unowned.is_freed(), loss, out)
 }
 
 /// Repairs the image at a path, over its file, or only a copy of it in memory.
@@ -79,13 +105,12 @@ where
     R: HostFiles<File = F> + Input + AllocGlobal,
     W: Write,
     requires image { MayRepair R.rights rt.now effect path.now }
+    ensures { IsRepairDoneOver R.rights R.stands W.contents rt.now effect unowned loss path.now out.old out.new result }
 {
-    let free = unowned == Unowned::Freed;
-    if effect == Effect::Written {
-        return do_written_repair(rt, path, free, loss, out);
+    match effect {
+        Effect::Written => do_written_repair(rt, path, unowned, loss, out),
+        Effect::Printed => do_printed_repair(rt, path, unowned, loss, out),
     }
-    let image = image_at(rt, path)?;
-    dry_repair_guarded(rt.alloc(), image.as_slice(), free, loss, out)
 }
 
 /// Makes a relative file on the disk of the image at a path, over its file.
@@ -104,6 +129,7 @@ where
     requires image { MayChangeImage R.rights rt.now path.now }
     requires name { IsNewName (name_bytes name.now) }
     requires length { IsLength length }
+    ensures { IsChangeEnd W.contents (codes "MADE\n") out.old out.new result }
 {
     let (image, file) = image_to_keep(rt, path)?;
     let (_, made) = make_guarded(
@@ -148,6 +174,7 @@ where
     W: Write,
     requires image { MayChangeImage R.rights rt.now path.now }
     requires records { MayReadText R.rights rt.now records.now }
+    ensures { IsQuietEnd out.old out.new result }
 {
     let (image, file) = image_to_keep(rt, path)?;
     let text = one_column(rt.alloc(), columns, told(script_at(rt, records))?)?;

@@ -1,17 +1,17 @@
 //! The image of an empty disk, in a file of its own.
-ghost use Rattle.std.specs.Prelude.{◌≡◌, ◌≤◌, IfErr, IfOk, length};
+ghost use Rattle.std.specs.Prelude.{◌≡◌, ◌≤◌, IfErr, IfOk, codes, length};
 ghost use Rattle.d64_image.specs.Memory.{disk_image};
 ghost use Rattle.file_changes.specs.Formats.{IsNewDisk};
 ghost use Rattle.command_faults.specs.declared.faults.CommandFault.TheVariants as faults;
+ghost use Rattle.ledger_jobs.specs.Changes.{IsMakingEnd};
 ghost use Rattle.ledger_jobs.specs.Names.{name_bytes};
 ghost use Rattle.ledger_jobs.specs.NewDisks.{IsNewMade};
 ghost use Rattle.ledger_jobs.specs.Rights.{MayMakeImage};
 
 use crate::files::{AtPath, Older};
 use crate::names::Name;
-use crate::outcomes::job_end;
+use crate::outcomes::over_end;
 use crate::refusals::Refusal;
-use crate::shop_runs::ended;
 use command_faults::CommandFault;
 use d64_image::MemDisk;
 use disk_layout::Fault;
@@ -72,11 +72,9 @@ where
     W: Write,
     requires image { MayMakeImage R.rights rt.now path.now }
     requires name { length (name_bytes name.now) ≤ 16 }
+    ensures { IsMakingEnd W.contents (codes "FORMATTED\n") out.old out.new result }
 {
     let mut file = OverwrittenFile::new(AtPath::new(rt, path, Older::Kept));
     let made = new_run(rt.alloc(), name.as_bytes(), id, &mut file, out);
-    match file.opener().refused() {
-        Some(refusal) => Err(refusal),
-        None => job_end(ended(made)),
-    }
+    over_end(made, file.opener().refused())
 }

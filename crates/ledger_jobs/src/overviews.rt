@@ -1,9 +1,12 @@
 //! Several images, each read as if it were alone. What is printed of each stands after its name.
-ghost use Rattle.std.specs.Prelude.{◌≡◌, IfErr, IfOk, OnOk, Some, vec_items, All};
+ghost use Rattle.std.specs.Prelude.{◌≡◌, IfErr, IfOk, OnOk, Some, vec_items, All, map};
 ghost use Rattle.std.specs.Io.KnownBytes.{Appends};
 ghost use Rattle.command_faults.specs.declared.faults.CommandFault.TheVariants as faults;
+ghost use Rattle.ledger_jobs.specs.EachImage.{AreEach, IsOneFrom, as_loaded};
 ghost use Rattle.ledger_jobs.specs.Ends.{EndsAs, as_job};
-ghost use Rattle.ledger_jobs.specs.Overviews.{IsOneOfSeveral, IsOverview, IsToldAs};
+ghost use Rattle.ledger_jobs.specs.HostFiles.{IsReadAt};
+ghost use Rattle.ledger_jobs.specs.JobRuns.{AreOverviewed};
+ghost use Rattle.ledger_jobs.specs.Overviews.{IsOneOfSeveral, IsOverview, IsOverviewOf, IsToldAs};
 ghost use Rattle.ledger_jobs.specs.Runs.{IsReadingEnd};
 ghost use Rattle.named_lines.specs.Named.{named};
 ghost use Rattle.ledger_jobs.specs.Rights.{MayReadImage};
@@ -12,7 +15,7 @@ use crate::drawing::drawing_run;
 use crate::endings::end;
 use crate::jobs::{Drawing, Findings, Overview, Reading};
 use crate::listings::listing_run;
-use crate::outcomes::job_end;
+use crate::outcomes::{job_end, several_end};
 use crate::readings::image_at;
 use crate::refusals::Refusal;
 use crate::shop_runs::reading_run;
@@ -110,6 +113,26 @@ pub fn overview_run<W: Write>(
     tell_named(name, text, ended, out)
 }
 
+/// Prints what is asked of one of several images, from which this was read, or why it can't be read. Returns its exit
+/// status.
+fn overview_of<W: Write>(
+    alloc: Global,
+    what: Overview,
+    path: &str,
+    read: Result<Vec<u8>, Refusal>,
+    out: &mut W,
+) -> Result<u8, CommandFault>
+    ensures ok { IfOk result (IsOverviewOf W.contents what path.now (as_loaded read) out.old out.new) }
+{
+    let Ok(name) = format!(in alloc; "{}", ShownPath(path)) else {
+        return Err(CommandFault::NoMemory);
+    };
+    match read {
+        Ok(image) => overview_run(alloc, what, name.as_bytes(), image.as_slice(), out),
+        Err(refusal) => tell_named(name.as_bytes(), Vec::new(alloc), Err(refusal), out),
+    }
+}
+
 /// Prints what is asked of the image at a path, or why it can't be read, and returns its exit status.
 fn do_one<F, R, W>(rt: &R, what: Overview, path: &str, out: &mut W) -> Result<u8, CommandFault>
 where
@@ -117,14 +140,28 @@ where
     R: HostFiles<File = F> + Input + AllocGlobal,
     W: Write,
     requires { MayReadImage R.rights rt.now path.now }
+    ensures ok { IfOk result
+        (IsOneFrom (IsReadAt R.rights R.stands rt.now) (IsOverviewOf W.contents what) path.now out.old out.new) }
 {
-    let Ok(name) = format!(in rt.alloc(); "{}", ShownPath(path)) else {
-        return Err(CommandFault::NoMemory);
-    };
-    match image_at(rt, path) {
-        Ok(image) => overview_run(rt.alloc(), what, name.as_bytes(), image.as_slice(), out),
-        Err(refusal) => tell_named(name.as_bytes(), Vec::new(rt.alloc()), Err(refusal), out),
+    overview_of(rt.alloc(), what, path, image_at(rt, path), out)
+}
+
+/// Prints what is asked of each of several images, in their order, and returns the greatest exit status of theirs.
+fn do_each<F, R, W>(rt: &R, what: Overview, paths: &[&str], out: &mut W) -> Result<u8, CommandFault>
+where
+    F: Read + Locks + OpenFile + Drop,
+    R: HostFiles<File = F> + Input + AllocGlobal,
+    W: Write,
+    requires { All (λ path. MayReadImage R.rights rt.now path.now) paths.now }
+    ensures ok { IfOk result (AreEach (IsReadAt R.rights R.stands rt.now) (IsOverviewOf W.contents what)
+        (map (λ path. path.now) paths.now) out.old out.new) }
+{
+    let mut greatest = 0;
+    for path in paths {
+        let status = do_one(rt, what, path, out)?;
+        greatest = status.max(greatest);
     }
+    Ok(greatest)
 }
 
 /// Prints what is asked of each of several images, in their order. An image is locked with others that read it while it
@@ -143,19 +180,11 @@ where
     R: HostFiles<File = F> + Input + AllocGlobal,
     W: Write,
     requires { All (λ path. MayReadImage R.rights rt.now path.now) paths.now }
+    ensures { AreOverviewed R.rights R.stands W.contents rt.now what (map (λ path. path.now) paths.now)
+        out.old out.new result }
 {
-    let mut greatest = 0;
-    for path in paths {
-        match do_one(rt, what, path, out) {
-            Ok(status) => greatest = greatest.max(status),
-            Err(fault) => return Err(Refusal::Fault(fault)),
-        }
-    }
-    if out.flush().is_err() {
-        return Err(Refusal::Fault(CommandFault::File));
-    }
-    match greatest {
-        0 => Ok(None),
-        _ => Err(Refusal::Several(greatest)),
+    match do_each(rt, what, paths, out) {
+        Ok(greatest) => several_end(greatest, out),
+        Err(fault) => Err(Refusal::Fault(fault)),
     }
 }

@@ -1,9 +1,10 @@
 //! A file put on the disk of an image, unless a file of it is cut short.
-ghost use Rattle.std.specs.Prelude.{◌≤◌, length};
+ghost use Rattle.std.specs.Prelude.{◌≤◌, codes, length};
 ghost use Rattle.d64_image.specs.Keeps.{Agrees};
 ghost use Rattle.d64_image.specs.Memory.{sectors_in};
 ghost use Rattle.shop_commands.specs.Plays.{IsUntouched};
 ghost use Rattle.keeper_commands.specs.Makes.{IsNewName};
+ghost use Rattle.ledger_jobs.specs.Changes.{IsChangeEnd};
 ghost use Rattle.ledger_jobs.specs.Losses.{IsEndOfRun, IsGuarded};
 ghost use Rattle.ledger_jobs.specs.Names.{name_bytes};
 ghost use Rattle.ledger_jobs.specs.Puts.{IsPutOver};
@@ -68,6 +69,7 @@ where
     requires image { MayChangeImage R.rights rt.now path.now }
     requires file { MayReadText R.rights rt.now source.now }
     requires name { IsNewName (name_bytes name.now) }
+    ensures { IsChangeEnd W.contents (codes "PUT\n") out.old out.new result }
 {
     let (image, file) = image_to_keep(rt, path)?;
     let content = told(script_at(rt, source))?;

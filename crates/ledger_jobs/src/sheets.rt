@@ -1,8 +1,12 @@
 //! A contact sheet of images, each read as if it were alone.
 ghost use Rattle.std.specs.Prelude.{IfOk, List, map, ℕ, All};
-ghost use Rattle.ledger_jobs.specs.SheetPages.{AreTiles, IsSheetPrinted, IsTileFrom, IsTileOf, IsUnreadTile, Loaded, as_loaded};
+ghost use Rattle.ledger_jobs.specs.EachImage.{AreEach, IsOneFrom, IsSeveralEnd, Loaded, as_loaded};
+ghost use Rattle.ledger_jobs.specs.HostFiles.{IsReadAt};
+ghost use Rattle.ledger_jobs.specs.SheetPages.{IsSheetPrinted, IsTileOf, IsUnreadTile};
+ghost use Rattle.ledger_jobs.specs.JobRuns.{AreDrawnOnSheet};
 ghost use Rattle.ledger_jobs.specs.Rights.{MayReadImage};
 
+use crate::outcomes::status_end;
 use crate::readings::image_at;
 use crate::refusals::Refusal;
 use command_faults::CommandFault;
@@ -28,7 +32,7 @@ trait ImageSource {
         ensures { gives self.now path.now (as_loaded result) };
 }
 
-/// The images of files, and that of standard input. Nothing is known of a file before it is read.
+/// The images of files, whose bytes are those that the host says, and that of standard input.
 #[derive(Clone, Copy)]
 struct FileImages<'a, R>(&'a R);
 
@@ -37,7 +41,7 @@ where
     F: Read + Locks + OpenFile + Drop,
     R: HostFiles<File = F> + Input + AllocGlobal,
 {
-    ghost gives = { λ _ _ _. Unit };
+    ghost gives = { λ files path read. IsReadAt R.rights R.stands files.0.now path read };
 
     ghost may_give = { λ files path. MayReadImage R.rights files.0.now path };
 
@@ -87,7 +91,7 @@ fn put_tile_at<S: ImageSource, W: Write>(
     out: &mut W,
 ) -> Result<u8, CommandFault>
     requires { S.may_give source.now path.now }
-    ensures ok { IfOk result (IsTileFrom (S.gives source.now) W.contents path.now out.old out.new) }
+    ensures ok { IfOk result (IsOneFrom (S.gives source.now) (IsTileOf W.contents) path.now out.old out.new) }
 {
     put_tile_of(alloc, path, source.image(path), out)
 }
@@ -101,7 +105,7 @@ fn put_tiles<S: ImageSource, W: Write>(
 ) -> Result<u8, CommandFault>
     requires { All (λ path. S.may_give source.now path.now) paths.now }
     ensures ok { IfOk result
-        (AreTiles (S.gives source.now) W.contents (map (λ path. path.now) paths.now) out.old out.new) }
+        (AreEach (S.gives source.now) (IsTileOf W.contents) (map (λ path. path.now) paths.now) out.old out.new) }
 {
     let mut greatest = 0;
     for path in paths {
@@ -142,10 +146,10 @@ where
     R: HostFiles<File = F> + Input + AllocGlobal,
     W: Write,
     requires { All (λ path. MayReadImage R.rights rt.now path.now) paths.now }
+    ensures { AreDrawnOnSheet R.rights R.stands W.contents rt.now (map (λ path. path.now) paths.now) out.old out.new result }
 {
     match put_sheet(rt.alloc(), &FileImages(rt), paths, out) {
-        Ok(0) => Ok(None),
-        Ok(greatest) => Err(Refusal::Several(greatest)),
+        Ok(greatest) => status_end(greatest),
         Err(fault) => Err(Refusal::Fault(fault)),
     }
 }

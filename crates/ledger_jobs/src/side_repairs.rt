@@ -1,8 +1,11 @@
 //! The repair of an image whose side sectors are built anew first, over its file or over a copy of it in memory.
-ghost use Rattle.std.specs.Prelude.{◌≡◌, IfOk};
+ghost use Rattle.std.specs.Prelude.{◌≡◌, IfErr, IfOk};
 ghost use Rattle.d64_image.specs.Keeps.{Agrees};
 ghost use Rattle.d64_image.specs.Memory.{disk_image, sectors_in};
-ghost use Rattle.ledger_jobs.specs.Rights.{MayChangeImage, MayRepair};
+ghost use Rattle.ledger_jobs.specs.JobRuns.{AreSidesDoneOver};
+ghost use Rattle.ledger_jobs.specs.Rights.{MayChangeImage, MayReadImage, MayRepair};
+ghost use Rattle.ledger_jobs.specs.SideRepairs.{IsCopyRebuilt, IsCopyUnbuilt, IsSidesEnd};
+ghost use Rattle.ledger_jobs.specs.declared.jobs.Effect.TheVariants.{Printed};
 
 use crate::jobs::{Effect, Loss, Unowned};
 use crate::keeper_files::image_to_keep;
@@ -34,7 +37,10 @@ fn rebuilt_copy<W: Write>(
     image: &[u8],
     loss: Loss,
     out: &mut W,
-) -> Result<MemDisk, CommandFault> {
+) -> Result<MemDisk, CommandFault>
+    ensures ok { IfOk result (IsCopyRebuilt W.contents image.now out.old out.new) }
+    ensures err { IfErr result (IsCopyUnbuilt W.contents image.now out.old out.new) }
+{
     let mut copy = load(alloc, image)?;
     rebuild_image(alloc, image, shortened(loss), &mut copy, out)?;
     Ok(copy)
@@ -105,6 +111,42 @@ where
     }
 }
 
+/// Rebuilds the side sectors of a copy of this image in memory, and then repairs it.
+fn repair_copy<W: Write>(
+    alloc: Global,
+    image: &[u8],
+    free: bool,
+    loss: Loss,
+    out: &mut W,
+) -> Result<Option<Fault>, Refusal>
+    ensures { IsSidesEnd free W.contents loss image.now out.old out.new result }
+{
+    match rebuilt_copy(alloc, image, loss, out) {
+        Ok(copy) => dry_repair_guarded(alloc, copy.bytes(), free, loss, out),
+        Err(fault) => Err(Refusal::Fault(fault)),
+    }
+}
+
+/// Rebuilds the side sectors of a copy of the image at a path in memory, and then repairs it.
+fn do_printed_repair<F, R, W>(
+    rt: &R,
+    path: &str,
+    unowned: Unowned,
+    loss: Loss,
+    out: &mut W,
+) -> Result<Option<Fault>, Refusal>
+where
+    F: Read + Locks + OpenFile + Drop,
+    R: HostFiles<File = F> + Input + AllocGlobal,
+    W: Write,
+    requires image { MayReadImage R.rights rt.now path.now }
+    ensures { AreSidesDoneOver R.rights R.stands W.contents rt.now Printed unowned loss path.now out.old out.new result }
+{
+    let image = image_at(rt, path)?;
+    judge_sides(rt.alloc(), image.as_slice(), loss)?;
+    repair_copy(rt.alloc(), image.as_slice(), unowned.is_freed(), loss, out)
+}
+
 /// Rebuilds the side sectors of the image at a path, and then repairs it, over its file, or only a copy of it in memory.
 /// Nothing is written or printed if the side sectors can't be rebuilt, or if a file is cut short and no loss is accepted.
 pub(crate) fn do_repair_sides<F, R, W>(
@@ -120,15 +162,10 @@ where
     R: HostFiles<File = F> + Input + AllocGlobal,
     W: Write,
     requires image { MayRepair R.rights rt.now effect path.now }
+    ensures { AreSidesDoneOver R.rights R.stands W.contents rt.now effect unowned loss path.now out.old out.new result }
 {
-    let free = unowned == Unowned::Freed;
-    if effect == Effect::Written {
-        return do_written_repair(rt, path, free, loss, out);
-    }
-    let image = image_at(rt, path)?;
-    judge_sides(rt.alloc(), image.as_slice(), loss)?;
-    match rebuilt_copy(rt.alloc(), image.as_slice(), loss, out) {
-        Ok(copy) => dry_repair_guarded(rt.alloc(), copy.bytes(), free, loss, out),
-        Err(fault) => Err(Refusal::Fault(fault)),
+    match effect {
+        Effect::Written => do_written_repair(rt, path, unowned.is_freed(), loss, out),
+        Effect::Printed => do_printed_repair(rt, path, unowned, loss, out),
     }
 }

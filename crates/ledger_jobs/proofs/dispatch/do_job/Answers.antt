@@ -1,10 +1,85 @@
--- What is said of the images that were compared is said of the job.
-use Rattle.std.proofs.Common.{subst, sym}
-use Rattle.ledger_jobs.specs.JobRuns.{IsJobOver}
+-- What is said of what was done with the files is said of the job.
+use Rattle.std.proofs.Common.{List, map, subst, sym, ℕ}
+use Rattle.std.specs.Borrow.{Bor}
+use Rattle.ledger_jobs.specs.JobRuns.{AreDescribed, AreDrawnOnSheet, AreOverviewed, IsJobOver}
 use Rattle.ledger_jobs.specs.declared.jobs.Job.{Job}
 use Rattle.ledger_jobs.proofs.dispatch.do_job.Goals as goal
+
+pub returns-in-New : goal.returns-in-New
+returns-in-New g c =
+    subst (λ (job : Job). IsJobOver g.R.HostFiles.rights g.R.HostFiles.stands g.W.Write.contents c.args.rt.now job
+    c.args.out.now c.do_new.new.out c.do_new.result) (sym c.in-New.is) c.do_new.ensures
+
+pub returns-in-Copy : goal.returns-in-Copy
+returns-in-Copy g c =
+    subst (λ (job : Job). IsJobOver g.R.HostFiles.rights g.R.HostFiles.stands g.W.Write.contents c.args.rt.now job
+    c.args.out.now c.do_copying.new.out c.do_copying.result) (sym c.in-Copy.is) c.do_copying.ensures
+
+pub returns-in-Extract : goal.returns-in-Extract
+returns-in-Extract g c =
+    subst (λ (job : Job). IsJobOver g.R.HostFiles.rights g.R.HostFiles.stands g.W.Write.contents c.args.rt.now job
+    c.args.out.now c.do_extracting.new.out c.do_extracting.result) (sym c.in-Extract.is) c.do_extracting.ensures
+
+pub returns-in-Repair : goal.returns-in-Repair
+returns-in-Repair g c =
+    subst (λ (job : Job). IsJobOver g.R.HostFiles.rights g.R.HostFiles.stands g.W.Write.contents c.args.rt.now job
+    c.args.out.now c.do_repair.new.out c.do_repair.result) (sym c.in-Repair.is) c.do_repair.ensures
+
+pub returns-in-RepairSides : goal.returns-in-RepairSides
+returns-in-RepairSides g c =
+    subst (λ (job : Job). IsJobOver g.R.HostFiles.rights g.R.HostFiles.stands g.W.Write.contents c.args.rt.now job
+    c.args.out.now c.do_repair_sides.new.out c.do_repair_sides.result) (sym c.in-RepairSides.is) c.do_repair_sides.ensures
+
+pub returns-in-Make : goal.returns-in-Make
+returns-in-Make g c =
+    subst (λ (job : Job). IsJobOver g.R.HostFiles.rights g.R.HostFiles.stands g.W.Write.contents c.args.rt.now job
+    c.args.out.now c.do_make.new.out c.do_make.result) (sym c.in-Make.is) c.do_make.ensures
+
+pub returns-in-Rename : goal.returns-in-Rename
+returns-in-Rename g c =
+    subst (λ (job : Job). IsJobOver g.R.HostFiles.rights g.R.HostFiles.stands g.W.Write.contents c.args.rt.now job
+    c.args.out.now c.do_rename.new.out c.do_rename.result) (sym c.in-Rename.is) c.do_rename.ensures
+
+pub returns-in-Delete : goal.returns-in-Delete
+returns-in-Delete g c =
+    subst (λ (job : Job). IsJobOver g.R.HostFiles.rights g.R.HostFiles.stands g.W.Write.contents c.args.rt.now job
+    c.args.out.now c.do_delete.new.out c.do_delete.result) (sym c.in-Delete.is) c.do_delete.ensures
+
+pub returns-in-Put : goal.returns-in-Put
+returns-in-Put g c =
+    subst (λ (job : Job). IsJobOver g.R.HostFiles.rights g.R.HostFiles.stands g.W.Write.contents c.args.rt.now job
+    c.args.out.now c.do_put.new.out c.do_put.result) (sym c.in-Put.is) c.do_put.ensures
+
+pub returns-in-Store : goal.returns-in-Store
+returns-in-Store g c =
+    subst (λ (job : Job). IsJobOver g.R.HostFiles.rights g.R.HostFiles.stands g.W.Write.contents c.args.rt.now job
+    c.args.out.now c.do_store.new.out c.do_store.result) (sym c.in-Store.is) c.do_store.ensures
 
 pub returns-in-Compare : goal.returns-in-Compare
 returns-in-Compare g c =
     subst (λ (job : Job). IsJobOver g.R.HostFiles.rights g.R.HostFiles.stands g.W.Write.contents c.args.rt.now job
     c.args.out.now c.do_comparing.new.out c.do_comparing.result) (sym c.in-Compare.is) c.do_comparing.ensures
+
+pub returns-in-Sheet : goal.returns-in-Sheet
+returns-in-Sheet g c =
+    subst (λ (job : Job). IsJobOver g.R.HostFiles.rights g.R.HostFiles.stands g.W.Write.contents c.args.rt.now job
+    c.args.out.now c.do_sheet.new.out c.do_sheet.result) (sym c.in-Sheet.is)
+    (subst (λ (paths : List (Bor (List ℕ))). AreDrawnOnSheet g.R.HostFiles.rights g.R.HostFiles.stands g.W.Write.contents
+    c.args.rt.now (map (λ path. path.now) paths) c.args.out.now c.do_sheet.new.out c.do_sheet.result) c.as_slice.ensures.value
+    c.do_sheet.ensures)
+
+pub returns-in-Describe : goal.returns-in-Describe
+returns-in-Describe g c =
+    subst (λ (job : Job). IsJobOver g.R.HostFiles.rights g.R.HostFiles.stands g.W.Write.contents c.args.rt.now job
+    c.args.out.now c.do_describing.new.out c.do_describing.result) (sym c.in-Describe.is)
+    (subst (λ (paths : List (Bor (List ℕ))). AreDescribed g.R.HostFiles.rights g.R.HostFiles.stands g.W.Write.contents
+    c.args.rt.now (map (λ path. path.now) paths) c.args.out.now c.do_describing.new.out c.do_describing.result) c.as_slice-in-Describe.ensures.value
+    c.do_describing.ensures)
+
+pub returns-in-Several : goal.returns-in-Several
+returns-in-Several g c =
+    subst (λ (job : Job). IsJobOver g.R.HostFiles.rights g.R.HostFiles.stands g.W.Write.contents c.args.rt.now job
+    c.args.out.now c.do_several.new.out c.do_several.result) (sym c.in-Several.is)
+    (subst (λ (paths : List (Bor (List ℕ))). AreOverviewed g.R.HostFiles.rights g.R.HostFiles.stands g.W.Write.contents
+    c.args.rt.now c.in-Several.what (map (λ path. path.now) paths) c.args.out.now c.do_several.new.out c.do_several.result) c.as_slice-in-Several.ensures.value
+    c.do_several.ensures)

@@ -1,0 +1,51 @@
+-- What a job prints that changes files of a disk, or makes an image. Our own.
+use Rattle.std.specs.Prelude.{◌≡◌, ◌≢◌, ◌⊎◌, ⊤, IfErr, IfOk, ℕ, Bool, List, None, Option, Result, Ok, Err, length}
+use Rattle.std.specs.Io.KnownBytes.{Appends}
+use Rattle.command_faults.specs.declared.faults.CommandFault.{CommandFault}
+use Rattle.command_faults.specs.declared.faults.CommandFault.TheVariants as faults
+use Rattle.d64_image.specs.Images.{Image}
+use Rattle.d64_image.specs.Memory.{sectors_in}
+use Rattle.keeper_commands.specs.Repairs.{IsMendedAs, mended_text}
+use Rattle.host_session.specs.runs.Outputs.{AppendsPart}
+use Rattle.ledger_jobs.specs.Ends.{IsEndOver, JobEnd}
+use Rattle.ledger_jobs.specs.declared.refusals.Refusal.TheVariants as refusals
+
+-- what a run printed that prints this text if it is done. Nothing, unless it ended with `File`: then the output failed
+abbrev pub IsChangeTold : {W : Type 0} → (W → Option (List ℕ)) → (text : List ℕ) → W → W → Result Unit CommandFault → Type 0
+IsChangeTold contents text old new (Ok _) = Appends (contents old) (contents new) text
+IsChangeTold contents text old new (Err faults.File) = ⊤
+IsChangeTold contents text old new (Err _) = new ≡ old
+
+-- A job ended so that prints this text if it is done. If it isn't, nothing was printed, unless it ended with `File`.
+pub record IsChangeEnd {W : Type 0} (contents : W → Option (List ℕ)) (text : List ℕ) (old new : W) (end : JobEnd) : Type 0
+  where
+    pub done : IfOk end (λ found. (found ≡ None) × Appends (contents old) (contents new) text)
+    pub quiet : IfErr end (λ refusal. refusal ≢ refusals.Fault faults.File → new ≡ old)
+
+-- what a run over a file that is made printed, whose text this is
+abbrev pub IsMakingTold : {W : Type 0} → (W → Option (List ℕ)) → (text : List ℕ) → W → W → Result Unit CommandFault → Type 0
+IsMakingTold contents text old new (Ok _) = Appends (contents old) (contents new) text
+IsMakingTold contents text old new (Err faults.File) =
+    (new ≡ old) ⊎ AppendsPart (contents old) (contents new) text
+IsMakingTold contents text old new (Err _) = new ≡ old
+
+-- such a run ended so, and its job
+abbrev pub IsMakingEnd : {W : Type 0} → (W → Option (List ℕ)) → (text : List ℕ) → W → W → JobEnd → Type 0
+IsMakingEnd contents text old new end =
+    (ended : Result Unit CommandFault) × IsMakingTold contents text old new ended × IsEndOver ended end
+
+-- What a repair of the disk of an image printed: what it mended, if that is done. If it isn't, nothing, unless the output or
+-- the file failed.
+abbrev pub IsRepairTold : {W : Type 0} → Bool → (W → Option (List ℕ)) → (image : List ℕ) → W → W → Result ℕ CommandFault
+    → Type 0
+IsRepairTold free contents image old new (Ok n) = (length image ≡ 174848) × ((after : Image)
+    × IsMendedAs free (sectors_in image) after n
+    × Appends (contents old) (contents new) (mended_text (sectors_in image) after n))
+IsRepairTold free contents image old new (Err faults.File) = ⊤
+IsRepairTold free contents image old new (Err faults.Device) = ⊤
+IsRepairTold free contents image old new (Err _) = new ≡ old
+
+-- a job that isn't done printed nothing, unless the output or the file failed
+abbrev pub IsQuietEnd : {W : Type 0} → W → W → JobEnd → Type 0
+IsQuietEnd old new end = IfErr end (λ refusal. refusal ≢ refusals.Fault faults.File → refusal ≢ refusals.Fault faults.Device
+    → new ≡ old)
