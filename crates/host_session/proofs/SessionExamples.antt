@@ -14,6 +14,7 @@ use Rattle.disk_layout.specs.Rest.{Rest}
 use Rattle.drive_channels.specs.State.{Seen}
 use Rattle.request_cards.specs.declared.answer.Answer.TheVariants as told
 use Rattle.request_cards.specs.declared.kind.Kind.TheVariants.{Set, Receive}
+use Rattle.request_cards.specs.declared.ledger.Ledger.{Ledger}
 use Rattle.request_cards.specs.declared.reply.Reply.TheVariants.{Syntax, Told}
 use Rattle.request_cards.specs.declared.reply.Word.TheVariants.{Ahead, Kept, Media}
 use Rattle.request_cards.specs.CardTexts.{Card}
@@ -22,8 +23,9 @@ use Rattle.request_cards.specs.Reading.{amounts, kind_before, kind_of, number_be
 use Rattle.request_cards.specs.Requests.{Ask, Body}
 use Rattle.host_session.specs.session.Answering.{after_ask}
 use Rattle.host_session.specs.session.Handling.{IsMedia, MayGrow, after_of, card_writes, is_first_set, is_next_request}
-use Rattle.host_session.specs.session.Handling.{kept_writes, media, most_writes, told_of}
-use Rattle.host_session.specs.session.Standing.{IsStanding, nth, padded_to, state_in}
+use Rattle.host_session.specs.session.Handling.{kept_writes, media, most_writes}
+use Rattle.host_session.specs.session.Standing.{IsStanding}
+use Rattle.request_cards.specs.Tables.{nth, state_in, told_of}
 use Rattle.host_session.specs.shop.Selecting.{IsReady}
 use Rattle.host_session.specs.shop.Shop.{IsShop, Shop, start_of}
 
@@ -145,9 +147,6 @@ pub tables_count_from_1 : (nth quantities_of_three 1 ≡ Some 5) × ((nth quanti
     × ((nth quantities_of_three 4 ≡ None) × (nth quantities_of_three 0 ≡ None))))
 tables_count_from_1 = (refl, (refl, (refl, (refl, refl))))
 
-pub table_of_five_places : padded_to 5 quantities_of_three ≡ quantities_of_three ++ None ∷ None ∷ []
-table_of_five_places = refl
-
 -- the tables of a session hold quantities, last requests and those before
 pub tables_hold_a_state : let held = state_in (replicate 14 None ++ Some 7 ∷ [])
     (Some set_card ∷ Some (record set_card { second = Some set_entry }) ∷ []) in
@@ -156,13 +155,13 @@ pub tables_hold_a_state : let held = state_in (replicate 14 None ++ Some 7 ∷ [
 tables_hold_a_state = (refl, (refl, (refl, (refl, (refl, refl)))))
 
 -- a dead session stands on a shop whatever its tables hold
-pub dead_session_stands : (img : Image) (s : Shop) → IsShop img s → (state : State)
-    → IsStanding img true s.top s.tills state
-dead_session_stands img s shop state = record {
+pub dead_session_stands : (img : Image) (s : Shop) → IsShop img s → (l : Ledger) → l.top ≡ s.top → l.tills ≡ s.tills
+    → IsStanding img true l
+dead_session_stands img s shop l top tills = record {
   shop = s;
   is_shop = shop;
-  top_is = refl;
-  tills_is = refl;
+  top_is = top;
+  tills_is = tills;
   settled = λ e. absurd (false≢true (sym e));
   state_is = λ e. absurd (false≢true (sym e));
 }

@@ -2,7 +2,6 @@
 pub mod Opening
 pub mod Handling
 pub mod Standing
-pub mod Deciding
 pub mod Keeping
 pub mod Answering
 pub mod Handled

@@ -1,14 +1,12 @@
 //! An open session: the drive over a shop's disk, and what was read of it.
-ghost use Rattle.std.specs.Prelude.{◌≡◌, ◌≤◌, ◌↔◌, IfOk, IfSome, IsErr, Some, false, option_map, true};
+ghost use Rattle.std.specs.Prelude.{◌≡◌, ◌↔◌, IfOk, IsErr, false, option_map, true};
 ghost use Rattle.d64_image.specs.Fuses.{fuse, fuse_disk, fuse_left, fuse_limit};
-ghost use Rattle.host_session.specs.session.Deciding.{IsInTable};
-ghost use Rattle.host_session.specs.session.Handling.{told_of};
-ghost use Rattle.host_session.specs.session.Standing.{IsStanding, View, nth, state_in, view_code};
+ghost use Rattle.host_session.specs.session.Standing.{IsStanding, View, view_code};
 ghost use Rattle.host_session.specs.shop.Selecting.{IsReady};
 ghost use Rattle.host_session.specs.shop.Shop.{IsSettled, IsShop, Shop};
+ghost use Rattle.request_cards.specs.Tables.{told_of};
 
 mod answers;
-mod decisions;
 mod migration;
 mod opening;
 mod recovery;
@@ -19,11 +17,8 @@ mod starting;
 use crate::shop::shop_drive::ShopDrive;
 use d64_image::{Fuse, Sectors};
 use drive_channels::Dead;
-use request_cards::{Answer, LAST_CARD, Request, RequestCard};
+use request_cards::{Answer, Ledger, Request};
 use std::marker::Model;
-
-/// The greatest number of items of a shop: as many as the largest file has records.
-pub(crate) const ITEMS: usize = LAST_CARD as usize;
 
 /// An open ledger: a shop on a disk.
 ///
@@ -32,16 +27,10 @@ pub(crate) const ITEMS: usize = LAST_CARD as usize;
 /// again.
 pub struct Session<D: Sectors> {
     pub(crate) drive: ShopDrive<D>,
-    /// The last item that a new card may have.
-    pub(crate) top: u16,
-    /// How many tills the disk has.
-    pub(crate) tills: u8,
     /// Whether the device failed.
     pub(crate) dead: bool,
-    /// The quantity on hand of each item, from item 1 on.
-    pub(crate) cards: [Option<u32>; ITEMS],
-    /// The card of each till, from till 1 on.
-    pub(crate) requests: [Option<RequestCard>; 64],
+    /// What the disk holds.
+    pub(crate) ledger: Ledger,
 }
 
 impl<D: Sectors> Model for Session<D> {
@@ -52,7 +41,7 @@ impl<D: Sectors> Model for Session<D> {
     ghost view = { λ s. record { disk = s.drive.disk; dead = s.dead } };
 
     ghost invariant = { λ s.
-        IsStanding (D.history.image s.drive.disk) s.dead s.top s.tills (state_in s.cards s.requests)
+        IsStanding (D.history.image s.drive.disk) s.dead s.ledger
         × (s.dead ≡ false → IsReady D.history s.drive) };
 }
 
@@ -71,14 +60,14 @@ impl<D: Sectors> Session<D> {
     pub fn top(&self) -> u16
         ensures { (s : Shop) → IsShop (D.history.image self.now.disk) s → result ≡ s.top }
     {
-        self.top
+        self.ledger.top
     }
 
     /// How many tills the disk has: 0 to 64.
     pub fn tills(&self) -> u8
         ensures { (s : Shop) → IsShop (D.history.image self.now.disk) s → result ≡ s.tills }
     {
-        self.tills
+        self.ledger.tills
     }
 
     /// The disk, lent.
@@ -95,10 +84,7 @@ impl<D: Sectors> Session<D> {
         let Session {
             drive,
             dead: _,
-            top: _,
-            tills: _,
-            cards: _,
-            requests: _,
+            ledger: _,
         } = self;
         drive.into_disk()
     }
@@ -114,56 +100,15 @@ impl<D: Sectors> Session<D> {
         let Session {
             drive,
             dead,
-            top,
-            tills,
-            cards,
-            requests,
+            ledger,
         } = self;
         Session {
             drive: ShopDrive::power_on(Fuse::new(drive.into_disk(), writes)),
             dead,
-            top,
-            tills,
-            cards,
-            requests,
+            ledger,
         }
     }
-}
 
-/// The quantity that a table of cards holds for an item.
-pub(crate) fn on_hand(cards: &[Option<u32>; ITEMS], item: u16) -> Option<u32>
-    ensures value { result ≡ nth cards.now item }
-    ensures within { IfSome result (λ _. IsInTable item) }
-{
-    if item == 0 {
-        return None;
-    }
-    let place = usize::from(item) - 1;
-    if place < ITEMS { cards[place] } else { None }
-}
-
-/// The card that a table of request cards holds for a till.
-pub(crate) fn card_of(requests: &[Option<RequestCard>; 64], till: u8) -> Option<RequestCard>
-    ensures value { result ≡ nth requests.now till }
-    ensures within { IfSome result (λ _. (1 ≤ till) × (till ≤ 64)) }
-{
-    if till == 0 {
-        return None;
-    }
-    let place = usize::from(till) - 1;
-    if place < 64 { requests[place] } else { None }
-}
-
-/// The newest request of a card with its answer, as that of this till.
-pub(crate) fn newest_of(card: &RequestCard, till: u8) -> (Request, Answer)
-    requires low { 1 ≤ till }
-    requires high { till ≤ 64 }
-    ensures { result ≡ told_of till card.now.newest }
-{
-    (card.request(till).unwrap(), card.answer())
-}
-
-impl<D: Sectors> Session<D> {
     /// The quantity on hand of an item, if it has a card. Err if the session is dead.
     pub fn card(&self, item: u16) -> Result<Option<u32>, Dead>
         ensures ok { (s : Shop) → IsShop (D.history.image self.now.disk) s
@@ -173,7 +118,7 @@ impl<D: Sectors> Session<D> {
         if self.dead {
             return Err(Dead);
         }
-        Ok(on_hand(&self.cards, item))
+        Ok(self.ledger.on_hand(item))
     }
 
     /// The last request of a till with its answer, if the till has one. Err if the session is dead.
@@ -185,10 +130,7 @@ impl<D: Sectors> Session<D> {
         if self.dead {
             return Err(Dead);
         }
-        let Some(card) = card_of(&self.requests, till) else {
-            return Ok(None);
-        };
-        Ok(Some(newest_of(&card, till)))
+        Ok(self.ledger.kept(till))
     }
 
     /// The request of a till before its last one with its answer, if the disk has it. Err if the session is dead.
@@ -200,9 +142,6 @@ impl<D: Sectors> Session<D> {
         if self.dead {
             return Err(Dead);
         }
-        let Some(card) = card_of(&self.requests, till) else {
-            return Ok(None);
-        };
-        Ok(card.prior(till))
+        Ok(self.ledger.prior(till))
     }
 }

@@ -10,7 +10,7 @@ use Rattle.shop_commands.specs.Plays.{IsFileFault, IsPlayedFile}
 use Rattle.shop_commands.specs.Shops.{IsShowFault, IsShown}
 use Rattle.script_lines.specs.Lines.{first_reset, lines}
 use Rattle.shop_commands.specs.Texts.{verdict_text}
-use Rattle.shop_commands.specs.Tables.{dry_report}
+use Rattle.shop_commands.specs.DryRuns.{dry_report}
 use Rattle.command_faults.specs.declared.faults.CommandFault.{CommandFault}
 use Rattle.command_faults.specs.declared.faults.CommandFault.TheVariants as faults
 use Rattle.ledger_jobs.specs.Ends.{Ended}

@@ -16,4 +16,3 @@ pub mod PlayEnds
 pub mod Replies
 mod Showings
 mod Synced
-pub mod Tables

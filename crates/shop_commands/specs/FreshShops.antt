@@ -13,7 +13,7 @@ use Rattle.request_cards.specs.declared.reply.Reply.{Reply}
 use Rattle.script_lines.specs.Lines.{first_reset, lines}
 use Rattle.shop_commands.specs.Images.{AreFreshBytes, IsFreshDisk}
 use Rattle.shop_commands.specs.Shows.{shown_shop, top_line}
-use Rattle.shop_commands.specs.Tables.{dry_report, dry_start}
+use Rattle.shop_commands.specs.DryRuns.{dry_report, dry_start}
 
 -- the blank image's shop, by the name and the id of our disks
 abbrev pub fresh_shop : ℕ → Shop

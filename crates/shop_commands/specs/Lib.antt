@@ -8,5 +8,5 @@ pub mod ImageFile
 pub mod Plays
 pub mod Shops
 pub mod Shows
-pub mod Tables
+pub mod DryRuns
 pub mod Texts

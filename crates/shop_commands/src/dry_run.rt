@@ -2,12 +2,13 @@
 ghost use Rattle.std.specs.Prelude.{◌≡◌, ◌↔◌, ℕ, None, IfErr, IsSome, OnOk, Ok, Err, Some};
 ghost use Rattle.std.specs.Io.KnownBytes.{Appends, Keeps};
 ghost use Rattle.request_cards.specs.Ledgers.{replies_from, report};
+ghost use Rattle.request_cards.specs.Tables.{IsWithin, held_by, limits_of};
 ghost use Rattle.shop_commands.specs.Faults.{IsDryFault, dry_number, dry_status};
 ghost use Rattle.script_lines.specs.Lines.{first_reset, lines};
 ghost use Rattle.shop_commands.specs.Texts.{dry_text};
-ghost use Rattle.shop_commands.specs.Tables.{dry_report, dry_start, state_of};
+ghost use Rattle.shop_commands.specs.DryRuns.{dry_report, dry_start};
 
-use crate::table::Table;
+use request_cards::Ledger;
 use script_lines::{first_reset_line, next_line};
 use std::error::Error;
 use std::fmt::{self, Display, Formatter};
@@ -57,15 +58,20 @@ impl Display for DryFault {
 
 impl Error for DryFault {}
 
-/// Writes the reply to each line of the script, from the table on.
-fn play<W: Write>(script: &[u8], table: &mut Table, out: &mut W) -> Result<(), DryFault>
+/// The last item that has room on a fresh disk with 64 tills.
+const TOP: u16 = 8819;
+
+/// Writes the reply to each line of the script, from the ledger on.
+fn play<W: Write>(script: &[u8], ledger: &mut Ledger, out: &mut W) -> Result<(), DryFault>
+    requires limits { limits_of ledger.old ≡ dry_start }
+    requires within { IsWithin ledger.old }
     ensures ok { OnOk result (Appends (W.contents out.old) (W.contents out.new)
-        (report (replies_from dry_start (state_of table.old) (lines script.now)))) }
+        (report (replies_from dry_start (held_by ledger.old) (lines script.now)))) }
     ensures err { IfErr result (λ e. e ≡ DryFault.Output) }
 {
     let mut rest = script;
     while let Some((line, more)) = next_line(rest) {
-        if table.reply(line).write_line(out).is_err() {
+        if ledger.reply(line).write_line(out).is_err() {
             return Err(DryFault::Output);
         }
         rest = more;
@@ -105,7 +111,7 @@ pub fn dry<W: Write>(script: &[u8], out: &mut W) -> Result<(), DryFault>
     if let Some(line) = first_reset_line(script) {
         return Err(DryFault::BadLine(line));
     }
-    let mut table = Table::new();
-    play(script, &mut table, out)?;
+    let mut ledger = Ledger::new(64, TOP);
+    play(script, &mut ledger, out)?;
     hand_on(out)
 }

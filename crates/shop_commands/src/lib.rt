@@ -15,7 +15,6 @@ mod playing;
 mod reading;
 mod showing;
 mod shows;
-mod table;
 mod texts;
 
 pub use bytes::put_whole;

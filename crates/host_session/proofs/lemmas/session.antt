@@ -1,5 +1,4 @@
 -- A session answers a message.
-pub mod Tables
 pub mod Decisions
 pub mod KeptItems
 pub mod Keepings

@@ -64,7 +64,3 @@ abbrev pub most_writes : Shop → File → Option Ask → ℕ
 most_writes s stock None = 0
 most_writes s stock (Some a) = if next_in (start_of s) s.state a
     then kept_writes stock a.body.item (results_in a.body (outcome s.state.ledger.cards s.top a.body).0) else 0
-
--- a till's request and its answer, as they are returned
-abbrev pub told_of : ℕ → Entry → Ask × Answer
-told_of till e = (record { till = till; number = e.number; body = e.body }, e.answer)

@@ -2,7 +2,7 @@
 use Rattle.std.specs.Prelude.{◌≡◌, ◌≤◌, ℕ, false, List, [], Option}
 use Rattle.d64_image.specs.Images.{Image}
 use Rattle.request_cards.specs.CardTexts.{Card}
-use Rattle.host_session.specs.session.Standing.{nth}
+use Rattle.request_cards.specs.Tables.{nth}
 use Rattle.host_session.specs.shop.LoadedShop.{HasTills}
 use Rattle.host_session.specs.shop.Shop.{IsShop, Shop, intents, is_old}
 

@@ -7,13 +7,13 @@ use Rattle.rel_records.specs.declared.rel_file.RelFile.{RelFile}
 use Rattle.rel_records.specs.reading.Kept.{IsKept}
 use Rattle.request_cards.specs.CardReading.{request_card_of}
 use Rattle.request_cards.specs.CardTexts.{Card}
+use Rattle.request_cards.specs.Tables.{nth}
 use Rattle.request_cards.specs.Trade.{Cards}
 use Rattle.host_session.specs.declared.faults.OpenFault.{OpenFault}
 use Rattle.host_session.specs.declared.shop.intents.Intent.{Intent}
 use Rattle.host_session.specs.declared.shop.intents.NewQuantities.{NewQuantities}
 use Rattle.host_session.specs.declared.shop.judgment.LoadedShop.{LoadedShop}
 use Rattle.host_session.specs.session.Opening.{HasNoBadTill, LacksRecord, TellsJudging, open_intents}
-use Rattle.host_session.specs.session.Standing.{nth}
 use Rattle.host_session.specs.shop.Files.{Files, record_at}
 use Rattle.host_session.specs.shop.Shop.{AreLedgerRecords, IsIntended, IsRequestRecord, IsStockRecord, card_at}
 use Rattle.host_session.specs.shop.Shop.{cards_in, intents, items, results, results_of, state_of}
@@ -129,14 +129,14 @@ pub record AreCards (f : Files) (table : List (Option ℕ)) : Type 0 where
 
 -- nothing was read yet
 pub record IsNothing (x : LoadedShop) : Type 0 where
-  pub cards : x.cards ≡ replicate 10160 None
-  pub requests : x.requests ≡ replicate 64 None
+  pub cards : x.ledger.cards ≡ replicate 10160 None
+  pub requests : x.ledger.requests ≡ replicate 64 None
 
 -- what was read is what these files hold, and they are a ledger's
 pub record IsJudged (f : Files) (x : LoadedShop) : Type 0 where
   pub records : AreLedgerRecords f.stock f.requests
-  pub top : x.top ≡ f.top
-  pub tills : x.tills ≡ length (cards_in f.requests)
-  pub requests : HasTills f x.requests
-  pub cards : (item : ℕ) → nth x.cards item ≡ (state_of f.stock f.requests).ledger.cards item
-  pub intent : IsIntentOf x.requests x.intent
+  pub top : x.ledger.top ≡ f.top
+  pub tills : x.ledger.tills ≡ length (cards_in f.requests)
+  pub requests : HasTills f x.ledger.requests
+  pub cards : (item : ℕ) → nth x.ledger.cards item ≡ (state_of f.stock f.requests).ledger.cards item
+  pub intent : IsIntentOf x.ledger.requests x.intent

@@ -1,10 +1,10 @@
 //! Cards of version 1, written again as version 2.
 ghost use Rattle.std.specs.Prelude.{◌≡◌, ◌≤◌, ◌-◌, false};
 ghost use Rattle.host_session.specs.session.Settling.{HasClosedTable, HasNewTable};
-ghost use Rattle.host_session.specs.session.Standing.{nth};
 ghost use Rattle.host_session.specs.shop.Puts.{Puts};
 ghost use Rattle.host_session.specs.shop.Selecting.{IsReady};
 ghost use Rattle.host_session.specs.shop.Shop.{IsShop, Shop, any_old, is_old};
+ghost use Rattle.request_cards.specs.Tables.{nth};
 
 use crate::shop::records::put_answer;
 use crate::shop::shop_drive::ShopDrive;

@@ -50,11 +50,8 @@ impl<D: Sectors> Session<D> {
         let drive = settle(disk, &mut found)?;
         Ok(Session {
             drive,
-            top: found.top,
-            tills: found.tills,
             dead: false,
-            cards: found.cards,
-            requests: found.requests,
+            ledger: found.ledger,
         })
     }
 }

@@ -6,9 +6,8 @@ ghost use Rattle.host_session.specs.shop.Shop.{IsShop, Shop, start_of};
 ghost use Rattle.request_cards.specs.Ledgers.{next_in, word_in};
 ghost use Rattle.request_cards.specs.Requests.{IsAsk};
 
+use crate::session::Session;
 use crate::session::answers::store_answer;
-use crate::session::decisions::{decided, next_card, renew, standing_by};
-use crate::session::{Session, on_hand};
 use d64_image::Sectors;
 use request_cards::{Reply, Request, Standing, Word};
 
@@ -51,13 +50,13 @@ impl<D: Sectors> Session<D> {
             → (result ≡ word_in (start_of s) s.state request.now) × (self.new ≡ self.old) }
         ensures answered { IsAnswered D.history self.old self.new request.now result }
     {
-        match standing_by(&self.requests, self.tills, request) {
+        match self.ledger.standing(request) {
             Standing::Settled(word) => word,
             Standing::New => self.answer(request),
         }
     }
 
-    /// Answers its till's next request: decides it by the tables, keeps it on the disk, and renews the tables.
+    /// Answers its till's next request: decides it by the ledger, keeps it on the disk, and renews the ledger.
     fn answer(&mut self, request: &Request) -> Word
         requires ask { IsAsk request.now }
         requires alive { self.old.dead ≡ false }
@@ -65,20 +64,14 @@ impl<D: Sectors> Session<D> {
             → next_in (start_of s) s.state request.now ≡ true }
         ensures { IsAnswered D.history self.old self.new request.now result }
     {
-        let outcome = decided(&self.cards, self.top, request);
-        let card = next_card(&self.requests, request, outcome.answer);
-        let before = on_hand(&self.cards, request.item());
+        let outcome = self.ledger.decide(request);
+        let card = self.ledger.next_card(request, outcome.answer);
+        let before = self.ledger.on_hand(request.item());
         let Ok(()) = store_answer(&mut self.drive, request, &card, before) else {
             self.dead = true;
             return Word::Media;
         };
-        renew(
-            &mut self.cards,
-            &mut self.requests,
-            request,
-            &outcome,
-            card.answered(),
-        );
+        self.ledger.renew(request, &outcome, card.answered());
         Word::Kept(outcome.answer)
     }
 }

@@ -2,7 +2,7 @@
 ghost use Rattle.std.specs.Prelude.{◌≡◌, IfNone, IfOk, false};
 ghost use Rattle.host_session.specs.session.Mends.{Mends};
 ghost use Rattle.host_session.specs.session.Settling.{HasNewTable, HasTable};
-ghost use Rattle.host_session.specs.session.Standing.{IsStanding, state_in};
+ghost use Rattle.host_session.specs.session.Standing.{IsStanding};
 ghost use Rattle.host_session.specs.shop.Files.{Files, HasFiles};
 ghost use Rattle.host_session.specs.shop.LoadedShop.{IsIntentOf, IsJudged};
 ghost use Rattle.host_session.specs.shop.Puts.{Puts};
@@ -48,11 +48,10 @@ pub(crate) fn settle<D: Sectors>(
     requires judged { (f : Files) × HasFiles (D.history.image disk) f × IsJudged f found.old }
     ensures mends { Mends D.history disk result (IsShop (D.history.image disk)) 952 (λ i. (s : Shop) × IsSettled i s)
         (λ s i. IsSettled i s) }
-    ensures standing { IfOk result (λ x. IsStanding (D.history.image x.disk) false found.new.top found.new.tills
-        (state_in found.new.cards found.new.requests)) }
+    ensures standing { IfOk result (λ x. IsStanding (D.history.image x.disk) false found.new.ledger) }
 {
     let mut drive = start(disk)?;
-    match bring_to_rest(&mut drive, &found.intent, &mut found.requests) {
+    match bring_to_rest(&mut drive, &found.intent, &mut found.ledger.requests) {
         Ok(()) => Ok(drive),
         Err(Dead) => Err((OpenFault::Device, drive.into_disk())),
     }

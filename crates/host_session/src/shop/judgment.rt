@@ -13,7 +13,6 @@ ghost use Rattle.request_cards.specs.CardReading.{request_card_of, stock_card_of
 ghost use Rattle.request_cards.specs.CardTexts.{Card, IsCard};
 
 use crate::faults::OpenFault;
-use crate::session::ITEMS;
 use crate::shop::files::{LedgerFiles, find_files};
 use crate::shop::intents::{
     Intent, NewQuantities, given_by, new_quantities, new_quantity, open_intent, passes,
@@ -23,20 +22,14 @@ use arrayvec::ArrayVec;
 use d64_image::Sectors;
 use disk_layout::DATA;
 use rel_records::{LastBlock, records};
-use request_cards::{RequestCard, StockCard};
+use request_cards::{ITEMS, Ledger, RequestCard, StockCard};
 
 /// What opening reads before it writes. It is large, so each step fills it in place.
 #[derive(Drop)]
 pub struct LoadedShop {
-    /// The last item that a new card may have.
-    pub(crate) top: u16,
-    /// How many tills there are.
-    pub(crate) tills: u8,
-    /// The quantity on hand of each item, from item 1 on, as it is once the open intent is completed.
-    pub(crate) cards: [Option<u32>; ITEMS],
-    /// The card of each till, from till 1 on.
-    pub(crate) requests: [Option<RequestCard>; 64],
-    /// The open intent, which is one of these cards.
+    /// What the files hold; the quantities are those once the open intent is completed.
+    pub(crate) ledger: Ledger,
+    /// The open intent, which is a card of the ledger.
     pub(crate) intent: Option<Intent>,
 }
 
@@ -46,10 +39,7 @@ impl LoadedShop {
         ensures { IsNothing result }
     {
         LoadedShop {
-            top: 0,
-            tills: 0,
-            cards: [None; ITEMS],
-            requests: [None; 64],
+            ledger: Ledger::new(0, 0),
             intent: None,
         }
     }
@@ -241,10 +231,10 @@ pub(crate) fn judge<D: Sectors>(disk: &mut D, found: &mut LoadedShop) -> Result<
     ensures failures { TellsJudging D.history disk.old disk.new result }
 {
     let files = find_files(disk)?;
-    let (tills, intent) = judge_tills(disk, &files, &mut found.requests)?;
-    read_stock(disk, &files, &given_by(&intent), &mut found.cards)?;
-    found.top = files.top;
-    found.tills = tills;
+    let (tills, intent) = judge_tills(disk, &files, &mut found.ledger.requests)?;
+    read_stock(disk, &files, &given_by(&intent), &mut found.ledger.cards)?;
+    found.ledger.top = files.top;
+    found.ledger.tills = tills;
     found.intent = intent;
     Ok(())
 }

@@ -18,7 +18,7 @@ use Rattle.host_session.specs.shop.Shop.{results, results_of}
 use Rattle.host_session.specs.declared.shop.intents.Intent.{Intent}
 use Rattle.host_session.specs.declared.shop.intents.NewQuantities.{NewQuantities}
 use Rattle.host_session.proofs.lemmas.shop.Overlays.{open_in-pending}
-use Rattle.host_session.proofs.lemmas.judging.TableEntries.{nth-at}
+use Rattle.request_cards.proofs.Tables.{nth-at}
 
 -- two tables with the same cards have the same open intents
 pub intents-same : (xs ys : List (Option Card)) → ((k : ℕ) → get_or xs k None ≡ get_or ys k None)

@@ -20,13 +20,14 @@ use Rattle.host_session.specs.shop.LoadedShop.{AreCards, HasJudgedTills, IsCount
 use Rattle.host_session.specs.session.Opening.{IsBadCard, IsLowest}
 use Rattle.host_session.specs.shop.Shop.{IsIntended, IsStockRecord, cards_in, intents, overlaid, quantities}
 use Rattle.host_session.specs.shop.Shop.{quantity_if, quantity_in, results, state_of}
-use Rattle.host_session.specs.session.Standing.{nth}
 use Rattle.host_session.specs.declared.shop.files.LedgerFiles.{LedgerFiles}
 use Rattle.host_session.specs.declared.shop.intents.NewQuantities.{NewQuantities}
 use Rattle.host_session.proofs.lemmas.shop.Lists.{record-within}
 use Rattle.host_session.proofs.lemmas.judging.NewResults.{given-none, given-some, overlays}
 use Rattle.host_session.proofs.lemmas.shop.Steps.{blank-record}
-use Rattle.host_session.proofs.lemmas.judging.TableEntries.{nth-none, nth-set_other, nth-set_same, record_at-past}
+use Rattle.host_session.proofs.lemmas.judging.TableEntries.{record_at-past}
+use Rattle.request_cards.specs.Tables.{nth}
+use Rattle.request_cards.proofs.Tables.{nth-none, nth-set_other, nth-set_same}
 
 -- what an open intent leaves of an item's record
 pub record IsLeft (f : Files) (item : ℕ) : Type 0 where

@@ -13,39 +13,10 @@ use Rattle.request_cards.specs.CardTexts.{Card}
 use Rattle.host_session.specs.shop.Files.{record_at}
 use Rattle.host_session.specs.shop.LoadedShop.{IsIntentAmong}
 use Rattle.host_session.specs.shop.Shop.{intents, open_in}
-use Rattle.host_session.specs.session.Standing.{nth}
+use Rattle.request_cards.specs.Tables.{nth}
+use Rattle.request_cards.proofs.Tables.{nth-at}
 use Rattle.host_session.specs.declared.shop.intents.Intent.{Intent}
 use Rattle.host_session.proofs.lemmas.shop.Overlays.{open_in-pending}
-
--- one entry of a table changed
-pub nth-at : {X : Type 0} (xs : List (Option X)) (k : ℕ) → nth xs (k + 1) ≡ get_or xs k None
-nth-at xs k =
-    let zero_not : (k + 1 ≡ 0 → ⊥) = λ e. omega (arith, e) in
-    let down : (k + 1) - 1 ≡ k = omega arith in
-    rw (ne_eqb (k + 1) 0 zero_not) (ap (λ n. get_or xs n None) down)
-
-pub nth-set_same : {X : Type 0} (xs : List (Option X)) (k : ℕ) (x : Option X) → k < length xs
-    → nth (set xs k x) (k + 1) ≡ x
-nth-set_same xs k x lt = nth-at (set xs k x) k ∙ get_or-set_same xs k x None lt
-
-pub nth-set_other : {X : Type 0} (xs : List (Option X)) (k n : ℕ) (x : Option X) → n ≢ k + 1
-    → nth (set xs k x) n ≡ nth xs n
-nth-set_other xs k zero x ne = refl
-nth-set_other xs k (suc n) x ne =
-    let up : n + 1 ≡ suc n = add-one n in
-    ap (nth (set xs k x)) (sym up) ∙ nth-at (set xs k x) n
-    ∙ get_or-set_other xs k n x None (λ e. ne (sym up ∙ ap (λ j. j + 1) e)) ∙ sym (nth-at xs n) ∙ ap (nth xs) up
-
--- a table in which nothing stands
-pub nth-none : (X : Type 0) (n t : ℕ) → nth {X = X} (replicate n None) t ≡ None
-nth-none X n zero = refl
-nth-none X n (suc t) = ap (nth {X = X} (replicate n None)) (sym (add-one t)) ∙ nth-at {X = X} (replicate n None) t
-    ∙ blank X n t
-  where
-    blank : (X : Type 0) (n t : ℕ) → get_or {A = Option X} (replicate n None) t None ≡ None
-    blank X zero t = refl
-    blank X (suc n) zero = refl
-    blank X (suc n) (suc t) = blank X n t
 
 -- a record past the last one
 pub record_at-past : {X : Type 0} (xs : List X) (r : ℕ) → length xs < r → record_at xs r ≡ None

@@ -16,11 +16,12 @@ use Rattle.host_session.specs.declared.shop.record_content.RecordContent.{Record
 use Rattle.host_session.specs.shop.LoadedShop.{AreTills, IsJudgedTill, IsReadTo, PassesRecords, listed}
 use Rattle.host_session.specs.session.Opening.{IsBadTill, IsLowest, LacksRecord}
 use Rattle.host_session.specs.shop.Shop.{IsRequestRecord, card_at, cards_in, items, open_in, results, results_of}
-use Rattle.host_session.specs.session.Standing.{nth}
 use Rattle.host_session.specs.declared.shop.intents.NewQuantities.{NewQuantities}
 use Rattle.host_session.proofs.lemmas.shop.Lists.{record-within, record_at-map_take}
 use Rattle.host_session.proofs.lemmas.shop.Overlays.{open_in-answered, open_in-pending}
-use Rattle.host_session.proofs.lemmas.judging.TableEntries.{blank-request, nth-none, nth-set_other, nth-set_same}
+use Rattle.host_session.proofs.lemmas.judging.TableEntries.{blank-request}
+use Rattle.request_cards.specs.Tables.{nth}
+use Rattle.request_cards.proofs.Tables.{nth-none, nth-set_other, nth-set_same}
 use Rattle.host_session.proofs.lemmas.judging.TableEntries.{record_at-past}
 
 -- what a read of a record tells

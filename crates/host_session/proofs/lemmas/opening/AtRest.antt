@@ -18,12 +18,14 @@ use Rattle.host_session.specs.shop.LoadedShop.{IsIntentOf, IsJudged}
 use Rattle.host_session.specs.session.Opening.{Untouched}
 use Rattle.host_session.specs.session.Settling.{HasClosedTable, HasNewTable, HasTable}
 use Rattle.host_session.specs.shop.Shop.{IsSettled, IsShop, Shop, any_old, card_at, cards_in, intents, is_old, shop_of}
-use Rattle.host_session.specs.session.Standing.{IsStanding, nth, state_in}
+use Rattle.host_session.specs.session.Standing.{IsStanding}
 use Rattle.host_session.specs.declared.shop.intents.Intent.{Intent}
 use Rattle.host_session.specs.declared.shop.judgment.LoadedShop.{LoadedShop}
 use Rattle.host_session.proofs.lemmas.judging.JudgedTills.{card_at-get, table-intents}
 use Rattle.host_session.proofs.lemmas.shop.Shops.{HasFiles-one, IsShop-one}
-use Rattle.host_session.proofs.lemmas.judging.TableEntries.{in-place, nth-at}
+use Rattle.host_session.proofs.lemmas.judging.TableEntries.{in-place}
+use Rattle.request_cards.specs.Tables.{nth, state_in}
+use Rattle.request_cards.proofs.Tables.{nth-at}
 use Rattle.host_session.proofs.lemmas.opening.Migrated.{any-none, f}
 
 -- what was read at a till's place of a table
@@ -114,7 +116,7 @@ none-weaker A B (Some x) f h = tt
 
 -- a disk that was judged, as it is once it is mended
 pub judged-table : (img : Image) (f : Files) (x : LoadedShop) → HasFiles img f → IsJudged f x
-    → HasTable img (shop_of f) x.requests
+    → HasTable img (shop_of f) x.ledger.requests
 judged-table img f x has j = record {
   shop = record { files = f; has = has; records = j.records; is = refl };
   tills =
@@ -124,14 +126,14 @@ judged-table img f x has j = record {
 -- what a session holds once its shop's disk is at rest
 pub standing : (img : Image) (f : Files) (x : LoadedShop) → IsJudged f x → (table : List (Option Card))
     → HasNewTable img (shop_of f) table 64 → IsClean img
-    → IsStanding img false x.top x.tills (state_in x.cards table)
+    → IsStanding img false (record x.ledger { requests = table })
 standing img f x j table h clean = record {
   shop = shop_of f;
   is_shop = h.closed.has.shop;
   top_is = j.top;
   tills_is = j.tills;
   settled = λ _. at-rest img (shop_of f) table h clean;
-  state_is = λ _. tables-state img (shop_of f) x.cards table h.closed.has j.cards;
+  state_is = λ _. tables-state img (shop_of f) x.ledger.cards table h.closed.has j.cards;
 }
 
 -- a settled disk has nothing to complete and nothing to migrate
@@ -143,17 +145,17 @@ module _ (img : Image) (s : Shop) (r : IsSettled img s) (f : Files) (has : HasFi
   pub rest-intent : x.intent ≡ None
   rest-intent = by x.intent j.intent
     where
-      none : intents x.requests ≡ []
-      none = table-intents f x.requests j.requests ∙ ap (λ (g : Files). intents (cards_in g.requests)) (sym same-files)
+      none : intents x.ledger.requests ≡ []
+      none = table-intents f x.ledger.requests j.requests ∙ ap (λ (g : Files). intents (cards_in g.requests)) (sym same-files)
           ∙ r.no_intent
 
-      by : (o : Option Intent) → IsIntentOf x.requests o → o ≡ None
+      by : (o : Option Intent) → IsIntentOf x.ledger.requests o → o ≡ None
       by None h = refl
       by (Some y) h = absurd (omega (arith, ap length (sym none ∙ h.only)))
 
-  pub rest-cards : any_old x.requests ≡ false
+  pub rest-cards : any_old x.ledger.requests ≡ false
   rest-cards =
-      any-same x.requests (cards_in f.requests) (λ k. sym (nth-at x.requests k) ∙ j.requests (k + 1)
+      any-same x.ledger.requests (cards_in f.requests) (λ k. sym (nth-at x.ledger.requests k) ∙ j.requests (k + 1)
       ∙ ap (card_at (cards_in f.requests)) (add-one k) ∙ card_at-get (cards_in f.requests) k)
       ∙ ap (λ (g : Files). any_old (cards_in g.requests)) (sym same-files) ∙ r.no_old_card
     where
@@ -178,9 +180,9 @@ module _ {D : Type 0} (S : History D) (a : D) (b c : Seen D) (f : Files) (has : 
   rest-moments h mended rests = changes_then S a b.disk c.disk 883 69 952 (λ i. IsShop i s) (omega arith) mended
       (subst (λ (t : Shop). Changes S b.disk c.disk 69 (λ i. IsShop i t)) (judged-shop (S.image a) f x has j s h) rests)
 
-  pub rest-quiet : IsSettled (S.image a) s → IfNone x.intent (any_old x.requests ≡ false → c ≡ b)
+  pub rest-quiet : IsSettled (S.image a) s → IfNone x.intent (any_old x.ledger.requests ≡ false → c ≡ b)
       → Untouched S a b.disk → Untouched S a c.disk
   rest-quiet r quiet mended =
-      let stays = subst (λ (o : Option Intent). IfNone o (any_old x.requests ≡ false → c ≡ b))
+      let stays = subst (λ (o : Option Intent). IfNone o (any_old x.ledger.requests ≡ false → c ≡ b))
       (rest-intent (S.image a) s r f has x j) quiet (rest-cards (S.image a) s r f has x j) in
       subst (λ (d : Seen D). Untouched S a d.disk) (sym stays) mended

@@ -20,7 +20,6 @@ use Rattle.host_session.specs.shop.Putting.{HasAnswer, IsPuttingAnswer}
 use Rattle.host_session.specs.session.Settling.{HasNewTable}
 use Rattle.host_session.specs.shop.Shop.{IsShop, Shop, any_old, cards_in, intents, is_old, open_in, results_in}
 use Rattle.host_session.specs.shop.Shop.{results_of, shop_of}
-use Rattle.host_session.specs.session.Standing.{nth}
 use Rattle.host_session.proofs.lemmas.judging.JudgedTills.{card-record_at, table-intents}
 use Rattle.host_session.proofs.lemmas.shop.Lists.{record-within}
 use Rattle.host_session.proofs.lemmas.shop.Overlays.{nil_parts, open_in-answered}
@@ -28,7 +27,8 @@ use Rattle.host_session.proofs.lemmas.shop.Moments.{card-intents_now}
 use Rattle.host_session.proofs.lemmas.shop.Shops.{HasFiles-one}
 use Rattle.host_session.proofs.lemmas.writing.PlacedRecords.{card-touched}
 use Rattle.host_session.proofs.lemmas.shop.Steps.{step-migrated}
-use Rattle.host_session.proofs.lemmas.judging.TableEntries.{nth-at, nth-set_other, nth-set_same}
+use Rattle.request_cards.specs.Tables.{nth}
+use Rattle.request_cards.proofs.Tables.{nth-at, nth-set_other, nth-set_same}
 use Rattle.host_session.proofs.lemmas.opening.Recovered.{table-with}
 
 -- whether one of the cards is of version 1

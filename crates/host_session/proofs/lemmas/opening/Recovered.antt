@@ -11,13 +11,13 @@ use Rattle.host_session.specs.shop.Files.{Files, record_at, with_record}
 use Rattle.host_session.specs.shop.LoadedShop.{HasTills, IsOnlyIntent}
 use Rattle.host_session.specs.session.Settling.{HasClosedTable, HasTable}
 use Rattle.host_session.specs.shop.Shop.{Shop, card_at, cards_in, intents, shop_of}
-use Rattle.host_session.specs.session.Standing.{nth}
 use Rattle.host_session.specs.declared.shop.intents.Intent.{Intent}
 use Rattle.host_session.proofs.lemmas.judging.JudgedTills.{card-record_at, table-intents}
 use Rattle.host_session.proofs.lemmas.shop.Lists.{record_at-map_take, record_at-with_other, record_at-with_same}
 use Rattle.host_session.proofs.lemmas.shop.Moments.{cards-with}
 use Rattle.host_session.proofs.lemmas.shop.Steps.{tills-same}
-use Rattle.host_session.proofs.lemmas.judging.TableEntries.{nth-set_other, nth-set_same}
+use Rattle.request_cards.specs.Tables.{nth}
+use Rattle.request_cards.proofs.Tables.{nth-set_other, nth-set_same}
 use Rattle.host_session.proofs.lemmas.writing.IntentAnswers.{answered-read}
 
 -- a till's card written, in its record and in the table

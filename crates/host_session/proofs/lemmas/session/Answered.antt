@@ -14,20 +14,20 @@ use Rattle.request_cards.specs.Requests.{Ask, IsAsk}
 use Rattle.drive_channels.specs.State.{Seen}
 use Rattle.drive_channels.specs.declared.faults.Dead.{Dead}
 use Rattle.host_session.specs.session.Answering.{IsAnswered}
-use Rattle.host_session.specs.session.Deciding.{card_with, newest_in, renewed, traded}
 use Rattle.host_session.specs.shop.Files.{Files, HasFiles}
 use Rattle.host_session.specs.session.Handling.{kept_writes}
 use Rattle.host_session.specs.session.Keeping.{IsAfterCounted, IsEither, IsKeeping, KeepsAnswer, answer_of, shop_after}
 use Rattle.host_session.specs.shop.Selecting.{IsReady}
 use Rattle.host_session.specs.shop.Shop.{IsSettled, IsShop, Shop, results_of, shop_of, start_of}
-use Rattle.host_session.specs.session.Standing.{IsStanding, View, nth, state_in}
+use Rattle.host_session.specs.session.Standing.{IsStanding, View}
+use Rattle.request_cards.specs.Tables.{card_with, held_by, limits_of, nth, renewed, traded}
+use Rattle.request_cards.specs.declared.ledger.Ledger.{Ledger}
 use Rattle.host_session.proofs.lemmas.session.Replies.{IsKept, told-dead, told-ok}
 use Rattle.host_session.proofs.lemmas.session.Standings.{standing-after, standing-answer, standing-dead, standing-entry}
 use Rattle.host_session.proofs.lemmas.session.Standings.{standing-keeping}
 
-module _ {D : Type 0} (S : History D) (x : Seen D) (now : View D) (dead : Bool) (top tills : ℕ)
-    (cards : List (Option ℕ)) (requests : List (Option Card)) (is : record { disk = x.disk; dead = dead } ≡ now)
-    (v : IsStanding (S.image x.disk) dead top tills (state_in cards requests))
+module _ {D : Type 0} (S : History D) (x : Seen D) (now : View D) (dead : Bool) (l : Ledger)
+    (is : record { disk = x.disk; dead = dead } ≡ now) (v : IsStanding (S.image x.disk) dead l)
     (a : Ask) (ask : IsAsk a) (alive : now.dead ≡ false)
     (next : (s : Shop) → IsShop (S.image now.disk) s → next_in (start_of s) s.state a ≡ true) where
   live : dead ≡ false
@@ -36,19 +36,19 @@ module _ {D : Type 0} (S : History D) (x : Seen D) (now : View D) (dead : Bool) 
   due : next_in (start_of v.shop) v.shop.state a ≡ true
   due = next v.shop (subst (λ (u : View D). IsShop (S.image u.disk) v.shop) is v.is_shop)
 
-  pub known-entry : (o : Outcome) → o ≡ traded (nth cards) top a.body → IsEntry (entry_of (a, o.answer))
-  known-entry o rule = standing-entry (S.image x.disk) dead top tills cards requests v live a ask due o rule
+  pub known-entry : (o : Outcome) → o ≡ traded (nth l.cards) l.top a.body → IsEntry (entry_of (a, o.answer))
+  known-entry o rule = standing-entry (S.image x.disk) dead l v live a ask due o rule
 
-  pub known-number : a.number ≡ number_of (newest_in (nth requests a.till)) + 1
+  pub known-number : a.number ≡ number_of ((held_by l).ledger.kept a.till) + 1
   known-number =
       let two = and_parts (nat_le a.till v.shop.tills) (a.number == number_of (v.shop.state.ledger.kept a.till) + 1)
       due in
       eqb-true a.number (number_of (v.shop.state.ledger.kept a.till) + 1) two.1
       ∙ sym (ap (λ (st : State). number_of (st.ledger.kept a.till) + 1) (v.state_is live))
 
-  module _ (o : Outcome) (rule : o ≡ traded (nth cards) top a.body) (c : Card)
-      (made : c ≡ card_with (nth requests a.till) a o.answer) (before : Option ℕ)
-      (asked : before ≡ nth cards a.body.item) where
+  module _ (o : Outcome) (rule : o ≡ traded (nth l.cards) l.top a.body) (c : Card)
+      (made : c ≡ card_with (nth l.requests a.till) a o.answer) (before : Option ℕ)
+      (asked : before ≡ nth l.cards a.body.item) where
     -- what the item had before is what the shop has of it
     had : (f : Files) → shop_of f ≡ v.shop → before ≡ (shop_of f).state.ledger.cards a.body.item
     had f same = asked ∙ ap (λ (st : State). st.ledger.cards a.body.item) (v.state_is live)
@@ -57,7 +57,7 @@ module _ {D : Type 0} (S : History D) (x : Seen D) (now : View D) (dead : Bool) 
     pub known-keeping : (f : Files) × HasFiles (S.image x.disk) f × IsKeeping f a c
         × (before ≡ (shop_of f).state.ledger.cards a.body.item)
     known-keeping =
-        let (f, h, same, k) = standing-keeping (S.image x.disk) dead top tills cards requests v live a ask due o rule c
+        let (f, h, same, k) = standing-keeping (S.image x.disk) dead l v live a ask due o rule c
         made in (f, h, k, had f same)
 
     -- the drive has kept it, or failed
@@ -81,13 +81,13 @@ module _ {D : Type 0} (S : History D) (x : Seen D) (now : View D) (dead : Bool) 
         Found = (f : Files) × HasFiles (S.image x.disk) f × (shop_of f ≡ v.shop) × IsKeeping f a c
 
         found : Found
-        found = standing-keeping (S.image x.disk) dead top tills cards requests v live a ask due o rule c made
+        found = standing-keeping (S.image x.disk) dead l v live a ask due o rule c made
 
         -- where it failed
-        pub stands-dead : (st : State) → IsStanding (S.image y.disk) true top tills st
-        stands-dead st =
+        pub stands-dead : IsStanding (S.image y.disk) true l
+        stands-dead =
             let (f, h, same, k) = found in
-            standing-dead (S.image x.disk) dead top tills cards requests v a (S.image y.disk) st
+            standing-dead (S.image x.disk) dead l v a (S.image y.disk)
             (subst (λ (s : Shop). IsEither s a (S.image y.disk)) same (at_end S x.disk y.disk (IsEither (shop_of f) a)
             (puts.moments f (h, k)).held))
 
@@ -108,13 +108,12 @@ module _ {D : Type 0} (S : History D) (x : Seen D) (now : View D) (dead : Bool) 
             (puts.ok f (h, k))
 
         pub stands-after : (u : Unit {0}) → res ≡ Ok u → (answered : Card) → answered ≡ record c { pending = false }
-            → (cs : List (Option ℕ)) (rs : List (Option Card))
-            → state_in cs rs ≡ renewed (state_in cards requests) a o answered
-            → IsStanding (S.image y.disk) dead top tills (state_in cs rs)
-        stands-after u e answered is_answered cs rs new =
+            → (m : Ledger) → held_by m ≡ renewed (held_by l) a o answered → limits_of m ≡ limits_of l
+            → IsStanding (S.image y.disk) dead m
+        stands-after u e answered is_answered m new limits =
             let (f, h, same, k) = found in
-            standing-after (S.image x.disk) dead top tills cards requests v live a ask due (S.image y.disk) rs cs o c
-            answered rule made is_answered new
+            standing-after (S.image x.disk) dead l v live a ask due (S.image y.disk) m o c
+            answered rule made is_answered new limits
             (subst (λ (s : Shop). IsSettled (S.image y.disk) (shop_after s a)) same (settled-of u e f h k))
 
         pub ready-after : (u : Unit {0}) → res ≡ Ok u → IsReady S y
@@ -128,5 +127,5 @@ module _ {D : Type 0} (S : History D) (x : Seen D) (now : View D) (dead : Bool) 
             subst (λ (z : View D). IsAnswered S z (record { disk = y.disk; dead = dead }) a (words.Kept o.answer)) is
             (told-ok S (record { disk = x.disk; dead = dead }) (record { disk = y.disk; dead = dead }) f h a before c k
             (had f same) (next-of f same) u w puts.moments live o.answer
-            (standing-answer (S.image x.disk) dead top tills cards requests v live a ask due o rule
+            (standing-answer (S.image x.disk) dead l v live a ask due o rule
             ∙ ap (λ (s : Shop). answer_of s a) (sym same)))

@@ -1,4 +1,4 @@
--- What a session tells of a request that isn't its till's next one: by its tables, and nothing changes.
+-- What a session tells of a request that isn't its till's next one: by its ledger, and nothing changes.
 use Rattle.std.proofs.Common.{ℕ, ◌≡◌, ◌≢◌, ◌≤◌, ◌⊎◌, ◌+◌, inl, inr, true, false, Bool, List, None, Option, Some, refl}
 use Rattle.std.proofs.Common.{sym, ◌∙◌, ap, subst, arith}
 use Rattle.std.specs.Prelude.{nat_lt, ◌==◌, if◌then◌else◌}
@@ -10,15 +10,15 @@ use Rattle.request_cards.specs.declared.reply.Word.{Word}
 use Rattle.request_cards.specs.declared.reply.Word.TheVariants as words
 use Rattle.request_cards.specs.declared.standing.Standing.{Standing}
 use Rattle.request_cards.specs.declared.standing.Standing.TheVariants.{New, Settled}
-use Rattle.request_cards.specs.CardTexts.{Card}
 use Rattle.request_cards.specs.Ledgers.{Entry, Start, State, applied, next_in, standing, standing_at, told_again}
 use Rattle.request_cards.specs.Ledgers.{told_late, word_in, word_on}
 use Rattle.request_cards.specs.Requests.{Ask, same_body}
 use Rattle.request_cards.specs.Trade.{outcome}
 use Rattle.host_session.specs.session.Answering.{IsAnswered, after_ask}
-use Rattle.host_session.specs.session.Deciding.{newest_in, second_in}
 use Rattle.host_session.specs.shop.Shop.{IsSettled, IsShop, Shop, start_of, with_state}
-use Rattle.host_session.specs.session.Standing.{IsStanding, View, nth, state_in}
+use Rattle.host_session.specs.session.Standing.{IsStanding, View}
+use Rattle.request_cards.specs.Tables.{held_by}
+use Rattle.request_cards.specs.declared.ledger.Ledger.{Ledger}
 use Rattle.host_session.proofs.lemmas.session.Replies.{new-next, next-new}
 use Rattle.host_session.proofs.lemmas.shop.Shops.{standing-settled, standing-state, standing-tills}
 
@@ -69,23 +69,22 @@ settled-not_next start st a w e = elim (cases_Bool (next_in start st a)) [
     is-new (Settled _) = false
 
 module _ {D : Type 0} (S : History D) (x : View D) (img : Image) (same : S.image x.disk ≡ img) (dead : Bool)
-    (top tills : ℕ) (cards : List (Option ℕ)) (requests : List (Option Card))
-    (v : IsStanding img dead top tills (state_in cards requests)) (alive : dead ≡ false) (a : Ask) where
-  -- the tables stand for the shop
+    (l : Ledger) (v : IsStanding img dead l) (alive : dead ≡ false) (a : Ask) where
+  abbrev stands : Standing
+  stands = standing l.tills ((held_by l).ledger.kept a.till) ((held_by l).prior a.till) a
+
+  -- the ledger stands for the shop
   pub by-tables : (s : Shop) → IsShop (S.image x.disk) s
-      → standing tills (newest_in (nth requests a.till)) (second_in (nth requests a.till)) a ≡ standing s.tills
-      (s.state.ledger.kept a.till) (s.state.prior a.till) a
+      → stands ≡ standing s.tills (s.state.ledger.kept a.till) (s.state.prior a.till) a
   by-tables s h =
-      let st = standing-state img (S.image x.disk) dead top tills (state_in cards requests) same v alive s h in
-      let t = standing-tills img (S.image x.disk) dead top tills (state_in cards requests) same v s h in
+      let st = standing-state img (S.image x.disk) dead l same v alive s h in
+      let t = standing-tills img (S.image x.disk) dead l same v s h in
       λ i. standing (t i) ((st i).ledger.kept a.till) ((st i).prior a.till) a
 
-  pub told-next : 1 ≤ a.number → standing tills (newest_in (nth requests a.till)) (second_in (nth requests a.till))
-      a ≡ New → (s : Shop) → IsShop (S.image x.disk) s → next_in (start_of s) s.state a ≡ true
+  pub told-next : 1 ≤ a.number → stands ≡ New → (s : Shop) → IsShop (S.image x.disk) s → next_in (start_of s) s.state a ≡ true
   told-next low new s h = new-next (start_of s) s.state a low (sym (by-tables s h) ∙ new)
 
-  module _ (w : Word) (told : standing tills (newest_in (nth requests a.till)) (second_in (nth requests a.till))
-      a ≡ Settled w) where
+  module _ (w : Word) (told : stands ≡ Settled w) where
     pub told-word : (s : Shop) → IsShop (S.image x.disk) s → w ≡ word_in (start_of s) s.state a
     told-word s h = ap (λ (st : Standing). word_on st (outcome s.state.ledger.cards s.top a.body).0) (sym told
         ∙ by-tables s h)
@@ -101,7 +100,7 @@ module _ {D : Type 0} (S : History D) (x : View D) (img : Image) (same : S.image
       reply = λ s h _. (
         told-word s h,
         subst (λ (u : Shop). IsSettled (S.image x.disk) u) (stays s h)
-            (standing-settled img (S.image x.disk) dead top tills (state_in cards requests) same v alive s h),
+            (standing-settled img (S.image x.disk) dead l same v alive s h),
         living,
       );
       moments = λ s h. changes_weaker S x.disk x.disk 0 3618 _ _ (omega arith) (λ i p. p)
@@ -109,7 +108,7 @@ module _ {D : Type 0} (S : History D) (x : View D) (img : Image) (same : S.image
       writes = λ f h. omega arith;
       counted = λ s h lt. absurd (omega (arith, lt));
       failures = inr (
-        settled-other tills (newest_in (nth requests a.till)) (second_in (nth requests a.till)) a w told,
+        settled-other l.tills ((held_by l).ledger.kept a.till) ((held_by l).prior a.till) a w told,
         refl,
       );
     }

@@ -13,7 +13,8 @@ use Rattle.disk_layout.specs.Room.{IsTop}
 use Rattle.disk_layout.specs.Rest.{IsFirst, rest_of}
 use Rattle.request_cards.proofs.LastTwo.{keeps_last_two}
 use Rattle.request_cards.specs.CardTexts.{Card}
-use Rattle.request_cards.specs.Ledgers.{State}
+use Rattle.request_cards.specs.Tables.{held_by}
+use Rattle.request_cards.specs.declared.ledger.Ledger.{Ledger}
 use Rattle.request_cards.specs.Lines.{HasLast, KeepsLastTwo}
 use Rattle.request_cards.specs.Requests.{Ask}
 use Rattle.host_session.specs.session.Standing.{IsStanding}
@@ -60,15 +61,14 @@ keeps-last_two img s x asks till =
     both (Some c) none = absurd (none-some c.newest (sym none))
 
 -- what a session's invariant says of any shop of its image
-module _ (img now : Image) (dead : Bool) (top tills : ℕ) (state : State) (same : now ≡ img)
-    (v : IsStanding img dead top tills state) where
+module _ (img now : Image) (dead : Bool) (l : Ledger) (same : now ≡ img) (v : IsStanding img dead l) where
   standing-one : (s : Shop) → IsShop now s → v.shop ≡ s
   standing-one s h = let P : Image → Type 0 = λ i. IsShop i s in IsShop-one img v.shop s v.is_shop (subst P same h)
 
-  pub standing-top : (s : Shop) → IsShop now s → top ≡ s.top
+  pub standing-top : (s : Shop) → IsShop now s → l.top ≡ s.top
   standing-top s h = v.top_is ∙ ap (λ (t : Shop). t.top) (standing-one s h)
 
-  pub standing-tills : (s : Shop) → IsShop now s → tills ≡ s.tills
+  pub standing-tills : (s : Shop) → IsShop now s → l.tills ≡ s.tills
   standing-tills s h = v.tills_is ∙ ap (λ (t : Shop). t.tills) (standing-one s h)
 
   pub standing-settled : dead ≡ false → (s : Shop) → IsShop now s → IsSettled now s
@@ -77,5 +77,5 @@ module _ (img now : Image) (dead : Bool) (top tills : ℕ) (state : State) (same
       let Q : Image → Type 0 = λ i. IsSettled i s in
       subst Q (sym same) (subst P (standing-one s h) (v.settled alive))
 
-  pub standing-state : dead ≡ false → (s : Shop) → IsShop now s → state ≡ s.state
+  pub standing-state : dead ≡ false → (s : Shop) → IsShop now s → held_by l ≡ s.state
   standing-state alive s h = v.state_is alive ∙ ap (λ (t : Shop). t.state) (standing-one s h)

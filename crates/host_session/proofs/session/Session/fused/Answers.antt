@@ -2,7 +2,7 @@
 use Rattle.std.proofs.Common.{◌≡◌, ◌∙◌, ap, subst, sym}
 use Rattle.d64_image.specs.Fuses.{fuse_disk}
 use Rattle.disk_layout.specs.Clean.{IsClean}
-use Rattle.host_session.specs.session.Standing.{IsStanding, state_in}
+use Rattle.host_session.specs.session.Standing.{IsStanding}
 use Rattle.host_session.proofs.session.Session.fused.Goals as goal
 
 pub invariant_of-result : goal.invariant_of-result
@@ -11,7 +11,7 @@ invariant_of-result g c =
     let s = c.self.inside in
     let same : fuse_disk c.power_on.result.disk ≡ s.drive.disk = ap fuse_disk c.power_on.ensures.disk
     ∙ c.new.ensures.disk ∙ c.into_disk.ensures in (
-      subst (λ d. IsStanding (h.image d) s.dead s.top s.tills (state_in s.cards s.requests)) (sym same)
+      subst (λ d. IsStanding (h.image d) s.dead s.ledger) (sym same)
           c.self.invariant.0,
       λ alive. record {
         alive = c.power_on.ensures.alive;

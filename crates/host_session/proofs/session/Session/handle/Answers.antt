@@ -22,7 +22,7 @@ returns-in_default g c =
       dead = λ _. (ap media (sym none), refl);
       quiet = λ s h alive other. (ap (reply_in (start_of s) s.state) (sym none), refl);
       reply = λ s h alive other. no-request _ s _ _ none
-          (standing-settled _ _ _ _ _ _ (sym (ap (λ (v : View _). S.image v.disk) c.self.view_is))
+          (standing-settled _ _ _ _ (sym (ap (λ (v : View _). S.image v.disk) c.self.view_is))
           c.self.invariant.0 (ap (λ (v : View _). v.dead) c.self.view_is ∙ alive) s h) alive;
       moments = λ s h. no-moments S c.args.self.now.disk s _ h;
       writes = λ f h. omega arith;

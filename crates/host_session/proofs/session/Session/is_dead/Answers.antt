@@ -5,5 +5,5 @@ use Rattle.host_session.proofs.session.Session.is_dead.Goals as goal
 
 pub returns-clause-settled : goal.returns-clause-settled
 returns-clause-settled g c =
-    standing-settled _ _ _ _ _ _ (sym (ap (λ (v : View _). g.D.Sectors.history.image v.disk) c.self.view_is))
+    standing-settled _ _ _ _ (sym (ap (λ (v : View _). g.D.Sectors.history.image v.disk) c.self.view_is))
     c.self.invariant.0

@@ -4,5 +4,5 @@ use Rattle.host_session.proofs.lemmas.shop.Shops.{standing-top}
 use Rattle.host_session.proofs.session.Session.top.Goals as goal
 
 pub returns : goal.returns
-returns g c = standing-top _ _ _ _ _ _ (sym (ap (λ (v : View _). g.D.Sectors.history.image v.disk) c.self.view_is))
+returns g c = standing-top _ _ _ _ (sym (ap (λ (v : View _). g.D.Sectors.history.image v.disk) c.self.view_is))
     c.self.invariant.0

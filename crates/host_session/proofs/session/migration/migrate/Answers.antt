@@ -8,7 +8,7 @@ use Rattle.d64_image.specs.History.{TellsFailure}
 use Rattle.drive_channels.specs.declared.faults.Dead.{Dead}
 use Rattle.host_session.specs.session.Settling.{HasNewTable}
 use Rattle.host_session.specs.shop.Shop.{IsShop, is_old}
-use Rattle.host_session.specs.session.Standing.{nth}
+use Rattle.request_cards.specs.Tables.{nth}
 use Rattle.host_session.proofs.lemmas.opening.AtRest.{table-start}
 use Rattle.host_session.proofs.lemmas.opening.Migrated.{table-none_old}
 use Rattle.host_session.proofs.session.migration.migrate.Goals as goal

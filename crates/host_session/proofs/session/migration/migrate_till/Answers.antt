@@ -5,7 +5,7 @@ use Rattle.std.proofs.Common.{ap, arith, sym, subst, ◌+◌, ◌-◌, ◌<◌, 
 use Rattle.std.proofs.lemmas.Bool.{false≢true}
 use Rattle.request_cards.specs.CardTexts.{card_text}
 use Rattle.host_session.specs.session.Settling.{HasNewTable}
-use Rattle.host_session.specs.session.Standing.{nth}
+use Rattle.request_cards.specs.Tables.{nth}
 use Rattle.host_session.proofs.lemmas.opening.AtRest.{card-at, old-is}
 use Rattle.host_session.proofs.lemmas.opening.Migrated.{renewed-moments, renewed-ok, renewed-there}
 use Rattle.host_session.proofs.lemmas.opening.Tills.{place-down, place-high, place-up}

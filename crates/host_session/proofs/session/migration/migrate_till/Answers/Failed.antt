@@ -2,7 +2,7 @@
 use Rattle.std.proofs.Common.{ap, sym, subst, ◌-◌, ◌∙◌, refl}
 use Rattle.request_cards.specs.CardTexts.{card_text}
 use Rattle.host_session.specs.session.Settling.{HasNewTable}
-use Rattle.host_session.specs.session.Standing.{nth}
+use Rattle.request_cards.specs.Tables.{nth}
 use Rattle.host_session.proofs.lemmas.opening.AtRest.{card-at, old-is}
 use Rattle.host_session.proofs.lemmas.opening.Migrated.{renewed-moments}
 use Rattle.std.proofs.lemmas.Result.{err_from_is_err_and}

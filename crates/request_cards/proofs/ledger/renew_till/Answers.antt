@@ -1,8 +1,8 @@
 use Rattle.std.proofs.Common.{arith, ap, ◌-◌, ◌∙◌, set, ℕ}
 use Rattle.std.specs.Prelude.{Some}
-use Rattle.host_session.specs.session.Standing.{nth}
-use Rattle.host_session.proofs.lemmas.session.Decisions.{nth-set}
-use Rattle.host_session.proofs.session.decisions.renew_till.Goals as goal
+use Rattle.request_cards.specs.Tables.{nth}
+use Rattle.request_cards.proofs.Tables.{nth-set}
+use Rattle.request_cards.proofs.ledger.renew_till.Goals as goal
 
 pub returns : goal.returns
 returns c =
