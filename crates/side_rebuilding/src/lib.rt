@@ -9,8 +9,6 @@ mod readable;
 mod rebuilding;
 mod sectors;
 mod taken;
-#[cfg(test)]
-mod tests;
 mod writing;
 
 pub use planning::Shortened;
