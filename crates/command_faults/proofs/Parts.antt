@@ -10,6 +10,11 @@ use Rattle.command_faults.specs.Outputs.{HandsOn, HandsPart}
 pub part-none : (a : Option (List ℕ)) (bytes : List ℕ) → HandsPart a a bytes
 part-none a bytes = ([], bytes, Appends-nil a, refl)
 
+pub part-same : {W : Type 0} (contents : W → Option (List ℕ)) (old new : W) (bytes : List ℕ) → new ≡ old
+    → HandsPart (contents old) (contents new) bytes
+part-same {W} contents old new bytes same =
+    subst (λ (w : W). HandsPart (contents old) (contents w) bytes) (sym same) (part-none (contents old) bytes)
+
 pub part-all : (a b : Option (List ℕ)) (bytes : List ℕ) → Appends a b bytes → HandsPart a b bytes
 part-all a b bytes whole = (bytes, [], whole, sym (append-nil bytes))
 

@@ -15,16 +15,18 @@ use Rattle.keeper_commands.specs.Bytes.{HasFile, HasNoFile, file_bytes}
 use Rattle.command_faults.specs.Faults.{IsLoadFault}
 use Rattle.keeper_commands.specs.Faults.{keep_ended, keep_none}
 use Rattle.keeper_commands.specs.Found.{HasNone, IsFirstAsked, IsHad, unclosed}
-use Rattle.keeper_commands.specs.Printed.{IsFileFault, IsUnclosedPart}
-use Rattle.keeper_commands.specs.Forms.{records_as}
+use Rattle.keeper_commands.specs.Printed.{IsBytesPart, IsFileFault, IsUnclosedPart}
+use Rattle.keeper_commands.specs.Forms.{bytes_as, records_as}
 use Rattle.keeper_commands.specs.Records.{records_of}
 use Rattle.command_faults.specs.Outputs.{HandsPart}
 use Rattle.disk_layout.specs.Layout.{record_length}
 use Rattle.command_faults.specs.declared.faults.CommandFault.{CommandFault}
 use Rattle.command_faults.specs.declared.faults.CommandFault.TheVariants as faults
+use Rattle.keeper_commands.specs.declared.finding.Candidates.{Candidates}
 use Rattle.keeper_commands.specs.declared.finding.Candidates.TheVariants.{All}
 use Rattle.keeper_commands.specs.declared.finding.Kind.{Kind}
-use Rattle.keeper_commands.specs.declared.finding.Kind.TheVariants.{Records}
+use Rattle.keeper_commands.specs.declared.finding.Kind.TheVariants.{Any, Records}
+use Rattle.keeper_commands.specs.declared.forms.ByteForm.{ByteForm}
 use Rattle.keeper_commands.specs.declared.forms.RecordForm.{RecordForm}
 use Rattle.rel_records.proofs.lemmas.reading.Found.{same-slot}
 use Rattle.command_faults.proofs.Loads.{by-load}
@@ -111,6 +113,21 @@ module _ {W : Type 0} (image : List ℕ) (kind : Kind) (name : List ℕ) (Printe
       subst (λ (w : CommandFault). IsFileFault image kind name Printed old new w) (sym is) (fault, file)
   put-stopped new fault file why (inr (is, same)) =
       subst (λ (w : CommandFault). IsFileFault image kind name Printed old new w) (sym is) (file.size, same)
+
+-- what was printed of the bytes of a file
+pub bytes-part : {W : Type 0} (contents : W → Option (List ℕ)) (form : ByteForm) (candidates : Candidates)
+    (image name : List ℕ) (old new : W) (fault : Option Fault) (file : HasFile image (Any candidates) name fault)
+    (now : Image) → now ≡ sectors_in image → (ps : List Place) → ps ≡ file.blocks
+    → HandsPart (contents old) (contents new) (bytes_as form (file_bytes now ps file.last))
+    → IsBytesPart contents form candidates image name old new
+bytes-part contents form candidates image name old new fault file now same ps are part = inr (
+  fault,
+  file,
+  subst (λ (i : Image). HandsPart (contents old) (contents new) (bytes_as form (file_bytes i file.blocks file.last)))
+      same
+      (subst (λ (xs : List Place). HandsPart (contents old) (contents new)
+      (bytes_as form (file_bytes now xs file.last))) are part),
+)
 
 -- what was printed of the records among the bytes of a file
 pub unclosed-part : {W : Type 0} (contents : W → Option (List ℕ)) (form : RecordForm) (image name : List ℕ) (old new : W)

@@ -83,6 +83,13 @@ pub record AreBytesPrinted {W : Type 0} (contents : W → Option (List ℕ)) (fo
   pub printed : Appends (contents old) (contents new)
       (bytes_as form (file_bytes (sectors_in image) file.blocks file.last))
 
+-- what was printed of bytes that aren't all printed: nothing, or a beginning of those that can be reached
+abbrev pub IsBytesPart : {W : Type 0} → (W → Option (List ℕ)) → ByteForm → Candidates → (image name : List ℕ) → W → W
+    → Type 0
+IsBytesPart contents form candidates image name old new = (new ≡ old)
+    ⊎ ((fault : Option Fault) × (file : HasFile image (Any candidates) name fault)
+    × HandsPart (contents old) (contents new) (bytes_as form (file_bytes (sectors_in image) file.blocks file.last)))
+
 -- the records among the bytes that can be reached of the first file of that name that has records, closed or not, and
 -- nothing else, were; and this fault is in the way of more, or none is
 pub record AreUnclosedPrinted {W : Type 0} (contents : W → Option (List ℕ)) (form : RecordForm) (image name : List ℕ)

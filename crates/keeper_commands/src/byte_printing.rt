@@ -1,7 +1,7 @@
 //! The bytes of a file of any type, as they are printed.
-ghost use Rattle.std.specs.Prelude.{◌≡◌, IfErr, None, OnOk};
+ghost use Rattle.std.specs.Prelude.{◌≡◌, IfErr, None, OnErr, OnOk};
 ghost use Rattle.keeper_commands.specs.Faults.{keep_ended, keep_none};
-ghost use Rattle.keeper_commands.specs.Printed.{AreBytesPrinted, IsBytesFault};
+ghost use Rattle.keeper_commands.specs.Printed.{AreBytesPrinted, IsBytesFault, IsBytesPart};
 
 use crate::chains::put_file;
 use crate::finding::{Candidates, Kind, find_file};
@@ -42,7 +42,8 @@ pub(crate) fn no_file(ended: Option<Fault>) -> CommandFault
 /// too; `Unclosed` at the entry's directory sector. Nothing else is checked.
 ///
 /// Nothing was printed after `ImageSize`, `NoMemory`, and `NoFile` if no candidate has the name; nor after `Layout` if
-/// none has it in a directory that ends early. After `File` the output failed, which may have a part.
+/// none has it in a directory that ends early. After `File` the output failed: it has a first part of the bytes in this
+/// form.
 pub fn bytes_image<W: Write>(
     alloc: Global,
     image: &[u8],
@@ -53,6 +54,7 @@ pub fn bytes_image<W: Write>(
 ) -> Result<(), CommandFault>
     ensures ok { OnOk result (AreBytesPrinted W.contents form candidates image.now name.now out.old out.new None) }
     ensures err { IfErr result (IsBytesFault W.contents form candidates image.now name.now out.old out.new) }
+    ensures part { OnErr result (IsBytesPart W.contents form candidates image.now name.now out.old out.new) }
 {
     let mut disk = load(alloc, image)?;
     let mut blocks = ArrayVec::new();

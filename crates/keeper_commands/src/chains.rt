@@ -1,6 +1,7 @@
 //! The blocks of a file, and their bytes as they are printed.
-ghost use Rattle.std.specs.Prelude.{◌≡◌, ◌≤◌, ◌-◌, IfErr, IfOk, OnOk, drop, length, max, take};
+ghost use Rattle.std.specs.Prelude.{◌≡◌, ◌≤◌, ◌-◌, IfErr, IfOk, OnErr, OnOk, drop, length, max, take};
 ghost use Rattle.std.specs.Io.KnownBytes.{Appends};
+ghost use Rattle.command_faults.specs.Outputs.{HandsPart};
 ghost use Rattle.d64_image.specs.Images.{sector};
 ghost use Rattle.d64_image.specs.Memory.{disk_image};
 ghost use Rattle.disk_layout.specs.Records.{joined};
@@ -10,26 +11,41 @@ ghost use Rattle.command_faults.specs.declared.faults.CommandFault.TheVariants a
 ghost use Rattle.keeper_commands.specs.declared.forms.ByteForm.TheVariants as forms;
 
 use crate::forms::ByteForm;
+use arrayvec::ArrayVec;
 use command_faults::{CommandFault, put};
 use d64_image::{MemDisk, Place, Sectors};
 use petscii_text::{CharacterSet, Readable};
 use std::alloc::Global;
-use std::io::Write;
+use std::io::{self, Write};
 
-/// Prints bytes as text that people read. `File` if the output failed.
-fn put_text<W: Write>(out: &mut W, set: CharacterSet, bytes: &[u8]) -> Result<(), CommandFault>
-    ensures ok { OnOk result (Appends (W.contents out.old) (W.contents out.new) (bytes_as (forms.Text set) bytes.now)) }
-    ensures err { IfErr result (λ fault. fault ≡ faults.File) }
+/// Writes bytes as text that people read.
+fn write_text<W: Write>(out: &mut W, set: CharacterSet, bytes: &[u8]) -> io::Result<()>
+    ensures { OnOk result (Appends (W.contents out.old) (W.contents out.new) (bytes_as (forms.Text set) bytes.now)) }
 {
-    if write!(out, "{}", Readable { set, bytes }).is_err() {
-        return Err(CommandFault::File);
-    }
-    Ok(())
+    write!(out, "{}", Readable { set, bytes })
 }
 
-/// Prints bytes in this form. `File` if the output failed.
+/// Room for the text of a block: its 254 bytes have four bytes each at most.
+const TEXT: usize = 1024;
+
+/// Prints the bytes of a block as text that people read. `File` if the output failed: then it has a first part of it.
+fn put_text<W: Write>(out: &mut W, set: CharacterSet, bytes: &[u8]) -> Result<(), CommandFault>
+    ensures ok { OnOk result (Appends (W.contents out.old) (W.contents out.new) (bytes_as (forms.Text set) bytes.now)) }
+    ensures part { OnErr result (HandsPart (W.contents out.old) (W.contents out.new)
+        (bytes_as (forms.Text set) bytes.now)) }
+    ensures err { IfErr result (λ fault. fault ≡ faults.File) }
+{
+    let mut text: ArrayVec<u8, TEXT> = ArrayVec::new();
+    if write_text(&mut text, set, bytes).is_err() {
+        return Err(CommandFault::File);
+    }
+    put(out, text.as_slice())
+}
+
+/// Prints the bytes of a block in this form. `File` if the output failed: then it has a first part of what is printed.
 fn put_as<W: Write>(out: &mut W, form: ByteForm, bytes: &[u8]) -> Result<(), CommandFault>
     ensures ok { OnOk result (Appends (W.contents out.old) (W.contents out.new) (bytes_as form bytes.now)) }
+    ensures part { OnErr result (HandsPart (W.contents out.old) (W.contents out.new) (bytes_as form bytes.now)) }
     ensures err { IfErr result (λ fault. fault ≡ faults.File) }
 {
     match form {
@@ -47,6 +63,8 @@ fn put_block<W: Write>(
     form: ByteForm,
 ) -> Result<(), CommandFault>
     ensures ok { OnOk result (Appends (W.contents out.old) (W.contents out.new)
+        (bytes_as form (take (max last 1 - 1) (drop 2 (sector (disk_image disk.old) place))))) }
+    ensures part { OnErr result (HandsPart (W.contents out.old) (W.contents out.new)
         (bytes_as form (take (max last 1 - 1) (drop 2 (sector (disk_image disk.old) place))))) }
     ensures same { disk_image disk.new ≡ disk_image disk.old }
     ensures err { IfErr result (λ fault. fault ≡ faults.File) }
@@ -66,6 +84,8 @@ fn put_blocks<W: Write>(
 ) -> Result<(), CommandFault>
     ensures ok { OnOk result (Appends (W.contents out.old) (W.contents out.new)
         (bytes_as form (joined (disk_image disk.old) places.now))) }
+    ensures part { OnErr result (HandsPart (W.contents out.old) (W.contents out.new)
+        (bytes_as form (joined (disk_image disk.old) places.now))) }
     ensures same { disk_image disk.new ≡ disk_image disk.old }
     ensures err { IfErr result (λ fault. fault ≡ faults.File) }
 {
@@ -76,7 +96,7 @@ fn put_blocks<W: Write>(
 }
 
 /// Prints the bytes of a file with these blocks, up to the index `last` of the last one, in this form: of each but the last
-/// one 254. `File` if the output failed, which may then have a part.
+/// one 254. `File` if the output failed: then it has a first part of what is printed.
 pub fn put_file<W: Write>(
     out: &mut W,
     disk: &mut MemDisk,
@@ -85,6 +105,8 @@ pub fn put_file<W: Write>(
     form: ByteForm,
 ) -> Result<(), CommandFault>
     ensures ok { OnOk result (Appends (W.contents out.old) (W.contents out.new)
+        (bytes_as form (file_bytes (disk_image disk.old) blocks.now last))) }
+    ensures part { OnErr result (HandsPart (W.contents out.old) (W.contents out.new)
         (bytes_as form (file_bytes (disk_image disk.old) blocks.now last))) }
     ensures same { disk_image disk.new ≡ disk_image disk.old }
     ensures err { IfErr result (λ fault. fault ≡ faults.File) }

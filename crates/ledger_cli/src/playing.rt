@@ -1,5 +1,5 @@
 //! Scripts played on the shop of an image, whose replies go to any writer.
-ghost use Rattle.std.specs.Prelude.{◌≡◌, ◌≢◌, IfErr, IfOk};
+ghost use Rattle.std.specs.Prelude.{◌≡◌, ◌≢◌, IfErr, OnOk};
 ghost use Rattle.d64_image.specs.Keeps.{Agrees};
 ghost use Rattle.d64_image.specs.Memory.{sectors_in};
 ghost use Rattle.host_session.specs.events.Telling.{TellsNone};
@@ -9,11 +9,11 @@ ghost use Rattle.shop_commands.specs.Faults.{script_fault};
 ghost use Rattle.shop_commands.specs.Plays.{IsFileFault, IsPlayEnd, IsPlayedFile};
 ghost use Rattle.ledger_jobs.specs.Runs.{IsPlayRun};
 
-use command_faults::{CommandFault, load};
+use command_faults::{CommandFault, file_of, load};
 use d64_image::{KeptMirror, SectorFile, Sectors};
 use disk_layout::Fault;
 use host_session::{ScriptFault, run_script};
-use shop_commands::{file_of, of_script};
+use shop_commands::of_script;
 use std::alloc::Global;
 use std::io::{self, Write};
 
@@ -63,16 +63,16 @@ fn play_over<F: SectorFile, W: Write>(
     script: &[u8],
     file: F,
     out: &mut W,
-) -> Result<F, (CommandFault, F)>
+) -> (F, Result<(), CommandFault>)
     requires agrees { Agrees (F.keeps.kept file) (sectors_in image.now) }
-    ensures ok { IfOk result
-        (λ after. IsPlayedFile F.keeps (written W.contents) image.now script.now file after out.old out.new) }
-    ensures err { IfErr result
-        (λ e. IsFileFault F.keeps (written W.contents) image.now script.now file e.1 out.old out.new e.0) }
+    ensures ok { OnOk result.1
+        (IsPlayedFile F.keeps (written W.contents) image.now script.now file result.0 out.old out.new) }
+    ensures err { IfErr result.1
+        (IsFileFault F.keeps (written W.contents) image.now script.now file result.0 out.old out.new) }
 {
     let disk = match load(alloc, image) {
         Ok(disk) => disk,
-        Err(fault) => return Err((fault, file)),
+        Err(fault) => return (file, Err(fault)),
     };
     match play_lines(KeptMirror::new(file, disk), script, out) {
         Ok(mirror) => file_of(mirror, Ok(())),
@@ -94,8 +94,9 @@ pub(crate) fn play_written<F: SectorFile, W: Write>(
     ensures run { IsPlayRun F.keeps (written W.contents) image.now script.now file result.0 out.old out.new result.1 }
     ensures reached { (s : Shop) → IsShop (sectors_in image.now) s → F.keeps.reached file result.0 }
 {
-    match play_over(alloc, image, script, file, out) {
-        Ok(file) => (file, Ok(None)),
-        Err((fault, file)) => (file, Err(fault)),
+    let (left, end) = play_over(alloc, image, script, file, out);
+    match end {
+        Ok(()) => (left, Ok(None)),
+        Err(fault) => (left, Err(fault)),
     }
 }

@@ -28,15 +28,15 @@ module _ {F W : Type 0} (contents : W → Option (List ℕ)) (file after : F) (o
   make-told : (K : Keeps F) (image name : List ℕ) (L : ℕ) (ended : Result Unit CommandFault)
       → IsMakeOver K contents image name L file after old new ended
       → IsChangeTold contents (codes "MADE\n") old new ended
-  make-told K image name L (Ok _) run = (run.done refl).1.ends.printed
-  make-told K image name L (Err faults.ImageSize) run = run.fault.1.1
-  make-told K image name L (Err faults.NoMemory) run = run.fault.1.1
-  make-told K image name L (Err (faults.Layout fault)) run = run.fault.2.1
-  make-told K image name L (Err faults.FileExists) run = run.fault.untouched.1
-  make-told K image name L (Err faults.DiskFull) run = run.fault.untouched.1
+  make-told K image name L (Ok _) run = run.1.ends.printed
+  make-told K image name L (Err faults.ImageSize) run = run.1.1
+  make-told K image name L (Err faults.NoMemory) run = run.1.1
+  make-told K image name L (Err (faults.Layout fault)) run = run.2.1
+  make-told K image name L (Err faults.FileExists) run = run.untouched.1
+  make-told K image name L (Err faults.DiskFull) run = run.untouched.1
   make-told K image name L (Err faults.File) run = tt
-  make-told K image name L (Err faults.Device) run = run.fault.2
-  make-told K image name L (Err _) run = absurd run.fault
+  make-told K image name L (Err faults.Device) run = run.2
+  make-told K image name L (Err _) run = absurd run
 
   rename-told : (K : Keeps F) (image from to : List ℕ) (ended : Result Unit CommandFault)
       → IsRenameOver K contents image from to file after old new ended
@@ -140,7 +140,7 @@ module _ {F W : Type 0} (contents : W → Option (List ℕ)) (file after : F) (o
   pub repair-told : (free : Bool) (K : Keeps F) (image : List ℕ) (ended : Result ℕ CommandFault)
       → IsRepairOver free K contents image file after old new ended → IsRepairTold free contents image old new ended
   repair-told free K image (Ok n) run =
-      let taken = run.done.1 in (
+      let taken = run.1 in (
         taken.size,
         (
           taken.left.image,
@@ -149,14 +149,14 @@ module _ {F W : Type 0} (contents : W → Option (List ℕ)) (file after : F) (o
               taken.ends.printed,
         ),
       )
-  repair-told free K image (Err faults.ImageSize) run = run.fault.1.1
-  repair-told free K image (Err faults.NoMemory) run = run.fault.1.1
-  repair-told free K image (Err faults.Geos) run = run.fault.2.1
-  repair-told free K image (Err faults.Format) run = run.fault.2.1
-  repair-told free K image (Err (faults.Layout fault)) run = run.fault.2.1
+  repair-told free K image (Err faults.ImageSize) run = run.1.1
+  repair-told free K image (Err faults.NoMemory) run = run.1.1
+  repair-told free K image (Err faults.Geos) run = run.2.1
+  repair-told free K image (Err faults.Format) run = run.2.1
+  repair-told free K image (Err (faults.Layout fault)) run = run.2.1
   repair-told free K image (Err faults.File) run = tt
   repair-told free K image (Err faults.Device) run = tt
-  repair-told free K image (Err _) run = absurd run.fault
+  repair-told free K image (Err _) run = absurd run
 
   -- so is what its job printed
   pub guarded-repair : (image : List ℕ) (loss : Loss) (Run Told : Result ℕ CommandFault → Type 0)
@@ -171,15 +171,15 @@ module _ {F W : Type 0} (contents : W → Option (List ℕ)) (file after : F) (o
   store-quiet : (K : Keeps F) (image name text : List ℕ) (ended : Result Unit CommandFault)
       → IsStoreOver K contents image name text file after old new ended → IsQuietEnd old new (as_run ended)
   store-quiet K image name text (Ok _) run = tt
-  store-quiet K image name text (Err faults.ImageSize) run = λ _ _. run.fault.1.1
-  store-quiet K image name text (Err faults.NoMemory) run = λ _ _. run.fault.1.1
-  store-quiet K image name text (Err (faults.Layout fault)) run = λ _ _. run.fault.2.1
-  store-quiet K image name text (Err faults.NoFile) run = λ _ _. run.fault.untouched.1
-  store-quiet K image name text (Err (faults.RecordsLine k)) run = λ _ _. run.fault.untouched.1
-  store-quiet K image name text (Err faults.DiskFull) run = λ _ _. run.fault.untouched.1
+  store-quiet K image name text (Err faults.ImageSize) run = λ _ _. run.1.1
+  store-quiet K image name text (Err faults.NoMemory) run = λ _ _. run.1.1
+  store-quiet K image name text (Err (faults.Layout fault)) run = λ _ _. run.2.1
+  store-quiet K image name text (Err faults.NoFile) run = λ _ _. run.untouched.1
+  store-quiet K image name text (Err (faults.RecordsLine k)) run = λ _ _. run.untouched.1
+  store-quiet K image name text (Err faults.DiskFull) run = λ _ _. run.untouched.1
   store-quiet K image name text (Err faults.File) run = λ other _. absurd (other refl)
   store-quiet K image name text (Err faults.Device) run = λ _ other. absurd (other refl)
-  store-quiet K image name text (Err _) run = absurd run.fault
+  store-quiet K image name text (Err _) run = absurd run
 
   pub guarded-store : (K : Keeps F) (image name text : List ℕ) (loss : Loss) (end : JobEnd)
       → IsGuarded image loss (IsUntouched file after old new)

@@ -16,9 +16,10 @@ use Rattle.d64_image.specs.declared.sector_file.SectorFile.{Ghosts}
 use Rattle.disk_layout.specs.Layout.{Layout}
 use Rattle.file_changes.specs.Deletes.{HasLost}
 use Rattle.ledger_jobs.proofs.EditOver.{clean-refused}
-use Rattle.ledger_jobs.proofs.OverFiles.{broken_file, changes_of_file, handed-back, not_broken, not_failed}
+use Rattle.ledger_jobs.proofs.OverFiles.{broken_file, changes_of_file, not_broken, not_failed}
 use Rattle.ledger_jobs.proofs.OverFiles.{same_failures, taken_up, whole_file}
 use Rattle.ledger_jobs.specs.Edited.{IsDeleteOver}
+use Rattle.command_faults.proofs.HandedBack.{handed-back}
 use Rattle.command_faults.proofs.Loads.{by-load}
 
 module _ {F W : Type 0} (K : Keeps F) (contents : W → Option (List ℕ)) (image name : List ℕ) where

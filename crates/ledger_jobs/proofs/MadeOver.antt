@@ -1,6 +1,6 @@
 -- What comes of making a relative file over the file of a mirror, from that over the mirror and whether it is broken.
-use Rattle.std.proofs.Common.{◌≡◌, ◌<◌, ◌⊎◌, ℕ, List, Option, Result, Ok, Err, ap, arith, inl, length, refl, subst}
-use Rattle.std.specs.Prelude.{IfErr, OnOk}
+use Rattle.std.proofs.Common.{◌≡◌, ◌<◌, ◌⊎◌, ℕ, List, Option, Result, Ok, Err, ap, arith, inl, inr, length, refl, subst}
+use Rattle.std.specs.Prelude.{IfErr, OnErr, OnOk, codes}
 use Rattle.d64_image.proofs.FileRuns.{file_disk}
 use Rattle.d64_image.proofs.Moments.{changes_weaker, no_write_change}
 use Rattle.d64_image.specs.FileDisks.{in_run}
@@ -11,17 +11,18 @@ use Rattle.d64_image.specs.declared.kept_mirror.KeptMirror.{KeptMirror}
 use Rattle.d64_image.specs.declared.sector_file.SectorFile.{Ghosts}
 use Rattle.disk_layout.specs.Layout.{Layout}
 use Rattle.command_faults.specs.Faults.{IsLoadFault}
-use Rattle.keeper_commands.specs.Makes.{IsMadeDisk, IsMakeDone, IsMakeFault, IsMakeRun}
+use Rattle.keeper_commands.specs.Makes.{IsMadeDisk, IsMakeDone, IsMakeFault, IsMakePart, IsMakeRun}
 use Rattle.keeper_commands.specs.Refusals.{IsLeft}
 use Rattle.command_faults.specs.declared.faults.CommandFault.{CommandFault}
 use Rattle.command_faults.specs.declared.faults.CommandFault.TheVariants as faults
-use Rattle.shop_commands.specs.Plays.{IsUntouched}
-use Rattle.ledger_jobs.proofs.KeptOver.{is-done, is-refused, is-stopped}
-use Rattle.ledger_jobs.proofs.OverFiles.{broken_file, changes_of_file, handed-back, not_broken, not_failed}
+use Rattle.ledger_jobs.proofs.OverFiles.{broken_file, changes_of_file, not_broken, not_failed}
 use Rattle.ledger_jobs.proofs.OverFiles.{refused_of_file, same_failures, taken_up, whole_file}
-use Rattle.ledger_jobs.specs.Kept.{IsMadeFault, IsMadeFile, IsMakeOver}
+use Rattle.ledger_jobs.specs.Kept.{IsMakeOver}
 use Rattle.rel_records.specs.creation.Made.{HasNoRoom, IsCreating, IsTakenName, creation_writes}
+use Rattle.command_faults.proofs.HandedBack.{handed-back}
 use Rattle.command_faults.proofs.Loads.{by-load}
+use Rattle.command_faults.proofs.Parts.{part-same}
+use Rattle.command_faults.specs.Outputs.{HandsPart}
 
 -- a creation writes five sectors at most
 few_writes : (l : Layout) → creation_writes l < 1000
@@ -32,10 +33,7 @@ module _ {F W : Type 0} (K : Keeps F) (contents : W → Option (List ℕ)) (imag
   pub make-not-loaded : (file : F) (old : W) (fault : CommandFault) → IsLoadFault image fault
       → IsMakeOver K contents image name L file file old old (Err fault)
   make-not-loaded file old = by-load image (λ fault. IsMakeOver K contents image name L file file old old (Err fault))
-      (λ told. is-refused image file file old old _ (IsMadeFault K image name L file file old old) faults.ImageSize refl
-      (told, (refl, refl)) (refl, refl))
-      (λ told. is-stopped image file file old old _ (IsMadeFault K image name L file file old old) faults.NoMemory refl told
-      (told, (refl, refl)))
+      (λ told. (told, (refl, refl))) (λ told. (told, (refl, refl)))
 
 module _ {F : Type 0} {G : Ghosts F} (start : KeptMirror F G) (sound : is_broken start → ⊥) (untaken : start.taken.n ≡ 0)
     (b : KeptMirror F G)
@@ -62,58 +60,52 @@ module _ {F : Type 0} {G : Ghosts F} (start : KeptMirror F G) (sound : is_broken
   module _ {W : Type 0} (contents : W → Option (List ℕ)) (size : length image ≡ 174848)
       (holds : mirror_image start ≡ sectors_in image)
       (old new : W) where
-    abbrev Made : Type 0
-    Made = IsMadeFile G.keeps contents image name L start.file b.file old new
-
-    abbrev Fault : CommandFault → Type 0
-    Fault = IsMadeFault G.keeps image name L start.file b.file old new
+    -- what was printed of a file that is made
+    made-part : IsMakePart mirror contents image name L start b old new
+        → HandsPart (contents old) (contents new) (codes "MADE\n")
+    made-part (inl same) = part-same contents old new _ same
+    made-part (inr (is, part)) = part
 
     -- the file didn't fail
     whole-ended : (is_broken b → ⊥) → (r : Result Unit CommandFault)
         → OnOk r (IsMakeDone mirror contents image name L start b old new)
         → IfErr r (IsMakeFault mirror image name L start b old new)
+        → OnErr r (IsMakePart mirror contents image name L start b old new)
         → IsMakeOver G.keeps contents image name L start.file b.file old new r
-    whole-ended whole (Ok x) ok err = is-done image start.file b.file old new Made Fault size (
+    whole-ended whole (Ok x) ok err part = (
       whole_file start sound untaken b ok.disk.run.moments.held whole,
       taken_up start sound untaken b image size holds (record {
         disk = made_of_file whole ok.disk;
-        printed =
-            ok.printed;
+        printed = ok.printed;
       }),
     )
-    whole-ended whole (Err faults.Geos) ok err = absurd err
-    whole-ended whole (Err faults.Format) ok err = absurd err
-    whole-ended whole (Err faults.ImageSize) ok err = absurd (err.0 size)
-    whole-ended whole (Err faults.NoMemory) ok err = is-stopped image start.file b.file old new Made Fault faults.NoMemory
-        refl size
-        (size, (ap (λ (m : KeptMirror F G). m.file) err.1, err.2))
-    whole-ended whole (Err (faults.Layout fault)) ok err =
-        let same : IsUntouched start.file b.file old new = (ap (λ (m : KeptMirror F G). m.file) err.2, err.3) in
-        is-refused image start.file b.file old new Made Fault (faults.Layout fault) refl (size, err.1, same) same
-    whole-ended whole (Err faults.FileExists) ok err =
-        let x = refused_of_file start sound untaken b image size holds old new _ (λ l. IsTakenName l name) (λ l w. w)
-        whole err in
-        is-refused image start.file b.file old new Made Fault faults.FileExists refl x x.untouched
-    whole-ended whole (Err faults.DiskFull) ok err =
-        let x = refused_of_file start sound untaken b image size holds old new _ (λ l. HasNoRoom (sectors_in image) l
-        × ¬ (IsTakenName l name))
-        (λ l w. (subst (λ img. HasNoRoom img l) holds w.0, w.1)) whole err in
-        is-refused image start.file b.file old new Made Fault faults.DiskFull refl x x.untouched
-    whole-ended whole (Err faults.File) ok err =
-        is-stopped image start.file b.file old new Made Fault faults.File refl size (
-          whole_file start sound untaken b err.run.moments.held whole,
-          taken_up start sound untaken b image size holds (made_of_file whole err),
-        )
-    whole-ended whole (Err faults.Device) ok err = absurd (not_failed start sound untaken b whole err.1)
-    whole-ended whole (Err faults.NoFile) ok err = absurd err
-    whole-ended whole (Err (faults.RecordsLine line)) ok err = absurd err
-    whole-ended whole (Err faults.Locked) ok err = absurd err
-    whole-ended whole (Err faults.NoStock) ok err = absurd err
-    whole-ended whole (Err faults.NoRequests) ok err = absurd err
-    whole-ended whole (Err (faults.BadCard item)) ok err = absurd err
-    whole-ended whole (Err (faults.BadRequestCard till)) ok err = absurd err
-    whole-ended whole (Err faults.TwoIntents) ok err = absurd err
-    whole-ended whole (Err (faults.ScriptLine line)) ok err = absurd err
+    whole-ended whole (Err faults.ImageSize) ok err part = absurd (err.0 size)
+    whole-ended whole (Err faults.NoMemory) ok err part = (size, (ap (λ (m : KeptMirror F G). m.file) err.1, err.2))
+    whole-ended whole (Err (faults.Layout fault)) ok err part =
+        (size, err.1, (ap (λ (m : KeptMirror F G). m.file) err.2, err.3))
+    whole-ended whole (Err faults.FileExists) ok err part =
+        refused_of_file start sound untaken b image size holds old new _ (λ l. IsTakenName l name) (λ l w. w) whole err
+    whole-ended whole (Err faults.DiskFull) ok err part =
+        refused_of_file start sound untaken b image size holds old new _
+        (λ l. HasNoRoom (sectors_in image) l × ¬ (IsTakenName l name))
+        (λ l w. (subst (λ img. HasNoRoom img l) holds w.0, w.1)) whole err
+    whole-ended whole (Err faults.File) ok err part = (
+      whole_file start sound untaken b err.run.moments.held whole,
+      taken_up start sound untaken b image size holds (made_of_file whole err),
+      made-part part,
+    )
+    whole-ended whole (Err faults.Device) ok err part = absurd (not_failed start sound untaken b whole err.1)
+    whole-ended whole (Err faults.NoFile) ok err part = absurd err
+    whole-ended whole (Err (faults.RecordsLine line)) ok err part = absurd err
+    whole-ended whole (Err faults.Geos) ok err part = absurd err
+    whole-ended whole (Err faults.Format) ok err part = absurd err
+    whole-ended whole (Err faults.Locked) ok err part = absurd err
+    whole-ended whole (Err faults.NoStock) ok err part = absurd err
+    whole-ended whole (Err faults.NoRequests) ok err part = absurd err
+    whole-ended whole (Err (faults.BadCard item)) ok err part = absurd err
+    whole-ended whole (Err (faults.BadRequestCard till)) ok err part = absurd err
+    whole-ended whole (Err faults.TwoIntents) ok err part = absurd err
+    whole-ended whole (Err (faults.ScriptLine line)) ok err part = absurd err
 
     -- a disk of which nothing was written has its files
     left-run : (Why : Layout → Type 0) → IsLeft mirror image start b old new Why → IsMakeRun mirror image name L start b
@@ -158,11 +150,9 @@ module _ {F : Type 0} {G : Ghosts F} (start : KeptMirror F G) (sound : is_broken
         → IfErr r (IsMakeFault mirror image name L start b old new)
         → IsMakeOver G.keeps contents image name L start.file b.file old new (Err faults.Device)
     broken-ended broken r ok err =
-        let run = run-of broken r ok err in
-        is-stopped image start.file b.file old new Made Fault faults.Device refl size (
+        let run = run-of broken r ok err in (
           broken_file start sound untaken b run.0.moments.held broken,
-          taken_up start sound untaken b image size holds
-              (run_of_file run.0),
+          taken_up start sound untaken b image size holds (run_of_file run.0),
           run.1,
         )
 
@@ -171,8 +161,9 @@ module _ {F : Type 0} {G : Ghosts F} (start : KeptMirror F G) (sound : is_broken
         → out.0 ≡ b.file
         → OnOk r (IsMakeDone mirror contents image name L start b old new)
         → IfErr r (IsMakeFault mirror image name L start b old new)
+        → OnErr r (IsMakePart mirror contents image name L start b old new)
         → (is_broken b × (out.1 ≡ Err faults.Device)) ⊎ ((is_broken b → ⊥) × (out.1 ≡ r))
         → IsMakeOver G.keeps contents image name L file out.0 old new out.1
-    make-ended file r out first after ok err end =
+    make-ended file r out first after ok err part end =
         handed-back (λ f a e. IsMakeOver G.keeps contents image name L f a old new e) start b file r out first after
-        (λ broken. broken-ended broken r ok err) (λ whole. whole-ended whole r ok err) end
+        (λ broken. broken-ended broken r ok err) (λ whole. whole-ended whole r ok err part) end

@@ -1,6 +1,5 @@
 -- What changed a mirror changed its file: how a run over the mirror of a file is one over the file.
-use Rattle.std.proofs.Common.{◌≡◌, ◌<◌, ◌≤◌, ◌+◌, ◌⊎◌, ℕ, List, Result, Err, ap, arith, length, refl, subst, sym}
-use Rattle.std.proofs.Common.{⊎_elim}
+use Rattle.std.proofs.Common.{◌≡◌, ◌<◌, ◌≤◌, ◌+◌, ℕ, List, ap, arith, length, refl, subst, ⊎_elim}
 use Rattle.std.specs.Prelude.{if◌then◌else◌, nat_lt}
 use Rattle.d64_image.proofs.FileRuns.{file_disk, file_failed, held_by_file, one_if-false}
 use Rattle.d64_image.specs.FileDisks.{FileDisk, in_run}
@@ -101,15 +100,3 @@ module _ {F : Type 0} {G : Ghosts F} (start : KeptMirror F G) (sound : is_broken
         why = to x.layout x.why;
         untouched = (same_file x.quiet whole, x.unprinted);
       }
-
--- what holds of the file that is handed back, and of what is told of it, by whether the mirror broke
-pub handed-back : {F T E : Type 0} {G : Ghosts F} {device : E} (P : F → F → Result T E → Type 0) (start b : KeptMirror F G)
-    (file : F)
-    (r : Result T E) (out : F × Result T E) → start.file ≡ file → out.0 ≡ b.file
-    → (is_broken b → P start.file b.file (Err device)) → ((is_broken b → ⊥) → P start.file b.file r)
-    → (is_broken b × (out.1 ≡ Err device)) ⊎ ((is_broken b → ⊥) × (out.1 ≡ r)) → P file out.0 out.1
-handed-back {F} {T} {E} P start b file r out first after broken whole end =
-    let from : (e : Result T E) → out.1 ≡ e → P start.file b.file e → P file out.0 out.1 =
-    λ e is p. subst (λ f. P f out.0 out.1) first
-    (subst (λ a. P start.file a out.1) (sym after) (subst (λ x. P start.file b.file x) (sym is) p)) in
-    ⊎_elim (λ x. from _ x.1 (broken x.0)) (λ x. from r x.1 (whole x.0)) end

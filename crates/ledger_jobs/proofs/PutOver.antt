@@ -19,10 +19,11 @@ use Rattle.disk_layout.specs.Layout.{Layout}
 use Rattle.file_changes.specs.Puts.{HasNoRoomFor, IsNewName, IsPutting, sectors_for, stored}
 use Rattle.file_changes.specs.declared.file_type.FileType.{FileType}
 use Rattle.ledger_jobs.proofs.EditOver.{clean-refused}
-use Rattle.ledger_jobs.proofs.OverFiles.{broken_file, changes_of_run, handed-back, not_broken, not_failed}
+use Rattle.ledger_jobs.proofs.OverFiles.{broken_file, changes_of_run, not_broken, not_failed}
 use Rattle.ledger_jobs.proofs.OverFiles.{same_failures, taken_up, whole_file}
 use Rattle.ledger_jobs.specs.Edited.{IsRefusedBy}
 use Rattle.ledger_jobs.specs.Puts.{IsPutOver}
+use Rattle.command_faults.proofs.HandedBack.{handed-back}
 use Rattle.command_faults.proofs.Loads.{by-load}
 
 -- no slice has so many bytes that its sectors can't be counted

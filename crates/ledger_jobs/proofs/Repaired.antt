@@ -1,13 +1,13 @@
 -- What comes of a repair over the file of a mirror, from that over the mirror and whether it is broken.
 use Rattle.std.proofs.Common.{◌≡◌, ◌<◌, ◌≤◌, ◌+◌, ◌⊎◌, ℕ, Bool, List, Option, Result, Ok, Err, ap, arith}
-use Rattle.std.proofs.Common.{length, refl, subst}
-use Rattle.std.specs.Prelude.{IfErr, IfOk}
+use Rattle.std.proofs.Common.{inl, inr, length, refl, subst}
+use Rattle.std.specs.Prelude.{IfErr, IfOk, OnErr}
 use Rattle.d64_image.proofs.FileRuns.{file_disk, file_failed, held_by_file}
 use Rattle.d64_image.specs.FileDisks.{FileDisk, in_run}
 use Rattle.d64_image.specs.History.{Changes, History, WritesNothing}
 use Rattle.d64_image.proofs.Moments.{changes_weaker, no_write_change}
 use Rattle.d64_image.specs.Images.{Image, Sector, sector}
-use Rattle.d64_image.specs.Keeps.{FileFailed}
+use Rattle.d64_image.specs.Keeps.{FileFailed, Keeps}
 use Rattle.d64_image.specs.Memory.{sectors_in}
 use Rattle.d64_image.specs.KeptMirrors.{IsMirrored, is_broken, mirror, mirror_image}
 use Rattle.d64_image.specs.declared.kept_mirror.KeptMirror.{KeptMirror}
@@ -22,14 +22,26 @@ use Rattle.disk_layout.specs.Whole.{IsWhole}
 use Rattle.disk_layout.specs.declared.faults.Fault.{Fault}
 use Rattle.layout_check.specs.Keeping.{FreesNothing}
 use Rattle.keeper_commands.specs.Kinds.{HasFormatByte, HasGeosSign, IsPlainDisk}
-use Rattle.keeper_commands.specs.Repairs.{IsMendedDisk, IsRepairDone, IsRepairFault, IsRepairRun}
+use Rattle.keeper_commands.specs.Repairs.{IsMendedDisk, IsRepairDone, IsRepairFault, IsRepairPart, IsRepairRun, mended_text}
 use Rattle.command_faults.specs.declared.faults.CommandFault.{CommandFault}
 use Rattle.command_faults.specs.declared.faults.CommandFault.TheVariants as faults
 use Rattle.shop_commands.proofs.FileEnds.{failed_stably}
 use Rattle.shop_commands.specs.Plays.{IsUntouched}
-use Rattle.ledger_jobs.proofs.OverFiles.{changes_of_file, handed-back, not_failed, same_file, taken_up}
+use Rattle.ledger_jobs.proofs.OverFiles.{changes_of_file, not_failed, same_file, taken_up}
 use Rattle.ledger_jobs.specs.Keeping.{IsRepairOver}
-use Rattle.ledger_jobs.proofs.RepairEnds.{mended, refused, stopped}
+use Rattle.command_faults.proofs.HandedBack.{handed-back}
+use Rattle.command_faults.proofs.Loads.{by-load}
+use Rattle.command_faults.proofs.Parts.{part-all, part-same}
+use Rattle.command_faults.specs.Faults.{IsLoadFault}
+use Rattle.command_faults.specs.Outputs.{HandsPart}
+
+-- the image wasn't taken into memory
+pub not-loaded : {F W : Type 0} (free : Bool) (K : Keeps F) (contents : W → Option (List ℕ)) (image : List ℕ) (file : F)
+    (old : W) (fault : CommandFault) → IsLoadFault image fault
+    → IsRepairOver free K contents image file file old old (Err fault)
+not-loaded free K contents image file old =
+    by-load image (λ fault. IsRepairOver free K contents image file file old old (Err fault))
+    (λ told. (told, (refl, refl))) (λ told. (told, (refl, refl)))
 
 module _ {F : Type 0} {G : Ghosts F} (start : KeptMirror F G) (sound : is_broken start → ⊥) (untaken : start.taken.n ≡ 0)
     (b : KeptMirror F G) where
@@ -102,95 +114,106 @@ module _ {F : Type 0} {G : Ghosts F} (start : KeptMirror F G) (sound : is_broken
           unsound = λ _. no_write_change mirror start b (λ c. c ≡ mirror_image start) quiet refl;
         }
 
+    part_of_file : IsRepairPart free mirror contents image start b old new
+        → IsRepairPart free file_run contents image (file_disk start) (file_disk b) old new
+    part_of_file (inl same) = inl same
+    part_of_file (inr (n, is, part)) = inr (n, mended_of_file free image n is, part)
+
+    -- a mended disk, and what was printed of that
+    mended-part : (n : ℕ) → IsMendedDisk free mirror image start b n
+        → IsRepairPart free mirror contents image start b old new
+        → (m : ℕ) × IsMendedDisk free file_run image (file_disk start) (file_disk b) m
+        × HandsPart (contents old) (contents new) (mended_text (mirror_image start) (mirror_image b) m)
+    mended-part n is (inl same) = (n, mended_of_file free image n is, part-same contents old new _ same)
+    mended-part n is (inr (m, are, part)) = (m, mended_of_file free image m are, part)
+
     -- the file didn't fail
     pub whole-ended : (is_broken b → ⊥) → (r : Result ℕ CommandFault)
         → IfOk r (IsRepairDone free mirror contents image start b old new)
         → IfErr r (IsRepairFault free mirror image start b old new)
+        → OnErr r (IsRepairPart free mirror contents image start b old new)
         → IsRepairOver free G.keeps contents image start.file b.file old new r
-    whole-ended whole (Ok n) ok err = mended free G.keeps contents image start.file b.file old new n size (
+    whole-ended whole (Ok n) ok err part = (
       (reached free image n ok.mended).unfailed whole,
       taken_up start sound untaken b image size holds
           (record { mended = mended_of_file free image n ok.mended; printed = ok.printed }),
     )
-    whole-ended whole (Err faults.ImageSize) ok err = absurd (err.0 size)
-    whole-ended whole (Err faults.NoMemory) ok err =
-        stopped free G.keeps contents image start.file b.file old new faults.NoMemory refl size
-        (size, same_handed err.1 err.2)
-    whole-ended whole (Err faults.Geos) ok err =
-        let same = same_handed err.2 err.3 in
-        let sign = subst (λ img. HasGeosSign (sector img map_place)) holds err.1 in
-        refused free G.keeps contents image start.file b.file old new faults.Geos refl size (size, sign, same) same
-        (λ x. x.0.geos sign)
-    whole-ended whole (Err faults.Format) ok err =
-        let same = same_handed err.2 err.3 in
-        let other = subst (λ img. ¬ (HasFormatByte (sector img map_place))) holds err.1 in
-        refused free G.keeps contents image start.file b.file old new faults.Format refl size (size, other, same) same
-        (λ x. other x.0.format)
-    whole-ended whole (Err (faults.Layout fault)) ok err =
-        let same : IsUntouched start.file b.file old new = (same_file start sound untaken b err.3 whole, err.4) in
-        let told : Holds nowhere (sectors_in image) fault = subst (λ img. Holds nowhere img fault) holds err.2 in
-        refused free G.keeps contents image start.file b.file old new (faults.Layout fault) refl size (size, told, same)
-        same (λ x. told-unsound (sectors_in image) fault told x.1)
-    whole-ended whole (Err faults.File) ok err =
-        stopped free G.keeps contents image start.file b.file old new faults.File refl size (
-          (reached free image err.0 err.1).unfailed whole,
-          taken_up start sound untaken b image size holds (err.0, mended_of_file free image err.0 err.1),
-        )
-    whole-ended whole (Err faults.Device) ok err = absurd (not_failed start sound untaken b whole err.1)
-    whole-ended whole (Err faults.NoFile) ok err = absurd err
-    whole-ended whole (Err faults.FileExists) ok err = absurd err
-    whole-ended whole (Err (faults.RecordsLine line)) ok err = absurd err
-    whole-ended whole (Err faults.DiskFull) ok err = absurd err
-    whole-ended whole (Err faults.Locked) ok err = absurd err
-    whole-ended whole (Err faults.NoStock) ok err = absurd err
-    whole-ended whole (Err faults.NoRequests) ok err = absurd err
-    whole-ended whole (Err (faults.BadCard item)) ok err = absurd err
-    whole-ended whole (Err (faults.BadRequestCard till)) ok err = absurd err
-    whole-ended whole (Err faults.TwoIntents) ok err = absurd err
-    whole-ended whole (Err (faults.ScriptLine line)) ok err = absurd err
+    whole-ended whole (Err faults.ImageSize) ok err part = absurd (err.0 size)
+    whole-ended whole (Err faults.NoMemory) ok err part = (size, same_handed err.1 err.2)
+    whole-ended whole (Err faults.Geos) ok err part =
+        (size, subst (λ img. HasGeosSign (sector img map_place)) holds err.1, same_handed err.2 err.3)
+    whole-ended whole (Err faults.Format) ok err part =
+        (size, subst (λ img. ¬ (HasFormatByte (sector img map_place))) holds err.1, same_handed err.2 err.3)
+    whole-ended whole (Err (faults.Layout fault)) ok err part = (
+      size,
+      subst (λ img. Holds nowhere img fault) holds err.2,
+      (same_file start sound untaken b err.3 whole, err.4),
+    )
+    whole-ended whole (Err faults.File) ok err part = (
+      (reached free image err.0 err.1).unfailed whole,
+      taken_up start sound untaken b image size holds (mended-part err.0 err.1 part),
+    )
+    whole-ended whole (Err faults.Device) ok err part = absurd (not_failed start sound untaken b whole err.1)
+    whole-ended whole (Err faults.NoFile) ok err part = absurd err
+    whole-ended whole (Err faults.FileExists) ok err part = absurd err
+    whole-ended whole (Err (faults.RecordsLine line)) ok err part = absurd err
+    whole-ended whole (Err faults.DiskFull) ok err part = absurd err
+    whole-ended whole (Err faults.Locked) ok err part = absurd err
+    whole-ended whole (Err faults.NoStock) ok err part = absurd err
+    whole-ended whole (Err faults.NoRequests) ok err part = absurd err
+    whole-ended whole (Err (faults.BadCard item)) ok err part = absurd err
+    whole-ended whole (Err (faults.BadRequestCard till)) ok err part = absurd err
+    whole-ended whole (Err faults.TwoIntents) ok err part = absurd err
+    whole-ended whole (Err (faults.ScriptLine line)) ok err part = absurd err
 
     -- where the disk is the one that was handed in, the file hasn't failed
     not_handed : is_broken b → ¬ (b ≡ start)
     not_handed broken same = sound (subst (λ (m : KeptMirror F G). is_broken m) same broken)
 
-    broken-run : is_broken b → (run : IsRepairRun free mirror image start b)
+    broken-run : is_broken b → IsRepairRun free mirror image start b
+        → IsRepairPart free mirror contents image start b old new
         → IsRepairOver free G.keeps contents image start.file b.file old new (Err faults.Device)
-    broken-run broken run = stopped free G.keeps contents image start.file b.file old new faults.Device refl size
-        (failed_file free image broken run, taken_up start sound untaken b image size holds (run_of_file free image run))
+    broken-run broken run part = (
+      failed_file free image broken run,
+      taken_up start sound untaken b image size holds (run_of_file free image run, part_of_file part),
+    )
 
     -- the file failed
     pub broken-ended : is_broken b → (r : Result ℕ CommandFault)
         → IfOk r (IsRepairDone free mirror contents image start b old new)
         → IfErr r (IsRepairFault free mirror image start b old new)
+        → OnErr r (IsRepairPart free mirror contents image start b old new)
         → IsRepairOver free G.keeps contents image start.file b.file old new (Err faults.Device)
-    broken-ended broken (Ok n) ok err = broken-run broken ok.mended.run
-    broken-ended broken (Err faults.ImageSize) ok err = absurd (err.0 size)
-    broken-ended broken (Err faults.NoMemory) ok err = absurd (not_handed broken err.1)
-    broken-ended broken (Err faults.Geos) ok err = absurd (not_handed broken err.2)
-    broken-ended broken (Err faults.Format) ok err = absurd (not_handed broken err.2)
-    broken-ended broken (Err (faults.Layout fault)) ok err =
-        broken-run broken (left-alone fault err.1 err.2 err.3)
-    broken-ended broken (Err faults.File) ok err = broken-run broken err.1.run
-    broken-ended broken (Err faults.Device) ok err = broken-run broken err.0
-    broken-ended broken (Err faults.NoFile) ok err = absurd err
-    broken-ended broken (Err faults.FileExists) ok err = absurd err
-    broken-ended broken (Err (faults.RecordsLine line)) ok err = absurd err
-    broken-ended broken (Err faults.DiskFull) ok err = absurd err
-    broken-ended broken (Err faults.Locked) ok err = absurd err
-    broken-ended broken (Err faults.NoStock) ok err = absurd err
-    broken-ended broken (Err faults.NoRequests) ok err = absurd err
-    broken-ended broken (Err (faults.BadCard item)) ok err = absurd err
-    broken-ended broken (Err (faults.BadRequestCard till)) ok err = absurd err
-    broken-ended broken (Err faults.TwoIntents) ok err = absurd err
-    broken-ended broken (Err (faults.ScriptLine line)) ok err = absurd err
+    broken-ended broken (Ok n) ok err part =
+        broken-run broken ok.mended.run (inr (n, ok.mended, part-all _ _ _ ok.printed))
+    broken-ended broken (Err faults.ImageSize) ok err part = absurd (err.0 size)
+    broken-ended broken (Err faults.NoMemory) ok err part = absurd (not_handed broken err.1)
+    broken-ended broken (Err faults.Geos) ok err part = absurd (not_handed broken err.2)
+    broken-ended broken (Err faults.Format) ok err part = absurd (not_handed broken err.2)
+    broken-ended broken (Err (faults.Layout fault)) ok err part =
+        broken-run broken (left-alone fault err.1 err.2 err.3) part
+    broken-ended broken (Err faults.File) ok err part = broken-run broken err.1.run part
+    broken-ended broken (Err faults.Device) ok err part = broken-run broken err.0 part
+    broken-ended broken (Err faults.NoFile) ok err part = absurd err
+    broken-ended broken (Err faults.FileExists) ok err part = absurd err
+    broken-ended broken (Err (faults.RecordsLine line)) ok err part = absurd err
+    broken-ended broken (Err faults.DiskFull) ok err part = absurd err
+    broken-ended broken (Err faults.Locked) ok err part = absurd err
+    broken-ended broken (Err faults.NoStock) ok err part = absurd err
+    broken-ended broken (Err faults.NoRequests) ok err part = absurd err
+    broken-ended broken (Err (faults.BadCard item)) ok err part = absurd err
+    broken-ended broken (Err (faults.BadRequestCard till)) ok err part = absurd err
+    broken-ended broken (Err faults.TwoIntents) ok err part = absurd err
+    broken-ended broken (Err (faults.ScriptLine line)) ok err part = absurd err
 
     -- the file that is handed back, and what is told of it
     pub file-ended : (file : F) (r : Result ℕ CommandFault) (out : F × Result ℕ CommandFault) → start.file ≡ file
         → out.0 ≡ b.file
         → IfOk r (IsRepairDone free mirror contents image start b old new)
         → IfErr r (IsRepairFault free mirror image start b old new)
+        → OnErr r (IsRepairPart free mirror contents image start b old new)
         → (is_broken b × (out.1 ≡ Err faults.Device)) ⊎ ((is_broken b → ⊥) × (out.1 ≡ r))
         → IsRepairOver free G.keeps contents image file out.0 old new out.1
-    file-ended file r out first after ok err end =
+    file-ended file r out first after ok err part end =
         handed-back (λ f a e. IsRepairOver free G.keeps contents image f a old new e) start b file r out first after
-        (λ broken. broken-ended broken r ok err) (λ whole. whole-ended whole r ok err) end
+        (λ broken. broken-ended broken r ok err part) (λ whole. whole-ended whole r ok err part) end

@@ -13,14 +13,14 @@ use Rattle.disk_layout.specs.Layout.{File, Layout}
 use Rattle.disk_layout.specs.Rest.{IsNamed}
 use Rattle.command_faults.specs.Faults.{IsLoadFault}
 use Rattle.keeper_commands.specs.Refusals.{IsLeft}
-use Rattle.keeper_commands.specs.Storing.{HasBadLine, HasNoStoreRoom, IsStoreDone, IsStoreFault, IsStoreRun}
+use Rattle.keeper_commands.specs.Storing.{HasBadLine, HasNoStoreRoom, IsStoreDone, IsStoreFault, IsStorePart, IsStoreRun}
 use Rattle.command_faults.specs.declared.faults.CommandFault.{CommandFault}
 use Rattle.command_faults.specs.declared.faults.CommandFault.TheVariants as faults
-use Rattle.shop_commands.specs.Plays.{IsTakenUp, IsUntouched}
-use Rattle.ledger_jobs.proofs.KeptOver.{is-done, is-refused, is-stopped}
-use Rattle.ledger_jobs.proofs.OverFiles.{broken_file, handed-back, kept_of_file, not_failed, refused_of_file}
+use Rattle.shop_commands.specs.Plays.{IsTakenUp}
+use Rattle.ledger_jobs.proofs.OverFiles.{broken_file, kept_of_file, not_failed, refused_of_file}
 use Rattle.ledger_jobs.proofs.OverFiles.{same_file, taken_up, whole_file}
-use Rattle.ledger_jobs.specs.Kept.{IsKeptAsItWas, IsStoreOver, IsStoredFault, IsStoredFile, IsStoringRun}
+use Rattle.ledger_jobs.specs.Kept.{IsKeptAsItWas, IsStoreOver, IsStoredFault, IsStoringDone, IsStoringRun}
+use Rattle.command_faults.proofs.HandedBack.{handed-back}
 use Rattle.command_faults.proofs.Loads.{by-load}
 
 module _ {F W : Type 0} (K : Keeps F) (contents : W → Option (List ℕ)) (image name text : List ℕ) where
@@ -28,10 +28,7 @@ module _ {F W : Type 0} (K : Keeps F) (contents : W → Option (List ℕ)) (imag
   pub store-not-loaded : (file : F) (old : W) (fault : CommandFault) → IsLoadFault image fault
       → IsStoreOver K contents image name text file file old old (Err fault)
   store-not-loaded file old = by-load image (λ fault. IsStoreOver K contents image name text file file old old (Err fault))
-      (λ told. is-refused image file file old old _ (IsStoredFault K image name text file file old old) faults.ImageSize refl
-      (told, (refl, refl)) (refl, refl))
-      (λ told. is-stopped image file file old old _ (IsStoredFault K image name text file file old old) faults.NoMemory refl told
-      (told, (refl, refl)))
+      (λ told. (told, (refl, refl))) (λ told. (told, (refl, refl)))
 
 module _ {F : Type 0} {G : Ghosts F} (start : KeptMirror F G) (sound : is_broken start → ⊥) (untaken : start.taken.n ≡ 0)
     (b : KeptMirror F G)
@@ -53,68 +50,70 @@ module _ {F : Type 0} {G : Ghosts F} (start : KeptMirror F G) (sound : is_broken
   module _ {W : Type 0} (contents : W → Option (List ℕ)) (size : length image ≡ 174848)
       (holds : mirror_image start ≡ sectors_in image)
       (old new : W) where
-    abbrev Stored : Type 0
-    Stored = IsStoredFile G.keeps contents image name text start.file b.file old new
+    done_of_file : (is_broken b → ⊥) → IsStoreDone mirror contents image name text start b old new
+        → IsStoringDone (in_run G.keeps start.file) contents name text (file_disk start) (file_disk b) old new
+    done_of_file whole x = record {
+      run = run_of_file x.disk.run;
+      fits = x.disk.fits;
+      clean = x.disk.clean;
+      has = x.disk.has;
+      quiet = λ so. record {
+        image = (x.disk.quiet so).image;
+        held = held_by_file start.file start b _ (x.disk.quiet so).held;
+        writes = ap G.keeps.writes (same_file start sound untaken b (x.disk.quiet so) whole);
+      };
+      printed = x.printed;
+    }
 
-    abbrev Fault : CommandFault → Type 0
-    Fault = IsStoredFault G.keeps image name text start.file b.file old new
+    -- the output failed: all is stored, or it stopped at a record
+    output-failed : (is_broken b → ⊥) → IsStoreFault mirror image name text start b old new faults.File
+        → IsStorePart mirror contents image name text start b old new faults.File
+        → IsStoredFault G.keeps contents image name text start.file b.file old new faults.File
+    output-failed whole err (inl (other, same)) = absurd (other refl)
+    output-failed whole err (inr (inl (is, done))) = (
+      whole_file start sound untaken b done.disk.run.moments.held whole,
+      taken_up start sound untaken b image size holds (inl (done_of_file whole done)),
+    )
+    output-failed whole err (inr (inr (run, stopped))) = (
+      whole_file start sound untaken b run.moments.held whole,
+      taken_up start sound untaken b image size holds (inr (run_of_file run, stopped, err.1)),
+    )
 
     -- the file didn't fail
     whole-ended : (is_broken b → ⊥) → (r : Result Unit CommandFault)
         → OnOk r (IsStoreDone mirror contents image name text start b old new)
         → IfErr r (IsStoreFault mirror image name text start b old new)
+        → IfErr r (IsStorePart mirror contents image name text start b old new)
         → IsStoreOver G.keeps contents image name text start.file b.file old new r
-    whole-ended whole (Ok x) ok err = is-done image start.file b.file old new Stored Fault size (
+    whole-ended whole (Ok x) ok err part = (
       whole_file start sound untaken b ok.disk.run.moments.held whole,
-      taken_up start sound untaken b image size holds (record {
-        run = run_of_file ok.disk.run;
-        fits = ok.disk.fits;
-        clean = ok.disk.clean;
-        has = ok.disk.has;
-        quiet = λ so. record {
-          image = (ok.disk.quiet so).image;
-          held = held_by_file start.file start b _ (ok.disk.quiet so).held;
-          writes = ap G.keeps.writes (same_file start sound untaken b (ok.disk.quiet so) whole);
-        };
-        printed = ok.printed;
-      }),
+      taken_up start sound untaken b image size holds (done_of_file whole ok),
     )
-    whole-ended whole (Err faults.Geos) ok err = absurd err
-    whole-ended whole (Err faults.Format) ok err = absurd err
-    whole-ended whole (Err faults.ImageSize) ok err = absurd (err.0 size)
-    whole-ended whole (Err faults.NoMemory) ok err = is-stopped image start.file b.file old new Stored Fault faults.NoMemory
-        refl size
-        (size, (ap (λ (m : KeptMirror F G). m.file) err.1, err.2))
-    whole-ended whole (Err (faults.Layout fault)) ok err =
-        let same : IsUntouched start.file b.file old new = (ap (λ (m : KeptMirror F G). m.file) err.2, err.3) in
-        is-refused image start.file b.file old new Stored Fault (faults.Layout fault) refl (size, err.1, same) same
-    whole-ended whole (Err faults.NoFile) ok err =
-        let x = refused_of_file start sound untaken b image size holds old new _
-        (λ l. (k : ℕ) (f : File) → slice_get l.files k ≡ Some f → ¬ (IsNamed name f)) (λ l w. w) whole err in
-        is-refused image start.file b.file old new Stored Fault faults.NoFile refl x x.untouched
-    whole-ended whole (Err (faults.RecordsLine line)) ok err =
-        let x = refused_of_file start sound untaken b image size holds old new _ (HasBadLine name text line) (λ l w. w)
-        whole err in
-        is-refused image start.file b.file old new Stored Fault (faults.RecordsLine line) refl x x.untouched
-    whole-ended whole (Err faults.DiskFull) ok err =
-        let x = refused_of_file start sound untaken b image size holds old new _
-        (HasNoStoreRoom (sectors_in image) name text)
-        (λ l w. subst (λ img. HasNoStoreRoom img name text l) holds w) whole err in
-        is-refused image start.file b.file old new Stored Fault faults.DiskFull refl x x.untouched
-    whole-ended whole (Err faults.File) ok err = is-stopped image start.file b.file old new Stored Fault faults.File refl
-        size (
-          whole_file start sound untaken b err.0.moments.held whole,
-          taken_up start sound untaken b image size holds (run_of_file err.0, err.1),
-        )
-    whole-ended whole (Err faults.Device) ok err = absurd (not_failed start sound untaken b whole err.0)
-    whole-ended whole (Err faults.FileExists) ok err = absurd err
-    whole-ended whole (Err faults.Locked) ok err = absurd err
-    whole-ended whole (Err faults.NoStock) ok err = absurd err
-    whole-ended whole (Err faults.NoRequests) ok err = absurd err
-    whole-ended whole (Err (faults.BadCard item)) ok err = absurd err
-    whole-ended whole (Err (faults.BadRequestCard till)) ok err = absurd err
-    whole-ended whole (Err faults.TwoIntents) ok err = absurd err
-    whole-ended whole (Err (faults.ScriptLine line)) ok err = absurd err
+    whole-ended whole (Err faults.ImageSize) ok err part = absurd (err.0 size)
+    whole-ended whole (Err faults.NoMemory) ok err part = (size, (ap (λ (m : KeptMirror F G). m.file) err.1, err.2))
+    whole-ended whole (Err (faults.Layout fault)) ok err part =
+        (size, err.1, (ap (λ (m : KeptMirror F G). m.file) err.2, err.3))
+    whole-ended whole (Err faults.NoFile) ok err part =
+        refused_of_file start sound untaken b image size holds old new _
+        (λ l. (k : ℕ) (f : File) → slice_get l.files k ≡ Some f → ¬ (IsNamed name f)) (λ l w. w) whole err
+    whole-ended whole (Err (faults.RecordsLine line)) ok err part =
+        refused_of_file start sound untaken b image size holds old new _ (HasBadLine name text line) (λ l w. w)
+        whole err
+    whole-ended whole (Err faults.DiskFull) ok err part =
+        refused_of_file start sound untaken b image size holds old new _ (HasNoStoreRoom (sectors_in image) name text)
+        (λ l w. subst (λ img. HasNoStoreRoom img name text l) holds w) whole err
+    whole-ended whole (Err faults.File) ok err part = output-failed whole err part
+    whole-ended whole (Err faults.Device) ok err part = absurd (not_failed start sound untaken b whole err.0)
+    whole-ended whole (Err faults.Geos) ok err part = absurd err
+    whole-ended whole (Err faults.Format) ok err part = absurd err
+    whole-ended whole (Err faults.FileExists) ok err part = absurd err
+    whole-ended whole (Err faults.Locked) ok err part = absurd err
+    whole-ended whole (Err faults.NoStock) ok err part = absurd err
+    whole-ended whole (Err faults.NoRequests) ok err part = absurd err
+    whole-ended whole (Err (faults.BadCard item)) ok err part = absurd err
+    whole-ended whole (Err (faults.BadRequestCard till)) ok err part = absurd err
+    whole-ended whole (Err faults.TwoIntents) ok err part = absurd err
+    whole-ended whole (Err (faults.ScriptLine line)) ok err part = absurd err
 
     abbrev Kept : Type 0
     Kept = IsKeptAsItWas G.keeps image start.file b.file old new
@@ -159,21 +158,14 @@ module _ {F : Type 0} {G : Ghosts F} (start : KeptMirror F G) (sound : is_broken
     run-of broken (Err faults.TwoIntents) ok err = absurd err
     run-of broken (Err (faults.ScriptLine line)) ok err = absurd err
 
-    -- the file failed
-    broken-ended : is_broken b → (r : Result Unit CommandFault)
-        → OnOk r (IsStoreDone mirror contents image name text start b old new)
-        → IfErr r (IsStoreFault mirror image name text start b old new)
-        → IsStoreOver G.keeps contents image name text start.file b.file old new (Err faults.Device)
-    broken-ended broken r ok err = is-stopped image start.file b.file old new Stored Fault faults.Device refl size
-        (run-of broken r ok err)
-
     -- the file that is handed back, and what is told of it
     pub store-ended : (file : F) (r : Result Unit CommandFault) (out : F × Result Unit CommandFault) → start.file ≡ file
         → out.0 ≡ b.file
         → OnOk r (IsStoreDone mirror contents image name text start b old new)
         → IfErr r (IsStoreFault mirror image name text start b old new)
+        → IfErr r (IsStorePart mirror contents image name text start b old new)
         → (is_broken b × (out.1 ≡ Err faults.Device)) ⊎ ((is_broken b → ⊥) × (out.1 ≡ r))
         → IsStoreOver G.keeps contents image name text file out.0 old new out.1
-    store-ended file r out first after ok err end =
+    store-ended file r out first after ok err part end =
         handed-back (λ f a e. IsStoreOver G.keeps contents image name text f a old new e) start b file r out first after
-        (λ broken. broken-ended broken r ok err) (λ whole. whole-ended whole r ok err) end
+        (λ broken. run-of broken r ok err) (λ whole. whole-ended whole r ok err part) end

@@ -1,6 +1,6 @@
 -- What comes of a relative file that is made on the disk of an image, or of records that are stored in one, over the
 -- image's bytes and its file. All of it is our own.
-use Rattle.std.specs.Prelude.{◌≡◌, ◌≢◌, ◌⊎◌, ◌≤◌, ℕ, List, Option, Result, Some, IfErr, length, slice_get}
+use Rattle.std.specs.Prelude.{◌≡◌, ◌≢◌, ◌⊎◌, ◌≤◌, ℕ, List, Option, Result, Ok, Err, Some, codes, length, slice_get}
 use Rattle.std.specs.Io.KnownBytes.{Appends}
 use Rattle.d64_image.specs.FileDisks.{in_run}
 use Rattle.d64_image.specs.History.{Changes, HeldOnly, History, WritesNothing}
@@ -16,29 +16,16 @@ use Rattle.disk_layout.specs.Whole.{HoldsWhole}
 use Rattle.disk_layout.specs.declared.faults.Fault.{Fault}
 use Rattle.keeper_commands.specs.Makes.{IsMadeDisk, IsMakeDone, IsMakeRun}
 use Rattle.keeper_commands.specs.Stores.{AreLinesOf, AreSo, NewRecord, changed_text, greatest, last_ones, stored}
-use Rattle.keeper_commands.specs.Storing.{HasBadLine, HasNoStoreRoom, IsStoring}
+use Rattle.keeper_commands.specs.Storing.{HasBadLine, HasNoStoreRoom, IsStopped, IsStoring}
+use Rattle.command_faults.specs.Outputs.{HandsPart}
 use Rattle.command_faults.specs.declared.faults.CommandFault.{CommandFault}
 use Rattle.command_faults.specs.declared.faults.CommandFault.TheVariants as faults
 use Rattle.shop_commands.specs.Plays.{IsTakenUp, IsUnfailed, IsUntouched}
-use Rattle.ledger_jobs.specs.Keeping.{keep_end}
 use Rattle.rel_records.specs.Others.{HasRecords}
 use Rattle.rel_records.specs.Written.{grown_to}
 use Rattle.rel_records.specs.creation.Made.{HasNoRoom, IsTakenName}
 use Rattle.rel_records.specs.growth.Growth.{IsFull, records_had}
 use Rattle.script_lines.specs.Lines.{lines}
-
--- What changes the disk of an image, over the file that was handed in and is handed back, ended so.
-pub record IsKeptOver {F W : Type 0} (image : List ℕ) (file new_file : F) (old new : W) (Done : Type 0)
-    (Fault : CommandFault → Type 0) (ended : Result Unit CommandFault) : Type 0 where
-  -- 0: it is done, and that was printed
-  pub done : keep_end ended ≡ 0 → Done
-  -- otherwise the reported fault holds
-  pub fault : IfErr ended Fault
-  -- 1: the image, or what was asked for, is in the way; neither file nor output was touched
-  pub size : length image ≢ 174848 → keep_end ended ≡ 1
-  pub untouched : keep_end ended ≡ 1 → IsUntouched file new_file old new
-  -- 3: the file or the output failed, or there was no memory
-  pub statuses : (keep_end ended ≡ 0) ⊎ ((keep_end ended ≡ 1) ⊎ (keep_end ended ≡ 3))
 
 -- The image is clean, this holds of its layout, and neither file nor output was touched.
 pub record IsRefused {F W : Type 0} (image : List ℕ) (file after : F) (old new : W) (Why : Layout → Type 0) : Type 0
@@ -62,30 +49,35 @@ IsMadeFile K contents image name L file after old new =
     × IsTakenUp K image file after (λ disk left. IsMakeDone (in_run K file) contents image name L disk left old new)
 
 -- Why no file is made, or that isn't printed. What the image holds is in the way: then nothing was done. Or the output
--- failed: then it is made. Or the file failed: then it has the files of before, or those and the new one, and nothing was
--- printed.
-abbrev pub IsMadeFault : {F W : Type 0} → Keeps F → (image name : List ℕ) → ℕ → F → F → W → W → CommandFault → Type 0
-IsMadeFault K image name L file after old new faults.ImageSize = (length image ≢ 174848) × IsUntouched file after old new
-IsMadeFault K image name L file after old new faults.NoMemory = (length image ≡ 174848) × IsUntouched file after old new
-IsMadeFault K image name L file after old new (faults.Layout fault) = IsUnclean image fault file after old new
-IsMadeFault K image name L file after old new faults.FileExists =
+-- failed: then it is made, and a beginning of MADE was printed. Or the file failed: then it has the files of before, or
+-- those and the new one, and nothing was printed.
+abbrev pub IsMadeFault : {F W : Type 0} → Keeps F → (W → Option (List ℕ)) → (image name : List ℕ) → ℕ → F → F → W → W
+    → CommandFault → Type 0
+IsMadeFault K contents image name L file after old new faults.ImageSize =
+    (length image ≢ 174848) × IsUntouched file after old new
+IsMadeFault K contents image name L file after old new faults.NoMemory =
+    (length image ≡ 174848) × IsUntouched file after old new
+IsMadeFault K contents image name L file after old new (faults.Layout fault) = IsUnclean image fault file after old new
+IsMadeFault K contents image name L file after old new faults.FileExists =
     IsRefused image file after old new (λ l. IsTakenName l name)
-IsMadeFault K image name L file after old new faults.DiskFull =
+IsMadeFault K contents image name L file after old new faults.DiskFull =
     IsRefused image file after old new (λ l. HasNoRoom (sectors_in image) l × ¬ (IsTakenName l name))
-IsMadeFault K image name L file after old new faults.File =
+IsMadeFault K contents image name L file after old new faults.File =
     IsUnfailed K file after
     × IsTakenUp K image file after (λ disk left. IsMadeDisk (in_run K file) image name L disk left)
-IsMadeFault K image name L file after old new faults.Device =
+    × HandsPart (contents old) (contents new) (codes "MADE\n")
+IsMadeFault K contents image name L file after old new faults.Device =
     FileFailed K file after
     × IsTakenUp K image file after (λ disk left. IsMakeRun (in_run K file) image name L disk left) × (new ≡ old)
-IsMadeFault K image name L file after old new _ = ⊥
+IsMadeFault K contents image name L file after old new _ = ⊥
 
 -- the making of a relative file on the disk of an image, over its file, ended so
 abbrev pub IsMakeOver : {F W : Type 0} → Keeps F → (W → Option (List ℕ)) → (image name : List ℕ) → ℕ → F → F → W → W
     → Result Unit CommandFault → Type 0
-IsMakeOver K contents image name L file after old new ended =
-    IsKeptOver image file after old new (IsMadeFile K contents image name L file after old new)
-    (IsMadeFault K image name L file after old new) ended
+IsMakeOver K contents image name L file after old new (Ok _) =
+    IsMadeFile K contents image name L file after old new
+IsMakeOver K contents image name L file after old new (Err fault) =
+    IsMadeFault K contents image name L file after old new fault
 
 -- The disk was clean, `file` is the first closed relative file of the name, and the text's lines are of these records,
 -- which it has or can have. Whatever was held on the way is sound, and has the first of those that count.
@@ -118,6 +110,15 @@ pub record IsStoringDone {D W : Type 0} (S : History D) (contents : W → Option
       (changed_text (record_length run.file.slot) (last_ones run.all)
       (grown_to (S.image old) run.file (greatest run.all)))
 
+-- Or it stopped at one of the records that changed, since the output failed: this one is stored too, and a beginning of
+-- its line is printed after the lines of those before it. The disk is clean.
+abbrev pub IsStoringStopped : {D W : Type 0} → History D → (W → Option (List ℕ)) → (name text : List ℕ) → D → D → W → W
+    → Type 0
+IsStoringStopped S contents name text old new before after = (run : IsStoringRun S name text old new)
+    × IsStopped (S.image old) (S.image new) (contents before) (contents after) run.layout run.number
+    (record_length run.file.slot) (last_ones run.all) (grown_to (S.image old) run.file (greatest run.all)) faults.File
+    × IsClean (S.image new)
+
 -- the records were stored on the disk of the file, and what was otherwise was printed
 abbrev pub IsStoredFile : {F W : Type 0} → Keeps F → (W → Option (List ℕ)) → (image name text : List ℕ) → F → F → W → W
     → Type 0
@@ -131,31 +132,37 @@ IsKeptAsItWas K image file after old new =
     IsTakenUp K image file after (λ disk left. Changes (in_run K file) disk left 0 (λ c. c ≡ disk.image)) × (new ≡ old)
 
 -- Why records aren't stored, or that isn't printed. What the image or the text holds is in the way: then nothing was
--- done. Or the output or the file failed: then what was stored until then stays.
-abbrev pub IsStoredFault : {F W : Type 0} → Keeps F → (image name text : List ℕ) → F → F → W → W → CommandFault → Type 0
-IsStoredFault K image name text file after old new faults.ImageSize = (length image ≢ 174848)
-    × IsUntouched file after old new
-IsStoredFault K image name text file after old new faults.NoMemory = (length image ≡ 174848)
-    × IsUntouched file after old new
-IsStoredFault K image name text file after old new (faults.Layout fault) = IsUnclean image fault file after old new
-IsStoredFault K image name text file after old new faults.NoFile = IsRefused image file after old new
+-- done. Or the output failed, at the line of a record, or after all of them. Or the file failed: then what was stored
+-- until then stays.
+abbrev pub IsStoredFault : {F W : Type 0} → Keeps F → (W → Option (List ℕ)) → (image name text : List ℕ) → F → F → W → W
+    → CommandFault → Type 0
+IsStoredFault K contents image name text file after old new faults.ImageSize =
+    (length image ≢ 174848) × IsUntouched file after old new
+IsStoredFault K contents image name text file after old new faults.NoMemory =
+    (length image ≡ 174848) × IsUntouched file after old new
+IsStoredFault K contents image name text file after old new (faults.Layout fault) =
+    IsUnclean image fault file after old new
+IsStoredFault K contents image name text file after old new faults.NoFile = IsRefused image file after old new
     (λ l. (k : ℕ) (f : File) → slice_get l.files k ≡ Some f → ¬ (IsNamed name f))
-IsStoredFault K image name text file after old new (faults.RecordsLine k) =
+IsStoredFault K contents image name text file after old new (faults.RecordsLine k) =
     IsRefused image file after old new (HasBadLine name text k)
-IsStoredFault K image name text file after old new faults.DiskFull =
+IsStoredFault K contents image name text file after old new faults.DiskFull =
     IsRefused image file after old new (HasNoStoreRoom (sectors_in image) name text)
-IsStoredFault K image name text file after old new faults.File =
+IsStoredFault K contents image name text file after old new faults.File =
     IsUnfailed K file after
-    × IsTakenUp K image file after (λ disk left. IsStoringRun (in_run K file) name text disk left × IsClean left.image)
-IsStoredFault K image name text file after old new faults.Device =
+    × IsTakenUp K image file after (λ disk left.
+    IsStoringDone (in_run K file) contents name text disk left old new
+    ⊎ IsStoringStopped (in_run K file) contents name text disk left old new)
+IsStoredFault K contents image name text file after old new faults.Device =
     FileFailed K file after
     × (IsKeptAsItWas K image file after old new
     ⊎ IsTakenUp K image file after (λ disk left. IsStoringRun (in_run K file) name text disk left))
-IsStoredFault K image name text file after old new _ = ⊥
+IsStoredFault K contents image name text file after old new _ = ⊥
 
 -- the storing of records on the disk of an image, over its file, ended so
 abbrev pub IsStoreOver : {F W : Type 0} → Keeps F → (W → Option (List ℕ)) → (image name text : List ℕ) → F → F → W → W
     → Result Unit CommandFault → Type 0
-IsStoreOver K contents image name text file after old new ended =
-    IsKeptOver image file after old new (IsStoredFile K contents image name text file after old new)
-    (IsStoredFault K image name text file after old new) ended
+IsStoreOver K contents image name text file after old new (Ok _) =
+    IsStoredFile K contents image name text file after old new
+IsStoreOver K contents image name text file after old new (Err fault) =
+    IsStoredFault K contents image name text file after old new fault

@@ -5,7 +5,7 @@ use Rattle.command_faults.specs.declared.faults.CommandFault.{CommandFault}
 use Rattle.cut_files.specs.Told.{IsCutShort, IsToldOfImage}
 use Rattle.command_faults.specs.declared.faults.CommandFault.TheVariants as faults
 use Rattle.ledger_jobs.specs.Ends.{Ended, JobEnd, as_job, as_repaired, as_run}
-use Rattle.ledger_jobs.specs.Keeping.{IsTakingRun}
+use Rattle.ledger_jobs.specs.Keeping.{IsTaken, IsTakingFault}
 use Rattle.ledger_jobs.specs.declared.jobs.Loss.{Loss}
 use Rattle.ledger_jobs.specs.declared.jobs.Loss.TheVariants as losses
 use Rattle.ledger_jobs.specs.declared.jobs.Taking.{Taking}
@@ -62,10 +62,10 @@ taken_end (Err fault) _ = Err (refusals.Fault fault)
 abbrev pub IsTakingEnd : {W : Type 0} → (contents : W → Option (List ℕ)) → Taking → (image name : List ℕ) → W → W
     → JobEnd → Type 0
 IsTakingEnd contents what image name old new (Ok None) =
-    IsTakingRun contents what image name old new (Ok tt) × IsToldOfImage image (Some name) None
+    IsTaken contents what image name old new × IsToldOfImage image (Some name) None
 IsTakingEnd contents what image name old new (Ok (Some _)) = ⊥
 IsTakingEnd contents what image name old new (Err (refusals.Short p)) =
-    IsTakingRun contents what image name old new (Ok tt) × IsToldOfImage image (Some name) (Some p)
+    IsTaken contents what image name old new × IsToldOfImage image (Some name) (Some p)
 IsTakingEnd contents what image name old new (Err (refusals.Fault fault)) =
-    IsTakingRun contents what image name old new (Err fault) ⊎ ((fault ≡ faults.NoMemory) × (new ≡ old))
+    IsTakingFault contents what image name old new fault ⊎ ((fault ≡ faults.NoMemory) × (new ≡ old))
 IsTakingEnd contents what image name old new (Err _) = ⊥

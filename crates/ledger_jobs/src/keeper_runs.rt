@@ -3,6 +3,7 @@ ghost use Rattle.d64_image.specs.Keeps.{Agrees};
 ghost use Rattle.d64_image.specs.Memory.{sectors_in};
 ghost use Rattle.ledger_jobs.specs.Keeping.{IsDryRepair, IsRepairOver, IsTakingRun};
 ghost use Rattle.ledger_jobs.specs.Kept.{IsMakeOver, IsStoreOver};
+ghost use Rattle.ledger_jobs.specs.declared.jobs.Taking.TheVariants as takings;
 ghost use Rattle.keeper_commands.specs.Makes.{IsNewName};
 ghost use Rattle.rel_records.specs.File.{IsLength};
 
@@ -10,13 +11,31 @@ use crate::jobs::Taking;
 use command_faults::{CommandFault, file_of, load};
 use d64_image::{KeptMirror, SectorFile};
 use keeper_commands::{
-    Candidates, bytes_image, make_image, records_image, repair_image, store_image,
+    Candidates, RecordForm, bytes_image, make_image, records_image, repair_image, store_image,
     unclosed_records_image,
 };
 use std::alloc::Global;
 use std::io::Write;
 
-/// Prints what is asked for of the file of this name in an image. `name` has no shifted spaces at its end.
+/// Prints the records of the first relative file of this name among the candidates.
+fn records_run<W: Write>(
+    alloc: Global,
+    image: &[u8],
+    candidates: Candidates,
+    name: &[u8],
+    form: RecordForm,
+    out: &mut W,
+) -> Result<(), CommandFault>
+    ensures run { IsTakingRun W.contents (takings.Records form candidates) image.now name.now out.old out.new result }
+{
+    match candidates {
+        Candidates::Closed => records_image(alloc, image, name, form, out),
+        Candidates::All => unclosed_records_image(alloc, image, name, form, out),
+    }
+}
+
+/// Prints what is asked for of the file of this name in an image. `name` has no shifted spaces at its end. `File` if the
+/// output failed: then it has a first part of that.
 pub fn taking_run<W: Write>(
     alloc: Global,
     what: Taking,
@@ -27,17 +46,14 @@ pub fn taking_run<W: Write>(
     ensures run { IsTakingRun W.contents what image.now name.now out.old out.new result }
 {
     match what {
-        Taking::Records(form, Candidates::Closed) => records_image(alloc, image, name, form, out),
-        Taking::Records(form, Candidates::All) => {
-            unclosed_records_image(alloc, image, name, form, out)
-        }
+        Taking::Records(form, candidates) => records_run(alloc, image, candidates, name, form, out),
         Taking::Bytes(form, candidates) => bytes_image(alloc, image, candidates, name, form, out),
     }
 }
 
 /// Repairs the disk of the image that the file keeps as `repair_image` does, prints what was mended, and hands the file
 /// back, with the number of sectors that stay taken though no file owns them. Each sector is handed to the file before
-/// memory takes it. `Device` if the file failed, `File` if the output did.
+/// memory takes it. `Device` if the file failed, `File` if the output did: then it has a first part of what is printed.
 pub fn repair_run<F: SectorFile, W: Write>(
     alloc: Global,
     image: &[u8],
@@ -74,7 +90,7 @@ pub fn dry_repair_run<W: Write>(
 /// Makes a relative file with records of `length` bytes on the clean disk of the image that the file keeps, prints
 /// `MADE`, and hands the file back. Each sector is handed to the file before memory takes it. `FileExists`, `DiskFull`
 /// and what is wrong with the image leave file and output as they were. `Device` if the file failed: the new file is made
-/// or isn't. `File` if the output did: it is made.
+/// or isn't. `File` if the output did: it is made, and the output has a first part of `MADE`.
 pub fn make_run<F: SectorFile, W: Write>(
     alloc: Global,
     image: &[u8],
@@ -100,8 +116,9 @@ pub fn make_run<F: SectorFile, W: Write>(
 
 /// Stores records, from the lines of a text, in the first closed relative file of this name of the clean disk of the
 /// image that the file keeps. It prints the lines of those that changed, and hands the file back. Each sector is handed
-/// to the file before memory takes it. `NoFile`, `BadLine`, `DiskFull` and what is wrong with the image leave file and
-/// output as they were. `Device` if the file failed, `File` if the output did: what was stored until then stays.
+/// to the file before memory takes it. `NoFile`, `RecordsLine`, `DiskFull` and what is wrong with the image leave file and
+/// output as they were. `Device` if the file failed, `File` if the output did: what was stored until then stays. At `File`
+/// the lines of the records that changed until then are printed, the last of them perhaps not to its end.
 pub fn store_run<F: SectorFile, W: Write>(
     alloc: Global,
     image: &[u8],

@@ -1,14 +1,14 @@
 //! Shops of images that are served over the files that keep them.
-ghost use Rattle.std.specs.Prelude.{◌≡◌, IfErr, IfOk};
+ghost use Rattle.std.specs.Prelude.{◌≡◌, IfErr, OnOk};
 ghost use Rattle.d64_image.specs.Keeps.{Agrees};
 ghost use Rattle.d64_image.specs.Memory.{sectors_in};
 ghost use Rattle.ledger_jobs.specs.FileServes.{IsServeFault, IsServedFile, loop_fault};
 
-use command_faults::{CommandFault, load};
+use command_faults::{CommandFault, file_of, load};
 use d64_image::{KeptMirror, SectorFile};
 use host_session::LoopFault;
 use line_server::{Answers, LineSource, serve};
-use shop_commands::{file_of, of_opening};
+use shop_commands::of_opening;
 use std::alloc::Global;
 
 /// What is reported of a shop whose service this fault ended: `File` for its input and for its output.
@@ -36,17 +36,17 @@ pub fn serve_file<F: SectorFile, R: LineSource<KeptMirror<F>>, T: Answers<KeptMi
     file: F,
     input: &mut R,
     out: &mut T,
-) -> Result<F, (CommandFault, F)>
+) -> (F, Result<(), CommandFault>)
     // if it is known what the file keeps, it is this image
     requires agrees { Agrees (F.keeps.kept file) (sectors_in image.now) }
-    ensures ok { IfOk result (λ after.
-        IsServedFile F.keeps R.input T.answering image.now file after input.old input.new out.old out.new) }
-    ensures err { IfErr result (λ e.
-        IsServeFault F.keeps R.input T.answering image.now file e.1 input.old input.new out.old out.new e.0) }
+    ensures ok { OnOk result.1
+        (IsServedFile F.keeps R.input T.answering image.now file result.0 input.old input.new out.old out.new) }
+    ensures err { IfErr result.1
+        (IsServeFault F.keeps R.input T.answering image.now file result.0 input.old input.new out.old out.new) }
 {
     let disk = match load(alloc, image) {
         Ok(disk) => disk,
-        Err(fault) => return Err((fault, file)),
+        Err(fault) => return (file, Err(fault)),
     };
     match serve(KeptMirror::new(file, disk), input, out) {
         Ok(mirror) => file_of(mirror, Ok(())),

@@ -26,8 +26,9 @@ pub fn serve_run<F: SectorFile, R: LineSource<KeptMirror<F>>, T: Answers<KeptMir
     ensures run { IsServeRun F.keeps R.input T.answering image.now file result.0
         input.old input.new out.old out.new result.1 }
 {
-    match serve_file(alloc, image, file, input, out) {
-        Ok(file) => (file, Ok(None)),
-        Err((fault, file)) => (file, Err(fault)),
+    let (left, end) = serve_file(alloc, image, file, input, out);
+    match end {
+        Ok(()) => (left, Ok(None)),
+        Err(fault) => (left, Err(fault)),
     }
 }

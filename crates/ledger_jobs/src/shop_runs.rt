@@ -69,8 +69,9 @@ pub fn play_run<F: SectorFile, T: ReplySink<KeptMirror<F>>>(
     requires agrees { Agrees (F.keeps.kept file) (sectors_in image.now) }
     ensures run { IsPlayRun F.keeps T.output image.now script.now file result.0 out.old out.new result.1 }
 {
-    match play_file(alloc, image, script, file, out) {
-        Ok(file) => (file, Ok(None)),
-        Err((fault, file)) => (file, Err(fault)),
+    let (left, end) = play_file(alloc, image, script, file, out);
+    match end {
+        Ok(()) => (left, Ok(None)),
+        Err(fault) => (left, Err(fault)),
     }
 }

@@ -1,7 +1,8 @@
 -- What comes of a play over the file of a mirror, from that over the mirror and whether it is broken.
-use Rattle.std.proofs.Common.{◌≡◌, ◌≢◌, ◌<◌, ◌≤◌, ℕ, List, None, Result, Ok, Err, arith, inl, inr}
+use Rattle.std.proofs.Common.{◌≡◌, ◌≢◌, ◌<◌, ◌≤◌, ◌⊎◌, ℕ, List, None, Result, Ok, Err, arith, inl, inr}
 use Rattle.std.proofs.Common.{length, refl, subst, sym, ap, ⊎_elim}
 use Rattle.std.proofs.lemmas.Bool.{cases_lt}
+use Rattle.std.specs.Prelude.{IfErr, OnOk}
 use Rattle.d64_image.specs.declared.kept_mirror.KeptMirror.{KeptMirror}
 use Rattle.d64_image.specs.declared.sector_file.SectorFile.{Ghosts}
 use Rattle.d64_image.specs.FileDisks.{FileDisk, in_run}
@@ -27,6 +28,7 @@ use Rattle.command_faults.specs.declared.faults.CommandFault.{CommandFault}
 use Rattle.command_faults.specs.declared.faults.CommandFault.TheVariants as faults
 use Rattle.shop_commands.proofs.FileScripts.{end_of_file, refused_reached, refuses_so, script_of_file}
 use Rattle.shop_commands.proofs.PlayEnds.{fault_in, left_in, none-of}
+use Rattle.command_faults.proofs.HandedBack.{handed-back}
 use Rattle.command_faults.proofs.Loads.{by-load}
 
 -- a file failed, or it didn't
@@ -154,6 +156,27 @@ module _ {F T : Type 0} {G : Ghosts F} (o : Output T) (image script : List ℕ) 
     ⊎_elim (λ y. file_failed start sound m (reached_at_ok y.1) broken) (λ y. failed_at_err broken y.0 y.2) x,
     inr (fault, taken_up (over_file (Err (fault, m)) x)),
   )
+
+  -- what is handed back of a play that came to its end
+  pub handed_at_ok : (file : F) (out : F × Result Unit CommandFault) → start.file ≡ file → out.0 ≡ m.file
+      → IsPlayEnd mirror o start script old new (Ok m)
+      → (is_broken m × (out.1 ≡ Err faults.Device)) ⊎ ((is_broken m → ⊥) × (out.1 ≡ Ok tt))
+      → OnOk out.1 (IsPlayedFile G.keeps o image script file out.0 old new)
+      × IfErr out.1 (IsFileFault G.keeps o image script file out.0 old new)
+  handed_at_ok file out first after x end = handed-back (λ f a e. OnOk e (IsPlayedFile G.keeps o image script f a old new)
+      × IfErr e (IsFileFault G.keeps o image script f a old new)) start m file (Ok tt) out first after
+      (λ broken. (tt, broken_at_ok broken x)) (λ whole. (whole_at_ok whole x, tt)) end
+
+  -- and of one that a fault ended
+  pub handed_at_err : (file : F) (fault : CommandFault) (out : F × Result Unit CommandFault) → start.file ≡ file
+      → out.0 ≡ m.file → IsPlayEnd mirror o start script old new (Err (fault, m))
+      → (is_broken m × (out.1 ≡ Err faults.Device)) ⊎ ((is_broken m → ⊥) × (out.1 ≡ Err fault))
+      → OnOk out.1 (IsPlayedFile G.keeps o image script file out.0 old new)
+      × IfErr out.1 (IsFileFault G.keeps o image script file out.0 old new)
+  handed_at_err file fault out first after x end = handed-back
+      (λ f a e. OnOk e (IsPlayedFile G.keeps o image script f a old new)
+      × IfErr e (IsFileFault G.keeps o image script f a old new)) start m file (Err fault) out first after
+      (λ broken. (tt, broken_at_err broken fault x)) (λ whole. (tt, whole_at_err whole fault x)) end
 
 -- nothing was done where the image wasn't loaded
 pub unloaded : {F T : Type 0} (K : Keeps F) (o : Output T) (image script : List ℕ) (file : F) (out : T)

@@ -27,7 +27,7 @@ pub use image_file::ImageFile;
 pub use judging::check_image;
 pub use laws::{dry_is_play, fresh_is_a_shop, run_tells_dry};
 pub use locks::Locks;
-pub use playing::{file_of, play_file, play_image};
+pub use playing::{play_file, play_image};
 pub use reading::{read_image, read_script};
 pub use showing::show_image;
 pub use system_files::{EndedFile, OpensFile, OverwrittenFile};

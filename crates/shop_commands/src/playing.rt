@@ -1,15 +1,13 @@
 //! Scripts played on the shop of a disk, and on that of an image over the image's file.
-ghost use Rattle.std.specs.Prelude.{◌≡◌, ◌≢◌, ◌⊎◌, Err, IfErr, IfOk, IsOk};
+ghost use Rattle.std.specs.Prelude.{◌≡◌, ◌≢◌, IfErr, OnOk};
 ghost use Rattle.d64_image.specs.Keeps.{Agrees};
 ghost use Rattle.d64_image.specs.Memory.{sectors_in};
-ghost use Rattle.d64_image.specs.KeptMirrors.{is_broken, mirror_file};
 ghost use Rattle.host_session.specs.events.Telling.{TellsNone};
 ghost use Rattle.shop_commands.specs.Faults.{script_fault};
 ghost use Rattle.shop_commands.specs.Plays.{IsFileFault, IsPlayEnd, IsPlayedFile};
-ghost use Rattle.command_faults.specs.declared.faults.CommandFault.TheVariants as faults;
 
 use crate::faults::of_script;
-use command_faults::{CommandFault, load};
+use command_faults::{CommandFault, file_of, load};
 use d64_image::{KeptMirror, SectorFile, Sectors};
 use host_session::{ReplySink, ScriptFault, play_script};
 use std::alloc::Global;
@@ -52,26 +50,6 @@ pub fn play_image<D: Sectors, T: ReplySink<D>>(
     }
 }
 
-/// The file of a mirror whose run ended so: `Device` if the file failed.
-pub fn file_of<F: SectorFile>(
-    mirror: KeptMirror<F>,
-    end: Result<(), CommandFault>,
-) -> Result<F, (CommandFault, F)>
-    ensures ok { IfOk result (λ file. (file ≡ mirror_file mirror) × ¬ (is_broken mirror) × IsOk end) }
-    ensures err { IfErr result (λ e. (e.1 ≡ mirror_file mirror)
-        × ((is_broken mirror × (e.0 ≡ faults.Device)) ⊎ (¬ (is_broken mirror) × (end ≡ Err e.0)))) }
-{
-    let failed = mirror.is_broken();
-    let (file, _) = mirror.into_inner();
-    if failed {
-        return Err((CommandFault::Device, file));
-    }
-    match end {
-        Ok(()) => Ok(file),
-        Err(fault) => Err((fault, file)),
-    }
-}
-
 /// Plays the lines of a script on the shop of an image, as `play_image` does, over the file that keeps the image. Each
 /// sector is handed to the file before memory takes it, and so before its line's reply is passed. The file is handed
 /// back.
@@ -87,15 +65,15 @@ pub fn play_file<F: SectorFile, T: ReplySink<KeptMirror<F>>>(
     script: &[u8],
     file: F,
     out: &mut T,
-) -> Result<F, (CommandFault, F)>
+) -> (F, Result<(), CommandFault>)
     // if it is known what the file keeps, it is this image
     requires agrees { Agrees (F.keeps.kept file) (sectors_in image.now) }
-    ensures ok { IfOk result (λ after. IsPlayedFile F.keeps T.output image.now script.now file after out.old out.new) }
-    ensures err { IfErr result (λ e. IsFileFault F.keeps T.output image.now script.now file e.1 out.old out.new e.0) }
+    ensures ok { OnOk result.1 (IsPlayedFile F.keeps T.output image.now script.now file result.0 out.old out.new) }
+    ensures err { IfErr result.1 (IsFileFault F.keeps T.output image.now script.now file result.0 out.old out.new) }
 {
     let disk = match load(alloc, image) {
         Ok(disk) => disk,
-        Err(fault) => return Err((fault, file)),
+        Err(fault) => return (file, Err(fault)),
     };
     match play_image(KeptMirror::new(file, disk), script, out) {
         Ok(mirror) => file_of(mirror, Ok(())),

@@ -34,10 +34,7 @@ fn played(
     let mut out = blank_paper(rt);
     let file = ImageFile::of_image(OnMachine { machine }, durability, image.as_slice());
     let mut printer = Printer::new(&mut out);
-    let ended = match play_file(rt.alloc(), image.as_slice(), script, file, &mut printer) {
-        Ok(_) => Ok(()),
-        Err((fault, _)) => Err(fault),
-    };
+    let (_, ended) = play_file(rt.alloc(), image.as_slice(), script, file, &mut printer);
     (ended, out.bytes)
 }
 

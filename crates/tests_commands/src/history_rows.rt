@@ -41,10 +41,8 @@ fn served(
 ) -> Result<(), CommandFault> {
     let file = ImageFile::of_image(OnMachine { machine }, Durability::EachSector, image);
     let mut printer = Printer::new(out);
-    match serve_file(rt.alloc(), image, file, input, &mut printer) {
-        Ok(_) => Ok(()),
-        Err((fault, _)) => Err(fault),
-    }
+    let (_, ended) = serve_file(rt.alloc(), image, file, input, &mut printer);
+    ended
 }
 
 /// Checks that the disk had each of these shops when a reply was handed on, and the same

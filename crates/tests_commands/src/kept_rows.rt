@@ -39,10 +39,8 @@ fn played_over<W: Write>(
 ) -> (Result<(), CommandFault>, Recorder<MemDisk>) {
     let file = kept(rt, image, fails_at, done);
     let mut printer = Printer::new(out);
-    match play_file(rt.alloc(), image, script, file, &mut printer) {
-        Ok(file) => (Ok(()), file.into_inner().into_inner()),
-        Err((fault, file)) => (Err(fault), file.into_inner().into_inner()),
-    }
+    let (file, ended) = play_file(rt.alloc(), image, script, file, &mut printer);
+    (ended, file.into_inner().into_inner())
 }
 
 /// A script, its replies, and what is shown then.

@@ -12,12 +12,10 @@ use std::process::Abort;
 
 /// How a run ended, and the file that it handed back.
 pub(crate) fn parted(
-    run: Result<ImageFile<Tape>, (CommandFault, ImageFile<Tape>)>,
+    run: (ImageFile<Tape>, Result<(), CommandFault>),
 ) -> (Result<(), CommandFault>, Tape) {
-    match run {
-        Ok(file) => (Ok(()), file.into_inner()),
-        Err((fault, file)) => (Err(fault), file.into_inner()),
-    }
+    let (file, ended) = run;
+    (ended, file.into_inner())
 }
 
 /// Plays a script on the image, over a file that takes so many bytes: how it ends, and the file.

@@ -233,31 +233,52 @@ const UNCLOSED: [Row; 5] = [
     ),
 ];
 
+/// Prints the bytes of a file: how that ends.
+fn printed<W: Write>(
+    rt: &impl AllocGlobal,
+    image: &[u8],
+    candidates: Candidates,
+    name: &[u8],
+    out: &mut W,
+) -> Result<(), CommandFault> {
+    bytes_image(rt.alloc(), image, candidates, name, ByteForm::Plain, out)
+}
+
+/// Adds so many zeros.
+fn add_zeros(text: &mut Vec<u8>, count: usize) {
+    for _ in 0..count {
+        let _ = text.push(0);
+    }
+}
+
+/// What is to be printed.
+fn wanted(rt: &impl AllocGlobal, pieces: Printed) -> Vec<u8> {
+    let mut text = Vec::new(rt.alloc());
+    for &(bytes, zeros) in pieces {
+        let _ = text.extend_from_slice(bytes);
+        add_zeros(&mut text, zeros);
+    }
+    text
+}
+
 /// Sees that these bytes are printed, and this is reported.
+fn is_printed(
+    rt: &(impl Abort + AllocGlobal),
+    candidates: Candidates,
+    (changes, name, pieces, told): Row,
+) {
+    let disk = changed(rt, changes);
+    let mut out = Vec::new(rt.alloc());
+    let ended = printed(rt, disk.bytes(), candidates, name, &mut out);
+    is_told(rt, ended, told);
+    let wanted = wanted(rt, pieces);
+    same_at(rt, out.as_slice(), wanted.as_slice(), changes);
+}
+
+/// Sees that of each file its bytes are printed.
 fn are_printed(rt: &(impl Abort + AllocGlobal), candidates: Candidates, rows: &[Row]) {
-    for &(changes, name, pieces, told) in rows {
-        let disk = changed(rt, changes);
-        let mut out = Vec::new(rt.alloc());
-        is_told(
-            rt,
-            bytes_image(
-                rt.alloc(),
-                disk.bytes(),
-                candidates,
-                name,
-                ByteForm::Plain,
-                &mut out,
-            ),
-            told,
-        );
-        let mut wanted = Vec::new(rt.alloc());
-        for &(bytes, zeros) in pieces {
-            let _ = wanted.write_all(bytes);
-            for _ in 0..zeros {
-                let _ = wanted.write_all(b"\0");
-            }
-        }
-        same_at(rt, out.as_slice(), wanted.as_slice(), changes);
+    for row in rows {
+        is_printed(rt, candidates, *row);
     }
 }
 
@@ -282,26 +303,15 @@ fn bytes_are_refused(rt: HostRuntime) {
     are_printed(&rt, Candidates::Closed, &MISSING);
     let disk = changed(&rt, &[]);
     let mut out = Vec::new(rt.alloc());
-    let ended = bytes_image(
-        rt.alloc(),
+    let ended = printed(
+        &rt,
         &disk.bytes()[1..],
         Candidates::Closed,
         b"NONE",
-        ByteForm::Plain,
         &mut out,
     );
     same_at(&rt, ended, Err(CommandFault::ImageSize), "size");
     let mut full = Full { room: 251 };
-    is_told(
-        &rt,
-        bytes_image(
-            rt.alloc(),
-            disk.bytes(),
-            Candidates::Closed,
-            b"STOCK",
-            ByteForm::Plain,
-            &mut full,
-        ),
-        "FILE",
-    );
+    let ended = printed(&rt, disk.bytes(), Candidates::Closed, b"STOCK", &mut full);
+    is_told(&rt, ended, "FILE");
 }

@@ -2,7 +2,6 @@
 
 mod command_rows;
 mod deleting_rows;
-mod disks;
 mod formatting_rows;
 mod putting_rows;
 mod renaming_rows;

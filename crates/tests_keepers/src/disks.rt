@@ -1,25 +1,44 @@
 //! The disks of the rows: blank disks for two tills, with files made and bytes changed.
-ghost use Rattle.std.specs.Prelude.{◌≤◌, length};
-ghost use Rattle.d64_image.specs.Memory.{disk_image};
+ghost use Rattle.std.specs.Prelude.{◌≡◌, ◌≤◌, length};
+ghost use Rattle.d64_image.specs.Memory.{disk_image, sectors_in};
 ghost use Rattle.disk_layout.specs.Clean.{IsClean};
+ghost use Rattle.disk_layout.specs.Layout.{IsSound};
 ghost use Rattle.rel_records.specs.File.{IsOf};
 
 use d64_image::{MemDisk, Place, Sectors};
 use disk_layout::blank_image;
-use layout_check::check;
+use layout_check::{check, survey};
 use rel_records::{RelFile, create, find, write_record};
 use std::process::Abort;
 
 /// The blank disk for two tills: STOCK in 17/0 (18 bytes a record, 14 of them) with the side sector 17/1, REQUESTS in
-/// 17/2 (127 bytes, 2 of them) with the side sector 17/3. So 17/4 is the next free sector.
+/// 17/2 (127 bytes, 2 of them) with the side sector 17/3. So 17/4 is the next free sector. In the image the map, 18/0,
+/// begins at byte 91,392, and the directory, 18/1, at 91,648.
 pub(crate) fn fresh(rt: &(impl Abort + AllocGlobal)) -> MemDisk {
     let mut disk = MemDisk::zeroed(rt.alloc()).expect(rt, "a disk of zeros");
     blank_image(&mut disk, b"STOCK LEDGER", *b"01", 2).expect(rt, "a blank disk");
     disk
 }
 
+/// The disk of these bytes.
+pub(crate) fn loaded(rt: &(impl Abort + AllocGlobal), image: &[u8]) -> MemDisk
+    ensures { disk_image result ≡ sectors_in image.now }
+{
+    MemDisk::load(rt.alloc(), image).expect(rt, "a disk of these bytes")
+}
+
+/// Checks that the disk is sound.
+pub(crate) fn sound(rt: &impl Abort, disk: &mut MemDisk)
+    ensures { IsSound (disk_image disk.new) }
+{
+    match survey(disk) {
+        Ok(_) => {}
+        Err(fault) => panic!(rt; "the disk isn't sound: {fault:?}"),
+    }
+}
+
 /// Checks that the disk is clean.
-fn clean(rt: &impl Abort, disk: &mut MemDisk)
+pub(crate) fn clean(rt: &impl Abort, disk: &mut MemDisk)
     ensures { IsClean (disk_image disk.new) }
 {
     match check(disk) {

@@ -1,57 +1,54 @@
 //! Keepers' jobs over a device that fails, and over long texts, many records and each length: what is printed was done, and
 //! nothing is blamed if nothing failed.
 use crate::comparing::same_at;
-use crate::disks::{Change, changed};
+use crate::disks::{Change, changed, loaded};
+use crate::making_rows::made;
 use crate::outputs::is_told;
 use crate::record_rows::lines;
+use crate::returning_rows::text_of;
 use crate::storing_rows::stored;
 use command_faults::CommandFault;
 use d64_image::{Fuse, MemDisk, OneFault};
-use keeper_commands::{
-    RecordForm, is_new_name, make_image, records_image, repair_image, store_image,
-};
+use keeper_commands::{repair_image, store_image};
 use std::process::Abort;
 
-/// The lines of STOCK's records.
-fn lines_of(rt: &(impl Abort + AllocGlobal), disk: &MemDisk) -> Vec<u8> {
+/// Stores two lines in STOCK of a blank disk whose call of this number fails: how that ends, what is printed, whether a
+/// call failed, and the disk then.
+fn faltering(
+    rt: &(impl Abort + AllocGlobal),
+    at: u32,
+    done: bool,
+) -> (Result<(), CommandFault>, Vec<u8>, bool, MemDisk) {
+    let blank = changed(rt, &[]);
+    let mut faulty = OneFault::new(loaded(rt, blank.bytes()), at, done);
     let mut out = Vec::new(rt.alloc());
-    let ended = records_image(
+    let text = b"1,A\n2,B\n";
+    let ended = store_image(
         rt.alloc(),
-        disk.bytes(),
+        blank.bytes(),
         b"STOCK",
-        RecordForm::Lines,
+        text,
+        &mut faulty,
         &mut out,
     );
-    is_told(rt, ended, "");
-    out
+    let failed = faulty.place().is_some();
+    (ended, out, failed, faulty.into_inner())
 }
 
 /// Checks that the lines that are printed of a store are those of records that are stored, though the call of this number
 /// fails on the way. All of them are printed if no call fails.
 fn prints_what_is_stored(rt: &(impl Abort + AllocGlobal), at: u32, done: bool) {
-    let blank = changed(rt, &[]);
-    match MemDisk::load(rt.alloc(), blank.bytes()) {
-        Ok(disk) => {
-            let mut faulty = OneFault::new(disk, at, done);
-            let mut out = Vec::new(rt.alloc());
-            let ended = store_image(
-                rt.alloc(),
-                blank.bytes(),
-                b"STOCK",
-                b"1,A\n2,B\n",
-                &mut faulty,
-                &mut out,
-            );
-            let failed = faulty.place().is_some();
-            same_at(rt, ended == Err(CommandFault::Device), failed, at);
-            same_at(rt, ended == Ok(()), !failed, at);
-            let held = lines_of(rt, &faulty.into_inner());
-            same_at(rt, held.as_slice().starts_with(out.as_slice()), true, at);
-            let all = out.as_slice() == b"1,\"A\"\n2,\"B\"\n".as_slice();
-            same_at(rt, all, !failed, at);
-        }
-        Err(fault) => panic!(rt; "the image isn't taken: {fault:?}"),
-    }
+    let (ended, out, failed, disk) = faltering(rt, at, done);
+    let wanted = if failed {
+        Err(CommandFault::Device)
+    } else {
+        Ok(())
+    };
+    same_at(rt, ended, wanted, at);
+    let held = text_of(rt, disk.bytes(), b"STOCK");
+    same_at(rt, held.as_slice().starts_with(out.as_slice()), true, at);
+    let all = out.as_slice() == b"1,\"A\"\n2,\"B\"\n".as_slice();
+    same_at(rt, all, !failed, at);
 }
 
 // 30 calls are more than there are.
@@ -66,22 +63,21 @@ fn a_line_is_printed_once_its_record_is_stored(rt: HostRuntime) {
 /// The map's count of track 1 and the block count of STOCK: two sectors are mended.
 const HURT: [Change; 2] = [(18, 0, 4, &[20]), (18, 1, 30, &[3])];
 
-// A device that takes so many sectors and then fails; nothing is mended before the last of the two.
+/// Checks that nothing is printed of a repair of that disk, whose device takes so many sectors and then fails.
+fn prints_nothing(rt: &(impl Abort + AllocGlobal), taken: u32) {
+    let hurt = changed(rt, &HURT);
+    let mut fuse = Fuse::new(loaded(rt, hurt.bytes()), taken);
+    let mut out = Vec::new(rt.alloc());
+    let ended = repair_image(rt.alloc(), hurt.bytes(), false, &mut fuse, &mut out);
+    same_at(rt, ended, Err(CommandFault::Device), taken);
+    same_at(rt, out.as_slice(), b"".as_slice(), taken);
+}
+
+// Nothing is mended before the last of the two sectors.
 #[test]
 fn nothing_is_printed_of_a_repair_that_fails(rt: HostRuntime) {
-    let hurt = changed(&rt, &HURT);
-    for taken in 0..2u32 {
-        match MemDisk::load(rt.alloc(), hurt.bytes()) {
-            Ok(disk) => {
-                let mut fuse = Fuse::new(disk, taken);
-                let mut out = Vec::new(rt.alloc());
-                let ended = repair_image(rt.alloc(), hurt.bytes(), false, &mut fuse, &mut out);
-                same_at(&rt, ended, Err(CommandFault::Device), taken);
-                same_at(&rt, out.as_slice(), b"".as_slice(), taken);
-            }
-            Err(fault) => panic!(&rt; "the image isn't taken: {fault:?}"),
-        }
-    }
+    prints_nothing(&rt, 0);
+    prints_nothing(&rt, 1);
 }
 
 // 8,000 bytes: of two thousand lines of one record the last counts.
@@ -107,7 +103,7 @@ fn many_records_are_printed_once(rt: HostRuntime) {
     is_told(&rt, ended, "");
     same_at(&rt, out.as_slice(), b"5000,\"A\"\n".as_slice(), "printed");
     let wanted = lines(&rt, 5009, 5000, "A");
-    let printed = lines_of(&rt, &after);
+    let printed = text_of(&rt, after.bytes(), b"STOCK");
     same_at(
         &rt,
         printed.as_slice() == wanted.as_slice(),
@@ -118,27 +114,10 @@ fn many_records_are_printed_once(rt: HostRuntime) {
 
 /// Checks that a file with records of so many bytes is made.
 fn is_made(rt: &(impl Abort + AllocGlobal), blank: &MemDisk, length: u8) {
-    assert!(rt;
-        is_new_name(b"CARDS") && length >= 1 && length <= 254,
-        "there is no such file"
-    );
-    match MemDisk::load(rt.alloc(), blank.bytes()) {
-        Ok(disk) => {
-            let mut disk = disk;
-            let mut out = Vec::new(rt.alloc());
-            let ended = make_image(
-                rt.alloc(),
-                blank.bytes(),
-                b"CARDS",
-                length,
-                &mut disk,
-                &mut out,
-            );
-            is_told(rt, ended, "");
-            same_at(rt, out.as_slice(), b"MADE\n".as_slice(), length);
-        }
-        Err(fault) => panic!(rt; "the image isn't taken: {fault:?}"),
-    }
+    let mut out = Vec::new(rt.alloc());
+    let (ended, _) = made(rt, blank.bytes(), b"CARDS", length, &mut out);
+    is_told(rt, ended, "");
+    same_at(rt, out.as_slice(), b"MADE\n".as_slice(), length);
 }
 
 #[test]

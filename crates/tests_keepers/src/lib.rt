@@ -34,6 +34,8 @@ mod picture_rows;
 #[cfg(test)]
 mod readable_rows;
 #[cfg(test)]
+mod rebuilding_rows;
+#[cfg(test)]
 mod record_rows;
 #[cfg(test)]
 mod repair_rows;

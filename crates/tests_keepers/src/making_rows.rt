@@ -1,7 +1,7 @@
 //! Files made on the blank disk for two tills, with the bytes that the layout of a directory asks for, and what is
 //! refused.
 use crate::comparing::same_at;
-use crate::disks::{Change, changed, with_record};
+use crate::disks::{Change, changed, loaded, with_record};
 use crate::outputs::{Full, is_told};
 use command_faults::CommandFault;
 use d64_image::{MemDisk, Place, Sectors};
@@ -25,7 +25,7 @@ const SLOT: &[u8; 32] =
     b"\0\0\x84\x11\x04ADD\xC1\xA0\xA0\xA0\xA0\xA0\xA0\xA0\xA0\xA0\xA0\xA0\xA0\x11\x05\x1E\0\0\0\0\0\0\x02\0";
 
 /// Makes a file on a disk in memory that holds this image: how that ends, and its bytes.
-fn made<W: Write>(
+pub(crate) fn made<W: Write>(
     rt: &(impl Abort + AllocGlobal),
     image: &[u8],
     name: &[u8],
@@ -36,14 +36,9 @@ fn made<W: Write>(
         is_new_name(name) && length >= 1 && length <= 254,
         "there is no such file"
     );
-    match MemDisk::load(rt.alloc(), image) {
-        Ok(disk) => {
-            let mut disk = disk;
-            let ended = make_image(rt.alloc(), image, name, length, &mut disk, out);
-            (ended, disk)
-        }
-        Err(fault) => panic!(rt; "the image isn't taken: {fault:?}"),
-    }
+    let mut disk = loaded(rt, image);
+    let ended = make_image(rt.alloc(), image, name, length, &mut disk, out);
+    (ended, disk)
 }
 
 /// Checks that the sector has these bytes from there on.

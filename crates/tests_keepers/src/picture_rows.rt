@@ -148,37 +148,49 @@ pub(crate) fn is_found(
     same_at(rt, text.as_slice(), told.as_bytes(), "told");
 }
 
+/// Checks that a text has this length and this Adler-32.
+pub(crate) fn is_text(rt: &impl Abort, text: &[u8], wanted: (usize, u32)) {
+    same_at(rt, (text.len(), adler(text)), wanted, wanted);
+}
+
+/// Checks the map of a disk.
+fn is_mapped(rt: &(impl Abort + AllocGlobal), image: &[u8], row: &Row) {
+    let mut out = Vec::new(rt.alloc());
+    is_found(rt, map_image(rt.alloc(), image, &mut out), row.told);
+    is_text(rt, out.as_slice(), row.map);
+}
+
+/// Checks the page of a disk.
+fn is_pictured(rt: &(impl Abort + AllocGlobal), image: &[u8], row: &Row) {
+    let mut out = Vec::new(rt.alloc());
+    is_found(rt, picture_image(rt.alloc(), image, &mut out), row.told);
+    is_text(rt, out.as_slice(), row.picture);
+}
+
+/// Checks the poster of a disk.
+fn is_on_a_poster(rt: &(impl Abort + AllocGlobal), image: &[u8], row: &Row) {
+    let mut out = Vec::new(rt.alloc());
+    is_found(rt, poster_image(rt.alloc(), image, &mut out), row.told);
+    is_text(rt, out.as_slice(), row.poster);
+}
+
+/// Checks the tile of a disk, and the status that goes with it.
+fn is_tiled(rt: &(impl Abort + AllocGlobal), image: &[u8], row: &Row) {
+    let mut out = Vec::new(rt.alloc());
+    let status = sheet_tile(rt.alloc(), "a.d64", image, &mut out);
+    let wanted = if row.told.is_empty() { 0 } else { 1 };
+    same_at(rt, status, Ok(wanted), row.told);
+    is_text(rt, out.as_slice(), row.tile);
+}
+
 /// Checks that these disks are drawn so.
 fn are_drawn(rt: &(impl Abort + AllocGlobal), rows: &[Row]) {
     for row in rows {
         let disk = changed(rt, row.changes);
-        let mut out = Vec::new(rt.alloc());
-        is_found(rt, map_image(rt.alloc(), disk.bytes(), &mut out), row.told);
-        same_at(rt, (out.len(), adler(out.as_slice())), row.map, row.told);
-        out.clear();
-        is_found(
-            rt,
-            picture_image(rt.alloc(), disk.bytes(), &mut out),
-            row.told,
-        );
-        same_at(
-            rt,
-            (out.len(), adler(out.as_slice())),
-            row.picture,
-            row.told,
-        );
-        out.clear();
-        is_found(
-            rt,
-            poster_image(rt.alloc(), disk.bytes(), &mut out),
-            row.told,
-        );
-        same_at(rt, (out.len(), adler(out.as_slice())), row.poster, row.told);
-        out.clear();
-        let status = sheet_tile(rt.alloc(), "a.d64", disk.bytes(), &mut out);
-        let wanted = if row.told.is_empty() { 0 } else { 1 };
-        same_at(rt, status, Ok(wanted), row.told);
-        same_at(rt, (out.len(), adler(out.as_slice())), row.tile, row.told);
+        is_mapped(rt, disk.bytes(), row);
+        is_pictured(rt, disk.bytes(), row);
+        is_on_a_poster(rt, disk.bytes(), row);
+        is_tiled(rt, disk.bytes(), row);
     }
 }
 
@@ -212,10 +224,5 @@ fn what_isnt_drawn_has_its_tile(rt: HostRuntime) {
     let status = sheet_tile(rt.alloc(), "b.d64", b"", &mut out);
     same_at(&rt, status, Ok(1), "of another size");
     same_at(&rt, sheet_finish(&mut out), Ok(()), "finished");
-    same_at(
-        &rt,
-        (out.len(), adler(out.as_slice())),
-        (3511, 3919946357),
-        "the sheet",
-    );
+    is_text(&rt, out.as_slice(), (3511, 3919946357));
 }

@@ -45,6 +45,26 @@ pub(crate) fn lines(rt: &impl AllocGlobal, count: u32, written: u32, text: &str)
     lines
 }
 
+/// Prints the records of a file as lines: how that ends.
+pub(crate) fn printed<W: Write>(
+    rt: &impl AllocGlobal,
+    image: &[u8],
+    name: &[u8],
+    out: &mut W,
+) -> Result<(), CommandFault> {
+    records_image(rt.alloc(), image, name, RecordForm::Lines, out)
+}
+
+/// The same of the first file of the name, closed or not.
+fn printed_unclosed<W: Write>(
+    rt: &impl AllocGlobal,
+    image: &[u8],
+    name: &[u8],
+    out: &mut W,
+) -> Result<(), CommandFault> {
+    unclosed_records_image(rt.alloc(), image, name, RecordForm::Lines, out)
+}
+
 /// Checks that the records of each file are printed.
 fn are_printed(rt: &(impl Abort + AllocGlobal), rows: &[Made]) {
     for &(name, size, number, bytes, text, count) in rows {
@@ -54,7 +74,7 @@ fn are_printed(rt: &(impl Abort + AllocGlobal), rows: &[Made]) {
         );
         let disk = with_record(rt, name, size, number, bytes);
         let mut out = Vec::new(rt.alloc());
-        let ended = records_image(rt.alloc(), disk.bytes(), name, RecordForm::Lines, &mut out);
+        let ended = printed(rt, disk.bytes(), name, &mut out);
         same_at(rt, ended, Ok(()), name);
         let wanted = lines(rt, count, number, text);
         same_at(rt, out.as_slice(), wanted.as_slice(), name);
@@ -92,7 +112,7 @@ fn are_refused(rt: &(impl Abort + AllocGlobal), rows: &[(&[Change], &[u8], &str)
     for &(changes, name, told) in rows {
         let disk = changed(rt, changes);
         let mut out = Vec::new(rt.alloc());
-        let ended = records_image(rt.alloc(), disk.bytes(), name, RecordForm::Lines, &mut out);
+        let ended = printed(rt, disk.bytes(), name, &mut out);
         is_told(rt, ended, told);
         same_at(rt, out.as_slice(), b"", name);
     }
@@ -124,32 +144,29 @@ const HURT: [(&[Change], &str); 5] = [
     ),
 ];
 
+/// Checks that this is printed of STOCK, and that this is reported.
+fn is_reached(rt: &(impl Abort + AllocGlobal), changes: &[Change], told: &str, wanted: &[u8]) {
+    let disk = changed(rt, changes);
+    let mut out = Vec::new(rt.alloc());
+    let ended = printed(rt, disk.bytes(), b"STOCK", &mut out);
+    is_told(rt, ended, told);
+    same_at(rt, out.as_slice(), wanted, told);
+}
+
+/// Checks that an output that takes 20 bytes is reported, of STOCK on a disk with these changes.
+fn is_full(rt: &(impl Abort + AllocGlobal), changes: &[Change]) {
+    let disk = changed(rt, changes);
+    let ended = printed(rt, disk.bytes(), b"STOCK", &mut Full { room: 20 });
+    is_told(rt, ended, "FILE");
+}
+
 #[test]
 fn records_that_can_be_reached_are_printed(rt: HostRuntime) {
     let wanted = lines(&rt, 14, 2, "CARD");
     for (changes, told) in HURT {
-        let disk = changed(&rt, changes);
-        let mut out = Vec::new(rt.alloc());
-        let ended = records_image(
-            rt.alloc(),
-            disk.bytes(),
-            b"STOCK",
-            RecordForm::Lines,
-            &mut out,
-        );
-        is_told(&rt, ended, told);
-        same_at(&rt, out.as_slice(), wanted.as_slice(), told);
+        is_reached(&rt, changes, told, wanted.as_slice());
     }
-    let disk = changed(&rt, &[LOST_SIDE]);
-    let mut full = Full { room: 20 };
-    let ended = records_image(
-        rt.alloc(),
-        disk.bytes(),
-        b"STOCK",
-        RecordForm::Lines,
-        &mut full,
-    );
-    is_told(&rt, ended, "FILE");
+    is_full(&rt, &[LOST_SIDE]);
 }
 
 /// Changes of the blank disk, the name that is asked for, its printed record or none, and what is reported, of the first
@@ -175,22 +192,30 @@ const UNCLOSED: [(&[Change], &[u8], bool, &str); 6] = [
     (&[CARD, (18, 1, 23, &[0])], b"STOCK", false, "NO FILE"),
 ];
 
+/// Checks that this is printed of the first file of the name, closed or not, and that this is reported.
+fn is_unclosed(
+    rt: &(impl Abort + AllocGlobal),
+    changes: &[Change],
+    name: &[u8],
+    told: &str,
+    wanted: &[u8],
+) {
+    let disk = changed(rt, changes);
+    let mut out = Vec::new(rt.alloc());
+    let ended = printed_unclosed(rt, disk.bytes(), name, &mut out);
+    is_told(rt, ended, told);
+    same_at(rt, out.as_slice(), wanted, told);
+}
+
 #[test]
 fn records_of_unclosed_files_are_printed(rt: HostRuntime) {
     let all = lines(&rt, 14, 2, "CARD");
     for (changes, name, printed, told) in UNCLOSED {
-        let disk = changed(&rt, changes);
-        let mut out = Vec::new(rt.alloc());
-        let form = RecordForm::Lines;
-        let ended = unclosed_records_image(rt.alloc(), disk.bytes(), name, form, &mut out);
-        is_told(&rt, ended, told);
         let wanted = if printed { all.as_slice() } else { b"" };
-        same_at(&rt, out.as_slice(), wanted, told);
+        is_unclosed(&rt, changes, name, told, wanted);
     }
     let disk = changed(&rt, &[]);
-    let mut full = Full { room: 20 };
-    let form = RecordForm::Lines;
-    let ended = unclosed_records_image(rt.alloc(), disk.bytes(), b"STOCK", form, &mut full);
+    let ended = printed_unclosed(&rt, disk.bytes(), b"STOCK", &mut Full { room: 20 });
     is_told(&rt, ended, "FILE");
 }
 
@@ -200,21 +225,7 @@ fn records_are_refused(rt: HostRuntime) {
     are_refused(&rt, &REFUSED);
     let disk = changed(&rt, &[]);
     let mut out = Vec::new(rt.alloc());
-    let ended = records_image(
-        rt.alloc(),
-        &disk.bytes()[1..],
-        b"NONE",
-        RecordForm::Lines,
-        &mut out,
-    );
+    let ended = printed(&rt, &disk.bytes()[1..], b"NONE", &mut out);
     same_at(&rt, ended, Err(CommandFault::ImageSize), "size");
-    let mut full = Full { room: 20 };
-    let ended = records_image(
-        rt.alloc(),
-        disk.bytes(),
-        b"STOCK",
-        RecordForm::Lines,
-        &mut full,
-    );
-    is_told(&rt, ended, "FILE");
+    is_full(&rt, &[]);
 }

@@ -1,6 +1,6 @@
 //! What is printed of repairs of the blank disk for two tills, with bytes changed, and what is refused.
 use crate::comparing::same_at;
-use crate::disks::{Change, changed};
+use crate::disks::{Change, changed, loaded};
 use crate::outputs::is_told;
 use command_faults::CommandFault;
 use d64_image::MemDisk;
@@ -38,14 +38,9 @@ fn repaired<W: Write>(
     free: bool,
     out: &mut W,
 ) -> (Result<u16, CommandFault>, MemDisk) {
-    match MemDisk::load(rt.alloc(), image) {
-        Ok(disk) => {
-            let mut disk = disk;
-            let ended = repair_image(rt.alloc(), image, free, &mut disk, out);
-            (ended, disk)
-        }
-        Err(fault) => panic!(rt; "the image isn't taken: {fault:?}"),
-    }
+    let mut disk = loaded(rt, image);
+    let ended = repair_image(rt.alloc(), image, free, &mut disk, out);
+    (ended, disk)
 }
 
 /// Checks that a repair ended so: with this report; or done, with so many sectors left, if there is no report.

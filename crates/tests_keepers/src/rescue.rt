@@ -8,7 +8,6 @@ mod extract_rows;
 mod piece_rows;
 mod quoted_rows;
 mod reaching_rows;
-mod rebuilt_rows;
 mod scanned_rows;
 mod size_rows;
 mod text_rows;

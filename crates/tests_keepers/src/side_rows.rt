@@ -1,7 +1,7 @@
 //! What is printed when side sectors of the blank disk for two tills are built anew, with bytes changed, and what is
 //! refused. STOCK has the block 17/0 and the side sector 17/1.
 use crate::comparing::same_at;
-use crate::disks::{Change, changed};
+use crate::disks::{Change, changed, loaded};
 use crate::outputs::{Full, is_told};
 use command_faults::CommandFault;
 use d64_image::MemDisk;
@@ -76,14 +76,9 @@ fn rebuilt<W: Write>(
     shortened: Shortened,
     out: &mut W,
 ) -> (Result<(), CommandFault>, MemDisk) {
-    match MemDisk::load(rt.alloc(), image) {
-        Ok(disk) => {
-            let mut disk = disk;
-            let ended = rebuild_image(rt.alloc(), image, shortened, &mut disk, out);
-            (ended, disk)
-        }
-        Err(fault) => panic!(rt; "the image isn't taken: {fault:?}"),
-    }
+    let mut disk = loaded(rt, image);
+    let ended = rebuild_image(rt.alloc(), image, shortened, &mut disk, out);
+    (ended, disk)
 }
 
 /// Checks that this is printed and reported of a disk with these changes, and that it becomes that with those.

@@ -1,11 +1,12 @@
 //! Records stored from a text on the blank disk for two tills: what is printed and reported, and what the disk has then.
 //! Its STOCK has 14 records of 18 bytes, none of them written.
 use crate::comparing::same_at;
-use crate::disks::{Change, changed};
+use crate::disks::{Change, changed, loaded};
 use crate::outputs::{Full, is_told};
+use crate::record_rows::printed;
 use command_faults::CommandFault;
 use d64_image::MemDisk;
-use keeper_commands::{RecordForm, records_image, store_image};
+use keeper_commands::store_image;
 use std::io::Write;
 use std::process::Abort;
 
@@ -17,14 +18,9 @@ pub(crate) fn stored<W: Write>(
     text: &[u8],
     out: &mut W,
 ) -> (Result<(), CommandFault>, MemDisk) {
-    match MemDisk::load(rt.alloc(), image) {
-        Ok(disk) => {
-            let mut disk = disk;
-            let ended = store_image(rt.alloc(), image, name, text, &mut disk, out);
-            (ended, disk)
-        }
-        Err(fault) => panic!(rt; "the image isn't taken: {fault:?}"),
-    }
+    let mut disk = loaded(rt, image);
+    let ended = store_image(rt.alloc(), image, name, text, &mut disk, out);
+    (ended, disk)
 }
 
 /// Checks that this is printed of the text and reported, and that then the file has these lines first.
@@ -32,31 +28,18 @@ fn is_stored(
     rt: &(impl Abort + AllocGlobal),
     before: &MemDisk,
     text: &str,
-    printed: &str,
+    told: &str,
     first: &str,
 ) -> MemDisk {
     let mut out = Vec::new(rt.alloc());
     let (ended, after) = stored(rt, before.bytes(), b"STOCK", text.as_bytes(), &mut out);
     is_told(rt, ended, "");
-    same_at(rt, out.as_slice(), printed.as_bytes(), text);
+    same_at(rt, out.as_slice(), told.as_bytes(), text);
     let mut lines = Vec::new(rt.alloc());
-    is_told(
-        rt,
-        records_image(
-            rt.alloc(),
-            after.bytes(),
-            b"STOCK",
-            RecordForm::Lines,
-            &mut lines,
-        ),
-        "",
-    );
-    same_at(
-        rt,
-        lines.as_slice().starts_with(first.as_bytes()),
-        true,
-        text,
-    );
+    let ended = printed(rt, after.bytes(), b"STOCK", &mut lines);
+    is_told(rt, ended, "");
+    let is_first = lines.as_slice().starts_with(first.as_bytes());
+    same_at(rt, is_first, true, text);
     after
 }
 

@@ -4,7 +4,7 @@
 use crate::comparing::same_at;
 use crate::disks::{Change, changed};
 use crate::outputs::Full;
-use crate::picture_rows::adler;
+use crate::picture_rows::is_text;
 use command_faults::CommandFault;
 use d64_image::Place;
 use disk_pictures::{free_image, sector_image, trim_image};
@@ -65,55 +65,49 @@ const TRIMS: [Trim; 6] = [
     ),
 ];
 
-/// Checks that these bytes were printed.
-fn is_printed(rt: &impl Abort, out: &[u8], want: (usize, u32)) {
-    same_at(rt, (out.len(), adler(out)), want, want);
+/// What is printed of a sector of a disk with these changes.
+fn printed(
+    rt: &(impl Abort + AllocGlobal),
+    changes: &[Change],
+    (track, sector): (u8, u8),
+) -> Vec<u8> {
+    let disk = changed(rt, changes);
+    let place = Place::new(track, sector).unwrap_or_default();
+    let mut out = Vec::new(rt.alloc());
+    let ended = sector_image(rt.alloc(), disk.bytes(), place, &mut out);
+    same_at(rt, ended, Ok(()), (track, sector));
+    out
 }
 
 #[test]
 fn sectors_are_printed(rt: HostRuntime) {
-    for &(changes, (track, sector), want) in &SECTORS {
-        let disk = changed(&rt, changes);
-        let place = Place::new(track, sector).unwrap_or_default();
-        let mut out = Vec::new(rt.alloc());
-        let ended = sector_image(rt.alloc(), disk.bytes(), place, &mut out);
-        same_at(&rt, ended, Ok(()), (track, sector));
-        is_printed(&rt, out.as_slice(), want);
+    for &(changes, place, want) in &SECTORS {
+        is_text(&rt, printed(&rt, changes, place).as_slice(), want);
     }
 }
 
 #[test]
 fn a_block_is_printed_so(rt: HostRuntime) {
-    let disk = changed(&rt, &[]);
-    let place = Place::new(17, 2).unwrap_or_default();
-    let mut out = Vec::new(rt.alloc());
-    let ended = sector_image(rt.alloc(), disk.bytes(), place, &mut out);
-    same_at(&rt, ended, Ok(()), "the block");
-    let end = out.as_slice().len().saturating_sub(BLOCK_END.len());
-    same_at(&rt, &out.as_slice()[end..], BLOCK_END.as_bytes(), "its end");
+    let out = printed(&rt, &[], (17, 2));
+    let has_end = out.as_slice().ends_with(BLOCK_END.as_bytes());
+    same_at(&rt, has_end, true, "its end");
 }
 
+/// Checks what is printed of the free sectors of a disk with these changes.
+fn are_free(rt: &(impl Abort + AllocGlobal), changes: &[Change], want: (usize, u32)) {
+    let disk = changed(rt, changes);
+    let mut out = Vec::new(rt.alloc());
+    let ended = free_image(rt.alloc(), disk.bytes(), &mut out);
+    same_at(rt, ended, Ok(()), want);
+    is_text(rt, out.as_slice(), want);
+}
+
+// A count of 255 is printed as it stands there.
 #[test]
 fn free_sectors_are_counted(rt: HostRuntime) {
-    let mut out = Vec::new(rt.alloc());
-    let disk = changed(&rt, &[]);
-    same_at(
-        &rt,
-        free_image(rt.alloc(), disk.bytes(), &mut out),
-        Ok(()),
-        "blank",
-    );
-    is_printed(&rt, out.as_slice(), (602, 1621198618));
-    out.clear();
-    // a count of 255 is printed as it stands there
-    let disk = changed(&rt, &[(18, 0, 4, &[20, 0xFE]), (18, 0, 72, &[255])]);
-    same_at(
-        &rt,
-        free_image(rt.alloc(), disk.bytes(), &mut out),
-        Ok(()),
-        "wrong",
-    );
-    is_printed(&rt, out.as_slice(), (603, 3750922069));
+    are_free(&rt, &[], (602, 1621198618));
+    let wrong: &[Change] = &[(18, 0, 4, &[20, 0xFE]), (18, 0, 72, &[255])];
+    are_free(&rt, wrong, (603, 3750922069));
 }
 
 /// Checks that nothing is printed of this, and why.
@@ -161,39 +155,51 @@ fn an_output_that_fails_is_told(rt: HostRuntime) {
     same_at(&rt, ended, Err(CommandFault::File), "sector");
 }
 
-/// An image with so many bytes after its tracks, all 1 except these.
-fn longer(rt: &(impl Abort + AllocGlobal), row: &Trim) -> Vec<u8> {
-    let &(more, errors, link, _) = row;
-    let disk = changed(rt, &[]);
+/// An image with so many bytes after its tracks, all 1.
+fn with_more(rt: &(impl Abort + AllocGlobal), more: usize) -> Vec<u8> {
     let mut image = Vec::new(rt.alloc());
+    let disk = changed(rt, &[]);
     image.extend_from_slice(disk.bytes()).expect(rt, "memory");
     for _ in 0..more {
         image.push(1).expect(rt, "memory");
     }
-    let bytes = image.as_mut_slice();
-    // 17/2 is sector 338; error bytes are the last 683, or of 40 tracks the last 768
-    for (to, byte) in bytes.iter_mut().skip(256 * 338).zip(&link) {
+    image
+}
+
+/// Puts these bytes into an image, from there on.
+fn put(image: &mut Vec<u8>, at: usize, bytes: &[u8]) {
+    for (to, byte) in image.as_mut_slice().iter_mut().skip(at).zip(bytes) {
         *to = *byte;
     }
+}
+
+/// An image with so many bytes after its tracks, all 1 except these.
+fn longer(rt: &(impl Abort + AllocGlobal), row: &Trim) -> Vec<u8> {
+    let &(more, errors, link, _) = row;
+    let mut image = with_more(rt, more);
+    // 17/2 is sector 338; error bytes are the last 683, or of 40 tracks the last 768
+    put(&mut image, 256 * 338, &link);
     let first = if more == 22528 { 196608 } else { 174848 };
     for &(at, error) in errors {
-        for byte in bytes.iter_mut().skip(first).skip(at).take(1) {
-            *byte = error;
-        }
+        put(&mut image, at.saturating_add(first), &[error]);
     }
     image
+}
+
+/// Checks that tracks 1 to 35 are printed of an image, and its errors reported.
+fn is_trimmed(rt: &(impl Abort + AllocGlobal), row: &Trim) {
+    let image = longer(rt, row);
+    let (mut out, mut err) = (Vec::new(rt.alloc()), Vec::new(rt.alloc()));
+    let ended = trim_image(rt.alloc(), image.as_slice(), &mut out, &mut err);
+    same_at(rt, ended, Ok(row.3.is_empty()), row.3);
+    same_at(rt, err.as_slice(), row.3.as_bytes(), row.3);
+    let is_front = image.as_slice().starts_with(out.as_slice());
+    same_at(rt, (out.len(), is_front), (174848, true), row.3);
 }
 
 #[test]
 fn tracks_1_to_35_are_printed(rt: HostRuntime) {
     for row in &TRIMS {
-        let image = longer(&rt, row);
-        let mut out = Vec::new(rt.alloc());
-        let mut err = Vec::new(rt.alloc());
-        let ended = trim_image(rt.alloc(), image.as_slice(), &mut out, &mut err);
-        same_at(&rt, ended, Ok(row.3.is_empty()), row.3);
-        same_at(&rt, err.as_slice(), row.3.as_bytes(), row.3);
-        let is_front = image.as_slice().starts_with(out.as_slice());
-        same_at(&rt, (out.len(), is_front), (174848, true), row.3);
+        is_trimmed(&rt, row);
     }
 }

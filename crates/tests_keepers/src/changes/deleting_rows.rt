@@ -1,14 +1,14 @@
 //! Files deleted.
-use crate::changes::disks::{blank, clean, with_type};
 use crate::comparing::{differs_in, same_at};
+use crate::disks::{Change, changed, clean, fresh};
 use file_changes::{ChangeFault, delete};
 use std::process::Abort;
 
 // In the map track 17 has four bytes from byte 91,460 on: at the start its sectors 0 to 3 are taken, 11 F0 FF 1F.
 #[test]
 fn files_are_deleted(rt: HostRuntime) {
-    let before = blank(&rt);
-    let mut disk = blank(&rt);
+    let before = fresh(&rt);
+    let mut disk = fresh(&rt);
     clean(&rt, &mut disk);
     same_at(&rt, delete(&mut disk, b"STOCK"), Ok(()), "deleted");
     differs_in(
@@ -38,11 +38,16 @@ fn files_are_deleted(rt: HostRuntime) {
     );
 }
 
-/// Checks that the file of this name isn't deleted if STOCK has this type, and that nothing is written.
-fn is_refused(rt: &(impl Abort + AllocGlobal), kind: u8, name: &'static [u8], told: ChangeFault) {
+/// Checks that the file of this name isn't deleted on a disk with this change, and that nothing is written.
+fn is_refused(
+    rt: &(impl Abort + AllocGlobal),
+    kind: Change,
+    name: &'static [u8],
+    told: ChangeFault,
+) {
     assert!(rt; name.len() <= 16, "no entry has such a name");
-    let before = with_type(rt, kind);
-    let mut disk = with_type(rt, kind);
+    let before = changed(rt, &[kind]);
+    let mut disk = changed(rt, &[kind]);
     clean(rt, &mut disk);
     same_at(rt, delete(&mut disk, name), Err(told), name);
     differs_in(rt, disk.bytes(), before.bytes(), &[]);
@@ -51,6 +56,6 @@ fn is_refused(rt: &(impl Abort + AllocGlobal), kind: u8, name: &'static [u8], to
 // C4 is a closed relative file that is locked.
 #[test]
 fn files_are_kept(rt: HostRuntime) {
-    is_refused(&rt, 0x84, b"STOC", ChangeFault::NotFound);
-    is_refused(&rt, 0xC4, b"STOCK", ChangeFault::Locked);
+    is_refused(&rt, (18, 1, 2, &[0x84]), b"STOC", ChangeFault::NotFound);
+    is_refused(&rt, (18, 1, 2, &[0xC4]), b"STOCK", ChangeFault::Locked);
 }

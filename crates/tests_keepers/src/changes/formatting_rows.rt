@@ -1,6 +1,6 @@
 //! Empty disks.
-use crate::changes::disks::{blank, clean};
 use crate::comparing::{differs_in, same_at};
+use crate::disks::{clean, fresh};
 use d64_image::MemDisk;
 use file_changes::{format_disk, new_disk};
 
@@ -57,7 +57,7 @@ fn empty_disks_are_made(rt: HostRuntime) {
 // The blank disk's sectors of track 17 stay.
 #[test]
 fn disks_are_emptied(rt: HostRuntime) {
-    let mut disk = blank(&rt);
+    let mut disk = fresh(&rt);
     same_at(
         &rt,
         format_disk(&mut disk, b"SIXTEEN LETTERS!", *b"01"),
@@ -66,7 +66,7 @@ fn disks_are_emptied(rt: HostRuntime) {
     );
     clean(&rt, &mut disk);
     let block = disk.bytes().iter().skip(86_016);
-    let old = blank(&rt);
+    let old = fresh(&rt);
     for (number, (byte, was)) in block.zip(old.bytes().iter().skip(86_016)).enumerate() {
         if number < 5_376 {
             same_at(&rt, byte, was, number);

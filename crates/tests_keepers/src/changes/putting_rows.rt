@@ -1,6 +1,6 @@
 //! Files put on a disk.
-use crate::changes::disks::{blank, clean};
 use crate::comparing::{differs_in, same_at};
+use crate::disks::{clean, fresh};
 use d64_image::MemDisk;
 use file_changes::{ChangeFault, FileType, put_file};
 use std::process::Abort;
@@ -23,8 +23,8 @@ fn is_put(
 // 17/4 begins at byte 87,040 of the image. In the map track 17 has 11 F0 FF 1F at the start: its sectors 0 to 3 are taken.
 #[test]
 fn files_are_put(rt: HostRuntime) {
-    let before = blank(&rt);
-    let mut disk = blank(&rt);
+    let before = fresh(&rt);
+    let mut disk = fresh(&rt);
     is_put(&rt, &mut disk, b"GAME", FileType::Prg, &[7; 255], Ok(()));
     is_put(&rt, &mut disk, b"EMPTY", FileType::Seq, b"", Ok(()));
     is_put(
@@ -59,7 +59,7 @@ fn files_are_put(rt: HostRuntime) {
 // which 18/1 links then. In the map track 18 has 11 FC FF 07 at the start.
 #[test]
 fn directories_grow(rt: HostRuntime) {
-    let mut disk = blank(&rt);
+    let mut disk = fresh(&rt);
     for name in [b"A", b"B", b"C", b"D", b"E", b"F", b"G"] {
         is_put(&rt, &mut disk, name, FileType::Usr, b"HI", Ok(()));
     }
@@ -93,7 +93,7 @@ fn directories_grow(rt: HostRuntime) {
 // 660 blocks are free: 167,640 bytes. 17/20, at byte 91,136, links to 19/0; the last sector is 35/16, at byte 174,592.
 #[test]
 fn disks_are_filled(rt: HostRuntime) {
-    let mut disk = blank(&rt);
+    let mut disk = fresh(&rt);
     let data = vec![in rt.alloc(); 1u8; 167_641].expect(&rt, "the data");
     is_put(
         &rt,

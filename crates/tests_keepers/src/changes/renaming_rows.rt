@@ -1,6 +1,6 @@
 //! Entries that get another name.
-use crate::changes::disks::{blank, sound};
 use crate::comparing::{differs_in, same_at};
+use crate::disks::{fresh, sound};
 use file_changes::{ChangeFault, rename};
 use std::process::Abort;
 
@@ -15,8 +15,8 @@ const REFUSED: [(&[u8], &[u8], ChangeFault); 4] = [
 // The name stands in the bytes 5 to 20 of a slot; a shifted space (A0) may stand within it.
 #[test]
 fn entries_are_renamed(rt: HostRuntime) {
-    let before = blank(&rt);
-    let mut disk = blank(&rt);
+    let before = fresh(&rt);
+    let mut disk = fresh(&rt);
     sound(&rt, &mut disk);
     same_at(
         &rt,
@@ -61,8 +61,8 @@ fn is_refused(rt: &(impl Abort + AllocGlobal), from: &'static [u8], to: &[u8], t
         from.len() <= 16 && to.len() <= 16,
         "no entry has such a name"
     );
-    let before = blank(rt);
-    let mut disk = blank(rt);
+    let before = fresh(rt);
+    let mut disk = fresh(rt);
     sound(rt, &mut disk);
     same_at(rt, rename(&mut disk, from, to), Err(told), from);
     differs_in(rt, disk.bytes(), before.bytes(), &[]);

@@ -1,7 +1,7 @@
 //! Deleted files taken out of a disk.
 use crate::comparing::same_at;
-use crate::rescue::extract_disks::{DISK, SAME, Written, fault_of, put, written};
-use file_rescue::{Choice, MemFolder, extract_image};
+use crate::rescue::extract_disks::{SAME, Written, changed, extracted, fault_of, index_ends};
+use file_rescue::Choice;
 use std::process::Abort;
 
 /// The deleted ones too.
@@ -75,29 +75,18 @@ const DELETED_ROWS: [Deleted; 5] = [
     ),
 ];
 
-/// Checks that each row gives the end of its index, and its fault.
-fn are_undeleted(rt: &(impl Abort + AllocGlobal), rows: &[Deleted]) {
-    for (change, end, count, fault) in rows {
-        let mut disk = written(rt, &DISK, SAME);
-        for part in &SCRATCHED {
-            put(&mut disk, *part);
-        }
-        put(&mut disk, *change);
-        let mut folder = MemFolder::new(rt.alloc());
-        let found = extract_image(rt.alloc(), DELETED, disk.bytes(), &mut folder).expect(
-            rt,
-            "extracted",
-        );
-        same_at(rt, found, fault_of(*fault), change);
-        same_at(rt, folder.files().len(), *count, change);
-        if let Some(index) = folder.files().last() {
-            let bytes = index.bytes.as_slice();
-            same_at(rt, bytes.ends_with(*end), true, change);
-        }
-    }
+/// Checks that a row gives the end of its index, and its fault.
+fn is_undeleted(rt: &(impl Abort + AllocGlobal), (change, end, count, fault): Deleted) {
+    let disk = changed(rt, &SCRATCHED, change);
+    let (found, folder) = extracted(rt, DELETED, &disk);
+    same_at(rt, found, fault_of(fault), change);
+    same_at(rt, folder.files().len(), count, change);
+    index_ends(rt, &folder, end, change);
 }
 
 #[test]
 fn deleted_files_are_extracted(rt: HostRuntime) {
-    are_undeleted(&rt, &DELETED_ROWS);
+    for row in &DELETED_ROWS {
+        is_undeleted(&rt, *row);
+    }
 }

@@ -1,6 +1,8 @@
 //! A disk from which files are taken out, by hand from the bytes that are written on it.
+use crate::comparing::same_at;
 use d64_image::{MemDisk, Place, Sectors};
 use disk_layout::Fault;
+use file_rescue::{Choice, MemFolder, extract_image};
 use std::process::Abort;
 
 /// Bytes that are written: a sector, at which of its bytes they begin, and the bytes.
@@ -51,6 +53,38 @@ pub(crate) fn put(disk: &mut MemDisk, (track, sector, at, part): Written) {
         *room = *byte;
     }
     let _ = disk.write(place, &bytes);
+}
+
+/// That disk with these bytes too, and then this change.
+pub(crate) fn changed(
+    rt: &(impl Abort + AllocGlobal),
+    parts: &[Written],
+    change: Written,
+) -> MemDisk {
+    let mut disk = written(rt, &DISK, SAME);
+    for part in parts {
+        put(&mut disk, *part);
+    }
+    put(&mut disk, change);
+    disk
+}
+
+/// Takes the files out of a disk: its fault, and the folder.
+pub(crate) fn extracted(
+    rt: &(impl Abort + AllocGlobal),
+    choice: Choice,
+    disk: &MemDisk,
+) -> (Option<Fault>, MemFolder) {
+    let mut folder = MemFolder::new(rt.alloc());
+    let found = extract_image(rt.alloc(), choice, disk.bytes(), &mut folder);
+    (found.expect(rt, "extracted"), folder)
+}
+
+/// Checks that the last file of a folder, which is its index, ends so.
+pub(crate) fn index_ends(rt: &impl Abort, folder: &MemFolder, end: &[u8], row: Written) {
+    if let Some(index) = folder.files().last() {
+        same_at(rt, index.bytes.as_slice().ends_with(end), true, row);
+    }
 }
 
 /// The fault of a row: 0 none, 1 `BadLink`, 2 `Loop`, 3 `OwnedTwice`, 4 `Unclosed`, and its sector.

@@ -1,6 +1,6 @@
 //! Files taken out of a disk.
 use crate::comparing::same_at;
-use crate::rescue::extract_disks::{DISK, SAME, Written, fault_of, written};
+use crate::rescue::extract_disks::{DISK, SAME, Written, extracted, fault_of, written};
 use file_rescue::{Choice, MemFolder, extract_image};
 use std::process::Abort;
 
@@ -96,12 +96,7 @@ fn has_index(rt: &(impl Abort + AllocGlobal), folder: &MemFolder, row: &Row) {
 /// Checks that each row gives its index and its fault.
 fn are_extracted(rt: &(impl Abort + AllocGlobal), rows: &[Row]) {
     for row in rows {
-        let disk = written(rt, &DISK, row.0);
-        let mut folder = MemFolder::new(rt.alloc());
-        let found = extract_image(rt.alloc(), PLAIN, disk.bytes(), &mut folder).expect(
-            rt,
-            "extracted",
-        );
+        let (found, folder) = extracted(rt, PLAIN, &written(rt, &DISK, row.0));
         same_at(rt, found, fault_of(row.3), row.0);
         has_index(rt, &folder, row);
     }
@@ -120,23 +115,20 @@ fn has_files(rt: &(impl Abort + AllocGlobal), folder: &MemFolder, files: &[(&[u8
     }
 }
 
+/// Checks that nothing is taken out of these bytes, and that the folder has so many files then.
+fn is_refused(rt: &(impl Abort + AllocGlobal), image: &[u8], mut folder: MemFolder, count: usize) {
+    let refused = extract_image(rt.alloc(), PLAIN, image, &mut folder);
+    same_at(rt, refused.is_err(), true, count);
+    same_at(rt, folder.files().len(), count, count);
+}
+
+// A folder refuses files that it has, and keeps them. An image of another size makes nothing.
 #[test]
 fn files_are_extracted(rt: HostRuntime) {
     let disk = written(&rt, &DISK, SAME);
-    let mut folder = MemFolder::new(rt.alloc());
-    let found = extract_image(rt.alloc(), PLAIN, disk.bytes(), &mut folder).expect(
-        &rt,
-        "extracted",
-    );
+    let (found, folder) = extracted(&rt, PLAIN, &disk);
     same_at(&rt, found, None, "the disk");
     has_files(&rt, &folder, &FILES);
-    // the folder refuses files that it has, and keeps them
-    let again = extract_image(rt.alloc(), PLAIN, disk.bytes(), &mut folder);
-    same_at(&rt, again.is_err(), true, "the folder once more");
-    same_at(&rt, folder.files().len(), 4, "the folder once more");
-    // and an image of another size makes nothing
-    let mut other = MemFolder::new(rt.alloc());
-    let refused = extract_image(rt.alloc(), PLAIN, b"short", &mut other);
-    same_at(&rt, refused.is_err(), true, "another size");
-    same_at(&rt, other.files().len(), 0, "another size");
+    is_refused(&rt, disk.bytes(), folder, 4);
+    is_refused(&rt, b"short", MemFolder::new(rt.alloc()), 0);
 }

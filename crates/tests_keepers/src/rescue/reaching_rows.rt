@@ -121,21 +121,27 @@ fn wanted(end: End) -> Reach {
     }
 }
 
-/// Checks that these blocks are reached, and what ends them.
-fn are_reached(rt: &(impl Abort + AllocGlobal), rows: &[Row]) {
-    for &(links, (kind, track, sector), blocks, end) in rows {
-        let mut disk = linked(rt, links);
-        let mut found = ArrayVec::new();
-        let reach = reach_file(&mut disk, &entry(kind, track, sector), &mut found);
-        same_at(rt, reach, wanted(end), links);
-        same_at(rt, found.len(), blocks.len(), links);
-        for (found, &(track, sector)) in found.as_slice().iter().zip(blocks) {
-            same_at(rt, *found, place(track, sector), links);
-        }
+/// Checks that the places are these blocks, in turn.
+fn are_blocks(rt: &impl Abort, places: &[Place], blocks: &[(u8, u8)]) {
+    same_at(rt, places.len(), blocks.len(), "blocks");
+    for (found, &(track, sector)) in places.iter().zip(blocks) {
+        same_at(rt, *found, place(track, sector), (track, sector));
     }
+}
+
+/// Checks that these blocks are reached, and what ends them.
+fn is_reached(rt: &(impl Abort + AllocGlobal), row: &Row) {
+    let &(links, (kind, track, sector), blocks, end) = row;
+    let mut disk = linked(rt, links);
+    let mut found = ArrayVec::new();
+    let reach = reach_file(&mut disk, &entry(kind, track, sector), &mut found);
+    same_at(rt, reach, wanted(end), links);
+    are_blocks(rt, found.as_slice(), blocks);
 }
 
 #[test]
 fn files_are_reached(rt: HostRuntime) {
-    are_reached(&rt, &ROWS);
+    for row in &ROWS {
+        is_reached(&rt, row);
+    }
 }

@@ -1,7 +1,7 @@
 //! Files taken out of sectors that a directory has lost.
 use crate::comparing::same_at;
-use crate::rescue::extract_disks::{DISK, SAME, Written, fault_of, put, written};
-use file_rescue::{Choice, MemFolder, extract_image};
+use crate::rescue::extract_disks::{SAME, Written, changed, extracted, fault_of, index_ends};
+use file_rescue::Choice;
 use std::process::Abort;
 
 /// Deleted files, and those of lost sectors of the directory.
@@ -54,28 +54,17 @@ const SCANNED_ROWS: [Scanned; 9] = [
     ((18, 4, 2, b"\x00"), ALONE, (0, 0, 0)),
 ];
 
-/// Checks that each row gives the end of its index, and its fault.
-fn are_scanned(rt: &(impl Abort + AllocGlobal), rows: &[Scanned]) {
-    for (change, end, fault) in rows {
-        let mut disk = written(rt, &DISK, SAME);
-        for part in &LOST {
-            put(&mut disk, *part);
-        }
-        put(&mut disk, *change);
-        let mut folder = MemFolder::new(rt.alloc());
-        let found = extract_image(rt.alloc(), BOTH, disk.bytes(), &mut folder).expect(
-            rt,
-            "extracted",
-        );
-        same_at(rt, found, fault_of(*fault), change);
-        if let Some(index) = folder.files().last() {
-            let bytes = index.bytes.as_slice();
-            same_at(rt, bytes.ends_with(*end), true, change);
-        }
-    }
+/// Checks that a row gives the end of its index, and its fault.
+fn is_scanned(rt: &(impl Abort + AllocGlobal), (change, end, fault): Scanned) {
+    let disk = changed(rt, &LOST, change);
+    let (found, folder) = extracted(rt, BOTH, &disk);
+    same_at(rt, found, fault_of(fault), change);
+    index_ends(rt, &folder, end, change);
 }
 
 #[test]
 fn lost_directory_sectors_are_extracted(rt: HostRuntime) {
-    are_scanned(&rt, &SCANNED_ROWS);
+    for row in &SCANNED_ROWS {
+        is_scanned(&rt, *row);
+    }
 }

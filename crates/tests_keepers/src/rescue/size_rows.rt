@@ -24,31 +24,35 @@ const SIZES: [(usize, bool); 16] = [
     (0, false),
 ];
 
-/// An image of this size, with the byte 7 at the end of track 35 and 8 after it.
+/// An image of this size, of ones.
 fn sized(rt: &(impl Abort + AllocGlobal), size: usize) -> Vec<u8> {
-    let mut image = Vec::new(rt.alloc());
-    image.resize(size, 1).expect(rt, "memory");
-    for (at, byte) in image.iter_mut().enumerate() {
-        if at == 174_847 {
-            *byte = 7;
-        }
-        if at == 174_848 {
-            *byte = 8;
-        }
-    }
-    image
+    vec![in rt.alloc(); 1; size].expect(rt, "memory")
 }
 
-/// Checks that these sizes are taken or not, and what is taken of them.
+/// Puts a byte into an image, if it has the place.
+fn put(image: &mut Vec<u8>, at: usize, byte: u8) {
+    if let Some(place) = image.get_mut(at) {
+        *place = byte;
+    }
+}
+
+/// Checks that an image is taken or not, and what is taken of it. Track 35 ends with the byte 7.
+fn is_taken(rt: &impl Abort, image: &[u8], taken: bool) {
+    let tracks = first_tracks(image);
+    same_at(rt, tracks.is_some(), taken, image.len());
+    if let Some(tracks) = tracks {
+        same_at(rt, tracks.len(), 174_848, image.len());
+        same_at(rt, tracks.last().copied(), Some(7), image.len());
+    }
+}
+
+/// Checks that these sizes are taken or not, with the byte 7 at the end of track 35 and 8 after it.
 fn are_taken(rt: &(impl Abort + AllocGlobal), rows: &[(usize, bool)]) {
     for &(size, taken) in rows {
-        let image = sized(rt, size);
-        let tracks = first_tracks(image.as_slice());
-        same_at(rt, tracks.is_some(), taken, size);
-        if let Some(tracks) = tracks {
-            same_at(rt, tracks.len(), 174_848, size);
-            same_at(rt, tracks.last().copied(), Some(7), size);
-        }
+        let mut image = sized(rt, size);
+        put(&mut image, 174_847, 7);
+        put(&mut image, 174_848, 8);
+        is_taken(rt, image.as_slice(), taken);
     }
 }
 
@@ -68,14 +72,9 @@ const ERRORS: [(usize, (u8, u8), usize, Option<u8>); 7] = [
 fn are_told(rt: &(impl Abort + AllocGlobal), rows: &[(usize, (u8, u8), usize, Option<u8>)]) {
     for &(size, (track, sector), at, wanted) in rows {
         let place = Place::new(track, sector).unwrap_or_default();
-        let mut image = Vec::new(rt.alloc());
-        image.resize(size, 1).expect(rt, "memory");
+        let mut image = sized(rt, size);
         same_at(rt, error_at(image.as_slice(), place), None, size);
-        for (number, byte) in image.iter_mut().enumerate() {
-            if number == at {
-                *byte = 5;
-            }
-        }
+        put(&mut image, at, 5);
         same_at(rt, error_at(image.as_slice(), place), wanted, size);
     }
 }

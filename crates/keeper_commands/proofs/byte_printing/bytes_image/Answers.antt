@@ -6,7 +6,8 @@ use Rattle.std.specs.Io.KnownBytes.{Appends}
 use Rattle.d64_image.specs.Images.{Image}
 use Rattle.d64_image.specs.Memory.{disk_image}
 use Rattle.d64_image.specs.declared.place.Place.{Place}
-use Rattle.keeper_commands.proofs.Files.{file-there, printed-end}
+use Rattle.command_faults.proofs.Parts.{at-error, part-all}
+use Rattle.keeper_commands.proofs.Files.{bytes-part, file-there, printed-end}
 use Rattle.keeper_commands.specs.Bytes.{file_bytes}
 use Rattle.keeper_commands.specs.Forms.{bytes_as}
 use Rattle.keeper_commands.specs.Printed.{AreBytesPrinted}
@@ -25,6 +26,11 @@ returns-in_err-put_file g c =
             c.in-Ok.file.slot c.find_file.new.blocks.items c.in-Ok.file.last c.in-Ok.file.fault loaded.0 loaded.1
             c.in-Ok.ensures.ok,
       );
+      part = rw (p.1 ∙ ap Err p.2) (bytes-part g.W.Write.contents c.args.form c.args.candidates c.args.image.now
+          c.args.name.now c.args.out.now c.put_file.new.out c.in-Ok.file.fault (file-there c.args.image.now
+          (Any c.args.candidates) c.args.name.now (disk_image c.in_ok-disk.disk) c.in-Ok.file.slot
+          c.find_file.new.blocks.items c.in-Ok.file.last c.in-Ok.file.fault loaded.0 loaded.1 c.in-Ok.ensures.ok) _
+          (c.find_file.ensures.same ∙ loaded.1) _ c.as_slice.ensures.value c.in_err-put_file.ensures.part);
     }
 
 pub returns-in_err-flush : goal.returns-in_err-flush
@@ -39,6 +45,12 @@ returns-in_err-flush g c =
             c.in-Ok.file.slot c.find_file.new.blocks.items c.in-Ok.file.last c.in-Ok.file.fault loaded.0 loaded.1
             c.in-Ok.ensures.ok,
       );
+      part = rw (p.1 ∙ ap Err p.2) (bytes-part g.W.Write.contents c.args.form c.args.candidates c.args.image.now
+          c.args.name.now c.args.out.now c.flush.new.out c.in-Ok.file.fault (file-there c.args.image.now
+          (Any c.args.candidates) c.args.name.now (disk_image c.in_ok-disk.disk) c.in-Ok.file.slot
+          c.find_file.new.blocks.items c.in-Ok.file.last c.in-Ok.file.fault loaded.0 loaded.1 c.in-Ok.ensures.ok) _
+          (c.find_file.ensures.same ∙ loaded.1) _ c.as_slice.ensures.value
+          (part-all _ _ _ (Appends-kept _ _ _ _ c.in_ok-put_file.ensures.ok c.flush.ensures.kept)));
     }
 
 pub returns : goal.returns
@@ -61,4 +73,10 @@ returns g c =
           (bytes_as c.args.form (file_bytes (disk_image c.find_file.new.disk) bs c.in-Ok.file.last)))
           c.as_slice.ensures.value printed);
     }) in
-    record { ok = both.0; err = both.1 }
+    record {
+      ok = both.0;
+      err = both.1;
+      part = at-error c.ended.result (bytes-part g.W.Write.contents c.args.form c.args.candidates c.args.image.now
+          c.args.name.now c.args.out.now c.flush.new.out c.in-Ok.file.fault file _
+          (c.find_file.ensures.same ∙ loaded.1) _ c.as_slice.ensures.value (part-all _ _ _ printed));
+    }

@@ -9,7 +9,7 @@ use Rattle.d64_image.specs.declared.place.Place.{Place}
 use Rattle.disk_layout.specs.Records.{joined}
 use Rattle.disk_layout.proofs.lemmas.records.Joined.{joined-nil}
 use Rattle.keeper_commands.specs.Forms.{bytes_as}
-use Rattle.keeper_commands.proofs.Blocks.{as-nil, block-more}
+use Rattle.keeper_commands.proofs.Blocks.{as-nil, block-more, block-part}
 use Rattle.keeper_commands.proofs.chains.put_blocks.Goals as goal
 
 pub loop-place-init : goal.loop-place-init
@@ -33,6 +33,10 @@ returns-in_err-put_block g c =
     let p = err_from_is_err_and c.from_residual.result c.from_residual.ensures.1 in
     record {
       ok = rw (p.1 ∙ ap Err p.2) tt;
+      part = rw (p.1 ∙ ap Err p.2) (block-part _ _ _ c.args.form (disk_image c.args.disk.now)
+          (disk_image c.loop-place.disk) c.args.places.now c.loop-place.place-index c.place-item.result
+          c.args.disk.now.whole c.loop-place.invariant.0 c.loop-place-test.true (sym c.place-item.is)
+          c.loop-place.invariant.1 c.in_err-put_block.ensures.part);
       same = c.put_block.ensures.same ∙ c.loop-place.invariant.0;
       err = rw (p.1 ∙ ap Err p.2) c.in_err-put_block.ensures.err;
     }
@@ -43,6 +47,7 @@ returns g c = record {
       (bytes_as c.args.form (joined (disk_image c.args.disk.now) ps)))
       (take_all c.loop-place.place-index c.args.places.now c.loop-place-test.false)
       c.loop-place.invariant.1;
+  part = tt;
   same = c.loop-place.invariant.0;
   err = tt;
 }

@@ -1,11 +1,11 @@
 -- The whole blocks and the last one are the file's bytes.
-use Rattle.std.proofs.Common.{◌∙◌, ap, arith, subst, sym}
+use Rattle.std.proofs.Common.{◌∙◌, Err, ap, arith, subst, sym}
 use Rattle.std.proofs.KnownBytes.{Appends-nil}
 use Rattle.std.specs.Io.KnownBytes.{Appends}
-use Rattle.std.proofs.lemmas.Result.{on_ok_weaker}
+use Rattle.std.proofs.lemmas.Result.{err_from_is_err_and, on_err_weaker, on_ok_weaker}
 use Rattle.d64_image.specs.Memory.{disk_image}
 use Rattle.keeper_commands.specs.Forms.{bytes_as}
-use Rattle.keeper_commands.proofs.Blocks.{as-nil, file-none, file-printed}
+use Rattle.keeper_commands.proofs.Blocks.{as-nil, end-part, file-none, file-printed, front-part}
 use Rattle.keeper_commands.proofs.chains.put_file.Goals as goal
 
 pub returns-in-empty-clause-ok : goal.returns-in-empty-clause-ok
@@ -23,3 +23,19 @@ returns-in_ok-put_blocks-in-len1-up-clause-ok g c =
     c.args.disk.now.whole done.same
     c.in-len1-up.len_at_least (sym c.end-item.is) done.ok)
     c.put_block.ensures.ok
+
+pub returns-in_err-put_blocks-in-len1-up-clause-part : goal.returns-in_err-put_blocks-in-len1-up-clause-part
+returns-in_err-put_blocks-in-len1-up-clause-part g c =
+    let p = err_from_is_err_and c.from_residual.result c.from_residual.ensures.1 in
+    rw (p.1 ∙ ap Err p.2) (front-part _ _ c.args.form (disk_image c.args.disk.now) c.args.blocks.now c.end-item.result
+    c.args.last c.args.disk.now.whole c.in-len1-up.len_at_least (sym c.end-item.is)
+    c.in_err-put_blocks-in-len1-up.ensures.part)
+
+pub returns-in_ok-put_blocks-in-len1-up-clause-part : goal.returns-in_ok-put_blocks-in-len1-up-clause-part
+returns-in_ok-put_blocks-in-len1-up-clause-part g c =
+    let done = c.in_ok-put_blocks-in-len1-up.ensures in
+    on_err_weaker c.put_block.result
+    (end-part _ _ _ c.args.form (disk_image c.args.disk.now) _ c.args.blocks.now c.end-item.result c.args.last
+    c.args.disk.now.whole done.same
+    c.in-len1-up.len_at_least (sym c.end-item.is) done.ok)
+    c.put_block.ensures.part

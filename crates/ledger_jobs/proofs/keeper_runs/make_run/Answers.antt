@@ -35,6 +35,6 @@ returns g c =
           c.args.length g.W.Write.contents loaded.0 holds c.args.out.now c.make_image-ended.new.out c.args.file
           c.make_image-ended.result
           c.file_of.result c.new-mirror.ensures.file c.file_of.ensures.file c.make_image-ended.ensures.ok
-          c.make_image-ended.ensures.err
+          c.make_image-ended.ensures.err c.make_image-ended.ensures.part
           c.file_of.ensures.end;
     }

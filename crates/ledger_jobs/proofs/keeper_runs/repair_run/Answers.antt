@@ -3,8 +3,7 @@ use Rattle.std.proofs.Common.{◌≡◌, ◌∙◌, ap, ap₂}
 use Rattle.d64_image.specs.Keeps.{kept_or}
 use Rattle.d64_image.specs.Memory.{disk_image, sectors_in}
 use Rattle.d64_image.specs.KeptMirrors.{mirror_image}
-use Rattle.ledger_jobs.proofs.Repaired.{file-ended}
-use Rattle.ledger_jobs.proofs.RepairEnds.{not-loaded}
+use Rattle.ledger_jobs.proofs.Repaired.{file-ended, not-loaded}
 use Rattle.ledger_jobs.proofs.keeper_runs.repair_run.Goals as goal
 
 pub returns-in-Err : goal.returns-in-Err
@@ -26,5 +25,6 @@ returns g c =
           c.args.free g.W.Write.contents image loaded.0 holds
           c.args.out.now c.repair_image-ended.new.out c.args.file c.repair_image-ended.result c.file_of.result
           c.new-mirror.ensures.file
-          c.file_of.ensures.file c.repair_image-ended.ensures.ok c.repair_image-ended.ensures.err c.file_of.ensures.end;
+          c.file_of.ensures.file c.repair_image-ended.ensures.ok c.repair_image-ended.ensures.err
+          c.repair_image-ended.ensures.part c.file_of.ensures.end;
     }

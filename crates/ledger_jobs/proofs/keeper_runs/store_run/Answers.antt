@@ -36,6 +36,6 @@ returns g c =
           c.args.text.now g.W.Write.contents loaded.0 holds c.args.out.now c.store_image-ended.new.out c.args.file
           c.store_image-ended.result
           c.file_of.result c.new-mirror.ensures.file c.file_of.ensures.file c.store_image-ended.ensures.ok
-          c.store_image-ended.ensures.err
+          c.store_image-ended.ensures.err c.store_image-ended.ensures.part
           c.file_of.ensures.end;
     }
