@@ -11,8 +11,8 @@ ghost use Rattle.rel_records.specs.Written.{touched};
 ghost use Rattle.request_cards.specs.CardTexts.{Card, IsCard, IsStock, card_text, stock_text};
 
 use crate::shop::intents::new_quantities;
-use crate::shop::records::{put_answer, put_record};
-use crate::shop::shop_drive::{ShopDrive, ShopFile};
+use crate::shop::records::{put_answer, put_card};
+use crate::shop::shop_drive::ShopDrive;
 use d64_image::Sectors;
 use drive_channels::Dead;
 use request_cards::{REQUEST_CARD_LENGTH, RequestCard, StockCard};
@@ -49,7 +49,7 @@ fn put_quantity<D: Sectors>(drive: &mut ShopDrive<D>, item: u16, quantity: u32) 
         (λ f. HasCard f item (stock_text (record { item = item; quantity = quantity }))) }
 {
     let card = StockCard::new(item, quantity).unwrap();
-    put_record(drive, ShopFile::Stock, item, &card.print())
+    put_card(drive, item, &card.print())
 }
 
 /// Writes the cards of an open intent's results, whole, whatever their records hold.

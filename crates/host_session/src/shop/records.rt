@@ -8,7 +8,7 @@ ghost use Rattle.host_session.specs.shop.Selecting.{IsReady};
 ghost use Rattle.host_session.specs.shop.Channels.{name_of};
 ghost use Rattle.rel_records.specs.Others.{HasRecords};
 ghost use Rattle.rel_records.specs.Written.{IsInOneBlock, IsWriting, touched, with_written};
-ghost use Rattle.host_session.specs.shop.Putting.{HasAnswer, IsPuttingAnswer};
+ghost use Rattle.host_session.specs.shop.Putting.{HasAnswer, HasCard, IsPuttingAnswer, IsPuttingCard};
 ghost use Rattle.host_session.specs.shop.Files.{Files, HasFiles};
 
 use crate::shop::shop_drive::{ShopDrive, ShopFile};
@@ -18,7 +18,7 @@ use drive_channels::Dead;
 /// Writes a record that is there, whole.
 // In line: if the file and the length of the text are known, the compiler works out most of a `P`.
 #[inline(always)]
-pub(crate) fn put_record<D: Sectors>(
+fn put_record<D: Sectors>(
     drive: &mut ShopDrive<D>,
     file: ShopFile,
     number: u16,
@@ -43,6 +43,21 @@ pub(crate) fn put_record<D: Sectors>(
 {
     drive.select(file, number)?;
     drive.write(text)
+}
+
+/// Writes a stock card whose record is there.
+pub(crate) fn put_card<D: Sectors>(
+    drive: &mut ShopDrive<D>,
+    item: u16,
+    text: &[u8],
+) -> Result<(), Dead>
+    requires ready { IsReady D.history drive.old }
+    requires there { (f : Files) × HasFiles (D.history.image drive.old.disk) f × (1 ≤ item) × (item ≤ length f.stock) }
+    requires long { length text.now ≡ 18 }
+    ensures { Puts D.history drive.old drive.new result (HasFiles (D.history.image drive.old.disk))
+        (λ f h. touched 18 item 1) (λ f. IsPuttingCard f item text.now) (λ f. HasCard f item text.now) }
+{
+    put_record(drive, ShopFile::Stock, item, text)
 }
 
 /// Writes a till's card whose record is there.
