@@ -7,7 +7,7 @@ use crate::sides::{find_wrong, follow_sides};
 use crate::trail::Trail;
 use arrayvec::ArrayVec;
 use d64_image::MemDisk;
-use disk_layout::{EntryView, Slot};
+use disk_layout::Slot;
 use disk_rescue::reach_file;
 
 /// What the links of a used entry come to; nothing of one that isn't closed.
@@ -19,7 +19,7 @@ pub(crate) fn follow(disk: &mut MemDisk, slot: &Slot) -> Trail
     let mut blocks = ArrayVec::new();
     let mut sides = ArrayVec::new();
     let mut wrong = ArrayVec::new();
-    if !EntryView::new(&slot.bytes).is_closed() {
+    if slot.bytes[2] < 128 {
         return Trail {
             slot: *slot,
             blocks,

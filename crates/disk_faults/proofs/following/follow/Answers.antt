@@ -13,7 +13,7 @@ pub returns-clause-trail : goal.returns-clause-trail
 returns-clause-trail c =
     let img = disk_image c.args.disk.now in
     record {
-      unclosed = λ low. absurd (omega (arith, low, c.is_closed.ensures));
+      unclosed = λ low. absurd (omega (arith, low, c.if-slot-lt128.false));
       closed = λ _. reached-by img img c.args.slot.now _ _ _ _ refl refl c.reach_file-end.ensures.reached;
       sides = sides-at img _ c.args.slot.now _ _ _ _ c.reach_file-end.ensures.same c.as_slice.ensures.value
           c.follow_sides.ensures.sides;
