@@ -1,7 +1,7 @@
 -- What is shown of a shop, byte by byte. All of it is our own.
 use Rattle.std.specs.Prelude.{ℕ, zero, suc, List, [], ◌++◌, Option, None, Some, codes, decimal, option_map}
 use Rattle.request_cards.specs.declared.answer.Answer.{Answer}
-use Rattle.host_session.specs.session.Handling.{told_of}
+use Rattle.request_cards.specs.Tables.{told_of}
 use Rattle.request_cards.specs.Ledgers.{State}
 use Rattle.request_cards.specs.Requests.{Ask}
 use Rattle.request_cards.specs.Texts.{answer_text, message_text}

@@ -2,7 +2,7 @@
 use Rattle.std.proofs.Common.{◌≡◌, ℕ, subst, arith}
 use Rattle.std.specs.Prelude.{option_map}
 use Rattle.std.specs.Io.KnownBytes.{Appends}
-use Rattle.host_session.specs.session.Handling.{told_of}
+use Rattle.request_cards.specs.Tables.{told_of}
 use Rattle.shop_commands.proofs.Lines.{none-yet, one-more}
 use Rattle.shop_commands.specs.Shows.{till_part, up_to}
 use Rattle.shop_commands.proofs.showing.put_tills.Goals as goal

@@ -2,7 +2,7 @@
 use Rattle.std.specs.Prelude.{option_map}
 use Rattle.std.specs.Io.KnownBytes.{Appends}
 use Rattle.host_session.specs.shop.Shop.{IsShop, Shop}
-use Rattle.host_session.specs.session.Handling.{told_of}
+use Rattle.request_cards.specs.Tables.{told_of}
 use Rattle.shop_commands.specs.Shows.{till_part, up_to}
 use Rattle.shop_commands.proofs.showing.put_tills.Given as goal
 
