@@ -1,8 +1,10 @@
 -- What was mended is of the bytes that the host says.
-use Rattle.std.proofs.Common.{Bool, subst}
+use Rattle.std.proofs.Common.{Bool, List, ℕ, subst}
 use Rattle.std.specs.Prelude.{◌≡◌, vec_items}
+use Rattle.shop_commands.specs.ImageFile.{placed}
 use Rattle.ledger_jobs.specs.Changes.{IsRepairTold}
 use Rattle.ledger_jobs.specs.Jobs.{frees}
+use Rattle.ledger_jobs.specs.Keeping.{IsRepairOver}
 use Rattle.ledger_jobs.specs.Losses.{IsGuarded, IsRepairedEndOf}
 use Rattle.ledger_jobs.proofs.ChangeTold.{guarded-repair, repair-told}
 use Rattle.ledger_jobs.proofs.HostFiles.{over-written}
@@ -11,6 +13,10 @@ use Rattle.ledger_jobs.proofs.keeper_files.do_written_repair.Goals as goal
 pub returns : goal.returns
 returns g c =
     let ended = c.repair_guarded-ended.result.1 in
+    let file = c.in_ok-image.file in
+    let left = c.repair_guarded-ended.result.0 in
+    let image : List ℕ = c.as_slice.result.now in
+    let free : Bool = c.is_freed-free.result in
     let old = c.args.out.now in
     let new = c.repair_guarded-ended.new.out in
     let told = g.W.Write.contents in
@@ -21,5 +27,6 @@ returns g c =
     c.in_ok-image.ensures.read c.as_slice.ensures.value
     (subst (λ (free : Bool). IsGuarded c.as_slice.result.now c.args.loss (new ≡ old)
     (IsRepairedEndOf (IsRepairTold free told c.as_slice.result.now old new)) ended) c.is_freed-free.ensures
-    (guarded-repair told _ _ old new c.as_slice.result.now c.args.loss _ _
-    (repair-told told _ _ old new c.is_freed-free.result _ c.as_slice.result.now) ended c.repair_guarded-ended.ensures))
+    (guarded-repair told file left old new image c.args.loss (IsRepairOver free placed told image file left old new)
+    (IsRepairTold free told image old new) (repair-told told file left old new free placed image) ended
+    c.repair_guarded-ended.ensures))
