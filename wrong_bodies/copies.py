@@ -65,7 +65,7 @@ def head_of(crate, lines, place):
         return []
     above = next((n for n in range(start, -1, -1) if lines[n] and not lines[n].startswith(NO_ITEM)), None)
     found = above is not None and IMPL.match(lines[above])
-    if not found or place[4] != folder_of(found, lines):
+    if not found or place[4] != folder_of(found):
         return None
     begun = next(n for n in range(above, len(lines)) if lines[n].endswith("{"))
     end = next(n for n in range(begun, len(lines)) if lines[n] == "}")

@@ -6,7 +6,7 @@ FUNCTION = re.compile(r"( *)(?:pub(?:\([a-z]+\))? )?(?:const )?fn (\w+)")
 # a constant, to its end
 CONSTANT = re.compile(r"^(?:pub(?:\([a-z]+\))? )?(?:const|static) (\w+)(:.*?;)$", re.M | re.S)
 # `impl<T> Trait<Word> for Type<T> {`: the proofs of a method are in TypeTrait, or in TypeTraitWord where several are of one trait
-IMPL = re.compile(r"impl(?:<.*?>)? (?:(?:\w+::)*(?P<trait>\w+)(?:<(?P<word>.*)>)? for )?(?:\w+::)*(?P<type>\w+)")
+IMPL = re.compile(r"impl(?:<(?P<own>.*?)>)? (?:(?:\w+::)*(?P<trait>\w+)(?:<(?P<word>.*)>)? for )?(?:\w+::)*(?P<type>\w+)(?:<(?P<of>.*)>)?")
 
 
 class Edit:
@@ -75,17 +75,27 @@ def function_at(file, lines, last):
     if last > end:
         return None
     kinds = [IMPL.match(line) for line in lines[:first]] if indent else []
-    kind = next((folder_of(it, lines) for it in reversed(kinds) if it), "")
+    kind = next((folder_of(it) for it in reversed(kinds) if it), "")
     while first and lines[first - 1].strip().startswith(("#[", "//")):
         first -= 1
     return file, name, first + 1, end + 1, kind
 
 
-def folder_of(head, lines):
-    """A type and its trait as the folder of their proofs is called, where this line begins an `impl` of a file with these lines."""
-    heads = [it for it in map(IMPL.match, lines) if it and (it["type"], it["trait"]) == (head["type"], head["trait"])]
-    word = re.findall(r"\w+", head["word"] or "")[-1:] if len(heads) > 1 else []
-    return "".join([head["type"], head["trait"] or "", *word])
+def parameters(head):
+    """The parameters of an `impl` that begins so."""
+    return re.findall(r"(?:^|, )(\w+)", head["own"] or "")
+
+
+def named(text, head):
+    """The types that stand between such brackets, in one word: neither lifetimes nor the parameters of the `impl` itself."""
+    words = [it for it in re.findall(r"'?\w+", text or "") if it not in parameters(head) and not it.startswith("'")]
+    return "".join(it[0].upper() + it[1:] for it in words)
+
+
+def folder_of(head):
+    """A type and its trait as the folder of their proofs is called, if an `impl` begins so. Of any type it is `Any`."""
+    kind = "Any" if head["type"] in parameters(head) else head["type"]
+    return "".join([kind, named(head["of"], head), head["trait"] or "", named(head["word"], head)])
 
 
 def users_of(crate, file, old):

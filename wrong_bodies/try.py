@@ -20,7 +20,8 @@ its line has the word that this bears out, the clause, and what was said:
     no longer applies  the old text doesn't stand in its file once, or the new one can't be read
 
 With `--keep` each verdict is written to VERDICTS, as `CRATE/NAME: WORD (CLAUSE), DATE, COMMIT`. `--missing` leaves out the edits that
-are refused there, unless they were edited since that commit. So a run that is cut off goes on by `--keep --missing`.
+are refused there, unless they were edited since that commit. So a run that is cut off goes on by `--keep --missing`. If a check is
+killed, the script stops and keeps nothing of it.
 
 The status is 1 where one isn't refused. The crates below are taken as `rt ci` built them here, or as sources; each check takes
 RT_JOBS processors, one where that isn't set. A crate that `rt ci` built here isn't checked without the edits first.
@@ -74,6 +75,8 @@ def checked(crate, texts, names):
                 (crate / file).write_text(kept[file], encoding="utf-8")
             else:
                 (crate / file).unlink()
+    if ran.returncode < 0:
+        stop(f"a check of {crate.name} was killed by signal {-ran.returncode}")
     return ran.stdout.split("\n"), ran.returncode
 
 
