@@ -1,24 +1,20 @@
 -- What was printed of a change of a disk, by how its run ended.
 use Rattle.std.proofs.Common.{MutBor, ◌≡◌, ◌≢◌, ◌∙◌, ℕ, List, Option, Result, Ok, Err, ap, inl, inr, refl, subst, sym}
 use Rattle.std.specs.Prelude.{Bool, IfErr, codes}
-use Rattle.std.specs.Io.KnownBytes.{Appends}
 use Rattle.command_faults.specs.declared.faults.CommandFault.{CommandFault}
 use Rattle.command_faults.specs.declared.faults.CommandFault.TheVariants as faults
-use Rattle.d64_image.specs.Images.{Image}
 use Rattle.d64_image.specs.Keeps.{Keeps}
 use Rattle.file_changes.specs.declared.file_type.FileType.{FileType}
 use Rattle.host_session.specs.declared.events.printing.Printer.{Printer}
-use Rattle.keeper_commands.specs.Repairs.{IsMendedAs, mended_text}
 use Rattle.shop_commands.specs.Images.{IsFormatted}
 use Rattle.shop_commands.specs.Plays.{IsUntouched}
 use Rattle.system_files.specs.Remains.{Remains}
-use Rattle.ledger_jobs.specs.Changes.{IsChangeEnd, IsChangeTold, IsMakingTold, IsQuietEnd, IsRepairTold}
+use Rattle.ledger_jobs.specs.Changes.{IsChangeEnd, IsChangeTold, IsMakingTold, IsQuietEnd}
 use Rattle.ledger_jobs.specs.EditRefusals.{IsEditEnd}
 use Rattle.ledger_jobs.specs.Edited.{IsDeleteOver, IsRenameOver}
 use Rattle.ledger_jobs.specs.Ends.{Ended, JobEnd, as_job, as_run}
-use Rattle.ledger_jobs.specs.Keeping.{IsRepairOver}
 use Rattle.ledger_jobs.specs.Kept.{IsMakeOver, IsStoreOver}
-use Rattle.ledger_jobs.specs.Losses.{IsEndOfRun, IsGuarded, IsRepairedEndOf}
+use Rattle.ledger_jobs.specs.Losses.{IsEndOfRun, IsGuarded}
 use Rattle.ledger_jobs.specs.NewDisks.{IsNewMade}
 use Rattle.ledger_jobs.specs.Puts.{IsPutOver}
 use Rattle.ledger_jobs.specs.declared.jobs.Loss.{Loss}
@@ -135,37 +131,6 @@ module _ {F W : Type 0} (contents : W → Option (List ℕ)) (file after : F) (o
   delete-ended K image name end is =
       edited-change (codes "DELETED\n") (IsDeleteOver K contents image name file after old new) (delete-told K image name)
       image name end is
-
-  -- what a repair printed is of its image
-  pub repair-told : (free : Bool) (K : Keeps F) (image : List ℕ) (ended : Result ℕ CommandFault)
-      → IsRepairOver free K contents image file after old new ended → IsRepairTold free contents image old new ended
-  repair-told free K image (Ok n) run =
-      let taken = run.1 in (
-        taken.size,
-        (
-          taken.left.image,
-          subst (λ (img : Image). IsMendedAs free img taken.left.image n) taken.holds taken.ends.mended.mended,
-          subst (λ (img : Image). Appends (contents old) (contents new) (mended_text img taken.left.image n)) taken.holds
-              taken.ends.printed,
-        ),
-      )
-  repair-told free K image (Err faults.ImageSize) run = run.1.1
-  repair-told free K image (Err faults.NoMemory) run = run.1.1
-  repair-told free K image (Err faults.Geos) run = run.2.1
-  repair-told free K image (Err faults.Format) run = run.2.1
-  repair-told free K image (Err (faults.Layout fault)) run = run.2.1
-  repair-told free K image (Err faults.File) run = tt
-  repair-told free K image (Err faults.Device) run = tt
-  repair-told free K image (Err _) run = absurd run
-
-  -- so is what its job printed
-  pub guarded-repair : (image : List ℕ) (loss : Loss) (Run Told : Result ℕ CommandFault → Type 0)
-      → ((ended : Result ℕ CommandFault) → Run ended → Told ended) → (end : JobEnd)
-      → IsGuarded image loss (IsUntouched file after old new) (IsRepairedEndOf Run) end
-      → IsGuarded image loss (new ≡ old) (IsRepairedEndOf Told) end
-  guarded-repair image loss Run Told told end (inl (refusal, is, refused, why, same)) =
-      inl (refusal, is, refused, why, same.1)
-  guarded-repair image loss Run Told told end (inr (may, (ended, is, run))) = inr (may, (ended, is, told ended run))
 
   -- records that aren't stored print nothing
   store-quiet : (K : Keeps F) (image name text : List ℕ) (ended : Result Unit CommandFault)

@@ -1,6 +1,7 @@
 -- What a job prints that changes files of a disk, or makes an image. Our own.
 use Rattle.std.specs.Prelude.{◌≡◌, ◌≢◌, ◌⊎◌, ⊤, IfErr, IfOk, ℕ, Bool, List, None, Option, Result, Ok, Err, length}
 use Rattle.std.specs.Io.KnownBytes.{Appends}
+use Rattle.command_faults.specs.Outputs.{HandsPart}
 use Rattle.command_faults.specs.declared.faults.CommandFault.{CommandFault}
 use Rattle.command_faults.specs.declared.faults.CommandFault.TheVariants as faults
 use Rattle.d64_image.specs.Images.{Image}
@@ -34,18 +35,35 @@ abbrev pub IsMakingEnd : {W : Type 0} → (W → Option (List ℕ)) → (text : 
 IsMakingEnd contents text old new end =
     (ended : Result Unit CommandFault) × IsMakingTold contents text old new ended × IsEndOver ended end
 
+-- What was printed of a repair that isn't done, or not to its end: nothing, or a beginning of what is printed of the disk as
+-- it is mended.
+abbrev pub IsMendingPart : {W : Type 0} → Bool → (W → Option (List ℕ)) → (image : List ℕ) → W → W → Type 0
+IsMendingPart free contents image old new = (new ≡ old)
+    ⊎ ((after : Image) × (n : ℕ) × IsMendedAs free (sectors_in image) after n
+    × HandsPart (contents old) (contents new) (mended_text (sectors_in image) after n))
+
 -- What a repair of the disk of an image printed: what it mended, if that is done. If it isn't, nothing, unless the output or
--- the file failed.
+-- the file failed: then a beginning of that, or nothing.
 abbrev pub IsRepairTold : {W : Type 0} → Bool → (W → Option (List ℕ)) → (image : List ℕ) → W → W → Result ℕ CommandFault
     → Type 0
 IsRepairTold free contents image old new (Ok n) = (length image ≡ 174848) × ((after : Image)
     × IsMendedAs free (sectors_in image) after n
     × Appends (contents old) (contents new) (mended_text (sectors_in image) after n))
-IsRepairTold free contents image old new (Err faults.File) = ⊤
-IsRepairTold free contents image old new (Err faults.Device) = ⊤
+IsRepairTold free contents image old new (Err faults.File) = IsMendingPart free contents image old new
+IsRepairTold free contents image old new (Err faults.Device) = IsMendingPart free contents image old new
 IsRepairTold free contents image old new (Err _) = new ≡ old
 
 -- a job that isn't done printed nothing, unless the output or the file failed
 abbrev pub IsQuietEnd : {W : Type 0} → W → W → JobEnd → Type 0
 IsQuietEnd old new end = IfErr end (λ refusal. refusal ≢ refusals.Fault faults.File → refusal ≢ refusals.Fault faults.Device
     → new ≡ old)
+
+-- A service that is done printed no fault. One that isn't printed nothing, unless the input, the output or the file failed.
+abbrev pub IsServiceEnd : {W : Type 0} → W → W → JobEnd → Type 0
+IsServiceEnd old new end = IfOk end (λ found. found ≡ None) × IsQuietEnd old new end
+
+-- The same over a log. If there was no memory, the log may not have been landed once all was printed.
+abbrev pub IsLoggedEnd : {W : Type 0} → W → W → JobEnd → Type 0
+IsLoggedEnd old new end = IfOk end (λ found. found ≡ None)
+    × IfErr end (λ refusal. refusal ≢ refusals.Fault faults.NoMemory → refusal ≢ refusals.Fault faults.File
+    → refusal ≢ refusals.Fault faults.Device → new ≡ old)

@@ -1,5 +1,6 @@
 -- Which bytes a job is done over, where the host says what its files hold. Our own.
 use Rattle.std.specs.Prelude.{◌≡◌, ◌≢◌, ◌⊎◌, ⊤, ℕ, IsErr, List}
+use Rattle.command_faults.specs.declared.faults.CommandFault.TheVariants as faults
 use Rattle.host_files.specs.Rights.{Rights}
 use Rattle.host_files.specs.Standing.{Holds, IsMissing, Stands}
 use Rattle.ledger_jobs.specs.EachImage.{IsLoadedOf, Loaded}
@@ -7,6 +8,8 @@ use Rattle.ledger_jobs.specs.Ends.{JobEnd}
 use Rattle.ledger_jobs.specs.Rights.{standard_input}
 use Rattle.ledger_jobs.specs.declared.jobs.Reading.{Reading}
 use Rattle.ledger_jobs.specs.declared.jobs.Reading.TheVariants as readings
+use Rattle.ledger_jobs.specs.declared.refusals.Refusal.{Refusal}
+use Rattle.ledger_jobs.specs.declared.refusals.Refusal.TheVariants as refusals
 use Rattle.log_files.specs.LogRights.{WhereItLeads, log_of}
 
 module _ {H : Type 0} (stands : H → List ℕ → Stands) (host : H) where
@@ -46,6 +49,18 @@ module _ {H : Type 0} (rights : Rights H) (stands : H → List ℕ → Stands) (
   -- what was read of the image at a path is of the bytes that the host says
   abbrev pub IsReadAt : List ℕ → Loaded → Type 0
   IsReadAt path read = OfImage path (λ all. IsLoadedOf all read)
+
+-- an image or a script weren't opened, locked or read, or the image's file has another length
+abbrev pub IsUnopened : Refusal → Type 0
+IsUnopened refusals.InUse = ⊤
+IsUnopened (refusals.Fault faults.File) = ⊤
+IsUnopened (refusals.Fault faults.NoMemory) = ⊤
+IsUnopened (refusals.Fault faults.ImageSize) = ⊤
+IsUnopened _ = ⊥
+
+-- a job was refused for this line of its script, once its files were open
+abbrev pub IsRefusedAt : ℕ → Refusal → Type 0
+IsRefusedAt line refusal = (refusal ≡ refusals.Fault (faults.ScriptLine line)) ⊎ IsUnopened refusal
 
 -- the run over the bytes of a job's files ended so, and the job with it; or the run wasn't begun, and nothing was printed
 abbrev pub RunEnds : {W : Type 0} → W → W → JobEnd → Type 0 → Type 0

@@ -1,11 +1,12 @@
 -- What a job that reads its images comes to over the bytes that the host says. Our own.
 use Rattle.std.specs.Borrow.{Bor}
-use Rattle.std.specs.Prelude.{◌≡◌, ⊤, ℕ, List, Option, Vec, codes, map, take, vec_items}
+use Rattle.std.specs.Prelude.{◌≡◌, ℕ, Err, List, Option, Vec, codes, map, take, vec_items}
 use Rattle.std.specs.declared.alloc.Global.{Global}
+use Rattle.command_faults.specs.declared.faults.CommandFault.TheVariants as faults
 use Rattle.file_rescue.specs.declared.choices.Choice.{Choice}
 use Rattle.host_files.specs.Rights.{Rights}
 use Rattle.host_files.specs.Standing.{Stands}
-use Rattle.ledger_jobs.specs.Changes.{IsChangeEnd, IsMakingEnd, IsQuietEnd, IsRepairTold}
+use Rattle.ledger_jobs.specs.Changes.{IsChangeEnd, IsLoggedEnd, IsMakingEnd, IsQuietEnd, IsRepairTold, IsServiceEnd}
 use Rattle.ledger_jobs.specs.Comparisons.{IsComparingRun}
 use Rattle.ledger_jobs.specs.Copies.{IsCopyEnd}
 use Rattle.ledger_jobs.specs.Descriptions.{IsObjectOf}
@@ -13,16 +14,17 @@ use Rattle.ledger_jobs.specs.Drawings.{IsDrawingRun}
 use Rattle.ledger_jobs.specs.EachImage.{AreHandedOn, IsSeveralEnd}
 use Rattle.ledger_jobs.specs.Ends.{EndsAs, JobEnd, as_job, as_run}
 use Rattle.ledger_jobs.specs.Extracts.{IsExtractedTo}
-use Rattle.ledger_jobs.specs.HostFiles.{IsReadAt, OfImage, OfRead, OfWritten, RunEnds}
+use Rattle.ledger_jobs.specs.HostFiles.{IsReadAt, OfImage, OfRead, OfText, OfWritten, RunEnds}
 use Rattle.ledger_jobs.specs.Jobs.{frees, needed}
 use Rattle.ledger_jobs.specs.Keeping.{IsDryRepair}
 use Rattle.ledger_jobs.specs.Listings.{IsListingRun}
+use Rattle.ledger_jobs.specs.LoggedPlays.{IsResetRefused}
 use Rattle.ledger_jobs.specs.Losses.{IsGuarded, IsRepairedEndOf, IsTakingEnd}
 use Rattle.ledger_jobs.specs.Names.{name_bytes}
 use Rattle.ledger_jobs.specs.Overviews.{IsOverviewOf}
 use Rattle.ledger_jobs.specs.Runs.{IsReadingEnd}
 use Rattle.ledger_jobs.specs.SheetPages.{IsSheetPrinted}
-use Rattle.ledger_jobs.specs.SideRepairs.{IsSidesEnd}
+use Rattle.ledger_jobs.specs.SideRepairs.{AreSidesWritten, IsJudgedFirst, IsSidesEnd}
 use Rattle.disk_pictures.specs.Views.{IsViewRun}
 use Rattle.ledger_jobs.specs.declared.jobs.Drawing.{Drawing}
 use Rattle.ledger_jobs.specs.declared.jobs.Effect.{Effect}
@@ -36,6 +38,8 @@ use Rattle.ledger_jobs.specs.declared.jobs.Reading.{Reading}
 use Rattle.ledger_jobs.specs.declared.jobs.Reading.TheVariants as readings
 use Rattle.ledger_jobs.specs.declared.jobs.Taking.{Taking}
 use Rattle.ledger_jobs.specs.declared.jobs.Unowned.{Unowned}
+use Rattle.ledger_jobs.specs.declared.jobs.Way.TheVariants.{InPlace, OverLog}
+use Rattle.ledger_jobs.specs.declared.refusals.Refusal.TheVariants as refusals
 use Rattle.disk_pictures.specs.declared.views.View.{View}
 
 -- what was asked of these bytes, as far as they are needed, ended so; or it wasn't begun
@@ -101,11 +105,19 @@ module _ {H W : Type 0} (rights : Rights H) (stands : H → List ℕ → Stands)
   IsRepairDoneOver Printed unowned loss path old new end = IsRepairShown unowned loss path old new end
   IsRepairDoneOver Written unowned loss path old new end = IsRepairedOver unowned loss path old new end
 
-  -- its side sectors were built anew and it was repaired in memory; nothing is said of that over its file
+  -- its side sectors were built anew, and then it was repaired; or only what that mends was printed
   abbrev pub AreSidesDoneOver : Effect → Unowned → Loss → List ℕ → W → W → JobEnd → Type 0
   AreSidesDoneOver Printed unowned loss path old new end = OfImage rights stands host path
-      (λ all. RunEnds old new end (IsSidesEnd (frees unowned) contents loss (take 174849 all) old new end))
-  AreSidesDoneOver Written unowned loss path old new end = ⊤
+      (λ all. RunEnds old new end (IsJudgedFirst (take 174849 all) loss old new end
+      (IsSidesEnd (frees unowned) contents loss (take 174849 all) old new end)))
+  AreSidesDoneOver Written unowned loss path old new end = OfWritten stands host path
+      (λ all. RunEnds old new end (IsJudgedFirst (take 174849 all) loss old new end
+      (AreSidesWritten (frees unowned) contents (take 174849 all) old new end)))
+
+  -- a script was played over a log beside an image
+  abbrev pub IsPlayedOverLog : List ℕ → W → W → JobEnd → Type 0
+  IsPlayedOverLog script old new end = IsLoggedEnd old new end
+      × OfText stands host script (λ all. IsResetRefused all old new end)
 
   -- the images at these paths were drawn on a sheet
   abbrev pub AreDrawnOnSheet : List (List ℕ) → W → W → JobEnd → Type 0
@@ -156,4 +168,8 @@ module _ {H W : Type 0} (rights : Rights H) (stands : H → List ℕ → Stands)
   IsJobOver (jobs.Sheet images) old new end = AreDrawnOnSheet (paths_of images) old new end
   IsJobOver (jobs.Describe images) old new end = AreDescribed (paths_of images) old new end
   IsJobOver (jobs.Several what images) old new end = AreOverviewed what (paths_of images) old new end
-  IsJobOver _ old new end = ⊤
+  IsJobOver (jobs.PlayLogged image script) old new end = IsPlayedOverLog script.now old new end
+  IsJobOver (jobs.Serve image OverLog durability loss) old new end = IsLoggedEnd old new end
+  IsJobOver (jobs.Serve image InPlace durability loss) old new end = IsServiceEnd old new end
+  -- `do_trim` does that job
+  IsJobOver (jobs.Trim image) old new end = (new ≡ old) × (end ≡ Err (refusals.Fault faults.File))

@@ -1,5 +1,5 @@
 -- What comes of a script that is played over a log. All of it is our own.
-use Rattle.std.specs.Prelude.{◌≡◌, ◌⊎◌, List, ℕ, [], IsOk, Result}
+use Rattle.std.specs.Prelude.{◌≡◌, ◌⊎◌, List, ℕ, [], IfErr, IsErr, IsOk, Result, Some}
 use Rattle.d64_image.specs.Images.{Image}
 use Rattle.d64_image.specs.Memory.{sectors_in}
 use Rattle.host_session.specs.runs.Chains.{told_in}
@@ -10,9 +10,11 @@ use Rattle.log_server.specs.Reporting.{LogOutput}
 use Rattle.log_server.specs.Serves.{shop_behind}
 use Rattle.request_cards.specs.Ledgers.{replies}
 use Rattle.request_cards.specs.declared.reply.Reply.{Reply}
-use Rattle.script_lines.specs.Lines.{lines}
+use Rattle.script_lines.specs.Lines.{first_reset, lines}
 use Rattle.command_faults.specs.declared.faults.CommandFault.{CommandFault}
 use Rattle.shop_log.specs.ImageLogs.{LogHistory}
+use Rattle.ledger_jobs.specs.Ends.{JobEnd}
+use Rattle.ledger_jobs.specs.HostFiles.{IsRefusedAt}
 use Rattle.ledger_jobs.specs.LoggedRuns.{IsLoggedRun}
 
 -- All messages of a script were played on the shop s of an image, over a log.
@@ -39,3 +41,8 @@ pub record IsLoggedPlay {L T : Type 0} (h : LogHistory L) (o : LogOutput L T) (i
   pub run : IsLoggedRun h of_script o image log after first left old new ended
   -- at Ok all messages were played
   pub whole : IsOk ended → (s : Shop) → IsShop (sectors_in image) s → IsPlayedWhole h o s image script log after old new
+
+-- a script that has a reset is refused for the first line with one, once the files are open, and nothing is printed
+abbrev pub IsResetRefused : {W : Type 0} → (script : List ℕ) → W → W → JobEnd → Type 0
+IsResetRefused script old new end = (n : ℕ) → first_reset (lines script) ≡ Some n
+    → (new ≡ old) × IsErr end × IfErr end (IsRefusedAt n)

@@ -1,7 +1,7 @@
 //! The log beside an image: it is landed before the image is written, and read in the place of the image.
-ghost use Rattle.std.specs.Prelude.{◌≡◌, IfOk, IsNone, false, string_bytes};
+ghost use Rattle.std.specs.Prelude.{◌≡◌, IfErr, IfOk, IsNone, false, string_bytes};
 ghost use Rattle.ledger_jobs.specs.Ends.{log_refusal as refusal_of};
-ghost use Rattle.ledger_jobs.specs.HostFiles.{HasNoLog};
+ghost use Rattle.ledger_jobs.specs.HostFiles.{HasNoLog, IsUnopened};
 ghost use Rattle.ledger_jobs.specs.Rights.{MayChangeImage, MayReadFile};
 ghost use Rattle.log_files.specs.LogRights.{MayKeepLog, MayKeepLogOf, MayReadLog};
 ghost use Rattle.host_files.specs.Rights.{Look, May, MayRead, MayWrite};
@@ -29,7 +29,9 @@ pub(crate) fn log_refusal(fault: &LogFault) -> Refusal
 }
 
 /// Whether a file has as many bytes as an image.
-pub(crate) fn is_sized<F: OpenFile>(file: &F) -> Result<bool, Refusal> {
+pub(crate) fn is_sized<F: OpenFile>(file: &F) -> Result<bool, Refusal>
+    ensures { IfErr result IsUnopened }
+{
     let found = told(OpenFile::metadata(file))?;
     Ok(found.len() == IMAGE_BYTES as u64)
 }
@@ -54,6 +56,7 @@ where
     requires { MayWrite R.rights rt.now path.now }
     ensures owned { IfOk result F.IsOwned }
     ensures bytes { IfOk result (λ image. AreOf R.stands rt.now path.now (F.unread image)) }
+    ensures err { IfErr result IsUnopened }
 {
     let mut file = told(opened_to_change(rt, path))?;
     lock_exclusive(&mut file, Durability::AtEnd)?;

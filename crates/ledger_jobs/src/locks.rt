@@ -1,7 +1,9 @@
 //! Image files that a job locks, reads, writes and syncs.
-ghost use Rattle.std.specs.Prelude.{◌≡◌, IfOk, IfSome, OnOk, take, vec_items};
+ghost use Rattle.std.specs.Prelude.{◌≡◌, IfErr, IfOk, IfSome, OnOk, take, vec_items};
 ghost use Rattle.shop_commands.specs.Durable.{IsSynced};
+ghost use Rattle.shop_commands.specs.declared.durability.Durability.TheVariants.{AtEnd};
 ghost use Rattle.ledger_jobs.specs.DurableRuns.{IsFinished};
+ghost use Rattle.ledger_jobs.specs.HostFiles.{IsUnopened};
 
 use crate::refusals::Refusal;
 use command_faults::CommandFault;
@@ -18,6 +20,7 @@ pub(crate) fn lock_exclusive<F: Locks>(file: &mut F, durability: Durability) -> 
     ensures synced { OnOk result (IsSynced F.held F.lasting durability file.new) }
     ensures untouched { F.held file.new ≡ F.held file.old }
     ensures unread { F.unread file.new ≡ F.unread file.old }
+    ensures err { IfErr result (λ refusal. (durability ≡ AtEnd) → IsUnopened refusal) }
 {
     if let Err(error) = file.lock_alone() {
         return Err(Refusal::of_lock(&error));

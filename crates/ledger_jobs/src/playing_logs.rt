@@ -1,7 +1,10 @@
 //! Playing a script on the shop of the image at a path, over a log beside it.
-ghost use Rattle.std.specs.Prelude.{◌≡◌, Bool, IfOk, IsOk, None};
+ghost use Rattle.std.specs.Prelude.{◌≡◌, ℕ, Bool, IfErr, IfOk, IsOk, None, Some, vec_items};
 ghost use Rattle.d64_image.specs.Memory.{sectors_in};
 ghost use Rattle.host_session.specs.shop.Shop.{IsShop, Shop};
+ghost use Rattle.ledger_jobs.specs.Changes.{IsLoggedEnd};
+ghost use Rattle.ledger_jobs.specs.HostFiles.{IsRefusedAt, OfText};
+ghost use Rattle.ledger_jobs.specs.JobRuns.{IsPlayedOverLog};
 ghost use Rattle.ledger_jobs.specs.LandedRuns.{HasLanded, IsDoneAndLanded};
 ghost use Rattle.ledger_jobs.specs.LoggedPlays.{IsLoggedPlay};
 ghost use Rattle.ledger_jobs.specs.Losses.{IsEndOfRun};
@@ -60,16 +63,71 @@ where
     landed_end(log, served_end(ended, !name.is_there()))
 }
 
+/// Plays a script as `play_begun` does, and prints its replies.
+fn play_printed<L, D, N, W>(
+    alloc: Global,
+    image: &[u8],
+    script: &[u8],
+    log: LiveLog<L, D>,
+    name: &N,
+    out: &mut W,
+) -> Result<Option<Fault>, Refusal>
+where
+    L: LogFile,
+    D: LogFolder<L> + Drop,
+    N: Stays,
+    W: Write,
+    requires plain { first_reset (lines script.now) ≡ None }
+    ensures { IsLoggedEnd out.old out.new result }
+{
+    let mut printer = Printer::new(out);
+    let (_, ended) = play_begun(alloc, image, script, log, name, &mut printer);
+    ended
+}
+
 /// The bytes of the script at a path. `BadLine` if a line begins with `@`: the first such line.
 fn plain_script<R: HostFiles + Input + AllocGlobal>(rt: &R, path: &str) -> Result<Vec<u8>, Refusal>
     requires { MayReadText R.rights rt.now path.now }
-    ensures { IfOk result (λ script. first_reset (lines script.items) ≡ None) }
+    ensures plain { IfOk result (λ script. first_reset (lines (vec_items script)) ≡ None) }
+    ensures read { OfText R.stands rt.now path.now (λ all. IfOk result (λ script. vec_items script ≡ all)) }
+    ensures reset { OfText R.stands rt.now path.now (λ all. (n : ℕ) → first_reset (lines all) ≡ Some n
+        → IfErr result (IsRefusedAt n)) }
 {
-    let script = told(script_at(rt, path))?;
+    let script = match script_at(rt, path) {
+        Ok(script) => script,
+        Err(error) => return Err(Refusal::Fault(CommandFault::of_io(&error))),
+    };
     match first_reset_line(script.as_slice()) {
         None => Ok(script),
         Some(line) => Err(Refusal::Fault(CommandFault::ScriptLine(line))),
     }
+}
+
+/// Plays a script without resets on the shop of the image at a path, over a log beside it. This is the image's file, which
+/// this program has alone.
+fn play_beside<F, R, W>(
+    rt: &R,
+    path: &str,
+    mut image: F,
+    script: &[u8],
+    out: &mut W,
+) -> Result<Option<Fault>, Refusal>
+where
+    F: EndedFile + Locks + OpenFile + Drop,
+    R: HostFiles<File = F> + AllocGlobal,
+    W: Write,
+    requires owned { F.IsOwned image }
+    requires image { MayChangeImage R.rights rt.now path.now }
+    requires plain { first_reset (lines script.now) ≡ None }
+    ensures { IsLoggedEnd out.old out.new result }
+{
+    let alloc = rt.alloc();
+    let name = name_of(rt, path, &image)?;
+    let names = told(LogNames::of(rt, alloc, path))?;
+    let durability = Durability::EachSector;
+    let (bytes, log) = begun_beside(rt, path, &names, &mut image, durability, Loss::Accepted)?;
+    let ended = play_printed(alloc, bytes.as_slice(), script, log, &name, out);
+    cleared_end(rt, path, &image, &names, ended)
 }
 
 /// Plays the script at a path on the shop of the image at another, over a log beside the image. Other programs may read
@@ -88,22 +146,9 @@ where
     W: Write,
     requires image { MayChangeImage R.rights rt.now path.now }
     requires script { MayReadText R.rights rt.now script.now }
+    ensures { IsPlayedOverLog R.rights R.stands W.contents rt.now script.now out.old out.new result }
 {
-    let alloc = rt.alloc();
-    let mut image = opened_image(rt, path)?;
+    let image = opened_image(rt, path)?;
     let script = plain_script(rt, script)?;
-    let name = name_of(rt, path, &image)?;
-    let names = told(LogNames::of(rt, alloc, path))?;
-    let durability = Durability::EachSector;
-    let (bytes, log) = begun_beside(rt, path, &names, &mut image, durability, Loss::Accepted)?;
-    let mut printer = Printer::new(out);
-    let (_, ended) = play_begun(
-        alloc,
-        bytes.as_slice(),
-        script.as_slice(),
-        log,
-        &name,
-        &mut printer,
-    );
-    cleared_end(rt, path, &image, &names, ended)
+    play_beside(rt, path, image, script.as_slice(), out)
 }

@@ -1,6 +1,7 @@
 //! Serving the shop of the image at a path, over its file.
 ghost use Rattle.std.specs.Prelude.{◌≡◌, IfSome, take};
 ghost use Rattle.shop_commands.specs.Durable.{IsSynced};
+ghost use Rattle.ledger_jobs.specs.Changes.{IsServiceEnd};
 ghost use Rattle.ledger_jobs.specs.Rights.{MayChangeImage};
 ghost use Rattle.host_files.specs.Rights.{Look, May};
 
@@ -12,12 +13,41 @@ use crate::outcomes::told;
 use crate::refusals::Refusal;
 use crate::watched_files::{WhileThere, served_end};
 use command_faults::CommandFault;
+use d64_image::KeptMirror;
 use disk_layout::Fault;
 use host_files::{FileName, HostFiles, Stays};
 use host_session::Printer;
-use shop_commands::{Durability, EndedFile, Locks, WritesAt};
+use line_server::{Answers, LineSource};
+use shop_commands::{Durability, EndedFile, ImageFile, Locks, WritesAt};
+use std::alloc::Global;
 use std::fs::OpenFile;
 use std::io::{BufReader, Write};
+
+/// Serves the shop of this image, over its file, to an input, and passes the replies to `out` while the file's name leads
+/// to it.
+fn serve_watched<F, N, R, T>(
+    alloc: Global,
+    image: &[u8],
+    file: F,
+    name: N,
+    durability: Durability,
+    loss: Loss,
+    input: &mut R,
+    out: &mut T,
+) -> Result<Option<Fault>, Refusal>
+where
+    F: WritesAt + Drop,
+    N: Stays + Drop,
+    R: LineSource<KeptMirror<ImageFile<F>>>,
+    T: Answers<KeptMirror<ImageFile<F>>>,
+    requires synced { IsSynced F.held F.lasting durability file }
+    requires image { IfSome (F.held file) (λ all. image.now ≡ take 174849 all) }
+    ensures { IsServiceEnd out.old out.new result }
+{
+    let mut answers = WhileThere::new(&name, out);
+    let (_, ended) = serve_guarded(alloc, image, file, durability, loss, input, &mut answers);
+    served_end(ended, answers.is_gone())
+}
 
 /// Serves the shop of this image, over its file, to what comes on standard input, while the file's name leads to it.
 fn serve_input<F, N, R, W>(
@@ -36,21 +66,21 @@ where
     W: Write,
     requires synced { IsSynced F.held F.lasting durability file }
     requires image { IfSome (F.held file) (λ all. image.now ≡ take 174849 all) }
+    ensures { IsServiceEnd out.old out.new result }
 {
     // A bare reader of standard input reads a byte a call.
     let mut input = told(BufReader::new(rt.alloc(), rt.reader()))?;
     let mut printer = Printer::new(out);
-    let mut answers = WhileThere::new(name, &mut printer);
-    let (_, ended) = serve_guarded(
+    serve_watched(
         rt.alloc(),
         image,
         file,
+        name,
         durability,
         loss,
         &mut input,
-        &mut answers,
-    );
-    served_end(ended, answers.is_gone())
+        &mut printer,
+    )
 }
 
 /// The name of the file that was opened at a path. `Device` if the path leads elsewhere by now.
@@ -82,6 +112,7 @@ where
     R: HostFiles<File = F> + Input + AllocGlobal,
     W: Write,
     requires { MayChangeImage R.rights rt.now path.now }
+    ensures { IsServiceEnd out.old out.new result }
 {
     let mut file = opened_and_landed(rt, path)?;
     let image = own_image(rt.alloc(), &mut file, durability)?;

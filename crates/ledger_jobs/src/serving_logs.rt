@@ -1,6 +1,8 @@
 //! Serving the shop of the image at a path, over a log beside it.
-ghost use Rattle.std.specs.Prelude.{◌≡◌, IfOk, length, string_bytes};
+ghost use Rattle.std.specs.Prelude.{◌≡◌, IfErr, IfOk, length, string_bytes};
+ghost use Rattle.ledger_jobs.specs.Changes.{IsLoggedEnd};
 ghost use Rattle.ledger_jobs.specs.Ends.{landing_fault, unlanded as unlanded_end};
+ghost use Rattle.ledger_jobs.specs.HostFiles.{IsUnopened};
 ghost use Rattle.ledger_jobs.specs.LandedRuns.{IsDoneAndLanded, IsLandedEnd};
 ghost use Rattle.ledger_jobs.specs.LoggedRuns.{IsLoggedRun, IsUnlogged};
 ghost use Rattle.ledger_jobs.specs.Losses.{IsEndOfRun, IsGuarded};
@@ -140,6 +142,29 @@ where
     landed_end(log, served_end(ended, answers.is_gone()))
 }
 
+/// Serves the shop of this image as `serve_begun` does, and passes the replies to `out` while the file of this name stays.
+fn serve_watched<L, D, N, I, T>(
+    alloc: Global,
+    image: &[u8],
+    log: LiveLog<L, D>,
+    loss: Loss,
+    input: &mut I,
+    name: N,
+    out: &mut T,
+) -> Result<Option<Fault>, Refusal>
+where
+    L: LogFile,
+    D: LogFolder<L> + Drop,
+    N: Stays + Drop,
+    I: BatchSource,
+    T: Answers<TouchedDisk<MemDisk>>,
+    ensures { IsLoggedEnd out.old out.new result }
+{
+    let mut answers = WhileThere::new(&name, out);
+    let (_, ended) = serve_begun(alloc, image, log, loss, input, &mut answers);
+    ended
+}
+
 /// Serves the shop of this image over a log that was begun with it, to an input, and prints the replies while the file of
 /// this name stays.
 fn serve_printed<L, D, N, I, W>(
@@ -157,11 +182,10 @@ where
     N: Stays + Drop,
     I: BatchSource,
     W: Write,
+    ensures { IsLoggedEnd out.old out.new result }
 {
     let mut printer = Printer::new(out);
-    let mut answers = WhileThere::new(name, &mut printer);
-    let (_, ended) = serve_begun(alloc, image, log, loss, input, &mut answers);
-    ended
+    serve_watched(alloc, image, log, loss, input, name, &mut printer)
 }
 
 /// The end of a job over a log that couldn't be made, or renewed. What was made of a further log is removed, since it
@@ -191,6 +215,7 @@ where
     R: HostFiles<File = F>,
     requires { MayWrite R.rights rt.now path.now }
     ensures owned { IfOk result F.IsOwned }
+    ensures err { IfErr result IsUnopened }
 {
     let image = opened_alone(rt, path)?;
     if is_sized(&image)? {
@@ -252,6 +277,7 @@ where
     R: HostFiles<File = F> + Input + AllocGlobal,
     W: Write,
     requires { MayChangeImage R.rights rt.now path.now }
+    ensures { IsLoggedEnd out.old out.new result }
 {
     let alloc = rt.alloc();
     let mut image = opened_image(rt, path)?;

@@ -4,12 +4,15 @@ ghost use Rattle.d64_image.specs.Keeps.{Agrees};
 ghost use Rattle.d64_image.specs.Memory.{disk_image, sectors_in};
 ghost use Rattle.ledger_jobs.specs.JobRuns.{AreSidesDoneOver};
 ghost use Rattle.ledger_jobs.specs.Rights.{MayChangeImage, MayReadImage, MayRepair};
-ghost use Rattle.ledger_jobs.specs.SideRepairs.{IsCopyRebuilt, IsCopyUnbuilt, IsSidesEnd};
-ghost use Rattle.ledger_jobs.specs.declared.jobs.Effect.TheVariants.{Printed};
+ghost use Rattle.ledger_jobs.specs.SideRepairs.{AreSidesJudged, AreSidesWritten, IsCopyRebuilt, IsCopyUnbuilt, IsRebuildCut};
+ghost use Rattle.ledger_jobs.specs.SideRepairs.{IsRebuildTold, IsSidesEnd};
+ghost use Rattle.ledger_jobs.specs.declared.jobs.Effect.TheVariants.{Printed, Written};
 
 use crate::jobs::{Effect, Loss, Unowned};
 use crate::keeper_files::image_to_keep;
-use crate::losses::{dry_repair_guarded, loss_refusal, repair_guarded};
+use crate::keeper_runs::repair_run;
+use crate::losses::{dry_repair_guarded, loss_refusal};
+use crate::outcomes::repaired_end;
 use crate::readings::image_at;
 use crate::refusals::Refusal;
 use command_faults::{CommandFault, load};
@@ -48,9 +51,13 @@ fn rebuilt_copy<W: Write>(
 
 /// Judges in memory, before anything is written or printed, that the side sectors can be rebuilt, and that no file of
 /// the disk is cut short then, unless a loss is accepted.
-fn judge_sides(alloc: Global, image: &[u8], loss: Loss) -> Result<(), Refusal> {
+fn judge_sides(alloc: Global, image: &[u8], loss: Loss) -> Result<(), Refusal>
+    ensures { AreSidesJudged image.now loss result }
+{
     let mut lines = Vec::new(alloc);
     match rebuilt_copy(alloc, image, loss, &mut lines) {
+        // the lines go to memory
+        Err(CommandFault::File) => Err(Refusal::Fault(CommandFault::NoMemory)),
         Err(fault) => Err(Refusal::Fault(fault)),
         Ok(copy) => match loss_refusal(alloc, copy.bytes(), loss) {
             Some(refusal) => Err(refusal),
@@ -60,7 +67,8 @@ fn judge_sides(alloc: Global, image: &[u8], loss: Loss) -> Result<(), Refusal> {
 }
 
 /// Rebuilds the side sectors on the disk of the image that the file keeps, as `rebuild_image` does. Each sector is
-/// handed to the file before memory takes it. Returns the file, and the disk that it keeps. `Device` if the file failed.
+/// handed to the file before memory takes it. Returns the file, and the disk that it keeps. `Device` if the file failed,
+/// `File` if the output did: then a first part of what is printed was.
 fn write_rebuilt<F: SectorFile + Drop, W: Write>(
     alloc: Global,
     image: &[u8],
@@ -72,8 +80,13 @@ fn write_rebuilt<F: SectorFile + Drop, W: Write>(
     requires agrees { Agrees (F.keeps.kept file) (sectors_in image.now) }
     // and then it is that of the disk
     ensures kept { IfOk result (λ left. Agrees (F.keeps.kept left.0) (disk_image left.1)) }
+    ensures ok { IfOk result (λ left. IsRebuildTold W.contents image.now (disk_image left.1) out.old out.new) }
+    ensures err { IfErr result (IsRebuildCut W.contents image.now out.old out.new) }
 {
-    let disk = load(alloc, image)?;
+    let disk = match load(alloc, image) {
+        Ok(disk) => disk,
+        Err(fault) => return Err(fault),
+    };
     let mut mirror = KeptMirror::new(file, disk);
     let ended = rebuild_image(alloc, image, shortened(loss), &mut mirror, out);
     if mirror.is_broken() {
@@ -86,11 +99,33 @@ fn write_rebuilt<F: SectorFile + Drop, W: Write>(
     }
 }
 
+/// Rebuilds the side sectors on the disk of the image that the file keeps, and then repairs it.
+fn repair_rebuilt<F: SectorFile + Drop, W: Write>(
+    alloc: Global,
+    image: &[u8],
+    free: bool,
+    loss: Loss,
+    file: F,
+    out: &mut W,
+) -> Result<Option<Fault>, Refusal>
+    // if it is known what the file keeps, it is this image
+    requires agrees { Agrees (F.keeps.kept file) (sectors_in image.now) }
+    ensures { AreSidesWritten free W.contents image.now out.old out.new result }
+{
+    match write_rebuilt(alloc, image, loss, file, out) {
+        Err(fault) => Err(Refusal::Fault(fault)),
+        Ok((file, disk)) => {
+            let (_, ended) = repair_run(alloc, disk.bytes(), free, file, out);
+            repaired_end(ended)
+        }
+    }
+}
+
 /// Rebuilds the side sectors of the image at a path, and then repairs it, over its file.
 fn do_written_repair<F, R, W>(
     rt: &R,
     path: &str,
-    free: bool,
+    unowned: Unowned,
     loss: Loss,
     out: &mut W,
 ) -> Result<Option<Fault>, Refusal>
@@ -99,16 +134,18 @@ where
     R: HostFiles<File = F> + AllocGlobal,
     W: Write,
     requires image { MayChangeImage R.rights rt.now path.now }
+    ensures { AreSidesDoneOver R.rights R.stands W.contents rt.now Written unowned loss path.now out.old out.new result }
 {
     let (image, file) = image_to_keep(rt, path)?;
     judge_sides(rt.alloc(), image.as_slice(), loss)?;
-    match write_rebuilt(rt.alloc(), image.as_slice(), loss, file, out) {
-        Err(fault) => Err(Refusal::Fault(fault)),
-        Ok((file, disk)) => {
-            let (_, ended) = repair_guarded(rt.alloc(), disk.bytes(), free, file, loss, out);
-            ended
-        }
-    }
+    repair_rebuilt(
+        rt.alloc(),
+        image.as_slice(),
+        unowned.is_freed(),
+        loss,
+        file,
+        out,
+    )
 }
 
 /// Rebuilds the side sectors of a copy of this image in memory, and then repairs it.
@@ -165,7 +202,7 @@ where
     ensures { AreSidesDoneOver R.rights R.stands W.contents rt.now effect unowned loss path.now out.old out.new result }
 {
     match effect {
-        Effect::Written => do_written_repair(rt, path, unowned.is_freed(), loss, out),
+        Effect::Written => do_written_repair(rt, path, unowned, loss, out),
         Effect::Printed => do_printed_repair(rt, path, unowned, loss, out),
     }
 }

@@ -33,14 +33,14 @@ fn media_for(reply: &Reply) -> Reply
 /// gone, MEDIA is passed in the place of the reply, and no other reply.
 #[derive(Drop)]
 pub struct WhileThere<'a, N, T> {
-    file: N,
+    file: &'a N,
     out: &'a mut T,
     gone: bool,
 }
 
 impl<'a, N, T> WhileThere<'a, N, T> {
     /// Replies go to this output while the file is there.
-    pub fn new(file: N, out: &'a mut T) -> WhileThere<'a, N, T>
+    pub fn new(file: &'a N, out: &'a mut T) -> WhileThere<'a, N, T>
         ensures same { result.out.ghost_name ≡ out.entry.ghost_name }
         ensures out { result.out.now ≡ out.old }
     {

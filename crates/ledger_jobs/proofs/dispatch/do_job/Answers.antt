@@ -10,6 +10,12 @@ returns-in-New g c =
     subst (λ (job : Job). IsJobOver g.R.HostFiles.rights g.R.HostFiles.stands g.W.Write.contents c.args.rt.now job
     c.args.out.now c.do_new.new.out c.do_new.result) (sym c.in-New.is) c.do_new.ensures
 
+pub returns-in-PlayLogged : goal.returns-in-PlayLogged
+returns-in-PlayLogged g c =
+    subst (λ (job : Job). IsJobOver g.R.HostFiles.rights g.R.HostFiles.stands g.W.Write.contents c.args.rt.now job
+    c.args.out.now c.do_logged_playing.new.out c.do_logged_playing.result) (sym c.in-PlayLogged.is)
+    c.do_logged_playing.ensures
+
 pub returns-in-Copy : goal.returns-in-Copy
 returns-in-Copy g c =
     subst (λ (job : Job). IsJobOver g.R.HostFiles.rights g.R.HostFiles.stands g.W.Write.contents c.args.rt.now job

@@ -6,8 +6,8 @@ use Rattle.ledger_jobs.specs.Changes.{IsRepairTold}
 use Rattle.ledger_jobs.specs.Jobs.{frees}
 use Rattle.ledger_jobs.specs.Keeping.{IsRepairOver}
 use Rattle.ledger_jobs.specs.Losses.{IsGuarded, IsRepairedEndOf}
-use Rattle.ledger_jobs.proofs.ChangeTold.{guarded-repair, repair-told}
 use Rattle.ledger_jobs.proofs.HostFiles.{over-written}
+use Rattle.ledger_jobs.proofs.RepairTold.{guarded-repair, repair-told}
 use Rattle.ledger_jobs.proofs.keeper_files.do_written_repair.Goals as goal
 
 pub returns : goal.returns

@@ -1,8 +1,8 @@
 -- What a repair would do is of the bytes that the host says.
-use Rattle.std.proofs.Common.{Bool, subst}
-use Rattle.std.specs.Prelude.{vec_items}
+use Rattle.std.proofs.Common.{Bool, List, inr, subst, sym, ◌∙◌, ℕ}
+use Rattle.std.specs.Prelude.{Ok, vec_items}
 use Rattle.ledger_jobs.specs.Jobs.{frees}
-use Rattle.ledger_jobs.specs.SideRepairs.{IsSidesEnd}
+use Rattle.ledger_jobs.specs.SideRepairs.{AreSidesJudged, IsJudgedFirst, IsSidesEnd}
 use Rattle.ledger_jobs.proofs.HostFiles.{over-image}
 use Rattle.ledger_jobs.proofs.side_repairs.do_printed_repair.Goals as goal
 
@@ -14,7 +14,12 @@ returns g c =
     let told = g.W.Write.contents in
     over-image g.R.HostFiles.rights g.R.HostFiles.stands c.args.rt.now c.args.path.now old new ended
     (vec_items c.in_ok-image.image) c.as_slice-2.result.now
-    (λ image. IsSidesEnd (frees c.args.unowned) told c.args.loss image old new ended)
+    (λ image. IsJudgedFirst image c.args.loss old new ended
+    (IsSidesEnd (frees c.args.unowned) told c.args.loss image old new ended))
     c.in_ok-image.ensures c.as_slice-2.ensures.value
-    (subst (λ (free : Bool). IsSidesEnd free told c.args.loss c.as_slice-2.result.now old new ended) c.is_freed.ensures
-    c.repair_copy.ensures)
+    (inr (
+      subst (λ (image : List ℕ). AreSidesJudged image c.args.loss (Ok tt))
+          (c.as_slice.ensures.value ∙ sym c.as_slice-2.ensures.value) c.in_ok-judge_sides.ensures,
+      subst (λ (free : Bool). IsSidesEnd free told c.args.loss c.as_slice-2.result.now old new ended) c.is_freed.ensures
+          c.repair_copy.ensures,
+    ))

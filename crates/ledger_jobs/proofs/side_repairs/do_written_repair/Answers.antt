@@ -1,0 +1,25 @@
+-- What was mended is of the bytes that the host says.
+use Rattle.std.proofs.Common.{Bool, List, inr, subst, sym, ◌∙◌, ℕ}
+use Rattle.std.specs.Prelude.{Ok, vec_items}
+use Rattle.ledger_jobs.specs.Jobs.{frees}
+use Rattle.ledger_jobs.specs.SideRepairs.{AreSidesJudged, AreSidesWritten, IsJudgedFirst}
+use Rattle.ledger_jobs.proofs.HostFiles.{over-written}
+use Rattle.ledger_jobs.proofs.side_repairs.do_written_repair.Goals as goal
+
+pub returns : goal.returns
+returns g c =
+    let ended = c.repair_rebuilt.result in
+    let old = c.args.out.now in
+    let new = c.repair_rebuilt.new.out in
+    let told = g.W.Write.contents in
+    over-written g.R.HostFiles.stands c.args.rt.now c.args.path.now old new ended (vec_items c.in_ok-image.image)
+    c.as_slice-2.result.now
+    (λ image. IsJudgedFirst image c.args.loss old new ended
+    (AreSidesWritten (frees c.args.unowned) told image old new ended))
+    c.in_ok-image.ensures.read c.as_slice-2.ensures.value
+    (inr (
+      subst (λ (image : List ℕ). AreSidesJudged image c.args.loss (Ok tt))
+          (c.as_slice.ensures.value ∙ sym c.as_slice-2.ensures.value) c.in_ok-judge_sides.ensures,
+      subst (λ (free : Bool). AreSidesWritten free told c.as_slice-2.result.now old new ended) c.is_freed.ensures
+          c.repair_rebuilt.ensures,
+    ))
