@@ -1,6 +1,6 @@
 -- What is done over the bytes that a host says, from what was read of its files.
 use Rattle.std.proofs.Common.{◌≡◌, ℕ, List, inl, inr, refl, subst, sym, ◌∙◌}
-use Rattle.std.specs.Prelude.{IfOk, IfSome, IsErr, None, Option, Result, Ok, Err, Some, Vec, option_map, take, vec_items}
+use Rattle.std.specs.Prelude.{IfErr, IfOk, IfSome, IsErr, None, Option, Result, Ok, Err, Some, Vec, option_map, take, vec_items}
 use Rattle.std.specs.Io.Take.{take_inner, take_limit, take_remaining}
 use Rattle.std.specs.declared.alloc.Global.{Global}
 use Rattle.std.specs.declared.io.traits.Take.{Take}
@@ -8,7 +8,7 @@ use Rattle.host_files.specs.Rights.{Rights}
 use Rattle.host_files.specs.Standing.{AreOf, Holds, Stands}
 use Rattle.ledger_jobs.specs.EachImage.{as_loaded}
 use Rattle.ledger_jobs.specs.Ends.{EndsAs, Ended, JobEnd, as_job}
-use Rattle.ledger_jobs.specs.HostFiles.{IsReadAt, OfImage, OfWritten, RunEnds, TrimEnds}
+use Rattle.ledger_jobs.specs.HostFiles.{IsReadAt, IsUnbegun, OfImage, OfWritten, RunEnds, TrimEnds}
 use Rattle.ledger_jobs.specs.Runs.{IsReadingEnd, IsReadingOf}
 use Rattle.ledger_jobs.specs.declared.jobs.Reading.{Reading}
 use Rattle.ledger_jobs.specs.declared.refusals.Refusal.{Refusal}
@@ -65,17 +65,15 @@ pub reading-ends : {W : Type 0} (contents : W → Option (List ℕ)) (what : Rea
     → RunEnds old new end (EndsAs as_job end (IsReadingEnd contents what bytes old new))
 reading-ends contents what bytes old new ended end told (inl run) = inl (ended, told, run)
 reading-ends contents what bytes old new ended end told (inr (same, inl file)) =
-    inr (
-      same,
-      let E : JobEnd → Type 0 = λ e. IsErr e in
-          let R : Ended → Type 0 = λ r. E (as_job r) in subst E (sym told) (subst R (sym file) refl),
-    )
+    let E : JobEnd → Type 0 = λ e. IsErr e × IfErr e IsUnbegun in
+    let R : Ended → Type 0 = λ r. E (as_job r) in
+    let both = subst E (sym told) (subst R (sym file) (refl, inl tt)) in
+    inr (same, both.0, both.1)
 reading-ends contents what bytes old new ended end told (inr (same, inr memory)) =
-    inr (
-      same,
-      let E : JobEnd → Type 0 = λ e. IsErr e in
-          let R : Ended → Type 0 = λ r. E (as_job r) in subst E (sym told) (subst R (sym memory) refl),
-    )
+    let E : JobEnd → Type 0 = λ e. IsErr e × IfErr e IsUnbegun in
+    let R : Ended → Type 0 = λ r. E (as_job r) in
+    let both = subst E (sym told) (subst R (sym memory) (refl, inl tt)) in
+    inr (same, both.0, both.1)
 
 -- the same of each value
 pub some-weaker : {A : Type 0} (o : Option A) (P Q : A → Type 0) → ((a : A) → P a → Q a) → IfSome o P → IfSome o Q

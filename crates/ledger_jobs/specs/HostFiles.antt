@@ -1,5 +1,5 @@
 -- Which bytes a job is done over, where the host says what its files hold. Our own.
-use Rattle.std.specs.Prelude.{◌≡◌, ◌≢◌, ◌⊎◌, ⊤, ℕ, IsErr, List}
+use Rattle.std.specs.Prelude.{◌≡◌, ◌≢◌, ◌⊎◌, ⊤, ℕ, IfErr, IsErr, List}
 use Rattle.command_faults.specs.declared.faults.CommandFault.TheVariants as faults
 use Rattle.host_files.specs.Rights.{Rights}
 use Rattle.host_files.specs.Standing.{Holds, IsMissing, Stands}
@@ -50,13 +50,20 @@ module _ {H : Type 0} (rights : Rights H) (stands : H → List ℕ → Stands) (
   abbrev pub IsReadAt : List ℕ → Loaded → Type 0
   IsReadAt path read = OfImage path (λ all. IsLoadedOf all read)
 
--- an image or a script weren't opened, locked or read, or the image's file has another length
+-- a file wasn't opened, locked or read
+abbrev pub IsUnread : Refusal → Type 0
+IsUnread refusals.InUse = ⊤
+IsUnread (refusals.Fault faults.File) = ⊤
+IsUnread (refusals.Fault faults.NoMemory) = ⊤
+IsUnread _ = ⊥
+
+-- or it is an image's, and has another length
 abbrev pub IsUnopened : Refusal → Type 0
-IsUnopened refusals.InUse = ⊤
-IsUnopened (refusals.Fault faults.File) = ⊤
-IsUnopened (refusals.Fault faults.NoMemory) = ⊤
-IsUnopened (refusals.Fault faults.ImageSize) = ⊤
-IsUnopened _ = ⊥
+IsUnopened refusal = IsUnread refusal ⊎ (refusal ≡ refusals.Fault faults.ImageSize)
+
+-- or what it held couldn't be synced, or a log beside it gives no image
+abbrev pub IsUnbegun : Refusal → Type 0
+IsUnbegun refusal = IsUnread refusal ⊎ ((refusal ≡ refusals.Fault faults.Device) ⊎ (refusal ≡ refusals.Log))
 
 -- a job was refused for this line of its script, once its files were open
 abbrev pub IsRefusedAt : ℕ → Refusal → Type 0
@@ -64,8 +71,9 @@ IsRefusedAt line refusal = (refusal ≡ refusals.Fault (faults.ScriptLine line))
 
 -- the run over the bytes of a job's files ended so, and the job with it; or the run wasn't begun, and nothing was printed
 abbrev pub RunEnds : {W : Type 0} → W → W → JobEnd → Type 0 → Type 0
-RunEnds old new end run = run ⊎ ((new ≡ old) × IsErr end)
+RunEnds old new end run = run ⊎ ((new ≡ old) × IsErr end × IfErr end IsUnbegun)
 
 -- the same of a run that prints to two outputs
 abbrev pub TrimEnds : {W E : Type 0} → W → W → E → E → JobEnd → Type 0 → Type 0
-TrimEnds old new old_err new_err end run = run ⊎ ((new ≡ old) × (new_err ≡ old_err) × IsErr end)
+TrimEnds old new old_err new_err end run =
+    run ⊎ ((new ≡ old) × (new_err ≡ old_err) × IsErr end × IfErr end IsUnbegun)

@@ -1,7 +1,7 @@
 //! The log beside an image: it is landed before the image is written, and read in the place of the image.
 ghost use Rattle.std.specs.Prelude.{◌≡◌, IfErr, IfOk, IsNone, false, string_bytes};
 ghost use Rattle.ledger_jobs.specs.Ends.{log_refusal as refusal_of};
-ghost use Rattle.ledger_jobs.specs.HostFiles.{HasNoLog, IsUnopened};
+ghost use Rattle.ledger_jobs.specs.HostFiles.{HasNoLog, IsUnbegun, IsUnread};
 ghost use Rattle.ledger_jobs.specs.Rights.{MayChangeImage, MayReadFile};
 ghost use Rattle.log_files.specs.LogRights.{MayKeepLog, MayKeepLogOf, MayReadLog};
 ghost use Rattle.host_files.specs.Rights.{Look, May, MayRead, MayWrite};
@@ -30,7 +30,7 @@ pub(crate) fn log_refusal(fault: &LogFault) -> Refusal
 
 /// Whether a file has as many bytes as an image.
 pub(crate) fn is_sized<F: OpenFile>(file: &F) -> Result<bool, Refusal>
-    ensures { IfErr result IsUnopened }
+    ensures { IfErr result IsUnread }
 {
     let found = told(OpenFile::metadata(file))?;
     Ok(found.len() == IMAGE_BYTES as u64)
@@ -56,7 +56,7 @@ where
     requires { MayWrite R.rights rt.now path.now }
     ensures owned { IfOk result F.IsOwned }
     ensures bytes { IfOk result (λ image. AreOf R.stands rt.now path.now (F.unread image)) }
-    ensures err { IfErr result IsUnopened }
+    ensures err { IfErr result IsUnread }
 {
     let mut file = told(opened_to_change(rt, path))?;
     lock_exclusive(&mut file, Durability::AtEnd)?;
@@ -71,6 +71,7 @@ where
     requires { MayRead R.rights rt.now path.now }
     ensures shared { IfOk result F.IsShared }
     ensures bytes { IfOk result (λ file. AreOf R.stands rt.now path.now (F.unread file)) }
+    ensures err { IfErr result IsUnread }
 {
     let mut file = told(opened_to_read(rt, path))?;
     lock_shared(&mut file)?;
@@ -85,6 +86,7 @@ where
     R: HostFiles<File = F> + AllocGlobal,
     requires image { MayWrite R.rights rt.now path.now }
     requires log { MayKeepLogOf R.rights rt.now (string_bytes names.now.image) }
+    ensures { IfErr result IsUnbegun }
 {
     let image = told(opened_to_change(rt, path))?;
     let mut folder = told(ImageFolder::new(rt, rt.alloc(), names, image, true))?;
@@ -103,6 +105,7 @@ where
     R: HostFiles<File = F> + AllocGlobal,
     requires owned { F.IsOwned image.now }
     requires rights { MayChangeImage R.rights rt.now path.now }
+    ensures { IfErr result IsUnbegun }
 {
     if !is_sized(image)? {
         return Ok(());
@@ -124,6 +127,7 @@ where
     requires { MayChangeImage R.rights rt.now path.now }
     ensures owned { IfOk result F.IsOwned }
     ensures bytes { IfOk result (λ image. AreOf R.stands rt.now path.now (F.unread image)) }
+    ensures err { IfErr result IsUnbegun }
 {
     let image = opened_alone(rt, path)?;
     settle_log(rt, path, &image)?;
@@ -141,7 +145,8 @@ where
     F: OpenFile + Drop,
     R: HostFiles<File = F> + AllocGlobal,
     requires { MayReadFile R.rights rt.now path.now }
-    ensures { HasNoLog R.rights R.stands rt.now path.now → IfOk result IsNone }
+    ensures none { HasNoLog R.rights R.stands rt.now path.now → IfOk result IsNone }
+    ensures err { IfErr result IsUnbegun }
 {
     if !is_sized(image)? {
         return Ok(None);

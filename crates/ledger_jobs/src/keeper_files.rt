@@ -7,7 +7,7 @@ ghost use Rattle.shop_commands.specs.ImageFile.{is_synced, placed};
 ghost use Rattle.command_faults.specs.declared.faults.CommandFault.TheVariants.{NoMemory};
 ghost use Rattle.ledger_jobs.specs.Changes.{IsChangeEnd, IsQuietEnd};
 ghost use Rattle.ledger_jobs.specs.Columns.{text_in};
-ghost use Rattle.ledger_jobs.specs.HostFiles.{OfWritten};
+ghost use Rattle.ledger_jobs.specs.HostFiles.{IsUnbegun, OfWritten};
 ghost use Rattle.ledger_jobs.specs.JobRuns.{IsRepairDoneOver, IsRepairShown, IsRepairedOver};
 ghost use Rattle.ledger_jobs.specs.Names.{name_bytes};
 ghost use Rattle.ledger_jobs.specs.declared.refusals.Refusal.TheVariants as refusals;
@@ -43,6 +43,7 @@ where
     ensures agrees { IfOk result (λ taken. Agrees (placed.kept taken.1) (sectors_in (vec_items taken.0))) }
     ensures read { OfWritten R.stands rt.now path.now
         (λ all. IfOk result (λ taken. vec_items taken.0 ≡ take 174849 all)) }
+    ensures err { IfErr result IsUnbegun }
 {
     let durability = Durability::EachSector;
     let mut file = opened_and_landed(rt, path)?;

@@ -3,7 +3,7 @@ ghost use Rattle.std.specs.Prelude.{◌≡◌, IfErr, IfOk, IfSome, OnOk, take, 
 ghost use Rattle.shop_commands.specs.Durable.{IsSynced};
 ghost use Rattle.shop_commands.specs.declared.durability.Durability.TheVariants.{AtEnd};
 ghost use Rattle.ledger_jobs.specs.DurableRuns.{IsFinished};
-ghost use Rattle.ledger_jobs.specs.HostFiles.{IsUnopened};
+ghost use Rattle.ledger_jobs.specs.HostFiles.{IsUnbegun, IsUnread};
 
 use crate::refusals::Refusal;
 use command_faults::CommandFault;
@@ -20,7 +20,8 @@ pub(crate) fn lock_exclusive<F: Locks>(file: &mut F, durability: Durability) -> 
     ensures synced { OnOk result (IsSynced F.held F.lasting durability file.new) }
     ensures untouched { F.held file.new ≡ F.held file.old }
     ensures unread { F.unread file.new ≡ F.unread file.old }
-    ensures err { IfErr result (λ refusal. (durability ≡ AtEnd) → IsUnopened refusal) }
+    ensures err { IfErr result IsUnbegun }
+    ensures at_end { durability ≡ AtEnd → IfErr result IsUnread }
 {
     if let Err(error) = file.lock_alone() {
         return Err(Refusal::of_lock(&error));
@@ -36,6 +37,7 @@ pub(crate) fn lock_shared<F: Locks>(file: &mut F) -> Result<(), Refusal>
     ensures shared { OnOk result (F.IsShared file.new) }
     ensures untouched { F.held file.new ≡ F.held file.old }
     ensures unread { F.unread file.new ≡ F.unread file.old }
+    ensures err { IfErr result IsUnread }
 {
     match file.lock_shared() {
         Ok(()) => Ok(()),
@@ -79,6 +81,7 @@ pub(crate) fn own_image<F: Locks>(
     ensures owned { OnOk result (F.IsOwned file.new) }
     ensures synced { OnOk result (IsSynced F.held F.lasting durability file.new) }
     ensures untouched { F.held file.new ≡ F.held file.old }
+    ensures err { IfErr result IsUnbegun }
 {
     lock_exclusive(file, durability)?;
     match read_locked(alloc, file, durability) {

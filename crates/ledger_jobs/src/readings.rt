@@ -3,7 +3,7 @@ ghost use Rattle.std.specs.Prelude.{◌≡◌, IfErr, IfOk, IfSome, IsNone, Err,
 ghost use Rattle.std.specs.IoError.{error_kind};
 ghost use Rattle.command_faults.specs.Faults.{io_fault};
 ghost use Rattle.host_files.specs.Standing.{AreOf};
-ghost use Rattle.ledger_jobs.specs.HostFiles.{HasNoLogFor, OfFile, OfImage, OfImageFile, OfRead};
+ghost use Rattle.ledger_jobs.specs.HostFiles.{HasNoLogFor, IsUnbegun, IsUnread, OfFile, OfImage, OfImageFile, OfRead};
 ghost use Rattle.ledger_jobs.specs.JobRuns.{IsReadOver};
 ghost use Rattle.ledger_jobs.specs.Jobs.{needed};
 ghost use Rattle.ledger_jobs.specs.Runs.{IsReadingEnd, IsReadingOf};
@@ -83,7 +83,8 @@ where
     F: Locks + Drop,
     R: HostFiles<File = F>,
     requires { MayReadFileFor R.rights rt.now what path.now }
-    ensures { IfOk result (λ file. AreOf R.stands rt.now path.now (F.remaining file)) }
+    ensures bytes { IfOk result (λ file. AreOf R.stands rt.now path.now (F.remaining file)) }
+    ensures err { IfErr result IsUnread }
 {
     match what {
         Reading::Dry => told(rt.open_to_read(path)),
@@ -102,7 +103,8 @@ where
     F: OpenFile + Drop,
     R: HostFiles<File = F> + AllocGlobal,
     requires { MayReadFileFor R.rights rt.now what path.now }
-    ensures { HasNoLogFor R.rights R.stands rt.now what path.now → IfOk result IsNone }
+    ensures none { HasNoLogFor R.rights R.stands rt.now what path.now → IfOk result IsNone }
+    ensures err { IfErr result IsUnbegun }
 {
     match what {
         Reading::Dry => Ok(None),
@@ -173,8 +175,9 @@ where
     F: Locks + OpenFile + Drop,
     R: HostFiles<File = F> + AllocGlobal,
     requires { MayReadFile R.rights rt.now path.now }
-    ensures { OfImageFile R.rights R.stands rt.now path.now
+    ensures read { OfImageFile R.rights R.stands rt.now path.now
         (λ all. IfOk result (λ image. vec_items image ≡ take 174849 all)) }
+    ensures err { IfErr result IsUnbegun }
 {
     let mut file = opened_shared(rt, path)?;
     match logged_image(rt, path, &file)? {
@@ -189,8 +192,9 @@ where
     F: Locks + OpenFile + Drop,
     R: HostFiles<File = F> + Input + AllocGlobal,
     requires { MayReadImage R.rights rt.now path.now }
-    ensures { OfImage R.rights R.stands rt.now path.now
+    ensures read { OfImage R.rights R.stands rt.now path.now
         (λ all. IfOk result (λ image. vec_items image ≡ take 174849 all)) }
+    ensures err { IfErr result IsUnbegun }
 {
     if path == STANDARD_INPUT {
         return told(read_image(rt.alloc(), rt.reader()));

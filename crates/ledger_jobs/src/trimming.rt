@@ -1,6 +1,6 @@
 //! Tracks 1 to 35 of an image of another size, over its bytes and over its file.
-ghost use Rattle.std.specs.Prelude.{◌≡◌, IfOk, IfSome, take, vec_items};
-ghost use Rattle.ledger_jobs.specs.HostFiles.{OfImage, TrimEnds};
+ghost use Rattle.std.specs.Prelude.{◌≡◌, IfErr, IfOk, IfSome, take, vec_items};
+ghost use Rattle.ledger_jobs.specs.HostFiles.{IsUnbegun, OfImage, TrimEnds};
 ghost use Rattle.ledger_jobs.specs.Ends.{EndsAs};
 ghost use Rattle.ledger_jobs.specs.Trims.{IsTrimRun, as_trimmed};
 ghost use Rattle.ledger_jobs.specs.Rights.{MayReadImage};
@@ -66,8 +66,9 @@ where
     F: Read + Locks + OpenFile + Drop,
     R: HostFiles<File = F> + Input + AllocGlobal,
     requires { MayReadImage R.rights rt.now path.now }
-    ensures { OfImage R.rights R.stands rt.now path.now
+    ensures read { OfImage R.rights R.stands rt.now path.now
         (λ all. IfOk result (λ image. vec_items image ≡ take 197377 all)) }
+    ensures err { IfErr result IsUnbegun }
 {
     if path == STANDARD_INPUT {
         return told(read_long(rt.alloc(), rt.reader()));

@@ -12,5 +12,5 @@ returns g c =
     (vec_items c.in_ok-first.first) (vec_items c.in_ok-second.second) c.as_slice.result.now c.as_slice-2.result.now
     (λ first second. EndsAs as_job c.job_end.result
     (IsComparingRun g.W.Write.contents first second c.args.out.now c.comparing_run.new.out))
-    c.in_ok-first.ensures c.in_ok-second.ensures c.as_slice.ensures.value c.as_slice-2.ensures.value
+    c.in_ok-first.ensures.read c.in_ok-second.ensures.read c.as_slice.ensures.value c.as_slice-2.ensures.value
     (c.comparing_run.result, c.job_end.ensures, c.comparing_run.ensures.run)

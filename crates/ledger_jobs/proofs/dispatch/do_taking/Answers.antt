@@ -12,6 +12,6 @@ returns g c =
     c.take_told.result (vec_items c.in_ok-image.image) c.as_slice.result.now
     (λ image. IsTakingEnd g.W.Write.contents c.args.what image (name_bytes c.args.name.now) c.args.out.now
     c.take_told.new.out c.take_told.result)
-    c.in_ok-image.ensures c.as_slice.ensures.value
+    c.in_ok-image.ensures.read c.as_slice.ensures.value
     (subst (λ (named : List ℕ). IsTakingEnd g.W.Write.contents c.args.what c.as_slice.result.now named c.args.out.now
     c.take_told.new.out c.take_told.result) c.as_bytes.ensures c.take_told.ensures)

@@ -11,7 +11,7 @@ returns g c =
     c.extract_run-ended.new.out c.folder_end.result (vec_items c.in_ok-image.image) c.as_slice.result.now
     (λ image. IsExtractedTo g.W.Write.contents c.args.choice image c.args.out.now c.extract_run-ended.new.out
     c.folder_end.result)
-    c.in_ok-image.ensures c.as_slice.ensures.value (
+    c.in_ok-image.ensures.read c.as_slice.ensures.value (
       c.extract_run-ended.result,
       extract-said c.args.choice c.as_slice.result.now _ _ g.W.Write.contents c.args.out.now
           c.extract_run-ended.new.out c.extract_run-ended.result c.extract_run-ended.ensures,

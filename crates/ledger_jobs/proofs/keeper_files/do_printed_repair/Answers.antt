@@ -17,7 +17,7 @@ returns g c =
     (vec_items c.in_ok-image.image) c.as_slice.result.now
     (λ image. IsGuarded image c.args.loss (new ≡ old)
     (IsRepairedEndOf (IsDryRepair (frees c.args.unowned) told image old new)) ended)
-    c.in_ok-image.ensures c.as_slice.ensures.value
+    c.in_ok-image.ensures.read c.as_slice.ensures.value
     (subst (λ (free : Bool). IsGuarded c.as_slice.result.now c.args.loss (new ≡ old)
     (IsRepairedEndOf (IsDryRepair free told c.as_slice.result.now old new)) ended) c.is_freed.ensures
     c.dry_repair_guarded.ensures)

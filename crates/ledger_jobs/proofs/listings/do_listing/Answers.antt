@@ -11,4 +11,4 @@ returns g c =
     c.job_end.result (vec_items c.in_ok-image.image) c.as_slice.result.now
     (λ image. EndsAs as_job c.job_end.result
     (IsListingRun g.W.Write.contents image c.args.out.now c.listing_run.new.out))
-    c.in_ok-image.ensures c.as_slice.ensures.value (c.listing_run.result, c.job_end.ensures, c.listing_run.ensures)
+    c.in_ok-image.ensures.read c.as_slice.ensures.value (c.listing_run.result, c.job_end.ensures, c.listing_run.ensures)

@@ -10,6 +10,6 @@ pub returns : goal.returns
 returns g c = record {
   ok = one-read (IsReadAt g.R.HostFiles.rights g.R.HostFiles.stands c.args.rt.now) (IsOverviewOf g.W.Write.contents c.args.what) c.args.path.now
       (as_loaded c.image_at.result) c.args.out.now c.overview_of.new.out c.overview_of.result
-      (read-at g.R.HostFiles.rights g.R.HostFiles.stands c.args.rt.now c.args.path.now c.image_at.result c.image_at.ensures)
+      (read-at g.R.HostFiles.rights g.R.HostFiles.stands c.args.rt.now c.args.path.now c.image_at.result c.image_at.ensures.read)
       c.overview_of.ensures.ok;
 }

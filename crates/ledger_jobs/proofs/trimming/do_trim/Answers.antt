@@ -12,4 +12,4 @@ returns g c =
     (λ image. EndsAs as_trimmed c.trim_run.result
     (IsTrimRun g.W.Write.contents g.E.Write.contents image c.args.out.now c.trim_run.new.out c.args.err.now
     c.trim_run.new.err))
-    c.in_ok-image.ensures c.as_slice.ensures.value c.trim_run.ensures
+    c.in_ok-image.ensures.read c.as_slice.ensures.value c.trim_run.ensures

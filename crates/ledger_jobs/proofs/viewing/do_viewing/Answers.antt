@@ -11,4 +11,4 @@ returns g c =
     c.run_end.result (vec_items c.in_ok-image.image) c.as_slice.result.now
     (λ image. EndsAs as_run c.run_end.result
     (IsViewRun g.W.Write.contents c.args.what image c.args.out.now c.view_image.new.out))
-    c.in_ok-image.ensures c.as_slice.ensures.value (c.view_image.result, c.run_end.ensures, c.view_image.ensures.run)
+    c.in_ok-image.ensures.read c.as_slice.ensures.value (c.view_image.result, c.run_end.ensures, c.view_image.ensures.run)
