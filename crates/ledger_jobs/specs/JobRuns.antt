@@ -18,10 +18,11 @@ use Rattle.ledger_jobs.specs.HostFiles.{IsReadAt, OfImage, OfRead, OfText, OfWri
 use Rattle.ledger_jobs.specs.Jobs.{frees, needed}
 use Rattle.ledger_jobs.specs.Keeping.{IsDryRepair}
 use Rattle.ledger_jobs.specs.Listings.{IsListingRun}
-use Rattle.ledger_jobs.specs.LoggedPlays.{IsResetRefused}
+use Rattle.ledger_jobs.specs.LoggedPlays.{IsLoggedPlayEnd}
 use Rattle.ledger_jobs.specs.Losses.{IsGuarded, IsRepairedEndOf, IsTakingEnd}
 use Rattle.ledger_jobs.specs.Names.{name_bytes}
 use Rattle.ledger_jobs.specs.Overviews.{IsOverviewOf}
+use Rattle.ledger_jobs.specs.Replies.{AreReplyLines}
 use Rattle.ledger_jobs.specs.Runs.{IsReadingEnd}
 use Rattle.ledger_jobs.specs.SheetPages.{IsSheetPrinted}
 use Rattle.ledger_jobs.specs.SideRepairs.{AreSidesWritten, IsJudgedFirst, IsSidesEnd}
@@ -116,8 +117,8 @@ module _ {H W : Type 0} (rights : Rights H) (stands : H → List ℕ → Stands)
 
   -- a script was played over a log beside an image
   abbrev pub IsPlayedOverLog : List ℕ → W → W → JobEnd → Type 0
-  IsPlayedOverLog script old new end = IsLoggedEnd old new end
-      × OfText stands host script (λ all. IsResetRefused all old new end)
+  IsPlayedOverLog script old new end = IsLoggedEnd old new end × AreReplyLines contents old new
+      × OfText stands host script (λ all. IsLoggedPlayEnd contents all old new end)
 
   -- the images at these paths were drawn on a sheet
   abbrev pub AreDrawnOnSheet : List (List ℕ) → W → W → JobEnd → Type 0

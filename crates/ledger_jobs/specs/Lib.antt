@@ -25,6 +25,7 @@ pub mod Names
 pub mod NewDisks
 pub mod Overviews
 pub mod Puts
+pub mod Replies
 pub mod Rights
 pub mod Runs
 pub mod Serves

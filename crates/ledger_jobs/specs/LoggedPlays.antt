@@ -1,5 +1,5 @@
 -- What comes of a script that is played over a log. All of it is our own.
-use Rattle.std.specs.Prelude.{◌≡◌, ◌⊎◌, List, ℕ, [], IfErr, IsErr, IsOk, Result, Some}
+use Rattle.std.specs.Prelude.{◌≡◌, ◌⊎◌, List, ℕ, [], IfErr, IsErr, IsOk, OnOk, Option, Result, Some}
 use Rattle.d64_image.specs.Images.{Image}
 use Rattle.d64_image.specs.Memory.{sectors_in}
 use Rattle.host_session.specs.runs.Chains.{told_in}
@@ -16,6 +16,7 @@ use Rattle.shop_log.specs.ImageLogs.{LogHistory}
 use Rattle.ledger_jobs.specs.Ends.{JobEnd}
 use Rattle.ledger_jobs.specs.HostFiles.{IsRefusedAt}
 use Rattle.ledger_jobs.specs.LoggedRuns.{IsLoggedRun}
+use Rattle.ledger_jobs.specs.Replies.{AreAnswered}
 
 -- All messages of a script were played on the shop s of an image, over a log.
 pub record IsPlayedWhole {L T : Type 0} (h : LogHistory L) (o : LogOutput L T) (s : Shop) (image script : List ℕ)
@@ -42,7 +43,9 @@ pub record IsLoggedPlay {L T : Type 0} (h : LogHistory L) (o : LogOutput L T) (i
   -- at Ok all messages were played
   pub whole : IsOk ended → (s : Shop) → IsShop (sectors_in image) s → IsPlayedWhole h o s image script log after old new
 
--- a script that has a reset is refused for the first line with one, once the files are open, and nothing is printed
-abbrev pub IsResetRefused : {W : Type 0} → (script : List ℕ) → W → W → JobEnd → Type 0
-IsResetRefused script old new end = (n : ℕ) → first_reset (lines script) ≡ Some n
-    → (new ≡ old) × IsErr end × IfErr end (IsRefusedAt n)
+-- The job that plays this script over a log ended so. One with a reset is refused for the first line that has one, once the
+-- files are open, and nothing is printed. When it is done, a shop's replies to all lines were printed.
+pub record IsLoggedPlayEnd {W : Type 0} (contents : W → Option (List ℕ)) (script : List ℕ) (old new : W) (end : JobEnd)
+    : Type 0 where
+  pub reset : (n : ℕ) → first_reset (lines script) ≡ Some n → (new ≡ old) × IsErr end × IfErr end (IsRefusedAt n)
+  pub done : OnOk end (AreAnswered contents (lines script) old new)

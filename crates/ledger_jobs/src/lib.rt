@@ -35,6 +35,7 @@ mod putting;
 mod readings;
 mod refusal_subjects;
 mod refusals;
+mod reply_lines;
 mod serving_files;
 mod serving_images;
 mod serving_logs;

@@ -1,5 +1,5 @@
 //! Playing a script on the shop of the image at a path, over a log beside it.
-ghost use Rattle.std.specs.Prelude.{◌≡◌, ℕ, Bool, IfErr, IfOk, IsOk, None, Some, vec_items};
+ghost use Rattle.std.specs.Prelude.{◌≡◌, ℕ, Bool, IfErr, IfOk, IsOk, None, OnOk, Some, vec_items};
 ghost use Rattle.d64_image.specs.Memory.{sectors_in};
 ghost use Rattle.host_session.specs.shop.Shop.{IsShop, Shop};
 ghost use Rattle.ledger_jobs.specs.Changes.{IsLoggedEnd};
@@ -8,6 +8,7 @@ ghost use Rattle.ledger_jobs.specs.JobRuns.{IsPlayedOverLog};
 ghost use Rattle.ledger_jobs.specs.LandedRuns.{HasLanded, IsDoneAndLanded};
 ghost use Rattle.ledger_jobs.specs.LoggedPlays.{IsLoggedPlay};
 ghost use Rattle.ledger_jobs.specs.Losses.{IsEndOfRun};
+ghost use Rattle.ledger_jobs.specs.Replies.{AreAnswered, AreReplyLines};
 ghost use Rattle.log_files.specs.LiveLogs.{of_live};
 ghost use Rattle.log_server.specs.Serves.{shop_behind};
 ghost use Rattle.script_lines.specs.Lines.{first_reset, lines};
@@ -18,13 +19,13 @@ use crate::jobs::Loss;
 use crate::logged_plays::play_logged;
 use crate::outcomes::{run_end, told};
 use crate::refusals::Refusal;
+use crate::reply_lines::ReplyLines;
 use crate::serving_images::name_of;
 use crate::serving_logs::{begun_beside, cleared_end, landed_end, opened_image};
 use crate::watched_files::served_end;
 use command_faults::CommandFault;
 use disk_layout::Fault;
 use host_files::{HostFiles, Stays};
-use host_session::Printer;
 use log_files::{LiveLog, LogFolder, LogNames};
 use log_server::Reports;
 use script_lines::first_reset_line;
@@ -78,9 +79,11 @@ where
     N: Stays,
     W: Write,
     requires plain { first_reset (lines script.now) ≡ None }
-    ensures { IsLoggedEnd out.old out.new result }
+    ensures quiet { IsLoggedEnd out.old out.new result }
+    ensures lines { AreReplyLines W.contents out.old out.new }
+    ensures done { OnOk result (AreAnswered W.contents (lines script.now) out.old out.new) }
 {
-    let mut printer = Printer::new(out);
+    let mut printer = ReplyLines::new(out);
     let (_, ended) = play_begun(alloc, image, script, log, name, &mut printer);
     ended
 }
@@ -119,7 +122,9 @@ where
     requires owned { F.IsOwned image }
     requires image { MayChangeImage R.rights rt.now path.now }
     requires plain { first_reset (lines script.now) ≡ None }
-    ensures { IsLoggedEnd out.old out.new result }
+    ensures quiet { IsLoggedEnd out.old out.new result }
+    ensures lines { AreReplyLines W.contents out.old out.new }
+    ensures done { OnOk result (AreAnswered W.contents (lines script.now) out.old out.new) }
 {
     let alloc = rt.alloc();
     let name = name_of(rt, path, &image)?;
