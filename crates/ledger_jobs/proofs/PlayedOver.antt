@@ -36,7 +36,7 @@ empty [] none = refl
 empty (x ∷ xs) none = absurd (omega (arith, none))
 
 -- as many replies as there are, none of them broken off, are all
-all_told : {L : Type 0} (turns : List (Reply × L)) (last : Option (Reply × L)) (all : List Reply) → last ≡ None
+pub all_told : {L : Type 0} (turns : List (Reply × L)) (last : Option (Reply × L)) (all : List Reply) → last ≡ None
     → AreFirst (told_in (turns ++ option_to_list last)) all → length turns ≡ length all → told_in turns ≡ all
 all_told {L} turns last all none first many =
     let whole : turns ++ option_to_list last ≡ turns =

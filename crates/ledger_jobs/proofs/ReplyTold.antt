@@ -47,7 +47,7 @@ report-more (x ∷ rs) r =
     ap (λ bytes. line_of x ++ bytes) (report-more rs r) ∙ sym (append_assoc (line_of x) (report rs) (line_of r))
 
 -- lines of replies, and a beginning of one more, are a beginning of all
-cut-lines : (a b : Option (List ℕ)) (rs : List Reply) (r : Reply) (n : ℕ)
+pub cut-lines : (a b : Option (List ℕ)) (rs : List Reply) (r : Reply) (n : ℕ)
     → Appends a b (report rs ++ take n (line_of r)) → HandsPart a b (report (rs ++ r ∷ []))
 cut-lines a b rs r n printed = (
   report rs ++ take n (line_of r),
@@ -58,7 +58,7 @@ cut-lines a b rs r n printed = (
 )
 
 -- a run over a log ended so: nothing was reported, or these replies were
-run-told : {L R T : Type 0} (h : LogHistory L) (i : BatchInput R) (o : LogOutput L T) (image : List ℕ) (log after : L)
+pub run-told : {L R T : Type 0} (h : LogHistory L) (i : BatchInput R) (o : LogOutput L T) (image : List ℕ) (log after : L)
     (old_in new_in : R) (old new : T) (P : Type 0) → (new ≡ old → P)
     → ((turns : List (Reply × L)) (last : Option (Reply × L)) → IsToldTo o old new turns last → P)
     → (ended : Result Unit CommandFault) → IsLoggedRun h i o image log after old_in new_in old new ended → P
@@ -74,7 +74,7 @@ run-told h i o image log after old_in new_in old new P same told (Err (faults.Sc
 run-told h i o image log after old_in new_in old new P same told (Err _) run = same run.1.2
 
 -- a run whose log was landed, and whose end is reported as good, ended well
-landed-ok : {F D : Type 0} {G : Ghosts F} (h : FolderHistory D) (left : LiveLog F D G) (gone : Bool) (ended : JobEnd)
+pub landed-ok : {F D : Type 0} {G : Ghosts F} (h : FolderHistory D) (left : LiveLog F D G) (gone : Bool) (ended : JobEnd)
     (folder : Option D) (end : JobEnd) → IsLandedEnd h left (watched_end gone ended) folder end → IsOk end → IsOk ended
 landed-ok h left gone (Ok found) folder end landed ok = refl
 landed-ok h left true (Err refusal) folder (Ok found) landed ok = elim landed.told [

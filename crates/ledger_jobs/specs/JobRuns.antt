@@ -22,7 +22,7 @@ use Rattle.ledger_jobs.specs.LoggedPlays.{IsLoggedPlayEnd}
 use Rattle.ledger_jobs.specs.Losses.{IsGuarded, IsRepairedEndOf, IsTakingEnd}
 use Rattle.ledger_jobs.specs.Names.{name_bytes}
 use Rattle.ledger_jobs.specs.Overviews.{IsOverviewOf}
-use Rattle.ledger_jobs.specs.Replies.{AreReplyLines}
+use Rattle.ledger_jobs.specs.Replies.{AreReplyLines, IsLoggedService}
 use Rattle.ledger_jobs.specs.Runs.{IsReadingEnd}
 use Rattle.ledger_jobs.specs.SheetPages.{IsSheetPrinted}
 use Rattle.ledger_jobs.specs.SideRepairs.{AreSidesWritten, IsJudgedFirst, IsSidesEnd}
@@ -170,7 +170,7 @@ module _ {H W : Type 0} (rights : Rights H) (stands : H → List ℕ → Stands)
   IsJobOver (jobs.Describe images) old new end = AreDescribed (paths_of images) old new end
   IsJobOver (jobs.Several what images) old new end = AreOverviewed what (paths_of images) old new end
   IsJobOver (jobs.PlayLogged image script) old new end = IsPlayedOverLog script.now old new end
-  IsJobOver (jobs.Serve image OverLog durability loss) old new end = IsLoggedEnd old new end
+  IsJobOver (jobs.Serve image OverLog durability loss) old new end = IsLoggedService contents old new end
   IsJobOver (jobs.Serve image InPlace durability loss) old new end = IsServiceEnd old new end
   -- `do_trim` does that job
   IsJobOver (jobs.Trim image) old new end = (new ≡ old) × (end ≡ Err (refusals.Fault faults.File))

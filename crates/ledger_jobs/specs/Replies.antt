@@ -1,12 +1,16 @@
--- What a job prints that plays a script over a log: lines of replies. Our own.
-use Rattle.std.specs.Prelude.{◌≡◌, ◌⊎◌, ⊤, ℕ, List, [], Option, refl}
+-- What a job prints that plays a script or serves over a log: lines of replies. Our own.
+use Rattle.std.specs.Prelude.{◌≡◌, ◌⊎◌, ⊤, ℕ, List, [], OnOk, Option, refl}
 use Rattle.std.specs.Io.KnownBytes.{Appends}
 use Rattle.command_faults.specs.Outputs.{HandsPart}
+use Rattle.host_session.specs.events.Instants.{Instant}
 use Rattle.host_session.specs.events.Telling.{Output}
 use Rattle.host_session.specs.runs.Outputs.{written}
+use Rattle.host_session.specs.runs.ScriptRuns.{AreToldSo}
 use Rattle.host_session.specs.shop.Shop.{Shop, start_of}
 use Rattle.request_cards.specs.Ledgers.{replies, report}
 use Rattle.request_cards.specs.declared.reply.Reply.{Reply}
+use Rattle.ledger_jobs.specs.Changes.{IsLoggedEnd}
+use Rattle.ledger_jobs.specs.Ends.{JobEnd}
 use Rattle.ledger_jobs.specs.declared.reply_lines.ReplyLines.{ReplyLines}
 
 -- what a writer that was lent says of the replies that it was passed: it is the same one, and was passed them as any writer
@@ -21,6 +25,15 @@ lines_to contents = record {
   none = λ x. (refl, (written contents).none x.out.now);
 }
 
+-- an output was passed nothing, or replies, the last of them perhaps in part
+abbrev pub IsToldSome : {T : Type 0} → Output T → T → T → Type 0
+IsToldSome o old new = (new ≡ old) ⊎ ((turns : List (Reply × Instant))
+    × (o.told old new turns ⊎ ((last : Reply × Instant) × o.broken_off old new turns last)))
+
+-- it was passed a shop's replies to some lines, and nothing else
+abbrev pub IsToldAll : {T : Type 0} → Output T → T → T → Type 0
+IsToldAll o old new = (s : Shop) × (ls : List (List ℕ)) × AreToldSo o old new (replies (start_of s) [] ls)
+
 -- a shop's replies to these lines were printed, each on a line of its own, and nothing else
 abbrev pub AreAnswered : {W : Type 0} → (W → Option (List ℕ)) → List (List ℕ) → W → W → Type 0
 AreAnswered contents ls old new = (s : Shop) × Appends (contents old) (contents new) (report (replies (start_of s) [] ls))
@@ -28,3 +41,8 @@ AreAnswered contents ls old new = (s : Shop) × Appends (contents old) (contents
 -- lines of replies were printed, the last of them perhaps not to its end, and nothing else
 abbrev pub AreReplyLines : {W : Type 0} → (W → Option (List ℕ)) → W → W → Type 0
 AreReplyLines contents old new = (new ≡ old) ⊎ ((rs : List Reply) × HandsPart (contents old) (contents new) (report rs))
+
+-- A service over a log ended so. Only lines of replies were printed; when it is done, those of a shop's replies to some lines.
+abbrev pub IsLoggedService : {W : Type 0} → (W → Option (List ℕ)) → W → W → JobEnd → Type 0
+IsLoggedService contents old new end = IsLoggedEnd old new end × AreReplyLines contents old new
+    × OnOk end ((ls : List (List ℕ)) × AreAnswered contents ls old new)

@@ -1,11 +1,12 @@
 //! Serving the shop of the image at a path, over a log beside it.
-ghost use Rattle.std.specs.Prelude.{◌≡◌, IfErr, IfOk, length, string_bytes};
+ghost use Rattle.std.specs.Prelude.{◌≡◌, IfErr, IfOk, OnOk, length, string_bytes};
 ghost use Rattle.ledger_jobs.specs.Changes.{IsLoggedEnd};
 ghost use Rattle.ledger_jobs.specs.Ends.{landing_fault, unlanded as unlanded_end};
 ghost use Rattle.ledger_jobs.specs.HostFiles.{IsUnopened};
 ghost use Rattle.ledger_jobs.specs.LandedRuns.{IsDoneAndLanded, IsLandedEnd};
 ghost use Rattle.ledger_jobs.specs.LoggedRuns.{IsLoggedRun, IsUnlogged};
 ghost use Rattle.ledger_jobs.specs.Losses.{IsEndOfRun, IsGuarded};
+ghost use Rattle.ledger_jobs.specs.Replies.{IsLoggedService, IsToldAll, IsToldSome};
 ghost use Rattle.ledger_jobs.specs.WatchedFiles.{while_there};
 ghost use Rattle.log_files.specs.LiveLogs.{of_live};
 ghost use Rattle.log_server.specs.Reporting.{of_output};
@@ -18,13 +19,13 @@ use crate::jobs::Loss;
 use crate::losses::{loss_refusal, serve_logged_guarded};
 use crate::outcomes::told;
 use crate::refusals::Refusal;
+use crate::reply_lines::ReplyLines;
 use crate::serving_images::name_of;
 use crate::watched_files::{WhileThere, served_end};
 use command_faults::CommandFault;
 use d64_image::MemDisk;
 use disk_layout::Fault;
 use host_files::{HostFiles, Stays, opened_to_change};
-use host_session::Printer;
 use line_server::{Answers, BatchSource};
 use log_files::{
     ImageFolder, LiveLog, LogFault, LogFolder, LogNames, SystemLog, forget_making, land_in,
@@ -158,7 +159,9 @@ where
     N: Stays + Drop,
     I: BatchSource,
     T: Answers<TouchedDisk<MemDisk>>,
-    ensures { IsLoggedEnd out.old out.new result }
+    ensures quiet { IsLoggedEnd out.old out.new result }
+    ensures some { IsToldSome T.answering.output out.old out.new }
+    ensures all { OnOk result (IsToldAll T.answering.output out.old out.new) }
 {
     let mut answers = WhileThere::new(&name, out);
     let (_, ended) = serve_begun(alloc, image, log, loss, input, &mut answers);
@@ -182,9 +185,9 @@ where
     N: Stays + Drop,
     I: BatchSource,
     W: Write,
-    ensures { IsLoggedEnd out.old out.new result }
+    ensures { IsLoggedService W.contents out.old out.new result }
 {
-    let mut printer = Printer::new(out);
+    let mut printer = ReplyLines::new(out);
     serve_watched(alloc, image, log, loss, input, name, &mut printer)
 }
 
@@ -277,7 +280,7 @@ where
     R: HostFiles<File = F> + Input + AllocGlobal,
     W: Write,
     requires { MayChangeImage R.rights rt.now path.now }
-    ensures { IsLoggedEnd out.old out.new result }
+    ensures { IsLoggedService W.contents out.old out.new result }
 {
     let alloc = rt.alloc();
     let mut image = opened_image(rt, path)?;
