@@ -64,6 +64,13 @@ pub watched-back : {N T : Type 0} (before behind : WhileThere N T) (old new : T)
 watched-back before behind old new begun back same =
     back (ap (λ w. w.out.ghost_name) (sym same)) ∙ ap (λ w. w.out.now) same ∙ begun
 
+-- what was passed to it was passed to the caller's
+pub passed-back : {N T : Type 0} (before behind : WhileThere N T) (old new : T) → before.out.now ≡ old
+    → (before.out.ghost_name ≡ behind.out.ghost_name → new ≡ behind.out.now) → (P : T → T → Type 0)
+    → behind.out.ghost_name ≡ before.out.ghost_name → P before.out.now behind.out.now → P old new
+passed-back before behind old new begun back P same x =
+    subst (λ w. P w new) begun (subst (λ w. P before.out.now w) (sym (back (sym same))) x)
+
 -- an output that was lent is as it was if the one over it is
 module _ {T W : Type 0} (before behind : T) (old new : W) (back : behind ≡ before → new ≡ old) where
   pub lent-logged : (end : JobEnd) → IsLoggedEnd before behind end → IsLoggedEnd old new end

@@ -25,6 +25,7 @@ use Rattle.request_cards.specs.declared.reply.Reply.{Reply}
 use Rattle.script_lines.specs.Lines.{lines}
 use Rattle.shop_log.specs.ImageLogs.{LogHistory}
 use Rattle.shop_log.specs.declared.log_file.LogFile.{Ghosts}
+use Rattle.ledger_jobs.proofs.LoggedTold.{passed-back, watched-back}
 use Rattle.ledger_jobs.proofs.PlayedOver.{all_told}
 use Rattle.ledger_jobs.proofs.ReplyTold.{cut-lines, landed-ok, run-told}
 use Rattle.ledger_jobs.specs.Ends.{JobEnd, as_run}
@@ -61,19 +62,15 @@ module _ {F D N R T : Type 0} {G : Ghosts F} (h : FolderHistory D) (i : BatchInp
   Landed gone folder end = IsDoneAndLanded h (λ left ended. IsGuarded image loss (IsUnlogged log left old_in new_in old new)
       (IsEndOfRun (Run left)) ended) gone folder end
 
-  -- what was passed to the output that was lent was passed to the caller's
-  passed : (P : T → T → Type 0) → new.out.ghost_name ≡ old.out.ghost_name → P old.out.now new.out.now → P first final
-  passed P same x = subst (λ w. P w final) begun (subst (λ w. P old.out.now w) (sym (back (sym same))) x)
-
   told-some : (turns : List (Reply × LiveLog F D G)) (last : Option (Reply × LiveLog F D G))
       → IsToldTo (of_output (while_there a)) old new turns last → IsToldSome a.output first final
-  told-some turns None x = passed (IsToldSome a.output) x.2.0 (inr (x.0, inl x.2.2.0.0))
+  told-some turns None x = passed-back old new first final begun back (IsToldSome a.output) x.2.0 (inr (x.0, inl x.2.2.0.0))
   told-some turns (Some last) x =
-      passed (IsToldSome a.output) x.3.0
+      passed-back old new first final begun back (IsToldSome a.output) x.3.0
       (off-some a new.gone old.out.now new.out.now x.0 (last.0, x.1) x.3.1)
 
   untold : new ≡ old → IsToldSome a.output first final
-  untold same = inl (back (ap (λ w. w.out.ghost_name) (sym same)) ∙ ap (λ w. w.out.now) same ∙ begun)
+  untold same = inl (watched-back old new first final begun back same)
 
   -- a service over a log passed replies alone
   pub served-some : (gone : Bool) (folder : Option D) (end : JobEnd) → Landed gone folder end
@@ -99,7 +96,7 @@ module _ {F D N R T : Type 0} {G : Ghosts F} (h : FolderHistory D) (i : BatchInp
         lines y.handled,
         record {
           turns = x.0;
-          is = passed (λ t u. a.output.told t u x.0) x.2.0 x.2.2.0.0;
+          is = passed-back old new first final begun back (λ t u. a.output.told t u x.0) x.2.0 x.2.2.0.0;
           replies = x.1 ∙ all_told y.turns y.last (replies (start_of s) [] (lines y.handled)) over.0 (y.replies_are s shop)
               (over.1 ∙ sym (as_many_replies s (lines y.handled)));
         },

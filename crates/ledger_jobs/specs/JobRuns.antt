@@ -6,7 +6,7 @@ use Rattle.command_faults.specs.declared.faults.CommandFault.TheVariants as faul
 use Rattle.file_rescue.specs.declared.choices.Choice.{Choice}
 use Rattle.host_files.specs.Rights.{Rights}
 use Rattle.host_files.specs.Standing.{Stands}
-use Rattle.ledger_jobs.specs.Changes.{IsChangeEnd, IsLoggedEnd, IsMakingEnd, IsQuietEnd, IsRepairTold, IsServiceEnd}
+use Rattle.ledger_jobs.specs.Changes.{IsChangeEnd, IsLoggedEnd, IsMakingEnd, IsQuietEnd, IsRepairTold}
 use Rattle.ledger_jobs.specs.Comparisons.{IsComparingRun}
 use Rattle.ledger_jobs.specs.Copies.{IsCopyEnd}
 use Rattle.ledger_jobs.specs.Descriptions.{IsObjectOf}
@@ -22,7 +22,7 @@ use Rattle.ledger_jobs.specs.LoggedPlays.{IsLoggedPlayEnd}
 use Rattle.ledger_jobs.specs.Losses.{IsGuarded, IsRepairedEndOf, IsTakingEnd}
 use Rattle.ledger_jobs.specs.Names.{name_bytes}
 use Rattle.ledger_jobs.specs.Overviews.{IsOverviewOf}
-use Rattle.ledger_jobs.specs.Replies.{AreReplyLines, IsLoggedService}
+use Rattle.ledger_jobs.specs.Replies.{AreReplyLines, IsFileService, IsLoggedService}
 use Rattle.ledger_jobs.specs.Runs.{IsReadingEnd}
 use Rattle.ledger_jobs.specs.SheetPages.{IsSheetPrinted}
 use Rattle.ledger_jobs.specs.SideRepairs.{AreSidesWritten, IsJudgedFirst, IsSidesEnd}
@@ -171,6 +171,6 @@ module _ {H W : Type 0} (rights : Rights H) (stands : H → List ℕ → Stands)
   IsJobOver (jobs.Several what images) old new end = AreOverviewed what (paths_of images) old new end
   IsJobOver (jobs.PlayLogged image script) old new end = IsPlayedOverLog script.now old new end
   IsJobOver (jobs.Serve image OverLog durability loss) old new end = IsLoggedService contents old new end
-  IsJobOver (jobs.Serve image InPlace durability loss) old new end = IsServiceEnd old new end
+  IsJobOver (jobs.Serve image InPlace durability loss) old new end = IsFileService contents old new end
   -- `do_trim` does that job
   IsJobOver (jobs.Trim image) old new end = (new ≡ old) × (end ≡ Err (refusals.Fault faults.File))

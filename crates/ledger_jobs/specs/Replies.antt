@@ -1,4 +1,4 @@
--- What a job prints that plays a script or serves over a log: lines of replies. Our own.
+-- What a job prints that plays a script over a log or serves: lines of replies. Our own.
 use Rattle.std.specs.Prelude.{◌≡◌, ◌⊎◌, ⊤, ℕ, List, [], OnOk, Option, refl}
 use Rattle.std.specs.Io.KnownBytes.{Appends}
 use Rattle.command_faults.specs.Outputs.{HandsPart}
@@ -9,7 +9,7 @@ use Rattle.host_session.specs.runs.ScriptRuns.{AreToldSo}
 use Rattle.host_session.specs.shop.Shop.{Shop, start_of}
 use Rattle.request_cards.specs.Ledgers.{replies, report}
 use Rattle.request_cards.specs.declared.reply.Reply.{Reply}
-use Rattle.ledger_jobs.specs.Changes.{IsLoggedEnd}
+use Rattle.ledger_jobs.specs.Changes.{IsLoggedEnd, IsServiceEnd}
 use Rattle.ledger_jobs.specs.Ends.{JobEnd}
 use Rattle.ledger_jobs.specs.declared.reply_lines.ReplyLines.{ReplyLines}
 
@@ -41,6 +41,11 @@ AreAnswered contents ls old new = (s : Shop) × Appends (contents old) (contents
 -- lines of replies were printed, the last of them perhaps not to its end, and nothing else
 abbrev pub AreReplyLines : {W : Type 0} → (W → Option (List ℕ)) → W → W → Type 0
 AreReplyLines contents old new = (new ≡ old) ⊎ ((rs : List Reply) × HandsPart (contents old) (contents new) (report rs))
+
+-- A service over a file ended so. When it is done, a shop's replies to some lines were printed, and nothing else.
+abbrev pub IsFileService : {W : Type 0} → (W → Option (List ℕ)) → W → W → JobEnd → Type 0
+IsFileService contents old new end = IsServiceEnd old new end
+    × OnOk end ((ls : List (List ℕ)) × AreAnswered contents ls old new)
 
 -- A service over a log ended so. Only lines of replies were printed; when it is done, those of a shop's replies to some lines.
 abbrev pub IsLoggedService : {W : Type 0} → (W → Option (List ℕ)) → W → W → JobEnd → Type 0

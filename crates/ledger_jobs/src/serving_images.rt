@@ -1,7 +1,8 @@
 //! Serving the shop of the image at a path, over its file.
-ghost use Rattle.std.specs.Prelude.{◌≡◌, IfSome, take};
+ghost use Rattle.std.specs.Prelude.{◌≡◌, IfSome, OnOk, take};
 ghost use Rattle.shop_commands.specs.Durable.{IsSynced};
 ghost use Rattle.ledger_jobs.specs.Changes.{IsServiceEnd};
+ghost use Rattle.ledger_jobs.specs.Replies.{IsFileService, IsToldAll};
 ghost use Rattle.ledger_jobs.specs.Rights.{MayChangeImage};
 ghost use Rattle.host_files.specs.Rights.{Look, May};
 
@@ -11,12 +12,12 @@ use crate::locks::own_image;
 use crate::losses::serve_guarded;
 use crate::outcomes::told;
 use crate::refusals::Refusal;
+use crate::reply_lines::ReplyLines;
 use crate::watched_files::{WhileThere, served_end};
 use command_faults::CommandFault;
 use d64_image::KeptMirror;
 use disk_layout::Fault;
 use host_files::{FileName, HostFiles, Stays};
-use host_session::Printer;
 use line_server::{Answers, LineSource};
 use shop_commands::{Durability, EndedFile, ImageFile, Locks, WritesAt};
 use std::alloc::Global;
@@ -42,7 +43,8 @@ where
     T: Answers<KeptMirror<ImageFile<F>>>,
     requires synced { IsSynced F.held F.lasting durability file }
     requires image { IfSome (F.held file) (λ all. image.now ≡ take 174849 all) }
-    ensures { IsServiceEnd out.old out.new result }
+    ensures quiet { IsServiceEnd out.old out.new result }
+    ensures all { OnOk result (IsToldAll T.answering.output out.old out.new) }
 {
     let mut answers = WhileThere::new(&name, out);
     let (_, ended) = serve_guarded(alloc, image, file, durability, loss, input, &mut answers);
@@ -66,11 +68,11 @@ where
     W: Write,
     requires synced { IsSynced F.held F.lasting durability file }
     requires image { IfSome (F.held file) (λ all. image.now ≡ take 174849 all) }
-    ensures { IsServiceEnd out.old out.new result }
+    ensures { IsFileService W.contents out.old out.new result }
 {
     // A bare reader of standard input reads a byte a call.
     let mut input = told(BufReader::new(rt.alloc(), rt.reader()))?;
-    let mut printer = Printer::new(out);
+    let mut printer = ReplyLines::new(out);
     serve_watched(
         rt.alloc(),
         image,
@@ -112,7 +114,7 @@ where
     R: HostFiles<File = F> + Input + AllocGlobal,
     W: Write,
     requires { MayChangeImage R.rights rt.now path.now }
-    ensures { IsServiceEnd out.old out.new result }
+    ensures { IsFileService W.contents out.old out.new result }
 {
     let mut file = opened_and_landed(rt, path)?;
     let image = own_image(rt.alloc(), &mut file, durability)?;

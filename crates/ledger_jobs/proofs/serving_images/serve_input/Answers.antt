@@ -1,0 +1,18 @@
+-- What was printed is what was passed on.
+use Rattle.std.proofs.Common.{rules}
+use Rattle.ledger_jobs.proofs.LoggedTold.{lent-service}
+use Rattle.ledger_jobs.proofs.ServiceTold.{all-answered, lent-lines}
+use Rattle.ledger_jobs.proofs.serving_images.serve_input.Goals as goal
+
+pub returns : goal.returns
+returns g c =
+    let before = c.new-printer.result in
+    let behind = c.serve_watched.new.out in
+    let told = g.W.Write.contents in
+    let end = c.serve_watched.result in (
+      lent-service before behind c.args.out.now _
+          (lent-lines told before behind c.args.out.now _ c.new-printer.ensures.out (λ same. search rules)) end
+          c.serve_watched.ensures.quiet,
+      all-answered told before behind c.args.out.now _ c.new-printer.ensures.out (λ same. search rules) end
+          c.serve_watched.ensures.all,
+    )
