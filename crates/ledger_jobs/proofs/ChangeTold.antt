@@ -5,7 +5,6 @@ use Rattle.command_faults.specs.declared.faults.CommandFault.{CommandFault}
 use Rattle.command_faults.specs.declared.faults.CommandFault.TheVariants as faults
 use Rattle.d64_image.specs.Keeps.{Keeps}
 use Rattle.file_changes.specs.declared.file_type.FileType.{FileType}
-use Rattle.host_session.specs.declared.events.printing.Printer.{Printer}
 use Rattle.shop_commands.specs.Images.{IsFormatted}
 use Rattle.shop_commands.specs.Plays.{IsUntouched}
 use Rattle.system_files.specs.Remains.{Remains}
@@ -172,18 +171,3 @@ module _ {F W : Type 0} (contents : W → Option (List ℕ)) (file after : F) (o
     format-told tills (Err faults.File) (inr (over, part)) = inr part
     format-told tills (Err faults.NoMemory) (same, quiet) = quiet
     format-told tills (Err _) none = absurd none
-
--- A play that isn't done printed nothing to the writer of its printer, which was lent and is given back.
-module _ {F W : Type 0} (file after : F) (before behind : Printer (MutBor W)) (old new : W) (begun : before.out.now ≡ old)
-    (back : before.out.ghost_name ≡ behind.out.ghost_name → new ≡ behind.out.now) where
-  given-back : IsUntouched file after before behind → new ≡ old
-  given-back same = back (ap (λ p. p.out.ghost_name) (sym same.1)) ∙ ap (λ p. p.out.now) same.1 ∙ begun
-
-  pub play-quiet : (ended : Ended) (end : JobEnd) → end ≡ as_job ended
-      → IfErr ended (λ fault. fault ≢ faults.File → fault ≢ faults.Device → IsUntouched file after before behind)
-      → IsQuietEnd old new end
-  play-quiet (Ok printed) end told same = subst (λ e. IsQuietEnd old new e) (sym told) tt
-  play-quiet (Err fault) end told same =
-      subst (λ e. IsQuietEnd old new e) (sym told)
-      (λ other another. given-back (same (λ is. other (ap (λ f. refusals.Fault f) is))
-      (λ is. another (ap (λ f. refusals.Fault f) is))))

@@ -121,7 +121,7 @@ module _ {F D N R T : Type 0} {G : Ghosts F} (h : FolderHistory D) (i : BatchInp
 -- what was passed to a writer that was lent was printed
 module _ {W : Type 0} (contents : W → Option (List ℕ)) (old new : ReplyLines W) (first final : W)
     (begun : old.out.now ≡ first) (back : old.out.ghost_name ≡ new.out.ghost_name → final ≡ new.out.now) where
-  given-back : (bytes : List ℕ) → new.out.ghost_name ≡ old.out.ghost_name
+  pub given-back : (bytes : List ℕ) → new.out.ghost_name ≡ old.out.ghost_name
       → Appends (contents old.out.now) (contents new.out.now) bytes → Appends (contents first) (contents final) bytes
   given-back bytes same printed =
       subst (λ w. Appends (contents w) (contents final) bytes) begun

@@ -22,7 +22,7 @@ use Rattle.ledger_jobs.specs.LoggedPlays.{IsLoggedPlayEnd}
 use Rattle.ledger_jobs.specs.Losses.{IsGuarded, IsRepairedEndOf, IsTakingEnd}
 use Rattle.ledger_jobs.specs.Names.{name_bytes}
 use Rattle.ledger_jobs.specs.Overviews.{IsOverviewOf}
-use Rattle.ledger_jobs.specs.Replies.{AreReplyLines, IsFileService, IsLoggedService}
+use Rattle.ledger_jobs.specs.Replies.{AreReplyLines, IsFileService, IsLoggedService, IsPlainPlayed}
 use Rattle.ledger_jobs.specs.Runs.{IsReadingEnd}
 use Rattle.ledger_jobs.specs.SheetPages.{IsSheetPrinted}
 use Rattle.ledger_jobs.specs.SideRepairs.{AreSidesWritten, IsJudgedFirst, IsSidesEnd}
@@ -115,6 +115,11 @@ module _ {H W : Type 0} (rights : Rights H) (stands : H → List ℕ → Stands)
       (λ all. RunEnds old new end (IsJudgedFirst (take 174849 all) loss old new end
       (AreSidesWritten (frees unowned) contents (take 174849 all) old new end)))
 
+  -- a script was played on an image, over its file
+  abbrev pub IsPlayedOverFile : List ℕ → W → W → JobEnd → Type 0
+  IsPlayedOverFile script old new end = IsQuietEnd old new end
+      × OfText stands host script (λ all. IsPlainPlayed contents all old new end)
+
   -- a script was played over a log beside an image
   abbrev pub IsPlayedOverLog : List ℕ → W → W → JobEnd → Type 0
   IsPlayedOverLog script old new end = IsLoggedEnd old new end × AreReplyLines contents old new
@@ -162,8 +167,8 @@ module _ {H W : Type 0} (rights : Rights H) (stands : H → List ℕ → Stands)
   IsJobOver (jobs.Delete image name) old new end = IsChangeEnd contents (codes "DELETED\n") old new end
   IsJobOver (jobs.Put image name file kind) old new end = IsChangeEnd contents (codes "PUT\n") old new end
   IsJobOver (jobs.Store image name records columns loss) old new end = IsQuietEnd old new end
-  IsJobOver (jobs.Play image script) old new end = IsQuietEnd old new end
-  IsJobOver (jobs.PlaySynced image script) old new end = IsQuietEnd old new end
+  IsJobOver (jobs.Play image script) old new end = IsPlayedOverFile script.now old new end
+  IsJobOver (jobs.PlaySynced image script) old new end = IsPlayedOverFile script.now old new end
   IsJobOver (jobs.RepairSides image loss unowned effect) old new end =
       AreSidesDoneOver effect unowned loss image.now old new end
   IsJobOver (jobs.Sheet images) old new end = AreDrawnOnSheet (paths_of images) old new end

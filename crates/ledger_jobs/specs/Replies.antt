@@ -1,7 +1,8 @@
--- What a job prints that plays a script over a log or serves: lines of replies. Our own.
+-- What a job prints that plays a script or serves: lines of replies. Our own.
 use Rattle.std.specs.Prelude.{◌≡◌, ◌⊎◌, ⊤, ℕ, List, [], OnOk, Option, refl}
 use Rattle.std.specs.Io.KnownBytes.{Appends}
 use Rattle.command_faults.specs.Outputs.{HandsPart}
+use Rattle.host_session.specs.events.Events.{HasNoReset}
 use Rattle.host_session.specs.events.Instants.{Instant}
 use Rattle.host_session.specs.events.Telling.{Output}
 use Rattle.host_session.specs.runs.Outputs.{written}
@@ -9,6 +10,7 @@ use Rattle.host_session.specs.runs.ScriptRuns.{AreToldSo}
 use Rattle.host_session.specs.shop.Shop.{Shop, start_of}
 use Rattle.request_cards.specs.Ledgers.{replies, report}
 use Rattle.request_cards.specs.declared.reply.Reply.{Reply}
+use Rattle.script_lines.specs.Lines.{lines}
 use Rattle.ledger_jobs.specs.Changes.{IsLoggedEnd, IsServiceEnd}
 use Rattle.ledger_jobs.specs.Ends.{JobEnd}
 use Rattle.ledger_jobs.specs.declared.reply_lines.ReplyLines.{ReplyLines}
@@ -41,6 +43,11 @@ AreAnswered contents ls old new = (s : Shop) × Appends (contents old) (contents
 -- lines of replies were printed, the last of them perhaps not to its end, and nothing else
 abbrev pub AreReplyLines : {W : Type 0} → (W → Option (List ℕ)) → W → W → Type 0
 AreReplyLines contents old new = (new ≡ old) ⊎ ((rs : List Reply) × HandsPart (contents old) (contents new) (report rs))
+
+-- a play of a script without resets is done: a shop's replies to all lines were printed, and nothing else
+abbrev pub IsPlainPlayed : {W : Type 0} → (W → Option (List ℕ)) → (script : List ℕ) → W → W → JobEnd → Type 0
+IsPlainPlayed contents script old new end = HasNoReset (lines script)
+    → OnOk end (AreAnswered contents (lines script) old new)
 
 -- A service over a file ended so. When it is done, a shop's replies to some lines were printed, and nothing else.
 abbrev pub IsFileService : {W : Type 0} → (W → Option (List ℕ)) → W → W → JobEnd → Type 0

@@ -1,7 +1,7 @@
 //! Doing a job: its files are opened and read, and what is printed goes to an output.
 ghost use Rattle.std.specs.Prelude.{◌≡◌, ◌≤◌, codes};
-ghost use Rattle.ledger_jobs.specs.Changes.{IsMakingEnd, IsQuietEnd};
-ghost use Rattle.ledger_jobs.specs.JobRuns.{IsDrawnOver, IsJobOver, IsTakenOver};
+ghost use Rattle.ledger_jobs.specs.Changes.{IsMakingEnd};
+ghost use Rattle.ledger_jobs.specs.JobRuns.{IsDrawnOver, IsJobOver, IsPlayedOverFile, IsTakenOver};
 ghost use Rattle.ledger_jobs.specs.Names.{name_bytes};
 ghost use Rattle.ledger_jobs.specs.Jobs.{IsFit};
 ghost use Rattle.ledger_jobs.specs.declared.files.Older.TheVariants.{Replaced};
@@ -14,7 +14,7 @@ use crate::drawing::drawing_run;
 use crate::durable_runs::play_durably;
 use crate::editing::{do_delete, do_rename};
 use crate::extracting::do_extracting;
-use crate::files::{AtPath, Older, script_at};
+use crate::files::{AtPath, Older, script_to_play};
 use crate::image_logs::opened_and_landed;
 use crate::jobs::{Drawing, Findings, Job, Reading, Taking, Way};
 use crate::keeper_files::{do_make, do_repair, do_store};
@@ -29,6 +29,7 @@ use crate::playing_logs::do_logged_playing;
 use crate::putting::do_put;
 use crate::readings::{do_reading, image_at};
 use crate::refusals::Refusal;
+use crate::reply_lines::ReplyLines;
 use crate::serving_images::do_serving;
 use crate::serving_logs::do_logged_serving;
 use crate::sheets::do_sheet;
@@ -37,7 +38,6 @@ use crate::viewing::do_viewing;
 use command_faults::CommandFault;
 use disk_layout::Fault;
 use host_files::HostFiles;
-use host_session::Printer;
 use shop_commands::{Durability, EndedFile, Locks, OverwrittenFile, format_image};
 use std::fs::OpenFile;
 use std::io::{Read, Write};
@@ -79,12 +79,12 @@ where
     W: Write,
     requires image { MayChangeImage R.rights rt.now path.now }
     requires script { MayReadText R.rights rt.now script.now }
-    ensures { IsQuietEnd out.old out.new result }
+    ensures { IsPlayedOverFile R.rights R.stands W.contents rt.now script.now out.old out.new result }
 {
     let mut file = opened_and_landed(rt, path)?;
     let image = own_image(rt.alloc(), &mut file, durability)?;
-    let script = told(script_at(rt, script))?;
-    let mut printer = Printer::new(out);
+    let script = script_to_play(rt, script)?;
+    let mut printer = ReplyLines::new(out);
     let (_, ended) = play_durably(
         rt.alloc(),
         image.as_slice(),

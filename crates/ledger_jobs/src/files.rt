@@ -1,7 +1,7 @@
 //! The files that a job names, opened and read.
-ghost use Rattle.std.specs.Prelude.{◌≡◌, IfOk, string_bytes, true, vec_items};
+ghost use Rattle.std.specs.Prelude.{◌≡◌, IfErr, IfOk, string_bytes, true, vec_items};
 ghost use Rattle.std.proofs.Props.{props};
-ghost use Rattle.ledger_jobs.specs.HostFiles.{OfText};
+ghost use Rattle.ledger_jobs.specs.HostFiles.{IsUnread, OfText};
 ghost use Rattle.ledger_jobs.specs.Rights.{MayMakeImage, MayOverwrite, MayReadText};
 ghost use Rattle.ledger_jobs.specs.declared.files.Older.TheVariants.{Kept, Replaced};
 ghost use Rattle.host_files.specs.Rights.{Look, May};
@@ -41,6 +41,21 @@ pub(crate) fn script_at<R: HostFiles + Input + AllocGlobal>(
     let file = rt.open_to_read(path)?;
     let room = room_for(&file);
     read_script(rt.alloc(), file, room)
+}
+
+/// The same, or why a job isn't begun that plays it: `File` or `NoMemory`.
+pub(crate) fn script_to_play<R: HostFiles + Input + AllocGlobal>(
+    rt: &R,
+    path: &str,
+) -> Result<Vec<u8>, Refusal>
+    requires { MayReadText R.rights rt.now path.now }
+    ensures read { OfText R.stands rt.now path.now (λ all. IfOk result (λ script. vec_items script ≡ all)) }
+    ensures err { IfErr result IsUnread }
+{
+    match script_at(rt, path) {
+        Ok(script) => Ok(script),
+        Err(error) => Err(Refusal::Fault(CommandFault::of_io(&error))),
+    }
 }
 
 /// Whether a regular file stands at a path. An error if another thing does.

@@ -14,7 +14,7 @@ ghost use Rattle.log_server.specs.Serves.{shop_behind};
 ghost use Rattle.script_lines.specs.Lines.{first_reset, lines};
 ghost use Rattle.ledger_jobs.specs.Rights.{MayChangeImage, MayReadText};
 
-use crate::files::script_at;
+use crate::files::script_to_play;
 use crate::jobs::Loss;
 use crate::logged_plays::play_logged;
 use crate::outcomes::{run_end, told};
@@ -96,10 +96,7 @@ fn plain_script<R: HostFiles + Input + AllocGlobal>(rt: &R, path: &str) -> Resul
     ensures reset { OfText R.stands rt.now path.now (λ all. (n : ℕ) → first_reset (lines all) ≡ Some n
         → IfErr result (IsRefusedAt n)) }
 {
-    let script = match script_at(rt, path) {
-        Ok(script) => script,
-        Err(error) => return Err(Refusal::Fault(CommandFault::of_io(&error))),
-    };
+    let script = script_to_play(rt, path)?;
     match first_reset_line(script.as_slice()) {
         None => Ok(script),
         Some(line) => Err(Refusal::Fault(CommandFault::ScriptLine(line))),
