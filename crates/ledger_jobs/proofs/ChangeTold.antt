@@ -1,6 +1,6 @@
 -- What was printed of a change of a disk, by how its run ended.
-use Rattle.std.proofs.Common.{MutBor, ◌≡◌, ◌≢◌, ◌∙◌, ℕ, List, Option, Result, Ok, Err, ap, inl, inr, refl, subst, sym}
-use Rattle.std.specs.Prelude.{Bool, IfErr, codes}
+use Rattle.std.proofs.Common.{ℕ, List, Option, Result, Ok, Err, inl, inr, refl, subst, sym}
+use Rattle.std.specs.Prelude.{codes}
 use Rattle.command_faults.specs.declared.faults.CommandFault.{CommandFault}
 use Rattle.command_faults.specs.declared.faults.CommandFault.TheVariants as faults
 use Rattle.d64_image.specs.Keeps.{Keeps}
@@ -11,13 +11,12 @@ use Rattle.system_files.specs.Remains.{Remains}
 use Rattle.ledger_jobs.specs.Changes.{IsChangeEnd, IsChangeTold, IsMakingTold, IsQuietEnd}
 use Rattle.ledger_jobs.specs.EditRefusals.{IsEditEnd}
 use Rattle.ledger_jobs.specs.Edited.{IsDeleteOver, IsRenameOver}
-use Rattle.ledger_jobs.specs.Ends.{Ended, JobEnd, as_job, as_run}
+use Rattle.ledger_jobs.specs.Ends.{JobEnd, as_run}
 use Rattle.ledger_jobs.specs.Kept.{IsMakeOver, IsStoreOver}
 use Rattle.ledger_jobs.specs.Losses.{IsEndOfRun, IsGuarded}
 use Rattle.ledger_jobs.specs.NewDisks.{IsNewMade}
 use Rattle.ledger_jobs.specs.Puts.{IsPutOver}
 use Rattle.ledger_jobs.specs.declared.jobs.Loss.{Loss}
-use Rattle.ledger_jobs.specs.declared.refusals.Refusal.TheVariants as refusals
 
 module _ {F W : Type 0} (contents : W → Option (List ℕ)) (file after : F) (old new : W) where
   make-told : (K : Keeps F) (image name : List ℕ) (L : ℕ) (ended : Result Unit CommandFault)

@@ -1,7 +1,7 @@
 -- What was printed of a play over a file, by how it ended.
 use Rattle.std.proofs.Common.{◌≡◌, ◌≢◌, ℕ, List, Option, Ok, Err, ap, refl, subst, sym, ⊎_elim}
 use Rattle.std.proofs.lemmas.Bool.{false≢true}
-use Rattle.std.specs.Prelude.{IfErr, IsOk, OnOk}
+use Rattle.std.specs.Prelude.{IfErr, IsOk}
 use Rattle.std.specs.Io.KnownBytes.{Appends}
 use Rattle.command_faults.specs.declared.faults.CommandFault.TheVariants as faults
 use Rattle.host_session.specs.events.Events.{HasNoReset}

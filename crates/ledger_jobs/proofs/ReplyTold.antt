@@ -1,6 +1,6 @@
 -- Replies that were printed to a writer that was lent, by what was reported over a log.
 use Rattle.std.proofs.Common.{◌≡◌, ◌∙◌, ◌++◌, ◌∷◌, [], ℕ, Bool, true, false, List, Option, None, Some, Result, Ok, Err, ap}
-use Rattle.std.proofs.Common.{drop, inl, inr, subst, sym, take, ⊎_elim}
+use Rattle.std.proofs.Common.{drop, inl, inr, subst, sym, take}
 use Rattle.std.specs.Prelude.{OnOk, IsOk, refl}
 use Rattle.std.specs.Io.KnownBytes.{Appends}
 use Rattle.std.proofs.lemmas.List.{append-nil, append_assoc, take-append-drop}
@@ -9,7 +9,6 @@ use Rattle.command_faults.specs.Outputs.{HandsPart}
 use Rattle.command_faults.specs.declared.faults.CommandFault.{CommandFault}
 use Rattle.command_faults.specs.declared.faults.CommandFault.TheVariants as faults
 use Rattle.d64_image.specs.Images.{Image}
-use Rattle.d64_image.specs.Memory.{sectors_in}
 use Rattle.host_session.specs.events.Instants.{Instant}
 use Rattle.host_session.specs.events.Telling.{IsTold}
 use Rattle.host_session.specs.runs.Chains.{told_in}

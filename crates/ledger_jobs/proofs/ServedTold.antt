@@ -1,8 +1,7 @@
 -- What was printed of a service over a file, by how its run ended.
 use Rattle.std.proofs.Common.{◌≡◌, ◌∙◌, ℕ, Bool, true, false, List, Ok, Err, ap, inl, inr, refl, subst, sym, ⊎_elim}
 use Rattle.std.proofs.lemmas.Bool.{false≢true}
-use Rattle.std.specs.Prelude.{◌⊎◌, ◌≢◌, IfErr, IfOk, IsOk, OnOk}
-use Rattle.command_faults.specs.declared.faults.CommandFault.TheVariants as faults
+use Rattle.std.specs.Prelude.{◌⊎◌, ◌≢◌, IsOk, OnOk}
 use Rattle.d64_image.specs.FileDisks.{in_run}
 use Rattle.host_session.proofs.lemmas.runs.Chained.{told_over}
 use Rattle.host_session.specs.runs.Chains.{over_instants}

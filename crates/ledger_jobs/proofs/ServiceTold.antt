@@ -5,13 +5,10 @@ use Rattle.std.specs.Io.KnownBytes.{Appends}
 use Rattle.std.proofs.lemmas.Bool.{false≢true}
 use Rattle.command_faults.proofs.Parts.{part-all}
 use Rattle.command_faults.specs.declared.faults.CommandFault.{CommandFault}
-use Rattle.d64_image.specs.Images.{Image}
-use Rattle.d64_image.specs.Memory.{sectors_in}
 use Rattle.host_session.specs.events.Instants.{Instant}
 use Rattle.host_session.specs.events.Telling.{Output}
 use Rattle.host_session.specs.runs.Chains.{told_in}
 use Rattle.host_session.specs.runs.Outputs.{line_of}
-use Rattle.host_session.specs.runs.ScriptRuns.{AreToldSo}
 use Rattle.host_session.specs.shop.Shop.{start_of}
 use Rattle.line_server.specs.Answering.{Answering, IsHeldBack, answered}
 use Rattle.line_server.specs.Batches.{BatchInput}
@@ -23,14 +20,13 @@ use Rattle.log_server.specs.Reporting.{IsToldTo, of_output}
 use Rattle.request_cards.specs.Ledgers.{replies, report}
 use Rattle.request_cards.specs.declared.reply.Reply.{Reply}
 use Rattle.script_lines.specs.Lines.{lines}
-use Rattle.shop_log.specs.ImageLogs.{LogHistory}
 use Rattle.shop_log.specs.declared.log_file.LogFile.{Ghosts}
 use Rattle.ledger_jobs.proofs.LoggedTold.{passed-back, watched-back}
 use Rattle.ledger_jobs.proofs.PlayedOver.{all_told}
 use Rattle.ledger_jobs.proofs.ReplyTold.{cut-lines, landed-ok, run-told}
 use Rattle.ledger_jobs.specs.Ends.{JobEnd, as_run}
 use Rattle.ledger_jobs.specs.LandedRuns.{IsDoneAndLanded}
-use Rattle.ledger_jobs.specs.LoggedRuns.{IsLoggedRun, IsLoggedTo, IsUnlogged}
+use Rattle.ledger_jobs.specs.LoggedRuns.{IsLoggedRun, IsUnlogged}
 use Rattle.ledger_jobs.specs.Losses.{IsEndOfRun, IsGuarded}
 use Rattle.ledger_jobs.specs.Replies.{AreAnswered, AreReplyLines, IsToldAll, IsToldSome, lines_to}
 use Rattle.ledger_jobs.specs.WatchedFiles.{IsBrokenOff, media_for, while_there}

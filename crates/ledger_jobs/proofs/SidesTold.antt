@@ -1,6 +1,6 @@
 -- What was printed of side sectors that are built anew, over a copy in memory and over the mirror of a file.
-use Rattle.std.proofs.Common.{◌≡◌, ◌≢◌, ℕ, List, Option, Result, Ok, Err, arith, inl, inr, length, refl, subst, sym}
-use Rattle.std.specs.Prelude.{IfErr, IfOk, OnErr, OnOk}
+use Rattle.std.proofs.Common.{◌≡◌, ◌≢◌, ℕ, List, Option, Result, Ok, Err, arith, inl, inr, length, refl, subst}
+use Rattle.std.specs.Prelude.{OnErr, OnOk}
 use Rattle.std.specs.Io.KnownBytes.{Appends}
 use Rattle.command_faults.proofs.Loads.{by-load}
 use Rattle.command_faults.proofs.Parts.{part-all}
@@ -16,7 +16,7 @@ use Rattle.disk_layout.specs.Fault.{Holds, nowhere}
 use Rattle.keeper_commands.specs.Kinds.{HasFormatByte, HasGeosSign, IsPlainDisk}
 use Rattle.keeper_commands.specs.Rebuilds.{IsRebuildDone, IsRebuildFault, IsRebuildPart, IsRebuiltDisk}
 use Rattle.keeper_commands.specs.Repairs.{changed_text}
-use Rattle.ledger_jobs.specs.SideRepairs.{IsCopyRebuilt, IsCopyUnbuilt, IsRebuildCut, IsRebuildTold, IsRebuildingPart}
+use Rattle.ledger_jobs.specs.SideRepairs.{IsCopyUnbuilt, IsRebuildCut, IsRebuildTold, IsRebuildingPart}
 use Rattle.ledger_jobs.specs.SideRepairs.{IsRebuiltOf, IsUnbuilt}
 use Rattle.side_rebuilding.specs.Rebuilt.{IsRebuilt}
 

@@ -1,7 +1,6 @@
 -- What was passed on, by how the service ended.
 use Rattle.std.proofs.Common.{rules, subst, sym}
 use Rattle.ledger_jobs.specs.Changes.{IsServiceEnd}
-use Rattle.ledger_jobs.specs.LandedRuns.{watched_end}
 use Rattle.ledger_jobs.proofs.LoggedTold.{lent-service, watched, watched-back}
 use Rattle.ledger_jobs.proofs.ServedTold.{serve-quiet, watched-all}
 use Rattle.ledger_jobs.proofs.serving_images.serve_watched.Goals as goal
