@@ -26,6 +26,7 @@ impl<'a, W> ReplyLines<'a, W> {
 }
 
 /// Prints a reply on a line of its own, with its LF, in one write.
+#[inline(always)]
 fn put_reply<W: Write>(out: &mut W, reply: &Reply) -> Result<(), NotTaken>
     ensures ok { OnOk result (Appends (W.contents out.old) (W.contents out.new) (line_of reply.now)) }
     ensures err { OnErr result (AppendsPart (W.contents out.old) (W.contents out.new) (line_of reply.now)) }
