@@ -1,4 +1,5 @@
-"""The verdicts that are kept in VERDICTS: a line for each wrong body, sorted, in which a later verdict replaces an older one."""
+"""The verdicts that are kept: in VERDICTS those of the clauses, in SEEN those of the rows. Each mutant has a line, and they are sorted;
+a later verdict replaces an older one."""
 
 import datetime
 import fcntl
@@ -8,8 +9,8 @@ from pathlib import Path
 
 TOP = Path(__file__).resolve().parent.parent
 FILE = Path(__file__).resolve().parent / "VERDICTS"
-WORDS = "refused", "not found", "by a name", "by a stale answer", "form not covered", "PROVED!", "no longer applies"
-LINE = re.compile(rf"(\w+/\w+): ({'|'.join(WORDS)})(?: \((.*)\))?, (\d{{4}}-\d\d-\d\d), (\w+)")
+SEEN = Path(__file__).resolve().parent / "SEEN"
+LINE = re.compile(r"(\w+/\w+): (.+?)(?: \((.*)\))?, (\d{4}-\d\d-\d\d), (\w+)")
 
 
 def said_by_git(*words):
@@ -28,7 +29,7 @@ def clause_of(why):
 
 
 def lines_of(file=FILE):
-    """The lines of the file, by the names of the wrong bodies."""
+    """The lines of the file, by the names of the mutants."""
     text = file.read_text(encoding="utf-8") if file.exists() else ""
     return {line.partition(":")[0]: line for line in text.splitlines() if LINE.fullmatch(line)}
 
@@ -44,14 +45,14 @@ def keep(name, word, why, when, file=FILE):
         kept.write("".join(lines[it] + "\n" for it in sorted(lines)))
 
 
-def refused(file=FILE):
-    """The names of the wrong bodies that are kept as refused, and whose edits are still as they were."""
+def decided(file=FILE, word="refused"):
+    """The names of the mutants whose kept verdict begins with this word, and whose edits are still as they were."""
     found = {name: LINE.fullmatch(line) for name, line in lines_of(file).items()}
     changed = {commit: edits_since(commit) for commit in {it[5] for it in found.values()}}
-    return {name for name, it in found.items() if it[2] == "refused" and name not in changed[it[5]]}
+    return {name for name, it in found.items() if it[2].startswith(word) and name not in changed[it[5]]}
 
 
 def edits_since(commit):
-    """The names of the wrong bodies whose edits aren't as they were at the commit."""
-    paths = said_by_git("diff", "--name-only", commit, "--", "wrong_bodies", "crates/*/must-fail").split("\n")
-    return {f"{Path(it).parent.name if 'must-fail' not in it else Path(it).parts[1]}/{Path(it).stem}" for it in paths if it}
+    """The names of the mutants whose edits aren't as they were at the commit."""
+    paths = said_by_git("diff", "--name-only", commit, "--", "*.edit").split("\n")
+    return {f"{parts[1]}/{Path(parts[-1]).stem}" for parts in (Path(it).parts for it in paths if it)}
