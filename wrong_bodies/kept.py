@@ -1,5 +1,4 @@
-"""The verdicts that are kept: in VERDICTS those of the clauses, in SEEN those of the rows. Each mutant has a line, and they are sorted;
-a later verdict replaces an older one."""
+"""The verdicts that are kept in VERDICTS: a line for each wrong body, sorted, in which a later verdict replaces an older one."""
 
 import datetime
 import fcntl
@@ -9,6 +8,7 @@ from pathlib import Path
 
 TOP = Path(__file__).resolve().parent.parent
 FILE = Path(__file__).resolve().parent / "VERDICTS"
+# those of the rows, which tests/rows_see.py writes
 SEEN = Path(__file__).resolve().parent / "SEEN"
 LINE = re.compile(r"(\w+/\w+): (.+?)(?: \((.*)\))?, (\d{4}-\d\d-\d\d), (\w+)")
 
@@ -29,7 +29,7 @@ def clause_of(why):
 
 
 def lines_of(file=FILE):
-    """The lines of the file, by the names of the mutants."""
+    """The lines of the file, by the names of the wrong bodies."""
     text = file.read_text(encoding="utf-8") if file.exists() else ""
     return {line.partition(":")[0]: line for line in text.splitlines() if LINE.fullmatch(line)}
 
@@ -45,14 +45,24 @@ def keep(name, word, why, when, file=FILE):
         kept.write("".join(lines[it] + "\n" for it in sorted(lines)))
 
 
-def decided(file=FILE, word="refused"):
-    """The names of the mutants whose kept verdict begins with this word, and whose edits are still as they were."""
+def refused(file=FILE):
+    """The names of the wrong bodies that are kept as refused, and whose edits are still as they were."""
     found = {name: LINE.fullmatch(line) for name, line in lines_of(file).items()}
     changed = {commit: edits_since(commit) for commit in {it[5] for it in found.values()}}
-    return {name for name, it in found.items() if it[2].startswith(word) and name not in changed[it[5]]}
+    return {name for name, it in found.items() if it[2] == "refused" and name not in changed[it[5]]}
 
 
 def edits_since(commit):
-    """The names of the mutants whose edits aren't as they were at the commit."""
-    paths = said_by_git("diff", "--name-only", commit, "--", "*.edit").split("\n")
-    return {f"{parts[1]}/{Path(parts[-1]).stem}" for parts in (Path(it).parts for it in paths if it)}
+    """The names of the wrong bodies whose edits aren't as they were at the commit. One that went into another crate with its file is."""
+    rows = said_by_git("diff", "-M", "-l0", "--name-status", commit, "--", "wrong_bodies", "crates/*/must-fail").split("\n")
+    found = set()
+    for word, *paths in (row.split("\t") for row in rows if row):
+        if not word.startswith("R") or lines_at(commit, paths[0]) != lines_at("", paths[1]):
+            found |= set(paths)
+    return {f"{Path(it).parent.name if 'must-fail' not in it else Path(it).parts[1]}/{Path(it).stem}" for it in found}
+
+
+def lines_at(commit, path):
+    """The lines of an edit at the commit, or as it is now, but for those that name its files."""
+    text = said_by_git("show", f"{commit}:{path}") if commit else (TOP / path).read_text(encoding="utf-8").strip()
+    return [line for line in text.split("\n") if not line.startswith("file:")]

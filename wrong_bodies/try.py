@@ -238,7 +238,7 @@ def main(words):
     for name in names:
         if not (TOP / "crates" / name).is_dir() or not edits_of(name, names[name]):
             stop(f"there is no wrong body of {name}")
-    done = keeping.decided() if "--missing" in flags else set()
+    done = keeping.refused() if "--missing" in flags else set()
     well = True
     for name in names:
         edits = [it for it in edits_of(name, names[name]) if f"{name}/{it.name}" not in done]
