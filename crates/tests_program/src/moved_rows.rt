@@ -1,8 +1,6 @@
 //! Images that go from their names, or are cut, while they are served; images that are no regular files; and names of which
 //! a terminal would obey a part.
-use crate::scenes::{each, first_scene};
-use host_files::HostFiles;
-use test_runtime::{Kind, Runtime};
+use crate::scenes::each;
 
 /// A name is looked at before its file is opened, once more after the lock, and then before each reply.
 const GONE: &[u8] = b"
@@ -166,20 +164,4 @@ leaves the shop
 #[test]
 fn a_new_image_replaces_nothing(rt: HostRuntime) {
     each(&rt, NEW);
-}
-
-// A name is looked at before its file is opened, and may lead nowhere by then.
-#[test]
-fn opening_a_file_that_is_gone_makes_none(rt: HostRuntime) {
-    let scene = first_scene(&rt);
-    let image = &scene.memory.image;
-    let is_gone = image.hold(Kind::Missing, b"");
-    let runtime = Runtime {
-        memory: &scene.memory,
-        words: b"",
-        input: b"",
-    };
-    let opened = runtime.open_to_change("a.d64").is_ok();
-    let left = (is_gone, opened, image.kind.get() == Kind::Missing);
-    assert_eq!(&rt; left, (true, false, true));
 }
