@@ -141,13 +141,18 @@ def difference(why):
     return f"the goal has {found[1]} where the kept answer has {found[2]}"
 
 
+def names(values, clause):
+    """Whether a reader's values are for this clause. A goal that is of the only `ensures` doesn't name it."""
+    return values.startswith(f"{clause}:") or clause == "ensures" and values.startswith("ensures ")
+
+
 def refusal(edit, kept, aside):
     """What shows that the edit is refused; None where nothing does yet."""
     false = kept.false_goal() or aside.false_goal()
     if false:
         return f"{false.clause} ({false.name}) is false at values that the facts there allow"
     searched = aside.searched() if edit.values else []
-    if any(edit.values.startswith(it.clause + ":") for it in searched):
+    if any(names(edit.values, it.clause) for it in searched):
         return f"{edit.values} (by its reader; the check leaves it open)"
     if any(it.of_loop for it in searched):
         return f"{edit.values} (by its reader; the check leaves a loop's invariant open)"
