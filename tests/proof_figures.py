@@ -50,7 +50,10 @@ def main():
     for kind, row in sorted(rows.items(), key=lambda it: -it[1][4]):
         print(f"| {kind} | {' | '.join(f'{it:,}' for it in row)} |")
     edits = [len(list(TOP.glob(it))) for it in ("crates/*/must-fail/*.edit", "wrong_bodies/*/*.edit", "crates/*/wrong_bodies/*.edit")]
-    print(f"\nMutants: {sum(edits)}; {edits[0]} of them in the gate, and {edits[2]} that a test sees.")
+    verdicts, seen = ((TOP / "wrong_bodies" / name).read_text().splitlines() for name in ("VERDICTS", "SEEN"))
+    refused = sum(": refused" in it for it in verdicts)
+    print(f"\nMutants: {sum(edits)}; {edits[0]} of them in the gate, and {edits[2]} that a test is to see.")
+    print(f"Verdicts: {len(verdicts)}, of which {refused} are refused; {len(seen)} were seen by a test.")
 
 
 if __name__ == "__main__":

@@ -8,8 +8,9 @@ from pathlib import Path
 
 TOP = Path(__file__).resolve().parent.parent
 FILE = Path(__file__).resolve().parent / "VERDICTS"
-WORDS = "refused", "not found", "by a name", "by a stale answer", "form not covered", "PROVED!", "no longer applies"
-LINE = re.compile(rf"(\w+/\w+): ({'|'.join(WORDS)})(?: \((.*)\))?, (\d{{4}}-\d\d-\d\d), (\w+)")
+# those of the rows, which tests/rows_see.py writes
+SEEN = Path(__file__).resolve().parent / "SEEN"
+LINE = re.compile(r"(\w+/\w+): (.+?)(?: \((.*)\))?, (\d{4}-\d\d-\d\d), (\w+)")
 
 
 def said_by_git(*words):
@@ -52,6 +53,16 @@ def refused(file=FILE):
 
 
 def edits_since(commit):
-    """The names of the wrong bodies whose edits aren't as they were at the commit."""
-    paths = said_by_git("diff", "--name-only", commit, "--", "wrong_bodies", "crates/*/must-fail").split("\n")
-    return {f"{Path(it).parent.name if 'must-fail' not in it else Path(it).parts[1]}/{Path(it).stem}" for it in paths if it}
+    """The names of the wrong bodies whose edits aren't as they were at the commit. One that went into another crate with its file is."""
+    rows = said_by_git("diff", "-M", "-l0", "--name-status", commit, "--", "wrong_bodies", "crates/*/must-fail").split("\n")
+    found = set()
+    for word, *paths in (row.split("\t") for row in rows if row):
+        if not word.startswith("R") or lines_at(commit, paths[0]) != lines_at("", paths[1]):
+            found |= set(paths)
+    return {f"{Path(it).parent.name if 'must-fail' not in it else Path(it).parts[1]}/{Path(it).stem}" for it in found}
+
+
+def lines_at(commit, path):
+    """The lines of an edit at the commit, or as it is now, but for those that name its files."""
+    text = said_by_git("show", f"{commit}:{path}") if commit else (TOP / path).read_text(encoding="utf-8").strip()
+    return [line for line in text.split("\n") if not line.startswith("file:")]

@@ -8,6 +8,8 @@ import re
 FALSE = "allow values at which this goal is false"
 GOAL = re.compile(r"(?:note: |error: )?(?:\./|\.\./\w+/)?(src/\S+?):(\d+):\d+: (?:it is not proved that (.*?)|`search` found no proof)"
                   r" \(`([^`]+)`\)(.*)")
+# what it says of an `ensures` whose search ended at the limit of its steps, and so left it open
+STOPPED = re.compile(r"note: what antt said of a `search` .*?: (?:\./|\.\./\w+/)?(src/\S+?):(\d+):\d+: error: `(returns-[^`]+)`: .*stopped at")
 ANSWER = re.compile(r"(?:so far: )?(?:error: )?(?:\./|\.\./\w+/)?(proofs/\S+\.antt):\d+:\d+: error: (?:`([^`]+)`: )?(.*)")
 # what says that a function waits for one that it calls
 UNREAD = re.compile(r"(?:note: )?(?:\./|\.\./\w+/)?(proofs/\S+\.antt) is not checked until what its function calls")
@@ -47,9 +49,11 @@ class Told:
         self.waits = any(waits(places, line) for line in said)
         self.uncovered = next((line for line in said if is_uncovered(places, line)), None)
         for number, line in enumerate(said):
-            goal, answer = GOAL.match(line), ANSWER.match(line)
+            goal, answer, stopped = GOAL.match(line), ANSWER.match(line), STOPPED.match(line)
             if goal and is_in(places, goal[1], int(goal[2])):
                 self.goals.append(Goal(goal[3], goal[4], goal[5]))
+            elif stopped and is_in(places, stopped[1], int(stopped[2])):
+                self.goals.append(Goal("what the function ensures", stopped[3], ""))
             elif answer and is_of(places, answer[1]):
                 self.answers.append((answer[1], answer[2], "\n".join(said[number:number + 6])))
 
@@ -137,13 +141,18 @@ def difference(why):
     return f"the goal has {found[1]} where the kept answer has {found[2]}"
 
 
+def names(values, clause):
+    """Whether a reader's values are for this clause. A goal that is of the only `ensures` doesn't name it."""
+    return values.startswith(f"{clause}:") or clause == "ensures" and values.startswith("ensures ")
+
+
 def refusal(edit, kept, aside):
     """What shows that the edit is refused; None where nothing does yet."""
     false = kept.false_goal() or aside.false_goal()
     if false:
         return f"{false.clause} ({false.name}) is false at values that the facts there allow"
     searched = aside.searched() if edit.values else []
-    if any(edit.values.startswith(it.clause + ":") for it in searched):
+    if any(names(edit.values, it.clause) for it in searched):
         return f"{edit.values} (by its reader; the check leaves it open)"
     if any(it.of_loop for it in searched):
         return f"{edit.values} (by its reader; the check leaves a loop's invariant open)"
