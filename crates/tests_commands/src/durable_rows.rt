@@ -14,10 +14,10 @@ const BEFORE: &[u8] = b"1,1,S,42,120\n";
 
 const SCRIPT: &[u8] = b"1,2,I,42,20\n1,3,I,42,200\n";
 
-const REPLIES: &[u8] = b"1,2,DONE,100\n1,3,SHORT,100\n";
+static REPLIES: [&[u8]; 2] = [b"1,2,DONE,100\n", b"1,3,SHORT,100\n"];
 
 /// What is shown of the shop before the script's lines and after each.
-const SHOPS: [&[u8]; 3] = [
+static SHOPS: [&[u8]; 3] = [
     b"TOP 9256\nCARD 42,120\nTILL 1,1,S,42,120,DONE,120\n",
     b"TOP 9256\nCARD 42,100\nTILL 1,2,I,42,20,DONE,100\nPRIOR 1,1,S,42,120,DONE,120\n",
     b"TOP 9256\nCARD 42,100\nTILL 1,3,I,42,200,SHORT,100\nPRIOR 1,2,I,42,20,DONE,100\n",
@@ -38,19 +38,18 @@ fn played(
     (ended, out.bytes)
 }
 
-/// How many lines got their own replies.
-fn told_lines(told: &[u8]) -> usize {
+/// How many lines got their own replies, and what was printed after these.
+fn told_lines(told: &[u8]) -> (usize, &[u8]) {
     let mut lines = 0usize;
-    for (told, wanted) in told
-        .split(|&byte| byte == b'\n')
-        .zip(REPLIES.split(|&byte| byte == b'\n'))
-    {
-        if told.is_empty() || told != wanted {
-            return lines;
+    let mut rest = told;
+    for reply in &REPLIES {
+        match rest.strip_prefix(*reply) {
+            Some(after) => rest = after,
+            None => return (lines, rest),
         }
         lines = lines.saturating_add(1);
     }
-    lines
+    (lines, rest)
 }
 
 /// What is shown of the shop of an image; nothing of what is none.
@@ -60,21 +59,16 @@ fn shown_of(rt: &(impl AllocGlobal + Abort), image: &[u8]) -> Vec<u8> {
     out
 }
 
-/// Whether this is shown of a shop of these.
-fn is_shop(shown: &[u8], shops: &[&[u8]]) -> bool {
-    shops.iter().any(|shop| *shop == shown)
-}
-
 /// Checks that power that goes in this call leaves the shop after the lines that were answered, or with the next one.
 /// Returns whether it went before the script's end.
 fn is_durable(rt: &(impl AllocGlobal + Abort), image: &[u8], call: usize, done: bool) -> bool {
     let machine = Machine::new(rt.alloc(), image, call, done);
     let (_, told) = played(rt, &machine, SCRIPT, Durability::EachSector);
-    let lines = told_lines(told.as_slice());
+    let (lines, _) = told_lines(told.as_slice());
     let shop = shown_of(rt, machine.disk(rt.alloc()).as_slice());
     let shops = SHOPS.get(lines..).unwrap_or_default();
     let shops = shops.get(..shops.len().min(2)).unwrap_or_default();
-    holds(rt, is_shop(shop.as_slice(), shops), (call, done));
+    holds(rt, shops.contains(&shop.as_slice()), (call, done));
     machine.is_dark()
 }
 
@@ -113,7 +107,8 @@ fn what_was_told_unsynced_is_lost(rt: HostRuntime) {
     let image = begun(&rt);
     let machine = Machine::new(rt.alloc(), image.as_slice(), usize::MAX, false);
     let (_, told) = played(&rt, &machine, SCRIPT, Durability::AtEnd);
-    same_at(&rt, told.as_slice(), REPLIES, "told");
+    let all: (usize, &[u8]) = (2, b"");
+    same_at(&rt, told_lines(told.as_slice()), all, "told");
     let shop = shown_of(&rt, machine.disk(rt.alloc()).as_slice());
     same_at(&rt, shop.as_slice(), SHOPS[0], "lost");
 }

@@ -21,7 +21,7 @@ static LINES: [&[u8]; 6] = [
 ];
 
 /// What is shown of the shop after each of them.
-const SHOPS: [&[u8]; 6] = [
+static SHOPS: [&[u8]; 6] = [
     b"TOP 9256\nCARD 42,120\nTILL 1,1,S,42,120,DONE,120\n",
     b"TOP 9256\nCARD 42,120\nTILL 1,1,S,42,120,DONE,120\n",
     b"TOP 9256\nCARD 42,100\nTILL 1,2,I,42,20,DONE,100\nPRIOR 1,1,S,42,120,DONE,120\n",
@@ -54,12 +54,14 @@ fn each_was_there(
     shops: &[&[u8]],
 ) {
     for (i, shop) in shops.iter().enumerate() {
-        let image = handed.get(i).map_or(&[][..], |image| image.as_slice());
-        let next = asked
-            .get(i.saturating_add(1))
-            .map_or(&[][..], |image| image.as_slice());
-        is_shown(rt, image, shop);
-        holds(rt, image == next, i);
+        let next = asked.get(i.saturating_add(1));
+        match (handed.get(i), next) {
+            (Some(image), Some(next)) => {
+                is_shown(rt, image.as_slice(), shop);
+                holds(rt, image.as_slice() == next.as_slice(), i);
+            }
+            _ => holds(rt, false, i),
+        }
     }
 }
 

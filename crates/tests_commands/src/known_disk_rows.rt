@@ -10,7 +10,7 @@ use test_files::{Bringing, DiskFile, IMAGE_BYTES, WholeFile, play_in_file, play_
 const SCRIPT: &[u8] = b"1,1,S,42,120\n1,2,I,42,20\n";
 
 /// What is shown of the shop before the lines and after each.
-pub(crate) const SHOPS: [&[u8]; 3] = [
+pub(crate) static SHOPS: [&[u8]; 3] = [
     b"TOP 9256\n",
     b"TOP 9256\nCARD 42,120\nTILL 1,1,S,42,120,DONE,120\n",
     b"TOP 9256\nCARD 42,100\nTILL 1,2,I,42,20,DONE,100\nPRIOR 1,1,S,42,120,DONE,120\n",
@@ -52,7 +52,12 @@ fn shop_after(
 fn shop_of(rt: &(impl AllocGlobal + Abort), image: &[u8]) -> Option<usize> {
     let mut shown = Vec::new(rt.alloc());
     let _ = show_image(rt.alloc(), image, &mut shown);
-    SHOPS.iter().position(|shop| *shop == shown.as_slice())
+    for (number, shop) in SHOPS.iter().enumerate() {
+        if *shop == shown.as_slice() {
+            return Some(number);
+        }
+    }
+    None
 }
 
 /// Plays the script in a file that is synced only at the end, and of which so many calls pass. Returns the shop that it

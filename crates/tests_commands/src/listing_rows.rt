@@ -156,7 +156,7 @@ fn images_are_listed(rt: HostRuntime) {
 }
 
 /// Bytes that ASCII lacks, control codes, a carriage return and a quotation mark in names; the name ends at its first A0.
-const NAMED: &[Bytes] = &[
+static NAMED: &[Bytes] = &[
     (S18_1 + 5, b"\xD3\x12\r\x22\xFFZ"),
     (S18_0 + 0x90, b"\xCDY DISK\xA0\xA0"),
     (S18_0 + 0xA2, b"\xC1B"),
@@ -164,7 +164,7 @@ const NAMED: &[Bytes] = &[
 
 /// What is printed of that disk in each set, by hand from the characters of PETSCII (Commodore 64 Programmer's Reference
 /// Guide, appendix C).
-const TEXTS: [(CharacterSet, &str); 2] = [
+static TEXTS: [(CharacterSet, &str); 2] = [
     (
         CharacterSet::Graphics,
         "0 \"╲Y DISK\" ♠B 2A\n2 \"♥\\12\\0d\"\"πZ\" REL\n2 \"REQUESTS\" REL\n660 BLOCKS FREE\n",

@@ -14,9 +14,10 @@ const LINES: &[u8] = b"1,1,S,42,120\n1,2,I,42,20\n1,2,I,42,20";
 fn is_shop(rt: &(impl AllocGlobal + Abort), image: &[u8], shop: usize) -> bool {
     let mut shown = Vec::new(rt.alloc());
     let _ = show_image(rt.alloc(), image, &mut shown);
-    SHOPS
-        .get(shop)
-        .is_some_and(|shop| *shop == shown.as_slice())
+    match SHOPS.get(shop) {
+        Some(shop) => *shop == shown.as_slice(),
+        None => false,
+    }
 }
 
 /// Checks that the service ends so if so many lines are given and so many replies taken, and that so many were. Each line

@@ -6,7 +6,7 @@ use shop_commands::ImageFile;
 use std::process::Abort;
 
 // The offsets are those of the published table: track 18 begins at $16500.
-const ROWS: [(u8, u8, usize); 6] = [
+static ROWS: [(u8, u8, usize); 6] = [
     (18, 1, 0x16600),
     (17, 20, 0x16400),
     (18, 0, 0x16500),

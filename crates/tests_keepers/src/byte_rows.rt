@@ -23,7 +23,7 @@ const OTHER: &[u8] = b"\x82\x11\x07OTHER\xA0\xA0\xA0\xA0\xA0\xA0\xA0\xA0\xA0\xA0
 /// The name of `GAME`.
 const NAME: &[u8] = b"GAME\xA0,8,1";
 
-const WHOLE: [Row; 8] = [
+static WHOLE: [Row; 8] = [
     // two blocks, the last one used up to byte 4
     (
         &[
@@ -89,7 +89,7 @@ const WHOLE: [Row; 8] = [
     (&[(17, 0, 1, b"\x13CARD")], b"STOCK", &[(b"CARD", 14)], ""),
 ];
 
-const HURT: [Row; 9] = [
+static HURT: [Row; 9] = [
     // after two blocks the chain leads nowhere, or comes back
     (
         &[
@@ -173,7 +173,7 @@ const HURT: [Row; 9] = [
 ];
 
 /// There is none, or it isn't closed.
-const MISSING: [Row; 2] = [
+static MISSING: [Row; 2] = [
     (&[], NAME, &[], "NO FILE"),
     (
         &[(18, 1, 66, GAME), (18, 1, 66, b"\x02")],
@@ -187,7 +187,7 @@ const MISSING: [Row; 2] = [
 const OPEN: &[u8] = b"\x02\x11\x07GAME\xA0,8,1\xA0\xA0\xA0\xA0\xA0\xA0\xA0";
 
 /// The first file of the name, closed or not.
-const UNCLOSED: [Row; 5] = [
+static UNCLOSED: [Row; 5] = [
     // it isn't closed, and stands before one that is
     (
         &[

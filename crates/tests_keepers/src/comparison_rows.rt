@@ -19,7 +19,7 @@ struct Row {
 /// The blank disk and itself; records 3 to 5 and 14 of STOCK and 2 of REQUESTS; and a file whose type and link change.
 /// Then a file of another name, and a free bit of a block. Last a damaged disk with a file under the name of another,
 /// whose own is gone.
-const COMPARED: [Row; 5] = [
+static COMPARED: [Row; 5] = [
     Row {
         changes: (&[], &[]),
         told: "",

@@ -28,7 +28,7 @@ const OWNED: Change = (18, 0, 68, &[0x10, 0xE0]);
 /// 17/3. In order: none; STOCK with one pointer more, two more, only the second, and a link to a next side sector. Then
 /// REQUESTS with one more, also if STOCK has another record length; a block of zeros, and one of which only the link is
 /// zero.
-const LISTED: [(&[Change], Option<(u8, u8)>); 9] = [
+static LISTED: [(&[Change], Option<(u8, u8)>); 9] = [
     (&[], None),
     (&[(17, 1, 18, &[17, 9])], None),
     (&[(17, 1, 18, &[17, 9, 17, 10])], Some((17, 0))),
@@ -45,7 +45,7 @@ const LISTED: [(&[Change], Option<(u8, u8)>); 9] = [
 
 /// A file of another type. Its count is greater than its chain with a stray sector and without one; then it is right.
 /// Then SEQ, USR, a locked PRG and DEL.
-const COUNTED: [(&[Change], Option<(u8, u8)>); 7] = [
+static COUNTED: [(&[Change], Option<(u8, u8)>); 7] = [
     (&[BLOCK, TAKEN, ENTRY], Some((17, 4))),
     (&[BLOCK, OWNED, ENTRY], None),
     (&[BLOCK, TAKEN, ENTRY, (18, 1, 94, &[1])], None),

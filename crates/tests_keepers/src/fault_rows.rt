@@ -12,7 +12,7 @@ use std::process::Abort;
 type Row = (&'static [Change], &'static str);
 
 /// STOCK is in 17/0 with the side sector 17/1, REQUESTS in 17/2 with 17/3, and their entries are in 18/1.
-const ROWS: [Row; 11] = [
+static ROWS: [Row; 11] = [
     (&[], "\"OK\",\"track\":null,\"sector\":null,\"files\":[]"),
     // 17/2 links to itself
     (

@@ -10,7 +10,7 @@ use std::process::Abort;
 
 /// Records of `STOCK`, which has 18 bytes a record: two fields, one without its carriage return, and no bytes. The other
 /// eleven were never written.
-const RECORDS: &[Change] = &[
+static RECORDS: &[Change] = &[
     (17, 0, 2, b"KING\rLEEDS, A\r\0\0\0\0\0"),
     (17, 0, 20, b"KING"),
     (17, 0, 38, b"\0"),
@@ -59,7 +59,7 @@ fn columns_come_back(rt: HostRuntime) {
 
 /// Lines as a spreadsheet saves them, and as one column: without marks, with CR LF, without an end, and such as are of no
 /// record before and after.
-const PLAIN: [(&str, &str); 5] = [
+static PLAIN: [(&str, &str); 5] = [
     ("1,KING,LEEDS\n", "1,\"KING\\0dLEEDS\\0d\"\n"),
     (
         "1,KING,LEEDS\r\n2,A",
@@ -70,16 +70,11 @@ const PLAIN: [(&str, &str); 5] = [
     ("1,\"A\"B\n", "1,\"A\"B\\0d\"\n"),
 ];
 
-/// Checks that each is made so.
-fn are_plain(rt: &(impl Abort + AllocGlobal), rows: &[(&str, &str)]) {
-    for &(lines, wanted) in rows {
-        let form = ColumnForm::Fields;
-        let plain = plain_lines(rt.alloc(), form, lines.as_bytes()).expect(rt, "memory");
-        same_at(rt, plain.as_slice(), wanted.as_bytes(), lines);
-    }
-}
-
 #[test]
 fn lines_are_made_plain(rt: HostRuntime) {
-    are_plain(&rt, &PLAIN);
+    for &(lines, wanted) in &PLAIN {
+        let form = ColumnForm::Fields;
+        let plain = plain_lines(rt.alloc(), form, lines.as_bytes()).expect(&rt, "memory");
+        same_at(&rt, plain.as_slice(), wanted.as_bytes(), lines);
+    }
 }

@@ -61,7 +61,7 @@ fn a_line_is_printed_once_its_record_is_stored(rt: HostRuntime) {
 }
 
 /// The map's count of track 1 and the block count of STOCK: two sectors are mended.
-const HURT: [Change; 2] = [(18, 0, 4, &[20]), (18, 1, 30, &[3])];
+static HURT: [Change; 2] = [(18, 0, 4, &[20]), (18, 1, 30, &[3])];
 
 /// Checks that nothing is printed of a repair of that disk, whose device takes so many sectors and then fails.
 fn prints_nothing(rt: &(impl Abort + AllocGlobal), taken: u32) {

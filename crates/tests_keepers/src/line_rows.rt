@@ -11,7 +11,7 @@ type Row = (u32, &'static [u8], &'static [u8]);
 /// An empty record, one with nothing but zeros, fields that end in CR, a comma and a quotation mark within, zeros within.
 /// Then the greatest number that a record can have, and the first that 16 bits don't hold. Last records of 16 and 17
 /// bytes that take two digits each.
-const PRINTED: [Row; 9] = [
+static PRINTED: [Row; 9] = [
     (1, b"\xFF\0\0", b"1,\"\\ff\""),
     (2, b"\0\0\0", b"2,\"\""),
     (3, b"MILK\r12\r\0", b"3,\"MILK\\0d12\\0d\""),
@@ -33,7 +33,7 @@ const PRINTED: [Row; 9] = [
 
 /// Lines that are read as these records, though none is printed so: without the quotation marks, as spreadsheets
 /// leave them out, and with zeros at the end.
-const READ: [Row; 5] = [
+static READ: [Row; 5] = [
     (40, b"\xFFx\"", b"40,\\ffx\\22"),
     (7, b"", b"7,"),
     (8, b"A,B", b"8,\"A,B\""),
@@ -43,7 +43,7 @@ const READ: [Row; 5] = [
 
 /// A byte order mark; numbers that no record has, also with a sign, a zero or a space before them; no comma. Then one
 /// quotation mark, and two if the form has one; a text that is none; what is left of an end; and several columns.
-const NO_LINES: [&[u8]; 19] = [
+static NO_LINES: [&[u8]; 19] = [
     b"\xEF\xBB\xBF1,\"A\"",
     b"",
     b"0,\"A\"",

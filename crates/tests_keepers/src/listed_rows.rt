@@ -11,7 +11,7 @@ use std::process::Abort;
 type Row = (&'static [Change], &'static str);
 
 /// STOCK is in 17/0 with the side sector 17/1, REQUESTS in 17/2 with 17/3, and their entries are in 18/1.
-const ROWS: [Row; 8] = [
+static ROWS: [Row; 8] = [
     (&[], "OK\n"),
     // a type that there isn't, and 17/2 links to itself
     (
@@ -60,7 +60,7 @@ fn all_faults_are_listed(rt: HostRuntime) {
 /// What is changed, a name, and the names that are near.
 type NearRow = (&'static [Change], &'static [u8], &'static str);
 
-const NEAR: [NearRow; 7] = [
+static NEAR: [NearRow; 7] = [
     (&[], b"stock", " \"STOCK\" REL"),
     (&[], b"REQUESTS  ", " \"REQUESTS\" REL"),
     (&[], b"STOC", ""),

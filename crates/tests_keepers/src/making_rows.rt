@@ -10,7 +10,7 @@ use std::io::Write;
 use std::process::Abort;
 
 /// Names, and whether a new file can have them: no byte, sixteen, seventeen, a shifted space at the end and within.
-const NAMES: [(&[u8], bool); 6] = [
+static NAMES: [(&[u8], bool); 6] = [
     (b"", false),
     (b"A", true),
     (b"SIXTEEN LETTERS!", true),
@@ -21,7 +21,7 @@ const NAMES: [(&[u8], bool); 6] = [
 
 /// The bytes of the third slot of 18/1 once ADD\c1 was made: closed and relative, from 17/4, its side sector 17/5, 30
 /// bytes a record, two blocks.
-const SLOT: &[u8; 32] =
+static SLOT: &[u8; 32] =
     b"\0\0\x84\x11\x04ADD\xC1\xA0\xA0\xA0\xA0\xA0\xA0\xA0\xA0\xA0\xA0\xA0\xA0\x11\x05\x1E\0\0\0\0\0\0\x02\0";
 
 /// Makes a file on a disk in memory that holds this image: how that ends, and its bytes.
@@ -65,7 +65,7 @@ fn is_refused(rt: &(impl Abort + AllocGlobal), before: &MemDisk, name: &[u8], to
 
 /// Changes of the blank disk, and what is reported: the map's count of track 1, a block count, a loop, and a deleted
 /// entry that bears the name.
-const REFUSED: [(&[Change], &str); 4] = [
+static REFUSED: [(&[Change], &str); 4] = [
     (&[(18, 0, 4, &[20])], "LAYOUT MAPWRONG 18/0"),
     (&[(18, 1, 30, &[3])], "LAYOUT COUNTWRONG 18/1"),
     (&[(17, 2, 0, &[17, 2])], "LAYOUT LOOP 17/2"),

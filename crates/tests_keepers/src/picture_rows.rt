@@ -29,7 +29,7 @@ struct Row {
 /// The blank disk; a program file whose block links to itself; a name with all that HTML escapes, and a free bit of a
 /// block; an open entry. Then a name of the disk that would be a script, with a sector that is taken and of no file; and
 /// 32 entries, of which the 27th has a block.
-const DRAWN: [Row; 6] = [
+static DRAWN: [Row; 6] = [
     Row {
         changes: &[],
         told: "",
@@ -183,17 +183,6 @@ fn is_tiled(rt: &(impl Abort + AllocGlobal), image: &[u8], row: &Row) {
     is_text(rt, out.as_slice(), row.tile);
 }
 
-/// Checks that these disks are drawn so.
-fn are_drawn(rt: &(impl Abort + AllocGlobal), rows: &[Row]) {
-    for row in rows {
-        let disk = changed(rt, row.changes);
-        is_mapped(rt, disk.bytes(), row);
-        is_pictured(rt, disk.bytes(), row);
-        is_on_a_poster(rt, disk.bytes(), row);
-        is_tiled(rt, disk.bytes(), row);
-    }
-}
-
 /// Checks that nothing is drawn of this image, and why.
 fn isnt_drawn(rt: &(impl Abort + AllocGlobal), image: &[u8], told: &str) {
     let mut out = Vec::new(rt.alloc());
@@ -205,7 +194,13 @@ fn isnt_drawn(rt: &(impl Abort + AllocGlobal), image: &[u8], told: &str) {
 
 #[test]
 fn disks_are_drawn(rt: HostRuntime) {
-    are_drawn(&rt, &DRAWN);
+    for row in &DRAWN {
+        let disk = changed(&rt, row.changes);
+        is_mapped(&rt, disk.bytes(), row);
+        is_pictured(&rt, disk.bytes(), row);
+        is_on_a_poster(&rt, disk.bytes(), row);
+        is_tiled(&rt, disk.bytes(), row);
+    }
 }
 
 #[test]

@@ -10,13 +10,13 @@ use std::process::Abort;
 
 /// Two records of `STOCK`, which has 18 bytes a record: letters, a spade, a mark, a comma and two fields; and a record
 /// of no bytes. The other twelve were never written.
-const RECORDS: &[Change] = &[
+static RECORDS: &[Change] = &[
     (17, 0, 2, b"\xCDILK, \x22A\x22\r12\r\0\0\0\0\0"),
     (17, 0, 20, b"\0"),
 ];
 
 /// The first three lines in each set.
-const LINES: [(CharacterSet, &str); 2] = [
+static LINES: [(CharacterSet, &str); 2] = [
     (
         CharacterSet::Graphics,
         "1,\"╲ILK, \"\"A\"\"\\0d12\\0d\"\n2,\"\"\n3,\"π\"\n",
@@ -71,7 +71,7 @@ fn records_are_readable(rt: HostRuntime) {
 }
 
 /// A letter of one block, in 17/6.
-const LETTER: &[Change] = &[
+static LETTER: &[Change] = &[
     (
         18,
         1,
@@ -82,7 +82,7 @@ const LETTER: &[Change] = &[
 ];
 
 /// What is printed of it.
-const TEXTS: [(CharacterSet, &str); 2] = [
+static TEXTS: [(CharacterSet, &str); 2] = [
     (CharacterSet::Graphics, "🭷EAR \"X\",\n\\12"),
     (CharacterSet::Mixed, "Dear \"x\",\n\\12"),
 ];

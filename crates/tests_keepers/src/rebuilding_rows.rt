@@ -16,7 +16,7 @@ fn is_rebuilt(rt: &(impl Abort + AllocGlobal), disk: &mut MemDisk) -> bool {
 }
 
 /// A change, whether the blank disk comes back after it, and what it is.
-const CHANGES: [(Change, bool, &str); 6] = [
+static CHANGES: [(Change, bool, &str); 6] = [
     ((17, 1, 0, &[]), true, "a sound disk"),
     ((17, 1, 0, &[0; 256]), true, "zeros"),
     ((17, 1, 2, &[5]), true, "another number"),

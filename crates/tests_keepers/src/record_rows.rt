@@ -12,7 +12,7 @@ use std::process::Abort;
 /// are: all whole ones in the blocks that the file has.
 pub(crate) type Made = (&'static [u8], u8, u32, &'static [u8], &'static str, u32);
 
-pub(crate) const MADE: [Made; 6] = [
+pub(crate) static MADE: [Made; 6] = [
     (b"ONES", 1, 300, b"\"", "\\22", 508),
     (b"\xD4WOS", 2, 200, b"A\0", "A", 254),
     (
@@ -35,12 +35,17 @@ pub(crate) const MADE: [Made; 6] = [
     (b"SIXTEEN LETTERS!", 254, 1, b"", "", 1),
 ];
 
+/// Adds the line of a record.
+pub(crate) fn add_line(lines: &mut Vec<u8>, number: u32, text: &str) {
+    let _ = write!(lines, "{number},\"{text}\"\n");
+}
+
 /// The lines of so many records: one was written, all others are empty.
 pub(crate) fn lines(rt: &impl AllocGlobal, count: u32, written: u32, text: &str) -> Vec<u8> {
     let mut lines = Vec::new(rt.alloc());
     for number in 1..=count {
         let text = if number == written { text } else { "\\ff" };
-        let _ = write!(lines, "{number},\"{text}\"\n");
+        add_line(&mut lines, number, text);
     }
     lines
 }
@@ -65,30 +70,25 @@ fn printed_unclosed<W: Write>(
     unclosed_records_image(rt.alloc(), image, name, RecordForm::Lines, out)
 }
 
-/// Checks that the records of each file are printed.
-fn are_printed(rt: &(impl Abort + AllocGlobal), rows: &[Made]) {
-    for &(name, size, number, bytes, text, count) in rows {
-        assert!(rt;
+#[test]
+fn records_are_printed(rt: HostRuntime) {
+    for &(name, size, number, bytes, text, count) in &MADE {
+        assert!(&rt;
             name.len() <= 16 && size >= 1 && size <= 254 && number >= 1,
             "there is no such record"
         );
-        let disk = with_record(rt, name, size, number, bytes);
+        let disk = with_record(&rt, name, size, number, bytes);
         let mut out = Vec::new(rt.alloc());
-        let ended = printed(rt, disk.bytes(), name, &mut out);
-        same_at(rt, ended, Ok(()), name);
-        let wanted = lines(rt, count, number, text);
-        same_at(rt, out.as_slice(), wanted.as_slice(), name);
+        let ended = printed(&rt, disk.bytes(), name, &mut out);
+        same_at(&rt, ended, Ok(()), name);
+        let wanted = lines(&rt, count, number, text);
+        same_at(&rt, out.as_slice(), wanted.as_slice(), name);
     }
-}
-
-#[test]
-fn records_are_printed(rt: HostRuntime) {
-    are_printed(&rt, &MADE);
 }
 
 /// Changes of the blank disk, the name that is asked for, and what is reported. If a last index is below 2, the file
 /// has no record, and nothing is printed.
-const REFUSED: [(&[Change], &[u8], &str); 10] = [
+static REFUSED: [(&[Change], &[u8], &str); 10] = [
     (&[(17, 0, 1, &[1])], b"STOCK", ""),
     (&[(17, 0, 1, &[0])], b"STOCK", ""),
     (&[], b"STOC", "NO FILE"),
@@ -126,7 +126,7 @@ const LOST_SIDE: Change = (17, 1, 0, &[0; 256]);
 
 /// Changes of a disk that isn't sound then, on which all 14 records of STOCK are printed, and what is reported: the disk's
 /// fault, or the file's own.
-const HURT: [(&[Change], &str); 5] = [
+static HURT: [(&[Change], &str); 5] = [
     (&[CARD, (17, 2, 0, &[17, 2])], "LAYOUT LOOP 17/2"),
     (&[CARD, LOST_SIDE], "LAYOUT BADSIDE 17/1"),
     (
@@ -163,7 +163,7 @@ fn is_full(rt: &(impl Abort + AllocGlobal), changes: &[Change]) {
 #[test]
 fn records_that_can_be_reached_are_printed(rt: HostRuntime) {
     let wanted = lines(&rt, 14, 2, "CARD");
-    for (changes, told) in HURT {
+    for &(changes, told) in &HURT {
         is_reached(&rt, changes, told, wanted.as_slice());
     }
     is_full(&rt, &[LOST_SIDE]);
@@ -171,7 +171,7 @@ fn records_that_can_be_reached_are_printed(rt: HostRuntime) {
 
 /// Changes of the blank disk, the name that is asked for, its printed record or none, and what is reported, of the first
 /// file of the name, closed or not.
-const UNCLOSED: [(&[Change], &[u8], bool, &str); 6] = [
+static UNCLOSED: [(&[Change], &[u8], bool, &str); 6] = [
     (&[CARD], b"STOCK", true, ""),
     (
         &[CARD, (18, 1, 2, &[0x04])],
@@ -210,7 +210,7 @@ fn is_unclosed(
 #[test]
 fn records_of_unclosed_files_are_printed(rt: HostRuntime) {
     let all = lines(&rt, 14, 2, "CARD");
-    for (changes, name, printed, told) in UNCLOSED {
+    for &(changes, name, printed, told) in &UNCLOSED {
         let wanted = if printed { all.as_slice() } else { b"" };
         is_unclosed(&rt, changes, name, told, wanted);
     }

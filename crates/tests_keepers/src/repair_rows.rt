@@ -13,7 +13,7 @@ const STRAY: Change = (18, 0, 8, &[20, 0xDF]);
 
 /// Changes, what is printed, and what is reported. A clean disk. Track 1's count in the map, the block count of STOCK, a
 /// pointer of its side sector after those to its blocks, and all three. Then a loop, and an open entry with a wrong map.
-const REPAIRED: [(&[Change], &str, &str); 7] = [
+static REPAIRED: [(&[Change], &str, &str); 7] = [
     (&[], "OK\n", ""),
     (&[(18, 0, 4, &[20])], "MENDED 18/0\nOK\n", ""),
     (&[(18, 1, 30, &[3])], "MENDED 18/1\nOK\n", ""),
@@ -75,29 +75,25 @@ fn becomes(
     same_at(rt, same, true, printed);
 }
 
-/// Checks that this is printed and reported of each disk, whatever is asked of unowned sectors: there are none. A mended
-/// disk is the blank disk again; otherwise it is as it was.
-fn are_repaired(rt: &(impl Abort + AllocGlobal), rows: &[(&[Change], &str, &str)]) {
-    for &(changes, printed, told) in rows {
+// Checks that this is printed and reported of each disk, whatever is asked of unowned sectors: there are none. A mended
+// disk is the blank disk again; otherwise it is as it was.
+#[test]
+fn disks_are_repaired(rt: HostRuntime) {
+    for &(changes, printed, told) in &REPAIRED {
         for free in [false, true] {
             if told == "" {
-                becomes(rt, changes, free, (printed, told, 0), &[]);
+                becomes(&rt, changes, free, (printed, told, 0), &[]);
             } else {
-                becomes(rt, changes, free, (printed, told, 0), changes);
+                becomes(&rt, changes, free, (printed, told, 0), changes);
             }
         }
     }
 }
 
-#[test]
-fn disks_are_repaired(rt: HostRuntime) {
-    are_repaired(&rt, &REPAIRED);
-}
-
 /// Changes of disks with sectors that the map calls taken and nobody owns; what is printed, how many are left, and the
 /// changes that are left; and what is printed if they are freed. One sector; one whose track's count is that of before;
 /// one with a free block of REQUESTS, 17/2; two on track 35, after 18/0; ten on track 1.
-const STRAYS: [(&[Change], &str, u16, &[Change], &str); 5] = [
+static STRAYS: [(&[Change], &str, u16, &[Change], &str); 5] = [
     (
         &[STRAY],
         "KEPT 1\n",
@@ -147,7 +143,7 @@ fn unowned_sectors_are_left_or_freed(rt: HostRuntime) {
 
 /// Disks that are refused as they are, and what is reported: GEOS's signature, of two versions, and with a loop; a format
 /// byte of another drive, and of none.
-const REFUSED: [(&[Change], &str); 5] = [
+static REFUSED: [(&[Change], &str); 5] = [
     (&[STRAY, (18, 0, 173, b"GEOS format V1.0")], "GEOS"),
     (&[(18, 0, 173, b"GEOS format V1.1")], "GEOS"),
     (

@@ -2,10 +2,9 @@
 use crate::comparing::same_at;
 use crate::disks::{changed, with_file, with_record};
 use crate::outputs::is_told;
-use crate::record_rows::{MADE, Made, lines, printed};
+use crate::record_rows::{MADE, Made, add_line, lines, printed};
 use crate::storing_rows::stored;
 use d64_image::MemDisk;
-use std::io::Write;
 use std::process::Abort;
 
 /// What is printed of a file's records.
@@ -45,7 +44,7 @@ fn comes_back(
     let source = with_record(rt, name, size, number, bytes);
     let text = text_of(rt, source.bytes(), name);
     let mut line = Vec::new(rt.alloc());
-    let _ = write!(line, "{number},\"{written}\"\n");
+    add_line(&mut line, number, written);
     let wanted = lines(rt, count, number, written);
     let target = with_file(rt, name, size);
     let stored = (name, text.as_slice());

@@ -20,7 +20,7 @@ const NINE_COUNTED: Change = (18, 1, 30, &[9]);
 /// with another number, one that lists no side sector. Then an entry that names none, one that names a block of
 /// REQUESTS, and a loop; a file whose entry counts more, and one whose side sector lists two blocks more. At the end a disk
 /// of GEOS, and one of another format.
-const REBUILT: [(&[Change], &str, &str, &[Change]); 11] = [
+static REBUILT: [(&[Change], &str, &str, &[Change]); 11] = [
     (&[], "", "", &[]),
     (&[ZEROED], "MENDED 17/1\n", "", &[]),
     (&[(17, 1, 2, &[5])], "MENDED 17/1\n", "", &[]),

@@ -97,7 +97,7 @@ fn last_lines_are_stored(rt: HostRuntime) {
 /// Texts and what is reported. The second line is no record's, or of nineteen bytes, of several columns, or of number 0.
 /// It stands after a byte order mark. It is past the last record that a file of 720 blocks has. There are so many that
 /// the 660 free blocks don't suffice.
-const REFUSED: [(&str, &str); 7] = [
+static REFUSED: [(&str, &str); 7] = [
     ("1,\"A\"\n1;\"B\"\n", "RECORDS LINE 2"),
     ("1,\"A\"\n2,0123456789012345678\n", "RECORDS LINE 2"),
     ("1,\"A\"\n2,KING,61 MILL LANE,LEEDS\n", "RECORDS LINE 2"),
@@ -108,7 +108,7 @@ const REFUSED: [(&str, &str); 7] = [
 ];
 
 /// Changes of the blank disk, and what is reported: the map's count of track 1, and STOCK an entry of another type.
-const NOT_CLEAN: [(&[Change], &str); 2] = [
+static NOT_CLEAN: [(&[Change], &str); 2] = [
     (&[(18, 0, 4, &[20])], "LAYOUT MAPWRONG 18/0"),
     (&[(17, 2, 0, &[17, 2])], "LAYOUT LOOP 17/2"),
 ];

@@ -5,7 +5,7 @@ use std::process::Abort;
 
 /// Bytes and their text: letters and signs of the names of disks, shifted letters, and a shifted space within. Then the
 /// bytes at both ends of those that stand for themselves, and the two among them that don't.
-const TEXTS: [(&[u8], &[u8]); 9] = [
+static TEXTS: [(&[u8], &[u8]); 9] = [
     (b"", b""),
     (b"<SCRIPT>&", b"<SCRIPT>&"),
     (b"ADD\xC1", b"ADD\\c1"),
@@ -19,7 +19,7 @@ const TEXTS: [(&[u8], &[u8]); 9] = [
 
 /// What is no text: a byte that stands for itself by its number, digits in capitals, too few of them, none, and bytes
 /// that stand for themselves nowhere.
-const NO_TEXTS: [&[u8]; 11] = [
+static NO_TEXTS: [&[u8]; 11] = [
     b"\\41", b"\\20", b"\\FF", b"\\f", b"\\", b"A\\g0", b"\"", b"A\n", b"\x7F", b"\xA0", b"\0",
 ];
 
@@ -29,13 +29,10 @@ fn are_texts(rt: &(impl Abort + AllocGlobal), rows: &[(&[u8], &[u8])]) {
         let mut out = Vec::new(rt.alloc());
         let _ = write_text(&mut out, bytes);
         same_at(rt, out.as_slice(), text, bytes);
-        let found = read_text(text);
-        same_at(
-            rt,
-            found.as_ref().map(|found| found.as_slice()),
-            Some(bytes),
-            text,
-        );
+        match read_text(text) {
+            Some(found) => same_at(rt, found.as_slice(), bytes, text),
+            None => same_at(rt, None, Some(bytes), text),
+        }
     }
 }
 

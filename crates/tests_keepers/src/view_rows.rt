@@ -16,7 +16,7 @@ type Row = (&'static [Change], (u8, u8), (usize, u32));
 
 /// A block of REQUESTS; a side sector; the map; the directory; a free sector; one that is taken and of no file. Then a
 /// block of a disk whose directory leaves track 18, one whose link leaves the disk, and a byte of each kind.
-const SECTORS: [Row; 9] = [
+static SECTORS: [Row; 9] = [
     (&[], (17, 2), (1188, 263966860)),
     (&[], (17, 1), (1180, 1403898494)),
     (&[], (18, 0), (1223, 1652966615)),
@@ -41,7 +41,7 @@ type Trim = (usize, &'static [(usize, u8)], [u8; 2], &'static str);
 
 /// All sectors read; two that weren't; a file that goes on on track 36; and both on 40 tracks, of which errors past track
 /// 35 aren't reported. Last bytes that the layout doesn't have.
-const TRIMS: [Trim; 6] = [
+static TRIMS: [Trim; 6] = [
     (0, &[], [0, 255], ""),
     (683, &[], [0, 255], ""),
     (

@@ -1,5 +1,13 @@
 //! What the program advises a person at a terminal to do about an image that is refused, or that fails.
-use crate::scenes::each;
+use crate::scenes::{Rows, hold};
+
+/// The rows, each text under what it shows.
+static ROWS: [Rows; 1] = [("people are told what to do", HURT)];
+
+#[test]
+fn rows_hold(rt: HostRuntime) {
+    hold(&rt, &ROWS);
+}
 
 /// REQUESTS has two records of 127 bytes in a block: 1,400 want 700 blocks, of 720 that a file can have, and fewer than
 /// 664 are free.
@@ -49,8 +57,3 @@ tells DEVICE|ledger: a.d64: other error; copy it to another medium, check the co
 ends 3
 written
 ";
-
-#[test]
-fn people_are_told_what_to_do(rt: HostRuntime) {
-    each(&rt, HURT);
-}

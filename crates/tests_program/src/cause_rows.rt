@@ -1,5 +1,13 @@
 //! What the system said of a call that failed: a person reads it below the refusal.
-use crate::scenes::each;
+use crate::scenes::{Rows, hold};
+
+/// The rows, each text under what it shows.
+static ROWS: [Rows; 1] = [("people read what the system said", FAILED)];
+
+#[test]
+fn rows_hold(rt: HostRuntime) {
+    hold(&rt, &ROWS);
+}
 
 /// A till's first request is written to REQUESTS first, of which the first block is 17/2, and then to STOCK at 17/0. A
 /// sector has 256 bytes.
@@ -62,8 +70,3 @@ person ledger_cli serve --in-place a.d64
 tells DEVICE|ledger: a.d64: its name doesn't lead to the file that was opened, or that has another length|
 ends 3
 ";
-
-#[test]
-fn people_read_what_the_system_said(rt: HostRuntime) {
-    each(&rt, FAILED);
-}

@@ -1,5 +1,18 @@
 //! Files that are renamed and deleted on an image, and images of empty disks.
-use crate::scenes::each;
+use crate::scenes::{Rows, hold};
+
+/// The rows, each text under what it shows.
+static ROWS: [Rows; 4] = [
+    ("files are renamed", RENAMED),
+    ("files are deleted", DELETED),
+    ("files of a shop stay", SHOPS),
+    ("empty disks are made", NEW),
+];
+
+#[test]
+fn rows_hold(rt: HostRuntime) {
+    hold(&rt, &ROWS);
+}
 
 /// A file that is renamed: sixteen bytes of its entry. Each sector is brought to the disk before the next is written, and
 /// all before the first byte is read.
@@ -52,11 +65,6 @@ tells NO FILE|ledger: a.d64: it has no such file, but \"CARDS\" REL|
 ends 1
 ";
 
-#[test]
-fn files_are_renamed(rt: HostRuntime) {
-    each(&rt, RENAMED);
-}
-
 /// A file that is deleted: its type byte is 0, and then its two sectors are free in the map.
 const DELETED: &[u8] = b"
 $ ledger_cli make a.d64 CARDS --length 30
@@ -102,11 +110,6 @@ tells SHORT 17/0|
 ends 1
 ";
 
-#[test]
-fn files_are_deleted(rt: HostRuntime) {
-    each(&rt, DELETED);
-}
-
 /// The two files of a shop stay, also if a card of it is wrong. A file of another name is deleted.
 const SHOPS: &[u8] = b"
 person ledger_cli delete a.d64 STOCK
@@ -123,11 +126,6 @@ $ ledger_cli delete a.d64 STICK
 prints DELETED|
 written
 ";
-
-#[test]
-fn files_of_a_shop_stay(rt: HostRuntime) {
-    each(&rt, SHOPS);
-}
 
 /// An empty disk in a file that isn't there: 664 blocks are free, 683 sectors without the 19 of track 18.
 const NEW: &[u8] = b"
@@ -154,8 +152,3 @@ tells FILE|
 ends 3
 written
 ";
-
-#[test]
-fn empty_disks_are_made(rt: HostRuntime) {
-    each(&rt, NEW);
-}

@@ -1,5 +1,18 @@
 //! Scripts played by the whole program, what is shown then, and what is refused.
-use crate::scenes::each;
+use crate::scenes::{Rows, hold};
+
+/// The rows, each text under what it shows.
+static ROWS: [Rows; 4] = [
+    ("scripts are played", DAYS),
+    ("what is no shop is told", NO_SHOPS),
+    ("lines are served", SERVED),
+    ("faults are told", FAULTS),
+];
+
+#[test]
+fn rows_hold(rt: HostRuntime) {
+    hold(&rt, &ROWS);
+}
 
 /// Scripts on an empty shop, and what is shown of the image then. A repeat gets its answer, and so does the request before
 /// the last; power goes in a message, and in the recoveries after it.
@@ -36,11 +49,6 @@ size 174848
 $ ledger_cli show a.d64
 prints TOP 9256|CARD 42,120|TILL 1,1,S,42,120,DONE,120|
 ";
-
-#[test]
-fn scripts_are_played(rt: HostRuntime) {
-    each(&rt, DAYS);
-}
 
 /// Images that are no shop, neither shown nor served nor played on.
 const NO_SHOPS: &[u8] = b"
@@ -134,11 +142,6 @@ tells TWO INTENTS|
 ends 1
 ";
 
-#[test]
-fn what_is_no_shop_is_told(rt: HostRuntime) {
-    each(&rt, NO_SHOPS);
-}
-
 /// Messages as they come, and the replies, a write each: a repeat, a line that begins with `@`, an empty one, one that is
 /// too long. What lacks its end of line isn't handled.
 const SERVED: &[u8] = b"
@@ -151,11 +154,6 @@ pieces 5
 $ ledger_cli show a.d64
 prints TOP 9256|CARD 42,120|TILL 1,1,S,42,120,DONE,120|
 ";
-
-#[test]
-fn lines_are_served(rt: HostRuntime) {
-    each(&rt, SERVED);
-}
 
 /// A fault of the layout, a bad line, and no line at all.
 const FAULTS: &[u8] = b"
@@ -182,8 +180,3 @@ image
 script
 $ ledger_cli dry s.txt
 ";
-
-#[test]
-fn faults_are_told(rt: HostRuntime) {
-    each(&rt, FAULTS);
-}

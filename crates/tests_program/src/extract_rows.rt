@@ -1,5 +1,13 @@
 //! Files taken out of an image, to a folder that is made.
-use crate::scenes::each;
+use crate::scenes::{Rows, hold};
+
+/// The rows, each text under what it shows.
+static ROWS: [Rows; 1] = [("files are extracted", EXTRACTED)];
+
+#[test]
+fn rows_hold(rt: HostRuntime) {
+    hold(&rt, &ROWS);
+}
 
 /// A shop's two relative files, each with its records, and the index; a disk that is damaged; and what makes nothing.
 const EXTRACTED: &[u8] = b"
@@ -37,8 +45,3 @@ tells FILE|
 ends 3
 makes 5
 ";
-
-#[test]
-fn files_are_extracted(rt: HostRuntime) {
-    each(&rt, EXTRACTED);
-}

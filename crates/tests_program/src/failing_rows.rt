@@ -1,5 +1,17 @@
 //! Files and outputs that fail while a file is made, stored in or repaired.
-use crate::scenes::each;
+use crate::scenes::{Rows, hold};
+
+/// The rows, each text under what it shows.
+static ROWS: [Rows; 3] = [
+    ("stores that fail are told", UNSYNCED),
+    ("files that fail are told", BROKEN),
+    ("what was written stays", UNTOLD),
+];
+
+#[test]
+fn rows_hold(rt: HostRuntime) {
+    hold(&rt, &ROWS);
+}
 
 /// Stores in which a sync fails.
 const UNSYNCED: &[u8] = b"
@@ -24,11 +36,6 @@ ends 3
 written
 syncs 2
 ";
-
-#[test]
-fn stores_that_fail_are_told(rt: HostRuntime) {
-    each(&rt, UNSYNCED);
-}
 
 /// Files that take no more than some bytes.
 const BROKEN: &[u8] = b"
@@ -73,11 +80,6 @@ ends 3
 rewritten
 size 174848
 ";
-
-#[test]
-fn files_that_fail_are_told(rt: HostRuntime) {
-    each(&rt, BROKEN);
-}
 
 /// Each image stays as it was if the output takes nothing.
 const UNTOLD: &[u8] = b"
@@ -128,8 +130,3 @@ tells FILE|
 ends 3
 leaves the one aside
 ";
-
-#[test]
-fn what_was_written_stays(rt: HostRuntime) {
-    each(&rt, UNTOLD);
-}

@@ -1,5 +1,18 @@
 //! Files that are missing, that may not be written, that are folders, or that give their bytes once.
-use crate::scenes::each;
+use crate::scenes::{Rows, hold};
+
+/// The rows, each text under what it shows.
+static ROWS: [Rows; 4] = [
+    ("closed files are told", CLOSED),
+    ("an image replaces a file", REPLACED),
+    ("long scripts are read whole", LONG),
+    ("an image comes from standard input", FED),
+];
+
+#[test]
+fn rows_hold(rt: HostRuntime) {
+    hold(&rt, &ROWS);
+}
 
 /// Files that can't be opened, read or written.
 const CLOSED: &[u8] = b"
@@ -184,11 +197,6 @@ tells FILE|
 ends 3
 ";
 
-#[test]
-fn closed_files_are_told(rt: HostRuntime) {
-    each(&rt, CLOSED);
-}
-
 /// An image is made over what stood there as over nothing.
 const REPLACED: &[u8] = b"
 size 174848
@@ -217,11 +225,6 @@ ends 3
 written
 size 210000
 ";
-
-#[test]
-fn an_image_replaces_a_file(rt: HostRuntime) {
-    each(&rt, REPLACED);
-}
 
 /// Scripts that are longer than an image, read whole and once.
 const LONG: &[u8] = b"
@@ -270,11 +273,6 @@ written
 size 174848
 ";
 
-#[test]
-fn long_scripts_are_read_whole(rt: HostRuntime) {
-    each(&rt, LONG);
-}
-
 /// Images on standard input, of which some have another size.
 const FED: &[u8] = b"
 feed
@@ -305,8 +303,3 @@ $ ledger_cli check /dev/stdin
 tells IMAGE SIZE|
 ends 1
 ";
-
-#[test]
-fn an_image_comes_from_standard_input(rt: HostRuntime) {
-    each(&rt, FED);
-}

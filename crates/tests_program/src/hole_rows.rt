@@ -1,10 +1,23 @@
 //! Scripts of megabytes, records of each kind of length, images in other folders, outputs that falter once, and refusals
 //! whose explanation leaves a file as it is.
 use crate::comparing::same_at;
-use crate::scenes::{Scene, each, first_scene};
+use crate::scenes::{Rows, Scene, first_scene, hold};
 use ledger_jobs::{Job, do_job, end};
 use std::io::{self, ErrorKind, Write};
 use test_runtime::Runtime;
+
+/// The rows, each text under what it shows.
+static ROWS: [Rows; 4] = [
+    ("long records have their length", LENGTHS),
+    ("the folder of an image is synced", ELSEWHERE),
+    ("the root of an image is synced", AT_THE_ROOT),
+    ("explained refusals change no file", EXPLAINED),
+];
+
+#[test]
+fn rows_hold(rt: HostRuntime) {
+    hold(&rt, &ROWS);
+}
 
 /// A script of 3,300,000 bytes, of which only the first line is new: without a disk, on one, and with each sector synced.
 const DRY: &[u8] = b"
@@ -29,19 +42,20 @@ written
 synced
 ";
 
+// Each is a test of its own, which has 60 seconds.
 #[test]
 fn a_script_of_megabytes_is_run_dry(rt: HostRuntime) {
-    each(&rt, DRY);
+    hold(&rt, &[("run dry", DRY)]);
 }
 
 #[test]
 fn a_script_of_megabytes_is_played(rt: HostRuntime) {
-    each(&rt, PLAYED);
+    hold(&rt, &[("played", PLAYED)]);
 }
 
 #[test]
 fn a_script_of_megabytes_is_synced(rt: HostRuntime) {
-    each(&rt, SYNCED);
+    hold(&rt, &[("synced", SYNCED)]);
 }
 
 /// A block has 254 bytes.
@@ -58,11 +72,6 @@ written
 $ ledger_cli map a.d64
 prints ..LENGTH 253 RECORDS 1|OK|..
 ";
-
-#[test]
-fn long_records_have_their_length(rt: HostRuntime) {
-    each(&rt, LENGTHS);
-}
 
 /// The folder of an image is synced after each of its three syncs, and once more after the log's removal.
 const ELSEWHERE: &[u8] = b"
@@ -88,16 +97,6 @@ syncs 3
 folder-syncs 4
 ";
 
-#[test]
-fn the_folder_of_an_image_is_synced(rt: HostRuntime) {
-    each(&rt, ELSEWHERE);
-}
-
-#[test]
-fn the_root_of_an_image_is_synced(rt: HostRuntime) {
-    each(&rt, AT_THE_ROOT);
-}
-
 /// Refusals that a person reads more of: each file stays as it was, and none is made.
 const EXPLAINED: &[u8] = b"
 others alone
@@ -117,11 +116,6 @@ tells FILE EXISTS|ledger: a.d64: it or its log is there already; `format` withou
 ends 1
 logged
 ";
-
-#[test]
-fn explained_refusals_change_no_file(rt: HostRuntime) {
-    each(&rt, EXPLAINED);
-}
 
 /// What an output does at its first call.
 #[derive(Clone, Copy)]

@@ -2,7 +2,7 @@
 use test_runtime::Stored;
 
 /// Changes of an image: a name, the place of the bytes, and the bytes.
-const HURTS: [(&[u8], u64, &[u8]); 26] = [
+static HURTS: [(&[u8], u64, &[u8]); 26] = [
     // 17/0 links to itself.
     (b"LOOP", 86016, b"\x11\x00"),
     // Track 1 has a free sector too few in the map at 18/0.

@@ -1,5 +1,13 @@
 //! Standard input that fails while it is read.
-use crate::scenes::each;
+use crate::scenes::{Rows, hold};
+
+/// The rows, each text under what it shows.
+static ROWS: [Rows; 1] = [("an input that fails is told", FAILING)];
+
+#[test]
+fn rows_hold(rt: HostRuntime) {
+    hold(&rt, &ROWS);
+}
 
 /// The first line was handled, and its reply is handed on; a part of the second isn't. What is read whole before anything
 /// is done does nothing.
@@ -75,8 +83,3 @@ ends 3
 $ ledger_cli show a.d64
 prints TOP 9256|
 ";
-
-#[test]
-fn an_input_that_fails_is_told(rt: HostRuntime) {
-    each(&rt, FAILING);
-}

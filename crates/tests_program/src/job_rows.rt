@@ -1,6 +1,18 @@
 //! The words of the command line and the jobs that they ask for. If they ask for none, the number and the status of the
 //! fault.
-use crate::scenes::each;
+use crate::scenes::{Rows, hold};
+
+/// The rows, each text under what it shows.
+static ROWS: [Rows; 3] = [
+    ("words ask for a job", JOBS),
+    ("words ask for a job", FLAGS),
+    ("other words are refused", NO_JOBS),
+];
+
+#[test]
+fn rows_hold(rt: HostRuntime) {
+    hold(&rt, &ROWS);
+}
 
 /// Words, and their job: its subcommand, its image, and its script or records. Then its tills, the length of its records
 /// or how many bytes its name has, if it has them.
@@ -154,12 +166,6 @@ job ledger --explain list
 prints fault 1, status 2
 ";
 
-#[test]
-fn words_ask_for_a_job(rt: HostRuntime) {
-    each(&rt, JOBS);
-    each(&rt, FLAGS);
-}
-
 /// Words that ask for no job.
 const NO_JOBS: &[u8] = b"
 job ledger
@@ -271,8 +277,3 @@ prints fault 1, status 0
 job ledger format --help
 prints fault 1, status 0
 ";
-
-#[test]
-fn other_words_are_refused(rt: HostRuntime) {
-    each(&rt, NO_JOBS);
-}

@@ -1,5 +1,18 @@
 //! What a keeper asks of an image: its repair, what is taken out of it, and how it is drawn.
-use crate::scenes::each;
+use crate::scenes::{Rows, hold};
+
+/// The rows, each text under what it shows.
+static ROWS: [Rows; 4] = [
+    ("images are repaired", REPAIRED),
+    ("unowned sectors stay or are freed", UNOWNED),
+    ("files are taken out", TAKEN),
+    ("images are drawn", DRAWN),
+];
+
+#[test]
+fn rows_hold(rt: HostRuntime) {
+    hold(&rt, &ROWS);
+}
 
 /// Images that are repaired: each sector is synced before the next is written, and before the first is read.
 const REPAIRED: &[u8] = b"
@@ -61,11 +74,6 @@ reads-behind 1 sync
 size 174848
 ";
 
-#[test]
-fn images_are_repaired(rt: HostRuntime) {
-    each(&rt, REPAIRED);
-}
-
 /// Images with a sector that nobody owns, which stays or is freed, and what a person reads about it. Then a repair that
 /// writes nothing: it reads the image as `show` does, and ends as the other.
 const UNOWNED: &[u8] = b"
@@ -112,11 +120,6 @@ person ledger_cli repair a.d64
 tells FORMAT|ledger: a.d64: its format byte isn't $41; it may be no disk of the 1541|
 ends 1
 ";
-
-#[test]
-fn unowned_sectors_stay_or_are_freed(rt: HostRuntime) {
-    each(&rt, UNOWNED);
-}
 
 /// What is taken out of images. A sound disk needn't be clean; the layout is checked before the name.
 const TAKEN: &[u8] = b"
@@ -195,11 +198,6 @@ prints 2*\xff\
 \0\0\0\0\0\0\0\0\0\0\0\0\0\0\0\0\0\0\0\0\0\0\0\0\0\0\0\0\0\0\0\0\0\0\0\0\0\0\0\0\0\0
 ";
 
-#[test]
-fn files_are_taken_out(rt: HostRuntime) {
-    each(&rt, TAKEN);
-}
-
 /// What an image is drawn as: the first lines of a map if track 1 is free, and a page.
 const DRAWN: &[u8] = b"
 $ ledger_cli map a.d64
@@ -229,8 +227,3 @@ $ ledger_cli picture a.d64
 tells LAYOUT BADLINK 18/1|
 ends 1
 ";
-
-#[test]
-fn images_are_drawn(rt: HostRuntime) {
-    each(&rt, DRAWN);
-}

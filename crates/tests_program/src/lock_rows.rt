@@ -1,5 +1,17 @@
 //! Images that another program has, and images that can't be locked or read.
-use crate::scenes::each;
+use crate::scenes::{Rows, hold};
+
+/// The rows, each text under what it shows.
+static ROWS: [Rows; 3] = [
+    ("images in use are told", LOCKED),
+    ("images that cannot be locked or read stay", UNLOCKABLE),
+    ("images that cannot be locked or read stay", UNREADABLE),
+];
+
+#[test]
+fn rows_hold(rt: HostRuntime) {
+    hold(&rt, &ROWS);
+}
 
 /// Images that another program has.
 const LOCKED: &[u8] = b"
@@ -267,14 +279,3 @@ $ ledger_cli picture a.d64
 tells FILE|
 ends 3
 ";
-
-#[test]
-fn images_in_use_are_told(rt: HostRuntime) {
-    each(&rt, LOCKED);
-}
-
-#[test]
-fn images_that_cannot_be_locked_or_read_stay(rt: HostRuntime) {
-    each(&rt, UNLOCKABLE);
-    each(&rt, UNREADABLE);
-}

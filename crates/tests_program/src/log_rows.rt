@@ -1,5 +1,17 @@
 //! Shops that are served over a log, and what the words do beside one.
-use crate::scenes::each;
+use crate::scenes::{Rows, hold};
+
+/// The rows, each text under what it shows.
+static ROWS: [Rows; 3] = [
+    ("lines are served over a log", SERVED),
+    ("a log that stays has the shop", LEFT),
+    ("a log of no image is refused", REFUSED),
+];
+
+#[test]
+fn rows_hold(rt: HostRuntime) {
+    hold(&rt, &ROWS);
+}
 
 /// Replies are printed after the log has their lines, and the log is landed at the end.
 const SERVED: &[u8] = b"
@@ -42,11 +54,6 @@ input 1,1,S,1,5|
 $ ledger_cli serve a.d64
 prints 1,1,DONE,5|
 ";
-
-#[test]
-fn lines_are_served_over_a_log(rt: HostRuntime) {
-    each(&rt, SERVED);
-}
 
 /// A commit that fails isn't answered, and its log stays. The log has the shop from then on, and the next job that writes
 /// lands it.
@@ -113,11 +120,6 @@ $ ledger_cli serve a.d64
 tells FILE|
 ends 3
 ";
-
-#[test]
-fn a_log_that_stays_has_the_shop(rt: HostRuntime) {
-    each(&rt, LEFT);
-}
 
 /// A log that gives no image is refused by every word, and nothing is changed; but `format` removes it.
 const REFUSED: &[u8] = b"
@@ -205,8 +207,3 @@ tells IMAGE SIZE|
 ends 1
 logged
 ";
-
-#[test]
-fn a_log_of_no_image_is_refused(rt: HostRuntime) {
-    each(&rt, REFUSED);
-}

@@ -1,5 +1,17 @@
 //! Scripts that are played over a log.
-use crate::scenes::each;
+use crate::scenes::{Rows, hold};
+
+/// The rows, each text under what it shows.
+static ROWS: [Rows; 3] = [
+    ("a script is played over a log", PLAYED),
+    ("a play over a log is refused", REFUSED),
+    ("a play that fails leaves its shop", LEFT),
+];
+
+#[test]
+fn rows_hold(rt: HostRuntime) {
+    hold(&rt, &ROWS);
+}
 
 /// The replies and the image are those of `play`, and no log is left. A last line without LF counts.
 const PLAYED: &[u8] = b"
@@ -21,11 +33,6 @@ prints 30,SYNTAX ERROR,00,00|
 script
 $ ledger_cli play --log a.d64 s.txt
 ";
-
-#[test]
-fn a_script_is_played_over_a_log(rt: HostRuntime) {
-    each(&rt, PLAYED);
-}
 
 /// What is refused changes nothing: a line with a reset, an image of another size, and a log of no image.
 const REFUSED: &[u8] = b"
@@ -60,11 +67,6 @@ tells IN USE|
 ends 3
 syncs 0
 ";
-
-#[test]
-fn a_play_over_a_log_is_refused(rt: HostRuntime) {
-    each(&rt, REFUSED);
-}
 
 /// A commit that fails isn't reported, and its log stays, as it does if the image goes from its name. The next play lands it.
 const LEFT: &[u8] = b"
@@ -101,8 +103,3 @@ $ ledger_cli play --log a.d64 s.txt
 prints 1,1,DONE,5|
 written
 ";
-
-#[test]
-fn a_play_that_fails_leaves_its_shop(rt: HostRuntime) {
-    each(&rt, LEFT);
-}

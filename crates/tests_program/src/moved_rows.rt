@@ -1,6 +1,18 @@
 //! Images that go from their names, or are cut, while they are served; images that are no regular files; and names of which
 //! a terminal would obey a part.
-use crate::scenes::each;
+use crate::scenes::{Rows, hold};
+
+/// The rows, each text under what it shows.
+static ROWS: [Rows; 3] = [
+    ("a file that goes is noticed", GONE),
+    ("what is no file is refused", NO_FILE),
+    ("a new image replaces nothing", NEW),
+];
+
+#[test]
+fn rows_hold(rt: HostRuntime) {
+    hold(&rt, &ROWS);
+}
 
 /// A name is looked at before its file is opened, once more after the lock, and then before each reply.
 const GONE: &[u8] = b"
@@ -58,11 +70,6 @@ $ ledger_cli serve --in-place a.d64
 prints 1,1,DONE,5|
 written
 ";
-
-#[test]
-fn a_file_that_goes_is_noticed(rt: HostRuntime) {
-    each(&rt, GONE);
-}
 
 /// What is no regular file is neither opened nor written, also to explain why.
 const NO_FILE: &[u8] = b"
@@ -130,11 +137,6 @@ tells FILE|ledger: standard output: no storage space|
 ends 3
 ";
 
-#[test]
-fn what_is_no_file_is_refused(rt: HostRuntime) {
-    each(&rt, NO_FILE);
-}
-
 /// A new image is made only under a name that is free.
 const NEW: &[u8] = b"
 $ ledger_cli format a.d64 --tills 2 --new
@@ -160,8 +162,3 @@ $ ledger_cli format a.d64 --tills 2 --new
 prints FORMATTED|
 leaves the shop
 ";
-
-#[test]
-fn a_new_image_replaces_nothing(rt: HostRuntime) {
-    each(&rt, NEW);
-}

@@ -1,12 +1,24 @@
 //! Outputs that are full, or don't hand on what they took, and image files that fail while they are written.
 ghost use Rattle.ledger_jobs.specs.Jobs.{IsFit};
 
-use crate::scenes::{each, first_scene};
+use crate::scenes::{Rows, first_scene, hold};
 use ledger_jobs::{Drawing, Effect, Findings, Job, Loss, Unowned, do_job, end};
 use shop_commands::NameForm;
 use std::io::{self, Write};
 use std::process::Abort;
 use test_runtime::Runtime;
+
+/// The rows, each text under what it shows.
+static ROWS: [Rows; 3] = [
+    ("full outputs are told", FULL),
+    ("files fail", BROKEN),
+    ("an image needs room", ROOM),
+];
+
+#[test]
+fn rows_hold(rt: HostRuntime) {
+    hold(&rt, &ROWS);
+}
 
 /// Outputs that are full. If two lines are of record 1, the last counts.
 const FULL: &[u8] = b"
@@ -141,11 +153,6 @@ tells FILE|
 ends 3
 ";
 
-#[test]
-fn full_outputs_are_told(rt: HostRuntime) {
-    each(&rt, FULL);
-}
-
 /// A writer that takes everything and hands nothing on.
 #[derive(Drop)]
 struct Kept(usize);
@@ -260,11 +267,6 @@ prints CUT|
 size 174848
 ";
 
-#[test]
-fn files_fail(rt: HostRuntime) {
-    each(&rt, BROKEN);
-}
-
 /// An image isn't made if no more than this is taken.
 const ROOM: &[u8] = b"
 no image
@@ -281,8 +283,3 @@ tells FILE|
 ends 3
 at-most 174847 bytes
 ";
-
-#[test]
-fn an_image_needs_room(rt: HostRuntime) {
-    each(&rt, ROOM);
-}

@@ -1,5 +1,17 @@
 //! Files that are put on the disk of an image.
-use crate::scenes::each;
+use crate::scenes::{Rows, hold};
+
+/// The rows, each text under what it shows.
+static ROWS: [Rows; 3] = [
+    ("files are put", PUT),
+    ("files are refused", NOT_PUT),
+    ("types are three", WORDS),
+];
+
+#[test]
+fn rows_hold(rt: HostRuntime) {
+    hold(&rt, &ROWS);
+}
 
 /// A program of two bytes: its sector, the map and the directory are written, each synced before the next.
 const PUT: &[u8] = b"
@@ -29,11 +41,6 @@ written
 $ ledger_cli bytes a.d64 LETTER
 prints 254*X
 ";
-
-#[test]
-fn files_are_put(rt: HostRuntime) {
-    each(&rt, PUT);
-}
 
 /// A name that a shop's file has, a file of a block too many, no file at all, and a disk that isn't whole. A fresh shop of
 /// this size has 660 blocks free, of 254 bytes each: 167,640 bytes.
@@ -71,11 +78,6 @@ ends 3
 written
 ";
 
-#[test]
-fn files_are_refused(rt: HostRuntime) {
-    each(&rt, NOT_PUT);
-}
-
 /// Words that ask for a file to be put there, and words of which one is no type or no name.
 const WORDS: &[u8] = b"
 job ledger put a.d64 GAME g.prg --type prg
@@ -93,8 +95,3 @@ prints fault 3, status 2
 job ledger put a.d64 GAME g
 prints fault 1, status 2
 ";
-
-#[test]
-fn types_are_three(rt: HostRuntime) {
-    each(&rt, WORDS);
-}

@@ -1,5 +1,16 @@
 //! Which refusal is reported if several would be right.
-use crate::scenes::each;
+use crate::scenes::{Rows, hold};
+
+/// The rows, each text under what it shows.
+static ROWS: [Rows; 2] = [
+    ("the first fault is told", OF_STORE),
+    ("the first fault is told", OF_OTHERS),
+];
+
+#[test]
+fn rows_hold(rt: HostRuntime) {
+    hold(&rt, &ROWS);
+}
 
 /// Refusals of an image of another size, and of records whose first line is none. Each row has a fault less than the one
 /// before.
@@ -83,9 +94,3 @@ $ ledger_cli picture a.d64
 tells FILE|
 ends 3
 ";
-
-#[test]
-fn the_first_fault_is_told(rt: HostRuntime) {
-    each(&rt, OF_STORE);
-    each(&rt, OF_OTHERS);
-}

@@ -1,6 +1,18 @@
 //! Each subcommand by `job` and `run`, as another program calls them: the status, the lines on both outputs, and what is
 //! left of the file. The values are those of the commands' own rows.
-use crate::scenes::each;
+use crate::scenes::{Rows, hold};
+
+/// The rows, each text under what it shows.
+static ROWS: [Rows; 3] = [
+    ("jobs that write are run", WRITING),
+    ("jobs that read are run", READING),
+    ("refused words are numbered", REFUSED),
+];
+
+#[test]
+fn rows_hold(rt: HostRuntime) {
+    hold(&rt, &ROWS);
+}
 
 /// Jobs that write a.d64. What `run` says of a file's end is seen of one that is longer than an image.
 const WRITING: &[u8] = b"
@@ -106,11 +118,6 @@ tells RECORDS LINE 2|
 ends 1
 ";
 
-#[test]
-fn jobs_that_write_are_run(rt: HostRuntime) {
-    each(&rt, WRITING);
-}
-
 /// Jobs that read.
 const READING: &[u8] = b"
 no script
@@ -181,11 +188,6 @@ run ledger dry s.txt
 prints 1,1,DONE,4|1,2,72,DISK FULL|
 ";
 
-#[test]
-fn jobs_that_read_are_run(rt: HostRuntime) {
-    each(&rt, READING);
-}
-
 /// Words that ask for no job: its fault's number and status.
 const REFUSED: &[u8] = b"
 run ledger list
@@ -207,8 +209,3 @@ run ledger make a.d64 A --length 255
 tells fault 4
 ends 2
 ";
-
-#[test]
-fn refused_words_are_numbered(rt: HostRuntime) {
-    each(&rt, REFUSED);
-}

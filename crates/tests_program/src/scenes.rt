@@ -199,8 +199,11 @@ fn holds(scene: &Scene, line: &[u8]) -> bool {
         || is_told(scene) && finds(scene, word, text)
 }
 
+/// Rows, under what they show.
+pub(crate) type Rows = (&'static str, &'static [u8]);
+
 /// Checks that each line of these rows holds.
-fn each_line(rt: &impl Abort, scene: &Scene, rows: &[u8]) {
+fn each_line(rt: &impl Abort, scene: &Scene, (shows, rows): Rows) {
     for line in rows.split(|byte| *byte == b'\n') {
         let holds = line.starts_with(b"#") || holds(scene, line);
         match (scene.memory.out.try_borrow(), scene.memory.err.try_borrow()) {
@@ -208,7 +211,7 @@ fn each_line(rt: &impl Abort, scene: &Scene, rows: &[u8]) {
                 let left = (text_in(out.as_slice()), text_in(err.as_slice()));
                 assert!(rt;
                     holds,
-                    "{:?}: printed, told, ended {:?} {}",
+                    "{shows}: {:?}: printed, told, ended {:?} {}",
                     text_in(line),
                     left,
                     scene.memory.status.get()
@@ -241,11 +244,13 @@ pub(crate) fn first_scene(rt: &(impl AllocGlobal + Abort)) -> Scene {
         written: Cell::new(false),
         told: Cell::new(true),
     };
-    each_line(rt, &scene, SHOP);
+    each_line(rt, &scene, ("the shop of most rows", SHOP));
     scene
 }
 
 /// Checks that these rows hold.
-pub(crate) fn each(rt: &(impl AllocGlobal + Abort), rows: &[u8]) {
-    each_line(rt, &first_scene(rt), rows);
+pub(crate) fn hold(rt: &(impl AllocGlobal + Abort), rows: &[Rows]) {
+    for rows in rows {
+        each_line(rt, &first_scene(rt), *rows);
+    }
 }

@@ -1,5 +1,18 @@
 //! What is asked of several images: each line begins with the name of the image that it is about.
-use crate::scenes::each;
+use crate::scenes::{Rows, hold};
+
+/// The rows, each text under what it shows.
+static ROWS: [Rows; 4] = [
+    ("several images are judged", CHECKED),
+    ("several images are shown", SHOWN),
+    ("images are described", DESCRIBED),
+    ("several images are asked for", ASKED),
+];
+
+#[test]
+fn rows_hold(rt: HostRuntime) {
+    hold(&rt, &ROWS);
+}
 
 /// Images that are checked, with those that can't be.
 const CHECKED: &[u8] = b"
@@ -39,11 +52,6 @@ prints a.d64: OK|b.d64: FILE|
 ends 3
 ";
 
-#[test]
-fn several_images_are_judged(rt: HostRuntime) {
-    each(&rt, CHECKED);
-}
-
 /// Images that are listed and drawn; a name with a control character; and an output that fails.
 const SHOWN: &[u8] = b"
 $ ledger_cli list a.d64 b.d64
@@ -65,11 +73,6 @@ tells FILE|
 ends 3
 ";
 
-#[test]
-fn several_images_are_shown(rt: HostRuntime) {
-    each(&rt, SHOWN);
-}
-
 /// Images that are described by objects, with those that can't be; a fault with its file; and an output that fails.
 const DESCRIBED: &[u8] = b"
 $ ledger_cli check --json a.d64
@@ -89,11 +92,6 @@ $ ledger_cli check --json a.d64 a.d64
 tells FILE|
 ends 3
 ";
-
-#[test]
-fn images_are_described(rt: HostRuntime) {
-    each(&rt, DESCRIBED);
-}
 
 /// The jobs that words with several images ask for; `run` has the bytes of only one.
 const ASKED: &[u8] = b"
@@ -117,8 +115,3 @@ run ledger check a.d64 a.d64
 tells FILE|
 ends 3
 ";
-
-#[test]
-fn several_images_are_asked_for(rt: HostRuntime) {
-    each(&rt, ASKED);
-}

@@ -1,5 +1,17 @@
 //! Images drawn on a contact sheet, two images compared, and what is refused of several images that are to be drawn.
-use crate::scenes::each;
+use crate::scenes::{Rows, hold};
+
+/// The rows, each text under what it shows.
+static ROWS: [Rows; 3] = [
+    ("two images are compared", COMPARED),
+    ("sheets are drawn", DRAWN),
+    ("too many images are refused", ASKED),
+];
+
+#[test]
+fn rows_hold(rt: HostRuntime) {
+    hold(&rt, &ROWS);
+}
 
 /// Sheets of images, also of those that can't be read; the status is the greatest of theirs.
 const DRAWN: &[u8] = b"
@@ -61,16 +73,6 @@ tells IMAGE SIZE|
 ends 1
 ";
 
-#[test]
-fn two_images_are_compared(rt: HostRuntime) {
-    each(&rt, COMPARED);
-}
-
-#[test]
-fn sheets_are_drawn(rt: HostRuntime) {
-    each(&rt, DRAWN);
-}
-
 /// The jobs that words ask for, too many images, and two forms at once.
 const ASKED: &[u8] = b"
 job ledger picture --sheet a.d64 b.d64
@@ -108,8 +110,3 @@ $ ledger_cli picture --sheet --compare a.d64 a.d64
 tells IMAGES|
 ends 2
 ";
-
-#[test]
-fn too_many_images_are_refused(rt: HostRuntime) {
-    each(&rt, ASKED);
-}

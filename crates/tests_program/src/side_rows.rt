@@ -1,5 +1,16 @@
 //! Side sectors that are built anew by `repair --sides`. STOCK has the block 17/0 and the side sector 17/1.
-use crate::scenes::each;
+use crate::scenes::{Rows, hold};
+
+/// The rows, each text under what it shows.
+static ROWS: [Rows; 2] = [
+    ("side sectors are built anew", WRITTEN),
+    ("side sectors are built anew in memory", PRINTED),
+];
+
+#[test]
+fn rows_hold(rt: HostRuntime) {
+    hold(&rt, &ROWS);
+}
 
 /// Images that are repaired: each sector is synced before the next is written, and before the first is read. Then those
 /// that are refused. They have a loop, or a file that was cut short: its entry counts two blocks more than there are, and
@@ -112,11 +123,6 @@ tells IMAGE SIZE|
 ends 1
 ";
 
-#[test]
-fn side_sectors_are_built_anew(rt: HostRuntime) {
-    each(&rt, WRITTEN);
-}
-
 /// What is printed alone, of images that aren't written.
 const PRINTED: &[u8] = b"
 hurt SIDE LOST
@@ -136,8 +142,3 @@ $ ledger_cli repair --sides --dry-run a.d64
 tells LAYOUT BADSIDE 17/1|
 ends 1
 ";
-
-#[test]
-fn side_sectors_are_built_anew_in_memory(rt: HostRuntime) {
-    each(&rt, PRINTED);
-}

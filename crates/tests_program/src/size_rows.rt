@@ -1,5 +1,16 @@
 //! Images of another size.
-use crate::scenes::each;
+use crate::scenes::{Rows, hold};
+
+/// The rows, each text under what it shows.
+static ROWS: [Rows; 2] = [
+    ("another size is told", SIZES),
+    ("a person is told the format", FORMATS),
+];
+
+#[test]
+fn rows_hold(rt: HostRuntime) {
+    hold(&rt, &ROWS);
+}
 
 /// Images of another size, refused by each job and left as they are.
 const SIZES: &[u8] = b"
@@ -188,11 +199,6 @@ tells IMAGE SIZE|
 ends 1
 ";
 
-#[test]
-fn another_size_is_told(rt: HostRuntime) {
-    each(&rt, SIZES);
-}
-
 /// 683 blocks of 256 bytes, less one byte; and one error byte for each block. 40 tracks have 85 blocks more: five tracks
 /// of 17. The last row is D71's 70 tracks.
 const FORMATS: &[u8] = b"
@@ -221,8 +227,3 @@ person ledger_cli check a.d64
 tells IMAGE SIZE|ledger: a.d64 has 349696 bytes; an image of 35 tracks without error bytes has 174848|
 ends 1
 ";
-
-#[test]
-fn a_person_is_told_the_format(rt: HostRuntime) {
-    each(&rt, FORMATS);
-}

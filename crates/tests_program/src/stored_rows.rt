@@ -1,5 +1,18 @@
 //! Relative files that are made on an image, and records that are stored in them.
-use crate::scenes::each;
+use crate::scenes::{Rows, hold};
+
+/// The rows, each text under what it shows.
+static ROWS: [Rows; 4] = [
+    ("files are made", MADE),
+    ("records are stored", STORED),
+    ("bad records are refused", REFUSED),
+    ("full disks are told", CROWDED),
+];
+
+#[test]
+fn rows_hold(rt: HostRuntime) {
+    hold(&rt, &ROWS);
+}
 
 /// Files that are made, and why they aren't: the layout is checked before the name. Each sector is synced before the next
 /// is written, and all before the first byte is read.
@@ -60,11 +73,6 @@ synced
 reads-behind 1 sync
 ";
 
-#[test]
-fn files_are_made(rt: HostRuntime) {
-    each(&rt, MADE);
-}
-
 /// Records that are stored.
 const STORED: &[u8] = b"
 # The shop has the file CARDS, of records of 30 bytes.
@@ -101,11 +109,6 @@ $ ledger_cli store a.d64 CARDS /dev/stdin
 prints 8,\"EGGS\"|2,\"MILK\\0d\"|
 leaves the one aside
 ";
-
-#[test]
-fn records_are_stored(rt: HostRuntime) {
-    each(&rt, STORED);
-}
 
 /// Records that are refused, in CARDS and where there is no such file.
 const REFUSED: &[u8] = b"
@@ -178,11 +181,6 @@ script
 $ ledger_cli store a.d64 CARDS s.txt
 ";
 
-#[test]
-fn bad_records_are_refused(rt: HostRuntime) {
-    each(&rt, REFUSED);
-}
-
 /// What a full disk is asked for: a new file, one that is there, a block more.
 const CROWDED: &[u8] = b"
 # CARDS has all blocks that were free: 654, and six side sectors.
@@ -212,8 +210,3 @@ $ ledger_cli store a.d64 CARDS s.txt
 tells DISK FULL|
 ends 1
 ";
-
-#[test]
-fn full_disks_are_told(rt: HostRuntime) {
-    each(&rt, CROWDED);
-}

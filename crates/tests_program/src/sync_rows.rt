@@ -1,5 +1,16 @@
 //! Images that are synced.
-use crate::scenes::each;
+use crate::scenes::{Rows, hold};
+
+/// The rows, each text under what it shows.
+static ROWS: [Rows; 2] = [
+    ("a play is brought to the disk", SYNCED),
+    ("a made image is on the disk", MADE),
+];
+
+#[test]
+fn rows_hold(rt: HostRuntime) {
+    hold(&rt, &ROWS);
+}
 
 /// When plays and shops that are served sync an image: at the end, or before the first write and after each. If a sync
 /// fails, a play of these messages gives the answer then.
@@ -105,11 +116,6 @@ $ ledger_cli play --sync a.d64 s.txt
 syncs 1
 ";
 
-#[test]
-fn a_play_is_brought_to_the_disk(rt: HostRuntime) {
-    each(&rt, SYNCED);
-}
-
 /// An image is synced with its folder before the program prints that it is made. One that can't be synced isn't called
 /// made.
 const MADE: &[u8] = b"
@@ -158,8 +164,3 @@ ends 3
 written
 size 91904
 ";
-
-#[test]
-fn a_made_image_is_on_the_disk(rt: HostRuntime) {
-    each(&rt, MADE);
-}

@@ -1,5 +1,20 @@
 //! What a person at a terminal reads below a refusal.
-use crate::scenes::each;
+use crate::scenes::{Rows, hold};
+
+/// The rows, each text under what it shows.
+static ROWS: [Rows; 6] = [
+    ("paths are shown without controls", SHOWN),
+    ("the second line is asked for", EXPLAINED),
+    ("people are told more", TOLD),
+    ("people are told of shops", OF_A_SHOP),
+    ("people are told what is replaced", REPLACED),
+    ("who waits is told how far it is", LINES),
+];
+
+#[test]
+fn rows_hold(rt: HostRuntime) {
+    hold(&rt, &ROWS);
+}
 
 /// What is printed about files and words.
 const TOLD: &[u8] = b"
@@ -99,11 +114,6 @@ tells FILE|ledger: \xc3\xa4\\u{9b}\\u{202e}.d64: entity not found|
 ends 3
 ";
 
-#[test]
-fn paths_are_shown_without_controls(rt: HostRuntime) {
-    each(&rt, SHOWN);
-}
-
 /// A person who reads it later asks for the second line.
 const EXPLAINED: &[u8] = b"
 no script
@@ -124,16 +134,6 @@ $ ledger_cli format a.d64 --tills 65 --explain
 tells TILLS|ledger: T is 1 to 64|
 ends 2
 ";
-
-#[test]
-fn the_second_line_is_asked_for(rt: HostRuntime) {
-    each(&rt, EXPLAINED);
-}
-
-#[test]
-fn people_are_told_more(rt: HostRuntime) {
-    each(&rt, TOLD);
-}
 
 /// What is printed about a shop.
 const OF_A_SHOP: &[u8] = b"
@@ -180,11 +180,6 @@ prints MADE|
 written
 ";
 
-#[test]
-fn people_are_told_of_shops(rt: HostRuntime) {
-    each(&rt, OF_A_SHOP);
-}
-
 /// What is printed about a file that is made anew, over another one if it is there.
 const REPLACED: &[u8] = b"
 no script
@@ -206,11 +201,6 @@ $ ledger_cli format a.d64 --tills 2
 prints FORMATTED|
 written
 ";
-
-#[test]
-fn people_are_told_what_is_replaced(rt: HostRuntime) {
-    each(&rt, REPLACED);
-}
 
 /// A person who waits reads how far it is.
 const LINES: &[u8] = b"
@@ -238,8 +228,3 @@ tells FILE|ledger: standard output: no storage space|
 ends 3
 written
 ";
-
-#[test]
-fn who_waits_is_told_how_far_it_is(rt: HostRuntime) {
-    each(&rt, LINES);
-}

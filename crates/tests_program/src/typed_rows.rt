@@ -1,5 +1,17 @@
 //! Numbers and names that the command line refuses.
-use crate::scenes::each;
+use crate::scenes::{Rows, hold};
+
+/// The rows, each text under what it shows.
+static ROWS: [Rows; 3] = [
+    ("tills are one to sixty four", NO_TILLS),
+    ("names are texts", NO_NAMES),
+    ("records have one to 254 bytes", NO_LENGTHS),
+];
+
+#[test]
+fn rows_hold(rt: HostRuntime) {
+    hold(&rt, &ROWS);
+}
 
 /// Words of which one is no number of tills.
 const NO_TILLS: &[u8] = b"
@@ -22,11 +34,6 @@ prints fault 2, status 2
 job ledger format a.d64 --tills 4294967297
 prints fault 2, status 2
 ";
-
-#[test]
-fn tills_are_one_to_sixty_four(rt: HostRuntime) {
-    each(&rt, NO_TILLS);
-}
 
 /// Capital digits, a plain byte in digits, a quotation mark, a digit too few, a shifted space at the end, seventeen
 /// bytes, no plain text. The name is checked before the length.
@@ -89,11 +96,6 @@ job ledger bytes a.d64 \xc3\xa9
 prints fault 3, status 2
 ";
 
-#[test]
-fn names_are_texts(rt: HostRuntime) {
-    each(&rt, NO_NAMES);
-}
-
 /// Words of which one is no length of records.
 const NO_LENGTHS: &[u8] = b"
 job ledger make a.d64 A --length 0
@@ -123,8 +125,3 @@ prints fault 7, status 2
 job ledger new a.d64 --name A --id 123
 prints fault 7, status 2
 ";
-
-#[test]
-fn records_have_one_to_254_bytes(rt: HostRuntime) {
-    each(&rt, NO_LENGTHS);
-}

@@ -1,5 +1,13 @@
 //! Words with a value, a file or a name that there isn't: how the program ends, and that nothing is printed or changed.
-use crate::scenes::each;
+use crate::scenes::{Rows, hold};
+
+/// The rows, each text under what it shows.
+static ROWS: [Rows; 1] = [("wrong values are refused", WRONG)];
+
+#[test]
+fn rows_hold(rt: HostRuntime) {
+    hold(&rt, &ROWS);
+}
 
 /// Words, and how the program ends.
 const WRONG: &[u8] = b"
@@ -105,8 +113,3 @@ $ /usr/lib/ledger_cli check
 tells error: the following required arguments were not provided:|  <IMAGE>...||Usage: ledger check <IMAGE>...||For more information, try '--help'.|
 ends 2
 ";
-
-#[test]
-fn wrong_values_are_refused(rt: HostRuntime) {
-    each(&rt, WRONG);
-}

@@ -1,5 +1,16 @@
 //! What the program ends with, prints and reports of words that ask for nothing to be done.
-use crate::scenes::each;
+use crate::scenes::{Rows, hold};
+
+/// The rows, each text under what it shows.
+static ROWS: [Rows; 2] = [
+    ("words are told", TOLD),
+    ("help is printed and refusals are told", SAID),
+];
+
+#[test]
+fn rows_hold(rt: HostRuntime) {
+    hold(&rt, &ROWS);
+}
 
 /// Words, what is printed and reported if that is ours to say; no file is made.
 const TOLD: &[u8] = b"
@@ -175,11 +186,6 @@ ends 3
 size 0
 ";
 
-#[test]
-fn words_are_told(rt: HostRuntime) {
-    each(&rt, TOLD);
-}
-
 /// What stands somewhere in what is printed or reported.
 const SAID: &[u8] = b"
 no image
@@ -231,8 +237,3 @@ $ ledger_cli dry
 tells ..SCRIPT..
 ends 2
 ";
-
-#[test]
-fn help_is_printed_and_refusals_are_told(rt: HostRuntime) {
-    each(&rt, SAID);
-}

@@ -1,5 +1,16 @@
 //! Wrong command lines: what is reported of each first, with which status, and that nothing is printed or changed.
-use crate::scenes::each;
+use crate::scenes::{Rows, hold};
+
+/// The rows, each text under what it shows.
+static ROWS: [Rows; 2] = [
+    ("wrong words are refused", OF_SHOPS),
+    ("keepers wrong words are refused", OF_KEEPERS),
+];
+
+#[test]
+fn rows_hold(rt: HostRuntime) {
+    hold(&rt, &ROWS);
+}
 
 /// Wrong words of the program, and of the commands over a shop.
 const OF_SHOPS: &[u8] = b"
@@ -144,11 +155,6 @@ tells error: unexpected argument 'b.d64' found|..
 ends 2
 ";
 
-#[test]
-fn wrong_words_are_refused(rt: HostRuntime) {
-    each(&rt, OF_SHOPS);
-}
-
 /// Wrong words of the commands for keepers of disks.
 const OF_KEEPERS: &[u8] = b"
 $ ledger_cli list
@@ -247,8 +253,3 @@ $ ledger_cli picture a.d64 --sync
 tells error: unexpected argument '--sync' found|..
 ends 2
 ";
-
-#[test]
-fn keepers_wrong_words_are_refused(rt: HostRuntime) {
-    each(&rt, OF_KEEPERS);
-}

@@ -23,7 +23,7 @@ struct Asked {
 }
 
 /// A first set that takes a block, and whose card lies in two.
-const SET: Asked = Asked {
+static SET: Asked = Asked {
     before: b"",
     message: b"1,1,S,15,7",
     reply: b"1,1,DONE,7",
@@ -42,7 +42,7 @@ const SET: Asked = Asked {
 };
 
 /// One that takes a block and a side sector, STOCK having 120 blocks.
-const SIDE: Asked = Asked {
+static SIDE: Asked = Asked {
     before: b"1,1,S,1693,1\n",
     message: b"1,2,S,1694,2",
     reply: b"1,2,DONE,2",
@@ -62,7 +62,7 @@ const SIDE: Asked = Asked {
 };
 
 /// A move between a card in one block and one in two.
-const MOVE: Asked = Asked {
+static MOVE: Asked = Asked {
     before: b"1,1,S,1,10\n1,2,S,15,3\n",
     message: b"1,3,M,1,4,15",
     reply: b"1,3,DONE,6,7",
@@ -77,7 +77,7 @@ const MOVE: Asked = Asked {
 };
 
 /// A refusal.
-const REFUSED: Asked = Asked {
+static REFUSED: Asked = Asked {
     before: b"",
     message: b"1,1,R,7,5",
     reply: b"1,1,NO CARD",

@@ -13,12 +13,17 @@ use layout_check::{check, survey};
 use rel_records::{RelFile, find};
 use std::process::Abort;
 
+/// A disk of zeros.
+pub(crate) fn zeroed(rt: &(impl Abort + AllocGlobal)) -> MemDisk {
+    MemDisk::zeroed(rt.alloc()).expect(rt, "a disk of zeros")
+}
+
 /// The blank disk for so many tills.
 pub(crate) fn blank(rt: &(impl Abort + AllocGlobal), tills: u8) -> MemDisk
     requires some { 1 ≤ tills }
     requires few { tills ≤ 64 }
 {
-    let mut disk = MemDisk::zeroed(rt.alloc()).expect(rt, "a disk of zeros");
+    let mut disk = zeroed(rt);
     blank_image(&mut disk, b"STOCK LEDGER", *b"01", tills).expect(rt, "a blank disk");
     disk
 }
@@ -133,7 +138,7 @@ pub(crate) fn stands(
 pub(crate) type Change = (u8, u8, u8, usize, &'static [u8]);
 
 /// As many as a sector has.
-const ZEROS: [u8; 256] = [0; 256];
+static ZEROS: [u8; 256] = [0; 256];
 
 /// An open intent of version 1, as it stands for till 1.
 pub(crate) const INTENT: Change = (

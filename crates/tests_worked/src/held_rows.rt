@@ -21,7 +21,7 @@ struct Held {
     prior: Told,
 }
 
-const HELD: [Held; 6] = [
+static HELD: [Held; 6] = [
     Held {
         script: b"",
         card: (42, None),
@@ -78,18 +78,13 @@ fn tells(rt: &impl Abort, session: &Session<MemDisk>, row: &Held) {
     same(rt, nothing, (Ok(None), Ok(None), Ok(None)));
 }
 
-/// Opens the disk of each row's script.
-fn each_tells(rt: &(impl Abort + AllocGlobal), rows: &[Held]) {
-    for row in rows {
-        let session = open(rt, after(rt, row.script));
-        tells(rt, &session, row);
-        session.close();
-    }
-}
-
 #[test]
 fn a_session_tells_what_it_holds(rt: HostRuntime) {
-    each_tells(&rt, &HELD);
+    for row in &HELD {
+        let session = open(&rt, after(&rt, row.script));
+        tells(&rt, &session, row);
+        session.close();
+    }
 }
 
 // REQUESTS takes 31 sectors more for 64 tills than for two.
@@ -103,7 +98,7 @@ fn tills_take_room(rt: HostRuntime) {
 /// What was played, a place, and the bytes that stand there.
 type Left = (&'static [u8], (u8, u8, u8), &'static [u8]);
 
-const BYTES: [Left; 13] = [
+static BYTES: [Left; 13] = [
     // A first set: a block more, a card in two blocks, the answer on the till's card.
     (b"1,1,S,15,7\n", (17, 0, 0), b"\x11\x04"),
     (b"1,1,S,15,7\n", (17, 0, 254), b"K,"),
@@ -132,14 +127,9 @@ const BYTES: [Left; 13] = [
     (b"1,1,S,9256,1\n", (18, 0, 140), b"\0\0\0\0"),
 ];
 
-/// Plays each row's script, and sees that its bytes stand there then.
-fn all_stand(rt: &(impl Abort + AllocGlobal), rows: &[Left]) {
-    for (script, place, bytes) in rows {
-        stands(rt, &after(rt, script), *place, bytes);
-    }
-}
-
 #[test]
 fn requests_leave_these_bytes(rt: HostRuntime) {
-    all_stand(&rt, &BYTES);
+    for (script, place, bytes) in &BYTES {
+        stands(&rt, &after(&rt, script), *place, bytes);
+    }
 }

@@ -25,7 +25,7 @@ const SECOND_OWNER: &[u8] =
 /// An image that isn't opened: a script that made the disk, what is changed on it, and what is reported.
 type Refused = (&'static [u8], &'static [Change], &'static [u8]);
 
-const REFUSED: [Refused; 16] = [
+static REFUSED: [Refused; 16] = [
     (
         b"1,1,S,1693,1\n1,2,S,1694,2\n",
         &[(14, 4, 6, 2, b"")],
@@ -102,19 +102,14 @@ fn is_told(rt: &(impl Abort + AllocGlobal), fault: OpenFault, text: &[u8]) {
     same_at(rt, told.as_bytes(), text, fault);
 }
 
-/// Checks that none of the images is opened, and what is reported of each.
-fn none_is_opened(rt: &(impl Abort + AllocGlobal), rows: &[Refused]) {
-    for (script, changes, told) in rows {
-        let disk = changed(after(rt, script), changes);
-        let fault = refused_image(rt, &disk, told);
-        is_told(rt, fault, told);
-        is_refused_mirror(rt, &disk, fault);
-    }
-}
-
 #[test]
 fn malicious_images_are_refused(rt: HostRuntime) {
-    none_is_opened(&rt, &REFUSED);
+    for (script, changes, told) in &REFUSED {
+        let disk = changed(after(&rt, script), changes);
+        let fault = refused_image(&rt, &disk, told);
+        is_told(&rt, fault, told);
+        is_refused_mirror(&rt, &disk, fault);
+    }
 }
 
 /// An image that is opened: what is changed on a blank disk, the writes of the opening, a message, its reply and
@@ -128,7 +123,7 @@ type Opened = (
     u16,
 );
 
-const OPENED: [Opened; 4] = [
+static OPENED: [Opened; 4] = [
     (
         &[(17, 0, 1, 1, b"")],
         0,
@@ -156,17 +151,17 @@ const OPENED: [Opened; 4] = [
     (&[INTENT], 2, b"1,1,S,1,5", b"1,1,DONE,5", 0, 9256),
 ];
 
-/// Checks that each of the images is opened, and what is reported and written then.
-fn each_is_opened(rt: &(impl Abort + AllocGlobal), rows: &[Opened]) {
-    for (changes, recovery, message, told, writes, top) in rows {
-        let disk = changed(fresh(rt), changes);
-        let (reply, last, first, second) = asked(rt, &disk, message);
-        same_at(rt, (last, first, second), (*top, *recovery, *writes), reply);
-        same_at(rt, says(reply, told), true, reply);
-    }
-}
-
 #[test]
 fn odd_images_are_opened(rt: HostRuntime) {
-    each_is_opened(&rt, &OPENED);
+    for (changes, recovery, message, told, writes, top) in &OPENED {
+        let disk = changed(fresh(&rt), changes);
+        let (reply, last, first, second) = asked(&rt, &disk, message);
+        same_at(
+            &rt,
+            (last, first, second),
+            (*top, *recovery, *writes),
+            reply,
+        );
+        same_at(&rt, says(reply, told), true, reply);
+    }
 }

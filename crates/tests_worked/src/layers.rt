@@ -6,7 +6,7 @@ mod chain_rows;
 mod check_rows;
 mod device_rows;
 mod directory_rows;
-mod disks;
+pub(crate) mod disks;
 mod drive_rows;
 mod drives;
 mod far_rows;

@@ -52,7 +52,7 @@ const OLD_LINES: &[Line<'static>] = &[
     (b"2,1,R,42,30", b"2,1,DONE,150", 0),
 ];
 
-const OPENINGS: [Opening; 7] = [
+static OPENINGS: [Opening; 7] = [
     Opening {
         shows: "each card of version 1 is written again",
         before: OLD_DAY,
@@ -140,16 +140,11 @@ fn opened_again(
     disk
 }
 
-/// Opens each row's disk, and plays its lines then.
-fn are_opened(rt: &(impl Abort + AllocGlobal), rows: &[Opening]) {
-    for row in rows {
-        let disk = changed(after(rt, row.before), row.changes);
-        let disk = opened_again(rt, disk, row.openings, row.shows);
-        is_played(rt, &disk, row.lines, row.shows);
-    }
-}
-
 #[test]
 fn changed_disks_are_opened(rt: HostRuntime) {
-    are_opened(&rt, &OPENINGS);
+    for row in &OPENINGS {
+        let disk = changed(after(&rt, row.before), row.changes);
+        let disk = opened_again(&rt, disk, row.openings, row.shows);
+        is_played(&rt, &disk, row.lines, row.shows);
+    }
 }

@@ -115,7 +115,7 @@ const CUT_AGAIN: [Line<'static>; 6] = [
 ];
 
 /// What each day shows.
-const DAYS: [(&str, &[Line<'static>]); 10] = [
+static DAYS: [(&str, &[Line<'static>]); 10] = [
     ("repeats", &REPEATS),
     ("cards", &CARDS),
     ("numbers", &NUMBERS),
@@ -128,14 +128,9 @@ const DAYS: [(&str, &[Line<'static>]); 10] = [
     ("cut again", &CUT_AGAIN),
 ];
 
-/// Plays each day on a blank disk.
-fn each_is_played(rt: &(impl Abort + AllocGlobal), days: &[(&str, &[Line<'static>])]) {
-    for (shows, lines) in days {
-        is_played(rt, &fresh(rt), lines, shows);
-    }
-}
-
 #[test]
 fn days_are_played(rt: HostRuntime) {
-    each_is_played(&rt, &DAYS);
+    for (shows, lines) in &DAYS {
+        is_played(&rt, &fresh(&rt), lines, shows);
+    }
 }

@@ -52,7 +52,7 @@ fn a_dead_session_writes_nothing(rt: HostRuntime) {
 /// answered.
 type Stopped = (u32, usize, &'static [Line<'static>]);
 
-const STOPPED: [Stopped; 4] = [
+static STOPPED: [Stopped; 4] = [
     (1, 1, &[(b"1,1,S,1,0", b"1,1,MEDIA", 0), (b"x", b"", 0)]),
     (
         14,
@@ -100,25 +100,21 @@ fn events_stop(
     fuse.into_inner()
 }
 
-/// Checks that each row's lines are stopped at this point on a blank disk, and leave one disk as a script and as events.
-fn are_stopped(rt: &(impl Abort + AllocGlobal), rows: &[Stopped]) {
-    for &(power, count, lines) in rows {
-        let wanted = replies_of(rt, lines.get(..count).unwrap_or(lines));
-        let left = script_stops(rt, power, lines, wanted.as_slice());
-        let again = events_stop(rt, power, lines, wanted.as_slice());
-        holds(rt, again.bytes() == left.bytes(), power);
+// The device fails in a message or in a whole recovery: the reply is passed, and no line after it is handled. A script
+// and events give one result, and leave one disk.
+// Checks that each row's lines are stopped at this point on a blank disk, and leave one disk as a script and as events.
+#[test]
+fn a_device_that_fails_stops_a_run(rt: HostRuntime) {
+    for &(power, count, lines) in &STOPPED {
+        let wanted = replies_of(&rt, lines.get(..count).unwrap_or(lines));
+        let left = script_stops(&rt, power, lines, wanted.as_slice());
+        let again = events_stop(&rt, power, lines, wanted.as_slice());
+        holds(&rt, again.bytes() == left.bytes(), power);
     }
 }
 
-// The device fails in a message or in a whole recovery: the reply is passed, and no line after it is handled. A script
-// and events give one result, and leave one disk.
-#[test]
-fn a_device_that_fails_stops_a_run(rt: HostRuntime) {
-    are_stopped(&rt, &STOPPED);
-}
-
 /// Scripts with a bad line, and the first one's number.
-const BAD: [(&[u8], usize); 7] = [
+static BAD: [(&[u8], usize); 7] = [
     (b"1,1,S,1,0\n@x 1,1,S,1,0\n", 2),
     (b"@01 x\n", 1),
     (b"@100000 x\n", 1),

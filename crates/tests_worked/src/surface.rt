@@ -3,7 +3,6 @@
 
 mod cards;
 mod devices;
-mod disks;
 mod drives;
 mod layouts;
 mod relative_files;

@@ -59,7 +59,7 @@ fn is_made(
 }
 
 /// The bytes that are others once a file was put.
-const PUT: [(usize, &[u8]); 4] = [
+static PUT: [(usize, &[u8]); 4] = [
     (87_040, b"\0\x02A"),
     (91_460, b"\x10\xE0\xFF\x1F"),
     (91_714, b"\x82\x11\x04SIXTEEN LETTERS."),
@@ -67,9 +67,9 @@ const PUT: [(usize, &[u8]); 4] = [
 ];
 
 /// Those once STOCK was deleted, and once it was renamed.
-const DELETED: [(usize, &[u8]); 2] = [(91_650, b"\0"), (91_460, b"\x13\xF3\xFF\x1F")];
+static DELETED: [(usize, &[u8]); 2] = [(91_650, b"\0"), (91_460, b"\x13\xF3\xFF\x1F")];
 
-const RENAMED: [(usize, &[u8]); 1] = [(
+static RENAMED: [(usize, &[u8]); 1] = [(
     91_653,
     b"OLD\xA0\xA0\xA0\xA0\xA0\xA0\xA0\xA0\xA0\xA0\xA0\xA0\xA0",
 )];

@@ -5,7 +5,7 @@ use file_changes::{ChangeFault, rename};
 use std::process::Abort;
 
 /// Names of which the change is refused, and why.
-const REFUSED: [(&[u8], &[u8], ChangeFault); 4] = [
+static REFUSED: [(&[u8], &[u8], ChangeFault); 4] = [
     (b"GAME", b"OLD", ChangeFault::NotFound),
     (b"STOC", b"OLD", ChangeFault::NotFound),
     (b"STOCK", b"REQUESTS", ChangeFault::Exists),

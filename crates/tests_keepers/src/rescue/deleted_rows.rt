@@ -12,7 +12,7 @@ const DELETED: Choice = Choice {
 
 /// A deleted program of two blocks, 17/4 and 17/5; and a deleted file of the block 17/5. Then slots with type 0 that have
 /// no deleted entry: one without a name, one whose first block is no place, and one with only zeros.
-const SCRATCHED: [Written; 6] = [
+static SCRATCHED: [Written; 6] = [
     (
         18,
         1,
@@ -34,7 +34,7 @@ const SCRATCHED: [Written; 6] = [
 /// What changes that disk; the end of the index; how many files there are with the index; and the fault, as `fault_of` reads it.
 type Deleted = (Written, &'static [u8], usize, (u8, u8, u8));
 
-const DELETED_ROWS: [Deleted; 5] = [
+static DELETED_ROWS: [Deleted; 5] = [
     (
         SAME,
         b"\n3,\"03-OLD.del\",\"OLD\",\"OLD\",DEL,no,no,2,2,,256,,\n",

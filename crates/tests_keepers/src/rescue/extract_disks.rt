@@ -9,7 +9,7 @@ use std::process::Abort;
 pub(crate) type Written = (u8, u8, usize, &'static [u8]);
 
 /// A program of one block, and a locked relative file with records of two bytes, whose side sector is missing.
-pub(crate) const DISK: [Written; 5] = [
+pub(crate) static DISK: [Written; 5] = [
     (
         18,
         1,

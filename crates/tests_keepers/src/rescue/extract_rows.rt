@@ -11,7 +11,7 @@ const PLAIN: Choice = Choice {
 };
 
 /// The files of this disk before the index.
-const FILES: [(&[u8], &[u8]); 3] = [
+static FILES: [(&[u8], &[u8]); 3] = [
     (b"01-A__.prg", b"HI"),
     (b"02-__B.rel", b"ABC\x00D"),
     (b"02-__B.csv", b"1,\"AB\"\n2,\"C\"\n"),
@@ -21,7 +21,7 @@ const FILES: [(&[u8], &[u8]); 3] = [
 /// Then the fault, as `fault_of` reads it.
 type Row = (Written, &'static [u8], &'static [u8], (u8, u8, u8));
 
-const ROWS: [Row; 6] = [
+static ROWS: [Row; 6] = [
     (
         SAME,
         b"PRG,yes,no,1,1,,2,,\n",
@@ -93,18 +93,13 @@ fn has_index(rt: &(impl Abort + AllocGlobal), folder: &MemFolder, row: &Row) {
     same_at(rt, folder.files().len(), 4, change);
 }
 
-/// Checks that each row gives its index and its fault.
-fn are_extracted(rt: &(impl Abort + AllocGlobal), rows: &[Row]) {
-    for row in rows {
-        let (found, folder) = extracted(rt, PLAIN, &written(rt, &DISK, row.0));
-        same_at(rt, found, fault_of(row.3), row.0);
-        has_index(rt, &folder, row);
-    }
-}
-
 #[test]
 fn indexes_have_what_is_found(rt: HostRuntime) {
-    are_extracted(&rt, &ROWS);
+    for row in &ROWS {
+        let (found, folder) = extracted(&rt, PLAIN, &written(&rt, &DISK, row.0));
+        same_at(&rt, found, fault_of(row.3), row.0);
+        has_index(&rt, &folder, row);
+    }
 }
 
 /// Checks that the folder has these files first.

@@ -4,7 +4,7 @@ use record_columns::{Positions, push_pieces, write_pieces};
 use std::process::Abort;
 
 /// Lists, and whether they are positions: the first is 1, and each is greater than the one before.
-const LISTS: [(&[u8], bool); 7] = [
+static LISTS: [(&[u8], bool); 7] = [
     (&[1], true),
     (&[1, 25, 49], true),
     (&[1, 254], true),
@@ -18,14 +18,16 @@ const LISTS: [(&[u8], bool); 7] = [
 fn are_positions(rt: &impl Abort, rows: &[(&[u8], bool)]) {
     for &(list, good) in rows {
         let found = Positions::new(list);
-        let slice = found.as_ref().map(|found| found.as_slice());
-        same_at(rt, slice, if good { Some(list) } else { None }, list);
+        same_at(rt, found.is_some(), good, list);
+        if let Some(found) = found {
+            same_at(rt, found.as_slice(), list, list);
+        }
     }
 }
 
 /// Positions, a record, its columns, and its text: whole, shorter than a position, of nothing but zeros, with zeros and a
 /// carriage return within, with a comma and a quotation mark, with blanks.
-const RECORDS: [(&[u8], &[u8], &[u8], &[u8]); 7] = [
+static RECORDS: [(&[u8], &[u8], &[u8], &[u8]); 7] = [
     (
         &[1, 5],
         b"KING\0\x0042\0",
@@ -47,7 +49,7 @@ const RECORDS: [(&[u8], &[u8], &[u8], &[u8]); 7] = [
 
 /// Positions, columns as a spreadsheet saves them, and the text: without marks, fewer than the positions, as long as the
 /// room; and with a quotation mark, so that it is no text of bytes: too long, more columns, or ended within a byte.
-const JOINED: [(&[u8], &[u8], &[u8]); 9] = [
+static JOINED: [(&[u8], &[u8], &[u8]); 9] = [
     (&[1, 5], b"HE,42", b"HE\\00\\0042"),
     (&[1, 5], b"HE", b"HE"),
     (&[1, 3, 5], b"HE,42,", b"HE42"),

@@ -6,7 +6,7 @@ use std::process::Abort;
 
 /// A set, bytes, and their text without the marks. The bytes are: none, a mark and two of them, lines of a club's member,
 /// a heart and control codes, and what a field of a spreadsheet may have too.
-const TEXTS: [(CharacterSet, &[u8], &str); 6] = [
+static TEXTS: [(CharacterSet, &[u8], &str); 6] = [
     (CharacterSet::Mixed, b"", ""),
     (CharacterSet::Graphics, b"\"A\"\"", "\"\"A\"\"\"\""),
     (
@@ -23,18 +23,13 @@ const TEXTS: [(CharacterSet, &[u8], &str); 6] = [
     (CharacterSet::Mixed, b"A,\xFF'\xA0", "a,🮖'\u{a0}"),
 ];
 
-/// Checks that each is displayed so, and between marks.
-fn are_quoted(rt: &(impl Abort + AllocGlobal), rows: &[(CharacterSet, &[u8], &str)]) {
-    for &(set, bytes, wanted) in rows {
-        let text = format!(in rt.alloc(); "{}", OneLine { set, bytes }).expect(rt, "memory");
-        same_at(rt, text.as_str(), wanted, bytes);
-        let text = format!(in rt.alloc(); "{}", Quoted { set, bytes }).expect(rt, "memory");
-        let marked = format!(in rt.alloc(); "\"{wanted}\"").expect(rt, "memory");
-        same_at(rt, text.as_str(), marked.as_str(), bytes);
-    }
-}
-
 #[test]
 fn texts_are_quoted(rt: HostRuntime) {
-    are_quoted(&rt, &TEXTS);
+    for &(set, bytes, wanted) in &TEXTS {
+        let text = format!(in rt.alloc(); "{}", OneLine { set, bytes }).expect(&rt, "memory");
+        same_at(&rt, text.as_str(), wanted, bytes);
+        let text = format!(in rt.alloc(); "{}", Quoted { set, bytes }).expect(&rt, "memory");
+        let marked = format!(in rt.alloc(); "\"{wanted}\"").expect(&rt, "memory");
+        same_at(&rt, text.as_str(), marked.as_str(), bytes);
+    }
 }

@@ -20,7 +20,7 @@ type Links = &'static [(u8, u8, u8, u8)];
 /// Links, the entry's type byte and first block, the blocks that are reached, and the end. The entry is in 18/1.
 type Row = (Links, (u8, u8, u8), &'static [(u8, u8)], End);
 
-const ROWS: [Row; 12] = [
+static ROWS: [Row; 12] = [
     // two blocks, the last one used up to byte 4
     (
         &[(17, 6, 17, 7), (17, 7, 0, 4)],

@@ -12,7 +12,7 @@ const BOTH: Choice = Choice {
 
 /// What looks like a directory sector in 18/4, which no link reaches: a program of the block 17/9, and a deleted one of
 /// 17/10.
-const LOST: [Written; 4] = [
+static LOST: [Written; 4] = [
     (
         18,
         4,
@@ -39,7 +39,7 @@ const ALONE: &[u8] = b",yes,yes,3,1,2,5,,\n";
 /// What changes that disk, the end of the index, and the fault, as `fault_of` reads it.
 type Scanned = (Written, &'static [u8], (u8, u8, u8));
 
-const SCANNED_ROWS: [Scanned; 9] = [
+static SCANNED_ROWS: [Scanned; 9] = [
     (SAME, FOUND, (0, 0, 0)),
     // the directory's own fault is returned too
     ((18, 1, 0, b"\x12\x01"), FOUND, (2, 18, 1)),

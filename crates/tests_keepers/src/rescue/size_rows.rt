@@ -5,7 +5,7 @@ use disk_rescue::{error_at, first_tracks};
 use std::process::Abort;
 
 /// Sizes, and whether they are taken: the four, each with a byte more and one less, 42 tracks, and both other drives.
-const SIZES: [(usize, bool); 16] = [
+static SIZES: [(usize, bool); 16] = [
     (174_848, true),
     (174_847, false),
     (174_849, false),
@@ -58,7 +58,7 @@ fn are_taken(rt: &(impl Abort + AllocGlobal), rows: &[(usize, bool)]) {
 
 /// A size, a sector, the place of a byte, and the error that is reported if this byte is 5. It is the sector's error
 /// byte, or the image has none. 17/4 is sector 340, 35/16 the last of 683.
-const ERRORS: [(usize, (u8, u8), usize, Option<u8>); 7] = [
+static ERRORS: [(usize, (u8, u8), usize, Option<u8>); 7] = [
     (175_531, (1, 0), 174_848, Some(5)),
     (175_531, (17, 4), 175_188, Some(5)),
     (175_531, (35, 16), 175_530, Some(5)),

@@ -5,7 +5,7 @@ use std::process::Abort;
 
 /// A set, a byte, and the characters from that byte on: those that cc1541 4.0 prints, except for the bytes that the
 /// README of `petscii_text` lists. `tests/characters.py` compares the two again.
-const ROWS: [(CharacterSet, u8, &str); 10] = [
+static ROWS: [(CharacterSet, u8, &str); 10] = [
     (
         CharacterSet::Graphics,
         0x20,
@@ -83,7 +83,7 @@ fn characters(rt: HostRuntime) {
 
 /// A set, bytes, and the text that people read. The bytes are a record of a club's members in the mixed set, a line in
 /// the graphics set with a heart, and control codes.
-const TEXTS: [(CharacterSet, &[u8], &str); 5] = [
+static TEXTS: [(CharacterSet, &[u8], &str); 5] = [
     (CharacterSet::Mixed, b"", ""),
     (
         CharacterSet::Mixed,
@@ -95,21 +95,16 @@ const TEXTS: [(CharacterSet, &[u8], &str); 5] = [
     (CharacterSet::Graphics, b"\xFF\x5E\x5F\"", "π↑←\""),
 ];
 
-/// Checks that each is displayed so.
-fn are_read(rt: &(impl Abort + AllocGlobal), rows: &[(CharacterSet, &[u8], &str)]) {
-    for &(set, bytes, wanted) in rows {
-        let text = format!(in rt.alloc(); "{}", Readable { set, bytes }).expect(rt, "memory");
-        same_at(rt, text.as_str(), wanted, bytes);
+#[test]
+fn texts(rt: HostRuntime) {
+    for &(set, bytes, wanted) in &TEXTS {
+        let text = format!(in rt.alloc(); "{}", Readable { set, bytes }).expect(&rt, "memory");
+        same_at(&rt, text.as_str(), wanted, bytes);
     }
 }
 
-#[test]
-fn texts(rt: HostRuntime) {
-    are_read(&rt, &TEXTS);
-}
-
 /// An entry's number, name and ending, and the name of its file.
-const NAMES: [(u8, &[u8], Ending, &[u8]); 9] = [
+static NAMES: [(u8, &[u8], Ending, &[u8]); 9] = [
     (1, b"LETTER 02", Ending::Prg, b"01-LETTER 02.prg"),
     (99, b"", Ending::Del, b"99-.del"),
     (100, b"MEMBERS", Ending::Rel, b"100-MEMBERS.rel"),
@@ -142,7 +137,7 @@ fn are_named(rt: &impl Abort, rows: &[(u8, &[u8], Ending, &[u8])]) {
 }
 
 /// Type bytes and their endings: closed, open, locked, and of a type that there isn't.
-const TYPES: [(u8, Ending); 8] = [
+static TYPES: [(u8, Ending); 8] = [
     (0x80, Ending::Del),
     (0x01, Ending::Seq),
     (0x82, Ending::Prg),

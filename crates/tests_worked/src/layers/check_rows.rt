@@ -16,7 +16,7 @@ type Single = (
     bool,
 );
 
-const SINGLE: [Single; 12] = [
+static SINGLE: [Single; 12] = [
     (
         "a track's count",
         (18, 0),
@@ -126,19 +126,15 @@ fn is_told(rt: &(impl Abort + AllocGlobal), fault: Option<Fault>, text: &str, ro
     }
 }
 
-/// Checks what is reported of a fresh disk on which two bytes of a sector are these, and whether it is sound.
-fn each_is_told(rt: &(impl Abort + AllocGlobal), rows: &[Single]) {
-    for &(name, (track, number), first, second, text, sound) in rows {
-        let mut disk = fresh(rt);
-        change(&mut disk, at(track, number), first, second);
-        is_told(rt, check(&mut disk).err(), text, name);
-        same_at(rt, survey(&mut disk).is_ok(), sound, name);
-    }
-}
-
+// Checks what is reported of a fresh disk on which two bytes of a sector are these, and whether it is sound.
 #[test]
 fn single_faults(rt: HostRuntime) {
-    each_is_told(&rt, &SINGLE);
+    for &(name, (track, number), first, second, text, sound) in &SINGLE {
+        let mut disk = fresh(&rt);
+        change(&mut disk, at(track, number), first, second);
+        is_told(&rt, check(&mut disk).err(), text, name);
+        same_at(&rt, survey(&mut disk).is_ok(), sound, name);
+    }
 }
 
 /// Checks what the check of a disk reports.
@@ -178,7 +174,7 @@ fn one_sector_twice(rt: HostRuntime) {
 }
 
 /// Sectors, and whether they are owned on a fresh disk.
-const OWNED: [(u8, u8, bool); 6] = [
+static OWNED: [(u8, u8, bool); 6] = [
     (18, 0, true),
     (18, 1, true),
     (18, 2, false),

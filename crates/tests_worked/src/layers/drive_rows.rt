@@ -19,7 +19,7 @@ fn text<D: Sectors>(drive: &mut Drive<D>) -> Result<&'static str, Dead> {
 }
 
 /// A text of 19 letters is cut; records up to 10160 fit a file of 720 blocks of 18 bytes each; a file is made.
-const SESSION: [Row; 25] = [
+static SESSION: [Row; 25] = [
     (Call::Open(2, b"STOCK"), 0),
     (Call::Command(b"P\x62\x0F\x00\x01"), 50),
     (Call::Write(2, b"ABCDEFGHIJKLMNOPQRS"), 51),
@@ -60,10 +60,11 @@ fn switched_on(rt: &(impl Abort + AllocGlobal), calls: &[Row], writes: u64) -> M
 #[test]
 fn a_session_at_the_drive(rt: HostRuntime) {
     let mut disk = switched_on(&rt, &SESSION, 11);
-    same(&rt, check(&mut disk).map(|s| s.entries()), Ok(3));
+    let found = check(&mut disk).expect(&rt, "a clean disk");
+    same(&rt, found.entries(), 3);
 }
 
-const CHANNELS: [Row; 27] = [
+static CHANNELS: [Row; 27] = [
     (Call::Open(1, b"STOCK"), 70),
     (Call::Open(15, b"STOCK"), 70),
     (Call::Open(2, b"STOCK,L,\x00"), 30),
@@ -99,7 +100,7 @@ fn channels_texts_and_places(rt: HostRuntime) {
     session(&rt, counted(fresh(&rt)), &CHANNELS, 6);
 }
 
-const OF_A_WRONG_COUNT: [Row; 5] = [
+static OF_A_WRONG_COUNT: [Row; 5] = [
     (Call::Open(2, b"STOCK"), 71),
     (Call::Command(b"VALIDATE"), 0),
     (Call::Open(2, b"STOCK"), 0),
@@ -107,12 +108,12 @@ const OF_A_WRONG_COUNT: [Row; 5] = [
     (Call::Command(b"VALID"), 31),
 ];
 
-const OF_A_PROGRAM: [Row; 2] = [
+static OF_A_PROGRAM: [Row; 2] = [
     (Call::Open(2, b"STOCK,L,\x0C"), 64),
     (Call::Open(2, b"STOCK"), 62),
 ];
 
-const OF_A_BROKEN_CHAIN: [Row; 2] = [(Call::Command(b"V0"), 71), (Call::Open(2, b"STOCK"), 71)];
+static OF_A_BROKEN_CHAIN: [Row; 2] = [(Call::Command(b"V0"), 71), (Call::Open(2, b"STOCK"), 71)];
 
 // A wrong block count, a program of the name, and a chain that leaves the disk.
 #[test]
@@ -145,7 +146,7 @@ fn a_dead_drive(rt: HostRuntime) {
 }
 
 /// Both files are opened, the first made long.
-const OPENED: [Row; 6] = [
+static OPENED: [Row; 6] = [
     (Call::Open(2, b"STOCK"), 0),
     (Call::Command(b"P\x62\x28\x24"), 50),
     (Call::Write(2, b"K"), 0),
@@ -155,7 +156,7 @@ const OPENED: [Row; 6] = [
 ];
 
 /// Each is opened once more.
-const OPENED_AGAIN: [Row; 4] = [
+static OPENED_AGAIN: [Row; 4] = [
     (Call::Open(2, b"STOCK"), 0),
     (Call::Close(2), 0),
     (Call::Open(2, b"REQUESTS"), 0),

@@ -51,17 +51,8 @@ fn lead_to(rt: &impl Abort, drive: &mut Drive<Meter<MemDisk>>, state: State) {
     }
 }
 
-/// Tries each row over a drive of its own.
-fn each_row(rt: &(impl Abort + AllocGlobal), table: &[(State, Call<'_>, u8, u64)]) {
-    for &(state, call, status, writes) in table {
-        let mut drive = counted(disk_of(rt, state));
-        lead_to(rt, &mut drive, state);
-        session(rt, drive, &[(call, status)], writes);
-    }
-}
-
 /// The rows, in the order of `docs/DRIVE.md`: the state, the call, its status, and the sectors it writes.
-const ROWS: [(State, Call<'static>, u8, u64); 34] = [
+static ROWS: [(State, Call<'static>, u8, u64); 34] = [
     (State::Fresh, Call::Open(1, b"STOCK"), 70, 0),
     (State::Fresh, Call::Open(15, b"STOCK"), 70, 0),
     (State::Open, Call::Open(3, b"REQUESTS"), 70, 0),
@@ -100,5 +91,9 @@ const ROWS: [(State, Call<'static>, u8, u64); 34] = [
 
 #[test]
 fn each_row_of_the_table(rt: HostRuntime) {
-    each_row(&rt, &ROWS);
+    for &(state, call, status, writes) in &ROWS {
+        let mut drive = counted(disk_of(&rt, state));
+        lead_to(&rt, &mut drive, state);
+        session(&rt, drive, &[(call, status)], writes);
+    }
 }

@@ -11,7 +11,7 @@ use std::cell::Cell;
 use std::process::Abort;
 
 /// A line that is whole only with its second piece is in the batch of that. The last piece asks nothing new.
-const DAY: &[(&[u8], usize)] = &[
+static DAY: &[(&[u8], usize)] = &[
     (b"1,1,S,101,40\n1,2,I", 0),
     (b",101,5\n2,1,I,101,60\n", 12),
     (b"1,2,I,101,5\nnonsense\n9,1,I,101,1\n1,3,I,101", 37),
@@ -64,7 +64,7 @@ fn a_day_is_three_batches(rt: HostRuntime) {
     let mut out = Printer::new(Heard::new(Vec::new(rt.alloc()), 1000, &handed));
     let mut room = Room::new(rt.alloc()).expect(&rt, "there is memory");
     let end = serve_batches(disk, &mut log, &mut input, &mut out, &mut room);
-    let left = end.map_err(|e| e.0).expect(&rt, "served");
+    let left = end.ok().expect(&rt, "served");
     let out = out.into_inner();
     same(&rt, out.bytes.as_slice(), TOLD);
     same(&rt, out.times, 3);
@@ -110,7 +110,11 @@ fn an_output_that_fails_leaves_the_batch(rt: HostRuntime) {
     let mut out = Printer::new(Heard::new(Vec::new(rt.alloc()), 20, &handed));
     let mut room = Room::new(rt.alloc()).expect(&rt, "there is memory");
     let end = serve_batches(disk, &mut log, &mut input, &mut out, &mut room);
-    same(&rt, end.map_err(|e| e.0).err(), Some(LoopFault::Output));
+    let fault = match end {
+        Ok(_) => None,
+        Err((fault, _)) => Some(fault),
+    };
+    same(&rt, fault, Some(LoopFault::Output));
     same(
         &rt,
         out.into_inner().bytes.as_slice(),

@@ -1,6 +1,6 @@
 //! Places, images and devices.
 use crate::comparing::{byte_at, same};
-use crate::surface::disks::{at, zeroed};
+use crate::disks::{at, zeroed};
 use d64_image::{DeviceFault, Fuse, ImageFault, MemDisk, Meter, Mirror, OneFault, Place, Sectors};
 use std::io::Cursor;
 use std::process::Abort;

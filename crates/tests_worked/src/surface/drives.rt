@@ -1,6 +1,6 @@
 //! The drive: its channels, its commands and its status.
 use crate::comparing::{byte_at, same};
-use crate::surface::disks::fresh;
+use crate::disks::fresh;
 use arrayvec::ArrayVec;
 use d64_image::Sectors;
 use drive_channels::{Dead, Drive, Status};

@@ -1,20 +1,14 @@
 //! What lies on a disk and where, and its check and repair.
 use crate::comparing::same;
-use crate::surface::disks::{at, fresh};
+use crate::disks::{at, fresh};
+use crate::layers::disks::sector;
 use arrayvec::ArrayVec;
-use d64_image::{Place, Sectors};
+use d64_image::Place;
 use disk_layout::{
     Bam, BamView, DirView, Fault, SideView, Slot, read_directory, side_bytes, walk_chain,
 };
 use layout_check::{Survey, check, repair, survey};
 use std::process::Abort;
-
-/// The bytes of a sector.
-fn sector<D: Sectors>(disk: &mut D, place: Place) -> [u8; 256] {
-    let mut bytes = [0; 256];
-    let _ = disk.read(place, &mut bytes);
-    bytes
-}
 
 // STOCK and REQUESTS have 17/0 to 17/3.
 #[test]

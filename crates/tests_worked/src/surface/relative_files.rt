@@ -1,39 +1,12 @@
 //! Relative files of a clean disk.
-ghost use Rattle.d64_image.specs.Memory.{disk_image};
-ghost use Rattle.disk_layout.specs.Clean.{IsClean};
-ghost use Rattle.rel_records.specs.File.{IsOf};
-
 use crate::comparing::{byte_at, same};
-use crate::surface::disks::fresh;
+use crate::disks::{clean, found, fresh};
 use arrayvec::ArrayVec;
 use d64_image::MemDisk;
-use layout_check::check;
 use rel_records::{
     RelFault, RelFile, create, find, grow_to, read_record, record_parts, records, write_record,
 };
 use std::process::Abort;
-
-/// Checks that the disk is clean.
-fn clean(rt: &impl Abort, disk: &mut MemDisk)
-    ensures { IsClean (disk_image disk.new) }
-{
-    match check(disk) {
-        Ok(_) => {}
-        Err(fault) => panic!(rt; "the disk isn't clean: {fault:?}"),
-    }
-}
-
-/// The file of this name, of a clean disk.
-fn found(rt: &impl Abort, disk: &mut MemDisk, name: &[u8]) -> RelFile
-    ensures clean { IsClean (disk_image disk.new) }
-    ensures of { IsOf (disk_image disk.new) result }
-{
-    clean(rt, disk);
-    match find(disk, name) {
-        Ok(file) => file,
-        Err(fault) => panic!(rt; "the file isn't found: {fault:?}"),
-    }
-}
 
 /// Writes record 3 of a file, and reads it: how many records there were and are, and the record's text.
 fn third(rt: &impl Abort, disk: &mut MemDisk, name: &[u8]) -> (u32, u32, Result<(), RelFault>, u8) {

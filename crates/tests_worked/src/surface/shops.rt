@@ -1,25 +1,17 @@
 //! Shops: opened, asked, and played with resets.
 use crate::comparing::same;
-use crate::surface::disks::{at, fresh};
+use crate::disks::{at, fresh};
+use crate::sessions::open;
 use arrayvec::ArrayVec;
 use d64_image::{MemDisk, Sectors};
 use disk_layout::Fault;
 use drive_channels::Dead;
 use host_session::{Cut, Event, OpenFault, PlayFault, ScriptFault, Session, play, run_script};
 use request_cards::{Answer, Reply, Request};
-use std::process::Abort;
-
-/// The session on a disk that is opened.
-fn opened(rt: &impl Abort, disk: MemDisk) -> Session<MemDisk> {
-    match Session::open(disk) {
-        Ok(session) => session,
-        Err((fault, _)) => panic!(rt; "the disk isn't opened: {fault:?}"),
-    }
-}
 
 #[test]
 fn a_session_is_asked(rt: HostRuntime) {
-    let mut session = opened(&rt, fresh(&rt));
+    let mut session: Session<MemDisk> = open(&rt, fresh(&rt));
     same(&rt, (session.top(), session.tills()), (9256, 2));
     let reply: Reply = session.handle(b"1,1,S,42,120");
     same(&rt, reply.print().as_slice(), b"1,1,DONE,120".as_slice());
