@@ -7,7 +7,7 @@ use Rattle.std.proofs.lemmas.List.{append_cancel_right, length-append}
 use Rattle.byte_text.specs.Texts.{byte_text, digit, is_plain, text_of}
 use Rattle.byte_text.specs.Lines.{IsLineOf, IsQuoted, has_comma}
 use Rattle.request_cards.proofs.Fields.{before_read, before_spells}
-use Rattle.request_cards.specs.Reading.{number_before}
+use Rattle.request_cards.specs.Numbers.{number_before}
 
 -- what stands behind the number of a record's line
 pub record IsBehindNumber (line : List ℕ) (n : ℕ) (bytes : List ℕ) : Type 0 where

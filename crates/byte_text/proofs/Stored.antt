@@ -7,7 +7,7 @@ use Rattle.byte_text.proofs.Texts.{one-text}
 use Rattle.byte_text.specs.Texts.{kept_before, record_line, text_of, trimmed}
 use Rattle.byte_text.proofs.Behind.{behind-number, no-mark}
 use Rattle.byte_text.specs.Lines.{IsLineOf, IsQuoted, padded}
-use Rattle.request_cards.specs.Reading.{number_before}
+use Rattle.request_cards.specs.Numbers.{number_before}
 
 pub line-of : (n : ℕ) (r line : List ℕ) → line ++ 10 ∷ [] ≡ record_line n r → IsLineOf line n (trimmed r)
 unfolding record_line

@@ -1,6 +1,6 @@
 //! The numbers that the words give.
 ghost use Rattle.std.specs.Prelude.{◌≡◌, ◌≤◌, IfSome};
-ghost use Rattle.request_cards.specs.Reading.{number_in};
+ghost use Rattle.request_cards.specs.Numbers.{number_in};
 ghost use Rattle.rel_records.specs.File.{IsLength};
 ghost use Rattle.command_line.specs.Numbers.{place_if_both, spelled_place};
 

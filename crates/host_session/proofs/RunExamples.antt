@@ -4,7 +4,8 @@ use Rattle.std.specs.Prelude.{codes}
 use Rattle.std.specs.Fmt.{digits}
 use Rattle.request_cards.specs.declared.kind.Kind.TheVariants.{Receive, Issue, Set}
 use Rattle.request_cards.specs.Requests.{Ask}
-use Rattle.request_cards.specs.Reading.{number_in, number_before, kind_of, kind_before, amounts, request_of}
+use Rattle.request_cards.specs.Reading.{kind_of, kind_before, amounts, request_of}
+use Rattle.request_cards.specs.Numbers.{number_in, number_before}
 use Rattle.request_cards.specs.Ledgers.{Start, nothing, plain, report}
 use Rattle.host_session.specs.events.Counted.{IsCounted, answers}
 use Rattle.host_session.specs.events.Events.{messages_of}

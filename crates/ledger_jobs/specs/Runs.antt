@@ -5,7 +5,7 @@ use Rattle.d64_image.specs.Keeps.{Keeps}
 use Rattle.d64_image.specs.Memory.{sectors_in}
 use Rattle.disk_layout.specs.declared.faults.Fault.{Fault}
 use Rattle.host_session.specs.events.Telling.{Output}
-use Rattle.shop_commands.specs.Images.{IsCheckFault, IsListFault, IsListed, IsVerdict}
+use Rattle.shop_commands.specs.Listings.{IsCheckFault, IsListFault, IsListed, IsVerdict}
 use Rattle.shop_commands.specs.Plays.{IsFileFault, IsPlayedFile}
 use Rattle.shop_commands.specs.Shops.{IsShowFault, IsShown}
 use Rattle.script_lines.specs.Lines.{first_reset, lines}

@@ -4,7 +4,8 @@ use Rattle.std.specs.Prelude.{not, option_map}
 use Rattle.std.proofs.lemmas.Bool.Decides.{nat_tests}
 use Rattle.request_cards.specs.declared.kind.Kind.{Kind}
 use Rattle.request_cards.specs.declared.kind.Kind.TheVariants.{Receive, Issue, Set, Move}
-use Rattle.request_cards.specs.Reading.{amounts, number_before, number_in}
+use Rattle.request_cards.specs.Reading.{amounts}
+use Rattle.request_cards.specs.Numbers.{number_before, number_in}
 use Rattle.request_cards.specs.Requests.{may_go_to, same_kind}
 
 -- of a kind that moves nothing

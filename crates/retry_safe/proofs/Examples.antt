@@ -10,7 +10,8 @@ use Rattle.request_cards.specs.declared.kind.Kind.TheVariants.{Receive}
 use Rattle.request_cards.specs.declared.reply.Reply.TheVariants.{Cut, Told}
 use Rattle.request_cards.specs.declared.reply.Word.TheVariants.{Kept, Media}
 use Rattle.request_cards.specs.Ledgers.{nothing, plain}
-use Rattle.request_cards.specs.Reading.{amounts, kind_before, kind_of, number_before, number_in, request_of}
+use Rattle.request_cards.specs.Reading.{amounts, kind_before, kind_of, request_of}
+use Rattle.request_cards.specs.Numbers.{number_before, number_in}
 use Rattle.request_cards.specs.Requests.{Ask}
 use Rattle.retry_safe.specs.Left.{IsReceived}
 use Rattle.retry_safe.specs.Turns.{Answered, CountsOnce, EachTurn, IsAnswer, NoneOfTill, Turn, counted_in}

@@ -36,7 +36,7 @@ use Rattle.std.proofs.lemmas.Bool.Decides.{eqb_tells}
 use Rattle.std.specs.Str.Parse.{AllDigits}
 use Rattle.std.proofs.lemmas.Fmt.{decimal_is_IsNumeral}
 use Rattle.std.proofs.lemmas.Str.Parse.{digit_from_value}
-use Rattle.request_cards.specs.Reading.{cut_at, number_in, ◌>>=◌}
+use Rattle.request_cards.specs.Numbers.{cut_at, number_in, ◌>>=◌}
 use Rattle.request_cards.proofs.Fields.{Lacks, bind_ok, cut_at_field, cut_at_joins, if_some}
 use Rattle.request_cards.proofs.Fields.{number_in_found, number_in_spells}
 use Rattle.script_lines.specs.Lines.{onto_first, split}

@@ -24,7 +24,7 @@ use Rattle.std.proofs.Common.{
 }
 use Rattle.std.proofs.Math.Seq.{split_at}
 use Rattle.std.proofs.lemmas.List.Elements.{recursion_from_All, All-from_get_or}
-use Rattle.request_cards.specs.Reading.{cut_at}
+use Rattle.request_cards.specs.Numbers.{cut_at}
 use Rattle.request_cards.proofs.Fields.{cut_at_field}
 use Rattle.script_lines.specs.Lines.{split}
 use Rattle.script_lines.proofs.Lines.{Lacks, lacks_before, split_piece, split_whole}

@@ -24,7 +24,7 @@ use Rattle.std.proofs.Common.{
   OnOk,
 }
 use Rattle.std.specs.Prelude.{is_err}
-use Rattle.request_cards.specs.Reading.{cut_at, number_in, ◌>>=◌}
+use Rattle.request_cards.specs.Numbers.{cut_at, number_in, ◌>>=◌}
 use Rattle.script_lines.specs.Lines.{split}
 use Rattle.script_lines.specs.Resets.{Line, counts_of, reset_with, reset_of, line_of}
 

@@ -24,7 +24,7 @@ use Rattle.std.specs.Prelude.{
   nat_le,
 }
 use Rattle.std.specs.List.{AllByRecursion}
-use Rattle.request_cards.specs.Reading.{cut_at, number_in, ◌>>=◌}
+use Rattle.request_cards.specs.Numbers.{cut_at, number_in, ◌>>=◌}
 use Rattle.script_lines.specs.declared.events.Event.{Event}
 use Rattle.script_lines.specs.Lines.{split}
 

@@ -1,6 +1,6 @@
 //! Lines with a reset: `@k`, up to eight times `/m`, a space, and any message.
 ghost use Rattle.std.specs.Prelude.{◌≡◌, ◌<◌, ◌∷◌, IfSome, length, option_map};
-ghost use Rattle.request_cards.specs.Reading.{cut_at};
+ghost use Rattle.request_cards.specs.Numbers.{cut_at};
 ghost use Rattle.script_lines.specs.Lines.{lines, split};
 ghost use Rattle.script_lines.specs.Resets.{fields_left, first_bad, line_in, line_of, reset_of};
 

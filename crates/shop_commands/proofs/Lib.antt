@@ -11,6 +11,7 @@ mod Kept
 mod KeptOn
 mod KeptSectors
 mod KeptSizes
+pub mod ListingExamples
 pub mod Listings
 pub mod PlayEnds
 pub mod Replies

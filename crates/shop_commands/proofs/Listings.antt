@@ -14,7 +14,7 @@ use Rattle.disk_layout.specs.Layout.{count_field}
 use Rattle.disk_layout.specs.View.{IsUnpadded, blocks_free}
 use Rattle.disk_layout.specs.declared.slot.Slot.{Slot}
 use Rattle.command_faults.specs.Faults.{IsLoadFault}
-use Rattle.shop_commands.specs.Images.{HasDirectory, IsListFault, IsListed}
+use Rattle.shop_commands.specs.Listings.{HasDirectory, IsListFault, IsListed}
 use Rattle.command_faults.specs.declared.faults.CommandFault.{CommandFault}
 use Rattle.command_faults.specs.declared.faults.CommandFault.TheVariants as faults
 use Rattle.shop_commands.specs.declared.texts.NameForm.{NameForm}

@@ -1,5 +1,5 @@
--- The numbers and exit statuses of what the commands refuse (our own).
-use Rattle.std.specs.Prelude.{◌≡◌, ℕ, Option, Some, None}
+-- The numbers, exit statuses and texts of what the commands refuse (our own).
+use Rattle.std.specs.Prelude.{◌≡◌, ◌++◌, ℕ, List, Option, Some, None, codes, decimal}
 use Rattle.host_session.specs.declared.faults.OpenFault.{OpenFault}
 use Rattle.host_session.specs.declared.faults.OpenFault.TheVariants as opening
 use Rattle.host_session.specs.declared.runs.scripts.ScriptFault.{ScriptFault}
@@ -40,3 +40,8 @@ script_fault (script.Open fault) = opening_fault fault
 script_fault (script.BadLine line) = faults.ScriptLine line
 script_fault script.Output = faults.File
 script_fault script.Device = faults.Device
+
+-- why a script isn't played
+abbrev pub dry_text : DryFault → List ℕ
+dry_text (dry.BadLine line) = codes "SCRIPT LINE " ++ decimal line
+dry_text dry.Output = codes "FILE"

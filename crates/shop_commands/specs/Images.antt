@@ -1,23 +1,15 @@
--- What the commands over an image make and find. The names of a fresh disk are our own.
-use Rattle.std.specs.Prelude.{◌≡◌, ◌≢◌, ◌⊎◌, ℕ, List, None, Option, Some, Err, Ok, Result, codes, length, slice_index}
+-- What making a shop's image comes to. The names of a fresh disk are our own.
+use Rattle.std.specs.Prelude.{◌≡◌, ◌⊎◌, ℕ, List, Option, Some, Err, Ok, Result, codes, length, slice_index}
 use Rattle.std.specs.Io.KnownBytes.{Appends}
 use Rattle.d64_image.specs.Images.{Image, IsImage, sector}
 use Rattle.d64_image.specs.Memory.{bytes_of, sectors_in}
 use Rattle.d64_image.specs.declared.place.Place.{Place}
 use Rattle.disk_layout.specs.Blank.{IsBlank}
-use Rattle.disk_layout.specs.Directory.{IsDirectory, map_place}
-use Rattle.disk_layout.specs.Clean.{IsClean}
-use Rattle.disk_layout.specs.Fault.{HoldsOfClean, HoldsOfDirectory, nowhere}
 use Rattle.disk_layout.specs.Whole.{IsWhole}
-use Rattle.disk_layout.specs.declared.faults.Fault.{Fault}
-use Rattle.disk_layout.specs.declared.slot.Slot.{Slot}
 use Rattle.host_session.specs.runs.Outputs.{AppendsPart}
 use Rattle.system_files.specs.Remains.{Remains}
 use Rattle.system_files.specs.Replacing.{IsNoDisk, NowAll, Since}
-use Rattle.shop_commands.specs.Texts.{listing}
-use Rattle.command_faults.specs.Faults.{IsLoadFault}
 use Rattle.command_faults.specs.declared.faults.CommandFault.{CommandFault}
-use Rattle.shop_commands.specs.declared.texts.NameForm.{NameForm}
 use Rattle.command_faults.specs.declared.faults.CommandFault.TheVariants as faults
 
 -- every byte of the image is 0
@@ -85,40 +77,6 @@ IsFormatted into contents tills file new_file old new (Err faults.File) =
     IsFormattedPart into contents tills file new_file old new
 IsFormatted into contents tills file new_file old new (Err faults.NoMemory) = (new_file ≡ file) × (new ≡ old)
 IsFormatted into contents tills file new_file old new (Err _) = ⊥
-
--- the image's directory, of an image that has the size of a disk
-pub record HasDirectory (image : List ℕ) : Type 0 where
-  pub size : length image ≡ 174848
-  pub sectors : List Place
-  pub entries : List Slot
-  pub directory : IsDirectory (sectors_in image) sectors entries
-
--- the image was listed on an output that held `old` and holds `new`: it has a directory, and its listing was handed
--- over
-pub record IsListed {W : Type 0} (contents : W → Option (List ℕ)) (form : NameForm) (image : List ℕ) (old new : W)
-    : Type 0
-  where
-    pub listed : HasDirectory image
-    pub printed : Appends (contents old) (contents new)
-        (listing form (sector (sectors_in image) map_place) listed.entries)
-
--- why an image isn't listed: its size, a fault of its directory that holds, the output, or memory
-abbrev pub IsListFault : List ℕ → CommandFault → Type 0
-IsListFault image faults.ImageSize = length image ≢ 174848
-IsListFault image (faults.Layout fault) = (length image ≡ 174848) × HoldsOfDirectory nowhere (sectors_in image) fault
-IsListFault image faults.File = HasDirectory image
-IsListFault image faults.NoMemory = length image ≡ 174848
-IsListFault image _ = ⊥
-
--- what is said of an image: that it is clean, or a fault that holds of it
-abbrev pub IsVerdict : Image → Option Fault → Type 0
-IsVerdict img None = IsClean img
-IsVerdict img (Some fault) = HoldsOfClean nowhere img fault
-
--- why an image isn't checked: its size, the output, or memory
-abbrev pub IsCheckFault : List ℕ → CommandFault → Type 0
-IsCheckFault image faults.File = length image ≡ 174848
-IsCheckFault image fault = IsLoadFault image fault
 
 -- why no disk is made: the file or the output, or memory
 abbrev pub IsFormatFault : CommandFault → Type 0

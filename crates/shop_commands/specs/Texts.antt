@@ -11,15 +11,8 @@ use Rattle.disk_layout.specs.View.{blocks_free}
 use Rattle.disk_layout.specs.declared.faults.Fault.{Fault}
 use Rattle.disk_layout.specs.declared.slot.Slot.{Slot}
 use Rattle.quoted_text.specs.Quoted.{one_line}
-use Rattle.shop_commands.specs.declared.dry_run.DryFault.{DryFault}
-use Rattle.shop_commands.specs.declared.dry_run.DryFault.TheVariants as dry
 use Rattle.shop_commands.specs.declared.texts.NameForm.{NameForm}
 use Rattle.shop_commands.specs.declared.texts.NameForm.TheVariants as names
-
--- why a script isn't played
-abbrev pub dry_text : DryFault → List ℕ
-dry_text (dry.BadLine line) = codes "SCRIPT LINE " ++ decimal line
-dry_text dry.Output = codes "FILE"
 
 -- the line that a check prints: OK if nothing is wrong
 abbrev pub verdict_text : Option Fault → List ℕ

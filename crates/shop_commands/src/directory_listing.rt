@@ -4,7 +4,7 @@ ghost use Rattle.std.specs.Io.KnownBytes.{Appends};
 ghost use Rattle.d64_image.specs.Images.{sector};
 ghost use Rattle.d64_image.specs.Memory.{disk_image};
 ghost use Rattle.disk_layout.specs.Directory.{map_place as directory_map};
-ghost use Rattle.shop_commands.specs.Images.{IsListFault, IsListed};
+ghost use Rattle.shop_commands.specs.Listings.{IsListFault, IsListed};
 ghost use Rattle.shop_commands.specs.Texts.{entry_line, listing};
 ghost use Rattle.command_faults.specs.declared.faults.CommandFault.TheVariants as faults;
 

@@ -5,7 +5,7 @@ ghost use Rattle.request_cards.specs.Ledgers.{replies_from, report};
 ghost use Rattle.request_cards.specs.Tables.{IsWithin, held_by, limits_of};
 ghost use Rattle.shop_commands.specs.Faults.{IsDryFault, dry_number, dry_status};
 ghost use Rattle.script_lines.specs.Lines.{first_reset, lines};
-ghost use Rattle.shop_commands.specs.Texts.{dry_text};
+ghost use Rattle.shop_commands.specs.Faults.{dry_text};
 ghost use Rattle.shop_commands.specs.DryRuns.{dry_report, dry_start};
 
 use request_cards::Ledger;

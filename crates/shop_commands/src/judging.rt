@@ -3,7 +3,7 @@ ghost use Rattle.std.specs.Prelude.{◌≡◌, ◌≢◌, IfErr, IfOk, OnOk, len
 ghost use Rattle.std.specs.Io.KnownBytes.{Appends};
 ghost use Rattle.d64_image.specs.Memory.{disk_image, sectors_in};
 ghost use Rattle.disk_layout.specs.declared.faults.Fault.{Fault};
-ghost use Rattle.shop_commands.specs.Images.{IsCheckFault, IsVerdict};
+ghost use Rattle.shop_commands.specs.Listings.{IsCheckFault, IsVerdict};
 ghost use Rattle.shop_commands.specs.Texts.{verdict_text};
 ghost use Rattle.command_faults.specs.declared.faults.CommandFault.TheVariants as faults;
 

@@ -9,7 +9,7 @@ use Rattle.disk_layout.specs.Directory.{IsDirectory, map_place}
 use Rattle.disk_layout.specs.Fault.{HoldsOfDirectory, nowhere}
 use Rattle.disk_layout.specs.declared.slot.Slot.{Slot}
 use Rattle.shop_commands.proofs.Listings.{is-listed, load-listed}
-use Rattle.shop_commands.specs.Images.{HasDirectory, IsListFault}
+use Rattle.shop_commands.specs.Listings.{HasDirectory, IsListFault}
 use Rattle.shop_commands.proofs.directory_listing.list_image.Goals as goal
 
 abbrev has_directory : (image : List ℕ) (img : Image) (places : List Place) (slots : List Slot)
