@@ -1,5 +1,5 @@
 //! Bytes and texts handed to a writer.
-ghost use Rattle.std.specs.Prelude.{◌≡◌, IfErr, IfSome, OnErr, OnOk};
+ghost use Rattle.std.specs.Prelude.{◌≡◌, ◌++◌, IfErr, IfSome, OnErr, OnOk, codes};
 ghost use Rattle.std.specs.Io.KnownBytes.{Appends, Keeps};
 ghost use Rattle.command_faults.specs.Outputs.{HandsPart};
 ghost use Rattle.command_faults.specs.declared.faults.CommandFault.TheVariants as faults;
@@ -40,6 +40,18 @@ pub fn put_text<W: Write, T: Display + Drop>(out: &mut W, text: T) -> Result<(),
     ensures err { IfErr result (λ fault. fault ≡ faults.File) }
 {
     if write!(out, "{text}").is_err() {
+        return Err(CommandFault::File);
+    }
+    Ok(())
+}
+
+/// Prints this on a line of its own. `File` if the writer failed.
+pub fn put_line<W: Write, T: Display + Drop>(out: &mut W, text: T) -> Result<(), CommandFault>
+    ensures ok { OnOk result (IfSome (T.output text)
+        (λ text. Appends (W.contents out.old) (W.contents out.new) (text ++ codes "\n"))) }
+    ensures err { IfErr result (λ fault. fault ≡ faults.File) }
+{
+    if writeln!(out, "{text}").is_err() {
         return Err(CommandFault::File);
     }
     Ok(())

@@ -1,12 +1,11 @@
-//! Bytes and lines handed to a writer.
-ghost use Rattle.std.specs.Prelude.{◌≡◌, ◌++◌, IfErr, IfSome, OnOk, codes};
+//! Bytes handed to a writer.
+ghost use Rattle.std.specs.Prelude.{◌≡◌, IfErr, OnOk};
 ghost use Rattle.std.specs.Io.KnownBytes.{Appends};
 ghost use Rattle.host_session.specs.runs.Outputs.{AppendsPart};
 ghost use Rattle.command_faults.specs.declared.faults.CommandFault.TheVariants as faults;
 
 use command_faults::{CommandFault, flush};
 use host_session::write_whole;
-use std::fmt::Display;
 use std::io::Write;
 
 /// Passes all of these bytes to the writer, and flushes it. `File` if it failed; then it has the first of these bytes, or
@@ -20,16 +19,4 @@ pub fn put_whole<W: Write>(out: &mut W, bytes: &[u8]) -> Result<(), CommandFault
         Ok(()) => flush(out),
         Err(_) => Err(CommandFault::File),
     }
-}
-
-/// Prints this on a line of its own. `File` if the writer failed.
-pub fn put_line<W: Write, T: Display + Drop>(out: &mut W, text: T) -> Result<(), CommandFault>
-    ensures ok { OnOk result (IfSome (T.output text)
-        (λ text. Appends (W.contents out.old) (W.contents out.new) (text ++ codes "\n"))) }
-    ensures err { IfErr result (λ fault. fault ≡ faults.File) }
-{
-    if writeln!(out, "{text}").is_err() {
-        return Err(CommandFault::File);
-    }
-    Ok(())
 }

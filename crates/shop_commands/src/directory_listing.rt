@@ -8,10 +8,9 @@ ghost use Rattle.shop_commands.specs.Listings.{IsListFault, IsListed};
 ghost use Rattle.shop_commands.specs.Texts.{entry_line, listing};
 ghost use Rattle.command_faults.specs.declared.faults.CommandFault.TheVariants as faults;
 
-use crate::bytes::put_line;
 use crate::texts::{DiskText, EntryText, FreeText, NameForm};
 use arrayvec::ArrayVec;
-use command_faults::{CommandFault, flush, load};
+use command_faults::{CommandFault, flush, load, put_line};
 use d64_image::{MemDisk, Sectors};
 use disk_layout::{BamView, Slot, map_place, read_directory};
 use std::alloc::Global;

@@ -7,8 +7,7 @@ ghost use Rattle.shop_commands.specs.Listings.{IsCheckFault, IsVerdict};
 ghost use Rattle.shop_commands.specs.Texts.{verdict_text};
 ghost use Rattle.command_faults.specs.declared.faults.CommandFault.TheVariants as faults;
 
-use crate::bytes::put_line;
-use command_faults::{CommandFault, flush, load};
+use command_faults::{CommandFault, flush, load, put_line};
 use d64_image::MemDisk;
 use disk_layout::Fault;
 use layout_check::check;

@@ -5,8 +5,7 @@ ghost use Rattle.shop_commands.specs.Shows.{card_line, card_part, told_line, tol
 ghost use Rattle.command_faults.specs.declared.faults.CommandFault.TheVariants as faults;
 ghost use Rattle.request_cards.specs.Texts.{answer_text};
 
-use crate::bytes::put_line;
-use command_faults::{CommandFault, put};
+use command_faults::{CommandFault, put, put_line};
 use itoa::write_digits;
 use request_cards::{Answer, Request, write_before};
 use std::fmt::{self, Display, Formatter};
