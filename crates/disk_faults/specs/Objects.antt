@@ -9,7 +9,7 @@ use Rattle.disk_layout.specs.declared.faults.Fault.{Fault}
 use Rattle.disk_layout.specs.declared.faults.Fault.TheVariants as faults
 use Rattle.disk_layout.specs.declared.slot.Slot.{Slot}
 use Rattle.disk_faults.specs.Json.{json_string}
-use Rattle.disk_entries.specs.Names.{disk_name, name_of}
+use Rattle.disk_rescue.specs.Names.{disk_name, name_of}
 
 -- where a fault is
 abbrev pub place_of : Fault → Place

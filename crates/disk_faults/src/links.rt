@@ -11,8 +11,8 @@ use crate::trail::Trail;
 use arrayvec::ArrayVec;
 use command_faults::CommandFault;
 use d64_image::MemDisk;
-use disk_entries::{DirectorySectors, read_so_far};
 use disk_layout::{Fault, Slot};
+use disk_rescue::{DirectorySectors, read_so_far};
 use layout_check::survey;
 use std::alloc::Global;
 

@@ -6,8 +6,8 @@ ghost use Rattle.disk_faults.specs.Objects.{object_text, place_of, refused_head,
 
 use crate::json::{put_string, put_typed};
 use d64_image::Place;
-use disk_entries::{disk_name, entry_name};
 use disk_layout::{BamView, Fault, Slot};
+use disk_rescue::{disk_name, entry_name};
 use std::io::{self, Write};
 
 /// Where a fault is.

@@ -6,7 +6,7 @@ use Rattle.disk_layout.specs.Directory.{type_byte}
 use Rattle.disk_layout.specs.Layout.{File, Layout, count_field}
 use Rattle.disk_layout.specs.declared.faults.Fault.{Fault}
 use Rattle.disk_pictures.specs.Html.{Show}
-use Rattle.disk_entries.specs.Names.{disk_name, name_of}
+use Rattle.disk_rescue.specs.Names.{disk_name, name_of}
 use Rattle.disk_pictures.specs.Pictures.{dashes}
 use Rattle.disk_pictures.specs.Posters.{line_start, poster_head, poster_legend, poster_line, poster_style, poster_text}
 use Rattle.disk_pictures.specs.Posters.{poster_told}

@@ -6,7 +6,7 @@ use Rattle.disk_layout.specs.Directory.{type_byte}
 use Rattle.disk_layout.specs.Layout.{File, Layout, count_field}
 use Rattle.disk_layout.specs.declared.faults.Fault.{Fault}
 use Rattle.disk_pictures.specs.Html.{html_of}
-use Rattle.disk_entries.specs.Names.{disk_name, name_of}
+use Rattle.disk_rescue.specs.Names.{disk_name, name_of}
 use Rattle.disk_pictures.specs.Petscii.{petscii_of}
 use Rattle.disk_pictures.specs.Pictures.{look}
 use Rattle.disk_pictures.specs.Posters.{line_left, line_start, line_top, poster_line, poster_told}

@@ -4,7 +4,7 @@ use Rattle.std.specs.Prelude.{codes, decimal}
 use Rattle.disk_layout.specs.Directory.{type_byte}
 use Rattle.disk_layout.specs.Layout.{File, count_field}
 use Rattle.disk_pictures.specs.Html.{html_of}
-use Rattle.disk_entries.specs.Names.{name_of}
+use Rattle.disk_rescue.specs.Names.{name_of}
 use Rattle.disk_pictures.specs.Petscii.{petscii_of}
 use Rattle.disk_pictures.specs.Pictures.{cells_text, link_text, look, row_text}
 use Rattle.disk_pictures.specs.Texts.{type_text}

@@ -6,7 +6,7 @@ use Rattle.d64_image.specs.Images.{Sector}
 use Rattle.disk_layout.specs.Layout.{Layout}
 use Rattle.disk_layout.specs.declared.faults.Fault.{Fault}
 use Rattle.disk_pictures.specs.Html.{Show}
-use Rattle.disk_entries.specs.Names.{disk_name}
+use Rattle.disk_rescue.specs.Names.{disk_name}
 use Rattle.disk_pictures.specs.Sheets.{caption, refused_head, refused_tile, small_drawing, tile_head, tile_text}
 use Rattle.disk_pictures.proofs.PageMarkup.{IsSameMarkup, before, behind, both}
 

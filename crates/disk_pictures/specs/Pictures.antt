@@ -13,7 +13,7 @@ use Rattle.disk_layout.specs.Texts.{fault_text, place_text}
 use Rattle.disk_layout.specs.declared.faults.Fault.{Fault}
 use Rattle.disk_pictures.specs.Drawings.{owner_of}
 use Rattle.disk_pictures.specs.Html.{Show, html_of}
-use Rattle.disk_entries.specs.Names.{disk_name, name_of}
+use Rattle.disk_rescue.specs.Names.{disk_name, name_of}
 use Rattle.disk_pictures.specs.Petscii.{petscii_of}
 use Rattle.disk_pictures.specs.Texts.{any_below, at_place, each_below, has_records, is_at_place, is_free, numbered}
 use Rattle.disk_pictures.specs.Texts.{place_of, records_in}

@@ -7,7 +7,7 @@ use Rattle.disk_layout.specs.Directory.{type_byte}
 use Rattle.disk_layout.specs.Layout.{File, Layout, count_field}
 use Rattle.disk_layout.specs.declared.faults.Fault.{Fault}
 use Rattle.disk_pictures.specs.Html.{Show, html_of}
-use Rattle.disk_entries.specs.Names.{disk_name, name_of}
+use Rattle.disk_rescue.specs.Names.{disk_name, name_of}
 use Rattle.disk_pictures.specs.Petscii.{petscii_of}
 use Rattle.disk_pictures.specs.Pictures.{dashes, drawing_text, look}
 use Rattle.disk_pictures.specs.Sentences.{summary_text}

@@ -14,7 +14,7 @@ use Rattle.disk_layout.specs.declared.slot.Slot.{Slot}
 use Rattle.byte_text.specs.Texts.{text_of}
 use Rattle.disk_rescue.specs.Sizes.{IsImageSize, error_of}
 use Rattle.disk_pictures.specs.Drawings.{IsDrawn}
-use Rattle.disk_entries.specs.Names.{name_of}
+use Rattle.disk_rescue.specs.Names.{name_of}
 use Rattle.disk_pictures.specs.Pictures.{each_place}
 use Rattle.command_faults.specs.declared.faults.CommandFault.{CommandFault}
 use Rattle.command_faults.specs.declared.faults.CommandFault.TheVariants as faults

@@ -24,7 +24,7 @@ use crate::page::Link;
 use crate::petscii::Petscii;
 use crate::versions::Versions;
 use command_faults::{CommandFault, put_text};
-use disk_entries::entry_name;
+use disk_rescue::entry_name;
 use std::fmt::{self, Display, Formatter};
 use std::io::Write;
 

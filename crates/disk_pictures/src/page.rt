@@ -13,8 +13,8 @@ use crate::html::Html;
 use crate::petscii::Petscii;
 use crate::sentences::Summary;
 use crate::texts::{TypeText, VerdictText};
-use disk_entries::{disk_name, entry_name};
 use disk_layout::{BamView, EntryView, Fault};
+use disk_rescue::{disk_name, entry_name};
 use std::fmt::{self, Display, Formatter};
 
 /// The page's style: light and dark, for wide and narrow screens, and for paper. A file has one of twelve colours, which

@@ -11,8 +11,8 @@ use crate::drawn_file::DrawnFile;
 use byte_text::Text;
 use command_faults::{CommandFault, put_text};
 use d64_image::Place;
-use disk_entries::entry_name;
 use disk_layout::{EntryView, Slot};
+use disk_rescue::entry_name;
 use std::fmt::{self, Display, Formatter};
 use std::io::Write;
 

@@ -12,8 +12,8 @@ use crate::owners::Owner;
 use crate::sharing::{Two, two_owners};
 use crate::texts::fault_place;
 use d64_image::Place;
-use disk_entries::entry_name;
 use disk_layout::{BamView, Fault};
+use disk_rescue::entry_name;
 use std::fmt::{self, Display, Formatter};
 
 /// What is said of a fault before and after its place.

@@ -19,8 +19,8 @@ use crate::shades::{SHADES, Shades, shade};
 use crate::texts::VerdictText;
 use command_faults::{CommandFault, put_text};
 use d64_image::{Place, TRACK_SECTORS, TRACKS};
-use disk_entries::disk_name;
 use disk_layout::{BamView, Fault};
+use disk_rescue::disk_name;
 use std::fmt::{self, Display, Formatter};
 use std::io::Write;
 

@@ -1,4 +1,8 @@
+pub mod Directories
+pub mod Names
+pub mod Nearness
 pub mod Owned
 pub mod Reached
 pub mod Sharing
 pub mod Sizes
+pub mod Types

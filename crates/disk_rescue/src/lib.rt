@@ -1,12 +1,21 @@
-//! What can be read from a 1541 disk that is damaged, and from images of other sizes.
+//! The entries of a 1541 disk's directory as people name them, and what can be read of a disk that is damaged, or
+//! of an image of another size.
 #![tactic(auto)]
 
+mod directory;
+mod names;
+mod nearness;
 mod owning;
 mod reaching;
 mod sharing;
 mod sizes;
+mod types;
 
+pub use directory::{DirectorySectors, Entries, read_so_far};
+pub use names::{disk_name, entry_name};
+pub use nearness::near_entries;
 pub use owning::owners_of;
 pub use reaching::{Reach, reach_file};
 pub use sharing::Owners;
 pub use sizes::{error_at, first_tracks};
+pub use types::type_name;

@@ -16,9 +16,9 @@ use Rattle.petscii_text.proofs.Names.{endings-same, is-safe, numbers-same, secon
 use Rattle.petscii_text.specs.FileNames.{IsSafeName, ending_of, ending_text, file_byte, file_name_of, is_file_byte, number_text}
 use Rattle.petscii_text.specs.declared.file_names.Ending.{Ending}
 use Rattle.petscii_text.specs.declared.file_names.Ending.TheVariants.{Del, Seq, Prg, Usr, Rel, Other, Records}
-use Rattle.disk_entries.proofs.Lengths.{name-short}
+use Rattle.disk_rescue.proofs.Lengths.{name-short}
 use Rattle.file_rescue.specs.Folders.{NewFile, StaysInside, new_file}
-use Rattle.disk_entries.specs.Names.{name_of}
+use Rattle.disk_rescue.specs.Names.{name_of}
 use Rattle.keeper_commands.specs.Found.{records_length}
 use Rattle.file_rescue.specs.Rescues.{all_files, bytes_in, entry_file, files_from, files_of, index_of_files, line_files}
 use Rattle.file_rescue.specs.declared.rescuing.Rescued.{Rescued}

@@ -11,8 +11,8 @@ use Rattle.std.proofs.lemmas.List.Elements.{filter-append}
 use Rattle.d64_image.specs.Images.{Image, sector}
 use Rattle.d64_image.specs.Places.{index_of}
 use Rattle.d64_image.specs.declared.place.Place.{Place}
-use Rattle.disk_entries.specs.Names.{name_of}
-use Rattle.disk_entries.proofs.Filtered.{filter-kept, filter-left}
+use Rattle.disk_rescue.specs.Names.{name_of}
+use Rattle.disk_rescue.proofs.Filtered.{filter-kept, filter-left}
 use Rattle.disk_layout.proofs.lemmas.counts.Slots.{slots-eight, slots_at}
 use Rattle.disk_layout.specs.Chain.{named_at}
 use Rattle.disk_layout.specs.Directory.{is_used, map_place, slot_in, slots_in, used_slots}

@@ -11,8 +11,8 @@ use Rattle.disk_layout.specs.declared.faults.Fault.{Fault}
 use Rattle.petscii_text.specs.FileNames.{ending_of, file_name_of}
 use Rattle.petscii_text.specs.declared.characters.CharacterSet.TheVariants.{Graphics}
 use Rattle.quoted_text.specs.Quoted.{quoted}
-use Rattle.disk_entries.specs.Names.{name_of}
-use Rattle.disk_entries.specs.Types.{type_name}
+use Rattle.disk_rescue.specs.Names.{name_of}
+use Rattle.disk_rescue.specs.Types.{type_name}
 use Rattle.file_rescue.specs.declared.rows.Row.{Row}
 
 -- the first line: what stands in each column

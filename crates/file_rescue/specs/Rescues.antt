@@ -21,11 +21,11 @@ use Rattle.command_faults.specs.declared.faults.CommandFault.TheVariants as faul
 use Rattle.petscii_text.specs.FileNames.{ending_of, file_name_of}
 use Rattle.petscii_text.specs.declared.file_names.Ending.{Ending}
 use Rattle.petscii_text.specs.declared.file_names.Ending.TheVariants.{Records}
-use Rattle.disk_entries.specs.Directories.{IsReadSoFar}
+use Rattle.disk_rescue.specs.Directories.{IsReadSoFar}
 use Rattle.file_rescue.specs.Deleted.{deleted_slots}
 use Rattle.file_rescue.specs.Folders.{AddsFiles, AddsPart, NewFile, new_file}
 use Rattle.file_rescue.specs.Index.{heading, row_text}
-use Rattle.disk_entries.specs.Names.{name_of}
+use Rattle.disk_rescue.specs.Names.{name_of}
 use Rattle.file_rescue.specs.Scanned.{with_scanned}
 use Rattle.file_rescue.specs.Sharing.{owned}
 use Rattle.file_rescue.specs.declared.choices.Choice.{Choice}

@@ -17,8 +17,8 @@ use crate::slots::{read_sector, used_of};
 use arrayvec::ArrayVec;
 use command_faults::CommandFault;
 use d64_image::{MemDisk, Place};
-use disk_entries::{Entries, entry_name};
 use disk_layout::{EntryView, Slot};
+use disk_rescue::{Entries, entry_name};
 use std::alloc::Global;
 
 /// Whether the slot has an entry that was deleted: its type is 0, and it still has a name and a first block.

@@ -22,9 +22,8 @@ use crate::sharing::owners_of;
 use arrayvec::ArrayVec;
 use command_faults::{CommandFault, load};
 use d64_image::{MemDisk, Place};
-use disk_entries::read_so_far;
 use disk_layout::Fault;
-use disk_rescue::Owners;
+use disk_rescue::{Owners, read_so_far};
 use std::alloc::Global;
 
 /// The index's name.

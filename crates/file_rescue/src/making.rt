@@ -11,7 +11,7 @@ use crate::folders::NewFolder;
 use crate::rescuing::Rescued;
 use command_faults::CommandFault;
 use d64_image::MemDisk;
-use disk_entries::entry_name;
+use disk_rescue::entry_name;
 use keeper_commands::{RecordForm, length_of_records, put_pieces, read_file};
 use petscii_text::{Ending, file_name};
 use std::alloc::Global;

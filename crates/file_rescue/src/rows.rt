@@ -7,8 +7,8 @@ ghost use Rattle.file_rescue.specs.Rescues.{fault_of};
 
 use byte_text::Text;
 use d64_image::Place;
-use disk_entries::{entry_name, type_name};
 use disk_layout::{EntryView, Fault, Slot};
+use disk_rescue::{entry_name, type_name};
 use petscii_text::{CharacterSet, Ending, file_name};
 use quoted_text::Quoted;
 use std::fmt::{self, Display, Formatter};

@@ -12,8 +12,8 @@ ghost use Rattle.file_rescue.specs.Scanned as scanned;
 use crate::choices::Choice;
 use crate::slots::read_sector;
 use d64_image::{MemDisk, Place};
-use disk_entries::DirectorySectors;
 use disk_layout::{DIRECTORY_TRACK, EntryView, Slot};
+use disk_rescue::DirectorySectors;
 
 /// Whether the first two bytes end a directory, or link to one of its sectors.
 fn has_directory_link(bytes: &[u8; 256]) -> bool

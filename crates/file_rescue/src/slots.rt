@@ -6,8 +6,8 @@ ghost use Rattle.disk_layout.specs.Directory.{used_slots};
 
 use arrayvec::ArrayVec;
 use d64_image::{MemDisk, Place, Sectors};
-use disk_entries::Entries;
 use disk_layout::add_used;
+use disk_rescue::Entries;
 
 /// The bytes of a sector. A disk in memory gives each.
 pub(crate) fn read_sector(disk: &mut MemDisk, place: Place) -> [u8; 256]

@@ -6,7 +6,7 @@ use Rattle.std.specs.Prelude.{IfErr, OnOk}
 use Rattle.d64_image.specs.Images.{Image}
 use Rattle.d64_image.specs.Memory.{sectors_in}
 use Rattle.d64_image.specs.declared.place.Place.{Place}
-use Rattle.disk_entries.specs.Directories.{IsReadSoFar}
+use Rattle.disk_rescue.specs.Directories.{IsReadSoFar}
 use Rattle.disk_layout.specs.declared.faults.Fault.{Fault}
 use Rattle.disk_layout.specs.declared.slot.Slot.{Slot}
 use Rattle.disk_rescue.specs.Reached.{IsReached}

@@ -7,9 +7,8 @@ ghost use Rattle.keeper_commands.specs.Found.{HasNone, HasNoneAsked, IsAsked, Is
 
 use arrayvec::ArrayVec;
 use d64_image::{MemDisk, Place};
-use disk_entries::read_so_far;
 use disk_layout::{EntryView, Fault, MOST_BLOCKS, Slot};
-use disk_rescue::{owners_of, reach_file};
+use disk_rescue::{owners_of, reach_file, read_so_far};
 
 /// Which entries may be found by their name.
 #[derive(Clone, Copy, Debug, PartialEq, Eq)]

@@ -1,7 +1,7 @@
 //! Names of entries and of the disk, without their padding.
 ghost use Rattle.std.specs.Prelude.{◌≡◌, ◌≢◌, ◌⊎◌, ◌≤◌, ◌-◌, ◌<◌, ℕ, length, slice_index};
-ghost use Rattle.disk_entries.specs.Names as names;
-ghost use Rattle.disk_entries.specs.Names.{name_of, unpadded};
+ghost use Rattle.disk_rescue.specs.Names as names;
+ghost use Rattle.disk_rescue.specs.Names.{name_of, unpadded};
 
 use disk_layout::Slot;
 

@@ -3,7 +3,7 @@ use Rattle.std.proofs.Common.{◌≡◌, ◌≢◌, ◌<◌, ◌≤◌, ◌-◌,
 use Rattle.std.proofs.Common.{subst, sym, ap, ap₂, ◌∙◌, ne_eqb, arith}
 use Rattle.std.specs.Prelude.{slice_index}
 use Rattle.std.proofs.lemmas.List.{length-take-le}
-use Rattle.disk_entries.specs.Names.{name_before, unpadded}
+use Rattle.disk_rescue.specs.Names.{name_before, unpadded}
 
 -- shifted spaces alone are dropped
 all-padding : (xs : List ℕ) → ((i : ℕ) → i < length xs → slice_index xs i ≡ 160) → unpadded xs ≡ []

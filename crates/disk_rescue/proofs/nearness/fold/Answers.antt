@@ -1,9 +1,9 @@
 -- A byte more.
 use Rattle.std.proofs.Common.{ap, arith, map, ◌∙◌}
 use Rattle.std.proofs.lemmas.List.{take_all}
-use Rattle.disk_entries.proofs.Filtered.{map-next}
-use Rattle.disk_entries.specs.Nearness.{folded_byte}
-use Rattle.disk_entries.proofs.nearness.fold.Goals as goal
+use Rattle.disk_rescue.proofs.Filtered.{map-next}
+use Rattle.disk_rescue.specs.Nearness.{folded_byte}
+use Rattle.disk_rescue.proofs.nearness.fold.Goals as goal
 
 pub loop-byte-preserved : goal.loop-byte-preserved
 loop-byte-preserved c = record {

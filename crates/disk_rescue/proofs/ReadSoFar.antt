@@ -10,7 +10,7 @@ use Rattle.disk_layout.specs.Listing.{LinksOut}
 use Rattle.disk_layout.specs.declared.faults.Fault.{Fault}
 use Rattle.disk_layout.specs.declared.faults.Fault.TheVariants.{BadLink, Loop}
 use Rattle.disk_layout.specs.declared.slot.Slot.{Slot}
-use Rattle.disk_entries.specs.Directories.{DirectoryEnds, IsReadSoFar}
+use Rattle.disk_rescue.specs.Directories.{DirectoryEnds, IsReadSoFar}
 
 so-far : (img : Image) (before ps : List Place) (p : Place) (entries : List Slot) (fault : Option Fault)
     → IsReached img before p → ps ≡ before ++ p ∷ [] → entries ≡ used_slots img (before ++ p ∷ [])

@@ -2,7 +2,7 @@
 ghost use Rattle.std.specs.Prelude.{◌≡◌, ◌≤◌, ◌↔◌, Contains, IsTrue, length};
 ghost use Rattle.d64_image.specs.Images.{sector};
 ghost use Rattle.d64_image.specs.Memory.{disk_image};
-ghost use Rattle.disk_entries.specs.Directories.{IsReadSoFar};
+ghost use Rattle.disk_rescue.specs.Directories.{IsReadSoFar};
 
 use arrayvec::ArrayVec;
 use d64_image::{MemDisk, Place, Sectors};

@@ -1,7 +1,7 @@
 -- Names that are near to one that was asked for: a person may have meant them. Our own.
 use Rattle.std.specs.Prelude.{ℕ, ◌-◌, ◌&&◌, Bool, List, bytes_eq, if◌then◌else◌, length, map, nat_eq, nat_le}
 use Rattle.disk_layout.specs.declared.slot.Slot.{Slot}
-use Rattle.disk_entries.specs.Names.{name_of, unpadded}
+use Rattle.disk_rescue.specs.Names.{name_of, unpadded}
 
 -- a byte of a name without its case: the letters from C1 on and those from 61 on are those from 41 on, and a space is a
 -- shifted space

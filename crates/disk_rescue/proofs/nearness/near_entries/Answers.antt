@@ -2,10 +2,10 @@
 use Rattle.std.proofs.Common.{ap, arith, sym, ◌∙◌}
 use Rattle.std.proofs.lemmas.List.{take_all}
 use Rattle.std.specs.Prelude.{filter}
-use Rattle.disk_entries.proofs.Filtered.{filter-kept, filter-left}
-use Rattle.disk_entries.specs.Nearness.{is_near}
-use Rattle.disk_entries.proofs.nearness.near_entries.Goals as goal
-use Rattle.disk_entries.proofs.nearness.near_entries.Goals.{then-is_near, else-is_near}
+use Rattle.disk_rescue.proofs.Filtered.{filter-kept, filter-left}
+use Rattle.disk_rescue.specs.Nearness.{is_near}
+use Rattle.disk_rescue.proofs.nearness.near_entries.Goals as goal
+use Rattle.disk_rescue.proofs.nearness.near_entries.Goals.{then-is_near, else-is_near}
 
 pub loop-slot-preserved : goal.loop-slot-preserved
 loop-slot-preserved c =

@@ -3,7 +3,7 @@ use Rattle.std.proofs.Common.{◌≡◌, ◌≤◌, ◌+◌, ℕ, List, [], ◌�
 use Rattle.std.specs.Prelude.{if◌then◌else◌, nat_eq, slice_range}
 use Rattle.std.proofs.lemmas.List.{length-take, length-drop}
 use Rattle.disk_layout.specs.declared.slot.Slot.{Slot}
-use Rattle.disk_entries.specs.Names.{name_before, name_of, unpadded}
+use Rattle.disk_rescue.specs.Names.{name_before, name_of, unpadded}
 
 by-byte : (t : Bool) (b : ℕ) → length (if t then [] else (b ∷ [])) ≤ 1
 by-byte true b = omega arith

@@ -1,7 +1,7 @@
 -- The bytes so far, without their case.
 use Rattle.std.proofs.Common.{◌≡◌, ◌≤◌, length, map, take}
-use Rattle.disk_entries.specs.Nearness.{folded_byte}
-use Rattle.disk_entries.proofs.nearness.fold.Given as goal
+use Rattle.disk_rescue.specs.Nearness.{folded_byte}
+use Rattle.disk_rescue.proofs.nearness.fold.Given as goal
 
 abbrev pub invariant-loop-byte : goal.invariant-loop-byte
 invariant-loop-byte l = record {

@@ -1,8 +1,8 @@
 -- Those of the entries so far that are near.
 use Rattle.std.proofs.Common.{◌≡◌, ◌≤◌, length, take}
 use Rattle.std.specs.Prelude.{filter}
-use Rattle.disk_entries.specs.Nearness.{is_near}
-use Rattle.disk_entries.proofs.nearness.near_entries.Given as goal
+use Rattle.disk_rescue.specs.Nearness.{is_near}
+use Rattle.disk_rescue.proofs.nearness.near_entries.Given as goal
 
 abbrev pub invariant-loop-slot : goal.invariant-loop-slot
 invariant-loop-slot l = record {

@@ -1,6 +1,6 @@
 //! Types of entries.
 ghost use Rattle.std.specs.Prelude.{◌≡◌};
-ghost use Rattle.disk_entries.specs.Types as types;
+ghost use Rattle.disk_rescue.specs.Types as types;
 
 /// The name of the type with this number, which is the low four bits of a type byte: `DEL`, `SEQ`, `PRG`, `USR` or `REL`;
 /// `???` if there is no such type.

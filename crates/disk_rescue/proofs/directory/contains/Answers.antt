@@ -5,7 +5,7 @@ use Rattle.std.proofs.lemmas.List.Elements.{Decides-contains, contains_decides}
 use Rattle.std.specs.Prelude.{◌&&◌}
 use Rattle.d64_image.proofs.Places.{same_place}
 use Rattle.d64_image.specs.declared.place.Place.{Place}
-use Rattle.disk_entries.proofs.directory.contains.Goals as goal
+use Rattle.disk_rescue.proofs.directory.contains.Goals as goal
 
 same-decides : (a b : Place) → Decides (eqb a.track b.track && eqb a.sector b.sector) (a ≡ b)
 same-decides a b = Decides-like (eqb a.track b.track && eqb a.sector b.sector) (λ both. same_place a b both.0 both.1)

@@ -1,7 +1,7 @@
 //! Entries whose names are near to one that was asked for.
 ghost use Rattle.std.specs.Prelude.{◌≡◌, ◌≤◌, bytes_eq, filter, length, map};
-ghost use Rattle.disk_entries.specs.Nearness as near;
-ghost use Rattle.disk_entries.specs.Nearness.{folded};
+ghost use Rattle.disk_rescue.specs.Nearness as near;
+ghost use Rattle.disk_rescue.specs.Nearness.{folded};
 
 use crate::directory::Entries;
 use crate::names::{entry_name, without_padding};

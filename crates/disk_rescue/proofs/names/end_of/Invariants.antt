@@ -1,6 +1,6 @@
 -- From the end on all bytes are shifted spaces.
 use Rattle.std.proofs.Common.{◌≡◌, ◌<◌, ◌≤◌, ℕ, length, slice_index}
-use Rattle.disk_entries.proofs.names.end_of.Given as goal
+use Rattle.disk_rescue.proofs.names.end_of.Given as goal
 
 abbrev pub invariant-loop-end : goal.invariant-loop-end
 invariant-loop-end l = (l.end ≤ length l.bytes) × ((j : ℕ) → l.end ≤ j → j < length l.bytes

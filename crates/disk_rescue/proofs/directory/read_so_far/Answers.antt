@@ -2,8 +2,8 @@
 use Rattle.std.proofs.Common.{ap, arith, length, refl, sym, ◌∙◌}
 use Rattle.std.proofs.lemmas.Bool.{false≢true}
 use Rattle.disk_layout.proofs.lemmas.chains.Directories.{few-before, reached-next, reached-start, read-now, used-more, used-none}
-use Rattle.disk_entries.proofs.ReadSoFar.{ends-here, leads-back, leads-out}
-use Rattle.disk_entries.proofs.directory.read_so_far.Goals as goal
+use Rattle.disk_rescue.proofs.ReadSoFar.{ends-here, leads-back, leads-out}
+use Rattle.disk_rescue.proofs.directory.read_so_far.Goals as goal
 
 pub add_used-requires : goal.add_used-requires
 add_used-requires c = omega (arith, c.sectors.invariant.room, c.sectors.invariant.few)

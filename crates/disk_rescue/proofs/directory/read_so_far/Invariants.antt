@@ -4,7 +4,7 @@ use Rattle.arrayvec.specs.ArrayVec.{array_vec_len}
 use Rattle.d64_image.specs.Memory.{disk_image}
 use Rattle.disk_layout.proofs.lemmas.chains.Directories.{IsReached}
 use Rattle.disk_layout.specs.Directory.{used_slots}
-use Rattle.disk_entries.proofs.directory.read_so_far.Given as goal
+use Rattle.disk_rescue.proofs.directory.read_so_far.Given as goal
 
 abbrev pub invariant-sectors : goal.invariant-sectors
 invariant-sectors l = record {

@@ -1,4 +1,0 @@
-pub mod Filtered
-pub mod Lengths
-pub mod Paddings
-pub mod ReadSoFar

@@ -1,4 +1,0 @@
-pub mod Directories
-pub mod Names
-pub mod Nearness
-pub mod Types
