@@ -1,6 +1,6 @@
 #!/usr/bin/env python3
-"""Compares the tables of petscii_text/specs/Characters with the characters that cc1541 (Debian, 4.0) prints for each byte of a
-file's name, in both sets. The differences that crates/petscii_text/README.md lists are known; any other is printed, and the
+"""Compares the tables of line_text/specs/petscii/Characters with the characters that cc1541 (Debian, 4.0) prints for each byte of a
+file's name, in both sets. The differences that crates/line_text/README.md lists are known; any other is printed, and the
 status is 1. Without cc1541 the status is 2."""
 
 import re
@@ -10,7 +10,7 @@ import sys
 import tempfile
 from pathlib import Path
 
-SPEC = Path(__file__).resolve().parent.parent / "crates/petscii_text/specs/Characters.antt"
+SPEC = Path(__file__).resolve().parent.parent / "crates/line_text/specs/petscii/Characters.antt"
 # bytes whose character is another than in either of cc1541's two tables
 KNOWN = {0x27, 0xA0, 0xA5, 0xA7, 0xAA, 0xAF}
 KNOWN_MIXED = {0x7E, 0xDE}

@@ -3,7 +3,7 @@
 
     tests/text.py PROGRAM [ROUNDS]
 
-The characters are those that cc1541 (Debian, 4.0) prints, but for the bytes that crates/petscii_text/README.md lists, as
+The characters are those that cc1541 (Debian, 4.0) prints, but for the bytes that crates/line_text/README.md lists, as
 `characters.py` beside it compares them; lines are read by Python's `csv`. The disks are made here, by the D64 layout: in each
 round a directory with names of any bytes, a relative file and a sequential one, both of any bytes. The columns that
 `records --fields` prints are also saved anew by `csv`, as a spreadsheet saves them, and stored on a blank disk that `cc1541`

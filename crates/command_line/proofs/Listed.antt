@@ -4,9 +4,9 @@ use Rattle.std.proofs.Common.{map, refl, subst, sym}
 use Rattle.std.specs.Prelude.{decimal}
 use Rattle.std.specs.List.{AllByRecursion}
 use Rattle.std.proofs.lemmas.List.{append_assoc}
-use Rattle.record_columns.specs.Positions.{ArePositions}
-use Rattle.request_cards.proofs.Fields.{Lacks, before_spells, decimal_lacks, number_in_found, number_in_spells, number_text}
-use Rattle.request_cards.specs.Numbers.{number_before, number_in}
+use Rattle.line_text.specs.columns.Positions.{ArePositions}
+use Rattle.line_text.proofs.lemmas.digits.Fields.{Lacks, before_spells, decimal_lacks, number_in_found, number_in_spells, number_text}
+use Rattle.line_text.specs.Numbers.{number_before, number_in}
 use Rattle.request_cards.specs.Texts.{commas}
 use Rattle.command_line.specs.Positions.{AreListed}
 

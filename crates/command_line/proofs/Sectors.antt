@@ -4,9 +4,9 @@ use Rattle.std.specs.List.{after_first, before_first}
 use Rattle.std.proofs.Math.ListN.{drop_of_length-le}
 use Rattle.std.proofs.lemmas.Str.Pattern.{IsSplitOnceResult, split_once_first}
 use Rattle.d64_image.specs.Places.{place_at}
-use Rattle.request_cards.specs.Numbers.{number_in}
-use Rattle.request_cards.proofs.Fields.{number_refused}
-use Rattle.request_cards.proofs.Numbers.{leads_first}
+use Rattle.line_text.specs.Numbers.{number_in}
+use Rattle.line_text.proofs.lemmas.digits.Fields.{number_refused}
+use Rattle.line_text.proofs.lemmas.digits.Numbers.{leads_first}
 use Rattle.command_line.specs.Numbers.{place_if_both, spelled_place}
 
 -- no bytes spell no number

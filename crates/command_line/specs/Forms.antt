@@ -16,8 +16,8 @@ use Rattle.keeper_commands.specs.declared.forms.ByteForm.{ByteForm}
 use Rattle.keeper_commands.specs.declared.forms.RecordForm.{RecordForm}
 use Rattle.ledger_jobs.specs.declared.jobs.Columns.{Columns}
 use Rattle.ledger_jobs.specs.declared.jobs.Findings.{Findings}
-use Rattle.petscii_text.specs.declared.characters.CharacterSet.{CharacterSet}
-use Rattle.petscii_text.specs.declared.characters.CharacterSet.TheVariants.{Graphics, Mixed}
+use Rattle.line_text.specs.declared.petscii.characters.CharacterSet.{CharacterSet}
+use Rattle.line_text.specs.declared.petscii.characters.CharacterSet.TheVariants.{Graphics, Mixed}
 use Rattle.shop_commands.specs.declared.texts.NameForm.{NameForm}
 use Rattle.command_line.specs.Flags.{is_given}
 use Rattle.command_line.specs.Positions.{AsksForColumns, AsksForNone, HasNoColumns}

@@ -3,7 +3,7 @@ use Rattle.std.specs.Prelude.{◌≡◌, ◌⊎◌, ℕ, List, Option, Some, Non
 use Rattle.std.specs.Str.{bytes_eq}
 use Rattle.std.specs.Borrow.{Bor}
 use Rattle.clap.specs.Words.{Row, Text}
-use Rattle.byte_text.specs.Texts.{AreBytes, text_of}
+use Rattle.line_text.specs.bytes.Texts.{AreBytes, text_of}
 use Rattle.file_changes.specs.declared.file_type.FileType.{FileType}
 use Rattle.file_changes.specs.declared.file_type.FileType.TheVariants.{Prg, Seq, Usr}
 use Rattle.keeper_commands.specs.Makes.{IsNewName}

@@ -4,7 +4,7 @@ use Rattle.d64_image.specs.Places.{place_at}
 use Rattle.d64_image.specs.declared.place.Place.{Place}
 use Rattle.std.specs.List.{after_first, before_first}
 use Rattle.clap.specs.Words.{Row, Text}
-use Rattle.request_cards.specs.Numbers.{number_in}
+use Rattle.line_text.specs.Numbers.{number_in}
 use Rattle.command_table.specs.Grammar.{value}
 
 -- the number of tills that the words give: 1 to 64, without leading zeros

@@ -3,7 +3,7 @@ use Rattle.std.specs.Prelude.{◌≡◌, ◌≤◌, ℕ, List, Option, Some, Non
 use Rattle.std.specs.List.{AllByRecursion}
 use Rattle.clap.specs.Words.{Row, Text, first_of}
 use Rattle.request_cards.specs.Texts.{commas}
-use Rattle.record_columns.specs.Positions.{ArePositions, starts}
+use Rattle.line_text.specs.columns.Positions.{ArePositions, starts}
 use Rattle.keeper_commands.specs.declared.forms.ColumnForm.{ColumnForm}
 use Rattle.keeper_commands.specs.declared.forms.ColumnForm.TheVariants as forms
 use Rattle.command_line.specs.Flags.{is_given}

@@ -13,7 +13,7 @@ use clap::ArgMatches;
 use file_rescue::Choice;
 use keeper_commands::{ByteForm, Candidates, RecordForm};
 use ledger_jobs::{Columns, Effect, Findings, Job, Loss, Unowned, Way};
-use petscii_text::CharacterSet;
+use line_text::CharacterSet;
 use shop_commands::{Durability, NameForm};
 
 /// To which file the requests of a shop that is served are synced first.

@@ -5,7 +5,7 @@ ghost use Rattle.clap.specs.Words.{Text};
 ghost use Rattle.command_table.specs.Grammar.{value};
 ghost use Rattle.command_line.specs.Forms.{loss_in};
 ghost use Rattle.clap.specs.Words.{found_of, rows_of};
-ghost use Rattle.byte_text.specs.Texts.{AreBytes};
+ghost use Rattle.line_text.specs.bytes.Texts.{AreBytes};
 ghost use Rattle.keeper_commands.specs.Makes.{IsNewName};
 ghost use Rattle.ledger_jobs.specs.Names.{IsNameOf, name_bytes};
 ghost use Rattle.command_line.specs.Names.{IsMakingJob, IsStoringJob, IsNamedJob, IsRecordsJob, IsRenamingJob, IsNewDiskJob, IsIdOf};
@@ -16,10 +16,10 @@ use crate::faults::JobFault;
 use crate::forms::{candidates, columns, loss, record_form};
 use crate::numbers::length_of;
 use crate::values::value_of;
-use byte_text::read_text;
 use clap::ArgMatches;
 use file_changes::FileType;
 use ledger_jobs::{Columns, Job, Name, Taking};
+use line_text::read_text;
 
 /// The job that takes this out of an image, of the file of a name.
 pub(crate) fn taking<'a>(

@@ -1,11 +1,11 @@
 //! The numbers that the words give.
 ghost use Rattle.std.specs.Prelude.{◌≡◌, ◌≤◌, IfSome};
-ghost use Rattle.request_cards.specs.Numbers.{number_in};
+ghost use Rattle.line_text.specs.Numbers.{number_in};
 ghost use Rattle.rel_records.specs.File.{IsLength};
 ghost use Rattle.command_line.specs.Numbers.{place_if_both, spelled_place};
 
 use d64_image::Place;
-use request_cards::number;
+use line_text::number;
 
 /// The number of tills that a text spells: 1 to 64, in decimal digits without leading zeros.
 pub(crate) fn tills_of(text: &str) -> Option<u8>

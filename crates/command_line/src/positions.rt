@@ -1,7 +1,7 @@
 //! The columns that the words ask for.
 ghost use Rattle.std.specs.Prelude.{◌≡◌, ◌≤◌, ◌++◌, ◌∷◌, [], ℕ, List, IfSome, IsFalse, IsNone, IsTrue, length};
 ghost use Rattle.clap.specs.Words.{found_of, rows_of};
-ghost use Rattle.record_columns.specs.Positions.{starts};
+ghost use Rattle.line_text.specs.columns.Positions.{starts};
 ghost use Rattle.command_line.specs.Positions.{AreAsked, AreListed};
 
 use crate::faults::JobFault;
@@ -9,8 +9,7 @@ use crate::values::{is_given, optional_value};
 use arrayvec::ArrayVec;
 use clap::ArgMatches;
 use keeper_commands::ColumnForm;
-use record_columns::{MOST_PIECES, Positions};
-use request_cards::{number, number_before_comma};
+use line_text::{MOST_PIECES, Positions, number, number_before_comma};
 
 /// Appends a position, or returns that there are 32 already.
 fn push_start(list: &mut ArrayVec<u8, MOST_PIECES>, start: u32) -> bool

@@ -2,7 +2,7 @@
 use Rattle.std.proofs.Common.{◌≡◌, ◌≢◌, ◌+◌, ◌*◌, ◌/◌, ◌%◌, ◌<◌, ◌≤◌, ◌++◌, ◌∷◌, ◌⊎◌, [], ℕ, List, arith, sym, subst, refl, inl, inr, ne_eqb}
 use Rattle.std.proofs.lemmas.Bool.{cases_eq, cases_lt, le-ltb, lt-ltb}
 use Rattle.std.specs.Prelude.{codes, flat_map}
-use Rattle.byte_text.specs.Texts.{digit}
+use Rattle.line_text.specs.bytes.Texts.{digit}
 use Rattle.disk_faults.specs.Json.{Spells, json_char, itself, marked, none, numbered}
 
 control-spells : (b : ℕ) (text bytes : List ℕ) → b < 32 → Spells text bytes

@@ -1,7 +1,7 @@
 -- Strings of JSON (RFC 8259, strings).
 use Rattle.std.specs.Prelude.{◌≡◌, ◌≢◌, ◌⊎◌, ℕ, ◌+◌, ◌*◌, ◌/◌, ◌%◌, ◌<◌, ◌≤◌, ◌||◌, List, [], ◌∷◌, ◌++◌, codes, flat_map}
 use Rattle.std.specs.Prelude.{if◌then◌else◌, nat_eq, nat_lt}
-use Rattle.byte_text.specs.Texts.{digit}
+use Rattle.line_text.specs.bytes.Texts.{digit}
 
 -- a byte of a string: the quotation mark and the backslash stand after a backslash, a control character is \u and four
 -- hexadecimal digits, such as \u001b, and every other byte is as it is

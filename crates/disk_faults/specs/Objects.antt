@@ -2,7 +2,7 @@
 use Rattle.std.specs.Prelude.{ℕ, List, [], ◌∷◌, ◌++◌, None, Option, Some, codes, decimal, flat_map, slice_range}
 use Rattle.d64_image.specs.Images.{Sector}
 use Rattle.d64_image.specs.declared.place.Place.{Place}
-use Rattle.byte_text.specs.Texts.{text_of}
+use Rattle.line_text.specs.bytes.Texts.{text_of}
 use Rattle.disk_layout.specs.Texts.{fault_text}
 use Rattle.disk_layout.specs.View.{blocks_free}
 use Rattle.disk_layout.specs.declared.faults.Fault.{Fault}

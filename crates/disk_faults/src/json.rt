@@ -1,12 +1,12 @@
 //! Strings of JSON.
 ghost use Rattle.std.specs.Prelude.{◌≡◌, ◌<◌, OnOk, flat_map};
 ghost use Rattle.std.specs.Io.KnownBytes.{Appends};
-ghost use Rattle.byte_text.specs.Texts.{digit as digit_of};
+ghost use Rattle.line_text.specs.bytes.Texts.{digit as digit_of};
 ghost use Rattle.disk_faults.specs.Json.{json_char, json_string};
 ghost use Rattle.disk_faults.specs.Objects.{typed};
 
 use arrayvec::ArrayVec;
-use byte_text::write_text;
+use line_text::write_text;
 use std::io::{self, Write};
 
 /// The digit of a number below 16.

@@ -8,9 +8,9 @@ use crate::links::Links;
 use crate::showing::shows;
 use crate::trail::Trail;
 use arrayvec::ArrayVec;
-use byte_text::write_text;
 use disk_layout::{Fault, Slot};
 use disk_rescue::entry_name;
+use line_text::write_text;
 use std::io::{self, Write};
 
 /// Lists the entries that show the fault, or have the sector at which it is.

@@ -4,7 +4,7 @@ use Rattle.std.proofs.Common.{sym, ap, ◌∙◌, arith}
 use Rattle.std.specs.Prelude.{codes, flat_map, if◌then◌else◌, nat_eq, nat_lt}
 use Rattle.std.proofs.lemmas.Bool.{false≢true}
 use Rattle.std.proofs.lemmas.List.Elements.{filter-append}
-use Rattle.byte_text.specs.Texts.{byte_text, digit, is_plain}
+use Rattle.line_text.specs.bytes.Texts.{byte_text, digit, is_plain}
 use Rattle.disk_pictures.proofs.PlainBytes.{no-quote, plain-escaped, plain-none}
 use Rattle.disk_pictures.specs.Html.{escaped, html_byte, html_of, is_long, plain_byte}
 use Rattle.disk_pictures.specs.Markup.{BeginsEscape, IsEscaped, is_markup, markup_of}

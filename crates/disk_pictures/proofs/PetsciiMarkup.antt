@@ -6,9 +6,9 @@ use Rattle.std.specs.Prelude.{◌&&◌, Some, None, flat_map, if◌then◌else�
 use Rattle.std.proofs.Math.Utf8.{encode}
 use Rattle.std.proofs.lemmas.Bool.{and_parts, false≢true}
 use Rattle.std.proofs.lemmas.List.Folds.{list_all_at}
-use Rattle.byte_text.specs.Texts.{byte_text, is_plain}
-use Rattle.petscii_text.specs.Characters.{character_of, graphics_blocks, graphics_letters, graphics_shifted}
-use Rattle.petscii_text.specs.declared.characters.CharacterSet.TheVariants.{Graphics}
+use Rattle.line_text.specs.bytes.Texts.{byte_text, is_plain}
+use Rattle.line_text.specs.petscii.Characters.{character_of, graphics_blocks, graphics_letters, graphics_shifted}
+use Rattle.line_text.specs.declared.petscii.characters.CharacterSet.TheVariants.{Graphics}
 use Rattle.disk_pictures.proofs.Markups.{both-escaped, both-none, byte-none, texts-escaped}
 use Rattle.disk_pictures.proofs.PlainBytes.{IsQuiet, quiet-escaped, quiet-none}
 use Rattle.disk_pictures.specs.Html.{html_byte}

@@ -4,7 +4,7 @@ use Rattle.std.proofs.Common.{length, ne_eqb, refl, sym, ap, ◌∙◌, arith}
 use Rattle.std.specs.Prelude.{codes, flat_map, if◌then◌else◌, nat_eq, nat_lt, not, ◌&&◌}
 use Rattle.std.proofs.lemmas.Bool.{false≢true, ltb-false, ltb-true}
 use Rattle.std.proofs.lemmas.List.{length-append}
-use Rattle.byte_text.specs.Texts.{digit, is_plain}
+use Rattle.line_text.specs.bytes.Texts.{digit, is_plain}
 use Rattle.disk_pictures.specs.Html.{html_byte, html_of, is_long, plain_byte}
 use Rattle.disk_pictures.specs.Markup.{IsEscaped, markup_of}
 

@@ -16,7 +16,7 @@ use Rattle.disk_layout.specs.Layout.{File, Layout}
 use Rattle.disk_layout.specs.Map.{map_count}
 use Rattle.disk_layout.specs.View.{blocks_free}
 use Rattle.disk_layout.specs.declared.faults.Fault.{Fault}
-use Rattle.petscii_text.specs.Characters.{hex_digit}
+use Rattle.line_text.specs.petscii.Characters.{hex_digit}
 use Rattle.disk_pictures.proofs.Marks.{own-byte}
 use Rattle.disk_pictures.proofs.Printing.{three}
 use Rattle.disk_pictures.specs.Drawings.{IsDrawn, owner_of}

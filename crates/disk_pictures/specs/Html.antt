@@ -1,6 +1,6 @@
 -- Bytes of a disk in HTML, as the text of bytes with HTML's escapes (HTML Living Standard, character references).
 use Rattle.std.specs.Prelude.{ℕ, Bool, List, [], ◌∷◌, codes, flat_map, if◌then◌else◌, length, nat_eq, nat_lt}
-use Rattle.byte_text.specs.Texts.{byte_text}
+use Rattle.line_text.specs.bytes.Texts.{byte_text}
 
 -- how bytes of the disk are shown
 abbrev pub Show : Type 0

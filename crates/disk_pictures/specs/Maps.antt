@@ -7,7 +7,7 @@ use Rattle.d64_image.specs.declared.place.Place.{Place}
 use Rattle.disk_layout.specs.Directory.{type_byte}
 use Rattle.disk_layout.specs.Layout.{File, Layout, count_field, record_length}
 use Rattle.disk_layout.specs.declared.faults.Fault.{Fault}
-use Rattle.byte_text.specs.Texts.{text_of}
+use Rattle.line_text.specs.bytes.Texts.{text_of}
 use Rattle.disk_pictures.specs.Drawings.{owner_of}
 use Rattle.disk_rescue.specs.Names.{name_of}
 use Rattle.disk_pictures.specs.Texts.{at_place, each_below, has_records, is_fault_at, is_free, numbered, records_in}

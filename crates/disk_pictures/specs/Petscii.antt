@@ -2,8 +2,8 @@
 use Rattle.std.specs.Prelude.{ℕ, ◌||◌, Bool, List, [], Option, Some, None, flat_map, if◌then◌else◌, nat_eq, nat_lt}
 use Rattle.std.specs.List.{list_all}
 use Rattle.std.proofs.Math.Utf8.{encode}
-use Rattle.petscii_text.specs.Characters.{character_of}
-use Rattle.petscii_text.specs.declared.characters.CharacterSet.TheVariants.{Graphics}
+use Rattle.line_text.specs.petscii.Characters.{character_of}
+use Rattle.line_text.specs.declared.petscii.characters.CharacterSet.TheVariants.{Graphics}
 use Rattle.disk_pictures.specs.Html.{html_byte}
 
 -- PETSCII's character of the byte is ASCII's, or both have none. $5C is a pound sign on a C64, $5E an arrow

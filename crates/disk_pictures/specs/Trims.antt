@@ -11,7 +11,7 @@ use Rattle.disk_layout.specs.Layout.{File, Layout, is_rel}
 use Rattle.disk_layout.specs.Texts.{fault_text, place_text}
 use Rattle.disk_layout.specs.declared.faults.Fault.{Fault}
 use Rattle.disk_layout.specs.declared.slot.Slot.{Slot}
-use Rattle.byte_text.specs.Texts.{text_of}
+use Rattle.line_text.specs.bytes.Texts.{text_of}
 use Rattle.disk_rescue.specs.Sizes.{IsImageSize, error_of}
 use Rattle.disk_pictures.specs.Drawings.{IsDrawn}
 use Rattle.disk_rescue.specs.Names.{name_of}

@@ -13,8 +13,8 @@ use Rattle.disk_layout.specs.Map.{map_count}
 use Rattle.disk_layout.specs.Texts.{fault_text}
 use Rattle.disk_layout.specs.View.{blocks_free}
 use Rattle.disk_layout.specs.declared.faults.Fault.{Fault}
-use Rattle.petscii_text.specs.Characters.{character_of, hex_digit}
-use Rattle.petscii_text.specs.declared.characters.CharacterSet.TheVariants.{Graphics}
+use Rattle.line_text.specs.petscii.Characters.{character_of, hex_digit}
+use Rattle.line_text.specs.declared.petscii.characters.CharacterSet.TheVariants.{Graphics}
 use Rattle.disk_pictures.specs.Drawings.{IsDrawn, owner_of}
 use Rattle.disk_pictures.specs.Maps.{entry_line, is_wide}
 use Rattle.disk_pictures.specs.Outcomes.{map_in}

@@ -1,12 +1,12 @@
 //! The bytes of a sector in hexadecimal digits, with their characters beside them.
 ghost use Rattle.std.specs.Prelude.{◌≡◌, ◌<◌, IfErr, OnOk, Some, flat_map};
 ghost use Rattle.std.specs.Io.KnownBytes.{Appends};
-ghost use Rattle.petscii_text.specs.Characters.{hex_digit as digit_of};
+ghost use Rattle.line_text.specs.petscii.Characters.{hex_digit as digit_of};
 ghost use Rattle.disk_pictures.specs.Views.{byte_sign, bytes_line, bytes_text, code_text};
 ghost use Rattle.command_faults.specs.declared.faults.CommandFault.TheVariants as faults;
 
 use command_faults::{CommandFault, put_text};
-use petscii_text::{CharacterSet, character};
+use line_text::{CharacterSet, character};
 use std::fmt::{self, Display, Formatter};
 use std::io::Write;
 

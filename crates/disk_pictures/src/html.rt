@@ -2,7 +2,7 @@
 ghost use Rattle.std.specs.Prelude.{◌≡◌, Some, if◌then◌else◌, length};
 ghost use Rattle.disk_pictures.specs.Html.{html_byte, html_of, is_long as long, plain_byte};
 
-use byte_text::Text;
+use line_text::Text;
 use std::fmt::{self, Display, Formatter};
 
 /// Bytes of the disk as they are shown in HTML: their text, with `&`, `<` and `>` escaped, or without escapes if that

@@ -8,11 +8,11 @@ ghost use Rattle.disk_pictures.specs.Trims.{past_line, sides_past as sides_past_
 ghost use Rattle.command_faults.specs.declared.faults.CommandFault.TheVariants as faults;
 
 use crate::drawn_file::DrawnFile;
-use byte_text::Text;
 use command_faults::{CommandFault, put_text};
 use d64_image::Place;
 use disk_layout::{EntryView, Slot};
 use disk_rescue::entry_name;
+use line_text::Text;
 use std::fmt::{self, Display, Formatter};
 use std::io::Write;
 

@@ -4,7 +4,7 @@ ghost use Rattle.std.specs.List.{list_all};
 ghost use Rattle.disk_pictures.specs.Petscii.{is_common as common, petscii_byte, petscii_of, signed as signed_bytes};
 
 use crate::html::HtmlByte;
-use petscii_text::{CharacterSet, character};
+use line_text::{CharacterSet, character};
 use std::fmt::{self, Display, Formatter};
 
 /// A name as a C64 shows it after it was switched on, in Unicode, with `&`, `<` and `>` escaped. Nothing is shown of a name

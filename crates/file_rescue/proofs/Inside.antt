@@ -12,10 +12,10 @@ use Rattle.disk_layout.proofs.lemmas.lists.Once.{Contains-cases, Contains-nil, E
 use Rattle.disk_layout.specs.Chain.{EachOnce}
 use Rattle.disk_layout.specs.Directory.{type_byte}
 use Rattle.disk_layout.specs.declared.slot.Slot.{Slot}
-use Rattle.petscii_text.proofs.Names.{endings-same, is-safe, numbers-same, second-digit}
-use Rattle.petscii_text.specs.FileNames.{IsSafeName, ending_of, ending_text, file_byte, file_name_of, is_file_byte, number_text}
-use Rattle.petscii_text.specs.declared.file_names.Ending.{Ending}
-use Rattle.petscii_text.specs.declared.file_names.Ending.TheVariants.{Del, Seq, Prg, Usr, Rel, Other, Records}
+use Rattle.line_text.proofs.lemmas.petscii.Names.{endings-same, is-safe, numbers-same, second-digit}
+use Rattle.line_text.specs.petscii.FileNames.{IsSafeName, ending_of, ending_text, file_byte, file_name_of, is_file_byte, number_text}
+use Rattle.line_text.specs.declared.petscii.file_names.Ending.{Ending}
+use Rattle.line_text.specs.declared.petscii.file_names.Ending.TheVariants.{Del, Seq, Prg, Usr, Rel, Other, Records}
 use Rattle.disk_rescue.proofs.Lengths.{name-short}
 use Rattle.file_rescue.specs.Folders.{NewFile, StaysInside, new_file}
 use Rattle.disk_rescue.specs.Names.{name_of}

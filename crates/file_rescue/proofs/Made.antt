@@ -6,8 +6,8 @@ use Rattle.d64_image.specs.Images.{Image}
 use Rattle.d64_image.specs.declared.place.Place.{Place}
 use Rattle.disk_layout.specs.Directory.{type_byte}
 use Rattle.disk_layout.specs.declared.faults.Fault.{Fault}
-use Rattle.petscii_text.specs.FileNames.{ending_of}
-use Rattle.petscii_text.specs.declared.file_names.Ending.{Ending}
+use Rattle.line_text.specs.petscii.FileNames.{ending_of}
+use Rattle.line_text.specs.declared.petscii.file_names.Ending.{Ending}
 use Rattle.file_rescue.proofs.Parts.{adds-both, adds-none, part-before, part-then}
 use Rattle.std.specs.Prelude.{codes}
 use Rattle.file_rescue.specs.Folders.{AddsFiles, AddsPart, NewFile, new_file}

@@ -2,15 +2,15 @@
 use Rattle.std.specs.Prelude.{ℕ, ◌+◌, ◌%◌, List, [], ◌∷◌, ◌++◌, None, Option, Some, codes, decimal}
 use Rattle.std.specs.Prelude.{if◌then◌else◌, length, nat_eq, nat_le, nat_lt}
 use Rattle.std.specs.Int.{bit_at}
-use Rattle.byte_text.specs.Texts.{text_of}
+use Rattle.line_text.specs.bytes.Texts.{text_of}
 use Rattle.d64_image.specs.declared.place.Place.{Place}
 use Rattle.disk_layout.specs.Directory.{type_byte}
 use Rattle.disk_layout.specs.Layout.{count_field, record_length}
 use Rattle.disk_layout.specs.Texts.{fault_text, place_text}
 use Rattle.disk_layout.specs.declared.faults.Fault.{Fault}
-use Rattle.petscii_text.specs.FileNames.{ending_of, file_name_of}
-use Rattle.petscii_text.specs.declared.characters.CharacterSet.TheVariants.{Graphics}
-use Rattle.quoted_text.specs.Quoted.{quoted}
+use Rattle.line_text.specs.petscii.FileNames.{ending_of, file_name_of}
+use Rattle.line_text.specs.declared.petscii.characters.CharacterSet.TheVariants.{Graphics}
+use Rattle.line_text.specs.petscii.Quoted.{quoted}
 use Rattle.disk_rescue.specs.Names.{name_of}
 use Rattle.disk_rescue.specs.Types.{type_name}
 use Rattle.file_rescue.specs.declared.rows.Row.{Row}

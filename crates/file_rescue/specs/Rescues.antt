@@ -18,9 +18,9 @@ use Rattle.keeper_commands.specs.Found.{records_length, unclosed}
 use Rattle.keeper_commands.specs.Records.{records_of, records_text}
 use Rattle.command_faults.specs.declared.faults.CommandFault.{CommandFault}
 use Rattle.command_faults.specs.declared.faults.CommandFault.TheVariants as faults
-use Rattle.petscii_text.specs.FileNames.{ending_of, file_name_of}
-use Rattle.petscii_text.specs.declared.file_names.Ending.{Ending}
-use Rattle.petscii_text.specs.declared.file_names.Ending.TheVariants.{Records}
+use Rattle.line_text.specs.petscii.FileNames.{ending_of, file_name_of}
+use Rattle.line_text.specs.declared.petscii.file_names.Ending.{Ending}
+use Rattle.line_text.specs.declared.petscii.file_names.Ending.TheVariants.{Records}
 use Rattle.disk_rescue.specs.Directories.{IsReadSoFar}
 use Rattle.file_rescue.specs.Deleted.{deleted_slots}
 use Rattle.file_rescue.specs.Folders.{AddsFiles, AddsPart, NewFile, new_file}

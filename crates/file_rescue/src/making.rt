@@ -13,7 +13,7 @@ use command_faults::CommandFault;
 use d64_image::MemDisk;
 use disk_rescue::entry_name;
 use keeper_commands::{RecordForm, length_of_records, put_pieces, read_file};
-use petscii_text::{Ending, file_name};
+use line_text::{Ending, file_name};
 use std::alloc::Global;
 
 /// Makes a file. `NoMemory` if the folder failed for want of memory, and `File` if it failed otherwise.

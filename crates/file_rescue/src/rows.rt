@@ -5,12 +5,10 @@ ghost use Rattle.file_rescue.specs.Index.{naming_text, row_text, shared_text};
 ghost use Rattle.file_rescue.specs.Rescues as rescues;
 ghost use Rattle.file_rescue.specs.Rescues.{fault_of};
 
-use byte_text::Text;
 use d64_image::Place;
 use disk_layout::{EntryView, Fault, Slot};
 use disk_rescue::{entry_name, type_name};
-use petscii_text::{CharacterSet, Ending, file_name};
-use quoted_text::Quoted;
+use line_text::{CharacterSet, Ending, Quoted, Text, file_name};
 use std::fmt::{self, Display, Formatter};
 
 /// What the index says of a file.

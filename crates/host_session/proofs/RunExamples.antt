@@ -5,12 +5,12 @@ use Rattle.std.specs.Fmt.{digits}
 use Rattle.request_cards.specs.declared.kind.Kind.TheVariants.{Receive, Issue, Set}
 use Rattle.request_cards.specs.Requests.{Ask}
 use Rattle.request_cards.specs.Reading.{kind_of, kind_before, amounts, request_of}
-use Rattle.request_cards.specs.Numbers.{number_in, number_before}
+use Rattle.line_text.specs.Numbers.{number_in, number_before}
 use Rattle.request_cards.specs.Ledgers.{Start, nothing, plain, report}
 use Rattle.host_session.specs.events.Counted.{IsCounted, answers}
 use Rattle.host_session.specs.events.Events.{messages_of}
-use Rattle.script_lines.specs.Lines.{lines}
-use Rattle.script_lines.specs.Resets.{reset_of}
+use Rattle.line_text.specs.scripts.Lines.{lines}
+use Rattle.line_text.specs.scripts.Resets.{reset_of}
 
 abbrev pub two_tills : Start
 two_tills = record { state = nothing; tills = 2; top = 9256 }

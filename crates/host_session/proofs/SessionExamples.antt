@@ -20,7 +20,7 @@ use Rattle.request_cards.specs.declared.reply.Word.TheVariants.{Ahead, Kept, Med
 use Rattle.request_cards.specs.CardTexts.{Card}
 use Rattle.request_cards.specs.Ledgers.{Entry, State, nothing, reply_in}
 use Rattle.request_cards.specs.Reading.{amounts, kind_before, kind_of, request_of}
-use Rattle.request_cards.specs.Numbers.{number_before, number_in}
+use Rattle.line_text.specs.Numbers.{number_before, number_in}
 use Rattle.request_cards.specs.Requests.{Ask, Body}
 use Rattle.host_session.specs.session.Answering.{after_ask}
 use Rattle.host_session.specs.session.Handling.{IsMedia, MayGrow, after_of, card_writes, is_first_set, is_next_request}

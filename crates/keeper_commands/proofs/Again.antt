@@ -6,8 +6,8 @@ use Rattle.std.specs.Prelude.{if◌then◌else◌, not, slice_get}
 use Rattle.std.proofs.lemmas.List.{length-set}
 use Rattle.std.proofs.lemmas.Option.{get_or_from_slice_get}
 use Rattle.std.proofs.lemmas.Slice.Eq.{bytes_eq-Decides}
-use Rattle.byte_text.specs.Lines.{padded}
-use Rattle.byte_text.specs.Texts.{record_line}
+use Rattle.line_text.specs.bytes.Lines.{padded}
+use Rattle.line_text.specs.bytes.Texts.{record_line}
 use Rattle.keeper_commands.proofs.LastOnes.{AreNumbers, lines-numbers, ones-all, ones-apart, ones-greatest, stored-ones}
 use Rattle.keeper_commands.proofs.Padded.{so-stored_one}
 use Rattle.keeper_commands.specs.Stores.{AreApart, AreLinesOf, AreSo, IsSo, NewRecord, changed_line, changed_text}

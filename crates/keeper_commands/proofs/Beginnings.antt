@@ -1,10 +1,10 @@
 -- A beginning of the lines of records, handed to an output.
 use Rattle.std.proofs.Common.{◌≡◌, ◌≤◌, ◌<◌, ◌+◌, ◌-◌, ℕ, zero, suc, List, [], Option, ap, arith, get_or, length, refl, subst, sym, ◌++◌}
 use Rattle.std.specs.Io.KnownBytes.{Appends}
-use Rattle.byte_text.specs.Texts.{record_line}
+use Rattle.line_text.specs.bytes.Texts.{record_line}
 use Rattle.command_faults.proofs.Parts.{part-behind, part-longer}
 use Rattle.command_faults.specs.Outputs.{HandsPart}
-use Rattle.petscii_text.specs.declared.characters.CharacterSet.{CharacterSet}
+use Rattle.line_text.specs.declared.petscii.characters.CharacterSet.{CharacterSet}
 use Rattle.keeper_commands.specs.Forms.{form_line, form_lines_to, records_as}
 use Rattle.keeper_commands.specs.Records.{lines_to, records_text}
 use Rattle.keeper_commands.specs.declared.forms.ColumnForm.{ColumnForm}

@@ -13,7 +13,7 @@ use Rattle.d64_image.specs.declared.place.Place.{Place}
 use Rattle.disk_layout.proofs.lemmas.growth.GrowthRecords.{joined-append}
 use Rattle.disk_layout.proofs.lemmas.records.Joined.{joined-cons, joined-nil, length-joined, sector-long}
 use Rattle.disk_layout.specs.Records.{joined}
-use Rattle.petscii_text.specs.Characters.{readable_byte}
+use Rattle.line_text.specs.petscii.Characters.{readable_byte}
 use Rattle.keeper_commands.specs.Bytes.{file_bytes}
 use Rattle.keeper_commands.specs.Forms.{bytes_as}
 use Rattle.keeper_commands.specs.declared.forms.ByteForm.{ByteForm}

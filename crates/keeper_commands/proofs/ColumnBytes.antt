@@ -3,14 +3,14 @@ use Rattle.std.proofs.Common.{◌≡◌, ◌≤◌, ◌-◌, ◌∙◌, ℕ, Lis
 use Rattle.std.specs.Prelude.{◌==◌, codes, if◌then◌else◌, nat_eq, slice_index}
 use Rattle.std.proofs.lemmas.Bool.{eqb-true}
 use Rattle.std.proofs.lemmas.List.{append_assoc}
-use Rattle.byte_text.specs.Texts.{byte_text, is_plain, text_of, trimmed}
-use Rattle.record_columns.proofs.Open.{all-back, last-mark}
-use Rattle.record_columns.proofs.PiecesBack.{pieces-back}
-use Rattle.record_columns.specs.Columns.{IsEnded, columns_of, columns_of_fields, is_empty, open_columns, piece}
-use Rattle.record_columns.specs.Columns.{quoted, rest_of_columns}
-use Rattle.record_columns.specs.Pieces.{piece_columns, pieces}
-use Rattle.record_columns.specs.Positions.{starts}
-use Rattle.script_lines.proofs.Lines.{Lacks}
+use Rattle.line_text.specs.bytes.Texts.{byte_text, is_plain, text_of, trimmed}
+use Rattle.line_text.proofs.lemmas.columns.Open.{all-back, last-mark}
+use Rattle.line_text.proofs.lemmas.columns.PiecesBack.{pieces-back}
+use Rattle.line_text.specs.columns.Columns.{IsEnded, columns_of, columns_of_fields, is_empty, open_columns, piece}
+use Rattle.line_text.specs.columns.Columns.{quoted, rest_of_columns}
+use Rattle.line_text.specs.columns.Pieces.{piece_columns, pieces}
+use Rattle.line_text.specs.columns.Positions.{starts}
+use Rattle.line_text.proofs.lemmas.scripts.Lines.{Lacks}
 use Rattle.keeper_commands.proofs.Lined.{chosen-lacks, lacks-both, text-lacks}
 use Rattle.keeper_commands.specs.ColumnLines.{record_text}
 use Rattle.keeper_commands.specs.Forms.{HasPositions, columns_as}

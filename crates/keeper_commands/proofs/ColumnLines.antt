@@ -2,7 +2,7 @@
 use Rattle.std.proofs.Common.{◌≡◌, ◌<◌, ◌≤◌, ◌∙◌, ℕ, List, [], ◌∷◌, ◌++◌, Bool, true, false, ap, arith, drop, get_or, length, sym}
 use Rattle.std.specs.Prelude.{flat_map, if◌then◌else◌, nat_eq}
 use Rattle.std.proofs.lemmas.List.{append_assoc, append-nil}
-use Rattle.script_lines.specs.Lines.{lines}
+use Rattle.line_text.specs.scripts.Lines.{lines}
 use Rattle.keeper_commands.specs.ColumnLines.{ended_line, one_column, plain_line, plain_text}
 use Rattle.keeper_commands.specs.declared.forms.ColumnForm.{ColumnForm}
 

@@ -6,7 +6,7 @@ use Rattle.std.proofs.Math.Nat.{suc-mul}
 use Rattle.std.proofs.lemmas.Bool.{cases_lt}
 use Rattle.std.proofs.lemmas.List.{get_or_past, length-drop, length-take-le}
 use Rattle.std.proofs.lemmas.List.Elements.{All-from_get_or, All-from_recursion, recursion_from_All}
-use Rattle.byte_text.specs.Texts.{AreBytes}
+use Rattle.line_text.specs.bytes.Texts.{AreBytes}
 use Rattle.d64_image.specs.Chunks.{chunks_are_image, chunks_are_sectors}
 use Rattle.d64_image.proofs.Images.{is_sector}
 use Rattle.d64_image.specs.Images.{Image, IsImage, sector}

@@ -4,7 +4,7 @@ use Rattle.std.proofs.Common.{◌∙◌, arith}
 use Rattle.std.specs.Prelude.{max, slice_index}
 use Rattle.std.proofs.lemmas.Bool.{cases_eq}
 use Rattle.std.proofs.lemmas.List.{append_assoc, append-nil, length-append}
-use Rattle.byte_text.specs.Lines.{IsLineOf}
+use Rattle.line_text.specs.bytes.Lines.{IsLineOf}
 use Rattle.keeper_commands.proofs.Folds.{greatest-push}
 use Rattle.keeper_commands.proofs.LastOnes.{place-other, place-push}
 use Rattle.keeper_commands.specs.Stores.{AreLinesOf, CanStore, IsFirstBad, NewRecord, TellsLast, greatest}

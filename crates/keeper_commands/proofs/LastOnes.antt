@@ -4,7 +4,7 @@ use Rattle.std.proofs.Common.{length, set, refl, subst, sym, ap, ap₂, ◌∙�
 use Rattle.std.specs.List.{AllByRecursion}
 use Rattle.std.specs.Prelude.{◌||◌, if◌then◌else◌, max, nat_eq}
 use Rattle.std.proofs.lemmas.Bool.{cases_Bool, cases_eq}
-use Rattle.byte_text.specs.Lines.{padded}
+use Rattle.line_text.specs.bytes.Lines.{padded}
 use Rattle.keeper_commands.specs.Stores.{AreApart, AreLinesOf, NewRecord, greatest, is_among, last_ones}
 use Rattle.keeper_commands.specs.Stores.{last_place, stored, with_stored}
 

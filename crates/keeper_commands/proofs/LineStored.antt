@@ -9,9 +9,9 @@ use Rattle.d64_image.proofs.Moments.{at_end, changes_weaker}
 use Rattle.d64_image.specs.History.{Changes, History}
 use Rattle.disk_layout.specs.Layout.{File, Layout, record_length}
 use Rattle.disk_layout.specs.Records.{records}
-use Rattle.byte_text.proofs.Stored.{one-line}
-use Rattle.byte_text.specs.Lines.{IsLineOf}
-use Rattle.byte_text.specs.Texts.{record_line}
+use Rattle.line_text.proofs.lemmas.bytes.Stored.{one-line}
+use Rattle.line_text.specs.bytes.Lines.{IsLineOf}
+use Rattle.line_text.specs.bytes.Texts.{record_line}
 use Rattle.rel_records.proofs.lemmas.Kept.{leaves_has}
 use Rattle.rel_records.specs.declared.rel_file.RelFile.{RelFile}
 use Rattle.command_faults.specs.Outputs.{HandsPart}

@@ -7,9 +7,9 @@ use Rattle.std.specs.Prelude.{◌==◌, decimal, if◌then◌else◌, slice_inde
 use Rattle.std.proofs.Math.Seq.{get_or-append_seam}
 use Rattle.std.proofs.lemmas.Fmt.{decimal_is_IsNumeral}
 use Rattle.std.proofs.lemmas.List.{append_assoc, append-nil}
-use Rattle.byte_text.specs.Texts.{byte_text, digit, is_plain, record_line, text_of, trimmed}
-use Rattle.script_lines.proofs.Lines.{Lacks, split_piece}
-use Rattle.script_lines.specs.Lines.{ended, lines, onto_first, split, without_cr}
+use Rattle.line_text.specs.bytes.Texts.{byte_text, digit, is_plain, record_line, text_of, trimmed}
+use Rattle.line_text.proofs.lemmas.scripts.Lines.{Lacks, split_piece}
+use Rattle.line_text.specs.scripts.Lines.{ended, lines, onto_first, split, without_cr}
 use Rattle.keeper_commands.specs.Records.{lines_to, records_text}
 
 -- the lines of records, the first with number k; and those of the first n of them

@@ -7,7 +7,7 @@ use Rattle.std.proofs.lemmas.List.{append_assoc, append-nil, length-append}
 use Rattle.d64_image.specs.History.{History}
 use Rattle.disk_layout.specs.Clean.{IsClean}
 use Rattle.disk_layout.specs.Layout.{File, Layout, record_length}
-use Rattle.byte_text.specs.Lines.{IsLineOf}
+use Rattle.line_text.specs.bytes.Lines.{IsLineOf}
 use Rattle.rel_records.specs.File.{IsFileOf, IsOf, length_of, records_in}
 use Rattle.rel_records.specs.Others.{LeavesRecords}
 use Rattle.rel_records.specs.declared.rel_file.RelFile.{RelFile}

@@ -7,11 +7,11 @@ use Rattle.std.specs.Prelude.{max}
 use Rattle.std.proofs.Math.Seq.{set-append_seam}
 use Rattle.std.proofs.Math.Nat.{mul-le-mul_left}
 use Rattle.std.proofs.lemmas.List.{append_assoc}
-use Rattle.byte_text.proofs.Stored.{line-of, one-line, stored-back}
-use Rattle.byte_text.proofs.Trims.{trimmed-short}
-use Rattle.byte_text.specs.Lines.{padded}
-use Rattle.byte_text.specs.Texts.{AreBytes, kept_before, trimmed}
-use Rattle.script_lines.specs.Lines.{lines}
+use Rattle.line_text.proofs.lemmas.bytes.Stored.{line-of, one-line, stored-back}
+use Rattle.line_text.proofs.lemmas.bytes.Trims.{trimmed-short}
+use Rattle.line_text.specs.bytes.Lines.{padded}
+use Rattle.line_text.specs.bytes.Texts.{AreBytes, kept_before, trimmed}
+use Rattle.line_text.specs.scripts.Lines.{lines}
 use Rattle.keeper_commands.specs.Records.{records_text}
 use Rattle.keeper_commands.specs.Stores.{AreApart, AreLinesOf, AreRecords, CanHave, CanStore, NewRecord, greatest}
 use Rattle.keeper_commands.specs.Stores.{new_record, numbered, stored, with_stored}

@@ -24,7 +24,7 @@ use Rattle.rel_records.specs.declared.faults.RelFault.{RelFault}
 use Rattle.rel_records.specs.declared.faults.RelFault.TheVariants as rel
 use Rattle.rel_records.specs.declared.rel_file.RelFile.{RelFile}
 use Rattle.rel_records.specs.growth.Growth.{added, growth_writes, records_had}
-use Rattle.byte_text.specs.Texts.{trimmed}
+use Rattle.line_text.specs.bytes.Texts.{trimmed}
 use Rattle.keeper_commands.proofs.Composed.{leaves-same}
 use Rattle.keeper_commands.proofs.Padded.{other-changed, other-not_so, so-stored_one, so-there, so-unchanged}
 use Rattle.keeper_commands.proofs.Printing.{not-err, read-fails}

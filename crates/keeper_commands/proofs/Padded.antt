@@ -6,9 +6,9 @@ use Rattle.std.proofs.lemmas.Bool.{cases_Bool}
 use Rattle.std.proofs.lemmas.List.{length-append, length-replicate, length-take-le}
 use Rattle.std.proofs.lemmas.Option.{get_or_from_slice_get, same_Some}
 use Rattle.std.proofs.lemmas.Slice.Eq.{bytes_eq-Decides}
-use Rattle.byte_text.proofs.Stored.{stored-back}
-use Rattle.byte_text.specs.Lines.{padded}
-use Rattle.byte_text.specs.Texts.{kept_before, trimmed}
+use Rattle.line_text.proofs.lemmas.bytes.Stored.{stored-back}
+use Rattle.line_text.specs.bytes.Lines.{padded}
+use Rattle.line_text.specs.bytes.Texts.{kept_before, trimmed}
 use Rattle.keeper_commands.specs.Stores.{IsSo, NewRecord, is_changed, with_stored}
 
 -- zeros behind them are no part of what is trimmed

@@ -11,7 +11,7 @@ use Rattle.d64_image.proofs.Told.{memory-never}
 use Rattle.d64_image.specs.History.{Failed, History}
 use Rattle.d64_image.specs.Memory.{memory}
 use Rattle.d64_image.specs.declared.mem_disk.MemDisk.{MemDisk}
-use Rattle.byte_text.specs.Texts.{record_line}
+use Rattle.line_text.specs.bytes.Texts.{record_line}
 use Rattle.rel_records.specs.Faults.{TellsRelFault}
 use Rattle.rel_records.specs.Written.{IsAbsent}
 use Rattle.rel_records.specs.declared.faults.RelFault.{RelFault}

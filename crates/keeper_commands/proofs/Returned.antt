@@ -18,7 +18,7 @@ use Rattle.rel_records.specs.Others.{HasRecords}
 use Rattle.rel_records.specs.Written.{grown_to}
 use Rattle.rel_records.specs.growth.Growth.{added, blocks_for, full, records_had}
 use Rattle.rel_records.proofs.lemmas.growth.Grows.{count-is}
-use Rattle.script_lines.specs.Lines.{lines}
+use Rattle.line_text.specs.scripts.Lines.{lines}
 use Rattle.keeper_commands.proofs.Again.{so-again, so-unprinted}
 use Rattle.keeper_commands.proofs.LastOnes.{ones-greatest}
 use Rattle.keeper_commands.proofs.Numbered.{lines-one, lines-only, numbered-greatest, stored-first}

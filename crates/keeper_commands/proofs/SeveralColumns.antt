@@ -6,9 +6,9 @@ use Rattle.std.specs.Str.Parse.{AllDigits}
 use Rattle.std.proofs.lemmas.Fmt.{decimal_is_IsNumeral}
 use Rattle.std.proofs.lemmas.List.{append_assoc, append-nil}
 use Rattle.std.proofs.lemmas.Str.Parse.{digit_from_value}
-use Rattle.byte_text.specs.Texts.{record_line}
-use Rattle.script_lines.proofs.Lines.{Lacks, split_piece}
-use Rattle.script_lines.specs.Lines.{ended, lines, split, without_cr}
+use Rattle.line_text.specs.bytes.Texts.{record_line}
+use Rattle.line_text.proofs.lemmas.scripts.Lines.{Lacks, split_piece}
+use Rattle.line_text.specs.scripts.Lines.{ended, lines, split, without_cr}
 use Rattle.keeper_commands.proofs.ColumnBytes.{Ends, columns-back, columns-end, form-lacks}
 use Rattle.keeper_commands.proofs.Lined.{digits-lack, ended-more, lacks-both, last-is, line-ended}
 use Rattle.keeper_commands.proofs.Lined.{some-piece, text-is, text_from}

@@ -22,7 +22,7 @@ use Rattle.rel_records.specs.declared.faults.RelFault.{RelFault}
 use Rattle.rel_records.specs.declared.faults.RelFault.TheVariants as rel
 use Rattle.rel_records.specs.declared.rel_file.RelFile.{RelFile}
 use Rattle.rel_records.specs.growth.Growth.{IsFull, growth_writes, records_had}
-use Rattle.script_lines.specs.Lines.{lines}
+use Rattle.line_text.specs.scripts.Lines.{lines}
 use Rattle.keeper_commands.proofs.Reached.{not-too-large}
 use Rattle.keeper_commands.specs.Faults.{keep_fault}
 use Rattle.keeper_commands.specs.Refusals.{IsLeft}

@@ -20,7 +20,7 @@ use Rattle.rel_records.specs.Written.{grown_to}
 use Rattle.rel_records.specs.declared.rel_file.RelFile.{RelFile}
 use Rattle.rel_records.specs.growth.Growth.{IsFull, growth_writes, records_had}
 use Rattle.rel_records.proofs.lemmas.growth.Grows.{had-of, count-is}
-use Rattle.script_lines.specs.Lines.{lines}
+use Rattle.line_text.specs.scripts.Lines.{lines}
 use Rattle.keeper_commands.proofs.Composed.{stopped-behind}
 use Rattle.keeper_commands.proofs.LastOnes.{lines-numbers, ones-greatest, stored-ones}
 use Rattle.keeper_commands.proofs.OneStored.{grown-none}

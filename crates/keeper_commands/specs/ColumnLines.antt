@@ -1,9 +1,9 @@
 -- Lines with several columns as lines of records. Our own.
 use Rattle.std.specs.Prelude.{ℕ, List, [], ◌∷◌, ◌++◌, flat_map, if◌then◌else◌, nat_eq}
-use Rattle.record_columns.specs.Columns.{columns_text}
-use Rattle.record_columns.specs.Pieces.{pieces_text}
-use Rattle.record_columns.specs.Positions.{starts}
-use Rattle.script_lines.specs.Lines.{lines}
+use Rattle.line_text.specs.columns.Columns.{columns_text}
+use Rattle.line_text.specs.columns.Pieces.{pieces_text}
+use Rattle.line_text.specs.columns.Positions.{starts}
+use Rattle.line_text.specs.scripts.Lines.{lines}
 use Rattle.keeper_commands.specs.declared.forms.ColumnForm.{ColumnForm}
 use Rattle.keeper_commands.specs.declared.forms.ColumnForm.TheVariants as forms
 

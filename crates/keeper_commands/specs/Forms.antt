@@ -1,12 +1,12 @@
 -- How what is taken out of an image is printed. All of it is our own.
 use Rattle.std.specs.Prelude.{ℕ, zero, suc, ◌+◌, ◌++◌, List, [], codes, decimal, get_or, length, ⊤}
-use Rattle.byte_text.specs.Texts.{record_line, trimmed}
-use Rattle.petscii_text.specs.Characters.{readable}
-use Rattle.petscii_text.specs.declared.characters.CharacterSet.{CharacterSet}
-use Rattle.quoted_text.specs.Quoted.{quoted}
-use Rattle.record_columns.specs.Columns.{all_columns}
-use Rattle.record_columns.specs.Pieces.{piece_columns}
-use Rattle.record_columns.specs.Positions.{ArePositions, starts}
+use Rattle.line_text.specs.bytes.Texts.{record_line, trimmed}
+use Rattle.line_text.specs.petscii.Characters.{readable}
+use Rattle.line_text.specs.declared.petscii.characters.CharacterSet.{CharacterSet}
+use Rattle.line_text.specs.petscii.Quoted.{quoted}
+use Rattle.line_text.specs.columns.Columns.{all_columns}
+use Rattle.line_text.specs.columns.Pieces.{piece_columns}
+use Rattle.line_text.specs.columns.Positions.{ArePositions, starts}
 use Rattle.keeper_commands.specs.Records.{records_text}
 use Rattle.keeper_commands.specs.declared.forms.ByteForm.{ByteForm}
 use Rattle.keeper_commands.specs.declared.forms.ByteForm.TheVariants as bytes

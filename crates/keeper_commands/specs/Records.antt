@@ -1,7 +1,7 @@
 -- What is printed of the records of a relative file of an image. All of it is our own.
 use Rattle.std.specs.Prelude.{◌≡◌, ◌≤◌, ℕ, zero, suc, ◌+◌, ◌-◌, ◌/◌, ◌++◌, List, [], IfErr, IfOk, Option, Result, Some}
 use Rattle.std.specs.Prelude.{get_or, length, slice_get, take, unwrap_or}
-use Rattle.byte_text.specs.Texts.{record_line}
+use Rattle.line_text.specs.bytes.Texts.{record_line}
 use Rattle.d64_image.specs.Images.{Image}
 use Rattle.d64_image.specs.Memory.{sectors_in}
 use Rattle.d64_image.specs.declared.place.Place.{Place}

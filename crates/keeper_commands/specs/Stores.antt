@@ -2,8 +2,8 @@
 use Rattle.std.specs.Prelude.{◌≡◌, ◌≢◌, ◌≤◌, ◌⊎◌, Bool, false, ℕ, suc, ◌+◌, ◌-◌, ◌||◌, ◌++◌, List, [], ◌∷◌, Some}
 use Rattle.std.specs.Prelude.{bytes_eq, get_or, if◌then◌else◌, length, max, nat_eq, not, slice_get, slice_index}
 use Rattle.std.specs.List.{AllByRecursion}
-use Rattle.byte_text.specs.Lines.{IsLineOf, padded}
-use Rattle.byte_text.specs.Texts.{AreBytes, record_line, trimmed}
+use Rattle.line_text.specs.bytes.Lines.{IsLineOf, padded}
+use Rattle.line_text.specs.bytes.Texts.{AreBytes, record_line, trimmed}
 use Rattle.rel_records.specs.Written.{with_half, with_written}
 use Rattle.rel_records.specs.growth.Growth.{blocks_for}
 

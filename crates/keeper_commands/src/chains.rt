@@ -14,7 +14,7 @@ use crate::forms::ByteForm;
 use arrayvec::ArrayVec;
 use command_faults::{CommandFault, put};
 use d64_image::{MemDisk, Place, Sectors};
-use petscii_text::{CharacterSet, Readable};
+use line_text::{CharacterSet, Readable};
 use std::alloc::Global;
 use std::io::{self, Write};
 

@@ -4,8 +4,7 @@ ghost use Rattle.keeper_commands.specs.ColumnLines.{one_column, plain_line, plai
 ghost use Rattle.keeper_commands.specs.ColumnLines as lines;
 
 use crate::forms::ColumnForm;
-use record_columns::{push_columns, push_pieces};
-use script_lines::next_line;
+use line_text::{next_line, push_columns, push_pieces};
 use std::alloc::{AllocError, Global};
 
 /// Appends the text of the record that has these columns.

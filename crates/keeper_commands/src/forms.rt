@@ -1,6 +1,5 @@
 //! How what is taken out of an image is printed.
-use petscii_text::CharacterSet;
-use record_columns::Positions;
+use line_text::{CharacterSet, Positions};
 
 /// What the columns of a record's line are.
 #[derive(Clone, Copy, Debug, PartialEq, Eq)]

@@ -1,20 +1,19 @@
 //! Lines of records, checked before any is stored.
 ghost use Rattle.std.specs.Prelude.{◌≡◌, ◌↔◌, ◌≤◌, length, [], ℕ, List, IfErr, IfOk, IfSome, IsNone, IsTrue};
-ghost use Rattle.byte_text.specs.Lines.{IsLineOf};
-ghost use Rattle.byte_text.specs.Texts.{AreBytes};
+ghost use Rattle.line_text.specs.bytes.Lines.{IsLineOf};
+ghost use Rattle.line_text.specs.bytes.Texts.{AreBytes};
 ghost use Rattle.keeper_commands.specs.Stores.{AreLinesOf, CanHave, CanStore, IsFirstBad, NewRecord, TellsLast};
 ghost use Rattle.keeper_commands.specs.Stores.{greatest, new_record};
 ghost use Rattle.command_faults.specs.declared.faults.CommandFault.TheVariants as faults;
 ghost use Rattle.rel_records.specs.File.{length_of, records_in};
-ghost use Rattle.script_lines.specs.Lines.{lines};
+ghost use Rattle.line_text.specs.scripts.Lines.{lines};
 
 use crate::last_lines::LastLines;
 use arrayvec::ArrayVec;
-use byte_text::read_line;
 use command_faults::CommandFault;
 use disk_layout::DATA;
+use line_text::{next_line, read_line};
 use rel_records::{RelFile, blocks_for, has_records};
-use script_lines::next_line;
 
 /// Whether the file has this record, or can have it.
 fn can_have(file: &RelFile, number: u32) -> bool

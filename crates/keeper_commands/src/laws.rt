@@ -1,7 +1,7 @@
 //! Laws of records that are stored, and of repairs, each the contract of a function that does nothing.
 ghost use Rattle.std.specs.Prelude.{◌≡◌, ◌≤◌, ◌⊎◌, ◌++◌, ℕ, Bool, List, [], drop, length};
 ghost use Rattle.std.specs.Io.KnownBytes.{Appends};
-ghost use Rattle.byte_text.specs.Texts.{AreBytes};
+ghost use Rattle.line_text.specs.bytes.Texts.{AreBytes};
 ghost use Rattle.d64_image.specs.History.{WritesNothing};
 ghost use Rattle.d64_image.specs.Images.{Image};
 ghost use Rattle.d64_image.specs.Memory.{sectors_in};
@@ -30,7 +30,7 @@ ghost use Rattle.keeper_commands.specs.Stores.{
 ghost use Rattle.keeper_commands.specs.Storing.{IsStoreDone, IsStoredDisk, put_over};
 ghost use Rattle.rel_records.specs.Others.{HasRecords};
 ghost use Rattle.rel_records.specs.growth.Growth.{blocks_for, full, records_had};
-ghost use Rattle.script_lines.specs.Lines.{lines};
+ghost use Rattle.line_text.specs.scripts.Lines.{lines};
 
 use d64_image::Sectors;
 use std::io::Write;

@@ -13,13 +13,10 @@ ghost use Rattle.rel_records.specs.reading.Kept.{IsKept};
 
 use crate::forms::{ColumnForm, RecordForm};
 use arrayvec::ArrayVec;
-use byte_text::{trim, write_line};
 use command_faults::{CommandFault, put};
 use d64_image::MemDisk;
 use disk_layout::DATA;
-use petscii_text::CharacterSet;
-use quoted_text::Quoted;
-use record_columns::{write_all_columns, write_pieces};
+use line_text::{CharacterSet, Quoted, trim, write_all_columns, write_line, write_pieces};
 use rel_records::{LastBlock, RelFile, read_next, records};
 use std::io::{self, Write};
 

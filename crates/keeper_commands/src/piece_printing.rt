@@ -10,9 +10,9 @@ use crate::forms::RecordForm;
 use crate::line_printing::put_form_line;
 use crate::record_printing::{ROOM, hand_on};
 use arrayvec::ArrayVec;
-use byte_text::put_line;
 use command_faults::{CommandFault, put};
 use disk_layout::DATA;
+use line_text::put_line;
 use std::io::Write;
 
 /// Puts the bytes of a record into this room, in place of what it had.

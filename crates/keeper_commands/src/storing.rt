@@ -1,8 +1,8 @@
 //! Records stored from their lines in a relative file.
 ghost use Rattle.std.specs.Prelude.{◌≡◌, ◌≢◌, ◌≤◌, ℕ, List, IfErr, IfSome, IsNone, OnErr, OnOk, length, slice_index};
 ghost use Rattle.std.specs.Io.KnownBytes.{Appends};
-ghost use Rattle.byte_text.specs.Lines.{IsLineOf};
-ghost use Rattle.byte_text.specs.Texts.{record_line};
+ghost use Rattle.line_text.specs.bytes.Lines.{IsLineOf};
+ghost use Rattle.line_text.specs.bytes.Texts.{record_line};
 ghost use Rattle.disk_layout.specs.Clean.{IsClean};
 ghost use Rattle.command_faults.specs.Outputs.{HandsPart};
 ghost use Rattle.keeper_commands.specs.Stores.{
@@ -18,16 +18,15 @@ ghost use Rattle.keeper_commands.specs.Stores.{
 ghost use Rattle.keeper_commands.specs.Storing.{StoresLines, StoresOne};
 ghost use Rattle.command_faults.specs.declared.faults.CommandFault.TheVariants as faults;
 ghost use Rattle.rel_records.specs.File.{IsOf, OfItsFile, length_of, records_in};
-ghost use Rattle.script_lines.specs.Lines.{lines};
+ghost use Rattle.line_text.specs.scripts.Lines.{lines};
 
 use crate::last_lines::LastLines;
 use arrayvec::ArrayVec;
-use byte_text::{LINE_ROOM, put_line, read_line, trim};
 use command_faults::{CommandFault, put};
 use d64_image::Sectors;
 use disk_layout::DATA;
+use line_text::{LINE_ROOM, next_line, put_line, read_line, trim};
 use rel_records::{RelFile, read_record, write_record};
-use script_lines::next_line;
 use std::io::Write;
 
 /// Stores a record that is there, if it differs: the bytes, and zeros after them. Returns whether it differed.

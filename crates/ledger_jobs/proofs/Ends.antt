@@ -3,7 +3,7 @@ use Rattle.std.proofs.Common.{◌≡◌, ◌≢◌, Result, Ok, Err, List, ℕ, 
 use Rattle.std.specs.Prelude.{IfErr, IfOk, IsSome, None, OnOk, Option, is_some}
 use Rattle.ledger_jobs.specs.Ends.{dry_end, end_of}
 use Rattle.ledger_jobs.specs.Runs.{IsDryRefusal}
-use Rattle.script_lines.specs.Lines.{first_reset, lines}
+use Rattle.line_text.specs.scripts.Lines.{first_reset, lines}
 use Rattle.shop_commands.specs.Faults.{IsDryFault}
 use Rattle.shop_commands.specs.declared.dry_run.DryFault.{DryFault}
 use Rattle.shop_commands.specs.declared.dry_run.DryFault.TheVariants as dry

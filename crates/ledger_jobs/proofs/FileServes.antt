@@ -14,7 +14,7 @@ use Rattle.host_session.specs.events.Events.{Message}
 use Rattle.host_session.specs.events.Instants.{Instant, instant_of}
 use Rattle.host_session.specs.events.Within.{AreFew, AreWithin}
 use Rattle.host_session.specs.shop.Shop.{Shop}
-use Rattle.script_lines.specs.Lines.{lines}
+use Rattle.line_text.specs.scripts.Lines.{lines}
 use Rattle.host_session.specs.declared.runs.event_loop.LoopFault.{LoopFault}
 use Rattle.line_server.proofs.Handled.{handled_run}
 use Rattle.line_server.proofs.Served.{all_uncut}

@@ -1,8 +1,8 @@
 -- Texts that are no name.
 use Rattle.std.proofs.Common.{◌≡◌, ◌≤◌, ◌-◌, ◌<◌, ◌∙◌, ℕ, List, Some, ap, arith, length, subst, sym}
 use Rattle.std.specs.Prelude.{slice_get}
-use Rattle.byte_text.proofs.Texts.{one-text}
-use Rattle.byte_text.specs.Texts.{text_of}
+use Rattle.line_text.proofs.lemmas.bytes.Texts.{one-text}
+use Rattle.line_text.specs.bytes.Texts.{text_of}
 use Rattle.ledger_jobs.specs.Names.{IsNameOf}
 
 -- a text has the bytes that were found alone, and these are too many

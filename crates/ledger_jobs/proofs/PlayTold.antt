@@ -8,7 +8,7 @@ use Rattle.host_session.specs.events.Events.{HasNoReset}
 use Rattle.host_session.specs.runs.Chains.{told_in}
 use Rattle.request_cards.specs.Ledgers.{report}
 use Rattle.request_cards.specs.declared.reply.Reply.{Reply}
-use Rattle.script_lines.specs.Lines.{lines}
+use Rattle.line_text.specs.scripts.Lines.{lines}
 use Rattle.shop_commands.specs.ImageFile.{placed}
 use Rattle.shop_commands.specs.Plays.{IsUntouched}
 use Rattle.shop_commands.specs.declared.durability.Durability.{Durability}

@@ -20,7 +20,7 @@ use Rattle.log_server.specs.Serves.{AreFirst, shop_behind}
 use Rattle.log_server.proofs.UnderWay.{as_many_replies}
 use Rattle.request_cards.specs.Ledgers.{replies}
 use Rattle.request_cards.specs.declared.reply.Reply.{Reply}
-use Rattle.script_lines.specs.Lines.{lines}
+use Rattle.line_text.specs.scripts.Lines.{lines}
 use Rattle.command_faults.specs.declared.faults.CommandFault.{CommandFault}
 use Rattle.shop_log.specs.ImageLogs.{LogHistory}
 use Rattle.shop_log.specs.declared.log_file.LogFile.{Ghosts}

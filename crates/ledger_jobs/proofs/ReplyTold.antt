@@ -21,7 +21,7 @@ use Rattle.log_files.specs.declared.live_log.LiveLog.{LiveLog}
 use Rattle.log_server.specs.Reporting.{IsToldTo, LogOutput, of_output}
 use Rattle.request_cards.specs.Ledgers.{report}
 use Rattle.request_cards.specs.declared.reply.Reply.{Reply}
-use Rattle.script_lines.specs.Lines.{lines}
+use Rattle.line_text.specs.scripts.Lines.{lines}
 use Rattle.shop_log.specs.ImageLogs.{LogHistory}
 use Rattle.shop_log.specs.declared.log_file.LogFile.{Ghosts}
 use Rattle.ledger_jobs.specs.Ends.{JobEnd, as_run}

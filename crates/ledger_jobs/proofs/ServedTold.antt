@@ -7,7 +7,7 @@ use Rattle.host_session.proofs.lemmas.runs.Chained.{told_over}
 use Rattle.host_session.specs.runs.Chains.{over_instants}
 use Rattle.line_server.specs.Answering.{Answering, of_output}
 use Rattle.line_server.specs.Giving.{Input}
-use Rattle.script_lines.specs.Lines.{lines}
+use Rattle.line_text.specs.scripts.Lines.{lines}
 use Rattle.shop_commands.specs.ImageFile.{placed}
 use Rattle.shop_commands.specs.declared.durability.Durability.{Durability}
 use Rattle.shop_commands.specs.declared.durability.WritesAt.{Ghosts}

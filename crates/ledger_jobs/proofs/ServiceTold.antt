@@ -19,7 +19,7 @@ use Rattle.log_server.proofs.UnderWay.{as_many_replies}
 use Rattle.log_server.specs.Reporting.{IsToldTo, of_output}
 use Rattle.request_cards.specs.Ledgers.{replies, report}
 use Rattle.request_cards.specs.declared.reply.Reply.{Reply}
-use Rattle.script_lines.specs.Lines.{lines}
+use Rattle.line_text.specs.scripts.Lines.{lines}
 use Rattle.shop_log.specs.declared.log_file.LogFile.{Ghosts}
 use Rattle.ledger_jobs.proofs.LoggedTold.{passed-back, watched-back}
 use Rattle.ledger_jobs.proofs.PlayedOver.{all_told}

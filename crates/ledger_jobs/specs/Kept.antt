@@ -25,7 +25,7 @@ use Rattle.rel_records.specs.Others.{HasRecords}
 use Rattle.rel_records.specs.Written.{grown_to}
 use Rattle.rel_records.specs.creation.Made.{HasNoRoom, IsTakenName}
 use Rattle.rel_records.specs.growth.Growth.{IsFull, records_had}
-use Rattle.script_lines.specs.Lines.{lines}
+use Rattle.line_text.specs.scripts.Lines.{lines}
 
 -- The image is clean, this holds of its layout, and neither file nor output was touched.
 pub record IsRefused {F W : Type 0} (image : List ℕ) (file after : F) (old new : W) (Why : Layout → Type 0) : Type 0

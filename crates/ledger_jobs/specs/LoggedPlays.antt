@@ -10,7 +10,7 @@ use Rattle.log_server.specs.Reporting.{LogOutput}
 use Rattle.log_server.specs.Serves.{shop_behind}
 use Rattle.request_cards.specs.Ledgers.{replies}
 use Rattle.request_cards.specs.declared.reply.Reply.{Reply}
-use Rattle.script_lines.specs.Lines.{first_reset, lines}
+use Rattle.line_text.specs.scripts.Lines.{first_reset, lines}
 use Rattle.command_faults.specs.declared.faults.CommandFault.{CommandFault}
 use Rattle.shop_log.specs.ImageLogs.{LogHistory}
 use Rattle.ledger_jobs.specs.Ends.{JobEnd}

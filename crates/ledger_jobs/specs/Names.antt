@@ -1,6 +1,6 @@
 -- Names of files, as they are typed. Our own.
 use Rattle.std.specs.Prelude.{◌≡◌, ◌≢◌, ◌≤◌, ◌-◌, ℕ, List, Some, length, slice_get}
-use Rattle.byte_text.specs.Texts.{text_of}
+use Rattle.line_text.specs.bytes.Texts.{text_of}
 use Rattle.ledger_jobs.specs.declared.names.Name.{Name}
 
 -- the bytes of a name

@@ -12,7 +12,7 @@ use Rattle.ledger_jobs.specs.declared.jobs.Findings.TheVariants as findings
 use Rattle.ledger_jobs.specs.declared.jobs.Overview.{Overview}
 use Rattle.ledger_jobs.specs.declared.jobs.Overview.TheVariants as overviews
 use Rattle.ledger_jobs.specs.declared.jobs.Reading.TheVariants as readings
-use Rattle.named_lines.specs.Named.{named}
+use Rattle.line_text.specs.Named.{named}
 
 -- what is asked of an image that is alone ended so
 abbrev pub IsOverview : {W : Type 0} → (W → Option (List ℕ)) → Overview → (image : List ℕ) → W → W → JobEnd → Type 0

@@ -8,7 +8,7 @@ use Rattle.host_session.specs.events.Telling.{Output}
 use Rattle.shop_commands.specs.Listings.{IsCheckFault, IsListFault, IsListed, IsVerdict}
 use Rattle.shop_commands.specs.Plays.{IsFileFault, IsPlayedFile}
 use Rattle.shop_commands.specs.Shops.{IsShowFault, IsShown}
-use Rattle.script_lines.specs.Lines.{first_reset, lines}
+use Rattle.line_text.specs.scripts.Lines.{first_reset, lines}
 use Rattle.shop_commands.specs.Texts.{verdict_text}
 use Rattle.shop_commands.specs.DryRuns.{dry_report}
 use Rattle.command_faults.specs.declared.faults.CommandFault.{CommandFault}

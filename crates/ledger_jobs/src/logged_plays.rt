@@ -1,14 +1,14 @@
 //! Playing a script over a log, as a run of the program.
 ghost use Rattle.std.specs.Prelude.{◌≡◌, Err, IfSome, None};
 ghost use Rattle.ledger_jobs.specs.LoggedPlays.{IsLoggedPlay};
-ghost use Rattle.script_lines.specs.Lines.{first_reset, lines};
+ghost use Rattle.line_text.specs.scripts.Lines.{first_reset, lines};
 ghost use Rattle.command_faults.specs.declared.faults.CommandFault.TheVariants as faults;
 
 use crate::logged_runs::serve_logged;
 use command_faults::CommandFault;
 use line_server::ScriptBatches;
+use line_text::first_reset_line;
 use log_server::Reports;
-use script_lines::first_reset_line;
 use shop_log::ImageLog;
 use std::alloc::Global;
 

@@ -1,12 +1,12 @@
 //! Names of files, as they are typed.
 ghost use Rattle.std.specs.Prelude.{◌≡◌, ◌-◌, ◌↔◌, ℕ, List, IfSome, IsNone, IsTrue, Some, length, slice_get};
-ghost use Rattle.byte_text.specs.Texts.{AreBytes};
+ghost use Rattle.line_text.specs.bytes.Texts.{AreBytes};
 ghost use Rattle.keeper_commands.specs.Makes.{IsNewName};
 ghost use Rattle.ledger_jobs.specs.Names.{IsNameOf, name_bytes};
 
 use arrayvec::ArrayVec;
-use byte_text::read_text;
 use keeper_commands::is_new_name;
+use line_text::read_text;
 
 /// How many bytes a name has at most.
 const NAME_BYTES: usize = 16;

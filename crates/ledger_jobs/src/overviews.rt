@@ -8,7 +8,7 @@ ghost use Rattle.ledger_jobs.specs.HostFiles.{IsReadAt};
 ghost use Rattle.ledger_jobs.specs.JobRuns.{AreOverviewed};
 ghost use Rattle.ledger_jobs.specs.Overviews.{IsOneOfSeveral, IsOverview, IsOverviewOf, IsToldAs};
 ghost use Rattle.ledger_jobs.specs.Runs.{IsReadingEnd};
-ghost use Rattle.named_lines.specs.Named.{named};
+ghost use Rattle.line_text.specs.Named.{named};
 ghost use Rattle.ledger_jobs.specs.Rights.{MayReadImage};
 
 use crate::drawing::drawing_run;
@@ -22,7 +22,7 @@ use crate::shop_runs::reading_run;
 use command_faults::CommandFault;
 use disk_layout::Fault;
 use host_files::HostFiles;
-use named_lines::put_named;
+use line_text::put_named;
 use shop_commands::Locks;
 use std::alloc::Global;
 use std::fs::OpenFile;

@@ -2,8 +2,8 @@
 use Rattle.std.proofs.Common.{◌≡◌, ◌<◌, ℕ, Bool, true, false, List, [], ◌∷◌, ◌++◌, length, map, refl, sym, subst, ◌∙◌}
 use Rattle.std.proofs.Common.{ap, inr, ⊎_elim, arith, append_assoc, append-nil}
 use Rattle.std.specs.Prelude.{◌==◌, if◌then◌else◌}
-use Rattle.script_lines.specs.Lines.{ended, lines, onto_first, split, without_cr}
-use Rattle.script_lines.proofs.Lines.{split_whole}
+use Rattle.line_text.specs.scripts.Lines.{ended, lines, onto_first, split, without_cr}
+use Rattle.line_text.proofs.lemmas.scripts.Lines.{split_whole}
 use Rattle.line_server.specs.Read.{AreWhole, LacksLf}
 
 onto_some : (x : ℕ) (ps : List (List ℕ)) → 0 < length ps → 0 < length (onto_first x ps)

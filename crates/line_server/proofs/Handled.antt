@@ -8,7 +8,7 @@ use Rattle.request_cards.specs.Ledgers.{State, plain, replies, reply_in}
 use Rattle.request_cards.specs.Reading.{request_of}
 use Rattle.request_cards.specs.Requests.{Ask}
 use Rattle.request_cards.specs.declared.reply.Reply.{Reply}
-use Rattle.script_lines.specs.Lines.{lines}
+use Rattle.line_text.specs.scripts.Lines.{lines}
 use Rattle.host_session.proofs.lemmas.runs.Chained.{run_rests, whole}
 use Rattle.host_session.specs.events.Counted.{MayCount, after_all}
 use Rattle.host_session.specs.events.Events.{requests_of, uncut}

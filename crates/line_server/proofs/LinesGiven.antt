@@ -11,7 +11,7 @@ use Rattle.std.proofs.lemmas.Bool.Decides.{eqb_tells}
 use Rattle.std.proofs.lemmas.List.{get_or-append-add, length-take, map-append, take_all}
 use Rattle.arrayvec.specs.ArrayVec.{ArrayVec}
 use Rattle.request_cards.specs.Reading.{request_of}
-use Rattle.script_lines.specs.Lines.{ended, lines, onto_first, split, without_cr}
+use Rattle.line_text.specs.scripts.Lines.{ended, lines, onto_first, split, without_cr}
 use Rattle.line_server.specs.Batches.{texts_of}
 use Rattle.line_server.specs.Read.{AreWhole, LacksLf}
 use Rattle.line_server.specs.Scripts.{crlf_text}

@@ -12,7 +12,7 @@ use Rattle.request_cards.specs.Requests.{Ask, IsAsk, may_go_to}
 use Rattle.request_cards.specs.Texts.{IsMessage, commas, kind_text, message_text, to_fields}
 use Rattle.request_cards.specs.declared.kind.Kind.{Kind}
 use Rattle.request_cards.specs.declared.kind.Kind.TheVariants.{Receive, Issue, Set, Move}
-use Rattle.script_lines.specs.Lines.{without_cr}
+use Rattle.line_text.specs.scripts.Lines.{without_cr}
 
 two : (x y : List ℕ) (m n : ℕ) → length x ≤ m → length y ≤ n → length (x ++ 44 ∷ y) ≤ m + (n + 1)
 two x y m n p q = omega (arith, length-append x (44 ∷ y), p, q)

@@ -19,7 +19,7 @@ use Rattle.host_session.specs.events.Within.{IsBounded, most_of_run}
 use Rattle.host_session.specs.declared.events.sources.Next.TheVariants as next
 use Rattle.host_session.specs.declared.runs.event_loop.LoopFault.{LoopFault}
 use Rattle.host_session.specs.declared.runs.event_loop.LoopFault.TheVariants as faults
-use Rattle.script_lines.specs.Lines.{lines}
+use Rattle.line_text.specs.scripts.Lines.{lines}
 use Rattle.line_server.specs.Answering.{Answering, answered}
 use Rattle.line_server.specs.Flushing.{lent}
 use Rattle.line_server.specs.Giving.{Input}

@@ -7,7 +7,7 @@ use Rattle.std.proofs.KnownBytes.{Consumes-nil, Consumes-trans}
 use Rattle.std.proofs.lemmas.List.{length_push, map-append}
 use Rattle.request_cards.specs.Reading.{request_of}
 use Rattle.request_cards.specs.Requests.{Ask}
-use Rattle.script_lines.specs.Lines.{lines, without_cr}
+use Rattle.line_text.specs.scripts.Lines.{lines, without_cr}
 use Rattle.host_session.specs.declared.events.sources.Next.{Next}
 use Rattle.host_session.specs.declared.events.sources.Next.TheVariants as next
 use Rattle.host_session.specs.events.Asking.{IsNext, TakesNone, TakesOne, messages_in}

@@ -5,7 +5,7 @@ use Rattle.std.specs.Io.KnownBytes.{Consumes, IsAtEnd}
 use Rattle.std.proofs.KnownBytes.{Consumes-nil, Consumes-trans}
 use Rattle.std.proofs.lemmas.List.{map-append}
 use Rattle.request_cards.specs.Reading.{request_of}
-use Rattle.script_lines.specs.Lines.{lines, without_cr}
+use Rattle.line_text.specs.scripts.Lines.{lines, without_cr}
 use Rattle.host_session.specs.declared.events.sources.Next.{Next}
 use Rattle.host_session.specs.declared.events.sources.Next.TheVariants as next
 use Rattle.line_server.specs.Batches.{AreSame, IsBatchTaken}

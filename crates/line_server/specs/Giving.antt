@@ -2,7 +2,7 @@
 use Rattle.std.specs.Prelude.{◌≡◌, ℕ, Bool, true, List, [], ◌∷◌, ◌++◌, OnSome, Option, ⊤}
 use Rattle.std.specs.Io.KnownBytes.{Consumes, IsAtEnd}
 use Rattle.request_cards.specs.Reading.{request_of}
-use Rattle.script_lines.specs.Lines.{without_cr}
+use Rattle.line_text.specs.scripts.Lines.{without_cr}
 use Rattle.host_session.specs.declared.events.sources.Next.{Next}
 use Rattle.host_session.specs.declared.events.sources.Next.TheVariants as next
 use Rattle.host_session.specs.events.Instants.{Instant}

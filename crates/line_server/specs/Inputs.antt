@@ -5,7 +5,7 @@ use Rattle.std.proofs.KnownBytes.{Consumes-nil}
 use Rattle.std.specs.Io.KnownBytes.{Consumes, IsAtEnd}
 use Rattle.request_cards.specs.Reading.{request_of}
 use Rattle.request_cards.specs.Requests.{Ask}
-use Rattle.script_lines.specs.Lines.{lines}
+use Rattle.line_text.specs.scripts.Lines.{lines}
 use Rattle.host_session.specs.declared.events.sources.Next.TheVariants as next
 use Rattle.host_session.specs.events.Asking.{Source, messages_in}
 use Rattle.host_session.specs.events.Events.{Message, uncut}

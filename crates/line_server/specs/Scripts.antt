@@ -1,6 +1,6 @@
 -- A script in memory as an input of lines. All of it is our own.
 use Rattle.std.specs.Prelude.{ℕ, List, [], ◌∷◌, ◌++◌, Option, Some, false, flat_map}
-use Rattle.script_lines.specs.Lines.{lines}
+use Rattle.line_text.specs.scripts.Lines.{lines}
 use Rattle.line_server.specs.Batches.{BatchInput}
 use Rattle.line_server.specs.declared.scripts.ScriptBatches.{ScriptBatches}
 

@@ -8,7 +8,7 @@ use crate::batches::{BatchSource, MOST_LINES};
 use crate::reading::append_part;
 use arrayvec::ArrayVec;
 use host_session::Next;
-use script_lines::next_line;
+use line_text::next_line;
 
 /// The lines of a script, of which a last one without LF counts, in batches of 512. It never fails.
 #[derive(Drop)]

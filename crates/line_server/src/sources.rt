@@ -1,7 +1,7 @@
 //! Inputs that give lines, each asked for over the disk as it is then.
 ghost use Rattle.host_session.specs.events.Instants.{instant_of};
 ghost use Rattle.line_server.specs.Giving.{Input, IsGiven, IsLineTaken, of_reader};
-ghost use Rattle.script_lines.specs.Lines.{without_cr};
+ghost use Rattle.line_text.specs.scripts.Lines.{without_cr};
 ghost use Rattle.std.specs.Prelude.{◌≡◌};
 
 use crate::reading::read_line;

@@ -7,7 +7,7 @@ use Rattle.d64_image.specs.declared.mem_disk.MemDisk.{MemDisk}
 use Rattle.disk_layout.specs.Whole.{IsWhole}
 use Rattle.request_cards.specs.Ledgers.{replies}
 use Rattle.request_cards.specs.declared.reply.Reply.{Reply}
-use Rattle.script_lines.specs.Lines.{lines}
+use Rattle.line_text.specs.scripts.Lines.{lines}
 use Rattle.host_session.specs.declared.runs.event_loop.LoopFault.{LoopFault}
 use Rattle.host_session.specs.declared.runs.event_loop.LoopFault.TheVariants as faults
 use Rattle.host_session.specs.runs.Chains.{told_in}

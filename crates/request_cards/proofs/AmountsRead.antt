@@ -5,7 +5,7 @@ use Rattle.std.proofs.lemmas.Bool.Decides.{nat_tests}
 use Rattle.request_cards.specs.declared.kind.Kind.{Kind}
 use Rattle.request_cards.specs.declared.kind.Kind.TheVariants.{Receive, Issue, Set, Move}
 use Rattle.request_cards.specs.Reading.{amounts}
-use Rattle.request_cards.specs.Numbers.{number_before, number_in}
+use Rattle.line_text.specs.Numbers.{number_before, number_in}
 use Rattle.request_cards.specs.Requests.{may_go_to, same_kind}
 
 -- of a kind that moves nothing

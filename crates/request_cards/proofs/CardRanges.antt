@@ -11,7 +11,7 @@ use Rattle.request_cards.specs.Ledgers.{Entry}
 use Rattle.request_cards.specs.CardTexts.{Card, IsCard, IsEntry, IsStock, Stock, answer_quantity, answer_to_quantity}
 use Rattle.request_cards.specs.CardTexts.{goes_with, is_done}
 use Rattle.request_cards.specs.CardReading.{is_entry, is_second, is_intent, is_new_card, is_old_card, is_stock}
-use Rattle.request_cards.proofs.Fields.{Decides-leb}
+use Rattle.line_text.proofs.lemmas.digits.Fields.{Decides-leb}
 
 -- the ranges of a stock card
 pub stock_decides : (s : Stock) → Decides (is_stock s) (IsStock s)

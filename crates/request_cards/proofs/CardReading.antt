@@ -18,7 +18,7 @@ use Rattle.request_cards.specs.CardReading.{number_at, kind_at, answer_with, fie
 use Rattle.request_cards.specs.CardReading.{new_card_at, is_new_card, is_old_card, read_as, stock_at, is_stock}
 use Rattle.request_cards.specs.CardReading.{stock_card_of, request_card_of}
 use Rattle.request_cards.proofs.Cards.{card_cut, card_same, second_is, second_mark, second_marked, state_of}
-use Rattle.request_cards.proofs.Fields.{if_some}
+use Rattle.line_text.proofs.lemmas.digits.Fields.{if_some}
 use Rattle.request_cards.proofs.Widths.{front_digits, stock_cut}
 use Rattle.request_cards.proofs.EntryFields.{IsCut, body_same, code_low, entry_same, fields_cut, kind_stands}
 use Rattle.request_cards.proofs.Entries.{goes_nowhere, one_quantity, to_high, whole_cut}

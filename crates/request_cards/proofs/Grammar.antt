@@ -3,7 +3,7 @@ use Rattle.std.proofs.Common.{◌≡◌, ℕ, List, None, Option, Some, refl}
 use Rattle.request_cards.specs.declared.kind.Kind.{Kind}
 use Rattle.request_cards.specs.Requests.{Ask}
 use Rattle.request_cards.specs.Reading.{amounts, kind_before, request_of}
-use Rattle.request_cards.specs.Numbers.{number_before}
+use Rattle.line_text.specs.Numbers.{number_before}
 
 pub made_of : (bytes : List ℕ) (till number : ℕ) (kind : Kind) (item quantity to : ℕ)
     (after_till after_number after_kind after_item : List ℕ)

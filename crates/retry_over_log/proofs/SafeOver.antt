@@ -36,7 +36,7 @@ use Rattle.retry_safe.specs.Asked.{IsAsked}
 use Rattle.retry_safe.specs.Left.{IsReceived}
 use Rattle.retry_safe.specs.RetrySafe.{Reopened, left_of}
 use Rattle.retry_safe.specs.Turns.{asks_in, counted_in}
-use Rattle.script_lines.specs.Lines.{lines}
+use Rattle.line_text.specs.scripts.Lines.{lines}
 use Rattle.shop_log.specs.ImageLogs.{LogHistory}
 
 -- the cards once the message was answered

@@ -20,7 +20,7 @@ use Rattle.request_cards.specs.declared.reply.Reply.{Reply}
 use Rattle.retry_safe.specs.Left.{IsReceived}
 use Rattle.retry_safe.specs.RetrySafe.{IfAnswered, IsAnswered, Reopened}
 use Rattle.retry_safe.specs.Turns.{Answered, CountsOnce, EachTurn, IsLastOfTill, Turn, asks_in, counted_in}
-use Rattle.script_lines.specs.Lines.{lines}
+use Rattle.line_text.specs.scripts.Lines.{lines}
 use Rattle.shop_log.specs.ImageLogs.{LogHistory}
 
 -- the first n lines count, and with them each line from the k-th on whose reply was reported by that moment

@@ -11,7 +11,7 @@ use Rattle.request_cards.specs.declared.reply.Reply.TheVariants.{Cut, Told}
 use Rattle.request_cards.specs.declared.reply.Word.TheVariants.{Kept, Media}
 use Rattle.request_cards.specs.Ledgers.{nothing, plain}
 use Rattle.request_cards.specs.Reading.{amounts, kind_before, kind_of, request_of}
-use Rattle.request_cards.specs.Numbers.{number_before, number_in}
+use Rattle.line_text.specs.Numbers.{number_before, number_in}
 use Rattle.request_cards.specs.Requests.{Ask}
 use Rattle.retry_safe.specs.Left.{IsReceived}
 use Rattle.retry_safe.specs.Turns.{Answered, CountsOnce, EachTurn, IsAnswer, NoneOfTill, Turn, counted_in}

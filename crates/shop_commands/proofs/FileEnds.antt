@@ -19,8 +19,8 @@ use Rattle.host_session.specs.declared.runs.scripts.ScriptFault.TheVariants as s
 use Rattle.host_session.specs.events.Telling.{Output}
 use Rattle.host_session.specs.runs.ScriptRuns.{IsScriptRun}
 use Rattle.host_session.specs.session.Opening.{Refuses}
-use Rattle.script_lines.specs.Lines.{lines}
-use Rattle.script_lines.specs.Resets.{first_bad}
+use Rattle.line_text.specs.scripts.Lines.{lines}
+use Rattle.line_text.specs.scripts.Resets.{first_bad}
 use Rattle.shop_commands.specs.Faults.{opening_fault, script_fault}
 use Rattle.command_faults.specs.Faults.{IsLoadFault}
 use Rattle.shop_commands.specs.Plays.{IsFileFault, IsPlayEnd, IsPlayedFile, IsStopped, IsTakenUp}

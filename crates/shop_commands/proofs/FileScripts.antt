@@ -26,7 +26,7 @@ use Rattle.host_session.specs.session.Opening.{IsAShop, Refuses}
 use Rattle.host_session.specs.shop.Shop.{Shop}
 use Rattle.request_cards.specs.Ledgers.{State}
 use Rattle.request_cards.specs.declared.reply.Reply.{Reply}
-use Rattle.script_lines.specs.Lines.{lines}
+use Rattle.line_text.specs.scripts.Lines.{lines}
 use Rattle.shop_commands.proofs.FileChains.{blamed_file, bounded_of_file, changes_of_file, failing_of_file}
 use Rattle.shop_commands.proofs.FileChains.{quiet_of_file, run_of_file, same_instants, within_failing}
 use Rattle.shop_commands.proofs.FileChains.{spared_of_file}

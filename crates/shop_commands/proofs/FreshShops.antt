@@ -15,7 +15,7 @@ use Rattle.host_session.proofs.lemmas.shop.Shops.{IsShop-one}
 use Rattle.host_session.specs.events.Events.{HasNoReset}
 use Rattle.host_session.specs.shop.Shop.{Shop, start_of}
 use Rattle.request_cards.specs.Ledgers.{nothing, replies, report}
-use Rattle.script_lines.specs.Lines.{first_reset, is_reset, lines}
+use Rattle.line_text.specs.scripts.Lines.{first_reset, is_reset, lines}
 use Rattle.shop_commands.specs.FreshShops.{DryBeginsFresh, DryTellsReplies, FreshBytesAreADisk, FreshIsAShop}
 use Rattle.shop_commands.specs.FreshShops.{FreshShowsItsTop, RunTellsDry, SamePlainScripts, fresh_shop}
 use Rattle.shop_commands.specs.Images.{IsFreshDisk}

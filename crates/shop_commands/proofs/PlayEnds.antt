@@ -9,7 +9,7 @@ use Rattle.host_session.specs.events.Telling.{Output, TellsNone}
 use Rattle.host_session.specs.runs.ScriptRuns.{AreToldSo, IsPlayedOut, IsPlayedToDevice, IsPlayedToOutput, IsScriptRun}
 use Rattle.host_session.specs.shop.Shop.{Shop}
 use Rattle.request_cards.specs.declared.reply.Reply.{Reply}
-use Rattle.script_lines.specs.Lines.{lines}
+use Rattle.line_text.specs.scripts.Lines.{lines}
 
 -- an option that is never some is none
 pub none-of : (o : Option ℕ) → ((n : ℕ) → o ≡ Some n → ⊥) → o ≡ None

@@ -1,7 +1,7 @@
 -- A script run without a disk. All of it is our own.
 use Rattle.std.specs.Prelude.{ℕ, List, []}
 use Rattle.request_cards.specs.Ledgers.{Start, nothing, replies, report}
-use Rattle.script_lines.specs.Lines.{lines}
+use Rattle.line_text.specs.scripts.Lines.{lines}
 
 -- a fresh disk with 64 tills, whose last item with room is 8819
 abbrev pub dry_start : Start

@@ -10,7 +10,7 @@ use Rattle.host_session.specs.shop.Blank.{blank_shop}
 use Rattle.host_session.specs.shop.Shop.{IsSettled, IsShop, Shop, start_of}
 use Rattle.request_cards.specs.Ledgers.{replies, report}
 use Rattle.request_cards.specs.declared.reply.Reply.{Reply}
-use Rattle.script_lines.specs.Lines.{first_reset, lines}
+use Rattle.line_text.specs.scripts.Lines.{first_reset, lines}
 use Rattle.shop_commands.specs.Images.{AreFreshBytes, IsFreshDisk}
 use Rattle.shop_commands.specs.Shows.{shown_shop, top_line}
 use Rattle.shop_commands.specs.DryRuns.{dry_report, dry_start}

@@ -7,8 +7,8 @@ use Rattle.d64_image.specs.Memory.{sectors_in}
 use Rattle.host_session.specs.declared.runs.scripts.ScriptFault.{ScriptFault}
 use Rattle.host_session.specs.events.Telling.{Output}
 use Rattle.host_session.specs.runs.ScriptRuns.{IsScriptRun}
-use Rattle.script_lines.specs.Lines.{lines}
-use Rattle.script_lines.specs.Resets.{first_bad}
+use Rattle.line_text.specs.scripts.Lines.{lines}
+use Rattle.line_text.specs.scripts.Resets.{first_bad}
 use Rattle.shop_commands.specs.Faults.{script_fault}
 use Rattle.shop_commands.specs.Shops.{IsOpenRefusal}
 use Rattle.command_faults.specs.declared.faults.CommandFault.{CommandFault}

@@ -10,7 +10,7 @@ use Rattle.disk_layout.specs.Texts.{fault_text}
 use Rattle.disk_layout.specs.View.{blocks_free}
 use Rattle.disk_layout.specs.declared.faults.Fault.{Fault}
 use Rattle.disk_layout.specs.declared.slot.Slot.{Slot}
-use Rattle.quoted_text.specs.Quoted.{one_line}
+use Rattle.line_text.specs.petscii.Quoted.{one_line}
 use Rattle.shop_commands.specs.declared.texts.NameForm.{NameForm}
 use Rattle.shop_commands.specs.declared.texts.NameForm.TheVariants as names
 

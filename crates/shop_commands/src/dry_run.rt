@@ -4,12 +4,12 @@ ghost use Rattle.std.specs.Io.KnownBytes.{Appends, Keeps};
 ghost use Rattle.request_cards.specs.Ledgers.{replies_from, report};
 ghost use Rattle.request_cards.specs.Tables.{IsWithin, held_by, limits_of};
 ghost use Rattle.shop_commands.specs.Faults.{IsDryFault, dry_number, dry_status};
-ghost use Rattle.script_lines.specs.Lines.{first_reset, lines};
+ghost use Rattle.line_text.specs.scripts.Lines.{first_reset, lines};
 ghost use Rattle.shop_commands.specs.Faults.{dry_text};
 ghost use Rattle.shop_commands.specs.DryRuns.{dry_report, dry_start};
 
+use line_text::{first_reset_line, next_line};
 use request_cards::Ledger;
-use script_lines::{first_reset_line, next_line};
 use std::error::Error;
 use std::fmt::{self, Display, Formatter};
 use std::io::Write;

@@ -4,8 +4,7 @@ ghost use Rattle.shop_commands.specs.Texts.{disk_text, entry_text, free_text, na
 ghost use Rattle.shop_commands.specs.Texts.{type_name as name_of_type};
 
 use disk_layout::{BamView, EntryView, Slot};
-use petscii_text::CharacterSet;
-use quoted_text::OneLine;
+use line_text::{CharacterSet, OneLine};
 use std::fmt::{self, Display, Formatter};
 
 /// Bytes of the disk as they are printed: a question mark stands for each outside $20 to $7E.

@@ -8,7 +8,7 @@ use Rattle.host_session.specs.events.Telling.{Output}
 use Rattle.host_session.specs.runs.ScriptRuns.{AreToldSo}
 use Rattle.host_session.specs.shop.Shop.{IsSettled, IsShop, Shop, start_of, with_state}
 use Rattle.request_cards.specs.Ledgers.{plain, replies}
-use Rattle.script_lines.specs.Lines.{lines}
+use Rattle.line_text.specs.scripts.Lines.{lines}
 use Rattle.shop_commands.specs.Plays.{IsFileFault, IsPlayedFile}
 use Rattle.disk_layout.specs.declared.faults.Fault.{Fault}
 use Rattle.shop_commands.specs.ImageFile.{placed}

@@ -8,7 +8,7 @@ use Rattle.host_session.specs.events.Events.{Message, messages_of}
 use Rattle.host_session.specs.events.Telling.{Output}
 use Rattle.host_session.specs.runs.Runs.{HeldBeginnings}
 use Rattle.host_session.specs.shop.Shop.{IsShop, Shop}
-use Rattle.script_lines.specs.Lines.{lines}
+use Rattle.line_text.specs.scripts.Lines.{lines}
 use Rattle.shop_commands.specs.Plays.{IsFileFault, IsPlayEnd, IsPlayedOver}
 use Rattle.command_faults.specs.declared.faults.CommandFault.{CommandFault}
 use Rattle.command_faults.specs.declared.faults.CommandFault.TheVariants as faults

@@ -17,7 +17,7 @@ use Rattle.host_session.specs.declared.runs.event_loop.LoopFault.TheVariants as 
 use Rattle.host_session.specs.runs.Runs.{HeldBeginnings}
 use Rattle.host_session.specs.session.Opening.{IsAShop}
 use Rattle.host_session.specs.shop.Shop.{IsShop, Shop}
-use Rattle.script_lines.specs.Lines.{lines}
+use Rattle.line_text.specs.scripts.Lines.{lines}
 use Rattle.line_server.specs.Answering.{Answering}
 use Rattle.line_server.specs.Giving.{Input}
 use Rattle.line_server.specs.Inputs.{line_messages}

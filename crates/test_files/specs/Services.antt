@@ -5,7 +5,7 @@ use Rattle.std.specs.Io.KnownBytes.{Consumes, IsAtEnd}
 use Rattle.d64_image.specs.Memory.{sectors_in}
 use Rattle.request_cards.specs.Ledgers.{plain, replies}
 use Rattle.request_cards.specs.declared.reply.Reply.{Reply}
-use Rattle.script_lines.specs.Lines.{lines}
+use Rattle.line_text.specs.scripts.Lines.{lines}
 use Rattle.host_session.specs.events.Events.{requests_of}
 use Rattle.host_session.specs.events.Instants.{Instant}
 use Rattle.host_session.specs.runs.Chains.{told_in}

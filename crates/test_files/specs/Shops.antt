@@ -7,7 +7,7 @@ use Rattle.host_session.specs.runs.Runs.{IsSomeBeginning}
 use Rattle.host_session.specs.runs.ScriptRuns.{AreToldSo}
 use Rattle.host_session.specs.shop.Shop.{IsSettled, IsShop, Shop, start_of, with_state}
 use Rattle.request_cards.specs.Ledgers.{plain, replies}
-use Rattle.script_lines.specs.Lines.{lines}
+use Rattle.line_text.specs.scripts.Lines.{lines}
 use Rattle.test_files.specs.Disks.{disk_bytes}
 use Rattle.test_files.specs.Files.{file_disk, file_lasting}
 use Rattle.test_files.specs.declared.disk_file.DiskFile.{DiskFile}

@@ -6,7 +6,7 @@ use Rattle.host_session.specs.events.Telling.{Output}
 use Rattle.host_session.specs.runs.ScriptRuns.{AreToldSo}
 use Rattle.host_session.specs.shop.Shop.{IsSettled, IsShop, Shop, start_of, with_state}
 use Rattle.request_cards.specs.Ledgers.{plain, replies}
-use Rattle.script_lines.specs.Lines.{lines}
+use Rattle.line_text.specs.scripts.Lines.{lines}
 use Rattle.test_files.specs.Shops.{IsAfterSome, bytes_there}
 use Rattle.test_files.specs.WholeFiles.{file_in, held_lasting, whole_held}
 use Rattle.test_files.specs.declared.whole_file.WholeFile.{WholeFile}

@@ -2,7 +2,7 @@
 //! disk before anything else is done, or all are at the end.
 ghost use Rattle.std.specs.Prelude.{◌≡◌, Err, OnOk, true};
 ghost use Rattle.host_session.specs.events.Events.{messages_of};
-ghost use Rattle.script_lines.specs.Lines.{lines};
+ghost use Rattle.line_text.specs.scripts.Lines.{lines};
 ghost use Rattle.command_faults.specs.declared.faults.CommandFault.TheVariants as faults;
 ghost use Rattle.test_files.specs.Files.{file_held, has_failed};
 ghost use Rattle.test_files.specs.Services.{IsServedToDisk};

@@ -4,7 +4,7 @@ use crate::files::{Full, add, add_numbered, filled};
 use crate::images::{Bytes, S18_0, S18_1, changed, formatted};
 use crate::runs::{is_told, judged, listed, listed_as};
 use command_faults::CommandFault;
-use petscii_text::CharacterSet;
+use line_text::CharacterSet;
 use shop_commands::NameForm;
 use std::process::Abort;
 

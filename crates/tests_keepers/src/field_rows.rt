@@ -5,7 +5,7 @@ use crate::disks::{Change, changed};
 use crate::outputs::is_told;
 use crate::storing_rows::stored;
 use keeper_commands::{ColumnForm, RecordForm, plain_lines, records_image};
-use record_columns::Positions;
+use line_text::Positions;
 use std::process::Abort;
 
 /// Records of `STOCK`, which has 18 bytes a record: two fields, one without its carriage return, and no bytes. The other

@@ -2,7 +2,7 @@
 //! and what is no record's line.
 use crate::comparing::same_at;
 use arrayvec::ArrayVec;
-use byte_text::{read_line, write_line};
+use line_text::{read_line, write_line};
 use std::process::Abort;
 
 /// A record's number and bytes, and its line without the LF.
@@ -69,7 +69,7 @@ static NO_LINES: [&[u8]; 19] = [
 fn are_read(rt: &impl Abort, rows: &[Row], as_printed: bool) {
     for &(number, bytes, line) in rows {
         let bytes = if as_printed {
-            byte_text::trim(bytes)
+            line_text::trim(bytes)
         } else {
             bytes
         };

@@ -5,7 +5,7 @@ use crate::disks::{Change, changed};
 use crate::outputs::{Full, is_told};
 use command_faults::CommandFault;
 use keeper_commands::{ByteForm, Candidates, RecordForm, bytes_image, records_image};
-use petscii_text::CharacterSet;
+use line_text::CharacterSet;
 use std::process::Abort;
 
 /// Two records of `STOCK`, which has 18 bytes a record: letters, a spade, a mark, a comma and two fields; and a record

@@ -1,6 +1,6 @@
 //! Texts of bytes, worked out from the form's table: what is printed, what is read back, and what is no text.
 use crate::comparing::same_at;
-use byte_text::{read_text, write_text};
+use line_text::{read_text, write_text};
 use std::process::Abort;
 
 /// Bytes and their text: letters and signs of the names of disks, shifted letters, and a shifted space within. Then the

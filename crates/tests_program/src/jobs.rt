@@ -7,7 +7,7 @@ use file_rescue::Choice;
 use keeper_commands::{ByteForm, Candidates, ColumnForm, RecordForm};
 use ledger_cli::{Job, job};
 use ledger_jobs::{Columns, Drawing, Effect, Findings, Loss, Name, Overview, Taking, Unowned, Way};
-use petscii_text::CharacterSet;
+use line_text::CharacterSet;
 use shop_commands::{Durability, NameForm};
 use std::alloc::Global;
 use std::cell::RefCell;

@@ -4,8 +4,8 @@ use crate::disks::{clean, loaded};
 use crate::sessions::{ran, ran_of_events};
 use d64_image::{MemDisk, Meter};
 use host_session::Event;
+use line_text::event_at;
 use request_cards::Reply;
-use script_lines::event_at;
 use std::process::Abort;
 
 /// A line of a day as a script has it, its reply, and how many sectors are written. If power goes in it, `@`, that is

@@ -5,9 +5,9 @@ use Rattle.std.proofs.Common.{append-nil, sym}
 use Rattle.std.specs.declared.alloc.Global.{Global}
 use Rattle.d64_image.specs.Images.{Image}
 use Rattle.d64_image.specs.Memory.{sectors_in}
-use Rattle.script_lines.specs.Lines.{lines}
-use Rattle.script_lines.specs.Resets.{first_bad}
-use Rattle.script_lines.specs.declared.events.Event.{Event}
+use Rattle.line_text.specs.scripts.Lines.{lines}
+use Rattle.line_text.specs.scripts.Resets.{first_bad}
+use Rattle.line_text.specs.declared.scripts.events.Event.{Event}
 use Rattle.host_session.specs.declared.events.sources.Next.{Next}
 use Rattle.host_session.specs.declared.events.sources.Next.TheVariants as next
 use Rattle.host_session.specs.declared.events.sources.EventList.{EventList}

@@ -3,8 +3,8 @@ use Rattle.std.specs.Prelude.{◌≢◌, ℕ, List, None, Option, Some, flat_map
 use Rattle.std.specs.List.{AllByRecursion}
 use Rattle.request_cards.specs.Reading.{request_of}
 use Rattle.request_cards.specs.Requests.{Ask}
-use Rattle.script_lines.specs.Resets.{Line, line_of}
-use Rattle.script_lines.specs.declared.events.Event.{Event}
+use Rattle.line_text.specs.scripts.Resets.{Line, line_of}
+use Rattle.line_text.specs.declared.scripts.events.Event.{Event}
 
 -- A message and, if power fails in it, the number of its sector writes before that. Listed recoveries are no part of
 -- it: they change neither what counts nor a reply.

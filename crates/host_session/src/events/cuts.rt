@@ -10,8 +10,8 @@ ghost use Rattle.host_session.specs.shop.Shop.{IsSettled, IsShop, Shop};
 
 use crate::session::Session;
 use d64_image::{Fuse, Sectors};
+use line_text::Cut;
 use request_cards::{Reply, Word};
-use script_lines::Cut;
 
 /// Passes a message to a session whose power fails after this number of writes, and takes the disk back.
 fn cut_message<D: Sectors>(session: Session<D>, message: &[u8], after: u32) -> D

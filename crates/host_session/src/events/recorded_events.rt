@@ -4,7 +4,7 @@ ghost use Rattle.host_session.specs.events.Asking.{noted, noted_in};
 
 use crate::events::sources::{EventSource, Next};
 use d64_image::MemDisk;
-use script_lines::Cut;
+use line_text::Cut;
 use std::alloc::Global;
 
 /// A source of events that keeps, for each, a copy of what the disk held when the event was asked for. If there is no

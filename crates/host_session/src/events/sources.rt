@@ -3,10 +3,10 @@ ghost use Rattle.std.specs.Prelude.{◌≡◌, Some, option_map};
 ghost use Rattle.host_session.specs.events.Asking.{IsNext, Source, last_taken, of_events, of_script};
 ghost use Rattle.host_session.specs.events.Events.{message_in};
 ghost use Rattle.host_session.specs.events.Instants.{instant_of};
-ghost use Rattle.script_lines.specs.Resets.{Line, line_of};
+ghost use Rattle.line_text.specs.scripts.Resets.{Line, line_of};
 
 use d64_image::Sectors;
-use script_lines::{Cut, Event, event_at, next_line};
+use line_text::{Cut, Event, event_at, next_line};
 
 /// The result of asking for the next event.
 #[derive(Clone, Copy, Debug, PartialEq, Eq)]

@@ -8,8 +8,8 @@ use crate::events::sources::EventList;
 use crate::faults::OpenFault;
 use crate::runs::event_loop::{LoopFault, run};
 use d64_image::Sectors;
+use line_text::Event;
 use request_cards::Reply;
-use script_lines::Event;
 use thiserror::Error;
 
 /// Why not all events were played.

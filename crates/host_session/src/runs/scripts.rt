@@ -10,7 +10,7 @@ use crate::events::sources::ScriptEvents;
 use crate::faults::OpenFault;
 use crate::runs::event_loop::{LoopFault, run};
 use d64_image::Sectors;
-use script_lines::first_bad_line;
+use line_text::first_bad_line;
 use std::io::Write;
 use thiserror::Error;
 

@@ -1,9 +1,7 @@
 //! Records as columns: those that Python's `csv` writes of the fields, with marks everywhere and only if they are needed;
 //! and lines that aren't read.
 use crate::comparing::same_at;
-use record_columns::{
-    ends_with_return, push_columns, read_columns, write_all_columns, write_columns,
-};
+use line_text::{ends_with_return, push_columns, read_columns, write_all_columns, write_columns};
 use std::process::Abort;
 
 /// A record, its columns by `csv.QUOTE_ALL`, and by `csv.QUOTE_MINIMAL`.

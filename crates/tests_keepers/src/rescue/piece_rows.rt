@@ -1,6 +1,6 @@
 //! Records cut at fixed positions as columns, and back: rows by hand.
 use crate::comparing::same_at;
-use record_columns::{Positions, push_pieces, write_pieces};
+use line_text::{Positions, push_pieces, write_pieces};
 use std::process::Abort;
 
 /// Lists, and whether they are positions: the first is 1, and each is greater than the one before.

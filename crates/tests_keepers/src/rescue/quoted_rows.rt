@@ -1,7 +1,6 @@
 //! Text between quotation marks, by hand from the tables of `text_rows` and RFC 4180.
 use crate::comparing::same_at;
-use petscii_text::CharacterSet;
-use quoted_text::{OneLine, Quoted};
+use line_text::{CharacterSet, OneLine, Quoted};
 use std::process::Abort;
 
 /// A set, bytes, and their text without the marks. The bytes are: none, a mark and two of them, lines of a club's member,

@@ -1,10 +1,10 @@
 //! Characters, texts and names of files, against tables from outside.
 use crate::comparing::same_at;
-use petscii_text::{CharacterSet, Ending, Readable, character, file_name};
+use line_text::{CharacterSet, Ending, Readable, character, file_name};
 use std::process::Abort;
 
 /// A set, a byte, and the characters from that byte on: those that cc1541 4.0 prints, except for the bytes that the
-/// README of `petscii_text` lists. `tests/characters.py` compares the two again.
+/// README of `line_text` lists. `tests/characters.py` compares the two again.
 static ROWS: [(CharacterSet, u8, &str); 10] = [
     (
         CharacterSet::Graphics,

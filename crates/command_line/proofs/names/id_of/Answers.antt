@@ -1,6 +1,6 @@
 -- The bytes that have the text aren't two, and no others have it.
 use Rattle.std.proofs.Common.{◌≡◌, ◌∙◌, ap, arith, length, sym}
-use Rattle.byte_text.proofs.Texts.{one-text}
+use Rattle.line_text.proofs.lemmas.bytes.Texts.{one-text}
 use Rattle.command_line.proofs.names.id_of.Goals as goal
 
 pub returns-then-len-ne2-clause-none : goal.returns-then-len-ne2-clause-none

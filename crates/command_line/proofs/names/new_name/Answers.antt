@@ -1,7 +1,7 @@
 -- The bytes that have the text are no new file's name, and no others have it.
 use Rattle.std.proofs.Common.{◌≡◌, ◌∙◌, subst, sym}
 use Rattle.std.proofs.lemmas.Bool.{false≢true}
-use Rattle.byte_text.proofs.Texts.{one-text}
+use Rattle.line_text.proofs.lemmas.bytes.Texts.{one-text}
 use Rattle.keeper_commands.specs.Makes.{IsNewName}
 use Rattle.ledger_jobs.specs.Names.{name_bytes}
 use Rattle.command_line.proofs.names.new_name.Goals as goal

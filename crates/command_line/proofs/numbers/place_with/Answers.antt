@@ -1,6 +1,6 @@
 -- Both numbers give the place, and none is missing.
 use Rattle.std.proofs.Common.{sym, ◌∙◌}
-use Rattle.request_cards.specs.Numbers.{number_in}
+use Rattle.line_text.specs.Numbers.{number_in}
 use Rattle.command_line.proofs.Sectors.{both-given, no-sector, no-track}
 use Rattle.command_line.proofs.numbers.place_with.Goals as goal
 

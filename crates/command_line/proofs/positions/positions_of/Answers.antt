@@ -2,8 +2,8 @@
 use Rattle.std.proofs.Common.{◌≡◌, ◌∙◌, Bor, List, None, Option, Some, ap, sym, ℕ}
 use Rattle.std.specs.Prelude.{option_map}
 use Rattle.std.proofs.lemmas.Option.{IfSome_then}
-use Rattle.record_columns.specs.Positions.{starts}
-use Rattle.request_cards.specs.Numbers.{number_before}
+use Rattle.line_text.specs.columns.Positions.{starts}
+use Rattle.line_text.specs.Numbers.{number_before}
 use Rattle.command_line.proofs.Listed.{all-listed, none-left, not-listed, one-read, shorter, too-many}
 use Rattle.command_line.proofs.positions.positions_of.Goals as goal
 

@@ -2,7 +2,7 @@
 use Rattle.std.proofs.Common.{[], ap, inl, inr, refl, subst, sym, ◌∙◌}
 use Rattle.std.specs.Prelude.{IfOk, MatchResult, codes}
 use Rattle.clap.specs.Words.{found_of, rows_of, subcommand_rows_of}
-use Rattle.request_cards.specs.Numbers.{number_in}
+use Rattle.line_text.specs.Numbers.{number_in}
 use Rattle.ledger_jobs.specs.declared.jobs.Job.TheVariants as jobs
 use Rattle.ledger_jobs.specs.declared.jobs.Overview.TheVariants as overviews
 use Rattle.ledger_jobs.specs.declared.jobs.Taking.TheVariants as takings

@@ -1,6 +1,6 @@
 -- The name lies in the folder.
 use Rattle.std.proofs.Common.{List, ℕ, ap, arith, subst, sym, ◌∙◌}
-use Rattle.petscii_text.specs.FileNames.{file_name_of}
+use Rattle.line_text.specs.petscii.FileNames.{file_name_of}
 use Rattle.file_rescue.proofs.Inside.{name-inside}
 use Rattle.file_rescue.specs.Folders.{StaysInside}
 use Rattle.file_rescue.proofs.making.make_entry.Goals as goal

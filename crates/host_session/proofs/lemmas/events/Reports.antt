@@ -8,12 +8,12 @@ use Rattle.std.proofs.KnownBytes.{Appends-trans}
 use Rattle.request_cards.specs.Ledgers.{report}
 use Rattle.request_cards.specs.Texts.{reply_text}
 use Rattle.request_cards.specs.declared.reply.Reply.{Reply}
-use Rattle.script_lines.specs.declared.events.Cut.{Cut}
-use Rattle.script_lines.specs.declared.events.Event.{Event}
+use Rattle.line_text.specs.declared.scripts.events.Cut.{Cut}
+use Rattle.line_text.specs.declared.scripts.events.Event.{Event}
 use Rattle.host_session.specs.events.Asking.{messages_in}
 use Rattle.host_session.specs.events.Events.{Message, message_in, message_of, messages_of}
 use Rattle.host_session.specs.events.Instants.{Instant}
-use Rattle.script_lines.specs.Resets.{Line, first_bad, line_in, line_of}
+use Rattle.line_text.specs.scripts.Resets.{Line, first_bad, line_in, line_of}
 
 report_more : (told : List Reply) (r : Reply) → report (told ++ r ∷ []) ≡ report told ++ (reply_text r ++ codes "\n")
 report_more [] r = append-nil (reply_text r ++ codes "\n")

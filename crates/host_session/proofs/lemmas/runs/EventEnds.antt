@@ -7,7 +7,7 @@ use Rattle.std.specs.declared.alloc.Global.{Global}
 use Rattle.std.proofs.lemmas.List.{drop_all}
 use Rattle.d64_image.specs.History.{Failed, History, NeverFailed}
 use Rattle.request_cards.specs.declared.reply.Reply.{Reply}
-use Rattle.script_lines.specs.declared.events.Event.{Event}
+use Rattle.line_text.specs.declared.scripts.events.Event.{Event}
 use Rattle.host_session.proofs.lemmas.events.Printed.{told_more}
 use Rattle.host_session.proofs.lemmas.runs.Chained.{at_device, run_unfailed, told_over, whole}
 use Rattle.host_session.proofs.lemmas.runs.QuietRuns.{quiet_of_more}

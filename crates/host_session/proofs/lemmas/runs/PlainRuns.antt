@@ -12,7 +12,7 @@ use Rattle.host_session.specs.events.Counted.{IsCounted, MayCount, NoneGotMedia,
 use Rattle.host_session.specs.events.Events.{HasNoReset, messages_of, requests_of, uncut}
 use Rattle.host_session.specs.runs.Runs.{IsPlayedWhole}
 use Rattle.host_session.specs.shop.Shop.{IsSettled, Shop, start_of, with_state}
-use Rattle.script_lines.specs.Resets.{line_of}
+use Rattle.line_text.specs.scripts.Resets.{line_of}
 
 part_whole : (top : ℕ) (state : State) (o : Option Ask) (f : Bool) (c : List Ask) → f ≡ false
     → MayCount top state o None f c → c ≡ option_to_list o

@@ -3,8 +3,8 @@ use Rattle.std.proofs.Common.{◌≡◌, ◌≢◌, ◌++◌, ◌∙◌, ⊎_eli
 use Rattle.std.proofs.Common.{Result, arith, inl, inr, length, append-nil}
 use Rattle.std.proofs.lemmas.Option.{none-some}
 use Rattle.d64_image.specs.History.{History}
-use Rattle.script_lines.specs.Lines.{lines}
-use Rattle.script_lines.specs.Resets.{first_bad}
+use Rattle.line_text.specs.scripts.Lines.{lines}
+use Rattle.line_text.specs.scripts.Resets.{first_bad}
 use Rattle.host_session.proofs.lemmas.runs.Chained.{at_device, at_output, told_over, whole}
 use Rattle.host_session.proofs.lemmas.runs.PlainRuns.{plain_played}
 use Rattle.host_session.proofs.lemmas.runs.QuietRuns.{quiet_of_more}

@@ -3,7 +3,7 @@ use Rattle.std.proofs.Common.{◌≡◌, ◌+◌, ℕ, arith, refl, subst}
 use Rattle.std.specs.Prelude.{max}
 use Rattle.keeper_commands.proofs.Judged.{JudgedTo, judged-all, judged-bad, judged-more, judged-none}
 use Rattle.rel_records.specs.File.{length_of, records_in}
-use Rattle.script_lines.specs.Lines.{lines}
+use Rattle.line_text.specs.scripts.Lines.{lines}
 use Rattle.keeper_commands.proofs.judging.judge.Goals as goal
 
 pub loop-line-init : goal.loop-line-init

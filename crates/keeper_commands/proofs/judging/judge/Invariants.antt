@@ -1,7 +1,7 @@
 -- The lines so far are of records that the file has or can have, which are told of, and each took a byte of the text.
 use Rattle.std.proofs.Common.{◌≤◌, ◌+◌, length}
 use Rattle.rel_records.specs.File.{length_of, records_in}
-use Rattle.script_lines.specs.Lines.{lines}
+use Rattle.line_text.specs.scripts.Lines.{lines}
 use Rattle.keeper_commands.proofs.Judged.{JudgedTo}
 use Rattle.keeper_commands.proofs.judging.judge.Given as goal
 

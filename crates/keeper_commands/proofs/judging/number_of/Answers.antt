@@ -1,8 +1,8 @@
 -- The line is of one record alone, and the file has or can have that; or why not.
 use Rattle.std.proofs.Common.{◌≡◌, ◌≤◌, ◌∙◌, ℕ, List, length, refl, subst, sym, arith}
 use Rattle.std.proofs.lemmas.Bool.{false≢true}
-use Rattle.byte_text.proofs.Stored.{one-line}
-use Rattle.byte_text.specs.Texts.{AreBytes}
+use Rattle.line_text.proofs.lemmas.bytes.Stored.{one-line}
+use Rattle.line_text.specs.bytes.Texts.{AreBytes}
 use Rattle.rel_records.specs.File.{length_of, records_in}
 use Rattle.keeper_commands.specs.Stores.{CanHave}
 use Rattle.keeper_commands.proofs.judging.number_of.Goals as goal

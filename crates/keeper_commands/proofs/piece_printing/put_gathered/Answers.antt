@@ -2,7 +2,7 @@
 use Rattle.std.proofs.Common.{◌≤◌, ◌+◌, ◌++◌, [], Err, List, ap, arith, length, refl, take, ℕ, ◌∙◌}
 use Rattle.std.proofs.KnownBytes.{Appends-nil}
 use Rattle.std.proofs.lemmas.Result.{err_from_is_err_and, on_err_weaker, on_ok_weaker}
-use Rattle.byte_text.specs.Texts.{record_line}
+use Rattle.line_text.specs.bytes.Texts.{record_line}
 use Rattle.command_faults.proofs.Parts.{part-on}
 use Rattle.keeper_commands.proofs.Beginnings.{plain-part}
 use Rattle.keeper_commands.proofs.Pieced.{piece-is, pieces-count}

@@ -1,7 +1,7 @@
 -- The record is there, and its line was put behind the others.
 use Rattle.std.proofs.Common.{◌≡◌, ◌++◌, List, ℕ, subst, sym, take, false}
 use Rattle.std.specs.Prelude.{is_err}
-use Rattle.byte_text.specs.Texts.{record_line}
+use Rattle.line_text.specs.bytes.Texts.{record_line}
 use Rattle.disk_layout.specs.Records as records_of
 use Rattle.d64_image.specs.Memory.{disk_image}
 use Rattle.keeper_commands.proofs.Printing.{got, not-err, read-had}

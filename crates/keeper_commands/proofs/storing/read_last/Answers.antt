@@ -2,7 +2,7 @@
 use Rattle.std.proofs.Common.{ℕ, arith, ap, ◌∙◌, refl}
 use Rattle.std.specs.Prelude.{slice_index}
 use Rattle.std.proofs.lemmas.Bool.{false≢true}
-use Rattle.byte_text.proofs.Stored.{one-line}
+use Rattle.line_text.proofs.lemmas.bytes.Stored.{one-line}
 use Rattle.keeper_commands.proofs.storing.read_last.Goals as goal
 
 pub returns-in_err-number-clause-none : goal.returns-in_err-number-clause-none

@@ -4,7 +4,7 @@ use Rattle.std.proofs.Common.{◌≡◌, ◌≤◌, Err, List, ℕ, Bool, Ok, le
 use Rattle.std.specs.Io.KnownBytes.{Appends}
 use Rattle.std.specs.Prelude.{OnErr, OnOk, slice_index}
 use Rattle.rel_records.specs.File.{length_of, records_in}
-use Rattle.byte_text.specs.Texts.{record_line}
+use Rattle.line_text.specs.bytes.Texts.{record_line}
 use Rattle.keeper_commands.proofs.Composed.{none-stored}
 use Rattle.keeper_commands.proofs.LineStored.{if-last, if-not_last, line-ended, line-record}
 use Rattle.command_faults.specs.Outputs.{HandsPart}

@@ -1,7 +1,7 @@
 -- The records of the lines so far are stored, and one more in each turn.
 use Rattle.std.proofs.Common.{Ok, Err, Result, [], arith, refl, sym, subst, ap, ◌∙◌}
 use Rattle.std.proofs.lemmas.Result.{err_from_is_err_and}
-use Rattle.script_lines.specs.Lines.{lines}
+use Rattle.line_text.specs.scripts.Lines.{lines}
 use Rattle.keeper_commands.proofs.Composed.{none-stored}
 use Rattle.keeper_commands.proofs.LinesStored.{all-stored, next-clean, next-file, next-line, one-failed, one-more}
 use Rattle.keeper_commands.specs.Stores.{last_ones}

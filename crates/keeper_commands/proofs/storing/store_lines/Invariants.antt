@@ -2,7 +2,7 @@
 use Rattle.std.proofs.Common.{◌≤◌, ◌+◌, ℕ, List, length}
 use Rattle.disk_layout.specs.Layout.{File, Layout}
 use Rattle.rel_records.specs.File.{IsFileOf, length_of, records_in}
-use Rattle.script_lines.specs.Lines.{lines}
+use Rattle.line_text.specs.scripts.Lines.{lines}
 use Rattle.keeper_commands.proofs.LinesStored.{StoringTo}
 use Rattle.keeper_commands.specs.Stores.{AreLinesOf, NewRecord, TellsLast, greatest}
 use Rattle.keeper_commands.proofs.storing.store_lines.Given as goal

@@ -5,7 +5,7 @@ use Rattle.std.proofs.lemmas.Bool.{false≢true}
 use Rattle.std.proofs.lemmas.Slice.Eq.{bytes_eq-Decides}
 use Rattle.d64_image.specs.Images.{Image}
 use Rattle.rel_records.specs.File.{IsOf}
-use Rattle.byte_text.specs.Texts.{trimmed}
+use Rattle.line_text.specs.bytes.Texts.{trimmed}
 use Rattle.keeper_commands.proofs.OneStored.{is-stored, not-read, not-stored, not-written}
 use Rattle.keeper_commands.specs.Stores.{new_record}
 use Rattle.keeper_commands.proofs.storing.store_record.Goals as goal

@@ -2,7 +2,7 @@
 use Rattle.std.proofs.Common.{◌≡◌, ◌++◌, ◌∙◌, Global, Vec, append-nil, ap, refl, subst, sym, ℕ}
 use Rattle.std.specs.Prelude.{IfErr, IsOk, Ok, Err, OnOk, Result, Some, vec_items}
 use Rattle.std.specs.Io.KnownBytes.{Appends}
-use Rattle.named_lines.specs.Named.{named}
+use Rattle.line_text.specs.Named.{named}
 use Rattle.ledger_jobs.specs.Ends.{JobEnd, end_line, refusal_line}
 use Rattle.host_session.specs.declared.events.sinks.NotTaken.{NotTaken}
 use Rattle.ledger_jobs.proofs.overviews.tell_named.Goals as goal

@@ -5,7 +5,7 @@ use Rattle.std.specs.Io.KnownBytes.{Consumes}
 use Rattle.std.proofs.lemmas.List.{length-map, length_push, map-append}
 use Rattle.arrayvec.specs.ArrayVec.{ArrayVec}
 use Rattle.request_cards.specs.Reading.{request_of}
-use Rattle.script_lines.specs.Lines.{without_cr}
+use Rattle.line_text.specs.scripts.Lines.{without_cr}
 use Rattle.host_session.specs.declared.events.sources.Next.TheVariants as next
 use Rattle.line_server.specs.Batches.{texts_of}
 use Rattle.line_server.specs.Read.{LacksLf, lf_after}

@@ -7,7 +7,7 @@ use Rattle.std.proofs.BufReadLemmas.{Consumes_shown}
 use Rattle.std.proofs.KnownBytes.{Consumes-kept, Consumes-nil}
 use Rattle.std.specs.Io.BufRead.{FillKeeps}
 use Rattle.std.specs.Io.KnownBytes.{Consumes, IsAtEnd}
-use Rattle.script_lines.proofs.Lines.{lacks_before}
+use Rattle.line_text.proofs.lemmas.scripts.Lines.{lacks_before}
 use Rattle.line_server.specs.Read.{TookPart, has_end, lf_after}
 use Rattle.line_server.specs.declared.reading.Part.{Part}
 use Rattle.line_server.specs.declared.reading.Part.TheVariants.{Over}

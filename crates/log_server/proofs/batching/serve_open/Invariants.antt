@@ -1,7 +1,7 @@
 -- The batches so far: with each there is a line more.
 use Rattle.std.proofs.Common.{[], ◌≤◌, length}
 use Rattle.d64_image.specs.declared.mem_disk.MemDisk.{MemDisk}
-use Rattle.script_lines.specs.Lines.{lines}
+use Rattle.line_text.specs.scripts.Lines.{lines}
 use Rattle.log_server.specs.Batches.{HasOpened, IsUnderWay}
 use Rattle.log_server.proofs.batching.serve_open.Given as goal
 

@@ -2,7 +2,7 @@
 use Rattle.std.proofs.Common.{arith}
 use Rattle.std.proofs.Common.{◌≡◌, ◌∙◌, None, Some, subst}
 use Rattle.request_cards.proofs.Grammar.{made_of, no_amounts, no_item, no_kind, no_number, no_till}
-use Rattle.request_cards.specs.Numbers.{number_before}
+use Rattle.line_text.specs.Numbers.{number_before}
 use Rattle.request_cards.proofs.request.read.Goals as goal
 
 pub returns : goal.returns

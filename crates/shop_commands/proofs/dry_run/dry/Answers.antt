@@ -5,7 +5,7 @@ use Rattle.request_cards.specs.Ledgers.{nothing}
 use Rattle.std.proofs.KnownBytes.{Appends-kept}
 use Rattle.request_cards.proofs.Plain.{replies_by_ledger, plain_nil}
 use Rattle.request_cards.proofs.Tables.{state-nothing, within-nothing}
-use Rattle.script_lines.specs.Lines.{lines}
+use Rattle.line_text.specs.scripts.Lines.{lines}
 use Rattle.d64_image.proofs.Told.{at-ok}
 use Rattle.shop_commands.specs.DryRuns.{dry_start}
 use Rattle.shop_commands.proofs.dry_run.dry.Goals as goal

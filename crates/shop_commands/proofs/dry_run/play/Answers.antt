@@ -6,7 +6,7 @@ use Rattle.request_cards.specs.Reading.{request_of}
 use Rattle.request_cards.specs.Tables.{held_by}
 use Rattle.std.proofs.KnownBytes.{Appends-trans}
 use Rattle.request_cards.specs.Texts.{reply_text}
-use Rattle.script_lines.specs.Lines.{lines}
+use Rattle.line_text.specs.scripts.Lines.{lines}
 use Rattle.shop_commands.specs.DryRuns.{dry_start}
 use Rattle.shop_commands.proofs.Replies.{report_more}
 use Rattle.layout_check.proofs.lemmas.mending.MapMends.{ok-holds}

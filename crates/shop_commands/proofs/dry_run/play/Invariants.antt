@@ -3,7 +3,7 @@ use Rattle.std.proofs.Common.{◌≡◌, ℕ, List, ◌++◌, length}
 use Rattle.std.specs.Io.KnownBytes.{Appends}
 use Rattle.request_cards.specs.Ledgers.{replies_from, report}
 use Rattle.request_cards.specs.Tables.{IsWithin, held_by, limits_of}
-use Rattle.script_lines.specs.Lines.{lines}
+use Rattle.line_text.specs.scripts.Lines.{lines}
 use Rattle.shop_commands.specs.DryRuns.{dry_start}
 use Rattle.shop_commands.proofs.dry_run.play.Given as goal
 

@@ -4,7 +4,7 @@ use Rattle.std.specs.Prelude.{option_map}
 use Rattle.std.proofs.lemmas.Option.{none-some, same_Some}
 use Rattle.host_session.proofs.lemmas.events.Reports.{same_message}
 use Rattle.host_session.specs.events.Events.{message_in}
-use Rattle.script_lines.specs.Resets.{line_in}
+use Rattle.line_text.specs.scripts.Resets.{line_in}
 use Rattle.host_session.proofs.events.sources.reset_of.Goals as goal
 
 pub returns-in-Some : goal.returns-in-Some

@@ -2,7 +2,7 @@
 use Rattle.std.proofs.Common.{◌∙◌, ℕ, Some, Err, ap, inl, le_refl, refl, subst, sym}
 use Rattle.std.proofs.lemmas.Option.{same_Some}
 use Rattle.host_session.proofs.lemmas.Held.{start}
-use Rattle.script_lines.specs.Lines.{lines}
+use Rattle.line_text.specs.scripts.Lines.{lines}
 use Rattle.host_session.proofs.lemmas.runs.QuietRuns.{quiet_same}
 use Rattle.host_session.proofs.lemmas.runs.QuietWrites.{spared_same}
 use Rattle.host_session.proofs.lemmas.runs.Runs.{held_none}

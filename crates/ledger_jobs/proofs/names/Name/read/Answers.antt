@@ -1,6 +1,6 @@
 -- The bytes that have the text are too many, or end in a shifted space.
 use Rattle.std.proofs.Common.{◌≡◌, ◌<◌, ◌∙◌, ◌-◌, Some, arith, length, slice_get, subst, sym}
-use Rattle.byte_text.specs.Texts.{text_of}
+use Rattle.line_text.specs.bytes.Texts.{text_of}
 use Rattle.ledger_jobs.proofs.Named.{ends-in-space, too-long}
 use Rattle.ledger_jobs.proofs.names.Name.read.Goals.{then-len-gt-NAME_BYTES-via-then-len-gt-NAME_BYTES}
 use Rattle.ledger_jobs.proofs.names.Name.read.Goals.{

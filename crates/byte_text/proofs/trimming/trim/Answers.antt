@@ -1,5 +1,0 @@
-use Rattle.byte_text.proofs.Trims.{trim-is}
-use Rattle.byte_text.proofs.trimming.trim.Goals as goal
-
-pub returns : goal.returns
-returns c = trim-is c.args.bytes.now c.end_of.result c.end_of.ensures.high c.end_of.ensures.zeros c.end_of.ensures.last

@@ -1,0 +1,7 @@
+-- The lemmas, by what they are about.
+pub mod bytes
+pub mod columns
+pub mod digits
+pub mod petscii
+pub mod scripts
+pub mod Named

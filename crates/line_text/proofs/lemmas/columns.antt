@@ -1,0 +1,11 @@
+-- Records as columns of a spreadsheet, a column for each field or at fixed positions, read back as they were.
+pub mod Cut
+pub mod CutBack
+pub mod CutPieces
+pub mod Fields
+pub mod Joined
+pub mod Open
+pub mod PiecesBack
+pub mod Places
+pub mod Refused
+pub mod Zeros

@@ -1,0 +1,3 @@
+-- Numbers in decimal, digit by digit and in fields.
+pub mod Fields
+pub mod Numbers

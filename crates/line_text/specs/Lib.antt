@@ -1,0 +1,6 @@
+pub mod bytes
+pub mod columns
+pub mod petscii
+pub mod scripts
+pub mod Named
+pub mod Numbers

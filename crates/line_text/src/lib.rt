@@ -1,0 +1,45 @@
+//! Texts and their lines: numbers in decimal, bytes as text that is read back, columns of a spreadsheet, PETSCII as
+//! text for people, and scripts.
+#![tactic(auto)]
+
+// Bytes as text that an editor or a spreadsheet takes, and records as lines of such text, read back as they were.
+mod bytes;
+// Records as columns of a spreadsheet, a column for each field or at fixed positions, read back as they were.
+mod columns;
+// Numbers in decimal, digit by digit and in fields.
+mod digits;
+// Lines that each begin with a name.
+mod naming;
+// PETSCII as text of Unicode, also on one line between quotation marks, and names of files for the entries of a disk.
+mod petscii;
+// Scripts: the bytes of a file, cut into lines, and the event in each line.
+mod scripts;
+
+pub use bytes::laws::{lines_give_records, texts_differ};
+pub use bytes::line_reading::read_line;
+pub use bytes::line_writing::{LINE_ROOM, put_line, write_line};
+pub use bytes::reading::{MOST_BYTES, read_text};
+pub use bytes::text::Text;
+pub use bytes::trimming::trim;
+pub use bytes::writing::write_text;
+pub use columns::joining::push_columns;
+pub use columns::laws::{
+    all_columns_come_back, columns_come_back, columns_have_fields, long_columns_are_refused,
+    more_columns_are_refused, positions_come_back,
+};
+pub use columns::pieces::write_pieces;
+pub use columns::placing::push_pieces;
+pub use columns::positions::{MOST_PIECES, Positions};
+pub use columns::reading::{Column, read_columns};
+pub use columns::writing::{ends_with_return, write_all_columns, write_columns};
+pub use digits::{number, number_before_comma};
+pub use naming::put_named;
+pub use petscii::characters::{CharacterSet, character};
+pub use petscii::file_names::{Ending, FileName, NAME_ROOM, file_name};
+pub use petscii::name_laws::{names_are_safe, names_differ};
+pub use petscii::quoting::{OneLine, Quoted};
+pub use petscii::reading::Readable;
+pub use scripts::event_lines::{event_at, first_bad_line};
+pub use scripts::events::{Cut, Event};
+pub use scripts::laws::line_grammar;
+pub use scripts::script::{first_reset_line, next_line};

@@ -1,8 +1,0 @@
--- So many zeros were appended.
-use Rattle.std.proofs.Common.{◌≡◌, ◌++◌}
-use Rattle.std.specs.Prelude.{replicate, vec_items}
-use Rattle.byte_text.specs.Texts.{text_of}
-use Rattle.record_columns.proofs.placing.push_zeros.Given as goal
-
-abbrev pub invariant-loop : goal.invariant-loop
-invariant-loop l = vec_items l.text ≡ vec_items l.fn.text ++ text_of (replicate l.counter 0)

@@ -1,6 +1,0 @@
--- No byte so far is a space.
-use Rattle.std.proofs.Common.{◌≢◌, ◌<◌, ℕ, get_or}
-use Rattle.script_lines.proofs.event_lines.at_space.Given as goal
-
-abbrev pub invariant-loop-i : goal.invariant-loop-i
-invariant-loop-i l = (k : ℕ) → k < l.i → get_or l.bytes k 0 ≢ 32

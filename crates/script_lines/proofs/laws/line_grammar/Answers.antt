@@ -1,9 +1,0 @@
--- The reader of lines is their grammar.
-use Rattle.script_lines.proofs.Grammar.{line_found, line_spells}
-use Rattle.script_lines.proofs.laws.line_grammar.Goals as goal
-
-pub returns-clause-found : goal.returns-clause-found
-returns-clause-found c = line_found
-
-pub returns-clause-spelled : goal.returns-clause-spelled
-returns-clause-spelled c = line_spells
