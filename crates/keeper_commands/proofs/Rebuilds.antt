@@ -16,7 +16,7 @@ use Rattle.keeper_commands.specs.Rebuilds.{IsRebuildDone, IsRebuildFault, IsRebu
 use Rattle.command_faults.specs.Outputs.{HandsPart}
 use Rattle.keeper_commands.specs.Repairs.{TellsKeep, changed_text, repair_fault}
 use Rattle.command_faults.specs.declared.faults.CommandFault.{CommandFault}
-use Rattle.side_rebuilding.specs.Rebuilt.{IsRebuilt, IsUnderRebuilding, RebuildsSides, RefusesSides}
+use Rattle.damaged_files.specs.sides.Rebuilt.{IsRebuilt, IsUnderRebuilding, RebuildsSides, RefusesSides}
 use Rattle.command_faults.proofs.Loads.{by-load}
 use Rattle.keeper_commands.proofs.OtherKinds.{by-kind}
 use Rattle.keeper_commands.proofs.Mendings.{by-tell}

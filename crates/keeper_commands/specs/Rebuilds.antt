@@ -11,7 +11,7 @@ use Rattle.command_faults.specs.Outputs.{HandsPart}
 use Rattle.keeper_commands.specs.Repairs.{changed_text}
 use Rattle.command_faults.specs.declared.faults.CommandFault.{CommandFault}
 use Rattle.command_faults.specs.declared.faults.CommandFault.TheVariants as faults
-use Rattle.side_rebuilding.specs.Rebuilt.{IsRebuilt, IsUnderRebuilding}
+use Rattle.damaged_files.specs.sides.Rebuilt.{IsRebuilt, IsUnderRebuilding}
 
 -- Whatever the disk held on the way is the first image, or has its directory and its chains with all bytes: only side
 -- sectors differ.

@@ -7,7 +7,7 @@ use crate::kinds::judge_kind;
 use crate::mending::{put_changed, refusal};
 use command_faults::{CommandFault, load};
 use d64_image::Sectors;
-use side_rebuilding::{Shortened, rebuild_sides};
+use damaged_files::{Shortened, rebuild_sides};
 use std::alloc::Global;
 use std::io::Write;
 

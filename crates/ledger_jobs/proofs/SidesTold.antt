@@ -18,7 +18,7 @@ use Rattle.keeper_commands.specs.Rebuilds.{IsRebuildDone, IsRebuildFault, IsRebu
 use Rattle.keeper_commands.specs.Repairs.{changed_text}
 use Rattle.ledger_jobs.specs.SideRepairs.{IsCopyUnbuilt, IsRebuildCut, IsRebuildTold, IsRebuildingPart}
 use Rattle.ledger_jobs.specs.SideRepairs.{IsRebuiltOf, IsUnbuilt}
-use Rattle.side_rebuilding.specs.Rebuilt.{IsRebuilt}
+use Rattle.damaged_files.specs.sides.Rebuilt.{IsRebuilt}
 
 -- an image that isn't taken into memory
 pub unloaded : {W : Type 0} (contents : W → Option (List ℕ)) (image : List ℕ) (old : W) (fault : CommandFault)

@@ -22,7 +22,7 @@ use Rattle.ledger_jobs.specs.declared.jobs.Loss.{Loss}
 use Rattle.ledger_jobs.specs.declared.jobs.Loss.TheVariants as losses
 use Rattle.ledger_jobs.specs.declared.refusals.Refusal.{Refusal}
 use Rattle.ledger_jobs.specs.declared.refusals.Refusal.TheVariants as refusals
-use Rattle.side_rebuilding.specs.Rebuilt.{IsRebuilt}
+use Rattle.damaged_files.specs.sides.Rebuilt.{IsRebuilt}
 
 -- Why the side sectors of the disk of an image aren't built anew: this holds of its bytes, or there was no memory.
 abbrev pub IsUnbuilt : (image : List ℕ) → CommandFault → Type 0

@@ -1,7 +1,7 @@
 //! Where a file of the blank disk for two tills, with bytes changed, is reported to be cut short.
 use crate::comparing::same_at;
 use crate::disks::{Change, changed};
-use cut_files::find_image_cut;
+use damaged_files::find_image_cut;
 use std::process::Abort;
 
 /// The entry of a PRG of one block at 17/4, which counts two.

@@ -4,8 +4,8 @@ use crate::comparing::same_at;
 use crate::disks::{Change, changed, fresh, loaded};
 use arrayvec::ArrayVec;
 use d64_image::{MemDisk, Place, Sectors};
+use damaged_files::{Shortened, rebuild_sides};
 use disk_layout::side_bytes;
-use side_rebuilding::{Shortened, rebuild_sides};
 use std::process::Abort;
 
 /// Builds the side sectors of a disk anew: whether that is done.

@@ -5,8 +5,8 @@ use crate::disks::{Change, changed, loaded};
 use crate::outputs::{Full, is_told};
 use command_faults::CommandFault;
 use d64_image::MemDisk;
+use damaged_files::Shortened;
 use keeper_commands::rebuild_image;
-use side_rebuilding::Shortened;
 use std::io::Write;
 use std::process::Abort;
 

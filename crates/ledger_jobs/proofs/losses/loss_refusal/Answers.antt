@@ -2,7 +2,7 @@
 use Rattle.std.proofs.Common.{inl, inr, refl, subst}
 use Rattle.std.specs.Prelude.{None, Option}
 use Rattle.d64_image.specs.declared.place.Place.{Place}
-use Rattle.cut_files.proofs.Told.{told-cut, told-uncut}
+use Rattle.damaged_files.proofs.lemmas.cut.Told.{told-cut, told-uncut}
 use Rattle.ledger_jobs.specs.Losses.{IsSeen}
 use Rattle.ledger_jobs.proofs.losses.loss_refusal.Goals as goal
 

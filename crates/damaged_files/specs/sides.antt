@@ -1,0 +1,4 @@
+-- Side sectors of relative files, built anew from the files' chains.
+pub mod Compared
+pub mod Rebuilt
+pub mod Taken

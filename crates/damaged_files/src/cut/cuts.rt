@@ -1,0 +1,68 @@
+//! The first file of a disk that is cut short.
+ghost use Rattle.std.specs.Prelude.{◌≡◌, ◌↔◌, IfErr, IfOk, IsOk, IsTrue, List, ℕ, map, option_map};
+ghost use Rattle.d64_image.specs.Images.{Image};
+ghost use Rattle.d64_image.specs.Memory.{disk_image};
+ghost use Rattle.disk_layout.specs.Fault.{Holds, nowhere};
+ghost use Rattle.disk_layout.specs.Layout.{IsLayout, IsSound, Layout};
+ghost use Rattle.damaged_files.specs.cut.Cut.{HasStray};
+ghost use Rattle.disk_layout.specs.Listed.{HasStock};
+ghost use Rattle.damaged_files.specs.cut.Told.{IsAsked, IsToldOf};
+
+use crate::cut::listed::bytes_at;
+use crate::cut::names::{has_name, has_stock};
+use crate::cut::strays::has_stray;
+use crate::cut::tails::{Facts, cut_of};
+use arrayvec::ArrayVec;
+use d64_image::{MemDisk, Place};
+use disk_layout::{Fault, Slot, map_place, read_directory};
+use layout_check::survey;
+
+/// Whether the call is about this entry: always without a name, otherwise if the entry has the name.
+fn is_asked(slot: &Slot, name: Option<&[u8]>) -> bool
+    ensures { IsTrue result ↔ IsAsked (option_map (λ n. n.now) name.entry) slot.now }
+{
+    match name {
+        Some(name) => has_name(slot, name),
+        None => true,
+    }
+}
+
+/// The place where the first of these entries of a sound disk is cut short, among all of them or those of the name.
+fn first_cut(disk: &mut MemDisk, slots: &[Slot], name: Option<&[u8]>, facts: Facts) -> Option<Place>
+    ensures told { (l : Layout) → IsLayout (disk_image disk.old) l → slots.now ≡ map (λ f. f.slot) l.files
+        → (IsTrue facts.strays ↔ HasStray (disk_image disk.old) l) → (IsTrue facts.shop ↔ HasStock l)
+        → IsToldOf (disk_image disk.old) l (option_map (λ n. n.now) name.entry) result }
+    ensures same { disk_image disk.new ≡ disk_image disk.old }
+{
+    for slot in slots {
+        if is_asked(slot, name) {
+            if let Some(place) = cut_of(disk, slot, facts) {
+                return Some(place);
+            }
+        }
+    }
+    None
+}
+
+/// Finds the first file of a sound disk that is cut short, in the order of the directory: of all files, or of those
+/// with a name, which has no shifted spaces at its end. Returns the sector where its chain ends, and None if none of
+/// them is cut short. If the disk isn't sound, the error is a fault that holds of it, as `survey` returns it.
+///
+/// Nothing is written, and no memory is allocated. It takes about 20 KB of the stack.
+pub fn find_cut(disk: &mut MemDisk, name: Option<&[u8]>) -> Result<Option<Place>, Fault>
+    ensures ok { IfOk result (λ told. (l : Layout) → IsLayout (disk_image disk.old) l
+        → IsToldOf (disk_image disk.old) l (option_map (λ n. n.now) name.entry) told) }
+    ensures err { IfErr result (Holds nowhere (disk_image disk.old)) }
+    // the result is Ok exactly on a sound disk
+    ensures sound { IsOk result ↔ IsSound (disk_image disk.old) }
+    ensures same { disk_image disk.new ≡ disk_image disk.old }
+{
+    let found = survey(disk)?;
+    let mut slots = ArrayVec::new();
+    read_directory(disk, &mut slots)?;
+    let facts = Facts {
+        strays: has_stray(&bytes_at(disk, map_place()), &found),
+        shop: has_stock(slots.as_slice()),
+    };
+    Ok(first_cut(disk, slots.as_slice(), name, facts))
+}

@@ -1,0 +1,98 @@
+//! The end of a file's chain, and whether it comes too early.
+ghost use Rattle.std.specs.Prelude.{◌≡◌, ◌↔◌, ◌≤◌, ◌-◌, ◌<◌, ⊤, IsTrue, MatchOption, Some, [], length, replicate, slice_get};
+ghost use Rattle.d64_image.specs.Images.{sector};
+ghost use Rattle.d64_image.specs.Memory.{disk_image};
+ghost use Rattle.d64_image.specs.declared.place.Place.{Place};
+ghost use Rattle.disk_layout.specs.Layout.{File, IsFile, count_field};
+ghost use Rattle.damaged_files.specs.cut.Cut.{IsCutIn, IsShort};
+
+use crate::cut::listed::{bytes_at, is_listed_past};
+use crate::cut::names::{is_plain, never_grows};
+use arrayvec::ArrayVec;
+use d64_image::{MemDisk, Place};
+use disk_layout::{EntryView, Slot, walk_chain};
+
+/// The facts of the whole disk on which it depends whether a file is cut short.
+#[derive(Clone, Copy)]
+pub(crate) struct Facts {
+    /// A sector is taken in the map but owned by nobody.
+    pub(crate) strays: bool,
+    /// It has a shop's `STOCK`.
+    pub(crate) shop: bool,
+}
+
+/// The end of a chain: its last block, and how many blocks it has.
+#[derive(Clone, Copy)]
+struct Tail {
+    place: Place,
+    blocks: usize,
+}
+
+/// The end of the chain of an entry of a sound disk; None if it owns no block.
+fn tail_of(disk: &mut MemDisk, slot: &Slot) -> Option<Tail>
+    ensures told { (f : File) → IsFile (disk_image disk.old) f → f.slot ≡ slot.now
+        → MatchOption result (f.blocks ≡ []) (λ tail. (length f.blocks ≡ tail.blocks)
+        × (slice_get f.blocks (tail.blocks - 1) ≡ Some tail.place)) }
+    ensures some { MatchOption result ⊤ (λ tail. (1 ≤ tail.blocks) × (tail.blocks ≤ 720)) }
+    ensures same { disk_image disk.new ≡ disk_image disk.old }
+{
+    let first = EntryView::new(&slot.bytes).first_block()?;
+    let mut blocks = ArrayVec::new();
+    if walk_chain(disk, first, &mut blocks).is_err() {
+        return None;
+    }
+    let blocks = blocks.as_slice();
+    let place = *blocks.last()?;
+    Some(Tail {
+        place,
+        blocks: blocks.len(),
+    })
+}
+
+/// Whether an entry's block count, as stored, is greater than this number.
+fn counts_more(slot: &Slot, blocks: usize) -> bool
+    ensures { IsTrue result ↔ (blocks < count_field slot.now) }
+{
+    blocks < EntryView::new(&slot.bytes).block_count() as usize
+}
+
+/// Whether the sector holds nothing but zeros.
+fn is_blank(disk: &mut MemDisk, place: Place) -> bool
+    ensures told { IsTrue result ↔ (sector (disk_image disk.old) place ≡ replicate 256 0) }
+    ensures same { disk_image disk.new ≡ disk_image disk.old }
+{
+    bytes_at(disk, place) == [0; 256]
+}
+
+/// Whether the chain of an entry of a sound disk, with this end, is too short.
+fn is_short(disk: &mut MemDisk, slot: &Slot, tail: Tail, facts: Facts) -> bool
+    requires some { 1 ≤ tail.blocks }
+    requires few { tail.blocks ≤ 720 }
+    ensures told { (f : File) → IsFile (disk_image disk.old) f → f.slot ≡ slot.now → length f.blocks ≡ tail.blocks
+        → (IsTrue result ↔ IsShort (disk_image disk.old) (IsTrue facts.strays) (IsTrue facts.shop) f tail.place) }
+    ensures same { disk_image disk.new ≡ disk_image disk.old }
+{
+    if EntryView::new(&slot.bytes).is_relative() {
+        return is_listed_past(disk, slot, tail.blocks, never_grows(slot, facts.shop))
+            || is_blank(disk, tail.place);
+    }
+    if !is_plain(slot) {
+        return false;
+    }
+    (facts.strays && counts_more(slot, tail.blocks)) || is_blank(disk, tail.place)
+}
+
+/// The place where the file of an entry of a sound disk is cut short; None if it isn't.
+pub(crate) fn cut_of(disk: &mut MemDisk, slot: &Slot, facts: Facts) -> Option<Place>
+    ensures told { (f : File) → IsFile (disk_image disk.old) f → f.slot ≡ slot.now
+        → MatchOption result ((q : Place) → ¬ (IsCutIn (disk_image disk.old) (IsTrue facts.strays) (IsTrue facts.shop) f q))
+        (IsCutIn (disk_image disk.old) (IsTrue facts.strays) (IsTrue facts.shop) f) }
+    ensures same { disk_image disk.new ≡ disk_image disk.old }
+{
+    let tail = tail_of(disk, slot)?;
+    if is_short(disk, slot, tail, facts) {
+        Some(tail.place)
+    } else {
+        None
+    }
+}

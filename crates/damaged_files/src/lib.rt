@@ -1,0 +1,13 @@
+//! What a lost sector did to the files of a disk: files that are cut short, and side sectors that are built anew.
+#![tactic(auto)]
+
+// Files of a disk that a lost sector cut short.
+mod cut;
+// Side sectors of relative files, built anew from the files' chains.
+mod sides;
+
+pub use cut::cuts::find_cut;
+pub use cut::images::find_image_cut;
+pub use cut::laws::whole_is_uncut;
+pub use sides::planning::Shortened;
+pub use sides::rebuilding::rebuild_sides;

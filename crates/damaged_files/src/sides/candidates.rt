@@ -1,0 +1,130 @@
+//! Places for the side sectors of one file, and whether the file is shorter than it was.
+ghost use Rattle.std.specs.Prelude.{◌≡◌, ◌≤◌, length};
+ghost use Rattle.d64_image.specs.Memory.{disk_image};
+
+use crate::sides::readable::{find_readable, lists_more, sides_needed};
+use crate::sides::sectors::bytes_at;
+use crate::sides::taken::contains;
+use arrayvec::ArrayVec;
+use d64_image::{MemDisk, Place};
+use disk_layout::{BamView, EntryView, MOST_SIDES, SideView, Slot, map_place};
+
+/// The first of these sectors that is free in the map and not among `chosen`.
+fn first_free(map: &[u8; 256], unowned: &[Place], chosen: &[Place]) -> Option<Place> {
+    for &place in unowned {
+        if BamView::new(map).is_free(place) && !contains(chosen, place) {
+            return Some(place);
+        }
+    }
+    None
+}
+
+/// The bytes of the first side sector of a file that can be read.
+fn first_readable(
+    disk: &mut MemDisk,
+    unowned: &[Place],
+    slot: &Slot,
+    blocks: &[Place],
+) -> Option<[u8; 256]>
+    requires { length blocks.now ≤ 720 }
+    ensures same { disk_image disk.new ≡ disk_image disk.old }
+{
+    for number in 0..sides_needed(blocks.len()) {
+        if let Some(place) = find_readable(disk, unowned, slot, blocks, number) {
+            return Some(bytes_at(disk, place));
+        }
+    }
+    None
+}
+
+/// The place if it is one of `unowned` and not among `chosen`.
+fn if_unowned(unowned: &[Place], chosen: &[Place], place: Option<Place>) -> Option<Place> {
+    let place = place?;
+    if contains(unowned, place) && !contains(chosen, place) {
+        Some(place)
+    } else {
+        None
+    }
+}
+
+/// A place for the next side sector of a file. The entry names the place of the first one. Otherwise it is where the side
+/// sector can be read; where `list`, the bytes of another side sector, lists it; or where the map calls a sector free.
+fn choose_place(
+    disk: &mut MemDisk,
+    unowned: &[Place],
+    slot: &Slot,
+    blocks: &[Place],
+    list: Option<&[u8; 256]>,
+    chosen: &[Place],
+) -> Option<Place>
+    requires { length chosen.now ≤ 5 }
+    ensures same { disk_image disk.new ≡ disk_image disk.old }
+{
+    let number = chosen.len();
+    if number == 0 {
+        return if_unowned(unowned, chosen, EntryView::new(&slot.bytes).first_side());
+    }
+    let readable = find_readable(disk, unowned, slot, blocks, number);
+    if let Some(place) = if_unowned(unowned, chosen, readable) {
+        return Some(place);
+    }
+    if let Some(bytes) = list {
+        let listed = SideView::new(bytes).side(number);
+        if let Some(place) = if_unowned(unowned, chosen, listed) {
+            return Some(place);
+        }
+    }
+    first_free(&bytes_at(disk, map_place()), unowned, chosen)
+}
+
+/// Fills `sides` with places for the side sectors of a file with these blocks. False if there aren't enough.
+pub(crate) fn choose_places(
+    disk: &mut MemDisk,
+    unowned: &[Place],
+    slot: &Slot,
+    blocks: &[Place],
+    sides: &mut ArrayVec<Place, MOST_SIDES>,
+) -> bool
+    requires { length blocks.now ≤ 720 }
+    ensures same { disk_image disk.new ≡ disk_image disk.old }
+{
+    sides.clear();
+    let list = first_readable(disk, unowned, slot, blocks);
+    for _number in 0..sides_needed(blocks.len()) {
+        match choose_place(disk, unowned, slot, blocks, list.as_ref(), sides.as_slice()) {
+            Some(place) => sides.push(place),
+            None => return false,
+        }
+    }
+    true
+}
+
+/// Whether a file with these blocks had more: a side sector of it that can be read lists two more, or its last block holds
+/// nothing but zeros. Another sign is a block count greater than one block more needs.
+pub(crate) fn is_shortened(
+    disk: &mut MemDisk,
+    unowned: &[Place],
+    slot: &Slot,
+    blocks: &[Place],
+) -> bool
+    requires { length blocks.now ≤ 720 }
+    ensures same { disk_image disk.new ≡ disk_image disk.old }
+{
+    let count = blocks.len();
+    let counted = EntryView::new(&slot.bytes).block_count() as usize;
+    if counted > count + 1 + sides_needed(count + 1) {
+        return true;
+    }
+    for number in 0..sides_needed(count) {
+        if let Some(place) = find_readable(disk, unowned, slot, blocks, number) {
+            let bytes = bytes_at(disk, place);
+            if lists_more(disk, &bytes, number, count) {
+                return true;
+            }
+        }
+    }
+    match blocks.last() {
+        Some(&last) => bytes_at(disk, last) == [0; 256],
+        None => false,
+    }
+}

@@ -1,6 +1,0 @@
--- The lemmas of this crate.
-mod Frames
-mod Mixes
-mod Places
-mod Results
-mod Walks

@@ -1,6 +1,0 @@
-use Rattle.std.proofs.Common.{◌≡◌}
-use Rattle.d64_image.specs.Memory.{disk_image}
-use Rattle.side_rebuilding.proofs.planning.plan_sides.Given as goal
-
-abbrev pub invariant-loop-slot : goal.invariant-loop-slot
-invariant-loop-slot l = disk_image l.before ≡ disk_image l.fn.before

@@ -1,4 +1,0 @@
--- The definitions of this crate.
-pub mod Compared
-pub mod Rebuilt
-pub mod Taken
