@@ -2,7 +2,7 @@
 use Rattle.std.specs.Prelude.{◌≡◌, false, List, Option, Some, None, Result, Ok, Err, codes, if◌then◌else◌, ⊤}
 use Rattle.std.specs.Borrow.{Bor}
 use Rattle.clap.specs.Words.{Row, Text}
-use Rattle.shop_commands.specs.declared.durability.Durability.{Durability}
+use Rattle.image_file.specs.declared.durability.Durability.{Durability}
 use Rattle.ledger_jobs.specs.declared.jobs.Effect.{Effect}
 use Rattle.ledger_jobs.specs.declared.jobs.Job.{Job}
 use Rattle.ledger_jobs.specs.declared.jobs.Overview.{Overview}
@@ -22,7 +22,7 @@ use Rattle.shop_commands.specs.declared.texts.NameForm.{NameForm}
 use Rattle.command_line.specs.Flags.{is_given}
 use Rattle.command_line.specs.Positions.{AsksForColumns, AsksForNone, HasNoColumns}
 use Rattle.command_line.specs.declared.faults.JobFault.{JobFault}
-use Rattle.shop_commands.specs.declared.durability.Durability.TheVariants as durabilities
+use Rattle.image_file.specs.declared.durability.Durability.TheVariants as durabilities
 use Rattle.ledger_jobs.specs.declared.jobs.Effect.TheVariants as effects
 use Rattle.ledger_jobs.specs.declared.jobs.Job.TheVariants as jobs
 use Rattle.ledger_jobs.specs.declared.jobs.Overview.TheVariants as overviews

@@ -4,7 +4,7 @@ use Rattle.std.proofs.Common.{length, take, drop, length-take, length-drop, repl
 use Rattle.std.specs.Prelude.{IfErr, None, OnOk, codes}
 use Rattle.std.specs.Io.KnownBytes.{Appends}
 use Rattle.host_session.specs.runs.Outputs.{AppendsPart}
-use Rattle.system_files.proofs.Filled.{in_three}
+use Rattle.image_file.proofs.lemmas.replacing.Filled.{in_three}
 use Rattle.command_faults.specs.declared.faults.CommandFault.{CommandFault}
 use Rattle.command_faults.specs.declared.faults.CommandFault.TheVariants as faults
 use Rattle.d64_image.specs.Mirrors.{IsHanded}

@@ -3,8 +3,8 @@ use Rattle.std.proofs.Common.{◌≡◌, ◌≤◌, ◌<◌, ◌+◌, ◌-◌, �
 use Rattle.std.proofs.Common.{length-append, length-take, append_assoc, append-nil, drop-drop, replicate}
 use Rattle.std.proofs.lemmas.Bool.{cases_lt}
 use Rattle.std.proofs.lemmas.List.{drop_all, drop_at, take_at}
-use Rattle.system_files.specs.Remains.{grown, put_in}
-use Rattle.system_files.proofs.Indices.{length_grown}
+use Rattle.image_file.specs.Remains.{grown, put_in}
+use Rattle.image_file.proofs.lemmas.replacing.Indices.{length_grown}
 
 -- no zeros are wanted where there are so many bytes
 grown_same : (all : List ℕ) (n : ℕ) → n ≤ length all → grown all n ≡ all

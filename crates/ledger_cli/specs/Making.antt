@@ -6,7 +6,7 @@ use Rattle.d64_image.specs.Mirrors.{IsHanded, IsSought}
 use Rattle.host_session.specs.runs.Outputs.{AppendsPart}
 use Rattle.command_faults.specs.declared.faults.CommandFault.{CommandFault}
 use Rattle.command_faults.specs.declared.faults.CommandFault.TheVariants as faults
-use Rattle.system_files.specs.Remains.{put_in}
+use Rattle.image_file.specs.Remains.{put_in}
 
 -- Bytes, and where they go in a file.
 pub record Piece : Type 0 where

@@ -9,10 +9,10 @@ ghost use Rattle.command_faults.specs.declared.faults.CommandFault.TheVariants a
 use command_faults::CommandFault;
 use d64_image::IMAGE_BYTES;
 use file_changes::new_disk;
+use image_file::{DIRECTORY_END, DIRECTORY_START, SPOILED_DIRECTORY};
 use shop_commands::{fresh_disk, put_whole};
 use std::alloc::Global;
 use std::io::{Seek, SeekFrom, Write};
-use system_files::{DIRECTORY_END, DIRECTORY_START, SPOILED_DIRECTORY};
 
 /// Seeks a place in a file, and hands it these bytes. `File` if the seek fails, and the file is as before; or if a write
 /// does, and the file has a prefix of the bytes, or all.

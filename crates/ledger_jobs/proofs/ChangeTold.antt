@@ -7,7 +7,7 @@ use Rattle.d64_image.specs.Keeps.{Keeps}
 use Rattle.file_changes.specs.declared.file_type.FileType.{FileType}
 use Rattle.shop_commands.specs.Images.{IsFormatted}
 use Rattle.shop_commands.specs.Plays.{IsUntouched}
-use Rattle.system_files.specs.Remains.{Remains}
+use Rattle.image_file.specs.Remains.{Remains}
 use Rattle.ledger_jobs.specs.Changes.{IsChangeEnd, IsChangeTold, IsMakingTold, IsQuietEnd}
 use Rattle.ledger_jobs.specs.EditRefusals.{IsEditEnd}
 use Rattle.ledger_jobs.specs.Edited.{IsDeleteOver, IsRenameOver}

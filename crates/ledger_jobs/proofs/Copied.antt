@@ -5,8 +5,8 @@ use Rattle.std.specs.Io.KnownBytes.{Appends}
 use Rattle.host_session.specs.runs.Outputs.{AppendsPart}
 use Rattle.command_faults.specs.declared.faults.CommandFault.{CommandFault}
 use Rattle.command_faults.specs.declared.faults.CommandFault.TheVariants as faults
-use Rattle.system_files.specs.Remains.{Remains}
-use Rattle.system_files.specs.Replacing.{IsReplaced}
+use Rattle.image_file.specs.Remains.{Remains}
+use Rattle.image_file.specs.Replacing.{IsReplaced}
 use Rattle.ledger_jobs.specs.Copies.{IsCopied, IsCopiedOver, IsCopyTold}
 
 -- the image was written whole

@@ -7,16 +7,16 @@ use Rattle.d64_image.specs.Keeps.{Keeps, none_kept}
 use Rattle.host_session.specs.events.Telling.{Output}
 use Rattle.line_server.specs.Answering.{Answering}
 use Rattle.line_server.specs.Giving.{Input}
-use Rattle.shop_commands.specs.Durable.{AllStays}
-use Rattle.shop_commands.specs.Lasting.{Lasting, Whole, seen}
-use Rattle.shop_commands.specs.LastingImages.{are_image, image_of}
-use Rattle.shop_commands.specs.ImageFile.{IsTakenUp, placed, placed_file}
+use Rattle.image_file.specs.Durable.{AllStays}
+use Rattle.image_file.specs.Lasting.{Lasting, Whole, seen}
+use Rattle.image_file.specs.LastingImages.{are_image, image_of}
+use Rattle.image_file.specs.ImageFile.{IsTakenUp, placed, placed_file}
 use Rattle.shop_commands.specs.Plays.{IsFileFault, IsUntouched}
-use Rattle.shop_commands.specs.declared.durability.Durability.{Durability}
-use Rattle.shop_commands.specs.declared.durability.WritesAt.{Ghosts}
+use Rattle.image_file.specs.declared.durability.Durability.{Durability}
+use Rattle.image_file.specs.declared.durability.WritesAt.{Ghosts}
 use Rattle.command_faults.specs.declared.faults.CommandFault.{CommandFault}
 use Rattle.command_faults.specs.declared.faults.CommandFault.TheVariants as faults
-use Rattle.shop_commands.specs.declared.image_file.ImageFile.{ImageFile}
+use Rattle.image_file.specs.declared.sectors.ImageFile.{ImageFile}
 use Rattle.ledger_jobs.specs.DurableRuns.{IsDurableRun, IsFinished}
 use Rattle.ledger_jobs.specs.Ends.{Ended}
 use Rattle.ledger_jobs.specs.FileServes.{IsServeFault, IsUnserved}

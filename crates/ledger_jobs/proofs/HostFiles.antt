@@ -4,8 +4,8 @@ use Rattle.std.specs.Prelude.{IfErr, IfOk, IfSome, IsErr, None, Option, Result, 
 use Rattle.std.specs.Io.Take.{take_inner, take_limit, take_remaining}
 use Rattle.std.specs.declared.alloc.Global.{Global}
 use Rattle.std.specs.declared.io.traits.Take.{Take}
-use Rattle.host_files.specs.Rights.{Rights}
-use Rattle.host_files.specs.Standing.{AreOf, Holds, Stands}
+use Rattle.image_file.specs.paths.Rights.{Rights}
+use Rattle.image_file.specs.paths.Standing.{AreOf, Holds, Stands}
 use Rattle.ledger_jobs.specs.EachImage.{as_loaded}
 use Rattle.ledger_jobs.specs.Ends.{EndsAs, Ended, JobEnd, as_job}
 use Rattle.ledger_jobs.specs.HostFiles.{IsReadAt, IsUnbegun, OfImage, OfWritten, RunEnds, TrimEnds}

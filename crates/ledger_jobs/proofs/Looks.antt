@@ -1,6 +1,6 @@
 -- What a job's first file may be read for a person may be looked at too.
 use Rattle.std.specs.Prelude.{List, None, Option, Some, IfSome, option_map, ℕ}
-use Rattle.host_files.specs.Rights.{Rights}
+use Rattle.image_file.specs.paths.Rights.{Rights}
 use Rattle.ledger_jobs.specs.Rights.{MayExplain, MayLook, first_file}
 use Rattle.ledger_jobs.specs.declared.jobs.Job.{Job}
 use Rattle.ledger_jobs.specs.declared.jobs.Job.TheVariants as jobs

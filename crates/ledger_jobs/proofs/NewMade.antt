@@ -8,7 +8,7 @@ use Rattle.file_changes.specs.Formats.{IsNewDisk}
 use Rattle.host_session.specs.runs.Outputs.{AppendsPart}
 use Rattle.command_faults.specs.declared.faults.CommandFault.{CommandFault}
 use Rattle.command_faults.specs.declared.faults.CommandFault.TheVariants as faults
-use Rattle.system_files.specs.Remains.{Remains}
+use Rattle.image_file.specs.Remains.{Remains}
 use Rattle.ledger_jobs.specs.Copies.{IsCopiedOver}
 use Rattle.ledger_jobs.specs.NewDisks.{IsNewImage, IsNewMade}
 

@@ -9,11 +9,11 @@ use Rattle.host_session.specs.runs.Chains.{told_in}
 use Rattle.request_cards.specs.Ledgers.{report}
 use Rattle.request_cards.specs.declared.reply.Reply.{Reply}
 use Rattle.line_text.specs.scripts.Lines.{lines}
-use Rattle.shop_commands.specs.ImageFile.{placed}
+use Rattle.image_file.specs.ImageFile.{placed}
 use Rattle.shop_commands.specs.Plays.{IsUntouched}
-use Rattle.shop_commands.specs.declared.durability.Durability.{Durability}
-use Rattle.shop_commands.specs.declared.durability.WritesAt.{Ghosts}
-use Rattle.shop_commands.specs.declared.image_file.ImageFile.{ImageFile}
+use Rattle.image_file.specs.declared.durability.Durability.{Durability}
+use Rattle.image_file.specs.declared.durability.WritesAt.{Ghosts}
+use Rattle.image_file.specs.declared.sectors.ImageFile.{ImageFile}
 use Rattle.ledger_jobs.proofs.ServiceTold.{given-back, lent-lines}
 use Rattle.ledger_jobs.specs.Changes.{IsQuietEnd}
 use Rattle.ledger_jobs.specs.DurableRuns.{IsDurableRun}

@@ -8,10 +8,10 @@ use Rattle.host_session.specs.runs.Chains.{over_instants}
 use Rattle.line_server.specs.Answering.{Answering, of_output}
 use Rattle.line_server.specs.Giving.{Input}
 use Rattle.line_text.specs.scripts.Lines.{lines}
-use Rattle.shop_commands.specs.ImageFile.{placed}
-use Rattle.shop_commands.specs.declared.durability.Durability.{Durability}
-use Rattle.shop_commands.specs.declared.durability.WritesAt.{Ghosts}
-use Rattle.shop_commands.specs.declared.image_file.ImageFile.{ImageFile}
+use Rattle.image_file.specs.ImageFile.{placed}
+use Rattle.image_file.specs.declared.durability.Durability.{Durability}
+use Rattle.image_file.specs.declared.durability.WritesAt.{Ghosts}
+use Rattle.image_file.specs.declared.sectors.ImageFile.{ImageFile}
 use Rattle.ledger_jobs.proofs.Durables.{unserved}
 use Rattle.ledger_jobs.proofs.LoggedTold.{passed-back}
 use Rattle.ledger_jobs.specs.Changes.{IsServiceEnd}

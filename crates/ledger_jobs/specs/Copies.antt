@@ -6,8 +6,8 @@ use Rattle.shop_commands.specs.Plays.{IsUntouched}
 use Rattle.command_faults.specs.declared.faults.CommandFault.{CommandFault}
 use Rattle.command_faults.specs.declared.faults.CommandFault.TheVariants as faults
 use Rattle.ledger_jobs.specs.Ends.{IsEndOver, JobEnd}
-use Rattle.system_files.specs.Remains.{Remains}
-use Rattle.system_files.specs.Replacing.{IsNoDisk, NowAll, Since}
+use Rattle.image_file.specs.Remains.{Remains}
+use Rattle.image_file.specs.Replacing.{IsNoDisk, NowAll, Since}
 
 -- if power went while an image was written over a file, there remained what could remain before, or no disk, or the image
 abbrev pub RemainsOr : {F : Type 0} → Remains F → (image : List ℕ) → F → F → Type 0

@@ -1,14 +1,14 @@
 -- A run over a file of which it is known what stays if the machine loses power. All of it is our own.
 use Rattle.std.specs.Prelude.{◌≡◌, ◌≢◌, ◌⊎◌, ◌≤◌, List, ℕ, Err, IfErr, OnOk, Some, length, true}
 use Rattle.d64_image.specs.Images.{Image}
-use Rattle.shop_commands.specs.Durable.{AllStays}
-use Rattle.shop_commands.specs.LastingImages.{image_of}
-use Rattle.shop_commands.specs.ImageFile.{IsTakenUp, KeepsOn, is_synced, placed, placed_file}
-use Rattle.shop_commands.specs.declared.durability.Durability.{Durability}
-use Rattle.shop_commands.specs.declared.durability.Durability.TheVariants as durabilities
-use Rattle.shop_commands.specs.declared.durability.WritesAt.{Ghosts}
+use Rattle.image_file.specs.Durable.{AllStays}
+use Rattle.image_file.specs.LastingImages.{image_of}
+use Rattle.image_file.specs.ImageFile.{IsTakenUp, KeepsOn, is_synced, placed, placed_file}
+use Rattle.image_file.specs.declared.durability.Durability.{Durability}
+use Rattle.image_file.specs.declared.durability.Durability.TheVariants as durabilities
+use Rattle.image_file.specs.declared.durability.WritesAt.{Ghosts}
 use Rattle.command_faults.specs.declared.faults.CommandFault.TheVariants as faults
-use Rattle.shop_commands.specs.declared.image_file.ImageFile.{ImageFile}
+use Rattle.image_file.specs.declared.sectors.ImageFile.{ImageFile}
 use Rattle.ledger_jobs.specs.Ends.{Ended}
 
 -- A run that ended as `end` left such a file. Then the rest of what was written was synced, and `ended` is reported.

@@ -1,8 +1,8 @@
 -- Which bytes a job is done over, where the host says what its files hold. Our own.
 use Rattle.std.specs.Prelude.{◌≡◌, ◌≢◌, ◌⊎◌, ⊤, ℕ, IfErr, IsErr, List}
 use Rattle.command_faults.specs.declared.faults.CommandFault.TheVariants as faults
-use Rattle.host_files.specs.Rights.{Rights}
-use Rattle.host_files.specs.Standing.{Holds, IsMissing, Stands}
+use Rattle.image_file.specs.paths.Rights.{Rights}
+use Rattle.image_file.specs.paths.Standing.{Holds, IsMissing, Stands}
 use Rattle.ledger_jobs.specs.EachImage.{IsLoadedOf, Loaded}
 use Rattle.ledger_jobs.specs.Ends.{JobEnd}
 use Rattle.ledger_jobs.specs.Rights.{standard_input}

@@ -4,8 +4,8 @@ use Rattle.std.specs.Prelude.{◌≡◌, ℕ, Err, List, Option, Vec, codes, map
 use Rattle.std.specs.declared.alloc.Global.{Global}
 use Rattle.command_faults.specs.declared.faults.CommandFault.TheVariants as faults
 use Rattle.file_rescue.specs.declared.choices.Choice.{Choice}
-use Rattle.host_files.specs.Rights.{Rights}
-use Rattle.host_files.specs.Standing.{Stands}
+use Rattle.image_file.specs.paths.Rights.{Rights}
+use Rattle.image_file.specs.paths.Standing.{Stands}
 use Rattle.ledger_jobs.specs.Changes.{IsChangeEnd, IsLoggedEnd, IsMakingEnd, IsQuietEnd, IsRepairTold}
 use Rattle.ledger_jobs.specs.Comparisons.{IsComparingRun}
 use Rattle.ledger_jobs.specs.Copies.{IsCopyEnd}

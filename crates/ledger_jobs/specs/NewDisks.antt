@@ -7,7 +7,7 @@ use Rattle.host_session.specs.runs.Outputs.{AppendsPart}
 use Rattle.shop_commands.specs.Plays.{IsUntouched}
 use Rattle.command_faults.specs.declared.faults.CommandFault.{CommandFault}
 use Rattle.command_faults.specs.declared.faults.CommandFault.TheVariants as faults
-use Rattle.system_files.specs.Remains.{Remains}
+use Rattle.image_file.specs.Remains.{Remains}
 use Rattle.ledger_jobs.specs.Copies.{IsCopiedOver, RemainsOr}
 
 -- the image of an empty disk of this name and this id: the sectors of 174,848 bytes

@@ -8,7 +8,7 @@ use Rattle.ledger_jobs.specs.declared.jobs.Job.TheVariants as jobs
 use Rattle.ledger_jobs.specs.declared.jobs.Reading.{Reading}
 use Rattle.ledger_jobs.specs.declared.jobs.Reading.TheVariants as readings
 use Rattle.log_files.specs.LogRights.{MayForgetLog, MayKeepLog, MayReadLog}
-use Rattle.host_files.specs.Rights.{Look, Make, May, MayRead, MayWrite, Read, Rights, Write}
+use Rattle.image_file.specs.paths.Rights.{Look, Make, May, MayRead, MayWrite, Read, Rights, Write}
 
 -- the path that stands for standard input, which is never opened
 abbrev pub standard_input : List ℕ

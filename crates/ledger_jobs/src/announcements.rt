@@ -8,11 +8,9 @@ use crate::losses::cut_in;
 use crate::readings::image_of_file;
 use crate::refusal_subjects::CUT_SHORT;
 use d64_image::Place;
-use host_files::HostFiles;
-use shop_commands::Locks;
+use image_file::{HostFiles, Locks, ShownPath};
 use std::fs::OpenFile;
 use std::io::{Read, Write};
-use system_files::ShownPath;
 
 /// The sector where the first file of the image at a path is cut short, as its shop is now. None also if another program
 /// has the image alone, if the image can't be read, and for standard input.

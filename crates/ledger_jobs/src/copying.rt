@@ -10,11 +10,10 @@ use crate::refusals::Refusal;
 use command_faults::CommandFault;
 use d64_image::IMAGE_BYTES;
 use disk_layout::Fault;
-use host_files::HostFiles;
-use shop_commands::{EndedFile, Locks, OverwrittenFile, put_whole};
+use image_file::{EndedFile, HostFiles, Locks, OverwrittenFile, replace_image};
+use shop_commands::put_whole;
 use std::fs::OpenFile;
 use std::io::{Read, Write};
-use system_files::replace_image;
 
 /// Writes an image over all that a file holds, syncs it, and prints `COPIED`. If power goes on the way, the file has what
 /// it could have before, or is no sound disk's, or has the image. `ImageSize`: nothing was done. `File` if the file

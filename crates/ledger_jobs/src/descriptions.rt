@@ -13,8 +13,7 @@ use crate::refusals::Refusal;
 use command_faults::CommandFault;
 use disk_faults::{describe_image, describe_refusal};
 use disk_layout::Fault;
-use host_files::HostFiles;
-use shop_commands::Locks;
+use image_file::{HostFiles, Locks};
 use std::fs::OpenFile;
 use std::io::{Read, Write};
 

@@ -37,8 +37,8 @@ use crate::side_repairs::do_repair_sides;
 use crate::viewing::do_viewing;
 use command_faults::CommandFault;
 use disk_layout::Fault;
-use host_files::HostFiles;
-use shop_commands::{Durability, EndedFile, Locks, OverwrittenFile, format_image};
+use image_file::{Durability, EndedFile, HostFiles, Locks, OverwrittenFile};
+use shop_commands::format_image;
 use std::fs::OpenFile;
 use std::io::{Read, Write};
 

@@ -1,7 +1,7 @@
 //! Runs over a file, and what of it stays if the machine loses power.
 ghost use Rattle.std.specs.Prelude.{◌≡◌, ◌≢◌, IfErr, IfSome, take};
-ghost use Rattle.shop_commands.specs.Durable.{IsSynced};
-ghost use Rattle.shop_commands.specs.ImageFile.{placed};
+ghost use Rattle.image_file.specs.Durable.{IsSynced};
+ghost use Rattle.image_file.specs.ImageFile.{placed};
 ghost use Rattle.shop_commands.specs.Plays.{IsUntouched};
 ghost use Rattle.command_faults.specs.declared.faults.CommandFault.TheVariants.{Device, File};
 ghost use Rattle.ledger_jobs.specs.DurableRuns.{IsDurableRun};
@@ -16,8 +16,8 @@ use command_faults::CommandFault;
 use d64_image::KeptMirror;
 use disk_layout::Fault;
 use host_session::ReplySink;
+use image_file::{Durability, ImageFile, WritesAt};
 use line_server::{Answers, LineSource};
-use shop_commands::{Durability, ImageFile, WritesAt};
 use std::alloc::Global;
 
 /// Plays the script on the shop of the image that the file has, as `play_run` does, and hands the file back. Its sectors

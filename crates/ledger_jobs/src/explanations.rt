@@ -9,9 +9,7 @@ use crate::near_names::tell_name;
 use crate::refusal_subjects::{About, subject_of};
 use crate::refusals::Refusal;
 use crate::size_lines::{missized_of, tell_size};
-use host_files::HostFiles;
-use noted_files::Failure;
-use shop_commands::Locks;
+use image_file::{Failure, HostFiles, Locks};
 use std::fs::OpenFile;
 use std::io::{Read, Write};
 

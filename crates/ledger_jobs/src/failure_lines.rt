@@ -4,11 +4,9 @@ ghost use Rattle.ledger_jobs.specs.Rights.{MayExplain, MayLook};
 use crate::files::STANDARD_INPUT;
 use crate::job_files::{first_file, image_of};
 use crate::jobs::Job;
-use host_files::{HostFiles, regular_at};
-use noted_files::Failure;
+use image_file::{Failure, HostFiles, ShownPath, regular_at};
 use std::fmt::Display;
 use std::io::{self, ErrorKind, Write};
-use system_files::ShownPath;
 
 const UNWRITTEN: &str = "; copy it to another medium, check the copy, and go on there";
 

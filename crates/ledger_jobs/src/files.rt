@@ -4,14 +4,13 @@ ghost use Rattle.std.proofs.Props.{props};
 ghost use Rattle.ledger_jobs.specs.HostFiles.{IsUnread, OfText};
 ghost use Rattle.ledger_jobs.specs.Rights.{MayMakeImage, MayOverwrite, MayReadText};
 ghost use Rattle.ledger_jobs.specs.declared.files.Older.TheVariants.{Kept, Replaced};
-ghost use Rattle.host_files.specs.Rights.{Look, May};
+ghost use Rattle.image_file.specs.paths.Rights.{Look, May};
 
 use crate::image_logs::is_there;
 use crate::refusals::Refusal;
 use command_faults::CommandFault;
-use host_files::{HostFiles, regular, regular_at};
+use image_file::{EndedFile, HostFiles, Locks, OpensFile, read_script, regular, regular_at};
 use log_files::{LogNames, forget_log};
-use shop_commands::{EndedFile, Locks, OpensFile, read_script};
 use std::fs::OpenFile;
 use std::io;
 

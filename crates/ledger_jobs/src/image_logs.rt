@@ -4,17 +4,16 @@ ghost use Rattle.ledger_jobs.specs.Ends.{log_refusal as refusal_of};
 ghost use Rattle.ledger_jobs.specs.HostFiles.{HasNoLog, IsUnbegun, IsUnread};
 ghost use Rattle.ledger_jobs.specs.Rights.{MayChangeImage, MayReadFile};
 ghost use Rattle.log_files.specs.LogRights.{MayKeepLog, MayKeepLogOf, MayReadLog};
-ghost use Rattle.host_files.specs.Rights.{Look, May, MayRead, MayWrite};
-ghost use Rattle.host_files.specs.Standing.{AreOf, IsMissing};
+ghost use Rattle.image_file.specs.paths.Rights.{Look, May, MayRead, MayWrite};
+ghost use Rattle.image_file.specs.paths.Standing.{AreOf, IsMissing};
 
 use crate::locks::{lock_exclusive, lock_shared};
 use crate::outcomes::told;
 use crate::refusals::Refusal;
 use command_faults::CommandFault;
 use d64_image::IMAGE_BYTES;
-use host_files::{HostFiles, opened_to_change, opened_to_read};
+use image_file::{Durability, EndedFile, HostFiles, Locks, opened_to_change, opened_to_read};
 use log_files::{ImageFolder, ImageView, LogFault, LogNames, land_in, sync_names, view_in};
-use shop_commands::{Durability, EndedFile, Locks};
 use std::fs::OpenFile;
 use std::io::{self, ErrorKind};
 

@@ -6,7 +6,7 @@ ghost use Rattle.ledger_jobs.specs.Rights.{MayLook};
 use crate::files::STANDARD_INPUT;
 use crate::jobs::Job;
 use arrayvec::ArrayVec;
-use host_files::{HostFiles, regular_at};
+use image_file::{HostFiles, regular_at};
 
 /// The file that a job reads or writes first. None of a job over several images.
 pub(crate) fn first_file<'a>(job: &Job<'a>) -> Option<&'a str>

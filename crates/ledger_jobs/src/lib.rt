@@ -59,6 +59,7 @@ pub use editing::{delete_guarded, rename_guarded};
 pub use endings::{Ending, end, tell};
 pub use explanations::explain;
 pub use extracting::extract_run;
+pub use image_file::ClosedStreams;
 pub use job_files::files_of;
 pub use jobs::{
     Columns, Drawing, Effect, Findings, Job, Loss, Overview, Reading, Taking, Unowned, Way,
@@ -81,6 +82,5 @@ pub use refusals::Refusal;
 pub use serving_files::serve_file;
 pub use serving_runs::serve_run;
 pub use shop_runs::{play_run, reading_run};
-pub use system_files::ClosedStreams;
 pub use trimming::{do_trim, trim_run};
 pub use watched_files::WhileThere;

@@ -1,14 +1,14 @@
 //! Image files that a job locks, reads, writes and syncs.
 ghost use Rattle.std.specs.Prelude.{◌≡◌, IfErr, IfOk, IfSome, OnOk, take, vec_items};
-ghost use Rattle.shop_commands.specs.Durable.{IsSynced};
-ghost use Rattle.shop_commands.specs.declared.durability.Durability.TheVariants.{AtEnd};
+ghost use Rattle.image_file.specs.Durable.{IsSynced};
+ghost use Rattle.image_file.specs.declared.durability.Durability.TheVariants.{AtEnd};
 ghost use Rattle.ledger_jobs.specs.DurableRuns.{IsFinished};
 ghost use Rattle.ledger_jobs.specs.HostFiles.{IsUnbegun, IsUnread};
 
 use crate::refusals::Refusal;
 use command_faults::CommandFault;
 use disk_layout::Fault;
-use shop_commands::{Durability, ImageFile, Locks, WritesAt};
+use image_file::{Durability, ImageFile, Locks, WritesAt};
 use std::alloc::Global;
 use std::io;
 

@@ -6,11 +6,9 @@ use crate::jobs::Job;
 use crate::names::Name;
 use crate::readings::image_of_file;
 use disk_faults::print_near_names;
-use host_files::HostFiles;
-use shop_commands::Locks;
+use image_file::{HostFiles, Locks, ShownPath};
 use std::fs::OpenFile;
 use std::io::{Read, Write};
-use system_files::ShownPath;
 
 /// What is printed if no name is near.
 const NO_SUCH_FILE: &str = "it has no such file; `ledger list` shows what it has";

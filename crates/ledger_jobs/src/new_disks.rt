@@ -16,12 +16,11 @@ use command_faults::CommandFault;
 use d64_image::MemDisk;
 use disk_layout::Fault;
 use file_changes::new_disk;
-use host_files::HostFiles;
-use shop_commands::{EndedFile, Locks, OverwrittenFile, put_whole};
+use image_file::{EndedFile, HostFiles, Locks, OverwrittenFile, replace_image};
+use shop_commands::put_whole;
 use std::alloc::Global;
 use std::fs::OpenFile;
 use std::io::Write;
-use system_files::replace_image;
 
 /// The empty disk of this name and this id. `NoMemory` if there is none for it.
 fn made_disk(alloc: Global, name: &[u8], id: [u8; 2]) -> Result<MemDisk, CommandFault>

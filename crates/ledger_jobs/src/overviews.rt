@@ -21,13 +21,11 @@ use crate::refusals::Refusal;
 use crate::shop_runs::reading_run;
 use command_faults::CommandFault;
 use disk_layout::Fault;
-use host_files::HostFiles;
+use image_file::{HostFiles, Locks, ShownPath};
 use line_text::put_named;
-use shop_commands::Locks;
 use std::alloc::Global;
 use std::fs::OpenFile;
 use std::io::{Read, Write};
-use system_files::ShownPath;
 
 /// How many bytes memory is taken for at once for what one image prints: more than a directory or a map has.
 const ROOM: usize = 32768;

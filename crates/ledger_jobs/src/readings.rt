@@ -2,7 +2,7 @@
 ghost use Rattle.std.specs.Prelude.{◌≡◌, IfErr, IfOk, IfSome, IsNone, Err, take, vec_items};
 ghost use Rattle.std.specs.IoError.{error_kind};
 ghost use Rattle.command_faults.specs.Faults.{io_fault};
-ghost use Rattle.host_files.specs.Standing.{AreOf};
+ghost use Rattle.image_file.specs.paths.Standing.{AreOf};
 ghost use Rattle.ledger_jobs.specs.HostFiles.{HasNoLogFor, IsUnbegun, IsUnread, OfFile, OfImage, OfImageFile, OfRead};
 ghost use Rattle.ledger_jobs.specs.JobRuns.{IsReadOver};
 ghost use Rattle.ledger_jobs.specs.Jobs.{needed};
@@ -18,8 +18,7 @@ use crate::refusals::Refusal;
 use crate::shop_runs::reading_run;
 use command_faults::CommandFault;
 use disk_layout::Fault;
-use host_files::HostFiles;
-use shop_commands::{Locks, read_image, read_script};
+use image_file::{HostFiles, Locks, read_image, read_script};
 use std::alloc::Global;
 use std::fs::OpenFile;
 use std::io::{self, Read, Write};

@@ -1,10 +1,10 @@
 //! Serving the shop of the image at a path, over its file.
 ghost use Rattle.std.specs.Prelude.{◌≡◌, IfSome, OnOk, take};
-ghost use Rattle.shop_commands.specs.Durable.{IsSynced};
+ghost use Rattle.image_file.specs.Durable.{IsSynced};
 ghost use Rattle.ledger_jobs.specs.Changes.{IsServiceEnd};
 ghost use Rattle.ledger_jobs.specs.Replies.{IsFileService, IsToldAll};
 ghost use Rattle.ledger_jobs.specs.Rights.{MayChangeImage};
-ghost use Rattle.host_files.specs.Rights.{Look, May};
+ghost use Rattle.image_file.specs.paths.Rights.{Look, May};
 
 use crate::image_logs::opened_and_landed;
 use crate::jobs::Loss;
@@ -17,9 +17,8 @@ use crate::watched_files::{WhileThere, served_end};
 use command_faults::CommandFault;
 use d64_image::KeptMirror;
 use disk_layout::Fault;
-use host_files::{FileName, HostFiles, Stays};
+use image_file::{Durability, EndedFile, FileName, HostFiles, ImageFile, Locks, Stays, WritesAt};
 use line_server::{Answers, LineSource};
-use shop_commands::{Durability, EndedFile, ImageFile, Locks, WritesAt};
 use std::alloc::Global;
 use std::fs::OpenFile;
 use std::io::{BufReader, Write};

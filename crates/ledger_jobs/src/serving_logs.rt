@@ -11,7 +11,7 @@ ghost use Rattle.ledger_jobs.specs.WatchedFiles.{while_there};
 ghost use Rattle.log_files.specs.LiveLogs.{of_live};
 ghost use Rattle.log_server.specs.Reporting.{of_output};
 ghost use Rattle.ledger_jobs.specs.Rights.{MayChangeImage};
-ghost use Rattle.host_files.specs.Rights.{Look, May, MayWrite, Remove};
+ghost use Rattle.image_file.specs.paths.Rights.{Look, May, MayWrite, Remove};
 ghost use Rattle.log_files.specs.LogRights.{MayKeepLogOf, making_of};
 
 use crate::image_logs::{is_sized, log_refusal, opened_alone};
@@ -25,12 +25,11 @@ use crate::watched_files::{WhileThere, served_end};
 use command_faults::CommandFault;
 use d64_image::MemDisk;
 use disk_layout::Fault;
-use host_files::{HostFiles, Stays, opened_to_change};
+use image_file::{Durability, EndedFile, HostFiles, Locks, Stays, opened_to_change};
 use line_server::{Answers, BatchSource};
 use log_files::{
     ImageFolder, LiveLog, LogFault, LogFolder, LogNames, SystemLog, forget_making, land_in,
 };
-use shop_commands::{Durability, EndedFile, Locks};
 use shop_log::{LogFile, LogRoom, TouchedDisk};
 use std::alloc::Global;
 use std::fs::OpenFile;

@@ -6,9 +6,8 @@ use crate::failure_lines::tell_of;
 use crate::job_files::{first_file, size_of};
 use crate::jobs::Job;
 use d64_image::IMAGE_BYTES;
-use host_files::HostFiles;
+use image_file::{HostFiles, ShownPath};
 use std::io::Write;
-use system_files::ShownPath;
 
 /// The image of a job that has another size than a disk: of two the first one, unless it has that size.
 pub(crate) fn missized_of<'a, R: HostFiles>(rt: &R, job: &Job<'a>) -> Option<&'a str>

@@ -7,8 +7,7 @@ use crate::readings::image_at;
 use crate::refusals::Refusal;
 use disk_layout::Fault;
 use disk_pictures::{View, view_image};
-use host_files::HostFiles;
-use shop_commands::Locks;
+use image_file::{HostFiles, Locks};
 use std::fs::OpenFile;
 use std::io::{Read, Write};
 

@@ -8,8 +8,8 @@ use crate::refusals::Refusal;
 use command_faults::CommandFault;
 use d64_image::Sectors;
 use disk_layout::Fault;
-use host_files::Stays;
 use host_session::{NotTaken, ReplySink};
+use image_file::Stays;
 use line_server::Answers;
 use request_cards::{Reply, Word};
 

@@ -1,6 +1,6 @@
 -- What may be done with the log of an image, by its path. Our own.
 use Rattle.std.specs.Prelude.{◌≡◌, ℕ, List, ◌++◌, codes, true}
-use Rattle.host_files.specs.Rights.{Look, Make, May, MayRead, MayWrite, Remove, Replace, Rights}
+use Rattle.image_file.specs.paths.Rights.{Look, Make, May, MayRead, MayWrite, Remove, Replace, Rights}
 
 -- the path of the log of an image, beside it
 abbrev pub log_of : List ℕ → List ℕ

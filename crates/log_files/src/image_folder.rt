@@ -1,7 +1,7 @@
 //! The folder of an image, of the system.
 ghost use Rattle.log_files.specs.Unknown.{unknown_folder};
 ghost use Rattle.log_files.specs.LogRights.{MayKeepLogOf, MayReadLogOf, log_of};
-ghost use Rattle.host_files.specs.Standing.{IsMissing};
+ghost use Rattle.image_file.specs.paths.Standing.{IsMissing};
 ghost use Rattle.std.specs.Prelude.{◌≡◌, ◌<◌, IfOk, IsNone, length, string_bytes};
 ghost use Rattle.std.proofs.Props.{props};
 
@@ -9,13 +9,12 @@ use crate::judging::LOG_BYTES;
 use crate::log_folder::LogFolder;
 use crate::log_names::{LogNames, forget_making, sync_names};
 use crate::system_log::SystemLog;
-use host_files::{HostFiles, opened_to_change, opened_to_read, regular};
+use image_file::{EndedFile, HostFiles, opened_to_change, opened_to_read, regular};
 use std::alloc::Global;
 use std::cell::Cell;
 use std::fs::OpenFile;
 use std::io::{self, Read, Seek, SeekFrom};
 use std::os::unix::fs::MetadataExt;
-use system_files::EndedFile;
 
 /// An image's open file, and the names of its log beside it. The file is read, written, synced and closed. It isn't
 /// locked: the caller does that. Nothing is known of what it holds: it is trusted to satisfy the contract of `LogFolder`.

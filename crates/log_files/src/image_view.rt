@@ -2,13 +2,13 @@
 ghost use Rattle.std.specs.Prelude.{string_bytes};
 ghost use Rattle.std.proofs.Props.{props};
 ghost use Rattle.log_files.specs.LogRights.{MayReadLogOf, log_of};
-ghost use Rattle.host_files.specs.Standing.{IsMissing};
+ghost use Rattle.image_file.specs.paths.Standing.{IsMissing};
 ghost use Rattle.log_files.specs.Views.{unseen};
 
 use crate::image_folder::{log_bytes, log_to_read, read_sectors};
 use crate::log_names::LogNames;
 use crate::viewing::ViewsImage;
-use host_files::HostFiles;
+use image_file::HostFiles;
 use shop_log::{BLOCK, BLOCKS};
 use std::alloc::Global;
 use std::fs::OpenFile;

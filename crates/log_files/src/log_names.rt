@@ -1,9 +1,9 @@
 //! The names of an image, of its log, and of a log in the making.
 ghost use Rattle.std.specs.Prelude.{◌≡◌, ◌++◌, IfOk, string_bytes, true};
 ghost use Rattle.log_files.specs.LogRights.{MayForget, log_of, making_of};
-ghost use Rattle.host_files.specs.Rights.{Look, May, Remove};
+ghost use Rattle.image_file.specs.paths.Rights.{Look, May, Remove};
 
-use host_files::HostFiles;
+use image_file::HostFiles;
 use std::alloc::Global;
 use std::io;
 

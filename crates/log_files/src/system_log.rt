@@ -1,14 +1,13 @@
 //! A log's file of the system.
 ghost use Rattle.log_files.specs.Unknown.{unknown_file};
 ghost use Rattle.std.proofs.Props.{props};
-ghost use Rattle.host_files.specs.Rights.{Look, May};
+ghost use Rattle.image_file.specs.paths.Rights.{Look, May};
 
-use host_files::{FileName, HostFiles, Stays};
+use image_file::{EndedFile, FileName, HostFiles, Stays};
 use shop_log::LogFile;
 use std::cell::Cell;
 use std::fs::OpenFile;
 use std::io;
-use system_files::EndedFile;
 
 /// A log's file, open. Once it has the name of the log, each sync checks that the name still leads to it. Nothing is known
 /// of what it holds: that it satisfies the contract of `LogFile` is trusted.

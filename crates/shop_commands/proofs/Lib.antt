@@ -1,4 +1,3 @@
-mod Begun
 pub mod Examples
 pub mod FreshShops
 pub mod Lines
@@ -7,13 +6,8 @@ pub mod FileTurns
 pub mod FileEnds
 pub mod FileScripts
 pub mod Formats
-mod Kept
-mod KeptOn
-mod KeptSectors
-mod KeptSizes
 pub mod ListingExamples
 pub mod Listings
 pub mod PlayEnds
 pub mod Replies
 mod Showings
-mod Synced

@@ -7,8 +7,8 @@ use Rattle.d64_image.specs.declared.place.Place.{Place}
 use Rattle.disk_layout.specs.Blank.{IsBlank}
 use Rattle.disk_layout.specs.Whole.{IsWhole}
 use Rattle.host_session.specs.runs.Outputs.{AppendsPart}
-use Rattle.system_files.specs.Remains.{Remains}
-use Rattle.system_files.specs.Replacing.{IsNoDisk, NowAll, Since}
+use Rattle.image_file.specs.Remains.{Remains}
+use Rattle.image_file.specs.Replacing.{IsNoDisk, NowAll, Since}
 use Rattle.command_faults.specs.declared.faults.CommandFault.{CommandFault}
 use Rattle.command_faults.specs.declared.faults.CommandFault.TheVariants as faults
 

@@ -1,11 +1,7 @@
-pub mod Durable
 pub mod Faults
 pub mod FreshShops
 pub mod Images
 pub mod Listings
-pub mod Lasting
-pub mod LastingImages
-pub mod ImageFile
 pub mod Plays
 pub mod Shops
 pub mod Shows

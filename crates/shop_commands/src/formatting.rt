@@ -8,9 +8,9 @@ use crate::bytes::put_whole;
 use command_faults::CommandFault;
 use d64_image::MemDisk;
 use disk_layout::blank_image;
+use image_file::{EndedFile, replace_image};
 use std::alloc::Global;
 use std::io::Write;
-use system_files::{EndedFile, replace_image};
 
 /// The name of a fresh disk.
 const NAME: &[u8] = b"STOCK LEDGER";

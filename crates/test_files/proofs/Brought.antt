@@ -4,7 +4,7 @@ use Rattle.std.proofs.Common.{subst, sym, ⊎_elim}
 use Rattle.std.specs.Prelude.{Vec}
 use Rattle.std.proofs.lemmas.List.{drop-append-le, drop_at, length_push}
 use Rattle.std.specs.declared.alloc.Global.{Global}
-use Rattle.shop_commands.specs.Lasting.{StaysOr}
+use Rattle.image_file.specs.Lasting.{StaysOr}
 use Rattle.test_files.specs.declared.disk.Disk.{Disk}
 use Rattle.test_files.specs.Disks.{disk_lasting}
 use Rattle.test_files.specs.Past.{AreImages, HadBeen}

@@ -8,15 +8,15 @@ use Rattle.d64_image.specs.Images.{Image}
 use Rattle.d64_image.specs.Keeps.{FileFailed, KeptOnly}
 use Rattle.d64_image.specs.Memory.{sectors_in}
 use Rattle.disk_layout.specs.declared.faults.Fault.{Fault}
-use Rattle.shop_commands.specs.Durable.{AllStays}
-use Rattle.shop_commands.specs.Lasting.{Lasting, seen}
-use Rattle.shop_commands.specs.LastingImages.{image_of, image_of-size, stayed_image}
-use Rattle.shop_commands.specs.ImageFile.{is_synced, placed, placed_file, seen_of}
-use Rattle.shop_commands.specs.declared.durability.Durability.{Durability}
-use Rattle.shop_commands.specs.declared.durability.Durability.TheVariants as durabilities
-use Rattle.shop_commands.specs.declared.durability.WritesAt.{Ghosts}
+use Rattle.image_file.specs.Durable.{AllStays}
+use Rattle.image_file.specs.Lasting.{Lasting, seen}
+use Rattle.image_file.specs.LastingImages.{image_of, image_of-size, stayed_image}
+use Rattle.image_file.specs.ImageFile.{is_synced, placed, placed_file, seen_of}
+use Rattle.image_file.specs.declared.durability.Durability.{Durability}
+use Rattle.image_file.specs.declared.durability.Durability.TheVariants as durabilities
+use Rattle.image_file.specs.declared.durability.WritesAt.{Ghosts}
 use Rattle.command_faults.specs.declared.faults.CommandFault.TheVariants as faults
-use Rattle.shop_commands.specs.declared.image_file.ImageFile.{ImageFile}
+use Rattle.image_file.specs.declared.sectors.ImageFile.{ImageFile}
 use Rattle.ledger_jobs.specs.DurableRuns.{IsDurableRun}
 use Rattle.ledger_jobs.specs.Ends.{Ended}
 

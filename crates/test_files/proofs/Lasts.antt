@@ -11,12 +11,12 @@ use Rattle.request_cards.specs.Ledgers.{plain, replies}
 use Rattle.line_text.specs.scripts.Lines.{lines}
 use Rattle.shop_commands.specs.Plays.{IsFileFault, IsPlayedFile}
 use Rattle.disk_layout.specs.declared.faults.Fault.{Fault}
-use Rattle.shop_commands.specs.ImageFile.{placed}
-use Rattle.shop_commands.specs.Lasting.{Lasting}
-use Rattle.shop_commands.specs.declared.durability.Durability.{Durability}
-use Rattle.shop_commands.specs.declared.durability.WritesAt.{Ghosts}
+use Rattle.image_file.specs.ImageFile.{placed}
+use Rattle.image_file.specs.Lasting.{Lasting}
+use Rattle.image_file.specs.declared.durability.Durability.{Durability}
+use Rattle.image_file.specs.declared.durability.WritesAt.{Ghosts}
 use Rattle.command_faults.specs.declared.faults.CommandFault.TheVariants as faults
-use Rattle.shop_commands.specs.declared.image_file.ImageFile.{ImageFile}
+use Rattle.image_file.specs.declared.sectors.ImageFile.{ImageFile}
 use Rattle.ledger_jobs.specs.DurableRuns.{IsDurableRun}
 use Rattle.ledger_jobs.specs.Ends.{Ended}
 use Rattle.ledger_jobs.specs.Runs.{IsPlayRun}

@@ -18,11 +18,11 @@ use Rattle.line_server.specs.Giving.{Input}
 use Rattle.line_server.specs.Inputs.{line_messages}
 use Rattle.line_server.specs.Serves.{AreServed, SettledInTurn}
 use Rattle.ledger_jobs.specs.FileServes.{IsServeFault}
-use Rattle.shop_commands.specs.ImageFile.{is_synced, placed, placed_file}
-use Rattle.shop_commands.specs.declared.durability.Durability.TheVariants as durabilities
-use Rattle.shop_commands.specs.declared.durability.WritesAt.{Ghosts}
+use Rattle.image_file.specs.ImageFile.{is_synced, placed, placed_file}
+use Rattle.image_file.specs.declared.durability.Durability.TheVariants as durabilities
+use Rattle.image_file.specs.declared.durability.WritesAt.{Ghosts}
 use Rattle.command_faults.specs.declared.faults.CommandFault.TheVariants as faults
-use Rattle.shop_commands.specs.declared.image_file.ImageFile.{ImageFile}
+use Rattle.image_file.specs.declared.sectors.ImageFile.{ImageFile}
 use Rattle.ledger_jobs.specs.DurableRuns.{IsDurableRun}
 use Rattle.ledger_jobs.specs.Ends.{Ended}
 use Rattle.ledger_jobs.specs.Serves.{IsServeRun}

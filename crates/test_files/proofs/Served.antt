@@ -11,11 +11,11 @@ use Rattle.host_session.specs.events.Instants.{Instant, instant_of}
 use Rattle.host_session.specs.runs.Chains.{IsChain, over_instants, told_in}
 use Rattle.host_session.specs.events.Counted.{after_all}
 use Rattle.host_session.specs.shop.Shop.{Shop, start_of, with_state}
-use Rattle.shop_commands.specs.Lasting.{Lasting, seen}
-use Rattle.shop_commands.specs.LastingImages.{image_of, image_of-size}
-use Rattle.shop_commands.specs.ImageFile.{is_synced, placed, placed_file}
-use Rattle.shop_commands.specs.declared.durability.WritesAt.{Ghosts}
-use Rattle.shop_commands.specs.declared.image_file.ImageFile.{ImageFile}
+use Rattle.image_file.specs.Lasting.{Lasting, seen}
+use Rattle.image_file.specs.LastingImages.{image_of, image_of-size}
+use Rattle.image_file.specs.ImageFile.{is_synced, placed, placed_file}
+use Rattle.image_file.specs.declared.durability.WritesAt.{Ghosts}
+use Rattle.image_file.specs.declared.sectors.ImageFile.{ImageFile}
 
 -- a file as it is: its moment, and the image on its disk
 abbrev pub now_at : {F : Type 0} → Lasting F → (F → List ℕ) → F → Instant

@@ -5,8 +5,8 @@ use Rattle.std.proofs.Common.{length, subst, sym, take, ⊎_elim}
 use Rattle.std.proofs.Math.Seq.{take-length}
 use Rattle.std.proofs.lemmas.List.{append-nil, take-append-drop}
 use Rattle.d64_image.specs.Offsets.{overwritten}
-use Rattle.shop_commands.specs.Durable.{IsOverwritten, WritesOver}
-use Rattle.shop_commands.specs.Lasting.{Lasting, StaysOr}
+use Rattle.image_file.specs.Durable.{IsOverwritten, WritesOver}
+use Rattle.image_file.specs.Lasting.{Lasting, StaysOr}
 
 -- whatever came of bringing them to the disk
 pub whole_written : {E : Type 0} (old new : List ℕ) (n : ℕ) (bytes : List ℕ) (r : Result Unit E)

@@ -1,7 +1,7 @@
 -- The bytes of a disk, and those that stood in their place before. Our own.
 use Rattle.std.specs.Prelude.{◌≡◌, ◌⊎◌, ◌<◌, ℕ, List, [], None, Option, Some, drop, length, slice_index}
 use Rattle.std.proofs.Common.{ap, inl, subst, sym}
-use Rattle.shop_commands.specs.Lasting.{Lasting}
+use Rattle.image_file.specs.Lasting.{Lasting}
 use Rattle.test_files.specs.Past.{HadBeen, only_now_of}
 use Rattle.test_files.specs.declared.disk.Disk.{Disk}
 

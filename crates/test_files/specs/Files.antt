@@ -1,6 +1,6 @@
 -- What a file in memory holds, and what of that is on its disk. Our own.
 use Rattle.std.specs.Prelude.{◌≡◌, ◌≢◌, Bool, List, ℕ}
-use Rattle.shop_commands.specs.Lasting.{Lasting}
+use Rattle.image_file.specs.Lasting.{Lasting}
 use Rattle.test_files.specs.Disks.{disk_bytes, disk_lasting}
 use Rattle.test_files.specs.declared.disk.Disk.{Disk}
 use Rattle.test_files.specs.declared.disk_file.DiskFile.{DiskFile}

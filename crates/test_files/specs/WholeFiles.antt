@@ -1,6 +1,6 @@
 -- What a file in memory holds, and held, in which no write leaves a part of itself. Our own.
 use Rattle.std.specs.Prelude.{List, Some, ℕ}
-use Rattle.shop_commands.specs.Lasting.{Lasting, Whole}
+use Rattle.image_file.specs.Lasting.{Lasting, Whole}
 use Rattle.test_files.specs.Disks.{disk_lasting}
 use Rattle.test_files.specs.Files.{file_held, file_lasting}
 use Rattle.test_files.specs.declared.disk_file.DiskFile.{DiskFile}

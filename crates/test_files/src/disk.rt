@@ -37,7 +37,7 @@ fn put(held: &mut [u8], at: u64, bytes: &[u8]) -> bool
 
 impl Disk {
     ghost use Rattle.std.specs.Prelude.{Some, IfOk, IfSome, IsSome, OnErr, OnOk, get_or};
-    ghost use Rattle.shop_commands.specs.Lasting.{StaysOr};
+    ghost use Rattle.image_file.specs.Lasting.{StaysOr};
     ghost use Rattle.test_files.specs.Disks.{disk_bytes, disk_lasting, changes_of};
     ghost use Rattle.test_files.specs.Past.{HadBeen};
 

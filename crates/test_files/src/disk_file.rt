@@ -1,12 +1,12 @@
 //! A file in memory, of which it is known what it holds and what of that is on its disk.
 ghost use Rattle.std.specs.Prelude.{◌≡◌, ◌≤◌, ◌⊎◌, ◌+◌, None, Some, false, length};
 ghost use Rattle.d64_image.specs.Offsets.{overwritten};
-ghost use Rattle.shop_commands.specs.Durable.{WritesOver};
-ghost use Rattle.shop_commands.specs.Lasting.{StaysOr};
+ghost use Rattle.image_file.specs.Durable.{WritesOver};
+ghost use Rattle.image_file.specs.Lasting.{StaysOr};
 ghost use Rattle.test_files.specs.Disks.{disk_bytes, disk_lasting};
 
 use crate::disk::Disk;
-use shop_commands::{Locks, WritesAt};
+use image_file::{Locks, WritesAt};
 use std::alloc::{AllocError, Global};
 use std::fs::TryLockError;
 use std::io::{self, ErrorKind, Read};
@@ -82,7 +82,7 @@ fn write(held: &mut Disk, at: u64, bytes: &[u8], most: Option<usize>) -> io::Res
 
 impl DiskFile {
     ghost use Rattle.std.specs.Prelude.{IfOk, OnErr, OnOk, true};
-    ghost use Rattle.shop_commands.specs.Lasting.{IsSectorIn, overwritten_in};
+    ghost use Rattle.image_file.specs.Lasting.{IsSectorIn, overwritten_in};
     ghost use Rattle.test_files.specs.Files.{file_disk, file_held, file_lasting, has_failed, is_whole};
 
     /// A file of this image, all of which is on its disk. No call of it fails before the last that can be counted. An
@@ -222,7 +222,7 @@ impl DiskFile {
 
 impl WritesAt for DiskFile {
     ghost use Rattle.std.specs.Prelude.{◌≡◌, ◌≢◌, Some};
-    ghost use Rattle.shop_commands.specs.Lasting.{unknown_whole};
+    ghost use Rattle.image_file.specs.Lasting.{unknown_whole};
     ghost use Rattle.test_files.specs.Files.{file_held, file_lasting, has_failed, is_alone, is_locked};
 
     ghost held = { λ f. Some (file_held f) };

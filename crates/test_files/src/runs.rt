@@ -16,9 +16,9 @@ use command_faults::CommandFault;
 use d64_image::KeptMirror;
 use disk_layout::Fault;
 use host_session::ReplySink;
+use image_file::{Durability, ImageFile};
 use ledger_jobs::{play_durably, serve_durably};
 use line_server::{Answers, LineSource};
-use shop_commands::{Durability, ImageFile};
 use std::alloc::Global;
 
 /// Plays a script on the shop of the image that the file holds: the file then, and how that ended. Wherever power is

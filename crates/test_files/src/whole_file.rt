@@ -3,7 +3,7 @@ ghost use Rattle.std.specs.Prelude.{◌≡◌};
 ghost use Rattle.test_files.specs.Files.{is_whole};
 
 use crate::disk_file::DiskFile;
-use shop_commands::WritesAt;
+use image_file::WritesAt;
 use std::io;
 
 /// A file whose writes, if they fail, leave what it held. What it holds at any moment is known, and with it what is left

@@ -1,7 +1,7 @@
 -- What a runtime of one file says. Our own.
 use Rattle.std.specs.Prelude.{ℕ, Bool, List, None, Option, Some, bytes_eq, codes, if◌then◌else◌}
-use Rattle.host_files.specs.Rights.{Rights}
-use Rattle.host_files.specs.Standing.{Holds, Missing, Stands}
+use Rattle.image_file.specs.paths.Rights.{Rights}
+use Rattle.image_file.specs.paths.Standing.{Holds, Missing, Stands}
 use Rattle.test_runtime.specs.ReadOnly.{may_use}
 use Rattle.test_runtime.specs.declared.known.KnownFile.{KnownFile}
 

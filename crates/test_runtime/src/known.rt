@@ -4,8 +4,7 @@ ghost use Rattle.test_runtime.specs.Known.{known_rights, known_stands, standing}
 
 use crate::given::Given;
 use crate::stored::failed;
-use host_files::HostFiles;
-use shop_commands::{EndedFile, Locks, WritesAt, read_image};
+use image_file::{EndedFile, HostFiles, Locks, WritesAt, read_image};
 use std::alloc::{Allocator, Global};
 use std::fs::{Metadata, OpenFile, TryLockError};
 use std::io::{self, BufRead, ErrorKind, Lines, Read, Seek, SeekFrom};
@@ -72,7 +71,7 @@ impl OpenFile for KnownFile<'_> {
 }
 
 impl WritesAt for KnownFile<'_> {
-    ghost use Rattle.shop_commands.specs.Lasting.{unknown_whole};
+    ghost use Rattle.image_file.specs.Lasting.{unknown_whole};
 
     ghost whole = { unknown_whole };
 

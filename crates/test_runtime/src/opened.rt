@@ -1,6 +1,6 @@
 //! Open files in memory.
 use crate::stored::{Kind, Lock, Others, Stored, failed};
-use shop_commands::{EndedFile, Locks, WritesAt, read_image};
+use image_file::{EndedFile, Locks, WritesAt, read_image};
 use std::alloc::Global;
 use std::fs::{Metadata, OpenFile, OpenOptions, TryLockError};
 use std::io::{self, ErrorKind, Read, Seek, SeekFrom, Write};
@@ -59,7 +59,7 @@ impl FileExt for Opened<'_> {
 }
 
 impl WritesAt for Opened<'_> {
-    ghost use Rattle.shop_commands.specs.Lasting.{unknown_whole};
+    ghost use Rattle.image_file.specs.Lasting.{unknown_whole};
 
     ghost whole = { unknown_whole };
 

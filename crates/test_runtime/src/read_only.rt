@@ -6,7 +6,7 @@ use crate::given::Given;
 use crate::opened::Opened;
 use crate::runtime::Runtime;
 use crate::stored::failed;
-use host_files::HostFiles;
+use image_file::HostFiles;
 use std::alloc::{Allocator, Global};
 use std::fs::Metadata;
 use std::io::{self, BufRead, ErrorKind, Lines};

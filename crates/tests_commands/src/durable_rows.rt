@@ -6,7 +6,8 @@ use crate::machine::{Machine, OnMachine};
 use crate::runs::shown;
 use command_faults::CommandFault;
 use host_session::Printer;
-use shop_commands::{Durability, ImageFile, play_file};
+use image_file::{Durability, ImageFile};
+use shop_commands::play_file;
 use std::process::Abort;
 
 /// What was played before, and then a script and its replies.

@@ -2,7 +2,8 @@
 use crate::comparing::{holds, same_at};
 use crate::files::{Tape, filled, new_tape};
 use crate::images::formatted;
-use shop_commands::{OpensFile, OverwrittenFile, format_image, read_image, read_script};
+use image_file::{OpensFile, OverwrittenFile, read_image, read_script};
+use shop_commands::format_image;
 use std::cell::Cell;
 use std::io;
 use std::process::Abort;

@@ -1,5 +1,5 @@
 //! Files and outputs of the rows, in memory, also such as fail.
-use shop_commands::{EndedFile, WritesAt};
+use image_file::{EndedFile, WritesAt};
 use std::io::{self, Cursor, Seek, SeekFrom, Write};
 use std::process::Abort;
 
@@ -103,7 +103,7 @@ impl Seek for Tape {
 }
 
 impl WritesAt for Tape {
-    ghost use Rattle.shop_commands.specs.Lasting.{unknown_whole};
+    ghost use Rattle.image_file.specs.Lasting.{unknown_whole};
 
     ghost whole = { unknown_whole };
 

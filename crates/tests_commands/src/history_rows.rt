@@ -6,8 +6,8 @@ use crate::machine::{Lines, Machine, OnMachine, Replies, Seen};
 use crate::runs::is_shown;
 use command_faults::CommandFault;
 use host_session::Printer;
+use image_file::{Durability, ImageFile};
 use ledger_jobs::serve_file;
-use shop_commands::{Durability, ImageFile};
 use std::process::Abort;
 
 /// Lines: a set, its repeat, an issue, what is no request, a move, and the issue of more than there is.

@@ -1,5 +1,5 @@
 //! A machine that loses power: a file on it, an input and an output that look at its disk.
-use shop_commands::WritesAt;
+use image_file::WritesAt;
 use std::alloc::Global;
 use std::cell::{Cell, RefCell};
 use std::io::{self, BufRead, ErrorKind, Read, Write};
@@ -103,7 +103,7 @@ fn told(power: bool) -> io::Result<()> {
 }
 
 impl WritesAt for OnMachine<'_> {
-    ghost use Rattle.shop_commands.specs.Lasting.{unknown_whole};
+    ghost use Rattle.image_file.specs.Lasting.{unknown_whole};
 
     ghost whole = { unknown_whole };
 

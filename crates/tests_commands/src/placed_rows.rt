@@ -2,7 +2,7 @@
 use crate::comparing::{holds, same, same_at};
 use crate::files::{filled, new_tape};
 use d64_image::{Place, SectorFile};
-use shop_commands::ImageFile;
+use image_file::ImageFile;
 use std::process::Abort;
 
 // The offsets are those of the published table: track 18 begins at $16500.

@@ -3,9 +3,8 @@ use crate::comparing::{holds, same};
 use crate::files::{Paper, Tape, new_tape};
 use command_faults::CommandFault;
 use host_session::Printer;
-use shop_commands::{
-    DryFault, ImageFile, NameForm, check_image, dry, list_image, play_file, show_image,
-};
+use image_file::ImageFile;
+use shop_commands::{DryFault, NameForm, check_image, dry, list_image, play_file, show_image};
 use std::fmt::Display;
 use std::io::Write;
 use std::process::Abort;

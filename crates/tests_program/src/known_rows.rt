@@ -1,7 +1,7 @@
 //! Jobs over a host that says what its one file holds, and a file that is gone when a host is to open it.
 use crate::runs::bytes_at;
 use crate::scenes::first_scene;
-use host_files::HostFiles;
+use image_file::HostFiles;
 use ledger_jobs::{Findings, Job, do_job};
 use test_runtime::{Kind, Known, Runtime};
 

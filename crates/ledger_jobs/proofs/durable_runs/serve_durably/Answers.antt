@@ -1,5 +1,5 @@
 -- The run's own word, and what bringing its file to the disk adds.
-use Rattle.shop_commands.specs.ImageFile.{placed}
+use Rattle.image_file.specs.ImageFile.{placed}
 use Rattle.ledger_jobs.proofs.Durables.{durable_run, served_alone, unserved}
 use Rattle.ledger_jobs.proofs.durable_runs.serve_durably.Goals as goal
 

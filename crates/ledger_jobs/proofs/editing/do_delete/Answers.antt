@@ -1,5 +1,5 @@
 -- What was printed, by how the job ended.
-use Rattle.shop_commands.specs.ImageFile.{placed}
+use Rattle.image_file.specs.ImageFile.{placed}
 use Rattle.ledger_jobs.proofs.ChangeTold.{delete-ended}
 use Rattle.ledger_jobs.proofs.editing.do_delete.Goals as goal
 

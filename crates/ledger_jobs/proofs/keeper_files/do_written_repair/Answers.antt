@@ -1,7 +1,7 @@
 -- What was mended is of the bytes that the host says.
 use Rattle.std.proofs.Common.{Bool, List, ℕ, subst}
 use Rattle.std.specs.Prelude.{◌≡◌, vec_items}
-use Rattle.shop_commands.specs.ImageFile.{placed}
+use Rattle.image_file.specs.ImageFile.{placed}
 use Rattle.ledger_jobs.specs.Changes.{IsRepairTold}
 use Rattle.ledger_jobs.specs.Jobs.{frees}
 use Rattle.ledger_jobs.specs.Keeping.{IsRepairOver}

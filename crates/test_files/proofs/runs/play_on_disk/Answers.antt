@@ -5,7 +5,7 @@ use Rattle.d64_image.specs.Memory.{sectors_in}
 use Rattle.host_session.specs.events.Events.{messages_of}
 use Rattle.host_session.specs.shop.Shop.{IsShop, Shop}
 use Rattle.line_text.specs.scripts.Lines.{lines}
-use Rattle.shop_commands.specs.declared.durability.Durability.TheVariants as durabilities
+use Rattle.image_file.specs.declared.durability.Durability.TheVariants as durabilities
 use Rattle.test_files.specs.Files.{file_held}
 use Rattle.test_files.specs.Shops.{IsAfterSome, WereThere, bytes_there}
 use Rattle.test_files.proofs.Ends.{on_ok_by, stayed_sized}

@@ -1,2 +1,0 @@
-pub mod Rights
-pub mod Standing

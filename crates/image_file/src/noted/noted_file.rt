@@ -1,0 +1,190 @@
+//! Open files that keep why a call of theirs failed.
+ghost use Rattle.std.specs.Prelude.{◌≡◌, IfSome};
+ghost use Rattle.d64_image.specs.Places.{index_of};
+
+use crate::durability::WritesAt;
+use crate::locks::Locks;
+use crate::noted::failures::Failures;
+use crate::noted::subjects::Subject;
+use crate::reading::read_image;
+use crate::remaining::EndedFile;
+use d64_image::{Place, TRACK_SECTORS, TRACKS};
+use std::alloc::Global;
+use std::fs::{Metadata, OpenFile, TryLockError};
+use std::io::{self, Read, Seek, SeekFrom, Write};
+
+/// The sector that an image has at this index, if it has so many.
+fn place_at(index: u64) -> Option<Place>
+    ensures { IfSome result (λ place. index_of place ≡ index) }
+{
+    for below in 0..TRACKS {
+        for sector in 0..TRACK_SECTORS {
+            if let Some(place) = Place::new(below + 1, sector) {
+                if place.index() as u64 == index {
+                    return Some(place);
+                }
+            }
+        }
+    }
+    None
+}
+
+/// An open file, whose failures are kept. All calls go on to the file, and what they return is handed back as it is.
+#[derive(Drop)]
+pub struct NotedFile<'n, 'a, F> {
+    file: F,
+    subject: Option<Subject<'a>>,
+    failures: &'n Failures<'a>,
+}
+
+impl<'n, 'a, F> NotedFile<'n, 'a, F> {
+    /// This file, which is about that.
+    pub(crate) fn new(
+        file: F,
+        subject: Option<Subject<'a>>,
+        failures: &'n Failures<'a>,
+    ) -> NotedFile<'n, 'a, F> {
+        NotedFile {
+            file,
+            subject,
+            failures,
+        }
+    }
+
+    /// What came of a call, kept if it failed.
+    fn noted<T: Drop>(&self, outcome: io::Result<T>) -> io::Result<T>
+        ensures { result ≡ outcome }
+    {
+        self.failures.noted(self.subject, None, outcome)
+    }
+
+    /// What came of writing so many bytes from a place on, kept if it failed.
+    fn noted_at(&self, bytes: usize, at: u64, outcome: io::Result<()>) -> io::Result<()>
+        ensures { result ≡ outcome }
+    {
+        if outcome.is_ok() {
+            return outcome;
+        }
+        self.failures
+            .noted(self.subject, self.sector_at(bytes, at), outcome)
+    }
+
+    /// The sector that these bytes of the file are, if it is the file of an image and they are one.
+    fn sector_at(&self, bytes: usize, at: u64) -> Option<Place> {
+        match self.subject {
+            Some(Subject::File(_)) if bytes == 256 => place_at(at / 256),
+            _ => None,
+        }
+    }
+}
+
+impl<F: Read> Read for NotedFile<'_, '_, F> {
+    fn read(&mut self, buf: &mut [u8]) -> io::Result<usize> {
+        let outcome = self.file.read(buf);
+        self.noted(outcome)
+    }
+}
+
+impl<F: Write> Write for NotedFile<'_, '_, F> {
+    fn write(&mut self, buf: &[u8]) -> io::Result<usize> {
+        let outcome = self.file.write(buf);
+        self.noted(outcome)
+    }
+
+    fn flush(&mut self) -> io::Result<()> {
+        let outcome = self.file.flush();
+        self.noted(outcome)
+    }
+}
+
+impl<F: Seek> Seek for NotedFile<'_, '_, F> {
+    fn seek(&mut self, to: SeekFrom) -> io::Result<u64> {
+        let outcome = self.file.seek(to);
+        self.noted(outcome)
+    }
+}
+
+impl<F: OpenFile> OpenFile for NotedFile<'_, '_, F> {
+    fn metadata(&self) -> io::Result<Metadata> {
+        self.noted(self.file.metadata())
+    }
+
+    fn set_len(&self, size: u64) -> io::Result<()> {
+        self.noted(self.file.set_len(size))
+    }
+
+    fn sync_all(&self) -> io::Result<()> {
+        self.noted(self.file.sync_all())
+    }
+
+    fn sync_data(&self) -> io::Result<()> {
+        self.noted(self.file.sync_data())
+    }
+}
+
+impl<F: EndedFile> EndedFile for NotedFile<'_, '_, F> {
+    fn put_over(&mut self, bytes: &[u8], at: u64) -> io::Result<()> {
+        let outcome = self.file.put_over(bytes, at);
+        self.noted_at(bytes.len(), at, outcome)
+    }
+
+    fn end_at(&mut self, bytes: u64) -> io::Result<()> {
+        let outcome = self.file.end_at(bytes);
+        self.noted(outcome)
+    }
+
+    fn sync_whole(&mut self) -> io::Result<()> {
+        let outcome = self.file.sync_whole();
+        self.noted(outcome)
+    }
+}
+
+impl<F: WritesAt> WritesAt for NotedFile<'_, '_, F> {
+    ghost use Rattle.image_file.specs.Lasting.{unknown_whole};
+
+    ghost whole = { unknown_whole };
+
+    // In line, as all on the way to the file is: a return right after a call of the system is dear.
+    #[inline(always)]
+    fn write_all_at(&mut self, bytes: &[u8], at: u64) -> io::Result<()> {
+        let outcome = self.file.write_all_at(bytes, at);
+        self.noted_at(bytes.len(), at, outcome)
+    }
+
+    fn sync(&mut self) -> io::Result<()> {
+        let outcome = self.file.sync();
+        self.noted(outcome)
+    }
+}
+
+impl<F: Locks + Read> Locks for NotedFile<'_, '_, F> {
+    ghost use Rattle.std.specs.Prelude.{refl};
+
+    ghost reads = { λ _. refl };
+
+    fn lock_alone(&mut self) -> Result<(), TryLockError> {
+        let outcome = self.file.lock_alone();
+        self.noted_lock(outcome)
+    }
+
+    fn lock_shared(&mut self) -> Result<(), TryLockError> {
+        let outcome = self.file.lock_shared();
+        self.noted_lock(outcome)
+    }
+
+    fn image(&mut self, alloc: Global) -> io::Result<Vec<u8>> {
+        read_image(alloc, self)
+    }
+}
+
+impl<F> NotedFile<'_, '_, F> {
+    /// What came of a lock, kept if the system failed.
+    fn noted_lock(&self, outcome: Result<(), TryLockError>) -> Result<(), TryLockError>
+        ensures { result ≡ outcome }
+    {
+        if let Err(TryLockError::Error(error)) = &outcome {
+            let _ = self.noted::<()>(Err(*error));
+        }
+        outcome
+    }
+}

@@ -1,0 +1,141 @@
+//! The files of a host, by their paths.
+ghost use Rattle.std.specs.Prelude.{◌≡◌, Bool, IfOk, IsErr, List, ℕ, string_bytes, true};
+ghost use Rattle.image_file.specs.paths.Rights.{Look, Make, May, Read as ToRead, Remove, Replace, Rights, Use, Write as ToWrite};
+ghost use Rattle.image_file.specs.paths.Standing.{AreOf, IsMissing, Stands, Unsaid};
+
+use std::alloc::Global;
+use std::fs::{File, Metadata, OpenFile, OpenOptions};
+use std::io::{self, ErrorKind, Read, Seek};
+use std::rt::Files;
+
+/// The files of a host. Each call says what it does with the file at a path, and needs the right to do that. So code that
+/// is proved over any host does nothing with a file but what its own contract has rights for.
+pub trait HostFiles {
+    /// An open file.
+    type File: Read + Seek + OpenFile + Drop;
+
+    // what may be done with its files
+    ghost rights: { Rights Self };
+
+    // what stands at its paths, if it says that
+    ghost stands: { Self → List ℕ → Stands } = { λ _ _. Unsaid };
+
+    /// What stands at a path.
+    fn look_at(&self, path: &str) -> io::Result<Metadata>
+        requires { May rights self.now Look path.now }
+        ensures { IsMissing stands self.now path.now → IsErr result };
+
+    /// The path of the file to which a path leads. It is the path itself if there is no file, or if the host doesn't know.
+    fn resolve(&self, alloc: Global, path: &str) -> io::Result<String>
+        requires { May rights self.now Look path.now }
+        ensures { IfOk result (λ found. rights.leads self.now path.now (string_bytes found) ≡ true) };
+
+    /// Syncs the names in the folder of the file at a path.
+    fn sync_folder_of(&self, path: &str) -> io::Result<()>
+        requires { May rights self.now Look path.now };
+
+    /// Opens the file at a path to read it.
+    fn open_to_read(&self, path: &str) -> io::Result<Self::File>
+        requires { May rights self.now ToRead path.now }
+        ensures missing { IsMissing stands self.now path.now → IsErr result }
+        ensures bytes { IfOk result (λ file. AreOf stands self.now path.now (Self.File.Read.remaining file)) };
+
+    /// Opens the file at a path to read and write it. It is neither made nor cut.
+    fn open_to_change(&self, path: &str) -> io::Result<Self::File>
+        requires { May rights self.now ToWrite path.now }
+        ensures missing { IsMissing stands self.now path.now → IsErr result }
+        ensures bytes { IfOk result (λ file. AreOf stands self.now path.now (Self.File.Read.remaining file)) };
+
+    /// Opens the file at a path to write it; it needn't be readable. It is neither made nor cut.
+    fn open_to_write(&self, path: &str) -> io::Result<Self::File>
+        requires { May rights self.now ToWrite path.now };
+
+    /// Makes a file at a path, open to be written. `AlreadyExists` if anything stands there.
+    fn make_file(&self, path: &str) -> io::Result<Self::File>
+        requires { May rights self.now Make path.now };
+
+    /// Makes a folder at a path. `AlreadyExists` if anything stands there.
+    fn make_folder(&self, path: &str) -> io::Result<()>
+        requires { May rights self.now Make path.now };
+
+    /// Gives the file at a path another name, in the place of the file that had it.
+    fn give_name(&self, from: &str, to: &str) -> io::Result<()>
+        requires from { May rights self.now Remove from.now }
+        requires to { May rights self.now Replace to.now };
+
+    /// Takes the name of the file at a path away.
+    fn take_name(&self, path: &str) -> io::Result<()>
+        requires { May rights self.now Remove path.now };
+}
+
+/// The folder in which the file at a path stands.
+fn folder_of(path: &str) -> &str {
+    match path.rsplit_once('/') {
+        None => ".",
+        Some(("", _)) => "/",
+        Some((folder, _)) => folder,
+    }
+}
+
+/// A path as a text of its own.
+fn copied(alloc: Global, path: &str) -> io::Result<String> {
+    let mut copy = String::new(alloc);
+    copy.push_str(path)?;
+    Ok(copy)
+}
+
+// A runtime of the system keeps no list of rights: all calls are allowed.
+impl<R: Files> HostFiles for R {
+    type File = R::File;
+
+    ghost rights = { record { may = λ _ _ _. true; leads = λ _ _ _. true } };
+
+    fn look_at(&self, path: &str) -> io::Result<Metadata> {
+        self.metadata(path)
+    }
+
+    fn resolve(&self, alloc: Global, path: &str) -> io::Result<String> {
+        match self.canonicalize(alloc, path) {
+            Ok(found) => Ok(found.into_string()),
+            Err(error) => match error.kind() {
+                ErrorKind::NotFound | ErrorKind::Unsupported => copied(alloc, path),
+                _ => Err(error),
+            },
+        }
+    }
+
+    fn sync_folder_of(&self, path: &str) -> io::Result<()> {
+        File::open(self, folder_of(path))?.sync_all()
+    }
+
+    fn open_to_read(&self, path: &str) -> io::Result<R::File> {
+        File::open(self, path)
+    }
+
+    fn open_to_change(&self, path: &str) -> io::Result<R::File> {
+        OpenOptions::new().read(true).write(true).open(self, path)
+    }
+
+    fn open_to_write(&self, path: &str) -> io::Result<R::File> {
+        OpenOptions::new().write(true).open(self, path)
+    }
+
+    fn make_file(&self, path: &str) -> io::Result<R::File> {
+        OpenOptions::new()
+            .write(true)
+            .create_new(true)
+            .open(self, path)
+    }
+
+    fn make_folder(&self, path: &str) -> io::Result<()> {
+        self.create_dir(path)
+    }
+
+    fn give_name(&self, from: &str, to: &str) -> io::Result<()> {
+        self.rename(from, to)
+    }
+
+    fn take_name(&self, path: &str) -> io::Result<()> {
+        self.remove_file(path)
+    }
+}

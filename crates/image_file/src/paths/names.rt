@@ -1,0 +1,68 @@
+//! Names of open files. Such a name may come to lead elsewhere.
+ghost use Rattle.std.specs.Prelude.{◌≡◌};
+ghost use Rattle.std.proofs.Props.{props};
+ghost use Rattle.image_file.specs.paths.Rights.{Look, May};
+
+use crate::paths::host::HostFiles;
+use std::fs::{Metadata, OpenFile};
+use std::io;
+use std::os::unix::fs::MetadataExt;
+
+/// Which file it is: its device, its number on that, and how many bytes it has.
+#[derive(Clone, Copy, Debug, PartialEq, Eq)]
+struct Identity {
+    device: u64,
+    number: u64,
+    bytes: u64,
+}
+
+impl Identity {
+    /// The file that this metadata describes.
+    fn of(found: &Metadata) -> Identity {
+        Identity {
+            device: found.dev(),
+            number: found.ino(),
+            bytes: found.len(),
+        }
+    }
+}
+
+/// Something that may go.
+pub trait Stays {
+    /// Whether it is still there.
+    fn is_there(&self) -> bool;
+}
+
+/// The name of an open file, by which others find it.
+#[derive(Drop)]
+pub struct FileName<'a, R: HostFiles> {
+    rt: &'a R,
+    path: &'a str,
+    file: Identity,
+    // it may be looked for
+    ghost looks: { May R.rights rt.now Look path.now } by { Prim.hlevel props },
+}
+
+impl<'a, R: HostFiles> FileName<'a, R> {
+    /// The name of a file that was opened by this path, as long as the file is now.
+    pub fn of<F: OpenFile>(rt: &'a R, path: &'a str, file: &F) -> io::Result<FileName<'a, R>>
+        requires { May R.rights rt.now Look path.now }
+    {
+        let found = file.metadata()?;
+        Ok(FileName {
+            rt,
+            path,
+            file: Identity::of(&found),
+        })
+    }
+}
+
+impl<R: HostFiles> Stays for FileName<'_, R> {
+    /// Whether the path leads to the same file, and that has as many bytes. False if the system can't say.
+    fn is_there(&self) -> bool {
+        match self.rt.look_at(self.path) {
+            Ok(found) => Identity::of(&found) == self.file,
+            Err(_) => false,
+        }
+    }
+}

@@ -1,9 +1,0 @@
-pub mod Indices
-pub mod Sinces
-pub mod Spoiled
-pub mod Filled
-pub mod Brought
-pub mod Spoiling
-pub mod Filling
-pub mod Sealing
-pub mod Replacement

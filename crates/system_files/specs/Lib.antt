@@ -1,3 +1,0 @@
-pub mod Remains
-pub mod Replacing
-pub mod Streams
