@@ -18,7 +18,7 @@ use Rattle.ledger_jobs.specs.declared.jobs.Columns.{Columns}
 use Rattle.ledger_jobs.specs.declared.jobs.Findings.{Findings}
 use Rattle.line_text.specs.declared.petscii.characters.CharacterSet.{CharacterSet}
 use Rattle.line_text.specs.declared.petscii.characters.CharacterSet.TheVariants.{Graphics, Mixed}
-use Rattle.shop_commands.specs.declared.texts.NameForm.{NameForm}
+use Rattle.disk_reports.specs.declared.texts.NameForm.{NameForm}
 use Rattle.command_line.specs.Flags.{is_given}
 use Rattle.command_line.specs.Positions.{AsksForColumns, AsksForNone, HasNoColumns}
 use Rattle.command_line.specs.declared.faults.JobFault.{JobFault}
@@ -35,7 +35,7 @@ use Rattle.keeper_commands.specs.declared.forms.ByteForm.TheVariants as bytes
 use Rattle.keeper_commands.specs.declared.forms.RecordForm.TheVariants as records
 use Rattle.ledger_jobs.specs.declared.jobs.Columns.TheVariants as columns
 use Rattle.ledger_jobs.specs.declared.jobs.Findings.TheVariants as findings
-use Rattle.shop_commands.specs.declared.texts.NameForm.TheVariants as names
+use Rattle.disk_reports.specs.declared.texts.NameForm.TheVariants as names
 
 -- the set of the text that is asked for: with --mixed the one with small letters, with only --text the other
 abbrev pub set_in : List Row → Option CharacterSet

@@ -10,12 +10,12 @@ use crate::faults::JobFault;
 use crate::positions::columns_asked;
 use crate::values::is_given;
 use clap::ArgMatches;
+use disk_reports::NameForm;
 use file_rescue::Choice;
 use image_file::Durability;
 use keeper_commands::{ByteForm, Candidates, RecordForm};
 use ledger_jobs::{Columns, Effect, Findings, Job, Loss, Unowned, Way};
 use line_text::CharacterSet;
-use shop_commands::NameForm;
 
 /// To which file the requests of a shop that is served are synced first.
 pub(crate) fn way<'a>(matches: &ArgMatches<'a>) -> Way

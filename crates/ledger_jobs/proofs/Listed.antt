@@ -3,7 +3,7 @@ use Rattle.std.proofs.Common.{List, ℕ}
 use Rattle.std.specs.Prelude.{Option}
 use Rattle.std.specs.Io.KnownBytes.{Keeps}
 use Rattle.std.proofs.KnownBytes.{Appends-kept}
-use Rattle.disk_faults.specs.AllFaults.{AreListed}
+use Rattle.disk_reports.specs.AllFaults.{AreListed}
 use Rattle.disk_layout.specs.declared.faults.Fault.{Fault}
 
 pub listed-kept : {W : Type 0} (contents : W → Option (List ℕ)) (image : List ℕ) (old mid new : W) (found : Option Fault)

@@ -2,8 +2,8 @@
 use Rattle.std.specs.Prelude.{◌≡◌, ◌⊎◌, ℕ, List, Option, Ok, Err}
 use Rattle.std.specs.Io.KnownBytes.{Appends}
 use Rattle.command_faults.specs.declared.faults.CommandFault.{CommandFault}
-use Rattle.disk_faults.specs.Objects.{refused_text}
-use Rattle.disk_faults.specs.Outcomes.{IsDescribeFault, IsDescribed}
+use Rattle.disk_reports.specs.Objects.{refused_text}
+use Rattle.disk_reports.specs.Outcomes.{IsDescribeFault, IsDescribed}
 use Rattle.disk_layout.specs.declared.faults.Fault.{Fault}
 use Rattle.ledger_jobs.specs.EachImage.{Loaded}
 use Rattle.ledger_jobs.specs.Ends.{end_status, refusal_status, refusal_text}

@@ -1,7 +1,7 @@
 -- What comes of listing all faults of an image. Our own.
 use Rattle.std.specs.Prelude.{◌≡◌, ◌≢◌, List, Option, Result, IfErr, IfOk, ℕ}
-use Rattle.disk_faults.specs.AllFaults.{AreListed}
-use Rattle.disk_faults.specs.Outcomes.{IsDescribeFault}
+use Rattle.disk_reports.specs.AllFaults.{AreListed}
+use Rattle.disk_reports.specs.Outcomes.{IsDescribeFault}
 use Rattle.command_faults.specs.declared.faults.CommandFault.{CommandFault}
 use Rattle.command_faults.specs.declared.faults.CommandFault.TheVariants as faults
 use Rattle.disk_layout.specs.declared.faults.Fault.{Fault}

@@ -5,11 +5,11 @@ use Rattle.d64_image.specs.Keeps.{Keeps}
 use Rattle.d64_image.specs.Memory.{sectors_in}
 use Rattle.disk_layout.specs.declared.faults.Fault.{Fault}
 use Rattle.host_session.specs.events.Telling.{Output}
-use Rattle.shop_commands.specs.Listings.{IsCheckFault, IsListFault, IsListed, IsVerdict}
+use Rattle.disk_reports.specs.Listings.{IsCheckFault, IsListFault, IsListed, IsVerdict}
 use Rattle.shop_commands.specs.Plays.{IsFileFault, IsPlayedFile}
 use Rattle.shop_commands.specs.Shops.{IsShowFault, IsShown}
 use Rattle.line_text.specs.scripts.Lines.{first_reset, lines}
-use Rattle.shop_commands.specs.Texts.{verdict_text}
+use Rattle.disk_reports.specs.Texts.{verdict_text}
 use Rattle.shop_commands.specs.DryRuns.{dry_report}
 use Rattle.command_faults.specs.declared.faults.CommandFault.{CommandFault}
 use Rattle.command_faults.specs.declared.faults.CommandFault.TheVariants as faults

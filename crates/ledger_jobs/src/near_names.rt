@@ -5,7 +5,7 @@ use crate::files::STANDARD_INPUT;
 use crate::jobs::Job;
 use crate::names::Name;
 use crate::readings::image_of_file;
-use disk_faults::print_near_names;
+use disk_reports::print_near_names;
 use image_file::{HostFiles, Locks, ShownPath};
 use std::fs::OpenFile;
 use std::io::{Read, Write};

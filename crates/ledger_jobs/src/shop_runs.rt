@@ -9,8 +9,9 @@ use crate::jobs::Reading;
 use command_faults::CommandFault;
 use d64_image::{KeptMirror, SectorFile};
 use disk_layout::Fault;
+use disk_reports::{check_image, list_image};
 use host_session::ReplySink;
-use shop_commands::{DryFault, check_image, dry, list_image, play_file, show_image};
+use shop_commands::{DryFault, dry, play_file, show_image};
 use std::alloc::Global;
 use std::io::Write;
 

@@ -6,8 +6,6 @@ pub mod FileTurns
 pub mod FileEnds
 pub mod FileScripts
 pub mod Formats
-pub mod ListingExamples
-pub mod Listings
 pub mod PlayEnds
 pub mod Replies
 mod Showings

@@ -1,9 +1,7 @@
 pub mod Faults
 pub mod FreshShops
 pub mod Images
-pub mod Listings
 pub mod Plays
 pub mod Shops
 pub mod Shows
 pub mod DryRuns
-pub mod Texts

@@ -2,24 +2,18 @@
 #![tactic(auto)]
 
 mod bytes;
-mod directory_listing;
 mod dry_run;
 mod faults;
 mod formatting;
-mod judging;
 mod laws;
 mod playing;
 mod showing;
 mod shows;
-mod texts;
 
 pub use bytes::put_whole;
-pub use directory_listing::list_image;
 pub use dry_run::{DryFault, dry};
 pub use faults::{of_opening, of_script};
 pub use formatting::{format_image, fresh_disk};
-pub use judging::check_image;
 pub use laws::{dry_is_play, fresh_is_a_shop, run_tells_dry};
 pub use playing::{play_file, play_image};
 pub use showing::show_image;
-pub use texts::NameForm;

@@ -4,8 +4,8 @@ use crate::files::{Full, add, add_numbered, filled};
 use crate::images::{Bytes, S18_0, S18_1, changed, formatted};
 use crate::runs::{is_told, judged, listed, listed_as};
 use command_faults::CommandFault;
+use disk_reports::NameForm;
 use line_text::CharacterSet;
-use shop_commands::NameForm;
 use std::process::Abort;
 
 /// Where the third slot of the first directory sector begins.

@@ -2,9 +2,10 @@
 use crate::comparing::{holds, same};
 use crate::files::{Paper, Tape, new_tape};
 use command_faults::CommandFault;
+use disk_reports::{NameForm, check_image, list_image};
 use host_session::Printer;
 use image_file::ImageFile;
-use shop_commands::{DryFault, NameForm, check_image, dry, list_image, play_file, show_image};
+use shop_commands::{DryFault, dry, play_file, show_image};
 use std::fmt::Display;
 use std::io::Write;
 use std::process::Abort;

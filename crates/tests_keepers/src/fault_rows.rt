@@ -4,7 +4,7 @@ use crate::comparing::same_at;
 use crate::disks::{Change, changed};
 use crate::outputs::Full;
 use command_faults::CommandFault;
-use disk_faults::{describe_image, describe_refusal, strings_are_read_back};
+use disk_reports::{describe_image, describe_refusal, strings_are_read_back};
 use std::io::Write;
 use std::process::Abort;
 

@@ -4,7 +4,7 @@ use crate::comparing::same_at;
 use crate::disks::{Change, changed};
 use crate::outputs::Full;
 use command_faults::CommandFault;
-use disk_faults::{list_faults, print_near_names};
+use disk_reports::{list_faults, print_near_names};
 use std::process::Abort;
 
 /// What is changed on the blank disk, and what is printed of it.

@@ -2,6 +2,7 @@
 use crate::runs::texts_of;
 use command_line::command_line;
 use disk_pictures::View;
+use disk_reports::NameForm;
 use file_changes::FileType;
 use file_rescue::Choice;
 use image_file::Durability;
@@ -9,7 +10,6 @@ use keeper_commands::{ByteForm, Candidates, ColumnForm, RecordForm};
 use ledger_cli::{Job, job};
 use ledger_jobs::{Columns, Drawing, Effect, Findings, Loss, Name, Overview, Taking, Unowned, Way};
 use line_text::CharacterSet;
-use shop_commands::NameForm;
 use std::alloc::Global;
 use std::cell::RefCell;
 use std::io::Write;

@@ -2,8 +2,8 @@
 ghost use Rattle.ledger_jobs.specs.Jobs.{IsFit};
 
 use crate::scenes::{Rows, first_scene, hold};
+use disk_reports::NameForm;
 use ledger_jobs::{Drawing, Effect, Findings, Job, Loss, Unowned, do_job, end};
-use shop_commands::NameForm;
 use std::io::{self, Write};
 use std::process::Abort;
 use test_runtime::Runtime;

@@ -1,7 +1,7 @@
 //! Jobs over a host that gives no right to write a file: the check refuses a row here whose job writes one.
 use crate::scenes::first_scene;
+use disk_reports::NameForm;
 use ledger_jobs::{Findings, Job, do_job};
-use shop_commands::NameForm;
 use test_runtime::{ReadOnly, Runtime};
 
 #[test]

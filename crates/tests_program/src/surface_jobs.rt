@@ -2,8 +2,8 @@
 ghost use Rattle.ledger_jobs.specs.Jobs.{IsFit};
 
 use crate::comparing::{byte_at, same, same_at};
+use disk_reports::NameForm;
 use ledger_cli::{DryFault, Findings, Job, JobFault, dry, job, run, run_over};
-use shop_commands::NameForm;
 use std::io::Cursor;
 use std::process::Abort;
 

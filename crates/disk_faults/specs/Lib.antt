@@ -1,6 +1,0 @@
-pub mod AllFaults
-pub mod Json
-pub mod NearNames
-pub mod Objects
-pub mod Outcomes
-pub mod Trails

@@ -1,0 +1,13 @@
+pub mod Ends
+pub mod Followed
+pub mod Found
+pub mod Gathered
+pub mod Kept
+pub mod Lined
+pub mod ListingExamples
+pub mod Listings
+pub mod SameFaults
+pub mod Shown
+pub mod Spelled
+pub mod Those
+pub mod Written

@@ -1,0 +1,85 @@
+-- What is printed of an image as an object of JSON, in one line. Our own.
+use Rattle.std.specs.Prelude.{ℕ, List, [], ◌∷◌, ◌++◌, None, Option, Some, codes, decimal, flat_map, slice_range}
+use Rattle.d64_image.specs.Images.{Sector}
+use Rattle.d64_image.specs.declared.place.Place.{Place}
+use Rattle.line_text.specs.bytes.Texts.{text_of}
+use Rattle.disk_layout.specs.Texts.{fault_text}
+use Rattle.disk_layout.specs.View.{blocks_free}
+use Rattle.disk_layout.specs.declared.faults.Fault.{Fault}
+use Rattle.disk_layout.specs.declared.faults.Fault.TheVariants as faults
+use Rattle.disk_layout.specs.declared.slot.Slot.{Slot}
+use Rattle.disk_reports.specs.Json.{json_string}
+use Rattle.disk_rescue.specs.Names.{disk_name, name_of}
+
+-- where a fault is
+abbrev pub place_of : Fault → Place
+place_of (faults.BadLink p) = p
+place_of (faults.Loop p) = p
+place_of (faults.OwnedTwice p) = p
+place_of (faults.BadType p) = p
+place_of (faults.Unclosed p) = p
+place_of (faults.BadSide p) = p
+place_of (faults.BadLength p) = p
+place_of (faults.CountWrong p) = p
+place_of (faults.MapWrong p) = p
+place_of (faults.Device p) = p
+
+-- bytes of the disk as a string: the text that can be typed for them
+abbrev pub typed : List ℕ → List ℕ
+typed bytes = json_string (text_of bytes)
+
+-- the name of one entry more
+abbrev pub next_name : Slot → List ℕ
+next_name s = codes "," ++ typed (name_of s)
+
+-- the names of entries, with commas between them
+abbrev pub names_text : List Slot → List ℕ
+names_text [] = []
+names_text (s ∷ ss) = typed (name_of s) ++ flat_map next_name ss
+
+-- what a check finds, as it prints it, with the track and the sector as numbers too
+abbrev pub found_text : Option Fault → List ℕ
+found_text None = codes "\"OK\",\"track\":null,\"sector\":null"
+found_text (Some fault) =
+    codes "\"" ++ (fault_text fault ++ (codes "\",\"track\":" ++ (decimal (place_of fault).track
+    ++ (codes ",\"sector\":" ++ decimal (place_of fault).sector))))
+
+-- the free blocks as the map counts them, and the disk's name
+abbrev pub disk_name_text : Sector → List ℕ
+disk_name_text map =
+    codes ",\"free\":" ++ (decimal (blocks_free map) ++ codes ",\"disk\":") ++ typed (disk_name map)
+
+-- the disk's name, its id, and the end of the object
+abbrev pub disk_text : Sector → List ℕ
+disk_text map = disk_name_text map ++ (codes ",\"id\":" ++ (typed (slice_range map 162 164) ++ codes "}\n"))
+
+-- what an object begins with: the image's name
+abbrev pub head_text : List ℕ → List ℕ
+head_text name = codes "{\"name\":" ++ json_string name
+
+-- the files that the fault concerns
+abbrev pub files_text : List Slot → List ℕ
+files_text files = codes ",\"files\":[" ++ (names_text files ++ codes "]")
+
+-- the name and the size of an image, and what a check finds
+abbrev pub verdict_text : List ℕ → Option Fault → List ℕ
+verdict_text name found = head_text name ++ (codes ",\"size\":174848,\"verdict\":" ++ found_text found)
+
+-- the object of an image
+abbrev pub object_text : List ℕ → Option Fault → List Slot → Sector → List ℕ
+object_text name found files map = verdict_text name found ++ (files_text files ++ disk_text map)
+
+-- the size of a file, if it is known
+abbrev pub size_text : Option ℕ → List ℕ
+size_text None = codes "null"
+size_text (Some size) = decimal size
+
+-- the name and the size of an image that is refused
+abbrev pub refused_head : List ℕ → Option ℕ → List ℕ
+refused_head name size = head_text name ++ (codes ",\"size\":" ++ (size_text size ++ codes ",\"verdict\":"))
+
+-- the object of an image that is refused for this reason
+abbrev pub refused_text : List ℕ → Option ℕ → List ℕ → List ℕ
+refused_text name size why =
+    refused_head name size ++ (json_string why
+    ++ codes ",\"track\":null,\"sector\":null,\"files\":[],\"free\":null,\"disk\":null,\"id\":null}\n")

@@ -1,0 +1,86 @@
+//! An image described as an object of JSON.
+ghost use Rattle.std.specs.Prelude.{◌≡◌, ◌≢◌, IfErr, IfOk, OnOk};
+ghost use Rattle.std.specs.Io.KnownBytes.{Appends};
+ghost use Rattle.d64_image.specs.Images.{sector};
+ghost use Rattle.d64_image.specs.Memory.{disk_image};
+ghost use Rattle.disk_layout.specs.Directory.{map_place as map_at};
+ghost use Rattle.disk_reports.specs.Objects.{refused_text};
+ghost use Rattle.disk_reports.specs.Outcomes.{IsDescribeFault, IsDescribed, IsVerdict};
+ghost use Rattle.command_faults.specs.declared.faults.CommandFault.TheVariants as faults;
+
+use crate::concerned::list_files;
+use crate::objects::{put_object, put_refused};
+use arrayvec::ArrayVec;
+use command_faults::{CommandFault, load};
+use d64_image::{MemDisk, Sectors};
+use disk_layout::{Fault, map_place};
+use layout_check::check;
+use std::alloc::Global;
+use std::io::Write;
+
+/// What a check of the disk finds; None if it is clean. Its survey isn't kept.
+pub(crate) fn verdict(disk: &mut MemDisk) -> Option<Fault>
+    ensures verdict { IsVerdict (disk_image disk.old) result }
+    ensures same { disk_image disk.new ≡ disk_image disk.old }
+{
+    match check(disk) {
+        Ok(_) => None,
+        Err(fault) => Some(fault),
+    }
+}
+
+/// The bytes of 18/0. A disk in memory gives them always.
+pub(crate) fn read_map(disk: &mut MemDisk) -> [u8; 256]
+    ensures map { result ≡ sector (disk_image disk.old) map_at }
+    ensures same { disk_image disk.new ≡ disk_image disk.old }
+{
+    let mut map = [0; 256];
+    let _ = disk.read(map_place(), &mut map);
+    map
+}
+
+/// Prints an object of JSON, in a line of its own, that describes the image: its name and size, and what a check finds,
+/// as `check` prints it. Then follow the track and the sector of a fault, as numbers, and the names of the files that the
+/// fault concerns, as they can be typed. Last are the free blocks as the map counts them, and the disk's name and id.
+/// Returns the fault.
+///
+/// `ImageSize`; `NoMemory`: nothing was printed then. `File` if the output failed, which may then have a part.
+pub fn describe_image<W: Write>(
+    alloc: Global,
+    name: &[u8],
+    image: &[u8],
+    out: &mut W,
+) -> Result<Option<Fault>, CommandFault>
+    ensures ok { IfOk result (IsDescribed W.contents name.now image.now out.old out.new) }
+    ensures err { IfErr result (IsDescribeFault image.now) }
+    // Only if the output failed something may have been printed at a refusal.
+    ensures untouched { IfErr result (λ fault. (fault ≢ faults.File) → out.new ≡ out.old) }
+{
+    let mut disk = load(alloc, image)?;
+    let found = verdict(&mut disk);
+    let mut files = ArrayVec::new();
+    list_files(&mut disk, found, &mut files);
+    let map = read_map(&mut disk);
+    match put_object(out, name, found, files.as_slice(), &map) {
+        Ok(()) => Ok(found),
+        Err(_) => Err(CommandFault::File),
+    }
+}
+
+/// Prints an object of JSON, in a line of its own, of an image that is refused for this reason. It has the image's name,
+/// the size of its file in bytes, if it is known, and the reason. `File` if the output failed, which may then have a
+/// part.
+pub fn describe_refusal<W: Write>(
+    name: &[u8],
+    size: Option<u64>,
+    why: &[u8],
+    out: &mut W,
+) -> Result<(), CommandFault>
+    ensures ok { OnOk result (Appends (W.contents out.old) (W.contents out.new) (refused_text name.now size why.now)) }
+    ensures err { IfErr result (λ fault. fault ≡ faults.File) }
+{
+    match put_refused(out, name, size, why) {
+        Ok(()) => Ok(()),
+        Err(_) => Err(CommandFault::File),
+    }
+}

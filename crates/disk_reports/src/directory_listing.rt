@@ -1,0 +1,85 @@
+//! The directory of an image, as it is printed.
+ghost use Rattle.std.specs.Prelude.{◌≡◌, ◌≢◌, IfErr, IfOk, OnOk, flat_map};
+ghost use Rattle.std.specs.Io.KnownBytes.{Appends};
+ghost use Rattle.d64_image.specs.Images.{sector};
+ghost use Rattle.d64_image.specs.Memory.{disk_image};
+ghost use Rattle.disk_layout.specs.Directory.{map_place as directory_map};
+ghost use Rattle.disk_reports.specs.Listings.{IsListFault, IsListed};
+ghost use Rattle.disk_reports.specs.Texts.{entry_line, listing};
+ghost use Rattle.command_faults.specs.declared.faults.CommandFault.TheVariants as faults;
+
+use crate::texts::{DiskText, EntryText, FreeText, NameForm};
+use arrayvec::ArrayVec;
+use command_faults::{CommandFault, flush, load, put_line};
+use d64_image::{MemDisk, Sectors};
+use disk_layout::{BamView, Slot, map_place, read_directory};
+use std::alloc::Global;
+use std::io::Write;
+
+/// The bytes of 18/0. A disk in memory gives them always.
+fn map_of(disk: &mut MemDisk) -> Result<[u8; 256], CommandFault>
+    ensures ok { IfOk result (λ bytes. bytes ≡ sector (disk_image disk.old) directory_map) }
+    ensures err { IfErr result (λ _. ⊥) }
+{
+    let mut map = [0; 256];
+    if disk.read(map_place(), &mut map).is_err() {
+        return Err(CommandFault::Device);
+    }
+    Ok(map)
+}
+
+/// Prints a line for each of these entries.
+fn put_entries<W: Write>(out: &mut W, form: NameForm, slots: &[Slot]) -> Result<(), CommandFault>
+    ensures ok { OnOk result
+        (Appends (W.contents out.old) (W.contents out.new) (flat_map (entry_line form) slots.now)) }
+    ensures err { IfErr result (λ fault. fault ≡ faults.File) }
+{
+    for slot in slots {
+        put_line(out, EntryText { form, slot })?;
+    }
+    Ok(())
+}
+
+/// Prints the disk's name, id and version, a line for each entry, and the free blocks as the map
+/// counts them.
+fn put_directory<W: Write>(
+    out: &mut W,
+    form: NameForm,
+    map: &BamView<'_>,
+    slots: &[Slot],
+) -> Result<(), CommandFault>
+    ensures ok { OnOk result
+        (Appends (W.contents out.old) (W.contents out.new) (listing form map.now.bytes.now slots.now)) }
+    ensures err { IfErr result (λ fault. fault ≡ faults.File) }
+{
+    put_line(out, DiskText { form, map: *map })?;
+    put_entries(out, form, slots)?;
+    put_line(out, FreeText(map.blocks_free()))?;
+    flush(out)
+}
+
+/// Prints the directory of the image, with its names in this form. It is read and checked whole before anything is
+/// printed.
+///
+/// `ImageSize` if the image hasn't the size of a disk; `Layout` if the directory's sectors aren't a chain on track 18
+/// outside 18/0; `NoMemory` if there was none for the disk. `File` if the output failed, which may then have a part.
+pub fn list_image<W: Write>(
+    alloc: Global,
+    image: &[u8],
+    form: NameForm,
+    out: &mut W,
+) -> Result<(), CommandFault>
+    // What is listed has a directory, whose listing was printed; and what is reported holds.
+    ensures ok { OnOk result (IsListed W.contents form image.now out.old out.new) }
+    ensures err { IfErr result (IsListFault image.now) }
+    // At a refusal something was printed only if the output failed.
+    ensures untouched { IfErr result (λ fault. (fault ≢ faults.File) → out.new ≡ out.old) }
+{
+    let mut disk = load(alloc, image)?;
+    let mut slots = ArrayVec::new();
+    if let Err(fault) = read_directory(&mut disk, &mut slots) {
+        return Err(CommandFault::Layout(fault));
+    }
+    let map = map_of(&mut disk)?;
+    put_directory(out, form, &BamView::new(&map), slots.as_slice())
+}

@@ -1,0 +1,62 @@
+//! What is wrong with the layout of an image, as it is printed.
+ghost use Rattle.std.specs.Prelude.{◌≡◌, ◌≢◌, IfErr, IfOk, OnOk, length};
+ghost use Rattle.std.specs.Io.KnownBytes.{Appends};
+ghost use Rattle.d64_image.specs.Memory.{disk_image, sectors_in};
+ghost use Rattle.disk_layout.specs.declared.faults.Fault.{Fault};
+ghost use Rattle.disk_reports.specs.Listings.{IsCheckFault, IsVerdict};
+ghost use Rattle.disk_reports.specs.Texts.{verdict_text};
+ghost use Rattle.command_faults.specs.declared.faults.CommandFault.TheVariants as faults;
+
+use command_faults::{CommandFault, flush, load, put_line};
+use d64_image::MemDisk;
+use disk_layout::Fault;
+use layout_check::check;
+use std::alloc::Global;
+use std::io::Write;
+
+/// The fault that a check of the disk finds; None if it is clean. Its survey isn't kept.
+fn verdict(disk: &mut MemDisk) -> Option<Fault>
+    ensures { IsVerdict (disk_image disk.old) result }
+{
+    match check(disk) {
+        Ok(_) => None,
+        Err(fault) => Some(fault),
+    }
+}
+
+/// Prints what a check found on a line of its own.
+fn put_verdict<W: Write>(out: &mut W, found: Option<Fault>) -> Result<(), CommandFault>
+    ensures ok { OnOk result
+        (Appends (W.contents out.old) (W.contents out.new) (verdict_text found)) }
+    ensures err { IfErr result (λ fault. fault ≡ faults.File) }
+{
+    match found {
+        None => put_line(out, "OK")?,
+        Some(fault) => put_line(out, fault)?,
+    }
+    flush(out)
+}
+
+/// Checks the layout of the image, and prints `OK` if it is clean, otherwise a fault and its place. Returns that fault.
+/// If several hold, it may be any of them. `ImageSize` if the image hasn't the size of a disk, `NoMemory` if there was
+/// none for the disk, `File` if the output failed.
+pub fn check_image<W: Write>(
+    alloc: Global,
+    image: &[u8],
+    out: &mut W,
+) -> Result<Option<Fault>, CommandFault>
+    ensures size { IfOk result (λ _. length image.now ≡ 174848) }
+    // A clean image is called so, and a fault that is returned holds.
+    ensures verdict { IfOk result (IsVerdict (sectors_in image.now)) }
+    // That is what was printed, and nothing else.
+    ensures printed { IfOk result
+        (λ found. Appends (W.contents out.old) (W.contents out.new) (verdict_text found)) }
+    ensures err { IfErr result (IsCheckFault image.now) }
+    // At a refusal something was printed only if the output failed.
+    ensures untouched { IfErr result (λ fault. (fault ≢ faults.File) → out.new ≡ out.old) }
+{
+    let mut disk = load(alloc, image)?;
+    let found = verdict(&mut disk);
+    put_verdict(out, found)?;
+    Ok(found)
+}

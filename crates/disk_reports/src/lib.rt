@@ -1,0 +1,33 @@
+//! What `list` and `check` print of an image: its directory, that it is clean, or its faults and the files that they
+//! concern, as lines or as objects of JSON.
+#![tactic(auto)]
+
+mod concerned;
+mod counting;
+mod describing;
+mod directory_listing;
+mod following;
+mod gathering;
+mod holding;
+mod json;
+mod judging;
+mod laws;
+mod lines;
+mod links;
+mod listing;
+mod map_bits;
+mod near_names;
+mod objects;
+mod showing;
+mod sides;
+mod slots;
+mod texts;
+mod trail;
+
+pub use describing::{describe_image, describe_refusal};
+pub use directory_listing::list_image;
+pub use judging::check_image;
+pub use laws::strings_are_read_back;
+pub use listing::list_faults;
+pub use near_names::print_near_names;
+pub use texts::NameForm;

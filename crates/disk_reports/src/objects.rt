@@ -1,0 +1,172 @@
+//! Objects of JSON, written.
+ghost use Rattle.std.specs.Prelude.{◌≡◌, OnOk, flat_map};
+ghost use Rattle.std.specs.Io.KnownBytes.{Appends};
+ghost use Rattle.disk_reports.specs.Objects.{disk_name_text, disk_text, files_text, found_text, head_text, names_text, next_name};
+ghost use Rattle.disk_reports.specs.Objects.{object_text, place_of, refused_head, refused_text, size_text, verdict_text};
+
+use crate::json::{put_string, put_typed};
+use d64_image::Place;
+use disk_layout::{BamView, Fault, Slot};
+use disk_rescue::{disk_name, entry_name};
+use std::io::{self, Write};
+
+/// Where a fault is.
+pub(crate) fn fault_place(fault: Fault) -> Place
+    ensures { result ≡ place_of fault }
+{
+    match fault {
+        Fault::BadLink(place)
+        | Fault::Loop(place)
+        | Fault::OwnedTwice(place)
+        | Fault::BadType(place)
+        | Fault::Unclosed(place)
+        | Fault::BadSide(place)
+        | Fault::BadLength(place)
+        | Fault::CountWrong(place)
+        | Fault::MapWrong(place)
+        | Fault::Device(place) => place,
+    }
+}
+
+/// Writes what an object begins with.
+fn put_head<W: Write>(out: &mut W, name: &[u8]) -> io::Result<()>
+    ensures { OnOk result (Appends (W.contents out.old) (W.contents out.new) (head_text name.now)) }
+{
+    out.write_all(b"{\"name\":")?;
+    put_string(out, name)
+}
+
+/// Writes what a check finds.
+fn put_found<W: Write>(out: &mut W, found: Option<Fault>) -> io::Result<()>
+    ensures { OnOk result (Appends (W.contents out.old) (W.contents out.new) (found_text found)) }
+{
+    match found {
+        None => out.write_all(b"\"OK\",\"track\":null,\"sector\":null"),
+        Some(fault) => {
+            let place = fault_place(fault);
+            let (track, sector) = (place.track(), place.sector());
+            write!(out, "\"{fault}\",\"track\":{track},\"sector\":{sector}")
+        }
+    }
+}
+
+/// Writes the name of one entry more.
+fn put_next<W: Write>(out: &mut W, slot: &Slot) -> io::Result<()>
+    ensures { OnOk result (Appends (W.contents out.old) (W.contents out.new) (next_name slot.now)) }
+{
+    out.write_all(b",")?;
+    put_typed(out, entry_name(slot))
+}
+
+/// Writes the names of more entries.
+fn put_more<W: Write>(out: &mut W, slots: &[Slot]) -> io::Result<()>
+    ensures { OnOk result (Appends (W.contents out.old) (W.contents out.new) (flat_map next_name slots.now)) }
+{
+    for slot in slots {
+        put_next(out, slot)?;
+    }
+    Ok(())
+}
+
+/// Writes the names of entries, with commas between them.
+fn put_names<W: Write>(out: &mut W, slots: &[Slot]) -> io::Result<()>
+    ensures { OnOk result (Appends (W.contents out.old) (W.contents out.new) (names_text slots.now)) }
+{
+    let [first, rest @ ..] = slots else {
+        return Ok(());
+    };
+    put_typed(out, entry_name(first))?;
+    put_more(out, rest)
+}
+
+/// Writes the files that a fault concerns.
+fn put_files<W: Write>(out: &mut W, files: &[Slot]) -> io::Result<()>
+    ensures { OnOk result (Appends (W.contents out.old) (W.contents out.new) (files_text files.now)) }
+{
+    out.write_all(b",\"files\":[")?;
+    put_names(out, files)?;
+    out.write_all(b"]")
+}
+
+/// Writes the free blocks and the disk's name.
+fn put_disk_name<W: Write>(out: &mut W, map: &[u8; 256]) -> io::Result<()>
+    ensures { OnOk result (Appends (W.contents out.old) (W.contents out.new) (disk_name_text map.now)) }
+{
+    write!(
+        out,
+        ",\"free\":{},\"disk\":",
+        BamView::new(map).blocks_free()
+    )?;
+    put_typed(out, disk_name(map))
+}
+
+/// Writes what 18/0 says of the disk, and the end of the object.
+fn put_disk<W: Write>(out: &mut W, map: &[u8; 256]) -> io::Result<()>
+    ensures { OnOk result (Appends (W.contents out.old) (W.contents out.new) (disk_text map.now)) }
+{
+    put_disk_name(out, map)?;
+    out.write_all(b",\"id\":")?;
+    put_typed(out, BamView::new(map).id())?;
+    out.write_all(b"}\n")
+}
+
+/// Writes the object of an image up to the files.
+fn put_verdict<W: Write>(out: &mut W, name: &[u8], found: Option<Fault>) -> io::Result<()>
+    ensures { OnOk result (Appends (W.contents out.old) (W.contents out.new) (verdict_text name.now found)) }
+{
+    put_head(out, name)?;
+    out.write_all(b",\"size\":174848,\"verdict\":")?;
+    put_found(out, found)
+}
+
+/// Writes the object of an image of which a check finds this, with the files that this concerns and the bytes of 18/0.
+pub(crate) fn put_object<W: Write>(
+    out: &mut W,
+    name: &[u8],
+    found: Option<Fault>,
+    files: &[Slot],
+    map: &[u8; 256],
+) -> io::Result<()>
+    ensures { OnOk result (Appends (W.contents out.old) (W.contents out.new)
+        (object_text name.now found files.now map.now)) }
+{
+    put_verdict(out, name, found)?;
+    put_files(out, files)?;
+    put_disk(out, map)
+}
+
+/// Writes a size, if it is known.
+fn put_size<W: Write>(out: &mut W, size: Option<u64>) -> io::Result<()>
+    ensures { OnOk result (Appends (W.contents out.old) (W.contents out.new) (size_text size)) }
+{
+    match size {
+        None => out.write_all(b"null"),
+        Some(size) => write!(out, "{size}"),
+    }
+}
+
+/// Writes the object of an image that is refused up to the reason.
+fn put_refused_head<W: Write>(out: &mut W, name: &[u8], size: Option<u64>) -> io::Result<()>
+    ensures { OnOk result (Appends (W.contents out.old) (W.contents out.new) (refused_head name.now size)) }
+{
+    put_head(out, name)?;
+    out.write_all(b",\"size\":")?;
+    put_size(out, size)?;
+    out.write_all(b",\"verdict\":")
+}
+
+/// Writes the object of an image that is refused.
+pub(crate) fn put_refused<W: Write>(
+    out: &mut W,
+    name: &[u8],
+    size: Option<u64>,
+    why: &[u8],
+) -> io::Result<()>
+    ensures { OnOk result (Appends (W.contents out.old) (W.contents out.new) (refused_text name.now size why.now)) }
+{
+    put_refused_head(out, name, size)?;
+    put_string(out, why)?;
+    out.write_all(
+        b",\"track\":null,\"sector\":null,\"files\":[],\"free\":null,\"disk\":null,\"id\":null}\n",
+    )
+}
