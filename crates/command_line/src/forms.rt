@@ -11,9 +11,8 @@ use crate::positions::columns_asked;
 use crate::values::is_given;
 use clap::ArgMatches;
 use disk_reports::NameForm;
-use file_rescue::Choice;
 use image_file::Durability;
-use keeper_commands::{ByteForm, Candidates, RecordForm};
+use keeper_commands::{ByteForm, Candidates, Choice, RecordForm};
 use ledger_jobs::{Columns, Effect, Findings, Job, Loss, Unowned, Way};
 use line_text::CharacterSet;
 

@@ -1,3 +1,4 @@
+pub mod lemmas
 pub mod Again
 pub mod Beginnings
 pub mod Blocks
@@ -9,10 +10,10 @@ pub mod FileRecords
 pub mod Files
 pub mod Folds
 pub mod Judged
+pub mod LastOnes
 pub mod LineStored
 pub mod Lined
 pub mod LinesStored
-pub mod LastOnes
 pub mod Made
 pub mod Mendings
 pub mod Numbered

@@ -1,3 +1,5 @@
+pub mod changes
+pub mod rescue
 pub mod Bytes
 pub mod ColumnLines
 pub mod Faults

@@ -1,9 +1,11 @@
 //! What a keeper of disks does with an image: its records as lines and back, the bytes of a file, its repair, new
-//! files.
+//! files, files renamed, deleted and put there, and what can be rescued.
 #![tactic(auto)]
 
 mod byte_printing;
 mod chains;
+// Changes to the files of an image, as commands: checked, made, and printed.
+mod changes;
 mod column_lines;
 mod faults;
 mod finding;
@@ -21,11 +23,17 @@ mod reached_records;
 mod rebuilding;
 mod record_printing;
 mod record_storing;
+// What can be rescued of the files of a disk, written to a folder that is new.
+mod rescue;
 mod storing;
 mod unclosed_records;
 
 pub use byte_printing::bytes_image;
 pub use chains::{put_file, read_file};
+pub use changes::deleting::delete_image;
+pub use changes::putting::put_image;
+pub use changes::renaming::rename_image;
+pub use changes::shop_files::has_shop_file;
 pub use column_lines::plain_lines;
 pub use finding::{Candidates, length_of_records};
 pub use forms::{ByteForm, ColumnForm, RecordForm};
@@ -39,4 +47,11 @@ pub use piece_printing::put_pieces;
 pub use rebuilding::rebuild_image;
 pub use record_printing::records_image;
 pub use record_storing::store_image;
+pub use rescue::choices::Choice;
+pub use rescue::extracting::extract_image;
+pub use rescue::folders::NewFolder;
+pub use rescue::laws::names_stay_inside;
+pub use rescue::mem_folder::{MemFile, MemFolder};
+pub use rescue::rescuing::Rescued;
+pub use rescue::rows::Row;
 pub use unclosed_records::unclosed_records_image;

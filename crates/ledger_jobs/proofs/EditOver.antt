@@ -1,7 +1,7 @@
 -- A refusal over a mirror is one over its file.
 use Rattle.std.proofs.Common.{◌≡◌, ℕ, List, subst}
-use Rattle.change_commands.specs.Deletes.{IsLeftClean}
-use Rattle.change_commands.specs.Renames.{IsLeftSound}
+use Rattle.keeper_commands.specs.changes.Deletes.{IsLeftClean}
+use Rattle.keeper_commands.specs.changes.Renames.{IsLeftSound}
 use Rattle.d64_image.specs.KeptMirrors.{is_broken, mirror, mirror_image}
 use Rattle.d64_image.specs.Memory.{sectors_in}
 use Rattle.d64_image.specs.declared.kept_mirror.KeptMirror.{KeptMirror}

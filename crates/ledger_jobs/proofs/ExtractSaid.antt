@@ -4,9 +4,9 @@ use Rattle.std.specs.Prelude.{MatchResult}
 use Rattle.command_faults.specs.declared.faults.CommandFault.{CommandFault}
 use Rattle.command_faults.specs.declared.faults.CommandFault.TheVariants as faults
 use Rattle.disk_layout.specs.declared.faults.Fault.{Fault}
-use Rattle.file_rescue.specs.Folders.{NewFile}
-use Rattle.file_rescue.specs.Rescues.{IsExtractFault, IsExtracted, IsExtractedPart}
-use Rattle.file_rescue.specs.declared.choices.Choice.{Choice}
+use Rattle.keeper_commands.specs.rescue.Folders.{NewFile}
+use Rattle.keeper_commands.specs.rescue.Rescues.{IsExtractFault, IsExtracted, IsExtractedPart}
+use Rattle.keeper_commands.specs.declared.rescue.choices.Choice.{Choice}
 use Rattle.ledger_jobs.specs.Ends.{JobEnd}
 use Rattle.ledger_jobs.specs.Extracts.{IsExtractEnd, IsExtractSaid}
 

@@ -1,9 +1,9 @@
 -- What comes of putting a file over the file of a mirror, from that over the mirror and whether it is broken.
 use Rattle.std.proofs.Common.{◌≡◌, ◌<◌, ◌+◌, ◌⊎◌, [], ◌∷◌, ℕ, List, Option, Result, Ok, Err, ap, arith, inl, length, refl, subst}
 use Rattle.std.specs.Prelude.{IfErr, OnOk}
-use Rattle.change_commands.specs.Deletes.{IsLeftClean}
+use Rattle.keeper_commands.specs.changes.Deletes.{IsLeftClean}
 use Rattle.command_faults.specs.Faults.{IsLoadFault}
-use Rattle.change_commands.specs.Puts.{IsPutDisk, IsPutDone, IsPutFault, IsPutRun}
+use Rattle.keeper_commands.specs.changes.Puts.{IsPutDisk, IsPutDone, IsPutFault, IsPutRun}
 use Rattle.command_faults.specs.declared.faults.CommandFault.{CommandFault}
 use Rattle.command_faults.specs.declared.faults.CommandFault.TheVariants as faults
 use Rattle.d64_image.proofs.FileRuns.{file_disk}

@@ -2,7 +2,7 @@
 use Rattle.std.proofs.Common.{◌≡◌, ◌⊎◌, ℕ, List, Option, Result, Ok, Err, ap, arith, inl, length, refl, subst}
 use Rattle.std.specs.Prelude.{IfErr, OnOk}
 use Rattle.command_faults.specs.Faults.{IsLoadFault}
-use Rattle.change_commands.specs.Renames.{IsLeftSound, IsRenameDone, IsRenameFault, IsRenameRun, IsRenamedDisk}
+use Rattle.keeper_commands.specs.changes.Renames.{IsLeftSound, IsRenameDone, IsRenameFault, IsRenameRun, IsRenamedDisk}
 use Rattle.command_faults.specs.declared.faults.CommandFault.{CommandFault}
 use Rattle.command_faults.specs.declared.faults.CommandFault.TheVariants as faults
 use Rattle.d64_image.proofs.FileRuns.{file_disk}

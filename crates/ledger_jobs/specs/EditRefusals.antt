@@ -1,7 +1,7 @@
 -- Why a file of an image isn't renamed or deleted before the disk is judged. All of it is our own.
 use Rattle.std.specs.Prelude.{◌≡◌, ◌⊎◌, List, ℕ, None, Option, Some, Result, Err}
 use Rattle.command_faults.specs.Faults.{IsLoadFault}
-use Rattle.change_commands.specs.ShopFiles.{HasShopFile}
+use Rattle.keeper_commands.specs.changes.ShopFiles.{HasShopFile}
 use Rattle.command_faults.specs.declared.faults.CommandFault.{CommandFault}
 use Rattle.ledger_jobs.specs.Ends.{JobEnd, as_run}
 use Rattle.ledger_jobs.specs.Losses.{IsLossFault, MayBeLost}

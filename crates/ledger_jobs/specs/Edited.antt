@@ -1,8 +1,8 @@
 -- What comes of a file that is renamed or deleted on the disk of an image, over the image's bytes and its file. All of it
 -- is our own.
 use Rattle.std.specs.Prelude.{◌≡◌, ◌≢◌, ℕ, List, Option, Result, Ok, Err, length}
-use Rattle.change_commands.specs.Deletes.{IsDeleteDone, IsDeleteRun, IsDeletedDisk, IsLockedName}
-use Rattle.change_commands.specs.Renames.{IsNoName, IsRenameDone, IsRenameRun, IsRenamedDisk}
+use Rattle.keeper_commands.specs.changes.Deletes.{IsDeleteDone, IsDeleteRun, IsDeletedDisk, IsLockedName}
+use Rattle.keeper_commands.specs.changes.Renames.{IsNoName, IsRenameDone, IsRenameRun, IsRenamedDisk}
 use Rattle.command_faults.specs.declared.faults.CommandFault.{CommandFault}
 use Rattle.command_faults.specs.declared.faults.CommandFault.TheVariants as faults
 use Rattle.d64_image.specs.FileDisks.{in_run}

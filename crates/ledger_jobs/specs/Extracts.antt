@@ -3,9 +3,9 @@ use Rattle.std.specs.Prelude.{◌≡◌, ◌⊎◌, List, ℕ, MatchResult, None
 use Rattle.std.specs.Io.KnownBytes.{Appends}
 use Rattle.d64_image.specs.declared.place.Place.{Place}
 use Rattle.disk_layout.specs.declared.faults.Fault.{Fault}
-use Rattle.file_rescue.specs.Folders.{NewFile}
-use Rattle.file_rescue.specs.Rescues.{IsExtractFault, IsExtracted}
-use Rattle.file_rescue.specs.declared.choices.Choice.{Choice}
+use Rattle.keeper_commands.specs.rescue.Folders.{NewFile}
+use Rattle.keeper_commands.specs.rescue.Rescues.{IsExtractFault, IsExtracted}
+use Rattle.keeper_commands.specs.declared.rescue.choices.Choice.{Choice}
 use Rattle.host_session.specs.runs.Outputs.{AppendsPart}
 use Rattle.command_faults.specs.declared.faults.CommandFault.{CommandFault}
 use Rattle.command_faults.specs.declared.faults.CommandFault.TheVariants as faults

@@ -1,6 +1,6 @@
 -- What comes of a file that is put on the disk of an image, over the image's bytes and its file. All of it is our own.
 use Rattle.std.specs.Prelude.{◌≡◌, ◌≢◌, ℕ, List, Option, Result, Ok, Err, length}
-use Rattle.change_commands.specs.Puts.{IsPutDisk, IsPutDone, IsPutRun}
+use Rattle.keeper_commands.specs.changes.Puts.{IsPutDisk, IsPutDone, IsPutRun}
 use Rattle.command_faults.specs.declared.faults.CommandFault.{CommandFault}
 use Rattle.command_faults.specs.declared.faults.CommandFault.TheVariants as faults
 use Rattle.d64_image.specs.FileDisks.{in_run}

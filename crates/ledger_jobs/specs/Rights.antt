@@ -1,6 +1,6 @@
 -- What a job may do with the files that its words name, and with the logs beside them. Our own.
 use Rattle.std.specs.Prelude.{◌≡◌, ◌≢◌, ⊤, ℕ, All, IfSome, List, None, Option, Some, ◌++◌, codes}
-use Rattle.file_rescue.specs.Folders.{StaysInside}
+use Rattle.keeper_commands.specs.rescue.Folders.{StaysInside}
 use Rattle.ledger_jobs.specs.declared.jobs.Effect.{Effect}
 use Rattle.ledger_jobs.specs.declared.jobs.Effect.TheVariants.{Printed, Written}
 use Rattle.ledger_jobs.specs.declared.jobs.Job.{Job}

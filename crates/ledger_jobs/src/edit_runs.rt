@@ -5,10 +5,10 @@ ghost use Rattle.d64_image.specs.Memory.{sectors_in};
 ghost use Rattle.ledger_jobs.specs.Edited.{IsDeleteOver, IsRenameOver};
 ghost use Rattle.ledger_jobs.specs.Puts.{IsPutOver};
 
-use change_commands::{delete_image, put_image, rename_image};
 use command_faults::{CommandFault, file_of, load};
 use d64_image::{KeptMirror, SectorFile};
 use file_changes::FileType;
+use keeper_commands::{delete_image, put_image, rename_image};
 use std::alloc::Global;
 use std::io::Write;
 

@@ -6,9 +6,8 @@ use crate::names::Name;
 use disk_pictures::View;
 use disk_reports::NameForm;
 use file_changes::FileType;
-use file_rescue::Choice;
 use image_file::Durability;
-use keeper_commands::{ByteForm, Candidates, ColumnForm, RecordForm};
+use keeper_commands::{ByteForm, Candidates, Choice, ColumnForm, RecordForm};
 
 /// What is asked of the bytes of one file, which isn't written.
 #[derive(Clone, Copy, Debug, PartialEq, Eq)]

@@ -1,10 +1,10 @@
 //! Changes of an image as commands: what they print, and what they refuse.
 use crate::comparing::{differs_in, same_at};
 use crate::disks::{changed, fresh, loaded};
-use change_commands::{delete_image, put_image, rename_image};
 use command_faults::CommandFault;
 use d64_image::MemDisk;
 use file_changes::FileType;
+use keeper_commands::{delete_image, put_image, rename_image};
 use std::process::Abort;
 
 /// How a change ended, what was printed, and the disk then.

@@ -1,7 +1,7 @@
 //! Deleted files taken out of a disk.
 use crate::comparing::same_at;
 use crate::rescue::extract_disks::{SAME, Written, changed, extracted, fault_of, index_ends};
-use file_rescue::Choice;
+use keeper_commands::Choice;
 use std::process::Abort;
 
 /// The deleted ones too.

@@ -2,7 +2,7 @@
 use crate::comparing::same_at;
 use d64_image::{MemDisk, Place, Sectors};
 use disk_layout::Fault;
-use file_rescue::{Choice, MemFolder, extract_image};
+use keeper_commands::{Choice, MemFolder, extract_image};
 use std::process::Abort;
 
 /// Bytes that are written: a sector, at which of its bytes they begin, and the bytes.

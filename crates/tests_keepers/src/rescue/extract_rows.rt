@@ -1,7 +1,7 @@
 //! Files taken out of a disk.
 use crate::comparing::same_at;
 use crate::rescue::extract_disks::{DISK, SAME, Written, extracted, fault_of, written};
-use file_rescue::{Choice, MemFolder, extract_image};
+use keeper_commands::{Choice, MemFolder, extract_image};
 use std::process::Abort;
 
 /// Only the entries of the directory.

@@ -1,7 +1,7 @@
 //! Files taken out of sectors that a directory has lost.
 use crate::comparing::same_at;
 use crate::rescue::extract_disks::{SAME, Written, changed, extracted, fault_of, index_ends};
-use file_rescue::Choice;
+use keeper_commands::Choice;
 use std::process::Abort;
 
 /// Deleted files, and those of lost sectors of the directory.

@@ -1,9 +1,0 @@
--- The names of the entries' files, and that of the index.
-use Rattle.file_rescue.proofs.Inside.{all-inside, all-once}
-use Rattle.file_rescue.proofs.laws.names_stay_inside.Goals as goal
-
-pub returns : goal.returns
-returns c = record {
-  inside = λ img directory files few. all-inside img directory files few;
-  once = λ img directory files few. all-once img directory files few;
-}

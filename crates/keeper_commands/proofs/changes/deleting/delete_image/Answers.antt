@@ -1,0 +1,63 @@
+-- The file was deleted; or why not.
+use Rattle.std.proofs.Common.{◌≡◌, Err, ap, sym, subst, ◌∙◌}
+use Rattle.std.proofs.KnownBytes.{Appends-kept}
+use Rattle.std.proofs.lemmas.Result.{IfErr-weaker, err_from_is_err_and}
+use Rattle.d64_image.proofs.Told.{at-ok}
+use Rattle.disk_layout.specs.Clean.{IsClean}
+use Rattle.keeper_commands.proofs.lemmas.changes.DeletedImages.{delete-done, delete-long, delete-refused, delete-unclean}
+use Rattle.keeper_commands.specs.changes.Deletes.{IsDeleteFault}
+use Rattle.command_faults.specs.declared.faults.CommandFault.TheVariants as faults
+use Rattle.keeper_commands.proofs.changes.deleting.delete_image.Goals as goal
+
+pub delete-requires-clause-clean : goal.delete-requires-clause-clean
+delete-requires-clause-clean g c = subst IsClean (sym c.requires.holds) c.in_ok-judge_clean.ensures.ok.1
+
+pub returns-in_err-judge_clean-clause-err : goal.returns-in_err-judge_clean-clause-err
+returns-in_err-judge_clean-clause-err g c =
+    let p = err_from_is_err_and c.from_residual.result c.from_residual.ensures.1 in
+    rw (p.1 ∙ ap Err p.2)
+    (delete-unclean g.D.Sectors.history c.args.image.now c.args.name.now c.args.disk.now c.args.out.now _
+    c.in_err-judge_clean.ensures.err)
+
+pub returns-then-name-gt16-clause-err : goal.returns-then-name-gt16-clause-err
+returns-then-name-gt16-clause-err g c =
+    let clean = c.in_ok-judge_clean.ensures.ok in
+    delete-long g.D.Sectors.history c.args.image.now c.args.name.now c.args.disk.now c.args.out.now clean.0
+    (subst IsClean (sym c.requires.holds) clean.1) c.if-name-gt16.true
+
+pub returns-in-Err-clause-err : goal.returns-in-Err-clause-err
+returns-in-Err-clause-err g c =
+    let clean = c.in_ok-judge_clean.ensures.ok in
+    rw c.refusal.ensures
+    (delete-refused g.D.Sectors.history c.args.image.now c.args.name.now c.args.disk.now
+    c.delete.new.disk clean.0 (subst IsClean (sym c.requires.holds) clean.1) c.args.out.now c.in-Err.fault
+    c.in-Err.ensures)
+
+pub returns-in_err-put-clause-err : goal.returns-in_err-put-clause-err
+returns-in_err-put-clause-err g c =
+    let clean = c.in_ok-judge_clean.ensures.ok in
+    let p = err_from_is_err_and c.from_residual-in_err-put.result c.from_residual-in_err-put.ensures.1 in
+    rw (p.1 ∙ ap Err (p.2 ∙ c.in_err-put.ensures.err))
+    (delete-done g.D.Sectors.history c.args.image.now c.args.name.now c.args.disk.now c.delete.new.disk
+    clean.0 (subst IsClean (sym c.requires.holds) clean.1) c.in_default.field-0 c.in_default.ensures)
+
+pub returns-clause-ok : goal.returns-clause-ok
+returns-clause-ok g c =
+    let clean = c.in_ok-judge_clean.ensures.ok in
+    at-ok c.flush.result (record {
+      disk = delete-done g.D.Sectors.history c.args.image.now c.args.name.now c.args.disk.now
+          c.delete.new.disk clean.0 (subst IsClean (sym c.requires.holds) clean.1) c.in_default.field-0
+          c.in_default.ensures;
+      printed = Appends-kept _ _ _ _ c.in_ok-put.ensures.ok c.flush.ensures.kept;
+    })
+
+pub returns-clause-err : goal.returns-clause-err
+returns-clause-err g c =
+    let clean = c.in_ok-judge_clean.ensures.ok in
+    IfErr-weaker c.flush.result (λ fault. fault ≡ faults.File)
+    (IsDeleteFault g.D.Sectors.history c.args.image.now c.args.name.now c.args.disk.now
+    c.delete.new.disk c.args.out.now c.flush.new.out)
+    (λ fault is. rw is (delete-done g.D.Sectors.history c.args.image.now c.args.name.now c.args.disk.now
+    c.delete.new.disk clean.0 (subst IsClean (sym c.requires.holds) clean.1) c.in_default.field-0
+    c.in_default.ensures))
+    c.flush.ensures.err

@@ -1,0 +1,9 @@
+-- What can be rescued of the files of a disk, written to a folder that is new.
+pub mod Counts
+pub mod Extracted
+pub mod Inside
+pub mod Made
+pub mod Parts
+pub mod Reached
+pub mod Scanned
+pub mod Undeleted

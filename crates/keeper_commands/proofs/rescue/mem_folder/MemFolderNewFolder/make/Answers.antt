@@ -1,0 +1,20 @@
+-- The folder has what it had, or one file more.
+use Rattle.std.proofs.Common.{Some, [], ◌∷◌}
+use Rattle.keeper_commands.proofs.lemmas.rescue.Parts.{none-added, not-pushed, on-err}
+use Rattle.keeper_commands.specs.rescue.Folders.{new_file}
+use Rattle.keeper_commands.specs.rescue.Memory.{files_in}
+use Rattle.keeper_commands.proofs.rescue.mem_folder.MemFolderNewFolder.make.Goals as goal
+
+pub returns-then-has-clause-part : goal.returns-then-has-clause-part
+returns-then-has-clause-part c =
+    none-added (Some (files_in c.args.self.now)) (new_file c.args.name.now c.args.bytes.now ∷ [])
+
+pub returns-in_err-file-clause-part : goal.returns-in_err-file-clause-part
+returns-in_err-file-clause-part c =
+    on-err c.from_residual.result
+    (none-added (Some (files_in c.args.self.now)) (new_file c.args.name.now c.args.bytes.now ∷ []))
+
+pub returns-then-is_err-clause-part : goal.returns-then-is_err-clause-part
+returns-then-is_err-clause-part c =
+    not-pushed _ _ _ _ c.args.self.now.files.items (new_file c.args.name.now c.args.bytes.now) c.if-is_err.true
+    c.is_err.ensures.negation c.push.ensures.items

@@ -1,0 +1,12 @@
+-- What can be reached of the entries so far; the disk stays.
+use Rattle.std.proofs.Common.{◌≡◌, length, take}
+use Rattle.d64_image.specs.Memory.{disk_image}
+use Rattle.keeper_commands.specs.rescue.Rescues.{AreRescued}
+use Rattle.keeper_commands.proofs.rescue.rescuing.rescue_all.Given as goal
+
+abbrev pub invariant-loop-slot : goal.invariant-loop-slot
+invariant-loop-slot l = record {
+  rescued : AreRescued (disk_image l.fn.disk) (take l.slot-index l.slots) l.files.items;
+  count : length l.files.items ≡ l.slot-index;
+  same : disk_image l.disk ≡ disk_image l.fn.disk;
+}

@@ -1,0 +1,8 @@
+-- What can be rescued of the files of a disk, written to a folder that is new.
+pub mod Deleted
+pub mod Folders
+pub mod Index
+pub mod Memory
+pub mod Rescues
+pub mod Scanned
+pub mod Sharing
