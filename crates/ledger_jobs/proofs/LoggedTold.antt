@@ -2,8 +2,8 @@
 use Rattle.std.proofs.Common.{◌≡◌, ◌∙◌, ℕ, Bool, true, false, List, Option, Result, Ok, Err, ap, inl, inr, refl, subst, sym, ⊎_elim}
 use Rattle.command_faults.specs.declared.faults.CommandFault.{CommandFault}
 use Rattle.command_faults.specs.declared.faults.CommandFault.TheVariants as faults
-use Rattle.log_files.specs.Folders.{FolderHistory}
-use Rattle.log_files.specs.declared.live_log.LiveLog.{LiveLog}
+use Rattle.shop_log.specs.life.Folders.{FolderHistory}
+use Rattle.shop_log.specs.declared.life.live_log.LiveLog.{LiveLog}
 use Rattle.line_server.specs.Batches.{BatchInput}
 use Rattle.log_server.specs.Reporting.{LogOutput}
 use Rattle.shop_log.specs.ImageLogs.{LogHistory}

@@ -12,9 +12,9 @@ use Rattle.host_session.specs.shop.Shop.{IsSettled, IsShop, Shop, start_of}
 use Rattle.line_server.specs.Scripts.{crlf_text, of_script, text_left}
 use Rattle.line_server.specs.declared.scripts.ScriptBatches.{ScriptBatches}
 use Rattle.line_server.proofs.LinesGiven.{all_handled}
-use Rattle.log_files.specs.Folders.{FolderHistory}
-use Rattle.log_files.specs.LiveLogs.{of_live}
-use Rattle.log_files.specs.declared.live_log.LiveLog.{LiveLog}
+use Rattle.shop_log.specs.life.Folders.{FolderHistory}
+use Rattle.shop_log.specs.life.LiveLogs.{of_live}
+use Rattle.shop_log.specs.declared.life.live_log.LiveLog.{LiveLog}
 use Rattle.log_server.specs.Reporting.{IsToldTo, LogOutput}
 use Rattle.log_server.specs.Serves.{AreFirst, shop_behind}
 use Rattle.log_server.proofs.UnderWay.{as_many_replies}

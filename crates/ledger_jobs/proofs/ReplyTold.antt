@@ -15,9 +15,9 @@ use Rattle.host_session.specs.runs.Chains.{told_in}
 use Rattle.host_session.specs.runs.Outputs.{line_of, written}
 use Rattle.host_session.specs.shop.Shop.{IsShop}
 use Rattle.line_server.specs.Batches.{BatchInput}
-use Rattle.log_files.specs.Folders.{FolderHistory}
-use Rattle.log_files.specs.LiveLogs.{of_live}
-use Rattle.log_files.specs.declared.live_log.LiveLog.{LiveLog}
+use Rattle.shop_log.specs.life.Folders.{FolderHistory}
+use Rattle.shop_log.specs.life.LiveLogs.{of_live}
+use Rattle.shop_log.specs.declared.life.live_log.LiveLog.{LiveLog}
 use Rattle.log_server.specs.Reporting.{IsToldTo, LogOutput, of_output}
 use Rattle.request_cards.specs.Ledgers.{report}
 use Rattle.request_cards.specs.declared.reply.Reply.{Reply}

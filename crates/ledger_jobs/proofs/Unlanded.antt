@@ -1,7 +1,7 @@
 -- The end of a service whose log can't be landed.
 use Rattle.std.proofs.Common.{◌≡◌, ◌⊎◌, Err, Ok, inl, inr, refl}
 use Rattle.std.proofs.lemmas.Bool.{false≢true}
-use Rattle.log_files.specs.declared.landing.LogFault.{LogFault}
+use Rattle.shop_log.specs.declared.life.landing.LogFault.{LogFault}
 use Rattle.command_faults.specs.declared.faults.CommandFault.TheVariants as faults
 use Rattle.ledger_jobs.specs.Ends.{JobEnd, landing_fault, log_refusal, unlanded}
 use Rattle.ledger_jobs.specs.LandedRuns.{IsServedOut}

@@ -12,8 +12,8 @@ use Rattle.disk_layout.specs.declared.faults.Fault.{Fault}
 use Rattle.shop_commands.specs.declared.dry_run.DryFault.{DryFault}
 use Rattle.shop_commands.specs.declared.dry_run.DryFault.TheVariants as dry
 use Rattle.command_faults.specs.declared.faults.CommandFault.TheVariants as faults
-use Rattle.log_files.specs.declared.landing.LogFault.{LogFault}
-use Rattle.log_files.specs.declared.landing.LogFault.TheVariants as logs
+use Rattle.shop_log.specs.declared.life.landing.LogFault.{LogFault}
+use Rattle.shop_log.specs.declared.life.landing.LogFault.TheVariants as logs
 use Rattle.ledger_jobs.specs.declared.refusals.Refusal.{Refusal}
 use Rattle.ledger_jobs.specs.declared.refusals.Refusal.TheVariants as refusals
 

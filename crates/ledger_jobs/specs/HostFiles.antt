@@ -10,7 +10,7 @@ use Rattle.ledger_jobs.specs.declared.jobs.Reading.{Reading}
 use Rattle.ledger_jobs.specs.declared.jobs.Reading.TheVariants as readings
 use Rattle.ledger_jobs.specs.declared.refusals.Refusal.{Refusal}
 use Rattle.ledger_jobs.specs.declared.refusals.Refusal.TheVariants as refusals
-use Rattle.log_files.specs.LogRights.{WhereItLeads, log_of}
+use Rattle.shop_log.specs.life.LogRights.{WhereItLeads, log_of}
 
 module _ {H : Type 0} (stands : H → List ℕ → Stands) (host : H) where
   -- this holds of the bytes of the script or the text at a path, if the host says them

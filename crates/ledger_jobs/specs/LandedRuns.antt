@@ -2,10 +2,10 @@
 use Rattle.std.specs.Prelude.{◌≡◌, ◌≢◌, ◌⊎◌, if◌then◌else◌, Bool, Err, IfSome, IsOk, IsSome, None, Option, Some}
 use Rattle.d64_image.specs.Images.{Image}
 use Rattle.host_session.specs.shop.Shop.{IsSettled, Shop}
-use Rattle.log_files.specs.Bringing.{RestsAlone}
-use Rattle.log_files.specs.Folders.{FolderHistory}
-use Rattle.log_files.specs.LiveLogs.{of_live}
-use Rattle.log_files.specs.declared.live_log.LiveLog.{LiveLog}
+use Rattle.shop_log.specs.life.Bringing.{RestsAlone}
+use Rattle.shop_log.specs.life.Folders.{FolderHistory}
+use Rattle.shop_log.specs.life.LiveLogs.{of_live}
+use Rattle.shop_log.specs.declared.life.live_log.LiveLog.{LiveLog}
 use Rattle.command_faults.specs.declared.faults.CommandFault.TheVariants as faults
 use Rattle.shop_log.specs.declared.log_file.LogFile.{Ghosts}
 use Rattle.ledger_jobs.specs.Ends.{JobEnd}

@@ -7,7 +7,7 @@ use Rattle.ledger_jobs.specs.declared.jobs.Job.{Job}
 use Rattle.ledger_jobs.specs.declared.jobs.Job.TheVariants as jobs
 use Rattle.ledger_jobs.specs.declared.jobs.Reading.{Reading}
 use Rattle.ledger_jobs.specs.declared.jobs.Reading.TheVariants as readings
-use Rattle.log_files.specs.LogRights.{MayForgetLog, MayKeepLog, MayReadLog}
+use Rattle.shop_log.specs.life.LogRights.{MayForgetLog, MayKeepLog, MayReadLog}
 use Rattle.image_file.specs.paths.Rights.{Look, Make, May, MayRead, MayWrite, Read, Rights, Write}
 
 -- the path that stands for standard input, which is never opened

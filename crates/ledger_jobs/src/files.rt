@@ -10,7 +10,7 @@ use crate::image_logs::is_there;
 use crate::refusals::Refusal;
 use command_faults::CommandFault;
 use image_file::{EndedFile, HostFiles, Locks, OpensFile, read_script, regular, regular_at};
-use log_files::{LogNames, forget_log};
+use shop_log::{LogNames, forget_log};
 use std::fs::OpenFile;
 use std::io;
 

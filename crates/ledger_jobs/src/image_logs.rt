@@ -3,7 +3,7 @@ ghost use Rattle.std.specs.Prelude.{◌≡◌, IfErr, IfOk, IsNone, false, strin
 ghost use Rattle.ledger_jobs.specs.Ends.{log_refusal as refusal_of};
 ghost use Rattle.ledger_jobs.specs.HostFiles.{HasNoLog, IsUnbegun, IsUnread};
 ghost use Rattle.ledger_jobs.specs.Rights.{MayChangeImage, MayReadFile};
-ghost use Rattle.log_files.specs.LogRights.{MayKeepLog, MayKeepLogOf, MayReadLog};
+ghost use Rattle.shop_log.specs.life.LogRights.{MayKeepLog, MayKeepLogOf, MayReadLog};
 ghost use Rattle.image_file.specs.paths.Rights.{Look, May, MayRead, MayWrite};
 ghost use Rattle.image_file.specs.paths.Standing.{AreOf, IsMissing};
 
@@ -13,7 +13,7 @@ use crate::refusals::Refusal;
 use command_faults::CommandFault;
 use d64_image::IMAGE_BYTES;
 use image_file::{Durability, EndedFile, HostFiles, Locks, opened_to_change, opened_to_read};
-use log_files::{ImageFolder, ImageView, LogFault, LogNames, land_in, sync_names, view_in};
+use shop_log::{ImageFolder, ImageView, LogFault, LogNames, land_in, sync_names, view_in};
 use std::fs::OpenFile;
 use std::io::{self, ErrorKind};
 

@@ -8,11 +8,11 @@ ghost use Rattle.ledger_jobs.specs.LoggedRuns.{IsLoggedRun, IsUnlogged};
 ghost use Rattle.ledger_jobs.specs.Losses.{IsEndOfRun, IsGuarded};
 ghost use Rattle.ledger_jobs.specs.Replies.{IsLoggedService, IsToldAll, IsToldSome};
 ghost use Rattle.ledger_jobs.specs.WatchedFiles.{while_there};
-ghost use Rattle.log_files.specs.LiveLogs.{of_live};
+ghost use Rattle.shop_log.specs.life.LiveLogs.{of_live};
 ghost use Rattle.log_server.specs.Reporting.{of_output};
 ghost use Rattle.ledger_jobs.specs.Rights.{MayChangeImage};
 ghost use Rattle.image_file.specs.paths.Rights.{Look, May, MayWrite, Remove};
-ghost use Rattle.log_files.specs.LogRights.{MayKeepLogOf, making_of};
+ghost use Rattle.shop_log.specs.life.LogRights.{MayKeepLogOf, making_of};
 
 use crate::image_logs::{is_sized, log_refusal, opened_alone};
 use crate::jobs::Loss;
@@ -27,10 +27,10 @@ use d64_image::MemDisk;
 use disk_layout::Fault;
 use image_file::{Durability, EndedFile, HostFiles, Locks, Stays, opened_to_change};
 use line_server::{Answers, BatchSource};
-use log_files::{
-    ImageFolder, LiveLog, LogFault, LogFolder, LogNames, SystemLog, forget_making, land_in,
+use shop_log::{
+    ImageFolder, LiveLog, LogFault, LogFile, LogFolder, LogNames, LogRoom, SystemLog, TouchedDisk,
+    forget_making, land_in,
 };
-use shop_log::{LogFile, LogRoom, TouchedDisk};
 use std::alloc::Global;
 use std::fs::OpenFile;
 use std::io::{BufReader, Write};

@@ -1,3 +1,4 @@
+pub mod lemmas
 mod Appended
 mod Brought
 pub mod Commits

@@ -1,3 +1,4 @@
+pub mod life
 pub mod Blocks
 pub mod Files
 pub mod ImageLogs

@@ -2,8 +2,9 @@
 //! image a folder gives.
 use crate::comparing::{same, same_at};
 use crate::logged::logs::{begun, change, commit, numbered, two_touched, without};
-use log_files::{LiveLog, LogFault, LogFolder, MemFolder, Misfit, land, land_in};
-use shop_log::{ImageLog, LogRoom, MemLog};
+use shop_log::{
+    ImageLog, LiveLog, LogFault, LogFolder, LogRoom, MemFolder, MemLog, Misfit, land, land_in,
+};
 use std::process::Abort;
 
 /// What is found in a folder.

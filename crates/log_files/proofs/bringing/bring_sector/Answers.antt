@@ -1,9 +1,0 @@
--- Where the sector is the same, nothing changes.
-use Rattle.std.proofs.Common.{sym}
-use Rattle.std.proofs.lemmas.Slice.Eq.{bytes_eq-Decides}
-use Rattle.log_files.proofs.Brought.{same_sector}
-use Rattle.log_files.proofs.bringing.bring_sector.Goals as goal
-
-pub returns-then-eq-clause-ok : goal.returns-then-eq-clause-ok
-returns-then-eq-clause-ok g c s held is = same_sector (g.D.LogFolder.history.held c.args.folder.now) s c.args.index c.args.now.now
-    c.args.sector.now is ((bytes_eq-Decides c.args.now.now c.args.sector.now).0 (sym c.if-eq.ensures)) held

@@ -1,8 +1,0 @@
--- The file is kept.
-use Rattle.std.proofs.Common.{◌∙◌, refl, sym}
-use Rattle.log_files.proofs.MemFolders.{returned}
-use Rattle.log_files.proofs.mem_folder.MemFolderLogFolderMemLog.close_log.Goals as goal
-
-pub returns-in-Ok-note_return : goal.returns-in-Ok-note_return
-returns-in-Ok-note_return c = returned c.args.self.now _ c.args.file _ refl c.in-Ok-note_return.ensures.ok refl c.if-self.false
-    c.if-self.false (sym c.is_failed.ensures ∙ c.if-is_failed.false) tt refl

@@ -1,0 +1,6 @@
+-- Nothing is known of the folder.
+use Rattle.shop_log.proofs.lemmas.life.Unknown.{returned}
+use Rattle.shop_log.proofs.life.image_folder.ImageFolderLogFolderSystemLog.close_log.Goals as goal
+
+pub returns : goal.returns
+returns g c = returned _ _ _ _

@@ -1,0 +1,14 @@
+-- Nothing is known of the folder.
+use Rattle.std.proofs.Common.{refl}
+use Rattle.shop_log.specs.life.Folders.{IsMaking, being_made}
+use Rattle.shop_log.proofs.lemmas.life.Unknown.{acts}
+use Rattle.shop_log.proofs.life.image_folder.ImageFolderLogFolderSystemLog.make_log.Goals as goal
+
+pub returns-in_err-forget_making-clause-acts : goal.returns-in_err-forget_making-clause-acts
+returns-in_err-forget_making-clause-acts g c = acts _ _ being_made IsMaking _ (λ s. record { image = refl; log = refl })
+
+pub returns-in_err-file-clause-acts : goal.returns-in_err-file-clause-acts
+returns-in_err-file-clause-acts g c = acts _ _ being_made IsMaking _ (λ s. record { image = refl; log = refl })
+
+pub returns-clause-acts : goal.returns-clause-acts
+returns-clause-acts g c = acts _ _ being_made IsMaking _ (λ s. record { image = refl; log = refl })

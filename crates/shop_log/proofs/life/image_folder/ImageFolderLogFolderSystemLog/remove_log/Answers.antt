@@ -1,0 +1,8 @@
+-- Nothing is known of the folder.
+use Rattle.std.proofs.Common.{inl, refl}
+use Rattle.shop_log.specs.life.Folders.{IsRemoving, unlogged}
+use Rattle.shop_log.proofs.lemmas.life.Unknown.{acts}
+use Rattle.shop_log.proofs.life.image_folder.ImageFolderLogFolderSystemLog.remove_log.Goals as goal
+
+pub returns : goal.returns
+returns g c = acts _ _ unlogged IsRemoving _ (λ s. inl refl)

@@ -1,0 +1,8 @@
+-- Nothing is known of the folder.
+use Rattle.std.proofs.Common.{refl}
+use Rattle.shop_log.specs.life.Folders.{IsImageWritten, with_sector}
+use Rattle.shop_log.proofs.lemmas.life.Unknown.{acts}
+use Rattle.shop_log.proofs.life.image_folder.ImageFolderLogFolderSystemLog.write_sector.Goals as goal
+
+pub returns : goal.returns
+returns g c = acts _ _ (with_sector c.args.index c.args.sector.now) IsImageWritten _ (λ s. record { log = refl; making = refl })

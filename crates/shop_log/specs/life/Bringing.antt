@@ -1,0 +1,46 @@
+-- A log that is landed: what each step leaves. Our own.
+use Rattle.std.specs.Prelude.{ℕ, ◌≡◌, ◌≤◌, [], ◌∷◌, List, None, Some, length}
+use Rattle.d64_image.specs.Images.{Image}
+use Rattle.shop_log.specs.Files.{Mixed, overwritten}
+use Rattle.shop_log.specs.life.Folders.{AllLeft, Folder, FolderHistory, HasImage, HasNames}
+use Rattle.shop_log.specs.life.Shops.{Gives, GivesOneOf}
+
+-- the log with its mark
+abbrev pub marked_log : List ℕ → List ℕ
+marked_log f = overwritten f 4194304 (1 ∷ [])
+
+-- what may be left of a log while its mark is written
+abbrev pub MarkTorn : List ℕ → List ℕ → Type 0
+MarkTorn from c = 4194305 ≤ length from → Mixed 4194304 (1 ∷ []) from c
+
+-- IMAGE and the names are as reads find them
+abbrev pub IsSettledAs : Folder → Folder → Type 0
+IsSettledAs held s = HasImage held s × HasNames held s
+
+-- these bytes are its log
+abbrev pub HasLog : List ℕ → Folder → Type 0
+HasLog log s = s.log ≡ Some log
+
+-- IMAGE is this image, and the folder gives it too
+abbrev pub IsBrought : Image → Folder → Type 0
+IsBrought shop s = (s.image ≡ shop) × Gives s shop
+
+-- IMAGE is this image, and there is no log
+abbrev pub IsAlone : Image → Folder → Type 0
+IsAlone shop s = (s.image ≡ shop) × (s.log ≡ None)
+
+module _ {D : Type 0} (h : FolderHistory D) where
+  -- The folder is known and gives one of these images, as does each that a power loss may leave. Each of these has the
+  -- IMAGE and the names that reads find.
+  pub record IsFound (d : D) (shops : List Image) (s : Folder) : Type 0 where
+    pub held : h.held d ≡ Some s
+    pub gives : GivesOneOf shops s
+    pub left : AllLeft h d (GivesOneOf shops)
+    pub settled : AllLeft h d (IsSettledAs s)
+
+  -- The folder has this image and no log, and a power loss leaves that.
+  pub record RestsAlone (d : D) (shop : Image) : Type 0 where
+    pub some : Folder
+    pub held : h.held d ≡ Some some
+    pub is : IsAlone shop some
+    pub left : AllLeft h d (IsAlone shop)

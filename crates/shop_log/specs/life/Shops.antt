@@ -1,0 +1,26 @@
+-- The image that a folder gives, by its log or by IMAGE. Our own: docs/LOG.md has the rule.
+use Rattle.std.specs.Prelude.{ℕ, ◌<◌, ◌≡◌, ◌⊎◌, Contains, List, None, Option, Some, length, true}
+use Rattle.d64_image.specs.Images.{Image}
+use Rattle.shop_log.specs.Recovered.{base_end, base_of, is_marked, recovered}
+use Rattle.shop_log.specs.life.Folders.{Folder}
+
+-- A log beside this IMAGE gives an image: it has its base, and it is marked or IMAGE is the base. Then it gives the image
+-- that its whole commits stand for.
+pub record LogGives (log : List ℕ) (image given : Image) : Type 0 where
+  pub size : length log ≡ 4198400
+  pub based : 0 < base_end log
+  pub own : (is_marked log ≡ true) ⊎ (image ≡ base_of log)
+  pub is : recovered log ≡ given
+
+-- by the log, if there is one; otherwise IMAGE itself
+abbrev pub given_by : Option (List ℕ) → Image → Image → Type 0
+given_by None image given = image ≡ given
+given_by (Some log) image given = LogGives log image given
+
+-- what the next opening finds in the folder
+abbrev pub Gives : Folder → Image → Type 0
+Gives s given = given_by s.log s.image given
+
+-- it is one of these images
+abbrev pub GivesOneOf : List Image → Folder → Type 0
+GivesOneOf shops s = (given : Image) × Contains shops given × Gives s given

@@ -1,0 +1,58 @@
+-- What a reader sees of an image and its log, while a writer may go on. Our own.
+use Rattle.std.specs.Prelude.{ℕ, ◌<◌, ◌≡◌, ◌⊎◌, Bool, List, None, Option, Some, false, if◌then◌else◌, length, true}
+use Rattle.d64_image.specs.Images.{Image}
+use Rattle.shop_log.specs.Recovered.{is_marked}
+use Rattle.shop_log.specs.life.Bringing.{marked_log}
+use Rattle.shop_log.specs.life.Shops.{given_by}
+
+-- What stands there. After the log was opened, it is what the open file has, whatever its name leads to by then.
+pub record Seen : Type 0 where
+  pub log : Option (List ℕ)
+  pub image : Image
+
+-- it has a log, which has its mark
+abbrev pub HasMark : Seen → Type 0
+HasMark s = (f : List ℕ) × (s.log ≡ Some f) × (is_marked f ≡ true)
+
+-- What a writer may do while a reader looks.
+pub record Goes (s t : Seen) : Type 0 where
+  -- with no log nothing: a writer that begins has the lock for itself
+  pub none : s.log ≡ None → t ≡ s
+  -- a mark stays
+  pub mark : HasMark s → HasMark t
+  -- and before there is one IMAGE stays
+  pub image : (t.image ≡ s.image) ⊎ HasMark t
+
+module _ {V : Type 0} (seen : V → Option Seen) where
+  -- a writer may have gone on to what is seen now
+  abbrev pub GoesTo : Seen → V → Type 0
+  GoesTo s v = (t : Seen) × (seen v ≡ Some t) × Goes s t
+
+-- whether its log has its mark
+pub record IsMarkOf (s : Seen) (mark : Bool) : Type 0 where
+  pub there : mark ≡ true → HasMark s
+  pub is : HasMark s → mark ≡ true
+
+-- the log, with a mark if it got one by now
+abbrev pub marked_if : Bool → List ℕ → List ℕ
+marked_if mark f = if mark then (if is_marked f then f else marked_log f) else f
+
+-- the image that is given, by the log, or by IMAGE
+abbrev pub SeenGives : Seen → Image → Type 0
+SeenGives s given = given_by s.log s.image given
+
+-- The image that a log gives was seen.
+pub record IsLogViewed {V : Type 0} (seen : V → Option Seen) (s : Seen) (new : V) (shop : Image) : Type 0 where
+  -- if an image was given when the log was read, it is this one
+  pub given : (given : Image) → SeenGives s given → shop ≡ given
+  -- and one was, if nothing has changed since
+  pub still : seen new ≡ Some s → SeenGives s shop
+
+-- Whether there is a log, and then the image that it gives.
+abbrev pub IsViewed : {V : Type 0} → (V → Option Seen) → Seen → V → Bool → Image → Type 0
+IsViewed seen s new false shop = s.log ≡ None
+IsViewed seen s new true shop = IsLogViewed seen s new shop
+
+-- of what the system has nothing is known
+abbrev pub unseen : {V : Type 0} → V → Option Seen
+unseen _ = None

@@ -1,0 +1,157 @@
+//! The folder of an image, of the system.
+ghost use Rattle.shop_log.specs.life.Unknown.{unknown_folder};
+ghost use Rattle.shop_log.specs.life.LogRights.{MayKeepLogOf, MayReadLogOf, log_of};
+ghost use Rattle.image_file.specs.paths.Standing.{IsMissing};
+ghost use Rattle.std.specs.Prelude.{◌≡◌, ◌<◌, IfOk, IsNone, length, string_bytes};
+ghost use Rattle.std.proofs.Props.{props};
+
+use crate::life::judging::LOG_BYTES;
+use crate::life::log_folder::LogFolder;
+use crate::life::log_names::{LogNames, forget_making, sync_names};
+use crate::life::system_log::SystemLog;
+use image_file::{EndedFile, HostFiles, opened_to_change, opened_to_read, regular};
+use std::alloc::Global;
+use std::cell::Cell;
+use std::fs::OpenFile;
+use std::io::{self, Read, Seek, SeekFrom};
+use std::os::unix::fs::MetadataExt;
+
+/// An image's open file, and the names of its log beside it. The file is read, written, synced and closed. It isn't
+/// locked: the caller does that. Nothing is known of what it holds: it is trusted to satisfy the contract of `LogFolder`.
+#[derive(Drop)]
+pub struct ImageFolder<'a, R: HostFiles> {
+    rt: &'a R,
+    alloc: Global,
+    names: &'a LogNames,
+    image: R::File,
+    synced: bool,
+    // the log may be kept
+    ghost keeps: { MayKeepLogOf R.rights rt.now (string_bytes names.now.image) } by { Prim.hlevel props },
+}
+
+/// The bytes of a log: all of them, or one more than a log has.
+pub(crate) fn log_bytes<F: Read + Drop>(alloc: Global, file: &mut F) -> io::Result<Vec<u8>> {
+    let mut bytes = Vec::with_capacity(alloc, LOG_BYTES + 1)?;
+    file.take(LOG_BYTES as u64 + 1).read_to_end(&mut bytes)?;
+    Ok(bytes)
+}
+
+/// The log's file, open to be read. None if there is no log.
+pub(crate) fn log_to_read<R: HostFiles>(rt: &R, names: &LogNames) -> io::Result<Option<R::File>>
+    requires { MayReadLogOf R.rights rt.now (string_bytes names.now.image) }
+    ensures { IsMissing R.stands rt.now (log_of (string_bytes names.now.image)) → IfOk result IsNone }
+{
+    match opened_to_read(rt, names.log()) {
+        Ok(file) => Ok(Some(file)),
+        Err(error) if error.kind() == io::ErrorKind::NotFound => Ok(None),
+        Err(error) => Err(error),
+    }
+}
+
+/// Reads the 683 sectors of an image.
+pub(crate) fn read_sectors<F: Read + Seek>(file: &mut F, image: &mut [[u8; 256]]) -> io::Result<()>
+    ensures { length image.new ≡ length image.old }
+{
+    file.seek(SeekFrom::Start(0))?;
+    file.read_exact(image.as_flattened_mut())
+}
+
+impl<'a, R: HostFiles> ImageFolder<'a, R>
+where
+    R::File: EndedFile + OpenFile,
+{
+    /// The folder of the image whose file this is, open to be read and written. `synced` says whether each commit is
+    /// synced; everything else always is. `InvalidInput` if it isn't a regular file, or has a second name, by which it
+    /// would have another log.
+    pub fn new(
+        rt: &'a R,
+        alloc: Global,
+        names: &'a LogNames,
+        image: R::File,
+        synced: bool,
+    ) -> io::Result<ImageFolder<'a, R>>
+        requires { MayKeepLogOf R.rights rt.now (string_bytes names.now.image) }
+    {
+        if regular(OpenFile::metadata(&image))?.nlink() > 1 {
+            return Err(io::ErrorKind::InvalidInput.into());
+        }
+        Ok(ImageFolder {
+            rt,
+            alloc,
+            names,
+            image,
+            synced,
+        })
+    }
+
+    /// An open file as the log, or as one in the making.
+    fn log_of(&self, file: R::File, synced: bool) -> SystemLog<'a, R> {
+        SystemLog {
+            rt: self.rt,
+            name: self.names.log(),
+            file,
+            named: Cell::new(false),
+            synced,
+        }
+    }
+}
+
+impl<'a, R: HostFiles> LogFolder<SystemLog<'a, R>> for ImageFolder<'a, R>
+where
+    R::File: EndedFile + OpenFile,
+{
+    ghost history = { unknown_folder };
+
+    fn read_image(&mut self, image: &mut [[u8; 256]]) -> io::Result<()> {
+        read_sectors(&mut self.image, image)
+    }
+
+    fn write_sector(&mut self, index: usize, sector: &[u8; 256]) -> io::Result<()> {
+        self.image.put_over(sector, 256 * index as u64)
+    }
+
+    fn sync_image(&mut self) -> io::Result<()> {
+        self.image.sync_whole()
+    }
+
+    fn read_log(&mut self) -> io::Result<Option<Vec<u8>>> {
+        match log_to_read(self.rt, self.names)? {
+            Some(mut file) => Ok(Some(log_bytes(self.alloc, &mut file)?)),
+            None => Ok(None),
+        }
+    }
+
+    fn open_log(&mut self) -> io::Result<SystemLog<'a, R>> {
+        let file = opened_to_change(self.rt, self.names.log())?;
+        Ok(self.log_of(file, true))
+    }
+
+    fn close_log(&mut self, file: SystemLog<'a, R>) -> io::Result<()> {
+        drop(file);
+        Ok(())
+    }
+
+    fn make_log(&mut self) -> io::Result<SystemLog<'a, R>> {
+        forget_making(self.rt, self.names)?;
+        let file = self.rt.make_file(self.names.making())?;
+        Ok(self.log_of(file, self.synced))
+    }
+
+    fn leave_making(&mut self, file: SystemLog<'a, R>) {
+        drop(file);
+    }
+
+    fn name_log(&mut self, file: &SystemLog<'a, R>) -> io::Result<()> {
+        self.rt.give_name(self.names.making(), self.names.log())?;
+        file.named.set(true);
+        Ok(())
+    }
+
+    fn remove_log(&mut self) -> io::Result<()> {
+        self.rt.take_name(self.names.log())
+    }
+
+    fn sync_folder(&mut self) -> io::Result<()> {
+        sync_names(self.rt, self.names)
+    }
+}

@@ -1,0 +1,70 @@
+//! Functions that take the memory for their images.
+ghost use Rattle.std.specs.Prelude.{◌≡◌, IfErr, IfOk, IfSome, IsNone, List, None, Some, length};
+ghost use Rattle.d64_image.specs.Images.{Image};
+ghost use Rattle.shop_log.specs.life.Bringing.{RestsAlone};
+ghost use Rattle.shop_log.specs.life.Faults.{IsMisfit};
+ghost use Rattle.shop_log.specs.life.Folders.{AllLeft, Folder, LeavesFolders};
+ghost use Rattle.shop_log.specs.life.Shops.{Gives, GivesOneOf};
+ghost use Rattle.shop_log.specs.life.Views.{IsLogViewed, Seen, SeenGives};
+
+use crate::life::landing::{LogFault, land};
+use crate::life::log_folder::LogFolder;
+use crate::life::viewing::{ViewsImage, view};
+use crate::log_file::LogFile;
+use d64_image::SECTORS;
+use std::alloc::Global;
+use std::io;
+
+/// Memory for an image.
+pub(crate) fn image_room(alloc: Global) -> io::Result<Vec<[u8; 256]>>
+    ensures { IfOk result (λ image. length image.items ≡ 683) }
+{
+    let mut image = Vec::new(alloc);
+    image.resize(SECTORS, [0; 256])?;
+    Ok(image)
+}
+
+/// Lands a log that is there, as `land` does. Returns the image that the folder gave, which IMAGE has now.
+pub fn land_in<F: LogFile, D: LogFolder<F>>(
+    alloc: Global,
+    folder: &mut D,
+) -> Result<Vec<[u8; 256]>, LogFault>
+    ensures sized { IfOk result (λ shop. length shop.items ≡ 683) }
+    ensures any_moment { (shops : List Image) (s : Folder) → D.history.held folder.old ≡ Some s → GivesOneOf shops s
+        → AllLeft D.history folder.old (GivesOneOf shops)
+        → LeavesFolders D.history folder.old folder.new (GivesOneOf shops) }
+    ensures ok { IfOk result (λ shop. (shops : List Image) (s : Folder) → D.history.held folder.old ≡ Some s
+        → GivesOneOf shops s → AllLeft D.history folder.old (GivesOneOf shops)
+        → RestsAlone D.history folder.new shop.items × Gives s shop.items) }
+    ensures refused { IfErr result (λ e. IsMisfit e → (s : Folder) → D.history.held folder.old ≡ Some s
+        → (D.history.held folder.new ≡ Some s) × ((given : Image) → Gives s given → ⊥)) }
+{
+    let mut now = image_room(alloc)?;
+    let mut shop = image_room(alloc)?;
+    match land(folder, now.as_mut_slice(), shop.as_mut_slice()) {
+        Ok(()) => Ok(shop),
+        Err(fault) => Err(fault),
+    }
+}
+
+/// Looks at an image through its log, as `view` does. Returns the image that the log gives, or None if there is no log.
+pub fn view_in<V: ViewsImage>(
+    alloc: Global,
+    folder: &mut V,
+) -> Result<Option<Vec<[u8; 256]>>, LogFault>
+    ensures sized { IfOk result (λ seen. IfSome seen (λ shop. length shop.items ≡ 683)) }
+    ensures some { IfOk result (λ seen. IfSome seen (λ shop. (s : Seen) → V.seen folder.old ≡ Some s
+        → IsLogViewed V.seen s folder.new shop.items)) }
+    ensures none { IfOk result (λ seen. seen ≡ None → (s : Seen) → V.seen folder.old ≡ Some s → s.log ≡ None) }
+    ensures refused { IfErr result (λ e. IsMisfit e → (s : Seen) → V.seen folder.old ≡ Some s
+        → (given : Image) → SeenGives s given → ⊥) }
+    ensures without { V.HasNoLog folder.old → IfOk result IsNone }
+{
+    let mut now = image_room(alloc)?;
+    let mut shop = image_room(alloc)?;
+    match view(folder, now.as_mut_slice(), shop.as_mut_slice()) {
+        Ok(true) => Ok(Some(shop)),
+        Ok(false) => Ok(None),
+        Err(fault) => Err(fault),
+    }
+}

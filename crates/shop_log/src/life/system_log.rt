@@ -1,0 +1,61 @@
+//! A log's file of the system.
+ghost use Rattle.shop_log.specs.life.Unknown.{unknown_file};
+ghost use Rattle.std.proofs.Props.{props};
+ghost use Rattle.image_file.specs.paths.Rights.{Look, May};
+
+use crate::log_file::LogFile;
+use image_file::{EndedFile, FileName, HostFiles, Stays};
+use std::cell::Cell;
+use std::fs::OpenFile;
+use std::io;
+
+/// A log's file, open. Once it has the name of the log, each sync checks that the name still leads to it. Nothing is known
+/// of what it holds: that it satisfies the contract of `LogFile` is trusted.
+#[derive(Drop)]
+pub struct SystemLog<'a, R: HostFiles> {
+    pub(crate) rt: &'a R,
+    // the log's name
+    pub(crate) name: &'a str,
+    pub(crate) file: R::File,
+    // whether it has the name
+    pub(crate) named: Cell<bool>,
+    // whether it is synced once it has the name
+    pub(crate) synced: bool,
+    // the log's name may be looked at
+    ghost looks: { May R.rights rt.now Look name.now } by { Prim.hlevel props },
+}
+
+impl<R: HostFiles> SystemLog<'_, R>
+where
+    R::File: OpenFile,
+{
+    /// An error if the log's name leads to another file, to none, or to one of another length.
+    fn see_name(&self) -> io::Result<()> {
+        if FileName::of(self.rt, self.name, &self.file)?.is_there() {
+            return Ok(());
+        }
+        Err(io::ErrorKind::NotFound.into())
+    }
+}
+
+impl<R: HostFiles> LogFile for SystemLog<'_, R>
+where
+    R::File: EndedFile + OpenFile,
+{
+    ghost history = { unknown_file };
+
+    fn write_at(&mut self, at: usize, bytes: &[u8]) -> io::Result<()> {
+        self.file.put_over(bytes, at as u64)
+    }
+
+    // its length never changes once it has the name, so then only the bytes are synced
+    fn sync(&mut self) -> io::Result<()> {
+        if !self.named.get() {
+            return self.file.sync_whole();
+        }
+        if self.synced {
+            self.file.sync_data()?;
+        }
+        self.see_name()
+    }
+}
