@@ -9,8 +9,8 @@ use Rattle.host_session.specs.declared.runs.event_loop.LoopFault.{LoopFault}
 use Rattle.host_session.specs.declared.runs.event_loop.LoopFault.TheVariants as loop
 use Rattle.host_session.specs.session.Opening.{Refuses}
 use Rattle.line_server.specs.Batches.{BatchInput}
-use Rattle.log_server.specs.Reporting.{LogOutput}
-use Rattle.log_server.specs.Serves.{IsServedOver}
+use Rattle.line_server.specs.logged.Reporting.{LogOutput}
+use Rattle.line_server.specs.logged.Serves.{IsServedOver}
 use Rattle.shop_commands.specs.Faults.{opening_fault}
 use Rattle.command_faults.specs.Faults.{IsLoadFault}
 use Rattle.command_faults.specs.declared.faults.CommandFault.{CommandFault}

@@ -5,7 +5,7 @@ use Rattle.command_faults.specs.declared.faults.CommandFault.TheVariants as faul
 use Rattle.shop_log.specs.life.Folders.{FolderHistory}
 use Rattle.shop_log.specs.declared.life.live_log.LiveLog.{LiveLog}
 use Rattle.line_server.specs.Batches.{BatchInput}
-use Rattle.log_server.specs.Reporting.{LogOutput}
+use Rattle.line_server.specs.logged.Reporting.{LogOutput}
 use Rattle.shop_log.specs.ImageLogs.{LogHistory}
 use Rattle.shop_log.specs.declared.log_file.LogFile.{Ghosts}
 use Rattle.ledger_jobs.specs.Changes.{IsLoggedEnd, IsServiceEnd}

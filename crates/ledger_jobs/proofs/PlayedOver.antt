@@ -15,9 +15,9 @@ use Rattle.line_server.proofs.LinesGiven.{all_handled}
 use Rattle.shop_log.specs.life.Folders.{FolderHistory}
 use Rattle.shop_log.specs.life.LiveLogs.{of_live}
 use Rattle.shop_log.specs.declared.life.live_log.LiveLog.{LiveLog}
-use Rattle.log_server.specs.Reporting.{IsToldTo, LogOutput}
-use Rattle.log_server.specs.Serves.{AreFirst, shop_behind}
-use Rattle.log_server.proofs.UnderWay.{as_many_replies}
+use Rattle.line_server.specs.logged.Reporting.{IsToldTo, LogOutput}
+use Rattle.line_server.specs.logged.Serves.{AreFirst, shop_behind}
+use Rattle.line_server.proofs.lemmas.logged.UnderWay.{as_many_replies}
 use Rattle.request_cards.specs.Ledgers.{replies}
 use Rattle.request_cards.specs.declared.reply.Reply.{Reply}
 use Rattle.line_text.specs.scripts.Lines.{lines}

@@ -15,8 +15,8 @@ use Rattle.line_server.specs.Batches.{BatchInput}
 use Rattle.shop_log.specs.life.Folders.{FolderHistory}
 use Rattle.shop_log.specs.life.LiveLogs.{of_live}
 use Rattle.shop_log.specs.declared.life.live_log.LiveLog.{LiveLog}
-use Rattle.log_server.proofs.UnderWay.{as_many_replies}
-use Rattle.log_server.specs.Reporting.{IsToldTo, of_output}
+use Rattle.line_server.proofs.lemmas.logged.UnderWay.{as_many_replies}
+use Rattle.line_server.specs.logged.Reporting.{IsToldTo, of_output}
 use Rattle.request_cards.specs.Ledgers.{replies, report}
 use Rattle.request_cards.specs.declared.reply.Reply.{Reply}
 use Rattle.line_text.specs.scripts.Lines.{lines}

@@ -6,8 +6,8 @@ use Rattle.host_session.specs.runs.Chains.{told_in}
 use Rattle.host_session.specs.shop.Shop.{IsSettled, IsShop, Shop, start_of}
 use Rattle.line_server.specs.Scripts.{of_script}
 use Rattle.line_server.specs.declared.scripts.ScriptBatches.{ScriptBatches}
-use Rattle.log_server.specs.Reporting.{LogOutput}
-use Rattle.log_server.specs.Serves.{shop_behind}
+use Rattle.line_server.specs.logged.Reporting.{LogOutput}
+use Rattle.line_server.specs.logged.Serves.{shop_behind}
 use Rattle.request_cards.specs.Ledgers.{replies}
 use Rattle.request_cards.specs.declared.reply.Reply.{Reply}
 use Rattle.line_text.specs.scripts.Lines.{first_reset, lines}

@@ -5,8 +5,8 @@ use Rattle.d64_image.specs.declared.mem_disk.MemDisk.{MemDisk}
 use Rattle.host_session.specs.declared.runs.event_loop.LoopFault.{LoopFault}
 use Rattle.host_session.specs.declared.runs.event_loop.LoopFault.TheVariants as loop
 use Rattle.line_server.specs.Batches.{BatchInput}
-use Rattle.log_server.specs.Reporting.{LogOutput}
-use Rattle.log_server.specs.Serves.{IsServedOver}
+use Rattle.line_server.specs.logged.Reporting.{LogOutput}
+use Rattle.line_server.specs.logged.Serves.{IsServedOver}
 use Rattle.shop_commands.specs.Shops.{IsOpenRefusal}
 use Rattle.command_faults.specs.declared.faults.CommandFault.{CommandFault}
 use Rattle.command_faults.specs.declared.faults.CommandFault.TheVariants as faults

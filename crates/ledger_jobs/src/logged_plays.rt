@@ -6,9 +6,8 @@ ghost use Rattle.command_faults.specs.declared.faults.CommandFault.TheVariants a
 
 use crate::logged_runs::serve_logged;
 use command_faults::CommandFault;
-use line_server::ScriptBatches;
+use line_server::{Reports, ScriptBatches};
 use line_text::first_reset_line;
-use log_server::Reports;
 use shop_log::ImageLog;
 use std::alloc::Global;
 

@@ -3,8 +3,7 @@ ghost use Rattle.ledger_jobs.specs.LoggedRuns.{IsLoggedRun};
 
 use crate::serving_files::told;
 use command_faults::{CommandFault, load};
-use line_server::BatchSource;
-use log_server::{Reports, Room, serve_batches};
+use line_server::{BatchSource, Reports, Room, serve_batches};
 use shop_log::ImageLog;
 use std::alloc::Global;
 

@@ -10,7 +10,7 @@ ghost use Rattle.ledger_jobs.specs.LoggedPlays.{IsLoggedPlay};
 ghost use Rattle.ledger_jobs.specs.Losses.{IsEndOfRun};
 ghost use Rattle.ledger_jobs.specs.Replies.{AreAnswered, AreReplyLines};
 ghost use Rattle.shop_log.specs.life.LiveLogs.{of_live};
-ghost use Rattle.log_server.specs.Serves.{shop_behind};
+ghost use Rattle.line_server.specs.logged.Serves.{shop_behind};
 ghost use Rattle.line_text.specs.scripts.Lines.{first_reset, lines};
 ghost use Rattle.ledger_jobs.specs.Rights.{MayChangeImage, MayReadText};
 
@@ -26,8 +26,8 @@ use crate::watched_files::served_end;
 use command_faults::CommandFault;
 use disk_layout::Fault;
 use image_file::{Durability, EndedFile, HostFiles, Locks, Stays};
+use line_server::Reports;
 use line_text::first_reset_line;
-use log_server::Reports;
 use shop_log::{LiveLog, LogFile, LogFolder, LogNames};
 use std::alloc::Global;
 use std::fs::OpenFile;

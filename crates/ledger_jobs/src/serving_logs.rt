@@ -9,7 +9,7 @@ ghost use Rattle.ledger_jobs.specs.Losses.{IsEndOfRun, IsGuarded};
 ghost use Rattle.ledger_jobs.specs.Replies.{IsLoggedService, IsToldAll, IsToldSome};
 ghost use Rattle.ledger_jobs.specs.WatchedFiles.{while_there};
 ghost use Rattle.shop_log.specs.life.LiveLogs.{of_live};
-ghost use Rattle.log_server.specs.Reporting.{of_output};
+ghost use Rattle.line_server.specs.logged.Reporting.{of_output};
 ghost use Rattle.ledger_jobs.specs.Rights.{MayChangeImage};
 ghost use Rattle.image_file.specs.paths.Rights.{Look, May, MayWrite, Remove};
 ghost use Rattle.shop_log.specs.life.LogRights.{MayKeepLogOf, making_of};

@@ -1,8 +1,9 @@
-pub mod Read
-pub mod Giving
-pub mod Batches
-pub mod Scripts
+pub mod logged
 pub mod Answering
-pub mod Inputs
+pub mod Batches
 pub mod Flushing
+pub mod Giving
+pub mod Inputs
+pub mod Read
+pub mod Scripts
 pub mod Serves

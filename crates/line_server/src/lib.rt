@@ -1,10 +1,13 @@
-//! A shop served line by line: each line is read, handled and answered before the next one is asked for.
+//! A shop served line by line: each line is read, handled and answered before the next one is asked for. Over a log
+//! the lines at hand are handled in memory, made durable by one sync, and then answered.
 #![tactic(auto)]
 
 mod answers;
 mod batches;
 mod flushing;
 mod inputs;
+// A shop served over a log: the lines at hand are handled in memory, made durable by one sync, and then answered.
+mod logged;
 mod reading;
 mod scripts;
 mod serving;
@@ -14,6 +17,9 @@ pub use answers::Answers;
 pub use batches::{BatchSource, MOST_LINES};
 pub use flushing::Flushing;
 pub use inputs::InputEvents;
+pub use logged::batching::serve_batches;
+pub use logged::reporting::Reports;
+pub use logged::room::Room;
 pub use scripts::ScriptBatches;
 pub use serving::serve;
 pub use sources::LineSource;

@@ -3,8 +3,8 @@ use Rattle.std.proofs.Common.{◌≡◌, ◌≤◌, ◌+◌, ℕ, List, [], ◌�
 use Rattle.std.proofs.lemmas.Bool.{cases_lt}
 use Rattle.d64_image.specs.Images.{Image}
 use Rattle.host_session.specs.shop.Shop.{IsShop, Shop}
-use Rattle.log_server.proofs.Lines.{behind_none}
-use Rattle.log_server.specs.Serves.{HoldsFirst, StayFrom, shop_behind}
+use Rattle.line_server.proofs.lemmas.logged.Lines.{behind_none}
+use Rattle.line_server.specs.logged.Serves.{HoldsFirst, StayFrom, shop_behind}
 use Rattle.request_cards.specs.declared.reply.Reply.{Reply}
 use Rattle.retry_over_log.specs.RetrySafeOver.{AreKept}
 use Rattle.shop_log.specs.ImageLogs.{LogHistory}

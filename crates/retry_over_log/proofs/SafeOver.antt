@@ -19,9 +19,9 @@ use Rattle.host_session.specs.session.Handling.{after_of}
 use Rattle.host_session.specs.session.Opening.{IsAShop, Refuses}
 use Rattle.host_session.specs.shop.Shop.{IsSettled, IsShop, Shop, start_of, with_state}
 use Rattle.line_server.specs.Batches.{BatchInput}
-use Rattle.log_server.proofs.UnderWay.{as_many_replies}
-use Rattle.log_server.specs.Reporting.{LogOutput}
-use Rattle.log_server.specs.Serves.{IsServedOver, shop_behind}
+use Rattle.line_server.proofs.lemmas.logged.UnderWay.{as_many_replies}
+use Rattle.line_server.specs.logged.Reporting.{LogOutput}
+use Rattle.line_server.specs.logged.Serves.{IsServedOver, shop_behind}
 use Rattle.request_cards.proofs.Plain.{message_more}
 use Rattle.request_cards.specs.Ledgers.{plain, reply}
 use Rattle.request_cards.specs.Reading.{request_of}

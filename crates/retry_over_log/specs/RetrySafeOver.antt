@@ -11,8 +11,8 @@ use Rattle.host_session.specs.runs.Chains.{told_in}
 use Rattle.host_session.specs.shop.Shop.{IsSettled, IsShop, Shop, start_of, with_state}
 use Rattle.line_server.specs.Batches.{BatchInput}
 use Rattle.line_server.specs.Read.{AreWhole, LacksLf}
-use Rattle.log_server.specs.Reporting.{IsToldTo, LogOutput}
-use Rattle.log_server.specs.Serves.{AreFirst}
+use Rattle.line_server.specs.logged.Reporting.{IsToldTo, LogOutput}
+use Rattle.line_server.specs.logged.Serves.{AreFirst}
 use Rattle.request_cards.specs.Ledgers.{plain, replies, reply}
 use Rattle.request_cards.specs.Reading.{request_of}
 use Rattle.request_cards.specs.Requests.{Ask}

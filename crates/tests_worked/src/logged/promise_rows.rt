@@ -4,7 +4,7 @@ use crate::disks::fresh;
 use crate::logged::logs::begun;
 use d64_image::{ImageFault, MemDisk};
 use host_session::PlayFault;
-use log_server::Room;
+use line_server::Room;
 use request_cards::Reply;
 use retry_over_log::{PowerLoss, retry_after_log_loss};
 use shop_log::{ImageLog, MemLog};

@@ -5,7 +5,7 @@ use crate::logged::talks::{Heard, Talk};
 use d64_image::MemDisk;
 use disk_layout::blank_image;
 use host_session::{LoopFault, Printer, Session};
-use log_server::{Room, serve_batches};
+use line_server::{Room, serve_batches};
 use shop_log::{Log, MemLog, recover};
 use std::cell::Cell;
 use std::process::Abort;

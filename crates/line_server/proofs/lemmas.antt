@@ -1,0 +1,2 @@
+-- The lemmas, by what they are about.
+pub mod logged

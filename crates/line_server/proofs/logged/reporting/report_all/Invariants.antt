@@ -1,0 +1,7 @@
+-- The replies so far.
+use Rattle.std.proofs.Common.{take}
+use Rattle.line_server.proofs.lemmas.logged.Reported.{AllTold}
+use Rattle.line_server.proofs.logged.reporting.report_all.Given as goal
+
+abbrev pub invariant-loop-reply : goal.invariant-loop-reply
+invariant-loop-reply g l = AllTold (g.T.Reports.output) l.log l.fn.out l.out (take l.reply-index l.replies)

@@ -1,7 +1,0 @@
--- The replies so far.
-use Rattle.std.proofs.Common.{take}
-use Rattle.log_server.proofs.Reported.{AllTold}
-use Rattle.log_server.proofs.reporting.report_all.Given as goal
-
-abbrev pub invariant-loop-reply : goal.invariant-loop-reply
-invariant-loop-reply g l = AllTold (g.T.Reports.output) l.log l.fn.out l.out (take l.reply-index l.replies)
