@@ -1,12 +1,11 @@
 //! The job that words ask for, printed in a line.
 use crate::runs::texts_of;
-use command_line::command_line;
 use disk_pictures::View;
 use disk_reports::NameForm;
 use file_changes::FileType;
 use image_file::Durability;
 use keeper_commands::{ByteForm, Candidates, Choice, ColumnForm, RecordForm};
-use ledger_cli::{Job, job};
+use ledger_cli::{Job, command_line, job};
 use ledger_jobs::{Columns, Drawing, Effect, Findings, Loss, Name, Overview, Taking, Unowned, Way};
 use line_text::CharacterSet;
 use std::alloc::Global;

@@ -41,7 +41,7 @@ use crate::jobs::asked;
 use crate::leavings::{is_told, sees};
 use crate::runs::ran;
 use crate::texts::{cut, number_of, text_in, text_of, words_of};
-use command_line::{Audience, program};
+use ledger_cli::{Audience, program};
 use std::cell::Cell;
 use std::process::Abort;
 use test_runtime::{Errors, Kind, Memory, Others, Runtime, Stored};

@@ -1,0 +1,42 @@
+-- Without --json images are viewed, and with it those of the words are described.
+use Rattle.std.proofs.Common.{◌≡◌, ◌∙◌, Bor, List, Option, Result, Some, [], ap, inl, inr, subst, sym, true}
+use Rattle.std.specs.Prelude.{codes, map, option_map, unwrap_or}
+use Rattle.clap.specs.Words.{Row, Text, all_of, found_of, rows_of}
+use Rattle.command_table.specs.Grammar.{values}
+use Rattle.ledger_cli.specs.Images.{AreDescribed, IsCheckJob, IsDescribing, IsOverviewJob}
+use Rattle.ledger_cli.specs.Flags.{is_given}
+use Rattle.ledger_jobs.specs.declared.jobs.Findings.{Findings}
+use Rattle.ledger_jobs.specs.declared.jobs.Job.{Job}
+use Rattle.ledger_jobs.specs.declared.jobs.Overview.TheVariants as overviews
+use Rattle.ledger_cli.specs.declared.faults.JobFault.{JobFault}
+use Rattle.ledger_cli.proofs.images.checking.Goals as goal
+
+given-values : (o : Option (Bor (List (Bor Text)))) (given : Bor (List (Bor Text))) (rows : Option (List Text))
+    → o ≡ Some given → option_map (λ (s : Bor (List (Bor Text))). map (λ (v : Bor Text). v.now) s.now) o ≡ rows
+    → map (λ (v : Bor Text). v.now) given.now ≡ unwrap_or rows []
+given-values o given rows is told =
+    ap (λ (t : Option (Bor (List (Bor Text)))). unwrap_or
+    (option_map (λ (s : Bor (List (Bor Text))). map (λ (v : Bor Text). v.now) s.now) t) []) (sym is)
+    ∙ ap (λ (r : Option (List Text)). unwrap_or r []) told
+
+described-met : (rows : List Row) (images : List (Bor Text)) (r : Result Job JobFault)
+    → is_given (codes "json") rows ≡ true
+    → map (λ (v : Bor Text). v.now) images ≡ values (codes "IMAGE") rows → IsDescribing images r → IsCheckJob rows r
+described-met rows images r given told (inl (all, same, items)) =
+    inr (inl (all, same, subst (AreDescribed rows) (sym items) (given, told)))
+described-met rows images r given told (inr none) = inr (inr none)
+
+pub returns-then-not-is_given : goal.returns-then-not-is_given
+returns-then-not-is_given c =
+    let rows = rows_of (found_of c.args.matches.now) in
+    inl (
+      sym c.is_given.ensures ∙ c.if-not-is_given.true,
+      subst (λ (what : Findings). IsOverviewJob rows (overviews.Check what) c.viewing.result) c.findings.ensures c.viewing.ensures,
+    )
+
+pub returns : goal.returns
+returns c =
+    let rows = rows_of (found_of c.args.matches.now) in
+    described-met rows c.in-Some.images.now c.described.result (sym c.is_given.ensures ∙ c.if-not-is_given.false)
+    (given-values c.values_of.result c.in-Some.images (all_of (codes "IMAGE") rows) c.in-Some.is c.values_of.ensures)
+    c.described.ensures

@@ -1,0 +1,13 @@
+-- The bytes that have the text are no new file's name, and no others have it.
+use Rattle.std.proofs.Common.{◌≡◌, ◌∙◌, subst, sym}
+use Rattle.std.proofs.lemmas.Bool.{false≢true}
+use Rattle.line_text.proofs.lemmas.bytes.Texts.{one-text}
+use Rattle.keeper_commands.specs.Makes.{IsNewName}
+use Rattle.ledger_jobs.specs.Names.{name_bytes}
+use Rattle.ledger_cli.proofs.names.new_name.Goals as goal
+
+pub returns-then-not-is_new-clause-none : goal.returns-then-not-is_new-clause-none
+returns-then-not-is_new-clause-none c = λ none bytes are name new.
+    let same : name_bytes c.in_ok-name.name ≡ bytes = one-text (name_bytes c.in_ok-name.name) bytes
+    (sym c.in_ok-name.ensures.found.is ∙ name.is) in
+    false≢true (sym c.if-not-is_new.true ∙ c.is_new.ensures.1 (subst IsNewName (sym same) new))

@@ -1,0 +1,221 @@
+-- The job is that of the subcommand that was met, with the values of its arguments.
+use Rattle.std.proofs.Common.{[], ap, inl, inr, refl, subst, sym, ◌∙◌}
+use Rattle.std.specs.Prelude.{IfOk, MatchResult, codes}
+use Rattle.clap.specs.Words.{found_of, rows_of, subcommand_rows_of}
+use Rattle.line_text.specs.Numbers.{number_in}
+use Rattle.ledger_jobs.specs.declared.jobs.Job.TheVariants as jobs
+use Rattle.ledger_jobs.specs.declared.jobs.Overview.TheVariants as overviews
+use Rattle.ledger_jobs.specs.declared.jobs.Taking.TheVariants as takings
+use Rattle.ledger_jobs.specs.Jobs.{IsFit}
+use Rattle.ledger_cli.specs.Jobs.{IsJob, IsNoJob}
+use Rattle.ledger_cli.specs.Flags.{is_given}
+use Rattle.ledger_cli.specs.Numbers.{spelled_place}
+use Rattle.ledger_cli.proofs.Pictures.{picturing-met}
+use Rattle.ledger_cli.proofs.Named.{making-met, named-met, new-met, putting-met, records-met, renaming-met}
+use Rattle.ledger_cli.proofs.Named.{storing-met}
+use Rattle.ledger_cli.proofs.Parses.{format-fit, format-met, met-has, met-is, play-met}
+use Rattle.ledger_cli.proofs.Parses.{repair-fit, repair-met}
+use Rattle.ledger_cli.proofs.Views.{checking-met, viewing-met}
+use Rattle.ledger_cli.proofs.words.job_of.Goals as goal
+
+pub returns-in_default : goal.returns-in_default
+returns-in_default c = record { job = inl c.from.ensures; fit = tt }
+
+pub returns-in_default-name : goal.returns-in_default-name
+returns-in_default-name c = record { job = inl c.from-in_default-name.ensures; fit = tt }
+
+pub returns-in-Some-tills_of : goal.returns-in-Some-tills_of
+returns-in-Some-tills_of c =
+    let new = is_given (codes "new") (rows_of (found_of c.in-Some.found.now)) in
+    let is = met-is c.parsed_subcommand.result _ c.in-Some.name c.in-Some.found _ c.parsed_subcommand.ensures c.in-Some.is c.in-format.is in
+    let fits = format-fit c.value_of-image.result _ new c.in-Some-tills_of.ensures.range in
+    record {
+      job = subst (IsJob _) (sym c.formatting.ensures) (format-met _ _ c.value_of-image.result _ new refl is
+          c.value_of-image.ensures
+          (ap (number_in 1 64) (sym c.value_of.ensures) ∙ sym c.in-Some-tills_of.ensures.exact));
+      fit = subst IsFit (sym c.formatting.ensures) fits;
+    }
+
+pub returns-in-None : goal.returns-in-None
+returns-in-None c = record {
+  job = (
+    refl,
+    met-has c.parsed_subcommand.result _ c.in-Some.name c.in-Some.found _ _ c.parsed_subcommand.ensures c.in-Some.is c.in-format.is
+        (ap (number_in 1 64) (sym c.value_of.ensures) ∙ sym c.in-None.ensures.exact),
+  );
+  fit = tt;
+}
+
+pub returns-in-list : goal.returns-in-list
+returns-in-list c =
+    let met = viewing-met c.parsed_subcommand.result _ c.in-Some.name c.in-Some.found (overviews.List c.name_form.result)
+    c.viewing.result c.parsed_subcommand.ensures c.in-Some.is c.in-list.is c.name_form.ensures c.viewing.ensures in
+    record { job = met.0; fit = met.1 }
+
+pub returns-in-check : goal.returns-in-check
+returns-in-check c =
+    let met = checking-met c.parsed_subcommand.result _ c.in-Some.name c.in-Some.found c.checking.result
+    c.parsed_subcommand.ensures c.in-Some.is c.in-check.is c.checking.ensures in
+    record { job = met.0; fit = met.1 }
+
+pub returns-in-show : goal.returns-in-show
+returns-in-show c = record {
+  job = met-has c.parsed_subcommand.result _ c.in-Some.name c.in-Some.found _ _ c.parsed_subcommand.ensures c.in-Some.is c.in-show.is
+      c.value_of-image.ensures;
+  fit = tt;
+}
+
+pub returns-in-play : goal.returns-in-play
+returns-in-play c =
+    let rows = rows_of (found_of c.in-Some.found.now) in
+    let is = met-is c.parsed_subcommand.result _ c.in-Some.name c.in-Some.found _ c.parsed_subcommand.ensures c.in-Some.is c.in-play.is in
+    let found = subcommand_rows_of c.args.matches.now in
+    let met = play-met found rows c.value_of-image.result c.value_of-script.result (is_given (codes "sync") rows)
+    (is_given (codes "log") rows) refl refl is c.value_of-image.ensures c.value_of-script.ensures in
+    record {
+      job = subst (λ r. MatchResult r (IsJob found) (IsNoJob [] found)) (sym c.playing.ensures) met.0;
+      fit = subst (λ r. IfOk r IsFit) (sym c.playing.ensures) met.1;
+    }
+
+pub returns-in-dry : goal.returns-in-dry
+returns-in-dry c = record {
+  job = met-has c.parsed_subcommand.result _ c.in-Some.name c.in-Some.found _ _ c.parsed_subcommand.ensures c.in-Some.is c.in-dry.is
+      c.value_of-script.ensures;
+  fit = tt;
+}
+
+pub returns-in-serve : goal.returns-in-serve
+returns-in-serve c = record {
+  job = met-has c.parsed_subcommand.result _ c.in-Some.name c.in-Some.found _ _ c.parsed_subcommand.ensures c.in-Some.is c.in-serve.is
+      (c.value_of-image.ensures, c.way.ensures, c.serve_durability.ensures, c.loss.ensures);
+  fit = tt;
+}
+
+pub returns-in-copy : goal.returns-in-copy
+returns-in-copy c = record {
+  job = met-has c.parsed_subcommand.result _ c.in-Some.name c.in-Some.found _ _ c.parsed_subcommand.ensures c.in-Some.is c.in-copy.is
+      (c.value_of-image.ensures, c.value_of-in-copy.ensures);
+  fit = tt;
+}
+
+pub returns-in-extract : goal.returns-in-extract
+returns-in-extract c = record {
+  job = met-has c.parsed_subcommand.result _ c.in-Some.name c.in-Some.found _ _ c.parsed_subcommand.ensures c.in-Some.is c.in-extract.is
+      (c.value_of-image.ensures, c.value_of-in-extract.ensures, c.choice.ensures);
+  fit = tt;
+}
+
+pub returns-in-repair : goal.returns-in-repair
+returns-in-repair c =
+    let rows = rows_of (found_of c.in-Some.found.now) in
+    let sides = is_given (codes "sides") rows in
+    let is = met-is c.parsed_subcommand.result _ c.in-Some.name c.in-Some.found _ c.parsed_subcommand.ensures c.in-Some.is c.in-repair.is in
+    record {
+      job = subst (IsJob _) (sym c.repairing.ensures) (repair-met _ rows c.value_of-image.result sides refl is
+          c.value_of-image.ensures);
+      fit = subst IsFit (sym c.repairing.ensures) (repair-fit rows c.value_of-image.result sides);
+    }
+
+pub returns-in-records : goal.returns-in-records
+returns-in-records c =
+    let rows = rows_of (found_of c.in-Some.found.now) in
+    let is = met-is c.parsed_subcommand.result _ c.in-Some.name c.in-Some.found _ c.parsed_subcommand.ensures c.in-Some.is c.in-records.is in
+    let met = records-met _ rows c.value_of-image.result c.taking_records.result is c.value_of-image.ensures
+    c.taking_records.ensures in
+    record { job = met.0; fit = met.1 }
+
+pub returns-in-bytes : goal.returns-in-bytes
+returns-in-bytes c =
+    let rows = rows_of (found_of c.in-Some.found.now) in
+    let is = met-is c.parsed_subcommand.result _ c.in-Some.name c.in-Some.found _ c.parsed_subcommand.ensures c.in-Some.is c.in-bytes.is in
+    let met = named-met _ rows (jobs.Take (takings.Bytes c.byte_form.result c.candidates.result) c.value_of-image.result) c.taking.result
+    (λ name at. record { rows = rows; is = is; holds = (c.value_of-image.ensures, at, (c.byte_form.ensures, c.candidates.ensures)) }) (λ name. tt)
+    (λ missing. inl (takings.Bytes c.byte_form.result c.candidates.result, record { rows = rows; is = is; holds = missing })) c.taking.ensures in
+    record { job = met.0; fit = met.1 }
+
+pub returns-in-make : goal.returns-in-make
+returns-in-make c =
+    let is = met-is c.parsed_subcommand.result _ c.in-Some.name c.in-Some.found _ c.parsed_subcommand.ensures c.in-Some.is c.in-make.is in
+    let met = making-met _ (rows_of (found_of c.in-Some.found.now)) c.value_of-image.result c.making.result is c.value_of-image.ensures
+    c.making.ensures in
+    record { job = met.0; fit = met.1 }
+
+pub returns-in-store : goal.returns-in-store
+returns-in-store c =
+    let is = met-is c.parsed_subcommand.result _ c.in-Some.name c.in-Some.found _ c.parsed_subcommand.ensures c.in-Some.is c.in-store.is in
+    let met = storing-met _ (rows_of (found_of c.in-Some.found.now)) c.value_of-image.result c.storing.result is c.value_of-image.ensures
+    c.storing.ensures in
+    record { job = met.0; fit = met.1 }
+
+pub returns-in-put : goal.returns-in-put
+returns-in-put c =
+    let is = met-is c.parsed_subcommand.result _ c.in-Some.name c.in-Some.found _ c.parsed_subcommand.ensures c.in-Some.is c.in-put.is in
+    let met = putting-met _ (rows_of (found_of c.in-Some.found.now)) c.value_of-image.result c.putting.result is c.value_of-image.ensures
+    c.putting.ensures in
+    record { job = met.0; fit = met.1 }
+
+pub returns-in-rename : goal.returns-in-rename
+returns-in-rename c =
+    let is = met-is c.parsed_subcommand.result _ c.in-Some.name c.in-Some.found _ c.parsed_subcommand.ensures c.in-Some.is c.in-rename.is in
+    let met = renaming-met _ (rows_of (found_of c.in-Some.found.now)) c.value_of-image.result c.renaming.result is c.value_of-image.ensures
+    c.renaming.ensures in
+    record { job = met.0; fit = met.1 }
+
+pub returns-in-delete : goal.returns-in-delete
+returns-in-delete c =
+    let rows = rows_of (found_of c.in-Some.found.now) in
+    let is = met-is c.parsed_subcommand.result _ c.in-Some.name c.in-Some.found _ c.parsed_subcommand.ensures c.in-Some.is c.in-delete.is in
+    let met = named-met _ rows (jobs.Delete c.value_of-image.result) c.deleting.result
+    (λ name at. record { rows = rows; is = is; holds = (c.value_of-image.ensures, at) }) (λ name. tt)
+    (λ missing. inr (inr (inr (inl (record { rows = rows; is = is; holds = missing }))))) c.deleting.ensures in
+    record { job = met.0; fit = met.1 }
+
+pub returns-in-new : goal.returns-in-new
+returns-in-new c =
+    let is = met-is c.parsed_subcommand.result _ c.in-Some.name c.in-Some.found _ c.parsed_subcommand.ensures c.in-Some.is c.in-new.is in
+    let met = new-met _ (rows_of (found_of c.in-Some.found.now)) c.value_of-image.result c.empty_disk.result is c.value_of-image.ensures
+    c.empty_disk.ensures in
+    record { job = met.0; fit = met.1 }
+
+pub returns-in-map : goal.returns-in-map
+returns-in-map c =
+    let met = viewing-met c.parsed_subcommand.result _ c.in-Some.name c.in-Some.found overviews.Map c.viewing-in-map.result
+    c.parsed_subcommand.ensures c.in-Some.is c.in-map.is tt c.viewing-in-map.ensures in
+    record { job = met.0; fit = met.1 }
+
+pub returns-in-picture : goal.returns-in-picture
+returns-in-picture c =
+    let met = picturing-met c.parsed_subcommand.result _ c.in-Some.name c.in-Some.found c.picturing.result
+    c.parsed_subcommand.ensures c.in-Some.is c.in-picture.is c.picturing.ensures in
+    record { job = met.0; fit = met.1 }
+
+pub returns-in-free : goal.returns-in-free
+returns-in-free c = record {
+  job = met-has c.parsed_subcommand.result _ c.in-Some.name c.in-Some.found _ _ c.parsed_subcommand.ensures c.in-Some.is c.in-free.is
+      (c.value_of-image.ensures, tt);
+  fit = tt;
+}
+
+pub returns-in-Some-place_of : goal.returns-in-Some-place_of
+returns-in-Some-place_of c = record {
+  job = met-has c.parsed_subcommand.result _ c.in-Some.name c.in-Some.found _ _ c.parsed_subcommand.ensures c.in-Some.is c.in-sector.is
+      (c.value_of-image.ensures, ap spelled_place (sym c.value_of-in-sector.ensures) ∙ sym c.in-Some-place_of.ensures);
+  fit = tt;
+}
+
+pub returns-in-None-place_of : goal.returns-in-None-place_of
+returns-in-None-place_of c = record {
+  job = (
+    refl,
+    met-has c.parsed_subcommand.result _ c.in-Some.name c.in-Some.found _ _ c.parsed_subcommand.ensures c.in-Some.is c.in-sector.is
+        (ap spelled_place (sym c.value_of-in-sector.ensures) ∙ sym c.in-None-place_of.ensures),
+  );
+  fit = tt;
+}
+
+pub returns-in-trim : goal.returns-in-trim
+returns-in-trim c = record {
+  job = met-has c.parsed_subcommand.result _ c.in-Some.name c.in-Some.found _ _ c.parsed_subcommand.ensures c.in-Some.is c.in-trim.is
+      c.value_of-image.ensures;
+  fit = tt;
+}

@@ -1,0 +1,136 @@
+-- The forms that the words ask for. Our own.
+use Rattle.std.specs.Prelude.{◌≡◌, false, List, Option, Some, None, Result, Ok, Err, codes, if◌then◌else◌, ⊤}
+use Rattle.std.specs.Borrow.{Bor}
+use Rattle.clap.specs.Words.{Row, Text}
+use Rattle.image_file.specs.declared.durability.Durability.{Durability}
+use Rattle.ledger_jobs.specs.declared.jobs.Effect.{Effect}
+use Rattle.ledger_jobs.specs.declared.jobs.Job.{Job}
+use Rattle.ledger_jobs.specs.declared.jobs.Overview.{Overview}
+use Rattle.ledger_jobs.specs.declared.jobs.Loss.{Loss}
+use Rattle.ledger_jobs.specs.declared.jobs.Taking.{Taking}
+use Rattle.ledger_jobs.specs.declared.jobs.Unowned.{Unowned}
+use Rattle.ledger_jobs.specs.declared.jobs.Way.{Way}
+use Rattle.keeper_commands.specs.declared.rescue.choices.Choice.{Choice}
+use Rattle.keeper_commands.specs.declared.finding.Candidates.{Candidates}
+use Rattle.keeper_commands.specs.declared.forms.ByteForm.{ByteForm}
+use Rattle.keeper_commands.specs.declared.forms.RecordForm.{RecordForm}
+use Rattle.ledger_jobs.specs.declared.jobs.Columns.{Columns}
+use Rattle.ledger_jobs.specs.declared.jobs.Findings.{Findings}
+use Rattle.line_text.specs.declared.petscii.characters.CharacterSet.{CharacterSet}
+use Rattle.line_text.specs.declared.petscii.characters.CharacterSet.TheVariants.{Graphics, Mixed}
+use Rattle.disk_reports.specs.declared.texts.NameForm.{NameForm}
+use Rattle.ledger_cli.specs.Flags.{is_given}
+use Rattle.ledger_cli.specs.Positions.{AsksForColumns, AsksForNone, HasNoColumns}
+use Rattle.ledger_cli.specs.declared.faults.JobFault.{JobFault}
+use Rattle.image_file.specs.declared.durability.Durability.TheVariants as durabilities
+use Rattle.ledger_jobs.specs.declared.jobs.Effect.TheVariants as effects
+use Rattle.ledger_jobs.specs.declared.jobs.Job.TheVariants as jobs
+use Rattle.ledger_jobs.specs.declared.jobs.Overview.TheVariants as overviews
+use Rattle.ledger_jobs.specs.declared.jobs.Loss.TheVariants as losses
+use Rattle.ledger_jobs.specs.declared.jobs.Taking.TheVariants as takings
+use Rattle.ledger_jobs.specs.declared.jobs.Unowned.TheVariants as unowneds
+use Rattle.ledger_jobs.specs.declared.jobs.Way.TheVariants as ways
+use Rattle.keeper_commands.specs.declared.finding.Candidates.TheVariants.{All, Closed}
+use Rattle.keeper_commands.specs.declared.forms.ByteForm.TheVariants as bytes
+use Rattle.keeper_commands.specs.declared.forms.RecordForm.TheVariants as records
+use Rattle.ledger_jobs.specs.declared.jobs.Columns.TheVariants as columns
+use Rattle.ledger_jobs.specs.declared.jobs.Findings.TheVariants as findings
+use Rattle.disk_reports.specs.declared.texts.NameForm.TheVariants as names
+
+-- the set of the text that is asked for: with --mixed the one with small letters, with only --text the other
+abbrev pub set_in : List Row → Option CharacterSet
+set_in rows =
+    if is_given (codes "mixed") rows then Some Mixed
+    else (if is_given (codes "text") rows then Some Graphics else None)
+
+-- the form with this text, or the one that is printed without
+abbrev pub record_form : Option CharacterSet → RecordForm
+record_form None = records.Lines
+record_form (Some set) = records.Text set
+
+-- the form of bytes with this text, or the one that is printed without
+abbrev pub byte_form : Option CharacterSet → ByteForm
+byte_form None = bytes.Plain
+byte_form (Some set) = bytes.Text set
+
+-- the form of names with this text, or the one that is printed without
+abbrev pub name_form : Option CharacterSet → NameForm
+name_form None = names.Ascii
+name_form (Some set) = names.Text set
+
+-- the words ask for this form of records: with several columns, or without, and then maybe as text
+abbrev pub IsRecordForm : List Row → RecordForm → Type 0
+IsRecordForm rows (records.Columns form) = AsksForColumns rows form
+IsRecordForm rows form = AsksForNone rows × (form ≡ record_form (set_in rows))
+
+-- the columns that records are read in
+abbrev pub AreColumns : List Row → Columns → Type 0
+AreColumns rows columns.One = AsksForNone rows
+AreColumns rows (columns.Several form) = AsksForColumns rows form
+
+-- the form of records that the words ask for, or why there is none
+abbrev pub IsAskedForm : List Row → Result RecordForm JobFault → Type 0
+IsAskedForm rows (Ok form) = IsRecordForm rows form
+IsAskedForm rows (Err fault) = HasNoColumns rows fault
+
+-- the columns that records are read in, or why there are none
+abbrev pub AreAskedColumns : List Row → Result Columns JobFault → Type 0
+AreAskedColumns rows (Ok columns) = AreColumns rows columns
+AreAskedColumns rows (Err fault) = HasNoColumns rows fault
+
+-- the form of bytes that the flags ask for
+abbrev pub byte_form_in : List Row → ByteForm
+byte_form_in rows = byte_form (set_in rows)
+
+-- which files may be found by their name: closed ones, but with --unclosed all
+abbrev pub candidates_in : List Row → Candidates
+candidates_in rows = if is_given (codes "unclosed") rows then All else Closed
+
+-- which entries are taken out: with --scan those of other sectors too, with --deleted the deleted ones too
+abbrev pub choice_in : List Row → Choice
+choice_in rows = record { scanned = is_given (codes "scan") rows; deleted = is_given (codes "deleted") rows }
+
+-- the form of names that the flags ask for
+abbrev pub name_form_in : List Row → NameForm
+name_form_in rows = name_form (set_in rows)
+
+-- which faults the flags ask for: the first, but with --all all of them
+abbrev pub findings_in : List Row → Findings
+findings_in rows = if is_given (codes "all") rows then findings.All else findings.First
+
+-- to which file the requests of a shop that is served are synced first: to a log, but with --in-place to the image itself
+abbrev pub way_in : List Row → Way
+way_in rows = if is_given (codes "in-place") rows then ways.InPlace else ways.OverLog
+
+-- when what is served is synced: before each reply, or with --unsynced when the operating system does it
+abbrev pub serve_durability : List Row → Durability
+serve_durability rows = if is_given (codes "unsynced") rows then durabilities.AtEnd else durabilities.EachSector
+
+-- what is done if a disk has lost a part of a file: the job is refused, but with --accept-loss it goes on
+abbrev pub loss_in : List Row → Loss
+loss_in rows = if is_given (codes "accept-loss") rows then losses.Accepted else losses.Refused
+
+-- what a repair does with sectors that are taken and no file's: they are kept, but with --free they are freed
+abbrev pub unowned_in : List Row → Unowned
+unowned_in rows = if is_given (codes "free") rows then unowneds.Freed else unowneds.Kept
+
+-- whether it writes the image: it does, but with --dry-run it only prints
+abbrev pub effect_in : List Row → Effect
+effect_in rows = if is_given (codes "dry-run") rows then effects.Printed else effects.Written
+
+-- the job that repairs an image: with --sides its side sectors are built anew first
+abbrev pub repair_job : List Row → Bor Text → Job
+repair_job rows image =
+    if is_given (codes "sides") rows then jobs.RepairSides image (loss_in rows) (unowned_in rows) (effect_in rows)
+    else jobs.Repair image (loss_in rows) (unowned_in rows) (effect_in rows)
+
+-- the flags ask for what is taken in this form, and of these files
+abbrev pub IsTakenBy : Taking → List Row → Type 0
+IsTakenBy (takings.Records form candidates) rows = IsRecordForm rows form × (candidates ≡ candidates_in rows)
+IsTakenBy (takings.Bytes form candidates) rows = (form ≡ byte_form_in rows) × (candidates ≡ candidates_in rows)
+
+-- the flags ask for this overview; with --json `check` describes images in place of it
+abbrev pub IsViewedBy : Overview → List Row → Type 0
+IsViewedBy (overviews.List form) rows = form ≡ name_form_in rows
+IsViewedBy (overviews.Check what) rows = (is_given (codes "json") rows ≡ false) × (what ≡ findings_in rows)
+IsViewedBy _ rows = ⊤

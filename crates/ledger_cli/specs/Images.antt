@@ -1,0 +1,142 @@
+-- The images that the words give, and what is printed of them. Our own.
+use Rattle.std.specs.Prelude.{◌≡◌, ◌≢◌, ◌≤◌, ◌<◌, ◌⊎◌, ◌&&◌, ◌||◌, Bool, true, false, List, Result, Ok, Err, [], ◌∷◌}
+use Rattle.std.specs.Prelude.{codes, if◌then◌else◌, length, map, vec_items, Vec}
+use Rattle.std.specs.Borrow.{Bor}
+use Rattle.std.specs.declared.alloc.Global.{Global}
+use Rattle.clap.specs.declared.error.Error.{Error}
+use Rattle.clap.specs.Words.{HasKind, Row, Text}
+use Rattle.command_table.specs.Grammar.{value, values}
+use Rattle.ledger_jobs.specs.declared.jobs.Drawing.{Drawing}
+use Rattle.ledger_jobs.specs.declared.jobs.Job.{Job}
+use Rattle.ledger_jobs.specs.declared.jobs.Overview.{Overview}
+use Rattle.ledger_cli.specs.declared.faults.JobFault.{JobFault}
+use Rattle.ledger_cli.specs.Forms.{findings_in}
+use Rattle.ledger_cli.specs.Flags.{is_given}
+use Rattle.ledger_jobs.specs.declared.jobs.Drawing.TheVariants as drawings
+use Rattle.ledger_jobs.specs.declared.jobs.Job.TheVariants as jobs
+use Rattle.ledger_jobs.specs.declared.jobs.Overview.TheVariants as overviews
+use Rattle.ledger_cli.specs.declared.faults.JobFault.TheVariants as faults
+
+-- the subcommand that draws an image so
+abbrev pub word_of_drawing : Drawing → Text
+word_of_drawing drawings.Map = codes "map"
+word_of_drawing drawings.Picture = codes "picture"
+word_of_drawing drawings.Poster = codes "picture"
+
+-- the job that draws an image for other eyes than a terminal's: with --svg as a poster
+abbrev pub picture_job : List Row → Bor Text → Job
+picture_job rows image =
+    if is_given (codes "svg") rows then jobs.Draw drawings.Poster image else jobs.Draw drawings.Picture image
+
+-- neither a sheet nor a comparison is asked for, and there is one image
+abbrev pub IsForOne : List Row → Type 0
+IsForOne rows = (is_given (codes "sheet") rows ≡ false) × (is_given (codes "compare") rows ≡ false)
+    × (length (values (codes "IMAGE") rows) < 2)
+
+-- two of --svg, --sheet and --compare are given
+abbrev pub has_two_forms : List Row → Bool
+has_two_forms rows =
+    (is_given (codes "svg") rows && (is_given (codes "sheet") rows || is_given (codes "compare") rows))
+    || (is_given (codes "sheet") rows && is_given (codes "compare") rows)
+
+-- these two are the images that are to be compared, before and after, and no other form is asked for
+abbrev pub AreCompared : List Row → (before after : Text) → Type 0
+AreCompared rows before after = (has_two_forms rows ≡ false) × (is_given (codes "compare") rows ≡ true)
+    × (values (codes "IMAGE") rows ≡ before ∷ after ∷ [])
+
+-- these are the images, in their order, for a sheet that has room for them, and no other form is asked for
+abbrev pub AreOnSheet : List Row → List (Bor Text) → Type 0
+AreOnSheet rows images = (has_two_forms rows ≡ false) × (is_given (codes "sheet") rows ≡ true)
+    × (map (λ image. image.now) images ≡ values (codes "IMAGE") rows) × (length images ≤ 400)
+
+-- there are several images and neither a sheet nor a comparison is asked for; or more than a sheet has room for, or not
+-- two to be compared; or two forms are asked for
+abbrev pub IsNoPicture : List Row → Type 0
+IsNoPicture rows =
+    ((is_given (codes "sheet") rows ≡ false) × (is_given (codes "compare") rows ≡ false)
+    × (2 ≤ length (values (codes "IMAGE") rows)))
+    ⊎ (((is_given (codes "sheet") rows ≡ true) × (400 < length (values (codes "IMAGE") rows)))
+    ⊎ (((is_given (codes "compare") rows ≡ true) × (length (values (codes "IMAGE") rows) ≢ 2))
+    ⊎ (has_two_forms rows ≡ true)))
+
+-- the flags ask for this drawing; `map` has none, and draws one image so
+abbrev pub IsDrawnBy : Drawing → List Row → Type 0
+IsDrawnBy drawings.Map rows = length (values (codes "IMAGE") rows) < 2
+IsDrawnBy drawings.Picture rows = (is_given (codes "svg") rows ≡ false) × IsForOne rows
+IsDrawnBy drawings.Poster rows = (is_given (codes "svg") rows ≡ true) × IsForOne rows
+
+-- the job that prints this of one image
+abbrev pub job_of_one : Overview → Bor Text → Job
+job_of_one (overviews.List form) image = jobs.List form image
+job_of_one (overviews.Check what) image = jobs.Check what image
+job_of_one overviews.Map image = jobs.Draw drawings.Map image
+
+-- the subcommand that prints this
+abbrev pub word_of_overview : Overview → Text
+word_of_overview (overviews.List form) = codes "list"
+word_of_overview (overviews.Check what) = codes "check"
+word_of_overview overviews.Map = codes "map"
+
+-- this is the only image
+abbrev pub IsOnlyImage : List Row → Text → Type 0
+IsOnlyImage rows image = (image ≡ value (codes "IMAGE") rows) × (length (values (codes "IMAGE") rows) < 2)
+
+-- these are the images, in their order, and there are several
+abbrev pub AreImages : List Row → List (Bor Text) → Type 0
+AreImages rows images = (map (λ image. image.now) images ≡ values (codes "IMAGE") rows) × (2 ≤ length images)
+
+-- objects are asked for, and these are the images, in their order
+abbrev pub AreDescribed : List Row → List (Bor Text) → Type 0
+AreDescribed rows images = (is_given (codes "json") rows ≡ true)
+    × (map (λ image. image.now) images ≡ values (codes "IMAGE") rows)
+
+-- the job that prints this of these images; or there was no memory for it
+abbrev pub IsSeveral : Overview → List (Bor Text) → Result Job JobFault → Type 0
+IsSeveral what images result =
+    ((all : Vec (Bor Text) Global) × (result ≡ Ok (jobs.Several what all)) × (vec_items all ≡ images))
+    ⊎ ((e : Error) × (result ≡ Err (faults.Words e)) × HasKind [] e)
+
+-- the job, or why there is none, of a subcommand that prints this of one image, or of several
+abbrev pub IsOverviewJob : List Row → Overview → Result Job JobFault → Type 0
+IsOverviewJob rows what result =
+    ((image : Bor Text) × (result ≡ Ok (job_of_one what image)) × IsOnlyImage rows image.now)
+    ⊎ (((images : Vec (Bor Text) Global) × (result ≡ Ok (jobs.Several what images)) × AreImages rows (vec_items images))
+    ⊎ ((e : Error) × (result ≡ Err (faults.Words e)) × HasKind [] e))
+
+-- the job that describes these images; or there was no memory for it
+abbrev pub IsDescribing : List (Bor Text) → Result Job JobFault → Type 0
+IsDescribing images result =
+    ((all : Vec (Bor Text) Global) × (result ≡ Ok (jobs.Describe all)) × (vec_items all ≡ images))
+    ⊎ ((e : Error) × (result ≡ Err (faults.Words e)) × HasKind [] e)
+
+-- the job, or why there is none, of the subcommand that checks images, or describes each
+abbrev pub IsCheckJob : List Row → Result Job JobFault → Type 0
+IsCheckJob rows result =
+    ((is_given (codes "json") rows ≡ false) × IsOverviewJob rows (overviews.Check (findings_in rows)) result)
+    ⊎ (((images : Vec (Bor Text) Global) × (result ≡ Ok (jobs.Describe images)) × AreDescribed rows (vec_items images))
+    ⊎ ((e : Error) × (result ≡ Err (faults.Words e)) × HasKind [] e))
+
+-- the sheet of these images; or there are too many for it, or there was no memory
+abbrev pub IsSheet : List (Bor Text) → Result Job JobFault → Type 0
+IsSheet images result =
+    ((all : Vec (Bor Text) Global) × (result ≡ Ok (jobs.Sheet all)) × (vec_items all ≡ images) × (length images ≤ 400))
+    ⊎ (((result ≡ Err faults.Images) × (400 < length images))
+    ⊎ ((e : Error) × (result ≡ Err (faults.Words e)) × HasKind [] e))
+
+-- the comparison of these two images; or there aren't two
+abbrev pub IsComparing : List (Bor Text) → Result Job JobFault → Type 0
+IsComparing images result =
+    ((before : Bor Text) × (after : Bor Text) × (result ≡ Ok (jobs.Compare before after))
+    × (images ≡ before ∷ after ∷ []))
+    ⊎ ((result ≡ Err faults.Images) × (length images ≢ 2))
+
+-- the job, or why there is none, of the subcommand that draws one image, or images on a sheet, or two compared
+abbrev pub IsPictureJob : List Row → Result Job JobFault → Type 0
+IsPictureJob rows result =
+    ((image : Bor Text) × (result ≡ Ok (picture_job rows image)) × (image.now ≡ value (codes "IMAGE") rows)
+    × IsForOne rows)
+    ⊎ (((images : Vec (Bor Text) Global) × (result ≡ Ok (jobs.Sheet images)) × AreOnSheet rows (vec_items images))
+    ⊎ (((before : Bor Text) × (after : Bor Text) × (result ≡ Ok (jobs.Compare before after))
+    × AreCompared rows before.now after.now)
+    ⊎ (((result ≡ Err faults.Images) × IsNoPicture rows)
+    ⊎ ((e : Error) × (result ≡ Err (faults.Words e)) × HasKind [] e))))

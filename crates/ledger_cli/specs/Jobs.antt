@@ -1,0 +1,165 @@
+-- What the words of a command line ask for (our own).
+use Rattle.std.specs.Prelude.{◌≡◌, ◌⊎◌, ◌||◌, Bool, true, false, List, Option, Some, None, Result, Err, [], codes}
+use Rattle.std.specs.Prelude.{length, vec_items}
+use Rattle.std.specs.Option.{option_map_or}
+use Rattle.clap.specs.Words.{HasKind, Kinds, Row, Text, found_of, rows_of, subcommand_rows_of}
+use Rattle.clap.specs.declared.parser.matches.ArgMatches.{ArgMatches}
+use Rattle.command_table.specs.Grammar.{value}
+use Rattle.ledger_jobs.specs.declared.jobs.Job.{Job}
+use Rattle.ledger_jobs.specs.declared.jobs.Taking.{Taking}
+use Rattle.disk_pictures.specs.declared.views.View.{View}
+use Rattle.ledger_jobs.specs.Names.{IsNameOf, name_bytes}
+use Rattle.ledger_cli.specs.declared.faults.JobFault.{JobFault}
+use Rattle.ledger_cli.specs.Numbers.{tills_in, length_in, place_in}
+use Rattle.ledger_cli.specs.Forms.{AreColumns, way_in, serve_durability, loss_in, unowned_in, effect_in, IsTakenBy}
+use Rattle.ledger_cli.specs.Forms.{IsViewedBy, choice_in}
+use Rattle.ledger_cli.specs.Images.{word_of_drawing, AreCompared, AreOnSheet, IsNoPicture, IsDrawnBy}
+use Rattle.ledger_cli.specs.Images.{word_of_overview, IsOnlyImage, AreImages, AreDescribed}
+use Rattle.ledger_cli.specs.Names.{HasNoName, HasNoNewName, HasName, HasNewName, IsIdOf, HasNoId, HasNoRenaming, type_in}
+use Rattle.ledger_cli.specs.Flags.{is_given}
+use Rattle.ledger_cli.specs.Positions.{HasNoColumns}
+use Rattle.ledger_jobs.specs.declared.jobs.Job.TheVariants as jobs
+use Rattle.ledger_jobs.specs.declared.jobs.Overview.TheVariants as overviews
+use Rattle.ledger_jobs.specs.declared.jobs.Taking.TheVariants as takings
+use Rattle.disk_pictures.specs.declared.views.View.TheVariants as views
+use Rattle.ledger_cli.specs.declared.faults.JobFault.TheVariants as faults
+
+-- the subcommand is this one, and of its values this holds
+pub record Has (found : Option (Text × List Row)) (name : Text) (P : List Row → Type 0) : Type 0 where
+  pub rows : List Row
+  pub is : found ≡ Some (name, rows)
+  pub holds : P rows
+
+-- a parse of words in which nothing is wrong, and whose flags before the subcommand, and subcommand with its values,
+-- are these
+pub record IsParse (kinds : Kinds) (top : List Row) (found : Option (Text × List Row)) (matches : ArgMatches) : Type 0
+  where
+    pub fine : kinds ≡ []
+    pub before : rows_of (found_of matches) ≡ top
+    pub is : subcommand_rows_of matches ≡ found
+
+-- the subcommand that prints this of an image that isn't checked
+abbrev pub word_of_view : View → Text
+word_of_view views.Free = codes "free"
+word_of_view (views.Sector place) = codes "sector"
+
+-- and the sector, if there is one, is that which the words give
+abbrev pub IsViewIn : List Row → View → Type 0
+IsViewIn rows views.Free = Unit {0}
+IsViewIn rows (views.Sector place) = place_in rows ≡ Some place
+
+-- the subcommand that takes this out of an image
+abbrev pub word_of_taking : Taking → Text
+word_of_taking (takings.Records form candidates) = codes "records"
+word_of_taking (takings.Bytes form candidates) = codes "bytes"
+
+-- the words ask for more lines if the job isn't done, before the subcommand or after it
+abbrev pub is_explained : List Row → Option (Text × List Row) → Bool
+is_explained top found =
+    is_given (codes "explain") top || option_map_or (λ f. is_given (codes "explain") f.1) found false
+
+-- the request for more lines was heard; if the words are refused, it is ignored
+abbrev pub IsHeard : Result Job JobFault → (asked heard : Bool) → Type 0
+IsHeard (Err (faults.Words e)) asked heard = heard ≡ true → asked ≡ true
+IsHeard _ asked heard = heard ≡ asked
+
+-- the job of a subcommand and its values
+abbrev pub IsJob : Option (Text × List Row) → Job → Type 0
+IsJob found (jobs.Format image tills) = Has found (codes "format")
+    (λ rows. (image.now ≡ value (codes "IMAGE") rows) × (tills_in rows ≡ Some tills)
+    × (is_given (codes "new") rows ≡ false))
+IsJob found (jobs.FormatNew image tills) = Has found (codes "format")
+    (λ rows. (image.now ≡ value (codes "IMAGE") rows) × (tills_in rows ≡ Some tills)
+    × (is_given (codes "new") rows ≡ true))
+IsJob found (jobs.List form image) = Has found (codes "list")
+    (λ rows. IsOnlyImage rows image.now × IsViewedBy (overviews.List form) rows)
+IsJob found (jobs.Check what image) = Has found (codes "check")
+    (λ rows. IsOnlyImage rows image.now × IsViewedBy (overviews.Check what) rows)
+IsJob found (jobs.Describe images) = Has found (codes "check") (λ rows. AreDescribed rows (vec_items images))
+IsJob found (jobs.Sheet images) = Has found (codes "picture") (λ rows. AreOnSheet rows (vec_items images))
+IsJob found (jobs.Compare before after) = Has found (codes "picture") (λ rows. AreCompared rows before.now after.now)
+IsJob found (jobs.View what image) = Has found (word_of_view what)
+    (λ rows. (image.now ≡ value (codes "IMAGE") rows) × IsViewIn rows what)
+IsJob found (jobs.Trim image) = Has found (codes "trim") (λ rows. image.now ≡ value (codes "IMAGE") rows)
+IsJob found (jobs.Several what images) = Has found (word_of_overview what)
+    (λ rows. AreImages rows (vec_items images) × IsViewedBy what rows)
+IsJob found (jobs.Show image) = Has found (codes "show") (λ rows. image.now ≡ value (codes "IMAGE") rows)
+IsJob found (jobs.Play image script) = Has found (codes "play")
+    (λ rows. (image.now ≡ value (codes "IMAGE") rows) × (script.now ≡ value (codes "SCRIPT") rows)
+    × (is_given (codes "sync") rows ≡ false) × (is_given (codes "log") rows ≡ false))
+IsJob found (jobs.PlaySynced image script) = Has found (codes "play")
+    (λ rows. (image.now ≡ value (codes "IMAGE") rows) × (script.now ≡ value (codes "SCRIPT") rows)
+    × (is_given (codes "sync") rows ≡ true) × (is_given (codes "log") rows ≡ false))
+IsJob found (jobs.PlayLogged image script) = Has found (codes "play")
+    (λ rows. (image.now ≡ value (codes "IMAGE") rows) × (script.now ≡ value (codes "SCRIPT") rows)
+    × (is_given (codes "sync") rows ≡ false) × (is_given (codes "log") rows ≡ true))
+IsJob found (jobs.Dry script) = Has found (codes "dry") (λ rows. script.now ≡ value (codes "SCRIPT") rows)
+IsJob found (jobs.Serve image way durability loss) = Has found (codes "serve")
+    (λ rows. (image.now ≡ value (codes "IMAGE") rows) × (way ≡ way_in rows) × (durability ≡ serve_durability rows)
+    × (loss ≡ loss_in rows))
+IsJob found (jobs.Copy image copy) = Has found (codes "copy")
+    (λ rows. (image.now ≡ value (codes "IMAGE") rows) × (copy.now ≡ value (codes "NEW") rows))
+IsJob found (jobs.Extract choice image folder) = Has found (codes "extract")
+    (λ rows. (image.now ≡ value (codes "IMAGE") rows) × (folder.now ≡ value (codes "FOLDER") rows)
+    × (choice ≡ choice_in rows))
+IsJob found (jobs.Repair image loss unowned effect) = Has found (codes "repair")
+    (λ rows. (image.now ≡ value (codes "IMAGE") rows) × (loss ≡ loss_in rows) × (unowned ≡ unowned_in rows)
+    × (effect ≡ effect_in rows) × (is_given (codes "sides") rows ≡ false))
+IsJob found (jobs.RepairSides image loss unowned effect) = Has found (codes "repair")
+    (λ rows. (image.now ≡ value (codes "IMAGE") rows) × (loss ≡ loss_in rows) × (unowned ≡ unowned_in rows)
+    × (effect ≡ effect_in rows) × (is_given (codes "sides") rows ≡ true))
+IsJob found (jobs.Take what image name) = Has found (word_of_taking what)
+    (λ rows. (image.now ≡ value (codes "IMAGE") rows) × IsNameOf (value (codes "NAME") rows) (name_bytes name)
+    × IsTakenBy what rows)
+IsJob found (jobs.Make image name length loss) = Has found (codes "make")
+    (λ rows. (image.now ≡ value (codes "IMAGE") rows) × IsNameOf (value (codes "NAME") rows) (name_bytes name)
+    × (length_in rows ≡ Some length) × (loss ≡ loss_in rows))
+IsJob found (jobs.Store image name records columns loss) = Has found (codes "store")
+    (λ rows. (image.now ≡ value (codes "IMAGE") rows) × IsNameOf (value (codes "NAME") rows) (name_bytes name)
+    × (records.now ≡ value (codes "RECORDS") rows) × AreColumns rows columns × (loss ≡ loss_in rows))
+IsJob found (jobs.Rename image from to) = Has found (codes "rename")
+    (λ rows. (image.now ≡ value (codes "IMAGE") rows) × IsNameOf (value (codes "OLD") rows) (name_bytes from)
+    × IsNameOf (value (codes "NEW") rows) (name_bytes to))
+IsJob found (jobs.Delete image name) = Has found (codes "delete")
+    (λ rows. (image.now ≡ value (codes "IMAGE") rows) × IsNameOf (value (codes "NAME") rows) (name_bytes name))
+IsJob found (jobs.Put image name file kind) = Has found (codes "put")
+    (λ rows. (image.now ≡ value (codes "IMAGE") rows) × IsNameOf (value (codes "NAME") rows) (name_bytes name)
+    × (file.now ≡ value (codes "FILE") rows) × (type_in rows ≡ Some kind))
+IsJob found (jobs.New image name id) = Has found (codes "new")
+    (λ rows. (image.now ≡ value (codes "IMAGE") rows) × IsNameOf (value (codes "N") rows) (name_bytes name)
+    × IsIdOf (value (codes "I") rows) id)
+IsJob found (jobs.Draw what image) = Has found (word_of_drawing what)
+    (λ rows. (image.now ≡ value (codes "IMAGE") rows) × IsDrawnBy what rows)
+
+-- the text of a name is none that the subcommand takes
+abbrev pub IsRefusedName : Option (Text × List Row) → Type 0
+IsRefusedName found =
+    ((what : Taking) × Has found (word_of_taking what) (HasNoName (codes "NAME")))
+    ⊎ (Has found (codes "store") (HasNoName (codes "NAME")) ⊎ (Has found (codes "make") (HasNoNewName (codes "NAME"))
+    ⊎ (Has found (codes "delete") (HasNoName (codes "NAME")) ⊎ (Has found (codes "rename") HasNoRenaming
+    ⊎ (Has found (codes "new") (HasNoName (codes "N")) ⊎ Has found (codes "put") (HasNoNewName (codes "NAME")))))))
+
+-- the subcommand has columns, and its words give none
+abbrev pub AreRefusedColumns : Option (Text × List Row) → JobFault → Type 0
+AreRefusedColumns found fault = Has found (codes "records") (λ rows. HasNoColumns rows fault)
+    ⊎ Has found (codes "store") (λ rows. HasNoColumns rows fault)
+
+-- why there is none: the words are refused for one of these kinds, or memory ran out. Or the number of tills, a name, the
+-- length of a record, the sector, the ID of a disk, the type of a file or a list of positions isn't valid, or two flags
+-- exclude one another
+abbrev pub IsNoJob : Kinds → Option (Text × List Row) → JobFault → Type 0
+IsNoJob kinds found (faults.Words e) = HasKind kinds e
+IsNoJob kinds found faults.Tills = (kinds ≡ []) × Has found (codes "format") (λ rows. tills_in rows ≡ None)
+IsNoJob kinds found faults.Name = (kinds ≡ []) × IsRefusedName found
+IsNoJob kinds found faults.Length =
+    (kinds ≡ []) × Has found (codes "make") (λ rows. HasNewName (codes "NAME") rows × (length_in rows ≡ None))
+IsNoJob kinds found faults.Sector = (kinds ≡ []) × Has found (codes "sector") (λ rows. place_in rows ≡ None)
+IsNoJob kinds found faults.Images = (kinds ≡ []) × Has found (codes "picture") IsNoPicture
+IsNoJob kinds found faults.Id =
+    (kinds ≡ []) × Has found (codes "new") (λ rows. HasName (codes "N") rows × HasNoId rows)
+IsNoJob kinds found faults.Kind =
+    (kinds ≡ []) × Has found (codes "put") (λ rows. HasNewName (codes "NAME") rows × (type_in rows ≡ None))
+IsNoJob kinds found faults.Flags = (kinds ≡ []) × (Has found (codes "play")
+    (λ rows. (is_given (codes "sync") rows ≡ true) × (is_given (codes "log") rows ≡ true))
+    ⊎ AreRefusedColumns found faults.Flags)
+IsNoJob kinds found faults.Positions = (kinds ≡ []) × AreRefusedColumns found faults.Positions

@@ -1,0 +1,117 @@
+-- The names that the words give, and the jobs of files with them. Our own.
+use Rattle.std.specs.Prelude.{◌≡◌, ◌⊎◌, ℕ, List, Option, Some, None, Result, Ok, Err, codes, if◌then◌else◌, length}
+use Rattle.std.specs.Str.{bytes_eq}
+use Rattle.std.specs.Borrow.{Bor}
+use Rattle.clap.specs.Words.{Row, Text}
+use Rattle.line_text.specs.bytes.Texts.{AreBytes, text_of}
+use Rattle.file_changes.specs.declared.file_type.FileType.{FileType}
+use Rattle.file_changes.specs.declared.file_type.FileType.TheVariants.{Prg, Seq, Usr}
+use Rattle.keeper_commands.specs.Makes.{IsNewName}
+use Rattle.rel_records.specs.File.{IsLength}
+use Rattle.command_table.specs.Grammar.{value}
+use Rattle.ledger_jobs.specs.declared.jobs.Job.{Job}
+use Rattle.ledger_jobs.specs.Names.{IsNameOf, name_bytes}
+use Rattle.ledger_cli.specs.declared.faults.JobFault.{JobFault}
+use Rattle.ledger_jobs.specs.declared.names.Name.{Name}
+use Rattle.ledger_cli.specs.Numbers.{length_in}
+use Rattle.ledger_cli.specs.Forms.{AreColumns, IsRecordForm, candidates_in, loss_in}
+use Rattle.ledger_cli.specs.Positions.{HasNoColumns}
+use Rattle.keeper_commands.specs.declared.forms.RecordForm.{RecordForm}
+use Rattle.ledger_jobs.specs.declared.jobs.Columns.{Columns}
+use Rattle.ledger_jobs.specs.declared.jobs.Taking.TheVariants as takings
+use Rattle.ledger_jobs.specs.declared.jobs.Job.TheVariants as jobs
+use Rattle.ledger_cli.specs.declared.faults.JobFault.TheVariants as faults
+
+-- the text of this value is no file's name
+abbrev pub HasNoName : Text → List Row → Type 0
+HasNoName id rows = (bytes : List ℕ) → AreBytes bytes → ¬ (IsNameOf (value id rows) bytes)
+
+-- the text of this value is no name that a new file can have
+abbrev pub HasNoNewName : Text → List Row → Type 0
+HasNoNewName id rows = (bytes : List ℕ) → AreBytes bytes → IsNameOf (value id rows) bytes → ¬ (IsNewName bytes)
+
+-- the text of this value is a name
+abbrev pub HasName : Text → List Row → Type 0
+HasName id rows = (bytes : List ℕ) × IsNameOf (value id rows) bytes
+
+-- the text of this value is a name that a new file can have
+abbrev pub HasNewName : Text → List Row → Type 0
+HasNewName id rows = (bytes : List ℕ) × IsNameOf (value id rows) bytes × IsNewName bytes
+
+-- These two bytes have this text: the ID of a disk.
+pub record IsIdOf (text bytes : List ℕ) : Type 0 where
+  pub is : text ≡ text_of bytes
+  pub two : length bytes ≡ 2
+
+-- no two bytes have the text that the words give as an ID
+abbrev pub HasNoId : List Row → Type 0
+HasNoId rows = (bytes : List ℕ) → AreBytes bytes → ¬ (IsIdOf (value (codes "I") rows) bytes)
+
+-- the job that is made of the name that the words give as NAME; or they give none
+abbrev pub IsNamedJob : List Row → (Name → Job) → Result Job JobFault → Type 0
+IsNamedJob rows make result =
+    ((name : Name) × (result ≡ Ok (make name)) × IsNameOf (value (codes "NAME") rows) (name_bytes name))
+    ⊎ ((result ≡ Err faults.Name) × HasNoName (codes "NAME") rows)
+
+-- no columns are made, and so there is no job
+abbrev pub IsColumnFault : List Row → Result Job JobFault → Type 0
+IsColumnFault rows result = (fault : JobFault) × (result ≡ Err fault) × HasNoColumns rows fault
+
+-- the job that takes records out of the file of that name; or there is no name, or no columns
+abbrev pub IsRecordsJob : List Row → Bor Text → Result Job JobFault → Type 0
+IsRecordsJob rows image result = ((form : RecordForm) × IsRecordForm rows form
+    × IsNamedJob rows (jobs.Take (takings.Records form (candidates_in rows)) image) result) ⊎ IsColumnFault rows result
+
+-- the job that stores records in a file of that name; or there is no name, or no columns
+abbrev pub IsStoringJob : List Row → Bor Text → Result Job JobFault → Type 0
+IsStoringJob rows image result = ((records : Bor Text) × (columns : Columns)
+    × (records.now ≡ value (codes "RECORDS") rows) × AreColumns rows columns
+    × IsNamedJob rows (λ name. jobs.Store image name records columns (loss_in rows)) result)
+    ⊎ IsColumnFault rows result
+
+-- the job that makes a relative file; or there is no name for it, or no length of its records
+abbrev pub IsMakingJob : List Row → Bor Text → Result Job JobFault → Type 0
+IsMakingJob rows image result =
+    ((name : Name) × (size : ℕ) × (result ≡ Ok (jobs.Make image name size (loss_in rows)))
+    × IsNameOf (value (codes "NAME") rows) (name_bytes name) × IsNewName (name_bytes name)
+    × (length_in rows ≡ Some size) × IsLength size)
+    ⊎ (((result ≡ Err faults.Name) × HasNoNewName (codes "NAME") rows)
+    ⊎ ((result ≡ Err faults.Length) × HasNewName (codes "NAME") rows × (length_in rows ≡ None)))
+
+-- the old name is no name, or a new file can't have the new one
+abbrev pub HasNoRenaming : List Row → Type 0
+HasNoRenaming rows = HasNoName (codes "OLD") rows ⊎ HasNoNewName (codes "NEW") rows
+
+-- the job that gives a file another name; or one of the two is none
+abbrev pub IsRenamingJob : List Row → Bor Text → Result Job JobFault → Type 0
+IsRenamingJob rows image result =
+    ((from : Name) × (to : Name) × (result ≡ Ok (jobs.Rename image from to))
+    × IsNameOf (value (codes "OLD") rows) (name_bytes from) × IsNameOf (value (codes "NEW") rows) (name_bytes to)
+    × IsNewName (name_bytes to))
+    ⊎ ((result ≡ Err faults.Name) × HasNoRenaming rows)
+
+-- the job that makes the image of an empty disk; or there is no name for it, or no ID
+abbrev pub IsNewDiskJob : List Row → Bor Text → Result Job JobFault → Type 0
+IsNewDiskJob rows image result =
+    ((name : Name) × (id : List ℕ) × (result ≡ Ok (jobs.New image name id))
+    × IsNameOf (value (codes "N") rows) (name_bytes name) × IsIdOf (value (codes "I") rows) id)
+    ⊎ (((result ≡ Err faults.Name) × HasNoName (codes "N") rows)
+    ⊎ ((result ≡ Err faults.Id) × HasName (codes "N") rows × HasNoId rows))
+
+-- the type of a file that has this word
+abbrev pub type_named : Text → Option FileType
+type_named word = if bytes_eq word (codes "prg") then Some Prg else (if bytes_eq word (codes "seq") then Some Seq
+    else (if bytes_eq word (codes "usr") then Some Usr else None))
+
+-- the type that the words give as TYPE
+abbrev pub type_in : List Row → Option FileType
+type_in rows = type_named (value (codes "TYPE") rows)
+
+-- the job that puts a file on the disk; or there is no name for it, or no type
+abbrev pub IsPuttingJob : List Row → Bor Text → Result Job JobFault → Type 0
+IsPuttingJob rows image result =
+    ((name : Name) × (file : Bor Text) × (kind : FileType) × (result ≡ Ok (jobs.Put image name file kind))
+    × IsNameOf (value (codes "NAME") rows) (name_bytes name) × IsNewName (name_bytes name)
+    × (file.now ≡ value (codes "FILE") rows) × (type_in rows ≡ Some kind))
+    ⊎ (((result ≡ Err faults.Name) × HasNoNewName (codes "NAME") rows)
+    ⊎ ((result ≡ Err faults.Kind) × HasNewName (codes "NAME") rows × (type_in rows ≡ None)))

@@ -1,0 +1,191 @@
+//! The forms that the flags ask for.
+ghost use Rattle.std.specs.Prelude.{◌≡◌};
+ghost use Rattle.clap.specs.Words.{found_of, rows_of};
+ghost use Rattle.ledger_cli.specs.Forms.{record_form as of_set};
+ghost use Rattle.ledger_cli.specs.Forms.{effect_in, loss_in, repair_job, unowned_in, serve_durability as of_serve, way_in};
+ghost use Rattle.ledger_cli.specs.Forms.{AreAskedColumns, IsAskedForm, byte_form_in, findings_in, name_form_in, set_in};
+ghost use Rattle.ledger_cli.specs.Forms.{candidates_in, choice_in};
+
+use crate::faults::JobFault;
+use crate::positions::columns_asked;
+use crate::values::is_given;
+use clap::ArgMatches;
+use disk_reports::NameForm;
+use image_file::Durability;
+use keeper_commands::{ByteForm, Candidates, Choice, RecordForm};
+use ledger_jobs::{Columns, Effect, Findings, Job, Loss, Unowned, Way};
+use line_text::CharacterSet;
+
+/// To which file the requests of a shop that is served are synced first.
+pub(crate) fn way<'a>(matches: &ArgMatches<'a>) -> Way
+    ensures { result ≡ way_in (rows_of (found_of matches.now)) }
+{
+    if is_given(matches, "in-place") {
+        Way::InPlace
+    } else {
+        Way::OverLog
+    }
+}
+
+/// When what is served is synced.
+pub(crate) fn serve_durability<'a>(matches: &ArgMatches<'a>) -> Durability
+    ensures { result ≡ of_serve (rows_of (found_of matches.now)) }
+{
+    if is_given(matches, "unsynced") {
+        Durability::AtEnd
+    } else {
+        Durability::EachSector
+    }
+}
+
+/// What is done if the disk has lost a part of a file.
+pub(crate) fn loss<'a>(matches: &ArgMatches<'a>) -> Loss
+    ensures { result ≡ loss_in (rows_of (found_of matches.now)) }
+{
+    if is_given(matches, "accept-loss") {
+        Loss::Accepted
+    } else {
+        Loss::Refused
+    }
+}
+
+/// What a repair does with sectors that are taken and no file's.
+fn unowned<'a>(matches: &ArgMatches<'a>) -> Unowned
+    ensures { result ≡ unowned_in (rows_of (found_of matches.now)) }
+{
+    if is_given(matches, "free") {
+        Unowned::Freed
+    } else {
+        Unowned::Kept
+    }
+}
+
+/// Whether a repair writes the image.
+fn effect<'a>(matches: &ArgMatches<'a>) -> Effect
+    ensures { result ≡ effect_in (rows_of (found_of matches.now)) }
+{
+    if is_given(matches, "dry-run") {
+        Effect::Printed
+    } else {
+        Effect::Written
+    }
+}
+
+/// The job that repairs an image.
+pub(crate) fn repairing<'a>(matches: &ArgMatches<'a>, image: &'a str) -> Job<'a>
+    ensures { result ≡ repair_job (rows_of (found_of matches.now)) image.entry }
+{
+    let (loss, unowned, effect) = (loss(matches), unowned(matches), effect(matches));
+    if is_given(matches, "sides") {
+        Job::RepairSides {
+            image,
+            loss,
+            unowned,
+            effect,
+        }
+    } else {
+        Job::Repair {
+            image,
+            loss,
+            unowned,
+            effect,
+        }
+    }
+}
+
+/// The set of the text that is asked for.
+fn text_set<'a>(matches: &ArgMatches<'a>) -> Option<CharacterSet>
+    ensures { result ≡ set_in (rows_of (found_of matches.now)) }
+{
+    if is_given(matches, "mixed") {
+        return Some(CharacterSet::Mixed);
+    }
+    if is_given(matches, "text") {
+        return Some(CharacterSet::Graphics);
+    }
+    None
+}
+
+/// How the lines of a text have the records.
+pub(crate) fn columns<'a>(matches: &ArgMatches<'a>) -> Result<Columns, JobFault>
+    ensures { AreAskedColumns (rows_of (found_of matches.now)) result }
+{
+    match columns_asked(matches) {
+        Ok(Some(form)) => Ok(Columns::Several(form)),
+        Ok(None) => Ok(Columns::One),
+        Err(fault) => Err(fault),
+    }
+}
+
+/// How records are printed if no columns are asked for.
+fn plain_form<'a>(matches: &ArgMatches<'a>) -> RecordForm
+    ensures { result ≡ of_set (set_in (rows_of (found_of matches.now))) }
+{
+    match text_set(matches) {
+        Some(set) => RecordForm::Text(set),
+        None => RecordForm::Lines,
+    }
+}
+
+/// How records are printed.
+pub(crate) fn record_form<'a>(matches: &ArgMatches<'a>) -> Result<RecordForm, JobFault>
+    ensures { IsAskedForm (rows_of (found_of matches.now)) result }
+{
+    match columns_asked(matches) {
+        Ok(Some(form)) => Ok(RecordForm::Columns(form)),
+        Ok(None) => Ok(plain_form(matches)),
+        Err(fault) => Err(fault),
+    }
+}
+
+/// How the bytes of a file are printed.
+pub(crate) fn byte_form<'a>(matches: &ArgMatches<'a>) -> ByteForm
+    ensures { result ≡ byte_form_in (rows_of (found_of matches.now)) }
+{
+    match text_set(matches) {
+        Some(set) => ByteForm::Text(set),
+        None => ByteForm::Plain,
+    }
+}
+
+/// Which files may be found by their name.
+pub(crate) fn candidates<'a>(matches: &ArgMatches<'a>) -> Candidates
+    ensures { result ≡ candidates_in (rows_of (found_of matches.now)) }
+{
+    if is_given(matches, "unclosed") {
+        Candidates::All
+    } else {
+        Candidates::Closed
+    }
+}
+
+/// Which entries are taken out.
+pub(crate) fn choice<'a>(matches: &ArgMatches<'a>) -> Choice
+    ensures { result ≡ choice_in (rows_of (found_of matches.now)) }
+{
+    Choice {
+        scanned: is_given(matches, "scan"),
+        deleted: is_given(matches, "deleted"),
+    }
+}
+
+/// Which faults of an image are printed.
+pub(crate) fn findings<'a>(matches: &ArgMatches<'a>) -> Findings
+    ensures { result ≡ findings_in (rows_of (found_of matches.now)) }
+{
+    if is_given(matches, "all") {
+        Findings::All
+    } else {
+        Findings::First
+    }
+}
+
+/// How names of a disk are printed.
+pub(crate) fn name_form<'a>(matches: &ArgMatches<'a>) -> NameForm
+    ensures { result ≡ name_form_in (rows_of (found_of matches.now)) }
+{
+    match text_set(matches) {
+        Some(set) => NameForm::Text(set),
+        None => NameForm::Ascii,
+    }
+}

@@ -1,0 +1,157 @@
+//! The jobs over images, and the drawings of them.
+ghost use Rattle.std.specs.Prelude.{◌≡◌};
+ghost use Rattle.clap.specs.Words.{found_of, rows_of};
+ghost use Rattle.ledger_cli.specs.Images.{IsCheckJob, IsDescribing, IsOverviewJob, IsComparing, IsPictureJob};
+ghost use Rattle.ledger_cli.specs.Images.{IsSeveral, IsSheet, job_of_one, picture_job, has_two_forms as two_forms};
+
+use crate::faults::JobFault;
+use crate::forms::findings;
+use crate::values::{is_given, value_of, values_of};
+use clap::{ArgMatches, Error};
+use disk_pictures::MOST_TILES;
+use ledger_jobs::{Drawing, Job, Overview};
+use std::alloc::{AllocError, Global};
+
+/// The job that draws an image as a page or as a poster.
+fn drawn_alone<'a>(matches: &ArgMatches<'a>, image: &'a str) -> Job<'a>
+    ensures { result ≡ picture_job (rows_of (found_of matches.now)) image.entry }
+{
+    if is_given(matches, "svg") {
+        Job::Draw {
+            what: Drawing::Poster,
+            image,
+        }
+    } else {
+        Job::Draw {
+            what: Drawing::Picture,
+            image,
+        }
+    }
+}
+
+/// The job that draws these images on a sheet.
+fn on_sheet<'a>(alloc: Global, images: &[&'a str]) -> Result<Job<'a>, JobFault>
+    ensures { IsSheet images.now result }
+{
+    if images.len() > MOST_TILES {
+        return Err(JobFault::Images);
+    }
+    let mut all = Vec::new(alloc);
+    match all.extend_from_slice(images) {
+        Ok(()) => Ok(Job::Sheet { images: all }),
+        Err(error) => Err(JobFault::Words(Error::from(error))),
+    }
+}
+
+/// The job that compares these images, of which there have to be two.
+fn comparing<'a>(images: &[&'a str]) -> Result<Job<'a>, JobFault>
+    ensures { IsComparing images.now result }
+{
+    if images.len() != 2 {
+        return Err(JobFault::Images);
+    }
+    Ok(Job::Compare {
+        before: images[0],
+        after: images[1],
+    })
+}
+
+/// Whether two forms of a picture are asked for, of which it has one.
+fn has_two_forms<'a>(matches: &ArgMatches<'a>) -> bool
+    ensures { result ≡ two_forms (rows_of (found_of matches.now)) }
+{
+    let sheet = is_given(matches, "sheet");
+    let compare = is_given(matches, "compare");
+    (is_given(matches, "svg") && (sheet || compare)) || (sheet && compare)
+}
+
+/// The job that draws an image as a page or as a poster, or images on a sheet, or compares two.
+pub(crate) fn picturing<'a>(alloc: Global, matches: &ArgMatches<'a>) -> Result<Job<'a>, JobFault>
+    ensures { IsPictureJob (rows_of (found_of matches.now)) result }
+{
+    let Some(images) = values_of(matches, "IMAGE") else {
+        // A parse without an image is refused.
+        return Err(JobFault::Words(Error::from(AllocError)));
+    };
+    if has_two_forms(matches) {
+        return Err(JobFault::Images);
+    }
+    if is_given(matches, "sheet") {
+        return on_sheet(alloc, images);
+    }
+    if is_given(matches, "compare") {
+        return comparing(images);
+    }
+    if images.len() >= 2 {
+        return Err(JobFault::Images);
+    }
+    Ok(drawn_alone(matches, value_of(matches, "IMAGE")))
+}
+
+/// The job that prints this of one image.
+fn of_one<'a>(what: Overview, image: &'a str) -> Job<'a>
+    ensures { result ≡ job_of_one what image.entry }
+{
+    match what {
+        Overview::List(form) => Job::List { form, image },
+        Overview::Check(findings) => Job::Check { findings, image },
+        Overview::Map => Job::Draw {
+            what: Drawing::Map,
+            image,
+        },
+    }
+}
+
+/// The job that prints this of these images.
+fn of_several<'a>(alloc: Global, what: Overview, images: &[&'a str]) -> Result<Job<'a>, JobFault>
+    ensures { IsSeveral what images.now result }
+{
+    let mut all = Vec::new(alloc);
+    match all.extend_from_slice(images) {
+        Ok(()) => Ok(Job::Several { what, images: all }),
+        Err(error) => Err(JobFault::Words(Error::from(error))),
+    }
+}
+
+/// The job that prints this of one image, or of several.
+pub(crate) fn viewing<'a>(
+    alloc: Global,
+    matches: &ArgMatches<'a>,
+    what: Overview,
+) -> Result<Job<'a>, JobFault>
+    ensures { IsOverviewJob (rows_of (found_of matches.now)) what result }
+{
+    let image = value_of(matches, "IMAGE");
+    let Some(images) = values_of(matches, "IMAGE") else {
+        return Ok(of_one(what, image));
+    };
+    if images.len() < 2 {
+        return Ok(of_one(what, image));
+    }
+    of_several(alloc, what, images)
+}
+
+/// The job that describes these images.
+fn described<'a>(alloc: Global, images: &[&'a str]) -> Result<Job<'a>, JobFault>
+    ensures { IsDescribing images.now result }
+{
+    let mut all = Vec::new(alloc);
+    match all.extend_from_slice(images) {
+        Ok(()) => Ok(Job::Describe { images: all }),
+        Err(error) => Err(JobFault::Words(Error::from(error))),
+    }
+}
+
+/// The job that checks images, or describes each by an object.
+pub(crate) fn checking<'a>(alloc: Global, matches: &ArgMatches<'a>) -> Result<Job<'a>, JobFault>
+    ensures { IsCheckJob (rows_of (found_of matches.now)) result }
+{
+    if !is_given(matches, "json") {
+        return viewing(alloc, matches, Overview::Check(findings(matches)));
+    }
+    let Some(images) = values_of(matches, "IMAGE") else {
+        // A parse without an image is refused.
+        return Err(JobFault::Words(Error::from(AllocError)));
+    };
+    described(alloc, images)
+}

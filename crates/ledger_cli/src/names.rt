@@ -1,0 +1,195 @@
+//! The jobs of files with their names.
+ghost use Rattle.std.specs.Prelude.{◌≡◌, ℕ, IfSome, IsNone, List, codes};
+ghost use Rattle.std.specs.Borrow.{Bor};
+ghost use Rattle.clap.specs.Words.{Text};
+ghost use Rattle.command_table.specs.Grammar.{value};
+ghost use Rattle.ledger_cli.specs.Forms.{loss_in};
+ghost use Rattle.clap.specs.Words.{found_of, rows_of};
+ghost use Rattle.line_text.specs.bytes.Texts.{AreBytes};
+ghost use Rattle.keeper_commands.specs.Makes.{IsNewName};
+ghost use Rattle.ledger_jobs.specs.Names.{IsNameOf, name_bytes};
+ghost use Rattle.ledger_cli.specs.Names.{IsMakingJob, IsStoringJob, IsNamedJob, IsRecordsJob, IsRenamingJob, IsNewDiskJob, IsIdOf};
+ghost use Rattle.ledger_cli.specs.Names.{IsPuttingJob, type_named as named_type};
+ghost use Rattle.ledger_jobs.specs.declared.jobs.Job.TheVariants as jobs;
+
+use crate::faults::JobFault;
+use crate::forms::{candidates, columns, loss, record_form};
+use crate::numbers::length_of;
+use crate::values::value_of;
+use clap::ArgMatches;
+use file_changes::FileType;
+use ledger_jobs::{Columns, Job, Name, Taking};
+use line_text::read_text;
+
+/// The job that takes this out of an image, of the file of a name.
+pub(crate) fn taking<'a>(
+    matches: &ArgMatches<'a>,
+    what: Taking,
+    image: &'a str,
+) -> Result<Job<'a>, JobFault>
+    ensures { IsNamedJob (rows_of (found_of matches.now)) (λ name. jobs.Take what image.entry name) result }
+{
+    match Name::read(value_of(matches, "NAME")) {
+        Some(name) => Ok(Job::Take { what, image, name }),
+        None => Err(JobFault::Name),
+    }
+}
+
+/// The job that takes records out of an image, of the file of a name.
+pub(crate) fn taking_records<'a>(
+    matches: &ArgMatches<'a>,
+    image: &'a str,
+) -> Result<Job<'a>, JobFault>
+    ensures { IsRecordsJob (rows_of (found_of matches.now)) image.entry result }
+{
+    match record_form(matches) {
+        Ok(form) => taking(matches, Taking::Records(form, candidates(matches)), image),
+        Err(fault) => Err(fault),
+    }
+}
+
+/// The name of a new file that has this text.
+fn new_name(text: &str) -> Option<Name>
+    ensures found { IfSome result (λ name. IsNameOf text.now (name_bytes name) × IsNewName (name_bytes name)) }
+    ensures none { IsNone result → (bytes : List ℕ) → AreBytes bytes → IsNameOf text.now bytes → ¬ (IsNewName bytes) }
+{
+    let name = Name::read(text)?;
+    if !name.is_new() {
+        return None;
+    }
+    Some(name)
+}
+
+/// The job that makes a relative file on the disk of an image.
+pub(crate) fn making<'a>(matches: &ArgMatches<'a>, image: &'a str) -> Result<Job<'a>, JobFault>
+    ensures { IsMakingJob (rows_of (found_of matches.now)) image.entry result }
+{
+    let Some(name) = new_name(value_of(matches, "NAME")) else {
+        return Err(JobFault::Name);
+    };
+    match length_of(value_of(matches, "L")) {
+        Some(length) => Ok(Job::Make {
+            image,
+            name,
+            length,
+            loss: loss(matches),
+        }),
+        None => Err(JobFault::Length),
+    }
+}
+
+/// The job that stores records from lines with these columns.
+fn storing_in<'a>(
+    matches: &ArgMatches<'a>,
+    image: &'a str,
+    columns: Columns,
+) -> Result<Job<'a>, JobFault>
+    ensures { (records : Bor Text) × (records.now ≡ value (codes "RECORDS") (rows_of (found_of matches.now)))
+        × IsNamedJob (rows_of (found_of matches.now)) (λ name.
+        jobs.Store image.entry name records columns (loss_in (rows_of (found_of matches.now)))) result }
+{
+    let records = value_of(matches, "RECORDS");
+    match Name::read(value_of(matches, "NAME")) {
+        Some(name) => Ok(Job::Store {
+            image,
+            name,
+            records,
+            columns,
+            loss: loss(matches),
+        }),
+        None => Err(JobFault::Name),
+    }
+}
+
+/// The job that stores records in a relative file of an image.
+pub(crate) fn storing<'a>(matches: &ArgMatches<'a>, image: &'a str) -> Result<Job<'a>, JobFault>
+    ensures { IsStoringJob (rows_of (found_of matches.now)) image.entry result }
+{
+    match columns(matches) {
+        Ok(columns) => storing_in(matches, image, columns),
+        Err(fault) => Err(fault),
+    }
+}
+
+/// The job that deletes a file of an image.
+pub(crate) fn deleting<'a>(matches: &ArgMatches<'a>, image: &'a str) -> Result<Job<'a>, JobFault>
+    ensures { IsNamedJob (rows_of (found_of matches.now)) (λ name. jobs.Delete image.entry name) result }
+{
+    match Name::read(value_of(matches, "NAME")) {
+        Some(name) => Ok(Job::Delete { image, name }),
+        None => Err(JobFault::Name),
+    }
+}
+
+/// The job that gives a file of an image another name.
+pub(crate) fn renaming<'a>(matches: &ArgMatches<'a>, image: &'a str) -> Result<Job<'a>, JobFault>
+    ensures { IsRenamingJob (rows_of (found_of matches.now)) image.entry result }
+{
+    let Some(from) = Name::read(value_of(matches, "OLD")) else {
+        return Err(JobFault::Name);
+    };
+    match new_name(value_of(matches, "NEW")) {
+        Some(to) => Ok(Job::Rename { image, from, to }),
+        None => Err(JobFault::Name),
+    }
+}
+
+/// The type of a file that has this word.
+fn type_named(word: &str) -> Option<FileType>
+    ensures { result ≡ named_type word.now }
+{
+    if word == "prg" {
+        return Some(FileType::Prg);
+    }
+    if word == "seq" {
+        return Some(FileType::Seq);
+    }
+    if word == "usr" {
+        return Some(FileType::Usr);
+    }
+    None
+}
+
+/// The job that puts a file of the host on the disk of an image.
+pub(crate) fn putting<'a>(matches: &ArgMatches<'a>, image: &'a str) -> Result<Job<'a>, JobFault>
+    ensures { IsPuttingJob (rows_of (found_of matches.now)) image.entry result }
+{
+    let file = value_of(matches, "FILE");
+    let Some(name) = new_name(value_of(matches, "NAME")) else {
+        return Err(JobFault::Name);
+    };
+    match type_named(value_of(matches, "TYPE")) {
+        Some(kind) => Ok(Job::Put {
+            image,
+            name,
+            file,
+            kind,
+        }),
+        None => Err(JobFault::Kind),
+    }
+}
+
+/// The ID of a disk that has this text.
+fn id_of(text: &str) -> Option<[u8; 2]>
+    ensures found { IfSome result (λ id. IsIdOf text.now id) }
+    ensures none { IsNone result → (bytes : List ℕ) → AreBytes bytes → ¬ (IsIdOf text.now bytes) }
+{
+    let bytes = read_text(text.as_bytes())?;
+    if bytes.len() != 2 {
+        return None;
+    }
+    Some([bytes[0], bytes[1]])
+}
+
+/// The job that makes the image of an empty disk.
+pub(crate) fn empty_disk<'a>(matches: &ArgMatches<'a>, image: &'a str) -> Result<Job<'a>, JobFault>
+    ensures { IsNewDiskJob (rows_of (found_of matches.now)) image.entry result }
+{
+    let Some(name) = Name::read(value_of(matches, "N")) else {
+        return Err(JobFault::Name);
+    };
+    match id_of(value_of(matches, "I")) {
+        Some(id) => Ok(Job::New { image, name, id }),
+        None => Err(JobFault::Id),
+    }
+}

@@ -1,0 +1,277 @@
+//! The whole program, over a runtime.
+ghost use Rattle.std.specs.Prelude.{◌≡◌, ◌≢◌, if◌then◌else◌};
+ghost use Rattle.ledger_jobs.specs.Jobs.{IsFit};
+ghost use Rattle.ledger_cli.specs.declared.runner.Audience.TheVariants.{Person, Program, Waiting};
+
+use crate::faults::JobFault;
+use crate::progress::{Watched, is_long};
+use crate::words::command_line;
+use command_faults::CommandFault;
+use disk_layout::Fault;
+use image_file::{EndedFile, Failures, Locks, NotedRuntime};
+use ledger_jobs::{Job, Refusal, announce, do_job, do_trim, end, explain, files_of, tell_cut};
+use std::alloc::{AllocError, Global};
+use std::env;
+use std::fs::OpenFile;
+use std::io::{self, BufWriter, Read, Write};
+use std::rt::{Env, Files};
+
+/// The exit status of words that are refused.
+const WORDS: u8 = 2;
+
+/// How many bytes of output are gathered before they are written.
+const OUTPUT_ROOM: usize = 32768;
+
+/// The reader of what is printed on standard error.
+#[derive(Clone, Copy, Debug, PartialEq, Eq)]
+pub enum Audience {
+    /// A program, or a file: each refusal is one line.
+    Program,
+    /// A person at a terminal, or one who asked for it by --explain: a second line says which file, or what to do.
+    Person,
+    /// A person at a terminal who doesn't see the output: long work says how far it is, too.
+    Waiting,
+}
+
+impl Audience {
+    /// The reader of standard error: a person if standard error is a terminal. This person sees the output if that is a
+    /// terminal too.
+    pub fn of(err_is_terminal: bool, out_is_terminal: bool) -> Audience
+        ensures { result ≡ (if err_is_terminal then (if out_is_terminal then Person else Waiting) else Program) }
+    {
+        match (err_is_terminal, out_is_terminal) {
+            (false, _) => Audience::Program,
+            (true, true) => Audience::Person,
+            (true, false) => Audience::Waiting,
+        }
+    }
+
+    /// This reader, who also reads a second line if the words ask for one.
+    fn explained(self) -> Audience
+        ensures { result ≢ Program }
+    {
+        match self {
+            Audience::Program => Audience::Person,
+            Audience::Person | Audience::Waiting => self,
+        }
+    }
+}
+
+/// Reports a failure of the system, and returns its exit status.
+fn refuse<E: Write>(err: &mut E, error: &io::Error) -> u8 {
+    end(Err(Refusal::Fault(CommandFault::of_io(error))), err).status
+}
+
+/// Prints for a person what the words may be. What `clap` refuses it explains itself.
+fn explain_words<E: Write>(fault: &JobFault, err: &mut E) {
+    let _ = match fault {
+        JobFault::Words(_) => Ok(()),
+        JobFault::Tills => writeln!(err, "ledger: T is 1 to 64"),
+        JobFault::Length => writeln!(err, "ledger: L is 1 to 254"),
+        JobFault::Sector => writeln!(
+            err,
+            "ledger: T/S is a track and a sector that it has, as 17/4"
+        ),
+        JobFault::Images => writeln!(
+            err,
+            "ledger: give one image, alone or with --svg; or up to 400 with --sheet; or two with --compare"
+        ),
+        JobFault::Name => writeln!(
+            err,
+            "ledger: a name has 1 to 16 bytes; one that isn't plain text is a backslash and two digits, as \\c1"
+        ),
+        JobFault::Id => writeln!(
+            err,
+            "ledger: I has two bytes; one that isn't plain text is a backslash and two digits, as \\c1"
+        ),
+        JobFault::Flags => writeln!(
+            err,
+            "ledger: give --sync or --log, and --fields or --at, not both"
+        ),
+        JobFault::Kind => writeln!(err, "ledger: TYPE is prg, seq or usr"),
+        JobFault::Positions => writeln!(
+            err,
+            "ledger: P is up to 32 numbers of 1 to 254, which rise from 1, such as 1,25,49"
+        ),
+    };
+}
+
+/// Reports why the words ask for nothing, or prints the help that they ask for, and returns the exit status.
+fn refuse_words<R: Print + Eprint, E: Write>(
+    rt: &R,
+    fault: &JobFault,
+    told: Audience,
+    err: &mut E,
+) -> u8 {
+    let status = fault.status();
+    let ended = match fault {
+        // If memory ran out, there may be no text.
+        JobFault::Words(_) if status == CommandFault::NoMemory.status() => {
+            return end(Err(Refusal::Fault(CommandFault::NoMemory)), err).status;
+        }
+        JobFault::Words(error) => error.print(rt),
+        _ => writeln!(err, "{fault}"),
+    };
+    if told != Audience::Program {
+        explain_words(fault, err);
+    }
+    match ended {
+        // Help that can't be printed is an output that failed.
+        Err(error) if status == 0 => refuse(err, &error),
+        _ => status,
+    }
+}
+
+/// Does a job over an output, and over standard error if it reports there. A person who waits for long work sees how far
+/// it is.
+fn do_watched<F, R, W, E>(
+    rt: &R,
+    job: &Job<'_>,
+    told: Audience,
+    out: &mut W,
+    err: &mut E,
+) -> Result<Option<Fault>, Refusal>
+where
+    F: EndedFile + Read + Locks + OpenFile + Drop,
+    R: Files<File = F> + Input + AllocGlobal,
+    W: Write,
+    E: Write,
+    requires { IsFit job.now }
+{
+    if let Job::Trim { image } = *job {
+        return do_trim(rt, image, out, err);
+    }
+    if told != Audience::Waiting || !is_long(job) {
+        return do_job(rt, job, out);
+    }
+    let mut watched = Watched::new(out, err);
+    let ended = do_job(rt, job, &mut watched);
+    watched.clear();
+    ended
+}
+
+/// Does a job over an output that is gathered, and keeps why calls of the system failed.
+fn do_noted<'a, F, R, E>(
+    rt: &R,
+    job: &Job<'a>,
+    told: Audience,
+    failures: &Failures<'a>,
+    err: &mut E,
+) -> Result<Option<Fault>, Refusal>
+where
+    F: EndedFile + Read + Locks + OpenFile + Drop,
+    R: Files<File = F> + Input + Print + AllocGlobal,
+    E: Write,
+    requires { IsFit job.now }
+{
+    let files = files_of(job);
+    let noted = NotedRuntime::new(rt, files.as_slice(), failures);
+    match BufWriter::with_capacity(rt.alloc(), OUTPUT_ROOM, io::writer(&noted)) {
+        Ok(mut out) => do_watched(&noted, job, told, &mut out, err),
+        Err(_) => Err(Refusal::Fault(CommandFault::NoMemory)),
+    }
+}
+
+/// Does a job over an output that is gathered, and returns the exit status. If the job isn't done, a person reads more
+/// about why.
+fn obey_job<F, R, E>(rt: &R, job: &Job<'_>, told: Audience, err: &mut E) -> u8
+where
+    F: EndedFile + Read + Locks + OpenFile + Drop,
+    R: Files<File = F> + Input + Print + AllocGlobal,
+    E: Write,
+    requires { IsFit job.now }
+{
+    if told != Audience::Program {
+        announce(rt, job, err);
+    }
+    let failures = Failures::none();
+    let ended = do_noted(rt, job, told, &failures, err);
+    let refusal = ended.err();
+    let status = end(ended, err).status;
+    if told != Audience::Program {
+        match refusal {
+            Some(refusal) => explain(rt, job, refusal, failures.cause(), err),
+            None => tell_cut(rt, job, err),
+        }
+    }
+    status
+}
+
+/// An argument as `clap` takes it. Directly after `help` the flag `--help` asks for the help of `help` itself.
+fn text_of<'a>(before: &[&str], word: &'a str) -> &'a str {
+    let is_help = before.len() == 2 && before.get(1) == Some(&"help");
+    if is_help && (word == "--help" || word == "-h") {
+        "help"
+    } else {
+        word
+    }
+}
+
+/// The arguments as texts, all at one lifetime. The first is the name by which people call the program, whatever its
+/// file is called.
+fn texts_of<'a>(alloc: Global, words: &'a [String]) -> Result<Vec<&'a str>, AllocError> {
+    let mut texts = Vec::new(alloc);
+    texts.push("ledger")?;
+    for word in words.iter().skip(1) {
+        let text = text_of(texts.as_slice(), word.as_str());
+        texts.push(text)?;
+    }
+    Ok(texts)
+}
+
+/// Does what these words ask for, and returns the exit status.
+fn obey<F, R, E>(rt: &R, words: &[String], told: Audience, err: &mut E) -> u8
+where
+    F: EndedFile + Read + Locks + OpenFile + Drop,
+    R: Files<File = F> + Input + Print + Eprint + AllocGlobal,
+    E: Write,
+{
+    let texts = match texts_of(rt.alloc(), words) {
+        Ok(texts) => texts,
+        Err(error) => return refuse(err, &io::Error::from(error)),
+    };
+    let line = command_line(rt.alloc(), texts.as_slice());
+    let told = if line.is_explained {
+        told.explained()
+    } else {
+        told
+    };
+    match line.job {
+        Ok(job) => obey_job(rt, &job, told, err),
+        Err(fault) => refuse_words(rt, &fault, told, err),
+    }
+}
+
+/// The words of the command line. If they can't be had, that is reported, and the exit status is returned.
+fn words_of<R: Env + AllocGlobal, E: Write>(rt: &R, err: &mut E) -> Result<Vec<String>, u8> {
+    let collected = match env::args(rt) {
+        Ok(words) => words.collect(rt.alloc()),
+        Err(error) if error.kind() == io::ErrorKind::InvalidData => {
+            let _ = writeln!(
+                err,
+                "error: invalid UTF-8 was detected in one or more arguments"
+            );
+            return Err(WORDS);
+        }
+        Err(error) => return Err(refuse(err, &error)),
+    };
+    match collected {
+        Ok(words) => Ok(words),
+        Err(error) => Err(refuse(err, &io::Error::from(error))),
+    }
+}
+
+/// The whole program: does what the words of its command line ask for, and returns its exit status. What it prints goes
+/// to the runtime's output. What it reports goes to `err`, which is the runtime's standard error. Refused words are
+/// reported there in any case. `told` says who reads it.
+pub fn program<F, R, E>(rt: &R, told: Audience, err: &mut E) -> u8
+where
+    F: EndedFile + Read + Locks + OpenFile + Drop,
+    R: Files<File = F> + Env + Input + Print + Eprint + AllocGlobal,
+    E: Write,
+{
+    match words_of(rt, err) {
+        Ok(words) => obey(rt, words.as_slice(), told, err),
+        Err(status) => status,
+    }
+}

@@ -1,0 +1,37 @@
+//! The jobs that make a shop's image, and play on it.
+ghost use Rattle.std.specs.Prelude.{◌≡◌};
+ghost use Rattle.clap.specs.Words.{found_of, rows_of};
+ghost use Rattle.ledger_cli.specs.Shops.{format_job, play_job};
+
+use crate::faults::JobFault;
+use crate::values::is_given;
+use clap::ArgMatches;
+use ledger_jobs::Job;
+
+/// The job that makes the image of a shop with so many tills.
+pub(crate) fn formatting<'a>(matches: &ArgMatches<'a>, image: &'a str, tills: u8) -> Job<'a>
+    ensures { result ≡ format_job (rows_of (found_of matches.now)) image.entry tills }
+{
+    if is_given(matches, "new") {
+        Job::FormatNew { image, tills }
+    } else {
+        Job::Format { image, tills }
+    }
+}
+
+/// The job that plays a script on an image: over a log, or each sector synced, or neither.
+pub(crate) fn playing<'a>(
+    matches: &ArgMatches<'a>,
+    image: &'a str,
+    script: &'a str,
+) -> Result<Job<'a>, JobFault>
+    ensures { result ≡ play_job (rows_of (found_of matches.now)) image.entry script.entry }
+{
+    let synced = is_given(matches, "sync");
+    match (synced, is_given(matches, "log")) {
+        (true, true) => Err(JobFault::Flags),
+        (true, false) => Ok(Job::PlaySynced { image, script }),
+        (false, true) => Ok(Job::PlayLogged { image, script }),
+        (false, false) => Ok(Job::Play { image, script }),
+    }
+}
