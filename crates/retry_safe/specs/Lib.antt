@@ -1,5 +1,5 @@
--- The definitions of this crate.
 pub mod Asked
 pub mod Left
 pub mod RetrySafe
+pub mod RetrySafeOver
 pub mod Turns

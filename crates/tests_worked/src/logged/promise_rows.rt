@@ -6,7 +6,7 @@ use d64_image::{ImageFault, MemDisk};
 use host_session::PlayFault;
 use line_server::Room;
 use request_cards::Reply;
-use retry_over_log::{PowerLoss, retry_after_log_loss};
+use retry_safe::{PowerLoss, retry_after_log_loss};
 use shop_log::{ImageLog, MemLog};
 use std::process::Abort;
 

@@ -2,14 +2,14 @@
 ghost use Rattle.std.specs.Prelude.{◌≤◌};
 ghost use Rattle.d64_image.specs.Memory.{disk_image};
 ghost use Rattle.host_session.specs.shop.Shop.{IsShop, Shop};
-ghost use Rattle.retry_over_log.specs.RetrySafeOver.{RetrySafeOver};
+ghost use Rattle.retry_safe.specs.RetrySafeOver.{RetrySafeOver};
 
 use crate::power::PowerLoss;
+use crate::power_loss::ask;
 use d64_image::MemDisk;
 use host_session::{PlayFault, Session};
 use line_server::{BatchSource, Reports, Room, serve_batches};
 use request_cards::Reply;
-use retry_safe::ask;
 use shop_log::ImageLog;
 
 /// Serves the shop of a disk over a log until the input ends or something fails, lets power go, opens what is left, and

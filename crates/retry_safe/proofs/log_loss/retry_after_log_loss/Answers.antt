@@ -1,6 +1,6 @@
 -- What is left is opened, or couldn't be had.
-use Rattle.retry_over_log.proofs.SafeOver.{asked_again, not_had}
-use Rattle.retry_over_log.proofs.log_loss.retry_after_log_loss.Goals as goal
+use Rattle.retry_safe.proofs.SafeOver.{asked_again, not_had}
+use Rattle.retry_safe.proofs.log_loss.retry_after_log_loss.Goals as goal
 
 pub returns-in-Ok-leaves : goal.returns-in-Ok-leaves
 returns-in-Ok-leaves g c s shop stood began =

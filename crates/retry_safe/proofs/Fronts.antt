@@ -6,7 +6,7 @@ use Rattle.host_session.specs.shop.Shop.{IsShop, Shop}
 use Rattle.line_server.proofs.lemmas.logged.Lines.{behind_none}
 use Rattle.line_server.specs.logged.Serves.{HoldsFirst, StayFrom, shop_behind}
 use Rattle.request_cards.specs.declared.reply.Reply.{Reply}
-use Rattle.retry_over_log.specs.RetrySafeOver.{AreKept}
+use Rattle.retry_safe.specs.RetrySafeOver.{AreKept}
 use Rattle.shop_log.specs.ImageLogs.{LogHistory}
 
 -- The image is the shop's after some first lines, of which there are so many at least.

@@ -27,9 +27,9 @@ use Rattle.request_cards.specs.Ledgers.{plain, reply}
 use Rattle.request_cards.specs.Reading.{request_of}
 use Rattle.request_cards.specs.Requests.{Ask}
 use Rattle.request_cards.specs.declared.reply.Reply.{Reply}
-use Rattle.retry_over_log.proofs.Counting.{as_many_turns, asks_of, counted_lines, line_turns, turn_asks, turn_messages, unfailed}
-use Rattle.retry_over_log.proofs.Fronts.{Front, of_first, of_none, with_told}
-use Rattle.retry_over_log.specs.RetrySafeOver.{AreKept, AreRead, AreToldOver, HasGone, RetrySafeOver}
+use Rattle.retry_safe.proofs.Counting.{as_many_turns, asks_of, counted_lines, line_turns, turn_asks, turn_messages, unfailed}
+use Rattle.retry_safe.proofs.Fronts.{Front, of_first, of_none, with_told}
+use Rattle.retry_safe.specs.RetrySafeOver.{AreKept, AreRead, AreToldOver, HasGone, RetrySafeOver}
 use Rattle.retry_safe.proofs.Received.{answered_are, counts_are}
 use Rattle.retry_safe.proofs.Safe.{all_so, answered_so, opened_so, repeats, replies_on}
 use Rattle.retry_safe.specs.Asked.{IsAsked}

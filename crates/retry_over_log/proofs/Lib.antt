@@ -1,3 +1,0 @@
-mod Counting
-pub mod Fronts
-pub mod SafeOver
