@@ -5,8 +5,9 @@ ghost use Rattle.command_faults.specs.Outputs.{HandsPart};
 ghost use Rattle.command_faults.specs.declared.faults.CommandFault.TheVariants as faults;
 
 use crate::faults::CommandFault;
+use line_text::hand_whole;
 use std::fmt::Display;
-use std::io::{ErrorKind, Write};
+use std::io::Write;
 
 /// Passes all of these bytes to the writer, in one call if it takes them. `File` if it failed or took no byte: then it has
 /// a first part of them.
@@ -15,22 +16,10 @@ pub fn put<W: Write>(out: &mut W, bytes: &[u8]) -> Result<(), CommandFault>
     ensures part { OnErr result (HandsPart (W.contents out.old) (W.contents out.new) bytes.now) }
     ensures err { IfErr result (λ fault. fault ≡ faults.File) }
 {
-    let mut written = 0;
-    for _ in 0..u64::MAX {
-        if written == bytes.len() {
-            return Ok(());
-        }
-        match out.write(&bytes[written..]) {
-            Ok(0) => return Err(CommandFault::File),
-            Ok(more) => written += more,
-            Err(error) => {
-                if error.kind() != ErrorKind::Interrupted {
-                    return Err(CommandFault::File);
-                }
-            }
-        }
+    match hand_whole(out, bytes) {
+        Ok(()) => Ok(()),
+        Err(_) => Err(CommandFault::File),
     }
-    Err(CommandFault::File)
 }
 
 /// Passes this text to the writer. `File` if it failed, which may then have a part.

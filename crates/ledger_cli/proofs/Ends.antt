@@ -4,7 +4,7 @@ use Rattle.std.proofs.Math.Seq.{take-length}
 use Rattle.std.specs.Prelude.{◌≡◌, IfErr, IsOk, OnErr, OnOk, length}
 use Rattle.std.specs.Io.KnownBytes.{Appends}
 use Rattle.host_session.specs.declared.events.sinks.NotTaken.{NotTaken}
-use Rattle.host_session.specs.runs.Outputs.{AppendsPart}
+use Rattle.line_text.specs.Handed.{AppendsPart}
 use Rattle.ledger_jobs.specs.Ends.{JobEnd, refusal_line}
 use Rattle.ledger_cli.specs.Runs.{IsEndTold}
 

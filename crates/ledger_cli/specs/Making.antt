@@ -3,7 +3,7 @@ use Rattle.std.specs.Prelude.{◌≡◌, ◌≢◌, ◌⊎◌, ℕ, length, List
 use Rattle.std.specs.Io.KnownBytes.{Appends, Keeps}
 use Rattle.std.specs.Io.Seek.{StaysAt}
 use Rattle.d64_image.specs.Mirrors.{IsHanded, IsSought}
-use Rattle.host_session.specs.runs.Outputs.{AppendsPart}
+use Rattle.line_text.specs.Handed.{AppendsPart}
 use Rattle.command_faults.specs.declared.faults.CommandFault.{CommandFault}
 use Rattle.command_faults.specs.declared.faults.CommandFault.TheVariants as faults
 use Rattle.image_file.specs.Remains.{put_in}

@@ -6,7 +6,8 @@ use Rattle.ledger_cli.specs.Making.{IsImageCopied, IsImageMade}
 use Rattle.ledger_cli.specs.Streams.{HandsSectors, IsBegun, WhyUnbegun, stream, stream_file}
 use Rattle.disk_layout.specs.declared.faults.Fault.{Fault}
 use Rattle.file_changes.specs.declared.file_type.FileType.{FileType}
-use Rattle.host_session.specs.runs.Outputs.{AppendsPart, written}
+use Rattle.host_session.specs.runs.Outputs.{written}
+use Rattle.line_text.specs.Handed.{AppendsPart}
 use Rattle.shop_commands.specs.Plays.{IsUntouched}
 use Rattle.shop_commands.specs.Shops.{IsOpenRefusal}
 use Rattle.command_faults.specs.declared.faults.CommandFault.{CommandFault}

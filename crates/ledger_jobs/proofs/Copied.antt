@@ -2,7 +2,7 @@
 use Rattle.std.proofs.Common.{◌≡◌, ℕ, List, Option, Result, Ok, Err, inl, inr, length, subst, sym}
 use Rattle.std.specs.Prelude.{IfErr, OnOk, codes}
 use Rattle.std.specs.Io.KnownBytes.{Appends}
-use Rattle.host_session.specs.runs.Outputs.{AppendsPart}
+use Rattle.line_text.specs.Handed.{AppendsPart}
 use Rattle.command_faults.specs.declared.faults.CommandFault.{CommandFault}
 use Rattle.command_faults.specs.declared.faults.CommandFault.TheVariants as faults
 use Rattle.image_file.specs.Remains.{Remains}

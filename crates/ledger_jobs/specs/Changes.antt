@@ -7,7 +7,7 @@ use Rattle.command_faults.specs.declared.faults.CommandFault.TheVariants as faul
 use Rattle.d64_image.specs.Images.{Image}
 use Rattle.d64_image.specs.Memory.{sectors_in}
 use Rattle.keeper_commands.specs.Repairs.{IsMendedAs, mended_text}
-use Rattle.host_session.specs.runs.Outputs.{AppendsPart}
+use Rattle.line_text.specs.Handed.{AppendsPart}
 use Rattle.ledger_jobs.specs.Ends.{IsEndOver, JobEnd}
 use Rattle.ledger_jobs.specs.declared.refusals.Refusal.TheVariants as refusals
 

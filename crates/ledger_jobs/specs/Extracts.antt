@@ -6,7 +6,7 @@ use Rattle.disk_layout.specs.declared.faults.Fault.{Fault}
 use Rattle.keeper_commands.specs.rescue.Folders.{NewFile}
 use Rattle.keeper_commands.specs.rescue.Rescues.{IsExtractFault, IsExtracted}
 use Rattle.keeper_commands.specs.declared.rescue.choices.Choice.{Choice}
-use Rattle.host_session.specs.runs.Outputs.{AppendsPart}
+use Rattle.line_text.specs.Handed.{AppendsPart}
 use Rattle.command_faults.specs.declared.faults.CommandFault.{CommandFault}
 use Rattle.command_faults.specs.declared.faults.CommandFault.TheVariants as faults
 use Rattle.ledger_jobs.specs.Ends.{JobEnd}

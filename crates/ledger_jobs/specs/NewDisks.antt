@@ -3,7 +3,7 @@ use Rattle.std.specs.Prelude.{◌≡◌, ◌⊎◌, List, ℕ, Option, Result, O
 use Rattle.std.specs.Io.KnownBytes.{Appends}
 use Rattle.d64_image.specs.Memory.{sectors_in}
 use Rattle.file_changes.specs.Formats.{IsNewDisk}
-use Rattle.host_session.specs.runs.Outputs.{AppendsPart}
+use Rattle.line_text.specs.Handed.{AppendsPart}
 use Rattle.shop_commands.specs.Plays.{IsUntouched}
 use Rattle.command_faults.specs.declared.faults.CommandFault.{CommandFault}
 use Rattle.command_faults.specs.declared.faults.CommandFault.TheVariants as faults

@@ -1,7 +1,7 @@
 //! How a job ends: what is reported of it on standard error, and the exit status.
 ghost use Rattle.std.specs.Prelude.{◌≡◌, IfErr, IsOk, OnErr, OnOk};
 ghost use Rattle.std.specs.Io.KnownBytes.{Appends};
-ghost use Rattle.host_session.specs.runs.Outputs.{AppendsPart};
+ghost use Rattle.line_text.specs.Handed.{AppendsPart};
 ghost use Rattle.ledger_jobs.specs.Ends.{end_status, refusal_line};
 
 use crate::refusals::Refusal;

@@ -1,7 +1,8 @@
 //! Replies that are printed to a writer that was lent.
 ghost use Rattle.std.specs.Prelude.{◌≡◌, OnErr, OnOk};
 ghost use Rattle.std.specs.Io.KnownBytes.{Appends};
-ghost use Rattle.host_session.specs.runs.Outputs.{AppendsPart, line_of};
+ghost use Rattle.host_session.specs.runs.Outputs.{line_of};
+ghost use Rattle.line_text.specs.Handed.{AppendsPart};
 ghost use Rattle.ledger_jobs.specs.Replies.{lines_to};
 
 use d64_image::Sectors;

@@ -4,4 +4,5 @@ pub mod columns
 pub mod digits
 pub mod petscii
 pub mod scripts
+pub mod Handed
 pub mod Named

@@ -8,6 +8,8 @@ mod bytes;
 mod columns;
 // Numbers in decimal, digit by digit and in fields.
 mod digits;
+// Bytes handed to a writer.
+mod handing;
 // Lines that each begin with a name.
 mod naming;
 // PETSCII as text of Unicode, also on one line between quotation marks, and names of files for the entries of a disk.
@@ -33,6 +35,7 @@ pub use columns::positions::{MOST_PIECES, Positions};
 pub use columns::reading::{Column, read_columns};
 pub use columns::writing::{ends_with_return, write_all_columns, write_columns};
 pub use digits::{number, number_before_comma};
+pub use handing::{Unfinished, hand_whole};
 pub use naming::put_named;
 pub use petscii::characters::{CharacterSet, character};
 pub use petscii::file_names::{Ending, FileName, NAME_ROOM, file_name};

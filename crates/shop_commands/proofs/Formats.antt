@@ -7,7 +7,7 @@ use Rattle.d64_image.specs.Images.{Image}
 use Rattle.d64_image.specs.Memory.{sectors_in}
 use Rattle.disk_layout.proofs.lemmas.blank.BlankWhole.{blank-files-whole}
 use Rattle.disk_layout.specs.Whole.{IsWhole}
-use Rattle.host_session.specs.runs.Outputs.{AppendsPart}
+use Rattle.line_text.specs.Handed.{AppendsPart}
 use Rattle.image_file.specs.Remains.{Remains}
 use Rattle.image_file.specs.Replacing.{IsNoDisk, IsReplaced, Since}
 use Rattle.shop_commands.specs.Images.{AreFreshBytes, IsFormatted, IsHandedOver, IsHandedPart, IsUncut, IsWritten}

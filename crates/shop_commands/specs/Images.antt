@@ -6,7 +6,7 @@ use Rattle.d64_image.specs.Memory.{bytes_of, sectors_in}
 use Rattle.d64_image.specs.declared.place.Place.{Place}
 use Rattle.disk_layout.specs.Blank.{IsBlank}
 use Rattle.disk_layout.specs.Whole.{IsWhole}
-use Rattle.host_session.specs.runs.Outputs.{AppendsPart}
+use Rattle.line_text.specs.Handed.{AppendsPart}
 use Rattle.image_file.specs.Remains.{Remains}
 use Rattle.image_file.specs.Replacing.{IsNoDisk, NowAll, Since}
 use Rattle.command_faults.specs.declared.faults.CommandFault.{CommandFault}

@@ -1,7 +1,7 @@
 //! Bytes handed to a writer.
 ghost use Rattle.std.specs.Prelude.{◌≡◌, IfErr, OnOk};
 ghost use Rattle.std.specs.Io.KnownBytes.{Appends};
-ghost use Rattle.host_session.specs.runs.Outputs.{AppendsPart};
+ghost use Rattle.line_text.specs.Handed.{AppendsPart};
 ghost use Rattle.command_faults.specs.declared.faults.CommandFault.TheVariants as faults;
 
 use command_faults::{CommandFault, flush};

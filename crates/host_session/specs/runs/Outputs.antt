@@ -24,10 +24,6 @@ printer_out p = p.out
 abbrev pub line_of : Reply → List ℕ
 line_of reply = reply_text reply ++ codes "\n"
 
--- a prefix of these bytes, perhaps all, was written after what is known
-abbrev pub AppendsPart : Option (List ℕ) → Option (List ℕ) → List ℕ → Type 0
-AppendsPart old new bytes = (n : ℕ) × Appends old new (take n bytes)
-
 -- Replies were written, each on a line of its own. A last one that was broken off is there up to some byte. No contract
 -- of a writer says what it buffers.
 abbrev pub written : {W : Type 0} → (W → Option (List ℕ)) → Output W

@@ -1,12 +1,14 @@
 //! Replies that are printed.
 ghost use Rattle.std.specs.Prelude.{◌≡◌, OnErr, OnOk};
 ghost use Rattle.std.specs.Io.KnownBytes.{Appends};
-ghost use Rattle.host_session.specs.runs.Outputs.{AppendsPart, line_of, printed, printer_out};
+ghost use Rattle.host_session.specs.runs.Outputs.{line_of, printed, printer_out};
+ghost use Rattle.line_text.specs.Handed.{AppendsPart};
 
 use crate::events::sinks::{NotTaken, ReplySink};
 use d64_image::Sectors;
+use line_text::hand_whole;
 use request_cards::Reply;
-use std::io::{self, Write};
+use std::io::Write;
 
 /// A writer of replies: each on a line of its own, with its LF, in one write.
 #[derive(Drop)]
@@ -37,22 +39,10 @@ pub fn write_whole<W: Write>(out: &mut W, bytes: &[u8]) -> Result<(), NotTaken>
     ensures ok { OnOk result (Appends (W.contents out.old) (W.contents out.new) bytes.now) }
     ensures err { OnErr result (AppendsPart (W.contents out.old) (W.contents out.new) bytes.now) }
 {
-    let mut written = 0;
-    for _ in 0..u64::MAX {
-        if written == bytes.len() {
-            return Ok(());
-        }
-        match out.write(&bytes[written..]) {
-            Ok(0) => return Err(NotTaken),
-            Ok(more) => written += more,
-            Err(error) => {
-                if error.kind() != io::ErrorKind::Interrupted {
-                    return Err(NotTaken);
-                }
-            }
-        }
+    match hand_whole(out, bytes) {
+        Ok(()) => Ok(()),
+        Err(_) => Err(NotTaken),
     }
-    Err(NotTaken)
 }
 
 /// Writes a reply on a line of its own, with its LF, in one write.

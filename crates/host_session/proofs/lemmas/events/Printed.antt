@@ -1,8 +1,7 @@
 -- Replies that are printed.
-use Rattle.std.proofs.Common.{◌≡◌, ◌+◌, ◌++◌, ℕ, zero, suc, List, [], ◌∷◌, Ok, Err, Option, refl, sym, subst, ◌∙◌, ap}
-use Rattle.std.proofs.Common.{arith, take, drop}
+use Rattle.std.proofs.Common.{◌≡◌, ◌+◌, ◌++◌, ℕ, List, [], ◌∷◌, Ok, Err, Option, refl, sym, subst, ◌∙◌, ap}
+use Rattle.std.proofs.Common.{arith, take}
 use Rattle.std.specs.Prelude.{OnErr, OnOk, Result}
-use Rattle.std.proofs.lemmas.List.{take_all}
 use Rattle.std.specs.Io.KnownBytes.{Appends}
 use Rattle.std.proofs.KnownBytes.{Appends-trans}
 use Rattle.request_cards.specs.Ledgers.{report}
@@ -15,15 +14,6 @@ use Rattle.host_session.specs.events.Telling.{IsTold}
 use Rattle.host_session.specs.runs.Chains.{told_in}
 use Rattle.host_session.specs.runs.Lent.{written_to}
 use Rattle.host_session.specs.runs.Outputs.{line_of, printed, printer_out, written}
-
--- so many bytes, and so many more of the rest
-pub take_more : (n m : ℕ) (xs : List ℕ) → take (n + m) xs ≡ take n xs ++ take m (drop n xs)
-take_more zero m xs = let same : 0 + m ≡ m = omega arith in ap (λ k. take k xs) same
-take_more (suc n) m [] =
-    let on : suc n + m ≡ suc (n + m) = omega arith in ap (λ k. take k []) on ∙ sym (take_all m [] (omega arith))
-take_more (suc n) m (x ∷ xs) =
-    let on : suc n + m ≡ suc (n + m) = omega arith in ap (λ k. take k (x ∷ xs)) on
-    ∙ ap (λ ys. x ∷ ys) (take_more n m xs)
 
 pub told_more : {X : Type 0} (xs : List (Reply × X)) (x : Reply × X) → told_in (xs ++ x ∷ []) ≡ told_in xs ++ x.0 ∷ []
 told_more [] x = refl

@@ -3,7 +3,8 @@ use Rattle.std.proofs.Common.{◌≡◌, ℕ, List, drop, subst, take, ◌-◌, 
 use Rattle.std.specs.Prelude.{OnErr, OnOk}
 use Rattle.std.specs.Io.KnownBytes.{Appends}
 use Rattle.std.proofs.lemmas.List.{take_all}
-use Rattle.host_session.specs.runs.Outputs.{AppendsPart, line_of}
+use Rattle.host_session.specs.runs.Outputs.{line_of}
+use Rattle.line_text.specs.Handed.{AppendsPart}
 use Rattle.ledger_jobs.proofs.reply_lines.put_reply.Goals as goal
 
 pub returns : goal.returns

@@ -3,9 +3,9 @@ use Rattle.std.proofs.Common.{◌≡◌, ◌≤◌, ◌-◌, ℕ, List, ap, arit
 use Rattle.std.proofs.lemmas.List.{take_all}
 use Rattle.std.specs.Io.KnownBytes.{Appends}
 use Rattle.std.proofs.KnownBytes.{Appends-kept, Appends-nil, Appends-trans}
-use Rattle.host_session.proofs.events.printing.write_whole.Goals.{in-Ok, in-Err+else-ne}
-use Rattle.host_session.proofs.events.printing.write_whole.Goals as goal
-use Rattle.host_session.proofs.lemmas.events.Printed.{take_more}
+use Rattle.line_text.proofs.handing.hand_whole.Goals.{in-Ok, in-Err+else-ne}
+use Rattle.line_text.proofs.handing.hand_whole.Goals as goal
+use Rattle.line_text.proofs.lemmas.Handed.{take-more}
 
 -- none is written yet
 none_yet : (n : ℕ) → 0 ≤ n
@@ -54,7 +54,7 @@ loop-preserved g c =
       | in-Ok w ↦ record {
         within = omega (arith, k.within, w.in-Ok.ensures.bound, ap length all, long, w.written-is);
         wrote = subst (λ n. Appends a d (take n bytes)) (sym w.written-is)
-            (subst (Appends a d) (sym (take_more c.loop.written w.in-Ok.more bytes))
+            (subst (Appends a d) (sym (take-more c.loop.written w.in-Ok.more bytes))
             (Appends-trans a b d (take c.loop.written bytes) (take w.in-Ok.more rest) k.wrote
             (subst (λ xs. Appends b d (take w.in-Ok.more xs)) all w.in-Ok.ensures.bytes)));
       }

@@ -1,7 +1,7 @@
 -- So many bytes were written.
 use Rattle.std.proofs.Common.{◌≤◌, length, take}
 use Rattle.std.specs.Io.KnownBytes.{Appends}
-use Rattle.host_session.proofs.events.printing.write_whole.Given as goal
+use Rattle.line_text.proofs.handing.hand_whole.Given as goal
 
 abbrev pub invariant-loop : goal.invariant-loop
 invariant-loop g l =
