@@ -2,8 +2,6 @@
 pub(crate) mod cuts;
 pub(crate) mod lines;
 pub(crate) mod printing;
-pub(crate) mod recorded_events;
-pub(crate) mod recorded_replies;
 mod reply_list;
 pub(crate) mod sinks;
 pub(crate) mod sources;

@@ -13,8 +13,6 @@ mod events;
 mod runs;
 
 pub use events::printing::{Printer, write_whole};
-pub use events::recorded_events::RecordedEvents;
-pub use events::recorded_replies::{RecordedReplies, RecordedReply};
 pub use events::sinks::{NotTaken, ReplySink};
 pub use events::sources::{EventList, EventSource, Next, ScriptEvents};
 pub use faults::OpenFault;

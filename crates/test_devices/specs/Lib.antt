@@ -1,1 +1,2 @@
 pub mod Recorder
+pub mod Recordings

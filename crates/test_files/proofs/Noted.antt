@@ -4,7 +4,7 @@ use Rattle.std.proofs.lemmas.List.{map-append}
 use Rattle.request_cards.specs.declared.reply.Reply.{Reply}
 use Rattle.host_session.specs.events.Instants.{Instant}
 use Rattle.host_session.specs.events.Telling.{BreaksOff, TellsOne}
-use Rattle.host_session.specs.runs.Outputs.{held_in}
+use Rattle.test_devices.specs.Recordings.{held_in}
 use Rattle.line_server.specs.Answering.{answered}
 use Rattle.line_server.specs.Giving.{AsksOne}
 use Rattle.line_server.proofs.Turns.{told_once, untold}

@@ -6,7 +6,7 @@ use Rattle.d64_image.specs.Images.{Image}
 use Rattle.d64_image.specs.Memory.{sectors_in}
 use Rattle.request_cards.specs.declared.reply.Reply.{Reply}
 use Rattle.host_session.specs.events.Telling.{Output}
-use Rattle.host_session.specs.runs.Outputs.{held_in, turn_of}
+use Rattle.test_devices.specs.Recordings.{held_in, turn_of}
 use Rattle.line_server.specs.Answering.{Answering}
 use Rattle.line_server.specs.Giving.{Input}
 use Rattle.test_files.specs.declared.noting.NotedLines.{NotedLines}

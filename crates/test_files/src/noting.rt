@@ -5,10 +5,11 @@ ghost use Rattle.test_files.specs.Noted.{IsNoted, asked_for, noted_lines, noted_
 
 use arrayvec::ArrayVec;
 use d64_image::MemDisk;
-use host_session::{Next, NotTaken, RecordedReply};
+use host_session::{Next, NotTaken};
 use line_server::{Answers, LineSource};
 use request_cards::Reply;
 use std::alloc::Global;
+use test_devices::RecordedReply;
 
 /// Lines in memory, of which only so many are given. It notes what the disk held when each was asked for. If it gives no
 /// more, or there is no memory for a copy, it has failed.

@@ -2,10 +2,9 @@
 use crate::comparing::same_at;
 use crate::disks::{fresh, loaded};
 use crate::sessions::{asked, says};
-use host_session::{
-    RecordedEvents, RecordedReplies, RecordedReply, ScriptEvents, ScriptFault, play_script, run,
-};
+use host_session::{ScriptEvents, ScriptFault, play_script, run};
 use std::process::Abort;
+use test_devices::{RecordedEvents, RecordedReplies, RecordedReply};
 
 /// A day on which power goes once: line 2 is cut after its first write, and asked again.
 const DAY: &[u8] = b"1,1,S,42,120\n@1 2,1,R,42,5\n2,1,R,42,5\n1,2,I,42,200\n";

@@ -1,10 +1,6 @@
 -- The sources of a run's events. All of it is our own.
-use Rattle.std.specs.Prelude.{◌≡◌, ◌⊎◌, ℕ, true, Vec, ◌<◌, ◌≤◌, ◌-◌, ◌==◌, if◌then◌else◌, drop, slice_get, List, []}
+use Rattle.std.specs.Prelude.{◌≡◌, ℕ, ◌<◌, ◌≤◌, ◌-◌, ◌==◌, if◌then◌else◌, drop, slice_get, List, []}
 use Rattle.std.specs.Prelude.{◌∷◌, ◌++◌, None, Some, Option, length, map, option_map, refl}
-use Rattle.std.proofs.Common.{append-nil, sym}
-use Rattle.std.specs.declared.alloc.Global.{Global}
-use Rattle.d64_image.specs.Images.{Image}
-use Rattle.d64_image.specs.Memory.{sectors_in}
 use Rattle.line_text.specs.scripts.Lines.{lines}
 use Rattle.line_text.specs.scripts.Resets.{first_bad}
 use Rattle.line_text.specs.declared.scripts.events.Event.{Event}
@@ -12,7 +8,6 @@ use Rattle.host_session.specs.declared.events.sources.Next.{Next}
 use Rattle.host_session.specs.declared.events.sources.Next.TheVariants as next
 use Rattle.host_session.specs.declared.events.sources.EventList.{EventList}
 use Rattle.host_session.specs.declared.events.sources.ScriptEvents.{ScriptEvents}
-use Rattle.host_session.specs.declared.events.recorded_events.RecordedEvents.{RecordedEvents}
 use Rattle.host_session.specs.events.Events.{Message, message_of, messages_of, uncut}
 use Rattle.host_session.specs.events.Instants.{Instant}
 
@@ -92,19 +87,4 @@ of_events = record {
   has_failed = λ _. ⊥;
   fuel = λ now. length now.events.now - now.taken;
   none = λ _. (refl, refl);
-}
-
--- what the disk held when each event was asked for
-abbrev pub noted_in : {A : Type 0} → RecordedEvents A → List Image
-noted_in now = map (λ (v : Vec ℕ Global). sectors_in v.items) now.disks.items
-
--- the events that were taken from a source, each recorded with what the disk held
-abbrev pub noted : {A : Type 0} → Source A → Source (RecordedEvents A)
-noted a = record {
-  gives = λ first now xs. a.gives first.asks now.asks xs × (noted_in now ≡ noted_in first ++ map (λ x. x.1.image) xs);
-  here = λ now. a.here now.asks;
-  is_over = λ now. a.is_over now.asks;
-  has_failed = λ now. (now.full ≡ true) ⊎ a.has_failed now.asks;
-  fuel = λ now. a.fuel now.asks;
-  none = λ now. (a.none now.asks, sym (append-nil (noted_in now)));
 }

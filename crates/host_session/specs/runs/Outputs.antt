@@ -1,18 +1,13 @@
 -- What is known of the replies that the outputs of this crate were passed. All of it is our own.
-use Rattle.std.specs.Prelude.{◌≡◌, ⊤, ℕ, ◌-◌, List, ◌++◌, Option, Vec, codes, take, vec_capacity, vec_len, map}
+use Rattle.std.specs.Prelude.{◌≡◌, ⊤, ℕ, ◌-◌, List, ◌++◌, Option, Vec, codes, take, vec_capacity, vec_len}
 use Rattle.std.proofs.KnownBytes.{Appends-nil}
 use Rattle.std.proofs.Common.{append-nil, sym}
 use Rattle.std.specs.Io.KnownBytes.{Appends}
 use Rattle.std.specs.declared.alloc.Global.{Global}
-use Rattle.d64_image.specs.Images.{Image}
-use Rattle.d64_image.specs.Memory.{sectors_in}
 use Rattle.request_cards.specs.Ledgers.{report}
 use Rattle.request_cards.specs.Texts.{reply_text}
 use Rattle.request_cards.specs.declared.reply.Reply.{Reply}
-use Rattle.host_session.specs.declared.events.recorded_replies.RecordedReplies.{RecordedReplies}
-use Rattle.host_session.specs.declared.events.recorded_replies.RecordedReply.{RecordedReply}
 use Rattle.host_session.specs.declared.events.printing.Printer.{Printer}
-use Rattle.host_session.specs.events.Instants.{Instant}
 use Rattle.host_session.specs.events.Telling.{Output, output_in}
 use Rattle.host_session.specs.runs.Chains.{told_in}
 
@@ -48,27 +43,4 @@ listed = record {
   is_handed_on = λ _. ⊤;
   room = λ v. vec_capacity v - vec_len v;
   none = λ v. sym (append-nil v.items);
-}
-
--- a reply that was kept, with what the disk held then
-abbrev pub turn_of : RecordedReply → Reply × Image
-turn_of t = (t.reply, sectors_in t.bytes.items)
-
--- each reply with what the disk held
-abbrev pub held_in : List (Reply × Instant) → List (Reply × Image)
-held_in turns = map (λ x. (x.0, x.1.image)) turns
-
--- the replies that were kept up to now
-abbrev pub turns_of : RecordedReplies → List (Reply × Image)
-turns_of h = map turn_of h.turns.items
-
--- Replies were kept, each with a copy of the disk, and this number of them flushed. A reply that isn't taken isn't
--- kept.
-abbrev pub heard : Output RecordedReplies
-heard = record {
-  told = λ old new turns. turns_of new ≡ turns_of old ++ held_in turns;
-  broken_off = λ old new turns last. turns_of new ≡ turns_of old ++ held_in turns;
-  is_handed_on = λ h. h.handed ≡ vec_len h.turns;
-  room = λ _. 0;
-  none = λ h. sym (append-nil (turns_of h));
 }

@@ -1,9 +1,9 @@
 //! Replies that are kept with what the disk held.
 ghost use Rattle.std.specs.Prelude.{◌≡◌, []};
-ghost use Rattle.host_session.specs.runs.Outputs.{heard, turns_of};
+ghost use Rattle.test_devices.specs.Recordings.{heard, turns_of};
 
-use crate::events::sinks::{NotTaken, ReplySink};
 use d64_image::MemDisk;
+use host_session::{NotTaken, ReplySink};
 use request_cards::Reply;
 use std::alloc::Global;
 

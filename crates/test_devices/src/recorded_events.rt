@@ -1,10 +1,9 @@
 //! Events that are recorded with what the disk held when they were asked for.
 ghost use Rattle.std.specs.Prelude.{◌≡◌, []};
-ghost use Rattle.host_session.specs.events.Asking.{noted, noted_in};
+ghost use Rattle.test_devices.specs.Recordings.{noted, noted_in};
 
-use crate::events::sources::{EventSource, Next};
 use d64_image::MemDisk;
-use line_text::Cut;
+use host_session::{Cut, EventSource, Next};
 use std::alloc::Global;
 
 /// A source of events that keeps, for each, a copy of what the disk held when the event was asked for. If there is no
