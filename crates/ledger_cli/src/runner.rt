@@ -125,7 +125,7 @@ fn refuse_words<R: Print + Eprint, E: Write>(
 /// Does a job over an output, and over standard error if it reports there. A person who waits for long work sees how far
 /// it is.
 fn do_watched<F, R, W, E>(
-    rt: &R,
+    rt: &NotedRuntime<'_, '_, R>,
     job: &Job<'_>,
     told: Audience,
     out: &mut W,

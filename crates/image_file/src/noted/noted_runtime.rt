@@ -5,12 +5,11 @@ use crate::noted::failures::Failures;
 use crate::noted::noted_file::NotedFile;
 use crate::noted::noted_reader::NotedReader;
 use crate::noted::subjects::Subject;
-use std::alloc::Allocator;
+use crate::paths::host::{HostFiles, folder_of};
+use std::alloc::{Allocator, Global};
 use std::fmt::Display;
-use std::fs::{Metadata, OpenOptions};
+use std::fs::Metadata;
 use std::io::{self, BufRead, Lines};
-use std::path::PathBuf;
-use std::rt::Files;
 
 /// A runtime that hands all calls on to another, and keeps those that fail.
 #[derive(Drop)]
@@ -46,6 +45,17 @@ impl<'n, 'a, R> NotedRuntime<'n, 'a, R> {
             .noted(Subject::of(self.words, path), None, outcome)
     }
 
+    /// A file that was opened at a path, which keeps its own failures. If it wasn't, that is kept.
+    fn opened<F: Drop>(
+        &self,
+        path: &str,
+        outcome: io::Result<F>,
+    ) -> io::Result<NotedFile<'n, 'a, F>> {
+        let subject = Subject::of(self.words, path);
+        let file = self.failures.noted(subject, None, outcome)?;
+        Ok(NotedFile::new(file, subject, self.failures))
+    }
+
     /// What came of printing, kept if it failed.
     fn printed<T: Drop>(&self, outcome: io::Result<T>) -> io::Result<T>
         ensures { result ≡ outcome }
@@ -62,57 +72,52 @@ impl<R: Alloc> Alloc for NotedRuntime<'_, '_, R> {
     }
 }
 
-impl<'n, 'a, R: Files> Files for NotedRuntime<'n, 'a, R> {
+impl<'n, 'a, R: HostFiles> HostFiles for NotedRuntime<'n, 'a, R> {
     type File = NotedFile<'n, 'a, R::File>;
 
-    type Dir = R::Dir;
+    ghost rights = { record {
+      may = λ noted how path. R.HostFiles.rights.may noted.rt.now how path;
+      leads = λ noted from to. R.HostFiles.rights.leads noted.rt.now from to;
+    } };
 
-    fn open_file(&self, how: &OpenOptions, path: &str) -> io::Result<NotedFile<'n, 'a, R::File>> {
-        let subject = Subject::of(self.words, path);
-        let opened = self
-            .failures
-            .noted(subject, None, self.rt.open_file(how, path))?;
-        Ok(NotedFile::new(opened, subject, self.failures))
+    fn look_at(&self, path: &str) -> io::Result<Metadata> {
+        self.noted(path, self.rt.look_at(path))
     }
 
-    fn open_dir(&self, path: &str) -> io::Result<R::Dir> {
-        self.noted(path, self.rt.open_dir(path))
+    fn resolve(&self, alloc: Global, path: &str) -> io::Result<String> {
+        self.rt.resolve(alloc, path)
     }
 
-    fn metadata(&self, path: &str) -> io::Result<Metadata> {
-        self.noted(path, self.rt.metadata(path))
+    fn sync_folder_of(&self, path: &str) -> io::Result<()> {
+        self.noted(folder_of(path), self.rt.sync_folder_of(path))
     }
 
-    fn symlink_metadata(&self, path: &str) -> io::Result<Metadata> {
-        self.noted(path, self.rt.symlink_metadata(path))
+    fn open_to_read(&self, path: &str) -> io::Result<NotedFile<'n, 'a, R::File>> {
+        self.opened(path, self.rt.open_to_read(path))
     }
 
-    fn copy(&self, from: &str, to: &str) -> io::Result<u64> {
-        self.noted(to, self.rt.copy(from, to))
+    fn open_to_change(&self, path: &str) -> io::Result<NotedFile<'n, 'a, R::File>> {
+        self.opened(path, self.rt.open_to_change(path))
     }
 
-    fn rename(&self, from: &str, to: &str) -> io::Result<()> {
-        self.noted(to, self.rt.rename(from, to))
+    fn open_to_write(&self, path: &str) -> io::Result<NotedFile<'n, 'a, R::File>> {
+        self.opened(path, self.rt.open_to_write(path))
     }
 
-    fn remove_file(&self, path: &str) -> io::Result<()> {
-        self.noted(path, self.rt.remove_file(path))
+    fn make_file(&self, path: &str) -> io::Result<NotedFile<'n, 'a, R::File>> {
+        self.opened(path, self.rt.make_file(path))
     }
 
-    fn create_dir(&self, path: &str) -> io::Result<()> {
-        self.noted(path, self.rt.create_dir(path))
+    fn make_folder(&self, path: &str) -> io::Result<()> {
+        self.noted(path, self.rt.make_folder(path))
     }
 
-    fn remove_dir(&self, path: &str) -> io::Result<()> {
-        self.noted(path, self.rt.remove_dir(path))
+    fn give_name(&self, from: &str, to: &str) -> io::Result<()> {
+        self.noted(to, self.rt.give_name(from, to))
     }
 
-    fn remove_dir_all<B: Allocator>(&self, alloc: B, path: &str) -> io::Result<()> {
-        self.noted(path, self.rt.remove_dir_all(alloc, path))
-    }
-
-    fn canonicalize<B: Allocator>(&self, alloc: B, path: &str) -> io::Result<PathBuf<B>> {
-        self.rt.canonicalize(alloc, path)
+    fn take_name(&self, path: &str) -> io::Result<()> {
+        self.noted(path, self.rt.take_name(path))
     }
 }
 

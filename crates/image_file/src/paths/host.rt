@@ -69,7 +69,7 @@ pub trait HostFiles {
 }
 
 /// The folder in which the file at a path stands.
-fn folder_of(path: &str) -> &str {
+pub(crate) fn folder_of(path: &str) -> &str {
     match path.rsplit_once('/') {
         None => ".",
         Some(("", _)) => "/",
