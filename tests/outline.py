@@ -20,8 +20,8 @@ from spec_files import TOP, write_or_check  # noqa: E402
 # how the crates under a heading of crates.txt are called
 NAMES = {
     "Product": r"(?!tests?_|example_)",
-    "Tests": r"tests_|test_every_cut$",
-    "Tools": r"test_(?!every_cut)|benchmarks$",
+    "Tests": r"tests_",
+    "Tools": r"test_|benchmarks$",
     "Example": r"example_",
 }
 HEAD = """# The crates

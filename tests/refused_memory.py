@@ -3,12 +3,12 @@
 
     tests/refused_memory.py PROGRAM [CUTS]
 
-PROGRAM is what `tools/program` prints, and CUTS what `tools/program test_every_cut` prints. Each of its words is run over and
+PROGRAM is what `tools/program` prints, and CUTS what `tools/program benchmarks` prints. Each of its words is run over and
 over: the first request for memory is refused, then the second, and so on, until a run has none left to refuse. Each time
 - it ends with status 3 and `NO MEMORY`, with nothing printed and no image changed; `serve` and `play --log` may have printed all
   replies, if they were refused the memory to land the log, which stays;
 - or, where it can do without, it does and prints what it does with all its memory.
-CUTS plays a short day: it says so where memory is wanted, with status 1, and never that something differs. A small library
+`CUTS cuts` plays a short day: it says so where memory is wanted, with status 1, and never that something differs. A small library
 that is loaded before the program refuses the memory; it is made with `cc`. It prints how much was tried. The status is 1 at
 the first difference."""
 
@@ -206,8 +206,8 @@ def main():
             count = trial.each(words, anew, wanted, status, given)
             print(f"{command.name}: {count} requests for memory refused in turn", flush=True)
         if len(sys.argv) > 2:
-            count = trial.each([Path(sys.argv[2]).resolve(), "6", "1", "20"], lambda: None, no_memory_for_a_day)
-            print(f"test_every_cut: {count} requests for memory refused in turn")
+            count = trial.each([Path(sys.argv[2]).resolve(), "cuts", "6", "1", "20"], lambda: None, no_memory_for_a_day)
+            print(f"cuts: {count} requests for memory refused in turn")
         print(f"{trial.tried} refusals, no difference")
 
 

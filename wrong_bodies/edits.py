@@ -5,17 +5,19 @@ import re
 FUNCTION = re.compile(r"( *)(?:pub(?:\([a-z]+\))? )?(?:const )?fn (\w+)")
 # a constant, to its end
 CONSTANT = re.compile(r"^(?:pub(?:\([a-z]+\))? )?(?:const|static) (\w+)(:.*?;)$", re.M | re.S)
+# What gated.py writes into an edit: items that the check isn't to read, one by one or in a comment.
+GATE = re.compile(r"(?:.* )?/\*|\*/(?: .*)?|#\[cfg\(test\)\] .*")
 # `impl<T> Trait<Word> for Type<T> {`: the proofs of a method are in TypeTrait, or in TypeTraitWord where several are of one trait
 IMPL = re.compile(r"impl(?:<(?P<own>.*?)>)? (?:(?:\w+::)*(?P<trait>\w+)(?:<(?P<word>.*)>)? for )?(?:\w+::)*(?P<type>\w+)(?:<(?P<of>.*)>)?")
 
 
 class Edit:
-    """One wrong body: its name, and for each text that it replaces the file, the old text and the new one. `values` is what its line
-    `false: CLAUSE: VALUES` says, None where it has none."""
+    """One wrong body: its name, and for each text that it replaces the file, the old text and the new one; `gates` has those that only
+    keep other modules from being read. `values` is what its line `false: CLAUSE: VALUES` says, None where it has none."""
 
     def __init__(self, path):
         self.name = path.stem
-        self.pairs = []
+        self.pairs, self.gates = [], []
         self.values = None
         file = old = None
         for line in path.read_text(encoding="utf-8").split("\n"):
@@ -24,7 +26,8 @@ class Edit:
             elif line.startswith("old: "):
                 old = line[len("old: "):]
             elif line.startswith("new:"):
-                self.pairs.append((file, old, line[len("new:"):].removeprefix(" ")))
+                new = line[len("new:"):].removeprefix(" ")
+                (self.gates if GATE.fullmatch(new) else self.pairs).append((file, old, new))
             elif line.startswith("false: "):
                 self.values = line[len("false: "):].strip()
 
@@ -47,7 +50,7 @@ class Edit:
     def fits(self, crate):
         """Whether each old text stands in its file once."""
         return bool(self.pairs) and all((crate / file).is_file() and (crate / file).read_text(encoding="utf-8").count(old) == 1
-                                        for file, old, _ in self.pairs)
+                                        for file, old, _ in self.pairs + self.gates)
 
 
 def line_of(text, old):

@@ -6,6 +6,8 @@ import re
 import subprocess
 from pathlib import Path
 
+from edits import GATE
+
 TOP = Path(__file__).resolve().parent.parent
 FILE = Path(__file__).resolve().parent / "VERDICTS"
 # those of the rows, which tests/rows_see.py writes
@@ -52,17 +54,33 @@ def refused(file=FILE):
     return {name for name, it in found.items() if it[2] == "refused" and name not in changed[it[5]]}
 
 
+def name_of(path):
+    """The name of the wrong body in this file, CRATE/NAME."""
+    return f"{Path(path).parent.name if 'must-fail' not in path else Path(path).parts[1]}/{Path(path).stem}"
+
+
 def edits_since(commit):
-    """The names of the wrong bodies whose edits aren't as they were at the commit. One that went into another crate with its file is."""
-    rows = said_by_git("diff", "-M", "-l0", "--name-status", commit, "--", "wrong_bodies", "crates/*/must-fail").split("\n")
+    """The names of the wrong bodies that aren't as they were at the commit. One is that went elsewhere, as to another crate with its
+    file or into the gate."""
+    said = said_by_git("diff", "-M", "-l0", "--name-status", commit, "--", "wrong_bodies", "crates/*/must-fail")
+    rows = [row.split("\t") for row in said.split("\n") if row]
+    gone = {name_of(it[1]): it[1] for it in rows if it[0] == "D"}
     found = set()
-    for word, *paths in (row.split("\t") for row in rows if row):
-        if not word.startswith("R") or lines_at(commit, paths[0]) != lines_at("", paths[1]):
-            found |= set(paths)
-    return {f"{Path(it).parent.name if 'must-fail' not in it else Path(it).parts[1]}/{Path(it).stem}" for it in found}
+    for word, *paths in rows:
+        was = paths[0] if word.startswith("R") else gone.get(name_of(paths[0]))
+        if word != "D" and not (was and lines_at(commit, was) == lines_at("", paths[-1])):
+            found |= {name_of(it) for it in paths}
+    return found
 
 
 def lines_at(commit, path):
-    """The lines of an edit at the commit, or as it is now, but for those that name its files."""
+    """The lines of an edit at the commit, or as it is now, but for those that name its files, and those that keep others from being
+    read."""
     text = said_by_git("show", f"{commit}:{path}") if commit else (TOP / path).read_text(encoding="utf-8").strip()
-    return [line for line in text.split("\n") if not line.startswith("file:")]
+    lines = []
+    for line in text.split("\n"):
+        if line.startswith("new:") and GATE.fullmatch(line[len("new:"):].removeprefix(" ")):
+            lines.pop()
+        elif not line.startswith("file:"):
+            lines.append(line)
+    return lines

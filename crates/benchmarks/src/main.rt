@@ -1,21 +1,25 @@
 //! Does one work so many times over, so that it can be timed: `benchmarks WORD ROUNDS IMAGE`. Each word prints one
-//! number, from which no round can be left out. If there is no word, each benchmark is run for a few rounds. One word
-//! times nothing: `benchmarks records IMAGE NAME` prints the records of a relative file.
+//! number, from which no round can be left out. Two words time nothing. `benchmarks records IMAGE NAME` prints the
+//! records of a relative file. `benchmarks cuts MESSAGES SEED ITEMS IMAGE` plays a day, and tries each moment of it. If
+//! there is no word, each benchmark is run for a few rounds, and a day is tried.
 #![tactic(auto)]
 
-ghost use Rattle.std.specs.Prelude.{◌≤◌};
-
 mod checks;
+mod cuts;
+mod disks;
 mod drives;
+mod found;
 mod printing;
 mod records;
 mod requests;
 mod sectors;
 
 use checks::count_clean;
+use cuts::try_day;
 use d64_image::MemDisk;
-use disk_layout::blank_image;
+use disks::{blank, zeroed};
 use drive_channels::Drive;
+use found::{Found, or_say};
 use printing::put_file;
 use std::io::{BufWriter, Write};
 use std::process::ExitCode;
@@ -33,7 +37,7 @@ const WORDS: [&str; 8] = [
 const OUTPUT_ROOM: usize = 65536;
 
 /// Rounds of a benchmark and the number that they give. Err is a text that says what failed.
-type Done = Result<u64, &'static str>;
+type Done = Found<u64>;
 
 /// The rounds that a word asks for; None if it is no number of at most 64 bits.
 fn asked_rounds(word: Option<String>) -> Option<u64> {
@@ -43,33 +47,8 @@ fn asked_rounds(word: Option<String>) -> Option<u64> {
     }
 }
 
-/// The value of what was tried; if there is none, this text.
-fn or_say<T, E: Drop>(tried: Result<T, E>, what: &'static str) -> Result<T, &'static str> {
-    match tried {
-        Ok(it) => Ok(it),
-        Err(_) => Err(what),
-    }
-}
-
-/// A disk in memory, all of whose bytes are zero.
-fn zeroed(rt: &HostRuntime) -> Result<MemDisk, &'static str> {
-    or_say(MemDisk::zeroed(rt.alloc()), "no memory")
-}
-
-/// The blank disk for so many tills.
-fn blank(rt: &HostRuntime, tills: u8) -> Result<MemDisk, &'static str>
-    requires some { 1 ≤ tills }
-    requires few { tills ≤ 64 }
-{
-    let mut disk = zeroed(rt)?;
-    match blank_image(&mut disk, b"STOCK LEDGER", *b"01", tills) {
-        Ok(_) => Ok(disk),
-        Err(_) => Err("no blank image"),
-    }
-}
-
 /// The disk of an image file.
-fn disk_of(rt: &HostRuntime, path: &str) -> Result<MemDisk, &'static str> {
+fn disk_of(rt: &HostRuntime, path: &str) -> Found<MemDisk> {
     match fs::read(rt, path) {
         Ok(bytes) => or_say(
             MemDisk::load(rt.alloc(), bytes.as_slice()),
@@ -80,10 +59,10 @@ fn disk_of(rt: &HostRuntime, path: &str) -> Result<MemDisk, &'static str> {
 }
 
 /// The disk of the image file that is named; if none is, the blank disk for two tills.
-fn asked_disk(rt: &HostRuntime, path: Option<String>) -> Result<MemDisk, &'static str> {
+fn asked_disk(rt: &HostRuntime, path: Option<String>) -> Found<MemDisk> {
     match path {
         Some(path) => disk_of(rt, path.as_str()),
-        None => blank(rt, 2),
+        None => blank(rt.alloc(), 2),
     }
 }
 
@@ -143,7 +122,7 @@ fn time_turns(disk: MemDisk, rounds: u64) -> Done {
 /// `drive`: so many times a record of each file of a full disk is written through a drive; gives a checksum of the
 /// image.
 fn time_drive(rt: &HostRuntime, rounds: u64) -> Done {
-    let mut disk = zeroed(rt)?;
+    let mut disk = zeroed(rt.alloc())?;
     match records::grow_stock(&mut disk) {
         Ok(_) => time_turns(disk, rounds),
         Err(_) => Err("STOCK can't grow"),
@@ -151,8 +130,8 @@ fn time_drive(rt: &HostRuntime, rounds: u64) -> Done {
 }
 
 /// A disk that was blank, after so many messages of 64 tills to a session on it, and a checksum of the replies.
-fn asked_shop(rt: &HostRuntime, rounds: u64) -> Result<(u64, MemDisk), &'static str> {
-    let disk = blank(rt, requests::TILLS)?;
+fn asked_shop(rt: &HostRuntime, rounds: u64) -> Found<(u64, MemDisk)> {
+    let disk = blank(rt.alloc(), requests::TILLS)?;
     let Ok(mut tills) = requests::all_tills(rt.alloc()) else {
         return Err("no memory");
     };
@@ -198,12 +177,12 @@ fn timed(rt: &HostRuntime, word: &str, rounds: u64, path: Option<String>) -> Don
         "drive" => time_drive(rt, rounds),
         "requests" => time_requests(rt, rounds),
         "openings" => time_openings(rt, rounds),
-        _ => timed_on(&mut zeroed(rt)?, word, rounds),
+        _ => timed_on(&mut zeroed(rt.alloc())?, word, rounds),
     }
 }
 
 /// The records of a relative file of the disk, each on a line of its own.
-fn put_lines(rt: &HostRuntime, disk: &mut MemDisk, name: &str) -> Result<(), &'static str> {
+fn put_lines(rt: &HostRuntime, disk: &mut MemDisk, name: &str) -> Found<()> {
     let Ok(mut out) = BufWriter::with_capacity(rt.alloc(), OUTPUT_ROOM, io::writer(rt)) else {
         return Err("no memory");
     };
@@ -214,11 +193,7 @@ fn put_lines(rt: &HostRuntime, disk: &mut MemDisk, name: &str) -> Result<(), &'s
 }
 
 /// `records`: each record of a relative file of the image on a line of its own.
-fn print_records(
-    rt: &HostRuntime,
-    path: Option<String>,
-    name: Option<String>,
-) -> Result<(), &'static str> {
+fn print_records(rt: &HostRuntime, path: Option<String>, name: Option<String>) -> Found<()> {
     match name {
         Some(name) => put_lines(rt, &mut asked_disk(rt, path)?, name.as_str()),
         None => Err("records asks for an image and a name"),
@@ -257,11 +232,11 @@ fn tell_one(rt: &HostRuntime, word: &str, done: Done) -> io::Result<()> {
 }
 
 /// Runs the benchmarks of these words, one after another.
-fn run_all(rt: &HostRuntime, words: &[&str]) -> io::Result<ExitCode> {
+fn run_all(rt: &HostRuntime, words: &[&str]) -> io::Result<()> {
     for word in words {
         tell_one(rt, word, timed(rt, word, ROUNDS, None))?;
     }
-    Ok(ExitCode::SUCCESS)
+    Ok(())
 }
 
 /// Does what a word and the two after it ask for, and returns the exit status.
@@ -284,10 +259,17 @@ fn run_word(
 }
 
 fn main(rt: HostRuntime) -> io::Result<ExitCode> {
-    let mut words = env::args(&rt)?;
+    let Ok(mut words) = env::args(&rt) else {
+        println!(rt; "no memory for the words")?;
+        return Ok(ExitCode::FAILURE);
+    };
     words.next();
-    match words.next() {
-        Some(word) => run_word(&rt, word.as_str(), words.next(), words.next()),
-        None => run_all(&rt, &WORDS),
+    let Some(word) = words.next() else {
+        run_all(&rt, &WORDS)?;
+        return try_day(&rt, &mut words);
+    };
+    if word.as_str() == "cuts" {
+        return try_day(&rt, &mut words);
     }
+    run_word(&rt, word.as_str(), words.next(), words.next())
 }

@@ -1,8 +1,8 @@
 //! Each image that differs from a blank one in one bit of a sector that a shop uses.
-use crate::cuts::{copy, is_clean};
+use crate::cuts::moments::{copy, is_clean};
+use crate::cuts::tried::{Tried, count};
+use crate::disks::blank;
 use crate::found::{Found, or_say};
-use crate::old_disk::blank;
-use crate::tried::{Tried, count};
 use d64_image::{MemDisk, Place, Sectors};
 use host_session::Session;
 use std::alloc::Global;

@@ -1,7 +1,7 @@
 //! The messages of a day as events of one run, each sent twice: power goes in the first, and in openings after it.
-use crate::cuts::{copy, is_clean};
+use crate::cuts::ledger::Ledger;
+use crate::cuts::moments::{copy, is_clean};
 use crate::found::Found;
-use crate::ledger::Ledger;
 use arrayvec::ArrayVec;
 use d64_image::MemDisk;
 use host_session::{Cut, Event, PlayFault, Session, play};

@@ -1,4 +1,4 @@
-use Rattle.test_every_cut.proofs.cuts.+reopen.Given as goal
+use Rattle.benchmarks.proofs.cuts.moments.+reopen.Given as goal
 
 abbrev pub decreases-reopen : goal.decreases-reopen
 decreases-reopen l = l.deep

@@ -1,31 +1,30 @@
-//! Plays a day of messages on a disk, and tries each moment of it: `test_every_cut MESSAGES SEED ITEMS IMAGE`.
-#![tactic(auto)]
+//! Plays a day of messages on a disk, and tries each moment of it: `cuts MESSAGES SEED ITEMS IMAGE`.
 
 mod bits;
-mod cuts;
 mod day;
 mod draw;
 mod events;
-mod found;
 mod ledger;
+mod moments;
 mod old_disk;
 mod others;
 mod tried;
 
-use bits::turn_each_bit;
-use cuts::{Asked, close, open, reopen};
+use crate::cuts::bits::turn_each_bit;
+use crate::cuts::day::{DEEP, Shop, play_day};
+use crate::cuts::draw::Draw;
+use crate::cuts::ledger::Ledger;
+use crate::cuts::moments::{Asked, close, open, reopen};
+use crate::cuts::old_disk::{old_disk, open_message};
+use crate::cuts::others::Others;
+use crate::cuts::tried::Tried;
+use crate::found::{Found, or_say};
 use d64_image::MemDisk;
-use day::{DEEP, Shop, play_day};
-use draw::Draw;
-use found::{Found, or_say};
-use ledger::Ledger;
-use old_disk::{old_disk, open_message};
-use others::Others;
 use request_cards::{Reply, Word};
 use std::alloc::Global;
+use std::env::Args;
 use std::process::ExitCode;
-use std::{env, fs, io};
-use tried::Tried;
+use std::{fs, io};
 
 /// A word that is a number; this one if there is no word. Err if it is no number.
 fn number(word: Option<String>, without: u16) -> Found<u16> {
@@ -85,10 +84,8 @@ fn other_shop(alloc: Global, bytes: &[u8], tried: &mut Tried) -> Found<Shop> {
     })
 }
 
-/// Plays the day that the words name, and prints how much was tried.
-fn run(rt: &HostRuntime, tried: &mut Tried) -> Found<()> {
-    let mut words = or_say(env::args(rt), "no memory for the words")?;
-    words.next();
+/// Plays the day that the words name. Without words each bit of a blank disk's sectors is turned first.
+fn play(rt: &HostRuntime, words: &mut Args, tried: &mut Tried) -> Found<()> {
     let word = words.next();
     if word.is_none() {
         turn_each_bit(rt.alloc(), tried)?;
@@ -115,10 +112,11 @@ fn tell(rt: &HostRuntime, rows: &[(&str, u64)]) -> io::Result<()> {
     Ok(())
 }
 
-fn main(rt: HostRuntime) -> io::Result<ExitCode> {
+/// Plays the day that the words name, and prints how much was tried, and whether something differs.
+pub(crate) fn try_day(rt: &HostRuntime, words: &mut Args) -> io::Result<ExitCode> {
     let mut tried = Tried::nothing();
-    let result = run(&rt, &mut tried);
-    tell(&rt, &tried.rows())?;
+    let result = play(rt, words, &mut tried);
+    tell(rt, &tried.rows())?;
     match result {
         Ok(()) => {
             println!(rt; "no difference")?;

@@ -1,11 +1,10 @@
 //! A disk with cards of version 1 and an open intent, as power may have left one.
-ghost use Rattle.std.specs.Prelude.{◌≤◌};
-
+use crate::cuts::ledger::Ledger;
+use crate::disks::blank;
+use crate::drives::put_record;
 use crate::found::{Found, or_say};
-use crate::ledger::Ledger;
 use d64_image::{MemDisk, Sectors};
-use disk_layout::blank_image;
-use drive_channels::{Dead, Drive};
+use drive_channels::Drive;
 use host_session::Session;
 use request_cards::RequestCard;
 use std::alloc::Global;
@@ -31,32 +30,6 @@ const PLAYED: [&str; 8] = [
 
 /// The till whose intent stands open, and its item, whose card lies in two blocks and is torn.
 const OPEN: (u8, u16) = (5, 15);
-
-/// The blank disk for so many tills.
-pub(crate) fn blank(alloc: Global, tills: u8) -> Found<MemDisk>
-    requires some { 1 ≤ tills }
-    requires few { tills ≤ 64 }
-{
-    let mut disk = or_say(MemDisk::zeroed(alloc), "no memory for an image")?;
-    match blank_image(&mut disk, b"STOCK LEDGER", *b"01", tills) {
-        Ok(_) => Ok(disk),
-        Err(_) => Err("no blank image"),
-    }
-}
-
-/// A record written through a drive.
-fn put_record<D: Sectors>(
-    drive: &mut Drive<D>,
-    name: &[u8],
-    number: u16,
-    text: &[u8],
-) -> Result<(), Dead> {
-    let number = number.to_le_bytes();
-    drive.open(2, name)?;
-    drive.command(&[b'P', 96 + 2, number[0], number[1], 1])?;
-    drive.write(2, text)?;
-    drive.close(2)
-}
 
 /// Plays the messages on a disk, and in the table.
 fn play<D: Sectors>(session: &mut Session<D>, ledger: &mut Ledger, messages: &[&str]) -> Found<()> {

@@ -1,8 +1,8 @@
 //! Each image that a device held is opened, and each image of that opening again.
+use crate::cuts::ledger::{Kept, Ledger};
+use crate::cuts::others::Others;
+use crate::cuts::tried::{Tried, count};
 use crate::found::{Found, or_say};
-use crate::ledger::{Kept, Ledger};
-use crate::others::Others;
-use crate::tried::{Tried, count};
 use d64_image::{MemDisk, Sectors};
 use damaged_files::find_image_cut;
 use disk_layout::map_place;

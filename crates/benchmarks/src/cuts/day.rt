@@ -1,11 +1,11 @@
 //! A day of messages, played on a disk, and each image that the disk held on the way.
-use crate::cuts::{Asked, close, copy, open, opened, reopen, undo};
-use crate::draw::Draw;
-use crate::events::play_events;
+use crate::cuts::draw::Draw;
+use crate::cuts::events::play_events;
+use crate::cuts::ledger::Ledger;
+use crate::cuts::moments::{Asked, close, copy, open, opened, reopen, undo};
+use crate::cuts::others::Others;
+use crate::cuts::tried::{Tried, count};
 use crate::found::{Found, or_say};
-use crate::ledger::Ledger;
-use crate::others::Others;
-use crate::tried::{Tried, count};
 use d64_image::MemDisk;
 use host_session::Session;
 use std::alloc::Global;

@@ -1,7 +1,7 @@
 //! The messages of a day, drawn one after another.
 ghost use Rattle.std.specs.Prelude.{◌<◌, ◌≤◌};
 
-use crate::ledger::{Kept, Ledger};
+use crate::cuts::ledger::{Kept, Ledger};
 use std::alloc::{AllocError, Global};
 
 /// Messages that are no requests, or of a till or for an item that there isn't.
