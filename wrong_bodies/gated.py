@@ -4,9 +4,10 @@
     wrong_bodies/gated.py [--check | --prove] [CRATE[/NAME] ..]     without a word all of crates/*/must-fail
 
 The line `keeps: MODULE ..` of an edit names the modules that its check reads: that of the function, and those that it uses. The line
-`types: MODULE ..` names those of which only the types are read, since `specs/` names them. This script writes the pairs of lines for
-that at the edit's end. Other modules are left out by `#[cfg(test)]`, and so are functions, and imports of such modules. In a file that
-only names modules, as the crate's root, the first pair names all anew, and puts what stood there into a comment.
+`types: MODULE ..` names those of which only the types are read, since `specs/` names them; a type whose methods have answers in
+`proofs/` is kept with these, since the check looks for each. This script writes the pairs of lines for that at the edit's end. Other
+modules are left out by `#[cfg(test)]`, and so are functions, and imports of such modules. In a file that only names modules, as the
+crate's root, the first pair names all anew, and puts what stood there into a comment.
 
 With `--check` nothing is written, and the status is 1 where an edit isn't as it would be written. With `--prove` the crate is checked
 with these pairs alone: it has to be proved. The line for it has the seconds of processor time. The crates below are taken as `rt ci`
@@ -63,18 +64,23 @@ def gates(crate, keeps, types):
             first = " ".join([*lines[:not name], *(it for it in items if it != end)])
             yield f"file: {file}\nold: {lines[0]}\nnew: {first} /*\nold: {lines[-1]}\nnew: {f'*/ {end}'.strip()}\n"
         elif name:
-            lost = [it for it in lines for path in re.findall(r"^use crate::((?:[a-z]\w*::)*)", it) if not is_there(crate, path, keeps | types)]
-            lost += goes + [it for it in lines if name not in keeps and CODE.match(it)]
-            if lost:
-                yield f"file: {file}\n" + "".join(f"old: {it}\nnew: {OUT}{it}\n" for it in lines if it in lost)
+            new = {it: imported(crate, it, keeps, types) for it in lines}
+            new |= {it: OUT + it for it in lines if it in goes or name not in keeps and CODE.match(it)}
+            if any(new.values()):
+                yield f"file: {file}\n" + "".join(f"old: {it}\nnew: {new[it]}\n" for it in new if new[it])
 
 
-def is_there(crate, path, stay):
-    """Whether the module that a path leads into stays."""
-    parts = [it for it in path.split("::") if it]
-    while parts and not (crate / "src" / "/".join(parts)).with_suffix(".rt").exists():
-        parts.pop()
-    return not parts or "::".join(parts) in stay
+def imported(crate, line, keeps, types):
+    """A line of imports without those of what is left out, nothing where it stays as it is."""
+    found = re.match(r"use crate::((?:[a-z]\w*::)*[a-z]\w*)::(?:\{([^}]*)\};|(\w+);)?", line)
+    if not found or found[1] not in keeps | types:
+        return found and OUT + line
+    text = (crate / f"src/{found[1].replace('::', '/')}.rt").read_text(encoding="utf-8")
+    names = re.findall(r"\w+", found[2] or found[3] or "")
+    gone = [it for it in names if found[1] in types and re.search(rf"^(?:pub(?:\(crate\))? )?(?:const )?fn {it}\b", text, re.M)]
+    parts = [gone, [it for it in names if it not in gone]]
+    items = [f"use crate::{found[1]}::{{{', '.join(it)}}};" for it in parts if it]
+    return OUT + " ".join(items) if gone else None
 
 
 def written(path):

@@ -31,6 +31,16 @@ pub(crate) struct Full {
     pub(crate) flushes: bool,
 }
 
+impl Full {
+    /// One that takes so many bytes, and hands them on.
+    pub(crate) fn taking(room: usize) -> Full {
+        Full {
+            room,
+            flushes: true,
+        }
+    }
+}
+
 impl Write for Full {
     fn write(&mut self, buf: &[u8]) -> io::Result<usize> {
         let taken = buf.len().min(self.room);

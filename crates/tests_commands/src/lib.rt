@@ -1,6 +1,6 @@
-//! Worked rows of the commands: scripts played, also without a disk; images made, listed, checked and shown; and files
-//! and outputs that fail. Tests only: no program stands on this crate. They stand here and not in the crate that they
-//! test so that the gate proves that one once.
+//! Worked rows of the commands: scripts played, also without a disk; images made, listed, checked and shown; files and
+//! outputs that fail; and what keepers do with an image. Tests only: no program stands on this crate. They stand here and
+//! not in the crates that they test so that the gate proves those once.
 #![tactic(auto)]
 
 #[cfg(test)]
@@ -23,6 +23,8 @@ mod format_rows;
 mod history_rows;
 #[cfg(test)]
 mod images;
+#[cfg(test)]
+mod keepers;
 #[cfg(test)]
 mod kept_rows;
 #[cfg(test)]

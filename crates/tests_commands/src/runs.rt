@@ -1,5 +1,5 @@
 //! Runs of the commands: what they print, show and report.
-use crate::comparing::{holds, same};
+use crate::comparing::{same, same_at};
 use crate::files::{Paper, Tape, new_tape};
 use command_faults::CommandFault;
 use disk_reports::{NameForm, check_image, list_image};
@@ -107,16 +107,29 @@ pub(crate) fn shows(rt: &(impl AllocGlobal + Abort), image: &[u8], text: &[u8]) 
     same(rt, (ended, out.as_slice()), (Ok(()), text));
 }
 
-/// Checks that a command isn't done, and that this is reported.
+/// The exit status that goes with this report: 0 if there is none.
+fn status_of(told: &str) -> u8 {
+    match told {
+        "" => 0,
+        "FILE" => 3,
+        _ => 1,
+    }
+}
+
+/// Checks that a command ended so: with this report, and its status; or done, if there is no report.
 pub(crate) fn is_told(
     rt: &(impl AllocGlobal + Abort),
     ended: Result<(), CommandFault>,
-    text: &str,
+    told: &str,
 ) {
-    match ended {
-        Ok(()) => holds(rt, false, text),
-        Err(fault) => has_text(rt, fault, text),
+    let mut text = Vec::new(rt.alloc());
+    let mut status = 0;
+    if let Err(fault) = ended {
+        let _ = write!(text, "{fault}");
+        status = fault.status();
     }
+    same_at(rt, text.as_slice(), told.as_bytes(), "told");
+    same_at(rt, status, status_of(told), told);
 }
 
 /// Checks that a fault is reported by this text.

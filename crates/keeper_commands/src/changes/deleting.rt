@@ -1,5 +1,6 @@
 //! A file of an image deleted.
-ghost use Rattle.std.specs.Prelude.{◌≡◌, IfErr, OnOk};
+ghost use Rattle.std.specs.Prelude.{◌≡◌, IfErr, OnErr, OnOk, codes};
+ghost use Rattle.command_faults.specs.Outputs.{HandsPart};
 ghost use Rattle.d64_image.specs.Memory.{sectors_in};
 ghost use Rattle.keeper_commands.specs.changes.Deletes.{IsDeleteDone, IsDeleteFault};
 
@@ -17,7 +18,8 @@ use std::io::Write;
 ///
 /// `ImageSize`, `NoMemory`, `Layout` if the disk isn't clean, for a fault that holds; `NoFile` if no entry has the name;
 /// `Locked` if the first that has it is locked: nothing was written or printed then. `Device` if the device failed: the
-/// file is there or not, and nothing was printed. `File` if the output failed: the file is deleted.
+/// file is there or not, and nothing was printed. `File` if the output failed: the file is deleted, and the output has a
+/// first part of `DELETED`.
 pub fn delete_image<D: Sectors, W: Write>(
     alloc: Global,
     image: &[u8],
@@ -28,6 +30,7 @@ pub fn delete_image<D: Sectors, W: Write>(
     requires holds { D.history.image disk.old ≡ sectors_in image.now }
     ensures ok { OnOk result (IsDeleteDone D.history W.contents image.now name.now disk.old disk.new out.old out.new) }
     ensures err { IfErr result (IsDeleteFault D.history image.now name.now disk.old disk.new out.old out.new) }
+    ensures part { OnErr result (HandsPart (W.contents out.old) (W.contents out.new) (codes "DELETED\n")) }
 {
     judge_clean(alloc, image)?;
     if name.len() > 16 {

@@ -1,5 +1,6 @@
 //! A file put into an image.
-ghost use Rattle.std.specs.Prelude.{◌≡◌, ◌≤◌, IfErr, OnOk, length};
+ghost use Rattle.std.specs.Prelude.{◌≡◌, ◌≤◌, IfErr, OnErr, OnOk, codes, length};
+ghost use Rattle.command_faults.specs.Outputs.{HandsPart};
 ghost use Rattle.d64_image.specs.Memory.{sectors_in};
 ghost use Rattle.keeper_commands.specs.changes.Puts.{IsPutDone, IsPutFault};
 
@@ -19,7 +20,7 @@ use std::io::Write;
 /// `ImageSize`, `NoMemory`, `Layout` if the disk isn't clean, for a fault that holds; `FileExists` if an entry has the
 /// name. Otherwise `DiskFull` if the disk has fewer free blocks than the file takes, or no room in its directory. Nothing
 /// was written or printed then. `Device` if the device failed: the file is there or not, and nothing was printed. `File`
-/// if the output failed: the file is there.
+/// if the output failed: the file is there, and the output has a first part of `PUT`.
 pub fn put_image<D: Sectors, W: Write>(
     alloc: Global,
     image: &[u8],
@@ -34,6 +35,7 @@ pub fn put_image<D: Sectors, W: Write>(
     ensures ok { OnOk result (IsPutDone D.history W.contents image.now name.now kind content.now disk.old disk.new
         out.old out.new) }
     ensures err { IfErr result (IsPutFault D.history image.now name.now kind content.now disk.old disk.new out.old out.new) }
+    ensures part { OnErr result (HandsPart (W.contents out.old) (W.contents out.new) (codes "PUT\n")) }
 {
     judge_clean(alloc, image)?;
     if let Err(fault) = put_file(disk, name, kind, content) {

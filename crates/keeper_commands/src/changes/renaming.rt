@@ -1,5 +1,6 @@
 //! A file of an image renamed.
-ghost use Rattle.std.specs.Prelude.{◌≡◌, ◌≤◌, IfErr, OnOk, length};
+ghost use Rattle.std.specs.Prelude.{◌≡◌, ◌≤◌, IfErr, OnErr, OnOk, codes, length};
+ghost use Rattle.command_faults.specs.Outputs.{HandsPart};
 ghost use Rattle.d64_image.specs.Memory.{sectors_in};
 ghost use Rattle.keeper_commands.specs.changes.Renames.{IsRenameDone, IsRenameFault};
 
@@ -17,7 +18,8 @@ use std::io::Write;
 ///
 /// `ImageSize`, `NoMemory`, `Layout` if the disk isn't sound, for a fault that holds; `NoFile` if no entry has the first
 /// name; `FileExists` if one has the second: nothing was written or printed then. `Device` if the device failed: the
-/// entry has one of the names, and nothing was printed. `File` if the output failed: the entry is renamed.
+/// entry has one of the names, and nothing was printed. `File` if the output failed: the entry is renamed, and the output
+/// has a first part of `RENAMED`.
 pub fn rename_image<D: Sectors, W: Write>(
     alloc: Global,
     image: &[u8],
@@ -31,6 +33,7 @@ pub fn rename_image<D: Sectors, W: Write>(
     ensures ok { OnOk result (IsRenameDone D.history W.contents image.now from.now to.now disk.old disk.new
         out.old out.new) }
     ensures err { IfErr result (IsRenameFault D.history image.now from.now to.now disk.old disk.new out.old out.new) }
+    ensures part { OnErr result (HandsPart (W.contents out.old) (W.contents out.new) (codes "RENAMED\n")) }
 {
     judge_sound(alloc, image)?;
     if from.len() > 16 {

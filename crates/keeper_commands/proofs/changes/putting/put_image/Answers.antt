@@ -2,6 +2,7 @@
 use Rattle.std.proofs.Common.{◌≡◌, Err, ap, sym, subst, ◌∙◌}
 use Rattle.std.proofs.KnownBytes.{Appends-kept}
 use Rattle.std.proofs.lemmas.Result.{IfErr-weaker, err_from_is_err_and}
+use Rattle.command_faults.proofs.Parts.{at-error, part-all, part-none}
 use Rattle.d64_image.proofs.Told.{at-ok}
 use Rattle.disk_layout.specs.Clean.{IsClean}
 use Rattle.keeper_commands.proofs.lemmas.changes.PutImages.{put-done, put-refused, put-unclean}
@@ -56,3 +57,16 @@ returns-clause-err g c =
     c.args.disk.now c.put_file.new.disk clean.0 (subst IsClean (sym c.requires.holds) clean.1) c.in_default.field-0
     c.in_default.ensures))
     c.flush.ensures.err
+
+pub returns-in_err-judge_clean-clause-part : goal.returns-in_err-judge_clean-clause-part
+returns-in_err-judge_clean-clause-part g c = at-error c.from_residual.result (part-none _ _)
+
+pub returns-in-Err-clause-part : goal.returns-in-Err-clause-part
+returns-in-Err-clause-part g c = part-none _ _
+
+pub returns-in_err-put-clause-part : goal.returns-in_err-put-clause-part
+returns-in_err-put-clause-part g c = at-error c.from_residual-in_err-put.result c.in_err-put.ensures.part
+
+pub returns-clause-part : goal.returns-clause-part
+returns-clause-part g c =
+    at-error c.flush.result (part-all _ _ _ (Appends-kept _ _ _ _ c.in_ok-put.ensures.ok c.flush.ensures.kept))
