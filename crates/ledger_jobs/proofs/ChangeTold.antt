@@ -28,7 +28,7 @@ module _ {F W : Type 0} (contents : W → Option (List ℕ)) (file after : F) (o
   make-told K image name L (Err (faults.Layout fault)) run = run.2.1
   make-told K image name L (Err faults.FileExists) run = run.untouched.1
   make-told K image name L (Err faults.DiskFull) run = run.untouched.1
-  make-told K image name L (Err faults.File) run = tt
+  make-told K image name L (Err faults.File) run = run.2
   make-told K image name L (Err faults.Device) run = run.2
   make-told K image name L (Err _) run = absurd run
 
@@ -41,7 +41,7 @@ module _ {F W : Type 0} (contents : W → Option (List ℕ)) (file after : F) (o
   rename-told K image from to (Err (faults.Layout fault)) run = run.2.1
   rename-told K image from to (Err faults.NoFile) run = run.untouched.1
   rename-told K image from to (Err faults.FileExists) run = run.untouched.1
-  rename-told K image from to (Err faults.File) run = tt
+  rename-told K image from to (Err faults.File) run = run.2
   rename-told K image from to (Err faults.Device) run = run.2
   rename-told K image from to (Err _) run = absurd run
 
@@ -54,7 +54,7 @@ module _ {F W : Type 0} (contents : W → Option (List ℕ)) (file after : F) (o
   delete-told K image name (Err (faults.Layout fault)) run = run.2.1
   delete-told K image name (Err faults.NoFile) run = run.untouched.1
   delete-told K image name (Err faults.Locked) run = run.untouched.1
-  delete-told K image name (Err faults.File) run = tt
+  delete-told K image name (Err faults.File) run = run.2
   delete-told K image name (Err faults.Device) run = run.2
   delete-told K image name (Err _) run = absurd run
 
@@ -67,16 +67,16 @@ module _ {F W : Type 0} (contents : W → Option (List ℕ)) (file after : F) (o
   put-told K image name kind bytes (Err (faults.Layout fault)) run = run.2.1
   put-told K image name kind bytes (Err faults.FileExists) run = run.untouched.1
   put-told K image name kind bytes (Err faults.DiskFull) run = run.untouched.1
-  put-told K image name kind bytes (Err faults.File) run = tt
+  put-told K image name kind bytes (Err faults.File) run = run.2
   put-told K image name kind bytes (Err faults.Device) run = run.2
   put-told K image name kind bytes (Err _) run = absurd run
 
   -- the end of such a run is that of its job
   change-ended : (text : List ℕ) (ended : Result Unit CommandFault) → IsChangeTold contents text old new ended
       → IsChangeEnd contents text old new (as_run ended)
-  change-ended text (Ok _) told = record { done = (refl, told); quiet = tt }
-  change-ended text (Err faults.File) told = record { done = tt; quiet = λ other. absurd (other refl) }
-  change-ended text (Err _) told = record { done = tt; quiet = λ _. told }
+  change-ended text (Ok _) told = record { done = (refl, told); quiet = tt; part = tt }
+  change-ended text (Err faults.File) told = record { done = tt; quiet = λ other. absurd (other refl); part = inr told }
+  change-ended text (Err _) told = record { done = tt; quiet = λ _. told; part = inl told }
 
   module _ (text : List ℕ) (Run : Result Unit CommandFault → Type 0)
       (told : (ended : Result Unit CommandFault) → Run ended → IsChangeTold contents text old new ended)
@@ -86,7 +86,7 @@ module _ {F W : Type 0} (contents : W → Option (List ℕ)) (file after : F) (o
           → IsGuarded image loss (IsUntouched file after old new) (IsEndOfRun Run) end
           → IsChangeEnd contents text old new end
       guarded-change image loss end (inl (refusal, is, refused, why, same)) =
-          subst (λ e. IsChangeEnd contents text old new e) (sym is) (record { done = tt; quiet = λ _. same.1 })
+          subst (λ e. IsChangeEnd contents text old new e) (sym is) (record { done = tt; quiet = λ _. same.1; part = inl same.1 })
       guarded-change image loss end (inr (may, (ended, is, run))) =
           subst (λ e. IsChangeEnd contents text old new e) (sym is) (change-ended text ended (told ended run))
 
@@ -94,7 +94,7 @@ module _ {F W : Type 0} (contents : W → Option (List ℕ)) (file after : F) (o
       edited-change : (image name : List ℕ) (end : JobEnd)
           → IsEditEnd image name (IsUntouched file after old new) Run end → IsChangeEnd contents text old new end
       edited-change image name end (inl (refusal, is, why, same)) =
-          subst (λ e. IsChangeEnd contents text old new e) (sym is) (record { done = tt; quiet = λ _. same.1 })
+          subst (λ e. IsChangeEnd contents text old new e) (sym is) (record { done = tt; quiet = λ _. same.1; part = inl same.1 })
       edited-change image name end (inr (may, (ended, is, run))) =
           subst (λ e. IsChangeEnd contents text old new e) (sym is) (change-ended text ended (told ended run))
 

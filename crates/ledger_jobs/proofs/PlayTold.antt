@@ -1,24 +1,29 @@
--- What was printed of a play over a file, by how it ended.
-use Rattle.std.proofs.Common.{◌≡◌, ◌≢◌, ℕ, List, Option, Ok, Err, ap, refl, subst, sym, ⊎_elim}
+-- What was printed of a play over a file, by how it ended, and of whose shop.
+use Rattle.std.proofs.Common.{◌≡◌, ◌≢◌, ◌∙◌, ℕ, List, Option, Ok, Err, ap, refl, subst, sym, take, ⊎_elim}
 use Rattle.std.proofs.lemmas.Bool.{false≢true}
 use Rattle.std.specs.Prelude.{IfErr, IsOk}
 use Rattle.std.specs.Io.KnownBytes.{Appends}
 use Rattle.command_faults.specs.declared.faults.CommandFault.TheVariants as faults
+use Rattle.d64_image.specs.Images.{Image}
 use Rattle.host_session.specs.events.Events.{HasNoReset}
 use Rattle.host_session.specs.runs.Chains.{told_in}
+use Rattle.host_session.specs.shop.Shop.{IsShop, Shop}
 use Rattle.request_cards.specs.Ledgers.{report}
 use Rattle.request_cards.specs.declared.reply.Reply.{Reply}
 use Rattle.line_text.specs.scripts.Lines.{lines}
 use Rattle.image_file.specs.ImageFile.{placed}
+use Rattle.image_file.specs.paths.Standing.{Stands}
 use Rattle.shop_commands.specs.Plays.{IsUntouched}
 use Rattle.image_file.specs.declared.durability.Durability.{Durability}
 use Rattle.image_file.specs.declared.durability.WritesAt.{Ghosts}
 use Rattle.image_file.specs.declared.sectors.ImageFile.{ImageFile}
-use Rattle.ledger_jobs.proofs.ServiceTold.{given-back, lent-lines}
+use Rattle.ledger_jobs.proofs.ServiceTold.{given-back, lent-lines, some-lines}
+use Rattle.ledger_jobs.proofs.ToldSome.{run-some}
 use Rattle.ledger_jobs.specs.Changes.{IsQuietEnd}
 use Rattle.ledger_jobs.specs.DurableRuns.{IsDurableRun}
 use Rattle.ledger_jobs.specs.Ends.{Ended, JobEnd, as_job}
-use Rattle.ledger_jobs.specs.Replies.{AreAnswered, IsPlainPlayed, lines_to}
+use Rattle.ledger_jobs.specs.HostFiles.{IsShopAt, OfWritten}
+use Rattle.ledger_jobs.specs.Replies.{AreAnsweredBy, AreReplyLines, IsFileService, IsPlainPlayed, IsShopOf, lines_to}
 use Rattle.ledger_jobs.specs.Runs.{IsPlayRun}
 use Rattle.ledger_jobs.specs.declared.refusals.Refusal.TheVariants as refusals
 use Rattle.ledger_jobs.specs.declared.reply_lines.ReplyLines.{ReplyLines}
@@ -45,20 +50,22 @@ module _ {F W : Type 0} (contents : W → Option (List ℕ)) (file after : F) (b
     Run start left end = IsPlayRun placed (lines_to contents) image script start left before behind end
 
     run-plain : HasNoReset (lines script) → (start left : ImageFile F G) (end : Ended) → Run start left end → IsOk end
-        → AreAnswered contents (lines script) old new
+        → (s : Shop) × IsShopOf image s × AreAnsweredBy contents s (lines script) old new
     run-plain none start left (Ok found) run ok =
-        let played = run.done.1.1.ends.0 in
+        let taken = run.done.1.1 in
+        let played = taken.ends.0 in
         let (s, shop) = played.shop in
         let told = (played.without_resets s shop none).0 in (
           s,
+          (taken.size, subst (λ (c : Image). IsShop c s) taken.holds shop),
           subst (λ (rs : List Reply). Appends (contents old) (contents new) (report rs)) told.replies
               (given-back contents before behind old new begun back (report (told_in told.turns)) told.is.0 told.is.1),
         )
     run-plain none start left (Err fault) run ok = cc
 
-    -- one that is done, of a script without resets, printed the replies to all lines
+    -- one that is done, of a script without resets, printed the replies of the image's shop to all lines
     plain-ended : (durability : Durability) (ended : Ended) (end : JobEnd) → end ≡ as_job ended
-        → IsDurableRun {G = G} durability image file after ended Run → IsPlainPlayed contents script old new end
+        → IsDurableRun {G = G} durability image file after ended Run → IsPlainPlayed contents (IsShopOf image) script old new end
     plain-ended durability ended (Err refusal) told x none = tt
     plain-ended durability ended (Ok found) told x none =
         run-plain none x.first x.left x.end x.run
@@ -68,6 +75,32 @@ module _ {F W : Type 0} (contents : W → Option (List ℕ)) (file after : F) (b
 
     pub play-plain : (durability : Durability) (ended : Ended) (end : JobEnd) (all : List ℕ) → script ≡ all
         → end ≡ as_job ended → IsDurableRun {G = G} durability image file after ended Run
-        → IsPlainPlayed contents all old new end
+        → IsPlainPlayed contents (IsShopOf image) all old new end
     play-plain durability ended end all is told x =
-        subst (λ (bytes : List ℕ). IsPlainPlayed contents bytes old new end) is (plain-ended durability ended end told x)
+        subst (λ (bytes : List ℕ). IsPlainPlayed contents (IsShopOf image) bytes old new end) is (plain-ended durability ended end told x)
+
+    -- however it ended, lines of replies were printed
+    pub play-lines : (durability : Durability) (ended : Ended) → IsDurableRun {G = G} durability image file after ended Run
+        → AreReplyLines contents old new
+    play-lines durability ended x =
+        some-lines contents before behind old new begun back
+        (run-some placed (lines_to contents) image script x.first x.left before behind x.end x.run)
+
+-- the shop of the bytes that were read of an image is that of those that the host says
+pub shop-at : {H : Type 0} (stands : H → List ℕ → Stands) (host : H) (path items slice : List ℕ)
+    → OfWritten stands host path (λ all. items ≡ take 174849 all) → slice ≡ items → (s : Shop) → IsShopOf slice s
+    → IsShopAt stands host path s
+shop-at stands host path items slice is same s shop =
+    λ all holds. subst (λ (bytes : List ℕ). IsShopOf bytes s) (same ∙ is all holds) shop
+
+-- what is said of one shop is said of the same
+module _ {W : Type 0} (contents : W → Option (List ℕ)) (Is At : Shop → Type 0) (weaker : (s : Shop) → Is s → At s)
+    (old new : W) where
+  pub played-at : (script : List ℕ) (end : JobEnd) → IsPlainPlayed contents Is script old new end
+      → IsPlainPlayed contents At script old new end
+  played-at script (Err refusal) x none = tt
+  played-at script (Ok found) x none = let y = x none in (y.0, weaker y.0 y.1, y.2)
+
+  pub served-at : (end : JobEnd) → IsFileService contents Is old new end → IsFileService contents At old new end
+  served-at (Err refusal) x = (x.0, x.1, tt)
+  served-at (Ok found) x = let y = x.2 in (x.0, x.1, (y.0, y.1, weaker y.0 y.2, y.3))

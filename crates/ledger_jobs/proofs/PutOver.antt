@@ -1,8 +1,9 @@
 -- What comes of putting a file over the file of a mirror, from that over the mirror and whether it is broken.
 use Rattle.std.proofs.Common.{◌≡◌, ◌<◌, ◌+◌, ◌⊎◌, [], ◌∷◌, ℕ, List, Option, Result, Ok, Err, ap, arith, inl, length, refl, subst}
-use Rattle.std.specs.Prelude.{IfErr, OnOk}
+use Rattle.std.specs.Prelude.{IfErr, OnErr, OnOk, codes}
 use Rattle.keeper_commands.specs.changes.Deletes.{IsLeftClean}
 use Rattle.command_faults.specs.Faults.{IsLoadFault}
+use Rattle.command_faults.specs.Outputs.{HandsPart}
 use Rattle.keeper_commands.specs.changes.Puts.{IsPutDisk, IsPutDone, IsPutFault, IsPutRun}
 use Rattle.command_faults.specs.declared.faults.CommandFault.{CommandFault}
 use Rattle.command_faults.specs.declared.faults.CommandFault.TheVariants as faults
@@ -68,41 +69,43 @@ module _ {F : Type 0} {G : Ghosts F} (start : KeptMirror F G) (sound : is_broken
     whole-ended : (is_broken b → ⊥) → (r : Result Unit CommandFault)
         → OnOk r (IsPutDone mirror contents image name kind bytes start b old new)
         → IfErr r (IsPutFault mirror image name kind bytes start b old new)
+        → OnErr r (HandsPart (contents old) (contents new) (codes "PUT\n"))
         → IsPutOver G.keeps contents image name kind bytes start.file b.file old new r
-    whole-ended whole (Ok x) ok err = (
+    whole-ended whole (Ok x) ok err part = (
       whole_file start sound untaken b ok.disk.run.moments.held whole,
       taken_up start sound untaken b image size holds (record {
         disk = done_of_file whole ok.disk;
         printed = ok.printed;
       }),
     )
-    whole-ended whole (Err faults.ImageSize) ok err = absurd (err.0 size)
-    whole-ended whole (Err faults.NoMemory) ok err = (size, (ap (λ (m : KeptMirror F G). m.file) err.1, err.2))
-    whole-ended whole (Err (faults.Layout fault)) ok err =
+    whole-ended whole (Err faults.ImageSize) ok err part = absurd (err.0 size)
+    whole-ended whole (Err faults.NoMemory) ok err part = (size, (ap (λ (m : KeptMirror F G). m.file) err.1, err.2))
+    whole-ended whole (Err (faults.Layout fault)) ok err part =
         (err.0.0, err.0.1, (ap (λ (m : KeptMirror F G). m.file) err.1, err.2))
-    whole-ended whole (Err faults.FileExists) ok err =
+    whole-ended whole (Err faults.FileExists) ok err part =
         clean-refused start sound untaken b image holds old new whole _ err
-    whole-ended whole (Err faults.DiskFull) ok err =
+    whole-ended whole (Err faults.DiskFull) ok err part =
         subst
         (λ img. IsRefusedBy IsCleanLayout image start.file b.file old new
         (λ l. HasNoRoomFor img l (sectors_for (length (stored bytes))) × IsNewName l name))
         holds (clean-refused start sound untaken b image holds old new whole _ err)
-    whole-ended whole (Err faults.NoFile) ok err = absurd err
-    whole-ended whole (Err faults.Locked) ok err = absurd err
-    whole-ended whole (Err faults.File) ok err = (
+    whole-ended whole (Err faults.NoFile) ok err part = absurd err
+    whole-ended whole (Err faults.Locked) ok err part = absurd err
+    whole-ended whole (Err faults.File) ok err part = (
       whole_file start sound untaken b err.run.moments.held whole,
       taken_up start sound untaken b image size holds (done_of_file whole err),
+      part,
     )
-    whole-ended whole (Err faults.Device) ok err = absurd (not_failed start sound untaken b whole err.1)
-    whole-ended whole (Err faults.NoStock) ok err = absurd err.0
-    whole-ended whole (Err faults.NoRequests) ok err = absurd err.0
-    whole-ended whole (Err (faults.BadCard item)) ok err = absurd err.0
-    whole-ended whole (Err (faults.BadRequestCard till)) ok err = absurd err.0
-    whole-ended whole (Err faults.TwoIntents) ok err = absurd err.0
-    whole-ended whole (Err (faults.ScriptLine line)) ok err = absurd err.0
-    whole-ended whole (Err (faults.RecordsLine line)) ok err = absurd err.0
-    whole-ended whole (Err faults.Geos) ok err = absurd err.0
-    whole-ended whole (Err faults.Format) ok err = absurd err.0
+    whole-ended whole (Err faults.Device) ok err part = absurd (not_failed start sound untaken b whole err.1)
+    whole-ended whole (Err faults.NoStock) ok err part = absurd err.0
+    whole-ended whole (Err faults.NoRequests) ok err part = absurd err.0
+    whole-ended whole (Err (faults.BadCard item)) ok err part = absurd err.0
+    whole-ended whole (Err (faults.BadRequestCard till)) ok err part = absurd err.0
+    whole-ended whole (Err faults.TwoIntents) ok err part = absurd err.0
+    whole-ended whole (Err (faults.ScriptLine line)) ok err part = absurd err.0
+    whole-ended whole (Err (faults.RecordsLine line)) ok err part = absurd err.0
+    whole-ended whole (Err faults.Geos) ok err part = absurd err.0
+    whole-ended whole (Err faults.Format) ok err part = absurd err.0
 
     -- a disk of which nothing was written has its files
     left-run : (Why : Layout → Type 0) → IsLeftClean mirror image start b old new Why
@@ -159,8 +162,9 @@ module _ {F : Type 0} {G : Ghosts F} (start : KeptMirror F G) (sound : is_broken
         → out.0 ≡ b.file
         → OnOk r (IsPutDone mirror contents image name kind bytes start b old new)
         → IfErr r (IsPutFault mirror image name kind bytes start b old new)
+        → OnErr r (HandsPart (contents old) (contents new) (codes "PUT\n"))
         → (is_broken b × (out.1 ≡ Err faults.Device)) ⊎ ((is_broken b → ⊥) × (out.1 ≡ r))
         → IsPutOver G.keeps contents image name kind bytes file out.0 old new out.1
-    put-ended file r out first after ok err end =
+    put-ended file r out first after ok err part end =
         handed-back (λ f a e. IsPutOver G.keeps contents image name kind bytes f a old new e) start b file r out first
-        after (λ broken. broken-ended broken r ok err) (λ whole. whole-ended whole r ok err) end
+        after (λ broken. broken-ended broken r ok err) (λ whole. whole-ended whole r ok err part) end

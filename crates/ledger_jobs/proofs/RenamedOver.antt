@@ -1,7 +1,8 @@
 -- What comes of renaming a file over the file of a mirror, from that over the mirror and whether it is broken.
 use Rattle.std.proofs.Common.{◌≡◌, ◌⊎◌, ℕ, List, Option, Result, Ok, Err, ap, arith, inl, length, refl, subst}
-use Rattle.std.specs.Prelude.{IfErr, OnOk}
+use Rattle.std.specs.Prelude.{IfErr, OnErr, OnOk, codes}
 use Rattle.command_faults.specs.Faults.{IsLoadFault}
+use Rattle.command_faults.specs.Outputs.{HandsPart}
 use Rattle.keeper_commands.specs.changes.Renames.{IsLeftSound, IsRenameDone, IsRenameFault, IsRenameRun, IsRenamedDisk}
 use Rattle.command_faults.specs.declared.faults.CommandFault.{CommandFault}
 use Rattle.command_faults.specs.declared.faults.CommandFault.TheVariants as faults
@@ -56,38 +57,40 @@ module _ {F : Type 0} {G : Ghosts F} (start : KeptMirror F G) (sound : is_broken
     whole-ended : (is_broken b → ⊥) → (r : Result Unit CommandFault)
         → OnOk r (IsRenameDone mirror contents image from to start b old new)
         → IfErr r (IsRenameFault mirror image from to start b old new)
+        → OnErr r (HandsPart (contents old) (contents new) (codes "RENAMED\n"))
         → IsRenameOver G.keeps contents image from to start.file b.file old new r
-    whole-ended whole (Ok x) ok err = (
+    whole-ended whole (Ok x) ok err part = (
       whole_file start sound untaken b ok.disk.run.moments.held whole,
       taken_up start sound untaken b image size holds (record {
         disk = done_of_file whole ok.disk;
         printed = ok.printed;
       }),
     )
-    whole-ended whole (Err faults.ImageSize) ok err = absurd (err.0 size)
-    whole-ended whole (Err faults.NoMemory) ok err = (size, (ap (λ (m : KeptMirror F G). m.file) err.1, err.2))
-    whole-ended whole (Err (faults.Layout fault)) ok err =
+    whole-ended whole (Err faults.ImageSize) ok err part = absurd (err.0 size)
+    whole-ended whole (Err faults.NoMemory) ok err part = (size, (ap (λ (m : KeptMirror F G). m.file) err.1, err.2))
+    whole-ended whole (Err (faults.Layout fault)) ok err part =
         (err.0.0, err.0.1, (ap (λ (m : KeptMirror F G). m.file) err.1, err.2))
-    whole-ended whole (Err faults.NoFile) ok err =
+    whole-ended whole (Err faults.NoFile) ok err part =
         sound-refused start sound untaken b image holds old new whole _ err
-    whole-ended whole (Err faults.FileExists) ok err =
+    whole-ended whole (Err faults.FileExists) ok err part =
         sound-refused start sound untaken b image holds old new whole _ err
-    whole-ended whole (Err faults.Locked) ok err = absurd err
-    whole-ended whole (Err faults.DiskFull) ok err = absurd err.0
-    whole-ended whole (Err faults.File) ok err = (
+    whole-ended whole (Err faults.Locked) ok err part = absurd err
+    whole-ended whole (Err faults.DiskFull) ok err part = absurd err.0
+    whole-ended whole (Err faults.File) ok err part = (
       whole_file start sound untaken b err.run.moments.held whole,
       taken_up start sound untaken b image size holds (done_of_file whole err),
+      part,
     )
-    whole-ended whole (Err faults.Device) ok err = absurd (not_failed start sound untaken b whole err.1)
-    whole-ended whole (Err faults.NoStock) ok err = absurd err.0
-    whole-ended whole (Err faults.NoRequests) ok err = absurd err.0
-    whole-ended whole (Err (faults.BadCard item)) ok err = absurd err.0
-    whole-ended whole (Err (faults.BadRequestCard till)) ok err = absurd err.0
-    whole-ended whole (Err faults.TwoIntents) ok err = absurd err.0
-    whole-ended whole (Err (faults.ScriptLine line)) ok err = absurd err.0
-    whole-ended whole (Err (faults.RecordsLine line)) ok err = absurd err.0
-    whole-ended whole (Err faults.Geos) ok err = absurd err.0
-    whole-ended whole (Err faults.Format) ok err = absurd err.0
+    whole-ended whole (Err faults.Device) ok err part = absurd (not_failed start sound untaken b whole err.1)
+    whole-ended whole (Err faults.NoStock) ok err part = absurd err.0
+    whole-ended whole (Err faults.NoRequests) ok err part = absurd err.0
+    whole-ended whole (Err (faults.BadCard item)) ok err part = absurd err.0
+    whole-ended whole (Err (faults.BadRequestCard till)) ok err part = absurd err.0
+    whole-ended whole (Err faults.TwoIntents) ok err part = absurd err.0
+    whole-ended whole (Err (faults.ScriptLine line)) ok err part = absurd err.0
+    whole-ended whole (Err (faults.RecordsLine line)) ok err part = absurd err.0
+    whole-ended whole (Err faults.Geos) ok err part = absurd err.0
+    whole-ended whole (Err faults.Format) ok err part = absurd err.0
 
     -- a disk of which nothing was written is as it was
     left-run : (Why : Layout → Type 0) → IsLeftSound mirror image start b old new Why → IsRenameRun mirror image from to start b
@@ -142,8 +145,9 @@ module _ {F : Type 0} {G : Ghosts F} (start : KeptMirror F G) (sound : is_broken
         → out.0 ≡ b.file
         → OnOk r (IsRenameDone mirror contents image from to start b old new)
         → IfErr r (IsRenameFault mirror image from to start b old new)
+        → OnErr r (HandsPart (contents old) (contents new) (codes "RENAMED\n"))
         → (is_broken b × (out.1 ≡ Err faults.Device)) ⊎ ((is_broken b → ⊥) × (out.1 ≡ r))
         → IsRenameOver G.keeps contents image from to file out.0 old new out.1
-    rename-ended file r out first after ok err end =
+    rename-ended file r out first after ok err part end =
         handed-back (λ f a e. IsRenameOver G.keeps contents image from to f a old new e) start b file r out first after
-        (λ broken. broken-ended broken r ok err) (λ whole. whole-ended whole r ok err) end
+        (λ broken. broken-ended broken r ok err) (λ whole. whole-ended whole r ok err part) end

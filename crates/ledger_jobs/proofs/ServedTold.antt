@@ -3,8 +3,10 @@ use Rattle.std.proofs.Common.{◌≡◌, ◌∙◌, ℕ, Bool, true, false, List
 use Rattle.std.proofs.lemmas.Bool.{false≢true}
 use Rattle.std.specs.Prelude.{◌⊎◌, ◌≢◌, IsOk, OnOk}
 use Rattle.d64_image.specs.FileDisks.{in_run}
+use Rattle.d64_image.specs.Images.{Image}
 use Rattle.host_session.proofs.lemmas.runs.Chained.{told_over}
 use Rattle.host_session.specs.runs.Chains.{over_instants}
+use Rattle.host_session.specs.shop.Shop.{IsShop}
 use Rattle.line_server.specs.Answering.{Answering, of_output}
 use Rattle.line_server.specs.Giving.{Input}
 use Rattle.line_text.specs.scripts.Lines.{lines}
@@ -13,14 +15,15 @@ use Rattle.image_file.specs.declared.durability.Durability.{Durability}
 use Rattle.image_file.specs.declared.durability.WritesAt.{Ghosts}
 use Rattle.image_file.specs.declared.sectors.ImageFile.{ImageFile}
 use Rattle.ledger_jobs.proofs.Durables.{unserved}
-use Rattle.ledger_jobs.proofs.LoggedTold.{passed-back}
+use Rattle.ledger_jobs.proofs.LoggedTold.{passed-back, watched-back}
+use Rattle.ledger_jobs.proofs.ToldSome.{service-some, watched-some}
 use Rattle.ledger_jobs.specs.Changes.{IsServiceEnd}
 use Rattle.ledger_jobs.specs.DurableRuns.{IsDurableRun}
 use Rattle.ledger_jobs.specs.Ends.{Ended, JobEnd, as_job}
 use Rattle.ledger_jobs.specs.FileServes.{IsUnserved}
 use Rattle.ledger_jobs.specs.LandedRuns.{watched_end}
 use Rattle.ledger_jobs.specs.Losses.{IsEndOf, IsGuarded}
-use Rattle.ledger_jobs.specs.Replies.{IsToldAll}
+use Rattle.ledger_jobs.specs.Replies.{IsToldAll, IsToldSome}
 use Rattle.ledger_jobs.specs.Serves.{IsServeRun}
 use Rattle.ledger_jobs.specs.WatchedFiles.{while_there}
 use Rattle.ledger_jobs.specs.declared.jobs.Loss.{Loss}
@@ -59,14 +62,14 @@ module _ {F R T : Type 0} {G : Ghosts F} (i : Input R) (a : Answering T) (image 
     serve-quiet durability file after loss end (inr (may, (ended, is, run))) =
         subst (λ e. IsServiceEnd old new e) (sym is) (durable-quiet durability file after ended run)
 
--- A service that is done passed a shop's replies to all lines that it read.
+-- A service that is done passed the replies of the image's shop to all lines that it read.
 module _ {F N R T : Type 0} {G : Ghosts F} (i : Input R) (a : Answering T) (image : List ℕ) (old_in new_in : R)
     (old new : WhileThere N T) (first final : T) (begun : old.out.now ≡ first)
     (back : old.out.ghost_name ≡ new.out.ghost_name → final ≡ new.out.now) where
   abbrev Run : ImageFile F G → ImageFile F G → Ended → Type 0
   Run start left end = IsServeRun placed i (of_output (while_there a)) image start left old_in new_in old new end
 
-  run-all : (start left : ImageFile F G) (end : Ended) → Run start left end → IsOk end → IsToldAll a.output first final
+  run-all : (start left : ImageFile F G) (end : Ended) → Run start left end → IsOk end → IsToldAll a.output image first final
   run-all start left (Ok found) run ok =
       let taken = run.done.1.1 in
       let served = taken.ends in
@@ -75,6 +78,7 @@ module _ {F N R T : Type 0} {G : Ghosts F} (i : Input R) (a : Answering T) (imag
       let xs = over_instants (in_run placed start) y.turns in (
         s,
         lines served.handled,
+        (taken.size, subst (λ (c : Image). IsShop c s) taken.holds shop),
         record {
           turns = xs;
           is = passed-back old new first final begun back (λ t u. a.output.told t u xs) y.told.0.0.0 y.told.0.0.2.0.0;
@@ -84,7 +88,7 @@ module _ {F N R T : Type 0} {G : Ghosts F} (i : Input R) (a : Answering T) (imag
   run-all start left (Err fault) run ok = cc
 
   durable-all : (durability : Durability) (file after : F) (ended : Ended)
-      → IsDurableRun {G = G} durability image file after ended Run → IsOk ended → IsToldAll a.output first final
+      → IsDurableRun {G = G} durability image file after ended Run → IsOk ended → IsToldAll a.output image first final
   durable-all durability file after ended x ok =
       run-all x.first x.left x.end x.run
       (⊎_elim (λ same. subst (λ (e : Ended). IsOk e) same ok)
@@ -93,7 +97,7 @@ module _ {F N R T : Type 0} {G : Ghosts F} (i : Input R) (a : Answering T) (imag
   guarded-all : (durability : Durability) (file after : F) (loss : Loss) (end : JobEnd)
       → IsGuarded image loss (IsUnserved file after old_in new_in old new)
       (IsEndOf (λ ended. IsDurableRun {G = G} durability image file after ended Run)) end
-      → IsOk end → IsToldAll a.output first final
+      → IsOk end → IsToldAll a.output image first final
   guarded-all durability file after loss end (inl (refusal, is, refused, why, same)) ok =
       absurd (false≢true (subst (λ (e : JobEnd). IsOk e) is ok))
   guarded-all durability file after loss end (inr (may, (ended, is, run))) ok =
@@ -107,8 +111,19 @@ module _ {F N R T : Type 0} {G : Ghosts F} (i : Input R) (a : Answering T) (imag
       → end ≡ watched_end gone ended
       → IsGuarded image loss (IsUnserved file after old_in new_in old new)
       (IsEndOf (λ ended. IsDurableRun {G = G} durability image file after ended Run)) ended
-      → OnOk end (IsToldAll a.output first final)
+      → OnOk end (IsToldAll a.output image first final)
   watched-all durability file after loss gone ended (Err refusal) is x = tt
   watched-all durability file after loss true ended (Ok found) is x = cc
   watched-all durability file after loss false ended (Ok found) is x =
       guarded-all durability file after loss ended x (subst (λ (e : JobEnd). IsOk e) is refl)
+
+  -- however it ended, it passed replies alone
+  pub guarded-some : (durability : Durability) (file after : F) (loss : Loss) (ended : JobEnd)
+      → IsGuarded image loss (IsUnserved file after old_in new_in old new)
+      (IsEndOf (λ ended. IsDurableRun {G = G} durability image file after ended Run)) ended
+      → IsToldSome a.output first final
+  guarded-some durability file after loss ended (inl (refusal, is, refused, why, same)) =
+      inl (watched-back old new first final begun back same.0.1)
+  guarded-some durability file after loss ended (inr (may, (end, is, x))) =
+      watched-some a old new first final begun back
+      (service-some placed i (of_output (while_there a)) image x.first x.left old_in new_in old new x.end x.run)

@@ -5,12 +5,11 @@ use Rattle.std.specs.Io.KnownBytes.{Appends}
 use Rattle.std.proofs.lemmas.Bool.{false≢true}
 use Rattle.command_faults.proofs.Parts.{part-all}
 use Rattle.command_faults.specs.declared.faults.CommandFault.{CommandFault}
-use Rattle.host_session.specs.events.Instants.{Instant}
-use Rattle.host_session.specs.events.Telling.{Output}
+use Rattle.d64_image.specs.Images.{Image}
 use Rattle.host_session.specs.runs.Chains.{told_in}
 use Rattle.host_session.specs.runs.Outputs.{line_of}
-use Rattle.host_session.specs.shop.Shop.{start_of}
-use Rattle.line_server.specs.Answering.{Answering, IsHeldBack, answered}
+use Rattle.host_session.specs.shop.Shop.{IsShop, Shop, start_of}
+use Rattle.line_server.specs.Answering.{Answering}
 use Rattle.line_server.specs.Batches.{BatchInput}
 use Rattle.shop_log.specs.life.Folders.{FolderHistory}
 use Rattle.shop_log.specs.life.LiveLogs.{of_live}
@@ -24,29 +23,16 @@ use Rattle.shop_log.specs.declared.log_file.LogFile.{Ghosts}
 use Rattle.ledger_jobs.proofs.LoggedTold.{passed-back, watched-back}
 use Rattle.ledger_jobs.proofs.PlayedOver.{all_told}
 use Rattle.ledger_jobs.proofs.ReplyTold.{cut-lines, landed-ok, run-told}
+use Rattle.ledger_jobs.proofs.ToldSome.{off-some}
 use Rattle.ledger_jobs.specs.Ends.{JobEnd, as_run}
 use Rattle.ledger_jobs.specs.LandedRuns.{IsDoneAndLanded}
 use Rattle.ledger_jobs.specs.LoggedRuns.{IsLoggedRun, IsUnlogged}
 use Rattle.ledger_jobs.specs.Losses.{IsEndOfRun, IsGuarded}
-use Rattle.ledger_jobs.specs.Replies.{AreAnswered, AreReplyLines, IsToldAll, IsToldSome, lines_to}
-use Rattle.ledger_jobs.specs.WatchedFiles.{IsBrokenOff, media_for, while_there}
+use Rattle.ledger_jobs.specs.Replies.{AreAnswered, AreAnsweredBy, AreReplyLines, IsShopOf, IsToldAll, IsToldSome, lines_to}
+use Rattle.ledger_jobs.specs.WatchedFiles.{while_there}
 use Rattle.ledger_jobs.specs.declared.jobs.Loss.{Loss}
 use Rattle.ledger_jobs.specs.declared.reply_lines.ReplyLines.{ReplyLines}
 use Rattle.ledger_jobs.specs.declared.watched_files.WhileThere.{WhileThere}
-
--- a reply that was held back was passed, or broken off
-held-some : {T : Type 0} (o : Output T) (old new : T) (turns : List (Reply × Instant)) (last : Reply × Instant)
-    → IsHeldBack o old new turns last → IsToldSome o old new
-held-some o old new turns last (inl off) = inr (turns, inr (last, off))
-held-some o old new turns last (inr told) = inr (turns ++ last ∷ [], inl told)
-
--- whatever becomes of the last reply while the file is there, or once it has gone
-off-some : {T : Type 0} (a : Answering T) (gone : Bool) (old new : T) (turns : List (Reply × Instant))
-    (last : Reply × Instant) → IsBrokenOff (answered a) gone old new turns last → IsToldSome a.output old new
-off-some a gone old new turns last (inl (is, off)) = held-some a.output old new turns last off.0.all
-off-some a gone old new turns last (inr (is, inl told)) = inr (turns ++ (media_for last.0, last.1) ∷ [], inl told.0.0)
-off-some a gone old new turns last (inr (is, inr off)) =
-    held-some a.output old new turns (media_for last.0, last.1) off.0.all
 
 module _ {F D N R T : Type 0} {G : Ghosts F} (h : FolderHistory D) (i : BatchInput R) (a : Answering T) (image : List ℕ)
     (log : LiveLog F D G) (loss : Loss) (old_in new_in : R) (old new : WhileThere N T) (first final : T)
@@ -81,7 +67,7 @@ module _ {F D N R T : Type 0} {G : Ghosts F} (h : FolderHistory D) (i : BatchInp
           (IsToldSome a.output first final) untold told-some ended run
 
   run-all : (left : LiveLog F D G) (ended : Result Unit CommandFault) → Run left ended → IsOk (as_run ended)
-      → IsToldAll a.output first final
+      → IsToldAll a.output image first final
   run-all left (Ok _) run ok =
       let y = run.served in
       let (s, shop) = y.shop in
@@ -90,6 +76,7 @@ module _ {F D N R T : Type 0} {G : Ghosts F} (h : FolderHistory D) (i : BatchInp
       y.told in (
         s,
         lines y.handled,
+        (run.size, subst (λ (c : Image). IsShop c s) run.holds shop),
         record {
           turns = x.0;
           is = passed-back old new first final begun back (λ t u. a.output.told t u x.0) x.2.0 x.2.2.0.0;
@@ -99,9 +86,9 @@ module _ {F D N R T : Type 0} {G : Ghosts F} (h : FolderHistory D) (i : BatchInp
       )
   run-all left (Err fault) run ok = cc
 
-  -- one that is done passed a shop's replies to some lines
+  -- one that is done passed the replies of the image's shop to some lines
   pub served-all : (gone : Bool) (folder : Option D) (end : JobEnd) → Landed gone folder end
-      → OnOk end (IsToldAll a.output first final)
+      → OnOk end (IsToldAll a.output image first final)
   served-all gone folder (Err refusal) x = tt
   served-all gone folder (Ok found) x = of-run x.done
     where
@@ -109,7 +96,7 @@ module _ {F D N R T : Type 0} {G : Ghosts F} (h : FolderHistory D) (i : BatchInp
       ok = landed-ok h x.left gone x.ended folder (Ok found) x.landed refl
 
       of-run : IsGuarded image loss (IsUnlogged log x.left old_in new_in old new) (IsEndOfRun (Run x.left)) x.ended
-          → IsToldAll a.output first final
+          → IsToldAll a.output image first final
       of-run (inl (refusal, is, refused, why, same)) =
           absurd (false≢true (subst (λ (e : JobEnd). IsOk e) is ok))
       of-run (inr (may, (ended, is, run))) = run-all x.left ended run (subst (λ (e : JobEnd). IsOk e) is ok)
@@ -137,14 +124,19 @@ module _ {W : Type 0} (contents : W → Option (List ℕ)) (old new : ReplyLines
             (given-back (report (told_in turns) ++ take n (line_of last.0)) ghost printed),
       )
 
-  pub all-answered : (end : JobEnd) → OnOk end (IsToldAll (lines_to contents) old new)
-      → OnOk end ((ls : List (List ℕ)) × AreAnswered contents ls first final)
-  all-answered (Err refusal) x = tt
-  all-answered (Ok found) (s, ls, told) = (
+  -- those of an image's shop
+  pub all-answered : (image : List ℕ) (end : JobEnd) → OnOk end (IsToldAll (lines_to contents) image old new)
+      → OnOk end ((s : Shop) × (ls : List (List ℕ)) × IsShopOf image s × AreAnsweredBy contents s ls first final)
+  all-answered image (Err refusal) x = tt
+  all-answered image (Ok found) (s, ls, shop, told) = (
+    s,
     ls,
-    (
-      s,
-      subst (λ (rs : List Reply). Appends (contents first) (contents final) (report rs)) told.replies
-          (given-back (report (told_in told.turns)) told.is.0 told.is.1),
-    ),
+    shop,
+    subst (λ (rs : List Reply). Appends (contents first) (contents final) (report rs)) told.replies
+        (given-back (report (told_in told.turns)) told.is.0 told.is.1),
   )
+
+  pub some-answered : (image : List ℕ) (end : JobEnd) → OnOk end (IsToldAll (lines_to contents) image old new)
+      → OnOk end ((ls : List (List ℕ)) × AreAnswered contents ls first final)
+  some-answered image (Err refusal) x = tt
+  some-answered image (Ok found) x = let y = all-answered image (Ok found) x in (y.1, (y.0, y.3))

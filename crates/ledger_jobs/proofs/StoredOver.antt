@@ -9,7 +9,7 @@ use Rattle.d64_image.specs.Memory.{sectors_in}
 use Rattle.d64_image.specs.KeptMirrors.{is_broken, mirror, mirror_image}
 use Rattle.d64_image.specs.declared.kept_mirror.KeptMirror.{KeptMirror}
 use Rattle.d64_image.specs.declared.sector_file.SectorFile.{Ghosts}
-use Rattle.disk_layout.specs.Layout.{File, Layout}
+use Rattle.disk_layout.specs.Layout.{File, Layout, record_length}
 use Rattle.disk_layout.specs.Rest.{IsNamed}
 use Rattle.command_faults.specs.Faults.{IsLoadFault}
 use Rattle.keeper_commands.specs.Refusals.{IsLeft}
@@ -17,11 +17,16 @@ use Rattle.keeper_commands.specs.Storing.{HasBadLine, HasNoStoreRoom, IsStoreDon
 use Rattle.command_faults.specs.declared.faults.CommandFault.{CommandFault}
 use Rattle.command_faults.specs.declared.faults.CommandFault.TheVariants as faults
 use Rattle.shop_commands.specs.Plays.{IsTakenUp}
+use Rattle.ledger_jobs.proofs.StoreTold.{stopped-part}
 use Rattle.ledger_jobs.proofs.OverFiles.{broken_file, kept_of_file, not_failed, refused_of_file}
 use Rattle.ledger_jobs.proofs.OverFiles.{same_file, taken_up, whole_file}
-use Rattle.ledger_jobs.specs.Kept.{IsKeptAsItWas, IsStoreOver, IsStoredFault, IsStoringDone, IsStoringRun}
+use Rattle.ledger_jobs.specs.Kept.{IsKeptAsItWas, IsStoreOver, IsStoredFault, IsStoringDone, IsStoringCut, IsStoringRun}
 use Rattle.command_faults.proofs.HandedBack.{handed-back}
 use Rattle.command_faults.proofs.Loads.{by-load}
+use Rattle.command_faults.proofs.Parts.{part-all, part-same}
+use Rattle.command_faults.specs.Outputs.{HandsPart}
+use Rattle.keeper_commands.specs.Stores.{changed_text, greatest, last_ones}
+use Rattle.rel_records.specs.Written.{grown_to}
 
 module _ {F W : Type 0} (K : Keeps F) (contents : W → Option (List ℕ)) (image name text : List ℕ) where
   -- the image wasn't taken into memory
@@ -117,8 +122,8 @@ module _ {F : Type 0} {G : Ghosts F} (start : KeptMirror F G) (sound : is_broken
 
     abbrev Kept : Type 0
     Kept = IsKeptAsItWas G.keeps image start.file b.file old new
-        ⊎ IsTakenUp G.keeps image start.file b.file (λ disk left. IsStoringRun (in_run G.keeps start.file) name text
-        disk left)
+        ⊎ IsTakenUp G.keeps image start.file b.file (λ disk left. IsStoringCut (in_run G.keeps start.file) contents
+        name text disk left old new)
 
     kept-left : (Why : Layout → Type 0) → is_broken b → IsLeft mirror image start b old new Why
         → FileFailed G.keeps start.file b.file × Kept
@@ -127,36 +132,58 @@ module _ {F : Type 0} {G : Ghosts F} (start : KeptMirror F G) (sound : is_broken
       inl (taken_up start sound untaken b image size holds (kept_of_file start sound untaken b x.quiet), x.unprinted),
     )
 
-    kept-run : is_broken b → IsStoreRun mirror image name text start b → FileFailed G.keeps start.file b.file × Kept
-    kept-run broken x = (
+    kept-run : is_broken b → (x : IsStoreRun mirror image name text start b)
+        → HandsPart (contents old) (contents new) (changed_text (record_length x.file.slot) (last_ones x.all)
+        (grown_to (mirror_image start) x.file (greatest x.all)))
+        → FileFailed G.keeps start.file b.file × Kept
+    kept-run broken x part = (
       broken_file start sound untaken b x.moments.held broken,
-      inr (taken_up start sound untaken b image size holds (run_of_file x)),
+      inr (taken_up start sound untaken b image size holds (run_of_file x, part)),
     )
+
+    -- the device failed, or the output did: a beginning is printed
+    kept-part : is_broken b → (fault : CommandFault)
+        → IsStorePart mirror contents image name text start b old new fault
+        → (new ≡ old → FileFailed G.keeps start.file b.file × Kept) → FileFailed G.keeps start.file b.file × Kept
+    kept-part broken fault (inl (other, same)) quiet = quiet same
+    kept-part broken fault (inr (inl (is, done))) quiet =
+        kept-run broken done.disk.run (part-all (contents old) (contents new) _ done.printed)
+    kept-part broken fault (inr (inr (run, stopped))) quiet =
+        kept-run broken run
+        (stopped-part _ _ (contents old) (contents new) run.layout run.number _ _ _ fault stopped)
+
+    quiet-run : is_broken b → IsStoreRun mirror image name text start b → new ≡ old
+        → FileFailed G.keeps start.file b.file × Kept
+    quiet-run broken x same = kept-run broken x (part-same contents old new _ same)
 
     -- whatever a run over a mirror that broke ended with
     run-of : is_broken b → (r : Result Unit CommandFault)
         → OnOk r (IsStoreDone mirror contents image name text start b old new)
-        → IfErr r (IsStoreFault mirror image name text start b old new) → FileFailed G.keeps start.file b.file × Kept
-    run-of broken (Ok x) ok err = kept-run broken ok.disk.run
-    run-of broken (Err faults.ImageSize) ok err = absurd (err.0 size)
-    run-of broken (Err faults.NoMemory) ok err = absurd (sound (subst (λ (m : KeptMirror F G). is_broken m) err.1 broken))
-    run-of broken (Err (faults.Layout fault)) ok err =
+        → IfErr r (IsStoreFault mirror image name text start b old new)
+        → IfErr r (IsStorePart mirror contents image name text start b old new)
+        → FileFailed G.keeps start.file b.file × Kept
+    run-of broken (Ok x) ok err part = kept-run broken ok.disk.run (part-all (contents old) (contents new) _ ok.printed)
+    run-of broken (Err faults.ImageSize) ok err part = absurd (err.0 size)
+    run-of broken (Err faults.NoMemory) ok err part = absurd (sound (subst (λ (m : KeptMirror F G). is_broken m) err.1 broken))
+    run-of broken (Err (faults.Layout fault)) ok err part =
         absurd (sound (subst (λ (m : KeptMirror F G). is_broken m) err.2 broken))
-    run-of broken (Err faults.NoFile) ok err = kept-left _ broken err
-    run-of broken (Err (faults.RecordsLine line)) ok err = kept-left _ broken err
-    run-of broken (Err faults.DiskFull) ok err = kept-left _ broken err
-    run-of broken (Err faults.File) ok err = kept-run broken err.0
-    run-of broken (Err faults.Device) ok err = ⊎_elim (λ x. kept-left _ broken x) (λ x. kept-run broken x) err.1
-    run-of broken (Err faults.FileExists) ok err = absurd err
-    run-of broken (Err faults.Geos) ok err = absurd err
-    run-of broken (Err faults.Format) ok err = absurd err
-    run-of broken (Err faults.Locked) ok err = absurd err
-    run-of broken (Err faults.NoStock) ok err = absurd err
-    run-of broken (Err faults.NoRequests) ok err = absurd err
-    run-of broken (Err (faults.BadCard item)) ok err = absurd err
-    run-of broken (Err (faults.BadRequestCard till)) ok err = absurd err
-    run-of broken (Err faults.TwoIntents) ok err = absurd err
-    run-of broken (Err (faults.ScriptLine line)) ok err = absurd err
+    run-of broken (Err faults.NoFile) ok err part = kept-left _ broken err
+    run-of broken (Err (faults.RecordsLine line)) ok err part = kept-left _ broken err
+    run-of broken (Err faults.DiskFull) ok err part = kept-left _ broken err
+    run-of broken (Err faults.File) ok err part = kept-part broken faults.File part (quiet-run broken err.0)
+    run-of broken (Err faults.Device) ok err part =
+        kept-part broken faults.Device part
+        (λ same. ⊎_elim (λ x. kept-left _ broken x) (λ x. quiet-run broken x same) err.1)
+    run-of broken (Err faults.FileExists) ok err part = absurd err
+    run-of broken (Err faults.Geos) ok err part = absurd err
+    run-of broken (Err faults.Format) ok err part = absurd err
+    run-of broken (Err faults.Locked) ok err part = absurd err
+    run-of broken (Err faults.NoStock) ok err part = absurd err
+    run-of broken (Err faults.NoRequests) ok err part = absurd err
+    run-of broken (Err (faults.BadCard item)) ok err part = absurd err
+    run-of broken (Err (faults.BadRequestCard till)) ok err part = absurd err
+    run-of broken (Err faults.TwoIntents) ok err part = absurd err
+    run-of broken (Err (faults.ScriptLine line)) ok err part = absurd err
 
     -- the file that is handed back, and what is told of it
     pub store-ended : (file : F) (r : Result Unit CommandFault) (out : F × Result Unit CommandFault) → start.file ≡ file
@@ -168,4 +195,4 @@ module _ {F : Type 0} {G : Ghosts F} (start : KeptMirror F G) (sound : is_broken
         → IsStoreOver G.keeps contents image name text file out.0 old new out.1
     store-ended file r out first after ok err part end =
         handed-back (λ f a e. IsStoreOver G.keeps contents image name text f a old new e) start b file r out first after
-        (λ broken. run-of broken r ok err) (λ whole. whole-ended whole r ok err part) end
+        (λ broken. run-of broken r ok err part) (λ whole. whole-ended whole r ok err part) end

@@ -1,5 +1,5 @@
 -- What a job prints that changes files of a disk, or makes an image. Our own.
-use Rattle.std.specs.Prelude.{◌≡◌, ◌≢◌, ◌⊎◌, ⊤, IfErr, IfOk, ℕ, Bool, List, None, Option, Result, Ok, Err, length}
+use Rattle.std.specs.Prelude.{◌≡◌, ◌≢◌, ◌⊎◌, IfErr, IfOk, OnErr, ℕ, Bool, List, None, Option, Result, Ok, Err, length}
 use Rattle.std.specs.Io.KnownBytes.{Appends}
 use Rattle.command_faults.specs.Outputs.{HandsPart}
 use Rattle.command_faults.specs.declared.faults.CommandFault.{CommandFault}
@@ -11,17 +11,20 @@ use Rattle.line_text.specs.Handed.{AppendsPart}
 use Rattle.ledger_jobs.specs.Ends.{IsEndOver, JobEnd}
 use Rattle.ledger_jobs.specs.declared.refusals.Refusal.TheVariants as refusals
 
--- what a run printed that prints this text if it is done. Nothing, unless it ended with `File`: then the output failed
+-- What a run printed that prints this text if it is done. Nothing, unless it ended with `File`: then the output failed, and
+-- a beginning of the text was printed.
 abbrev pub IsChangeTold : {W : Type 0} → (W → Option (List ℕ)) → (text : List ℕ) → W → W → Result Unit CommandFault → Type 0
 IsChangeTold contents text old new (Ok _) = Appends (contents old) (contents new) text
-IsChangeTold contents text old new (Err faults.File) = ⊤
+IsChangeTold contents text old new (Err faults.File) = HandsPart (contents old) (contents new) text
 IsChangeTold contents text old new (Err _) = new ≡ old
 
--- A job ended so that prints this text if it is done. If it isn't, nothing was printed, unless it ended with `File`.
+-- A job ended so that prints this text if it is done. If it isn't, nothing was printed, or a beginning of the text was, and
+-- it ended with `File`.
 pub record IsChangeEnd {W : Type 0} (contents : W → Option (List ℕ)) (text : List ℕ) (old new : W) (end : JobEnd) : Type 0
   where
     pub done : IfOk end (λ found. (found ≡ None) × Appends (contents old) (contents new) text)
     pub quiet : IfErr end (λ refusal. refusal ≢ refusals.Fault faults.File → new ≡ old)
+    pub part : OnErr end ((new ≡ old) ⊎ HandsPart (contents old) (contents new) text)
 
 -- what a run over a file that is made printed, whose text this is
 abbrev pub IsMakingTold : {W : Type 0} → (W → Option (List ℕ)) → (text : List ℕ) → W → W → Result Unit CommandFault → Type 0

@@ -1,8 +1,9 @@
 -- What comes of a file that is renamed or deleted on the disk of an image, over the image's bytes and its file. All of it
 -- is our own.
-use Rattle.std.specs.Prelude.{◌≡◌, ◌≢◌, ℕ, List, Option, Result, Ok, Err, length}
+use Rattle.std.specs.Prelude.{◌≡◌, ◌≢◌, ℕ, List, Option, Result, Ok, Err, codes, length}
 use Rattle.keeper_commands.specs.changes.Deletes.{IsDeleteDone, IsDeleteRun, IsDeletedDisk, IsLockedName}
 use Rattle.keeper_commands.specs.changes.Renames.{IsNoName, IsRenameDone, IsRenameRun, IsRenamedDisk}
+use Rattle.command_faults.specs.Outputs.{HandsPart}
 use Rattle.command_faults.specs.declared.faults.CommandFault.{CommandFault}
 use Rattle.command_faults.specs.declared.faults.CommandFault.TheVariants as faults
 use Rattle.d64_image.specs.FileDisks.{in_run}
@@ -39,26 +40,29 @@ IsRenamedFile K contents image from to file after old new =
     × IsTakenUp K image file after (λ disk left. IsRenameDone (in_run K file) contents image from to disk left old new)
 
 -- Why no file is renamed, or that isn't printed. What the image holds is in the way: then nothing was done. Or the output
--- failed: then it is renamed. Or the file failed: then the entry has one of the two names, and nothing was printed.
-abbrev pub IsRenamedFault : {F W : Type 0} → Keeps F → (image from to : List ℕ) → F → F → W → W → CommandFault → Type 0
-IsRenamedFault K image from to file after old new faults.ImageSize =
+-- failed: then it is renamed, and a beginning of RENAMED was printed. Or the file failed: then the entry has one of the two
+-- names, and nothing was printed.
+abbrev pub IsRenamedFault : {F W : Type 0} → Keeps F → (W → Option (List ℕ)) → (image from to : List ℕ) → F → F → W → W
+    → CommandFault → Type 0
+IsRenamedFault K contents image from to file after old new faults.ImageSize =
     (length image ≢ 174848) × IsUntouched file after old new
-IsRenamedFault K image from to file after old new faults.NoMemory =
+IsRenamedFault K contents image from to file after old new faults.NoMemory =
     (length image ≡ 174848) × IsUntouched file after old new
-IsRenamedFault K image from to file after old new (faults.Layout fault) =
+IsRenamedFault K contents image from to file after old new (faults.Layout fault) =
     IsFaulty (Holds nowhere) image fault file after old new
-IsRenamedFault K image from to file after old new faults.NoFile =
+IsRenamedFault K contents image from to file after old new faults.NoFile =
     IsRefusedBy IsLayout image file after old new (λ l. IsNoName l from)
-IsRenamedFault K image from to file after old new faults.FileExists =
+IsRenamedFault K contents image from to file after old new faults.FileExists =
     IsRefusedBy IsLayout image file after old new (λ l. ¬ (IsFreeName (entries_of l) (slot_name from))
     × ¬ (IsFreeName (entries_of l) (slot_name to)))
-IsRenamedFault K image from to file after old new faults.File =
+IsRenamedFault K contents image from to file after old new faults.File =
     IsUnfailed K file after
     × IsTakenUp K image file after (λ disk left. IsRenamedDisk (in_run K file) image from to disk left)
-IsRenamedFault K image from to file after old new faults.Device =
+    × HandsPart (contents old) (contents new) (codes "RENAMED\n")
+IsRenamedFault K contents image from to file after old new faults.Device =
     FileFailed K file after
     × IsTakenUp K image file after (λ disk left. IsRenameRun (in_run K file) image from to disk left) × (new ≡ old)
-IsRenamedFault K image from to file after old new _ = ⊥
+IsRenamedFault K contents image from to file after old new _ = ⊥
 
 -- the renaming of a file on the disk of an image, over its file, ended so
 abbrev pub IsRenameOver : {F W : Type 0} → Keeps F → (W → Option (List ℕ)) → (image from to : List ℕ) → F → F → W → W
@@ -66,7 +70,7 @@ abbrev pub IsRenameOver : {F W : Type 0} → Keeps F → (W → Option (List ℕ
 IsRenameOver K contents image from to file after old new (Ok _) =
     IsRenamedFile K contents image from to file after old new
 IsRenameOver K contents image from to file after old new (Err fault) =
-    IsRenamedFault K image from to file after old new fault
+    IsRenamedFault K contents image from to file after old new fault
 
 -- a file was deleted on the disk of the file, and that was printed
 abbrev pub IsDeletedFile : {F W : Type 0} → Keeps F → (W → Option (List ℕ)) → (image name : List ℕ) → F → F → W → W
@@ -76,29 +80,32 @@ IsDeletedFile K contents image name file after old new =
     × IsTakenUp K image file after (λ disk left. IsDeleteDone (in_run K file) contents image name disk left old new)
 
 -- Why no file is deleted, or that isn't printed. What the image holds is in the way: then nothing was done. Or the output
--- failed: then it is deleted. Or the file failed: then the entry is there or not, and nothing was printed.
-abbrev pub IsDeletedFault : {F W : Type 0} → Keeps F → (image name : List ℕ) → F → F → W → W → CommandFault → Type 0
-IsDeletedFault K image name file after old new faults.ImageSize =
+-- failed: then it is deleted, and a beginning of DELETED was printed. Or the file failed: then the entry is there or not,
+-- and nothing was printed.
+abbrev pub IsDeletedFault : {F W : Type 0} → Keeps F → (W → Option (List ℕ)) → (image name : List ℕ) → F → F → W → W
+    → CommandFault → Type 0
+IsDeletedFault K contents image name file after old new faults.ImageSize =
     (length image ≢ 174848) × IsUntouched file after old new
-IsDeletedFault K image name file after old new faults.NoMemory =
+IsDeletedFault K contents image name file after old new faults.NoMemory =
     (length image ≡ 174848) × IsUntouched file after old new
-IsDeletedFault K image name file after old new (faults.Layout fault) =
+IsDeletedFault K contents image name file after old new (faults.Layout fault) =
     IsFaulty (HoldsOfClean nowhere) image fault file after old new
-IsDeletedFault K image name file after old new faults.NoFile =
+IsDeletedFault K contents image name file after old new faults.NoFile =
     IsRefusedBy IsCleanLayout image file after old new (λ l. IsNoName l name)
-IsDeletedFault K image name file after old new faults.Locked =
+IsDeletedFault K contents image name file after old new faults.Locked =
     IsRefusedBy IsCleanLayout image file after old new (λ l. IsLockedName l name)
-IsDeletedFault K image name file after old new faults.File =
+IsDeletedFault K contents image name file after old new faults.File =
     IsUnfailed K file after
     × IsTakenUp K image file after (λ disk left. IsDeletedDisk (in_run K file) image name disk left)
-IsDeletedFault K image name file after old new faults.Device =
+    × HandsPart (contents old) (contents new) (codes "DELETED\n")
+IsDeletedFault K contents image name file after old new faults.Device =
     FileFailed K file after
     × IsTakenUp K image file after (λ disk left. IsDeleteRun (in_run K file) image name disk left) × (new ≡ old)
-IsDeletedFault K image name file after old new _ = ⊥
+IsDeletedFault K contents image name file after old new _ = ⊥
 
 -- the deletion of a file on the disk of an image, over its file, ended so
 abbrev pub IsDeleteOver : {F W : Type 0} → Keeps F → (W → Option (List ℕ)) → (image name : List ℕ) → F → F → W → W
     → Result Unit CommandFault → Type 0
 IsDeleteOver K contents image name file after old new (Ok _) = IsDeletedFile K contents image name file after old new
 IsDeleteOver K contents image name file after old new (Err fault) =
-    IsDeletedFault K image name file after old new fault
+    IsDeletedFault K contents image name file after old new fault

@@ -1,10 +1,12 @@
 -- Which bytes a job is done over, where the host says what its files hold. Our own.
-use Rattle.std.specs.Prelude.{◌≡◌, ◌≢◌, ◌⊎◌, ⊤, ℕ, IfErr, IsErr, List}
+use Rattle.std.specs.Prelude.{◌≡◌, ◌≢◌, ◌⊎◌, ⊤, ℕ, IfErr, IsErr, List, take}
 use Rattle.command_faults.specs.declared.faults.CommandFault.TheVariants as faults
+use Rattle.host_session.specs.shop.Shop.{Shop}
 use Rattle.image_file.specs.paths.Rights.{Rights}
 use Rattle.image_file.specs.paths.Standing.{Holds, IsMissing, Stands}
 use Rattle.ledger_jobs.specs.EachImage.{IsLoadedOf, Loaded}
 use Rattle.ledger_jobs.specs.Ends.{JobEnd}
+use Rattle.ledger_jobs.specs.Replies.{IsShopOf}
 use Rattle.ledger_jobs.specs.Rights.{standard_input}
 use Rattle.ledger_jobs.specs.declared.jobs.Reading.{Reading}
 use Rattle.ledger_jobs.specs.declared.jobs.Reading.TheVariants as readings
@@ -20,6 +22,10 @@ module _ {H : Type 0} (stands : H → List ℕ → Stands) (host : H) where
   -- the same of an image that is written
   abbrev pub OfWritten : List ℕ → (List ℕ → Type 0) → Type 0
   OfWritten path P = (all : List ℕ) → stands host path ≡ Holds all → P all
+
+  -- the image at a path stands for this shop, if the host says its bytes
+  abbrev pub IsShopAt : List ℕ → Shop → Type 0
+  IsShopAt path s = OfWritten path (λ all. IsShopOf (take 174849 all) s)
 
 module _ {H : Type 0} (rights : Rights H) (stands : H → List ℕ → Stands) (host : H) where
   -- no log stands beside the image at a path

@@ -7,6 +7,7 @@ use Rattle.keeper_commands.specs.declared.rescue.choices.Choice.{Choice}
 use Rattle.image_file.specs.paths.Rights.{Rights}
 use Rattle.image_file.specs.paths.Standing.{Stands}
 use Rattle.ledger_jobs.specs.Changes.{IsChangeEnd, IsLoggedEnd, IsMakingEnd, IsQuietEnd, IsRepairTold}
+use Rattle.ledger_jobs.specs.Columns.{text_in}
 use Rattle.ledger_jobs.specs.Comparisons.{IsComparingRun}
 use Rattle.ledger_jobs.specs.Copies.{IsCopyEnd}
 use Rattle.ledger_jobs.specs.Descriptions.{IsObjectOf}
@@ -14,19 +15,21 @@ use Rattle.ledger_jobs.specs.Drawings.{IsDrawingRun}
 use Rattle.ledger_jobs.specs.EachImage.{AreHandedOn, IsSeveralEnd}
 use Rattle.ledger_jobs.specs.Ends.{EndsAs, JobEnd, as_job, as_run}
 use Rattle.ledger_jobs.specs.Extracts.{IsExtractedTo}
-use Rattle.ledger_jobs.specs.HostFiles.{IsReadAt, OfImage, OfRead, OfText, OfWritten, RunEnds}
+use Rattle.ledger_jobs.specs.HostFiles.{IsReadAt, IsShopAt, OfImage, OfRead, OfText, OfWritten, RunEnds}
 use Rattle.ledger_jobs.specs.Jobs.{frees, needed}
 use Rattle.ledger_jobs.specs.Keeping.{IsDryRepair}
 use Rattle.ledger_jobs.specs.Listings.{IsListingRun}
 use Rattle.ledger_jobs.specs.LoggedPlays.{IsLoggedPlayEnd}
-use Rattle.ledger_jobs.specs.Losses.{IsGuarded, IsRepairedEndOf, IsTakingEnd}
+use Rattle.ledger_jobs.specs.Losses.{IsEndOfRun, IsGuarded, IsRepairedEndOf, IsTakingEnd}
 use Rattle.ledger_jobs.specs.Names.{name_bytes}
 use Rattle.ledger_jobs.specs.Overviews.{IsOverviewOf}
 use Rattle.ledger_jobs.specs.Replies.{AreReplyLines, IsFileService, IsLoggedService, IsPlainPlayed}
 use Rattle.ledger_jobs.specs.Runs.{IsReadingEnd}
 use Rattle.ledger_jobs.specs.SheetPages.{IsSheetPrinted}
 use Rattle.ledger_jobs.specs.SideRepairs.{AreSidesWritten, IsJudgedFirst, IsSidesEnd}
+use Rattle.ledger_jobs.specs.Stores.{IsStoreTold}
 use Rattle.disk_pictures.specs.Views.{IsViewRun}
+use Rattle.ledger_jobs.specs.declared.jobs.Columns.{Columns}
 use Rattle.ledger_jobs.specs.declared.jobs.Drawing.{Drawing}
 use Rattle.ledger_jobs.specs.declared.jobs.Effect.{Effect}
 use Rattle.ledger_jobs.specs.declared.jobs.Effect.TheVariants.{Printed, Written}
@@ -115,10 +118,17 @@ module _ {H W : Type 0} (rights : Rights H) (stands : H → List ℕ → Stands)
       (λ all. RunEnds old new end (IsJudgedFirst (take 174849 all) loss old new end
       (AreSidesWritten (frees unowned) contents (take 174849 all) old new end)))
 
-  -- a script was played on an image, over its file
-  abbrev pub IsPlayedOverFile : List ℕ → W → W → JobEnd → Type 0
-  IsPlayedOverFile script old new end = IsQuietEnd old new end
-      × OfText stands host script (λ all. IsPlainPlayed contents all old new end)
+  -- records of a text were stored in the file of this name
+  abbrev pub AreStoredOver : (image name records : List ℕ) → Columns → Loss → W → W → JobEnd → Type 0
+  AreStoredOver image name records columns loss old new end = IsQuietEnd old new end
+      × OfWritten stands host image (λ all. OfText stands host records (λ text. RunEnds old new end
+      (IsGuarded (take 174849 all) loss (new ≡ old)
+      (IsEndOfRun (IsStoreTold contents (take 174849 all) name (text_in columns text) old new)) end)))
+
+  -- a script was played on the shop of an image, over its file
+  abbrev pub IsPlayedOverFile : (image script : List ℕ) → W → W → JobEnd → Type 0
+  IsPlayedOverFile image script old new end = IsQuietEnd old new end × AreReplyLines contents old new
+      × OfText stands host script (λ all. IsPlainPlayed contents (IsShopAt stands host image) all old new end)
 
   -- a script was played over a log beside an image
   abbrev pub IsPlayedOverLog : List ℕ → W → W → JobEnd → Type 0
@@ -166,9 +176,10 @@ module _ {H W : Type 0} (rights : Rights H) (stands : H → List ℕ → Stands)
   IsJobOver (jobs.Rename image from to) old new end = IsChangeEnd contents (codes "RENAMED\n") old new end
   IsJobOver (jobs.Delete image name) old new end = IsChangeEnd contents (codes "DELETED\n") old new end
   IsJobOver (jobs.Put image name file kind) old new end = IsChangeEnd contents (codes "PUT\n") old new end
+  -- `do_store` says more
   IsJobOver (jobs.Store image name records columns loss) old new end = IsQuietEnd old new end
-  IsJobOver (jobs.Play image script) old new end = IsPlayedOverFile script.now old new end
-  IsJobOver (jobs.PlaySynced image script) old new end = IsPlayedOverFile script.now old new end
+  IsJobOver (jobs.Play image script) old new end = IsPlayedOverFile image.now script.now old new end
+  IsJobOver (jobs.PlaySynced image script) old new end = IsPlayedOverFile image.now script.now old new end
   IsJobOver (jobs.RepairSides image loss unowned effect) old new end =
       AreSidesDoneOver effect unowned loss image.now old new end
   IsJobOver (jobs.Sheet images) old new end = AreDrawnOnSheet (paths_of images) old new end
@@ -176,6 +187,7 @@ module _ {H W : Type 0} (rights : Rights H) (stands : H → List ℕ → Stands)
   IsJobOver (jobs.Several what images) old new end = AreOverviewed what (paths_of images) old new end
   IsJobOver (jobs.PlayLogged image script) old new end = IsPlayedOverLog script.now old new end
   IsJobOver (jobs.Serve image OverLog durability loss) old new end = IsLoggedService contents old new end
-  IsJobOver (jobs.Serve image InPlace durability loss) old new end = IsFileService contents old new end
+  IsJobOver (jobs.Serve image InPlace durability loss) old new end =
+      IsFileService contents (IsShopAt stands host image.now) old new end
   -- `do_trim` does that job
   IsJobOver (jobs.Trim image) old new end = (new ≡ old) × (end ≡ Err (refusals.Fault faults.File))

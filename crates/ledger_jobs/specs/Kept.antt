@@ -119,6 +119,13 @@ IsStoringStopped S contents name text old new before after = (run : IsStoringRun
     (record_length run.file.slot) (last_ones run.all) (grown_to (S.image old) run.file (greatest run.all)) faults.File
     × IsClean (S.image new)
 
+-- Or the file failed: a beginning of the lines of the records that changed is printed.
+abbrev pub IsStoringCut : {D W : Type 0} → History D → (W → Option (List ℕ)) → (name text : List ℕ) → D → D → W → W
+    → Type 0
+IsStoringCut S contents name text old new before after = (run : IsStoringRun S name text old new)
+    × HandsPart (contents before) (contents after) (changed_text (record_length run.file.slot) (last_ones run.all)
+    (grown_to (S.image old) run.file (greatest run.all)))
+
 -- the records were stored on the disk of the file, and what was otherwise was printed
 abbrev pub IsStoredFile : {F W : Type 0} → Keeps F → (W → Option (List ℕ)) → (image name text : List ℕ) → F → F → W → W
     → Type 0
@@ -133,7 +140,7 @@ IsKeptAsItWas K image file after old new =
 
 -- Why records aren't stored, or that isn't printed. What the image or the text holds is in the way: then nothing was
 -- done. Or the output failed, at the line of a record, or after all of them. Or the file failed: then what was stored
--- until then stays.
+-- until then stays, and a beginning of the lines was printed.
 abbrev pub IsStoredFault : {F W : Type 0} → Keeps F → (W → Option (List ℕ)) → (image name text : List ℕ) → F → F → W → W
     → CommandFault → Type 0
 IsStoredFault K contents image name text file after old new faults.ImageSize =
@@ -156,7 +163,8 @@ IsStoredFault K contents image name text file after old new faults.File =
 IsStoredFault K contents image name text file after old new faults.Device =
     FileFailed K file after
     × (IsKeptAsItWas K image file after old new
-    ⊎ IsTakenUp K image file after (λ disk left. IsStoringRun (in_run K file) name text disk left))
+    ⊎ IsTakenUp K image file after (λ disk left.
+    IsStoringCut (in_run K file) contents name text disk left old new))
 IsStoredFault K contents image name text file after old new _ = ⊥
 
 -- the storing of records on the disk of an image, over its file, ended so

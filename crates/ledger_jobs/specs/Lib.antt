@@ -31,5 +31,6 @@ pub mod Runs
 pub mod Serves
 pub mod SheetPages
 pub mod SideRepairs
+pub mod Stores
 pub mod Trims
 pub mod WatchedFiles

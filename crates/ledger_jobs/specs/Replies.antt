@@ -1,13 +1,14 @@
 -- What a job prints that plays a script or serves: lines of replies. Our own.
-use Rattle.std.specs.Prelude.{◌≡◌, ◌⊎◌, ⊤, ℕ, List, [], OnOk, Option, refl}
+use Rattle.std.specs.Prelude.{◌≡◌, ◌⊎◌, ⊤, ℕ, List, [], OnOk, Option, length, refl}
 use Rattle.std.specs.Io.KnownBytes.{Appends}
 use Rattle.command_faults.specs.Outputs.{HandsPart}
+use Rattle.d64_image.specs.Memory.{sectors_in}
 use Rattle.host_session.specs.events.Events.{HasNoReset}
 use Rattle.host_session.specs.events.Instants.{Instant}
 use Rattle.host_session.specs.events.Telling.{Output}
 use Rattle.host_session.specs.runs.Outputs.{written}
 use Rattle.host_session.specs.runs.ScriptRuns.{AreToldSo}
-use Rattle.host_session.specs.shop.Shop.{Shop, start_of}
+use Rattle.host_session.specs.shop.Shop.{IsShop, Shop, start_of}
 use Rattle.request_cards.specs.Ledgers.{replies, report}
 use Rattle.request_cards.specs.declared.reply.Reply.{Reply}
 use Rattle.line_text.specs.scripts.Lines.{lines}
@@ -32,27 +33,39 @@ abbrev pub IsToldSome : {T : Type 0} → Output T → T → T → Type 0
 IsToldSome o old new = (new ≡ old) ⊎ ((turns : List (Reply × Instant))
     × (o.told old new turns ⊎ ((last : Reply × Instant) × o.broken_off old new turns last)))
 
--- it was passed a shop's replies to some lines, and nothing else
-abbrev pub IsToldAll : {T : Type 0} → Output T → T → T → Type 0
-IsToldAll o old new = (s : Shop) × (ls : List (List ℕ)) × AreToldSo o old new (replies (start_of s) [] ls)
+-- these bytes are an image that stands for this shop
+abbrev pub IsShopOf : (image : List ℕ) → Shop → Type 0
+IsShopOf image s = (length image ≡ 174848) × IsShop (sectors_in image) s
 
--- a shop's replies to these lines were printed, each on a line of its own, and nothing else
+-- it was passed the replies of the shop of an image to some lines, and nothing else
+abbrev pub IsToldAll : {T : Type 0} → Output T → (image : List ℕ) → T → T → Type 0
+IsToldAll o image old new =
+    (s : Shop) × (ls : List (List ℕ)) × IsShopOf image s × AreToldSo o old new (replies (start_of s) [] ls)
+
+-- this shop's replies to these lines were printed, each on a line of its own, and nothing else
+abbrev pub AreAnsweredBy : {W : Type 0} → (W → Option (List ℕ)) → Shop → (ls : List (List ℕ)) → W → W → Type 0
+AreAnsweredBy contents s ls old new = Appends (contents old) (contents new) (report (replies (start_of s) [] ls))
+
+-- the same of a shop over a log, of whose image a host says nothing
 abbrev pub AreAnswered : {W : Type 0} → (W → Option (List ℕ)) → List (List ℕ) → W → W → Type 0
-AreAnswered contents ls old new = (s : Shop) × Appends (contents old) (contents new) (report (replies (start_of s) [] ls))
+AreAnswered contents ls old new = (s : Shop) × AreAnsweredBy contents s ls old new
 
 -- lines of replies were printed, the last of them perhaps not to its end, and nothing else
 abbrev pub AreReplyLines : {W : Type 0} → (W → Option (List ℕ)) → W → W → Type 0
 AreReplyLines contents old new = (new ≡ old) ⊎ ((rs : List Reply) × HandsPart (contents old) (contents new) (report rs))
 
--- a play of a script without resets is done: a shop's replies to all lines were printed, and nothing else
-abbrev pub IsPlainPlayed : {W : Type 0} → (W → Option (List ℕ)) → (script : List ℕ) → W → W → JobEnd → Type 0
-IsPlainPlayed contents script old new end = HasNoReset (lines script)
-    → OnOk end (AreAnswered contents (lines script) old new)
+-- A play of a script without resets ended so. When it is done, a shop's replies to all lines were printed, and nothing else.
+-- `Is` says which shop.
+abbrev pub IsPlainPlayed : {W : Type 0} → (W → Option (List ℕ)) → (Is : Shop → Type 0) → (script : List ℕ) → W → W
+    → JobEnd → Type 0
+IsPlainPlayed contents Is script old new end = HasNoReset (lines script)
+    → OnOk end ((s : Shop) × Is s × AreAnsweredBy contents s (lines script) old new)
 
--- A service over a file ended so. When it is done, a shop's replies to some lines were printed, and nothing else.
-abbrev pub IsFileService : {W : Type 0} → (W → Option (List ℕ)) → W → W → JobEnd → Type 0
-IsFileService contents old new end = IsServiceEnd old new end
-    × OnOk end ((ls : List (List ℕ)) × AreAnswered contents ls old new)
+-- A service over a file ended so. Only lines of replies were printed; when it is done, those of a shop's replies to some lines.
+-- `Is` says which shop.
+abbrev pub IsFileService : {W : Type 0} → (W → Option (List ℕ)) → (Is : Shop → Type 0) → W → W → JobEnd → Type 0
+IsFileService contents Is old new end = IsServiceEnd old new end × AreReplyLines contents old new
+    × OnOk end ((s : Shop) × (ls : List (List ℕ)) × Is s × AreAnsweredBy contents s ls old new)
 
 -- A service over a log ended so. Only lines of replies were printed; when it is done, those of a shop's replies to some lines.
 abbrev pub IsLoggedService : {W : Type 0} → (W → Option (List ℕ)) → W → W → JobEnd → Type 0

@@ -79,7 +79,7 @@ where
     W: Write,
     requires image { MayChangeImage R.rights rt.now path.now }
     requires script { MayReadText R.rights rt.now script.now }
-    ensures { IsPlayedOverFile R.rights R.stands W.contents rt.now script.now out.old out.new result }
+    ensures { IsPlayedOverFile R.rights R.stands W.contents rt.now path.now script.now out.old out.new result }
 {
     let mut file = opened_and_landed(rt, path)?;
     let image = own_image(rt.alloc(), &mut file, durability)?;

@@ -42,7 +42,7 @@ pub(crate) fn script_at<R: HostFiles + Input + AllocGlobal>(
     read_script(rt.alloc(), file, room)
 }
 
-/// The same, or why a job isn't begun that plays it: `File` or `NoMemory`.
+/// The same, or why a job isn't begun that needs it: `File` or `NoMemory`.
 pub(crate) fn script_to_play<R: HostFiles + Input + AllocGlobal>(
     rt: &R,
     path: &str,

@@ -5,22 +5,21 @@ ghost use Rattle.d64_image.specs.Memory.{sectors_in};
 ghost use Rattle.keeper_commands.specs.Makes.{IsNewName};
 ghost use Rattle.image_file.specs.ImageFile.{is_synced, placed};
 ghost use Rattle.command_faults.specs.declared.faults.CommandFault.TheVariants.{NoMemory};
-ghost use Rattle.ledger_jobs.specs.Changes.{IsChangeEnd, IsQuietEnd};
+ghost use Rattle.ledger_jobs.specs.Changes.{IsChangeEnd};
 ghost use Rattle.ledger_jobs.specs.Columns.{text_in};
 ghost use Rattle.ledger_jobs.specs.HostFiles.{IsUnbegun, OfWritten};
-ghost use Rattle.ledger_jobs.specs.JobRuns.{IsRepairDoneOver, IsRepairShown, IsRepairedOver};
+ghost use Rattle.ledger_jobs.specs.JobRuns.{AreStoredOver, IsRepairDoneOver, IsRepairShown, IsRepairedOver};
 ghost use Rattle.ledger_jobs.specs.Names.{name_bytes};
 ghost use Rattle.ledger_jobs.specs.declared.refusals.Refusal.TheVariants as refusals;
 ghost use Rattle.rel_records.specs.File.{IsLength};
 ghost use Rattle.ledger_jobs.specs.Rights.{MayChangeImage, MayReadImage, MayReadText, MayRepair};
 
-use crate::files::script_at;
+use crate::files::script_to_play;
 use crate::image_logs::opened_and_landed;
 use crate::jobs::{Columns, Effect, Loss, Unowned};
 use crate::locks::own_image;
 use crate::losses::{dry_repair_guarded, make_guarded, repair_guarded, store_guarded};
 use crate::names::Name;
-use crate::outcomes::told;
 use crate::readings::image_at;
 use crate::refusals::Refusal;
 use command_faults::CommandFault;
@@ -174,10 +173,12 @@ where
     W: Write,
     requires image { MayChangeImage R.rights rt.now path.now }
     requires records { MayReadText R.rights rt.now records.now }
-    ensures { IsQuietEnd out.old out.new result }
+    ensures { AreStoredOver R.rights R.stands W.contents rt.now path.now (name_bytes name.now) records.now columns loss
+        out.old out.new result }
 {
     let (image, file) = image_to_keep(rt, path)?;
-    let text = one_column(rt.alloc(), columns, told(script_at(rt, records))?)?;
+    let records = script_to_play(rt, records)?;
+    let text = one_column(rt.alloc(), columns, records)?;
     let (_, ended) = store_guarded(
         rt.alloc(),
         image.as_slice(),

@@ -2,7 +2,8 @@
 ghost use Rattle.std.specs.Prelude.{◌≡◌, IfSome, OnOk, take};
 ghost use Rattle.image_file.specs.Durable.{IsSynced};
 ghost use Rattle.ledger_jobs.specs.Changes.{IsServiceEnd};
-ghost use Rattle.ledger_jobs.specs.Replies.{IsFileService, IsToldAll};
+ghost use Rattle.ledger_jobs.specs.HostFiles.{IsShopAt};
+ghost use Rattle.ledger_jobs.specs.Replies.{IsFileService, IsShopOf, IsToldAll, IsToldSome};
 ghost use Rattle.ledger_jobs.specs.Rights.{MayChangeImage};
 ghost use Rattle.image_file.specs.paths.Rights.{Look, May};
 
@@ -43,7 +44,8 @@ where
     requires synced { IsSynced F.held F.lasting durability file }
     requires image { IfSome (F.held file) (λ all. image.now ≡ take 174849 all) }
     ensures quiet { IsServiceEnd out.old out.new result }
-    ensures all { OnOk result (IsToldAll T.answering.output out.old out.new) }
+    ensures some { IsToldSome T.answering.output out.old out.new }
+    ensures all { OnOk result (IsToldAll T.answering.output image.now out.old out.new) }
 {
     let mut answers = WhileThere::new(&name, out);
     let (_, ended) = serve_guarded(alloc, image, file, durability, loss, input, &mut answers);
@@ -67,7 +69,7 @@ where
     W: Write,
     requires synced { IsSynced F.held F.lasting durability file }
     requires image { IfSome (F.held file) (λ all. image.now ≡ take 174849 all) }
-    ensures { IsFileService W.contents out.old out.new result }
+    ensures { IsFileService W.contents (IsShopOf image.now) out.old out.new result }
 {
     // A bare reader of standard input reads a byte a call.
     let mut input = told(BufReader::new(rt.alloc(), rt.reader()))?;
@@ -113,7 +115,7 @@ where
     R: HostFiles<File = F> + Input + AllocGlobal,
     W: Write,
     requires { MayChangeImage R.rights rt.now path.now }
-    ensures { IsFileService W.contents out.old out.new result }
+    ensures { IsFileService W.contents (IsShopAt R.stands rt.now path.now) out.old out.new result }
 {
     let mut file = opened_and_landed(rt, path)?;
     let image = own_image(rt.alloc(), &mut file, durability)?;

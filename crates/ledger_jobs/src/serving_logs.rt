@@ -160,7 +160,7 @@ where
     T: Answers<TouchedDisk<MemDisk>>,
     ensures quiet { IsLoggedEnd out.old out.new result }
     ensures some { IsToldSome T.answering.output out.old out.new }
-    ensures all { OnOk result (IsToldAll T.answering.output out.old out.new) }
+    ensures all { OnOk result (IsToldAll T.answering.output image.now out.old out.new) }
 {
     let mut answers = WhileThere::new(&name, out);
     let (_, ended) = serve_begun(alloc, image, log, loss, input, &mut answers);

@@ -32,5 +32,5 @@ returns g c =
       run = delete-ended start c.new-mirror.ensures.whole c.new-mirror.ensures.untaken c.delete_image-ended.new.disk image
           c.args.name.now g.W.Write.contents loaded.0 holds c.args.out.now c.delete_image-ended.new.out c.args.file
           c.delete_image-ended.result c.file_of.result c.new-mirror.ensures.file c.file_of.ensures.file
-          c.delete_image-ended.ensures.ok c.delete_image-ended.ensures.err c.file_of.ensures.end;
+          c.delete_image-ended.ensures.ok c.delete_image-ended.ensures.err c.delete_image-ended.ensures.part c.file_of.ensures.end;
     }

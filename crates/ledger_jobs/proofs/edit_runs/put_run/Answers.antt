@@ -31,6 +31,6 @@ returns g c =
       run = put-ended start c.new-mirror.ensures.whole c.new-mirror.ensures.untaken c.put_image-ended.new.disk image
           c.args.name.now c.args.kind c.args.content.now (few-sectors c.args.content.now c.count_of.ensures.fits) g.W.Write.contents loaded.0 holds
           c.args.out.now c.put_image-ended.new.out c.args.file c.put_image-ended.result c.file_of.result
-          c.new-mirror.ensures.file c.file_of.ensures.file c.put_image-ended.ensures.ok c.put_image-ended.ensures.err
+          c.new-mirror.ensures.file c.file_of.ensures.file c.put_image-ended.ensures.ok c.put_image-ended.ensures.err c.put_image-ended.ensures.part
           c.file_of.ensures.end;
     }

@@ -31,5 +31,5 @@ returns g c =
       run = rename-ended start c.new-mirror.ensures.whole c.new-mirror.ensures.untaken c.rename_image-ended.new.disk image
           c.args.from.now c.args.to.now g.W.Write.contents loaded.0 holds c.args.out.now c.rename_image-ended.new.out c.args.file
           c.rename_image-ended.result c.file_of.result c.new-mirror.ensures.file c.file_of.ensures.file
-          c.rename_image-ended.ensures.ok c.rename_image-ended.ensures.err c.file_of.ensures.end;
+          c.rename_image-ended.ensures.ok c.rename_image-ended.ensures.err c.rename_image-ended.ensures.part c.file_of.ensures.end;
     }

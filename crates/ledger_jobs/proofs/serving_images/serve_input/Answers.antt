@@ -1,7 +1,7 @@
 -- What was printed is what was passed on.
 use Rattle.std.proofs.Common.{rules}
 use Rattle.ledger_jobs.proofs.LoggedTold.{lent-service}
-use Rattle.ledger_jobs.proofs.ServiceTold.{all-answered, lent-lines}
+use Rattle.ledger_jobs.proofs.ServiceTold.{all-answered, lent-lines, some-lines}
 use Rattle.ledger_jobs.proofs.serving_images.serve_input.Goals as goal
 
 pub returns : goal.returns
@@ -13,6 +13,8 @@ returns g c =
       lent-service before behind c.args.out.now _
           (lent-lines told before behind c.args.out.now _ c.new-printer.ensures.out (λ same. search rules)) end
           c.serve_watched.ensures.quiet,
-      all-answered told before behind c.args.out.now _ c.new-printer.ensures.out (λ same. search rules) end
+      some-lines told before behind c.args.out.now _ c.new-printer.ensures.out (λ same. search rules)
+          c.serve_watched.ensures.some,
+      all-answered told before behind c.args.out.now _ c.new-printer.ensures.out (λ same. search rules) c.args.image.now end
           c.serve_watched.ensures.all,
     )
