@@ -1,5 +1,5 @@
 -- Worked turns, computed by the checker. Each is named by what it shows.
-use Rattle.std.proofs.Common.{◌≡◌, ℕ, ap, arith, false, inr, List, [], ◌∷◌, refl, true}
+use Rattle.std.proofs.Common.{◌≡◌, ℕ, ap, arith, inl, inr, List, [], ◌∷◌, refl, ⊎_elim}
 use Rattle.std.specs.Fmt.{digits}
 use Rattle.std.specs.Prelude.{codes, slice_index}
 use Rattle.disk_layout.specs.Rest.{Rest}
@@ -20,7 +20,6 @@ use Rattle.retry_safe.specs.Turns.{Answered, CountsOnce, EachTurn, IsAnswer, Non
 abbrev set_to_7 : Turn
 set_to_7 = record {
   message = uncut (codes "1,1,S,15,7");
-  failed = false;
   counted = set ∷ [];
   reply = Told 1 1 (Kept (told.Done 7));
 }
@@ -32,7 +31,6 @@ receive = record { till = 2; number = 1; body = record { kind = Receive; item = 
 abbrev cut_receive : List Ask → Turn
 cut_receive counted = record {
   message = cut_at (codes "2,1,R,15,5") 1;
-  failed = false;
   counted = counted;
   reply = Cut;
 }
@@ -68,27 +66,24 @@ cut_is_no_answer h = h.0 refl
 pub media_is_no_answer : IsAnswer (Told 1 1 Media) → ⊥
 media_is_no_answer h = h.1 (1, 1, refl)
 
--- a receipt that was cut behind its first write counts, for it grows nothing; one in which power went for good may be out
-pub cut_receipt_counts : (rest : Rest)
-    → CountsOnce (two_tills rest nothing) (set ∷ []) (cut_receive []) → ⊥
-unfolding request_of number_before kind_before number_in amounts kind_of plain digits
-cut_receipt_counts rest h = let e : [] ≡ receive ∷ [] = h in cc
+-- a request in which power went after a write may count or not; not if power went before its first write
+pub cut_receipt_may_be_in : CountsOnce (set ∷ []) (cut_receive (receive ∷ []))
+unfolding request_of number_before kind_before number_in amounts kind_of digits
+cut_receipt_may_be_in = inl refl
 
-pub lost_receipt_may_be_out : (rest : Rest)
-    → CountsOnce (two_tills rest nothing) (set ∷ []) (record (cut_receive []) { failed = true })
-unfolding request_of number_before kind_before number_in amounts kind_of plain digits
-lost_receipt_may_be_out rest = inr refl
+pub cut_receipt_may_be_out : CountsOnce (set ∷ []) (cut_receive [])
+unfolding request_of number_before kind_before number_in amounts kind_of digits
+cut_receipt_may_be_out = inr refl
 
--- a first set may be in or out; no message counts as another's request, or twice
-pub cut_first_set_may_be_out : (rest : Rest)
-    → CountsOnce (two_tills rest nothing) [] (record set_to_7 { message = cut_at (codes "1,1,S,15,7") 1; counted = [] })
-unfolding request_of number_before kind_before number_in amounts kind_of plain digits
-cut_first_set_may_be_out rest = inr refl
+pub unwritten_set_is_out : CountsOnce [] (record set_to_7 { message = cut_at (codes "1,1,S,15,7") 0 }) → ⊥
+unfolding request_of number_before kind_before number_in amounts kind_of digits
+unwritten_set_is_out h = let e : set ∷ [] ≡ [] = h in cc
 
-pub nothing_counts_twice : (rest : Rest)
-    → CountsOnce (two_tills rest nothing) [] (record set_to_7 { counted = set ∷ set ∷ [] }) → ⊥
-unfolding request_of number_before kind_before number_in amounts kind_of plain digits
-nothing_counts_twice rest h = let e : set ∷ set ∷ [] ≡ set ∷ [] = h in cc
+-- no message counts twice
+pub nothing_counts_twice : CountsOnce [] (record set_to_7 { counted = set ∷ set ∷ [] }) → ⊥
+unfolding request_of number_before kind_before number_in amounts kind_of digits
+nothing_counts_twice h = ⊎_elim
+    (λ once. let e : set ∷ set ∷ [] ≡ set ∷ [] = once in cc) (λ none. let e : set ∷ set ∷ [] ≡ [] = none in cc) h
 
 -- events are received from the first on
 pub the_first_is_received : IsReceived (uncut (codes "1,1,S,15,7") ∷ uncut (codes "2,1,R,15,5") ∷ []) (set_to_7 ∷ [])

@@ -1,18 +1,19 @@
 -- The turns of a run, of what counted in it.
-use Rattle.std.proofs.Common.{◌≡◌, ℕ, Bool, true, false, List, [], ◌∷◌, ◌++◌, Option, Some, None, ap, refl, map}
-use Rattle.std.specs.Prelude.{option_to_list}
+use Rattle.std.proofs.Common.{◌≡◌, ℕ, zero, suc, Bool, true, false, List, [], ◌∷◌, ◌++◌, Option, Some, None, ap, inl, refl, map}
+use Rattle.std.specs.Prelude.{◌&&◌, MatchBool, nat_lt, option_to_list}
 use Rattle.request_cards.specs.Ledgers.{Start, State, plain, reply_in}
 use Rattle.request_cards.specs.Reading.{request_of}
 use Rattle.request_cards.specs.Requests.{Ask}
-use Rattle.host_session.specs.events.Counted.{IsCounted, MayCount, all_of, answer, answers}
+use Rattle.host_session.specs.events.Counted.{IsCounted, IsIn, MayBeIn, MayCount, all_of, answer, answers}
 use Rattle.host_session.specs.events.Events.{Message}
+use Rattle.host_session.specs.session.Handling.{is_first_set}
 use Rattle.host_session.specs.shop.Shop.{Shop, start_of}
-use Rattle.retry_safe.specs.Turns.{Answered, CountsOnce, EachTurn, IsAnswer, Turn, counted_in}
+use Rattle.retry_safe.specs.Turns.{Answered, CountsOnce, EachTurn, IsAnswer, IsOnce, Turn, counted_in}
 
 -- what came of these messages, one by one
 abbrev pub turns_of : Start → List Ask → List Message → List Bool → List (List Ask) → List Turn
 turns_of start before (m ∷ ms) (f ∷ fs) (c ∷ cs) =
-    record { message = m; failed = f; counted = c; reply = answer start (plain start before) m f }
+    record { message = m; counted = c; reply = answer start (plain start before) m f }
     ∷ turns_of start (before ++ c) ms fs cs
 turns_of start before _ _ _ = []
 
@@ -73,10 +74,28 @@ answered_are s before [] (f ∷ fs) cs is = absurd is
 answered_are s before (m ∷ ms) [] cs is = absurd is
 answered_are s before (m ∷ ms) (f ∷ fs) [] is = absurd is
 
+either_way : (first_set : Bool) (a : Ask) (c : List Ask) → MatchBool first_set (MayBeIn a c) (IsIn a c) → MayBeIn a c
+either_way true a c is = is
+either_way false a c is = inl is
+
+-- what a message may count in a run is its request once, or nothing
+once : (top : ℕ) (state : State) (o : Option Ask) (after : Option ℕ) (f : Bool) (c : List Ask)
+    → MayCount top state o after f c → IsOnce o after c
+once top state None after f c is = is
+once top state (Some a) None false c is = inl is
+once top state (Some a) None true c is = is
+once top state (Some a) (Some zero) false c is = is
+once top state (Some a) (Some zero) true c is = is
+once top state (Some a) (Some (suc n)) false c is = either_way (is_first_set state top a && nat_lt (suc n) 3619) a c is
+once top state (Some a) (Some (suc n)) true c is = is
+
 pub counts_are : (s : Shop) (before : List Ask) (ms : List Message) (fs : List Bool) (cs : List (List Ask))
-    → IsCounted (start_of s) before ms fs cs → EachTurn (CountsOnce s) before (turns_of (start_of s) before ms fs cs)
+    → IsCounted (start_of s) before ms fs cs → EachTurn CountsOnce before (turns_of (start_of s) before ms fs cs)
 counts_are s before [] [] [] is = tt
-counts_are s before (m ∷ ms) (f ∷ fs) (c ∷ cs) is = (is.0, counts_are s (before ++ c) ms fs cs is.1)
+counts_are s before (m ∷ ms) (f ∷ fs) (c ∷ cs) is = (
+  once s.top (plain (start_of s) before) (request_of m.bytes) m.cut_after f c is.0,
+  counts_are s (before ++ c) ms fs cs is.1,
+)
 counts_are s before [] [] (c ∷ cs) is = absurd is
 counts_are s before [] (f ∷ fs) cs is = absurd is
 counts_are s before (m ∷ ms) [] cs is = absurd is

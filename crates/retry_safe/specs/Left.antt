@@ -30,7 +30,7 @@ pub record IsLeft {D : Type 0} (h : History D) (s : Shop) (events : List Message
   pub received : IsReceived events turns
   pub told : new ≡ old ++ map (λ t. t.reply) turns
   pub answered : EachTurn (Answered s) [] turns
-  pub counts : EachTurn (CountsOnce s) [] turns
+  pub counts : EachTurn CountsOnce [] turns
   pub all : AreUncut events → most_of_run (length events) < power → NeverFailed h disk left
       → map (λ t. t.message) turns ≡ events
   pub shop : IsShop (h.image left) (with_state s (plain (start_of s) (counted_in turns)))

@@ -55,8 +55,8 @@ pub record RetrySafe {D : Type 0} (h : History D) (s : Shop) (events : List Mess
       → IfAnswered result (λ _ _. map (λ t. t.message) turns ≡ events)
   -- Each that was answered counts, with the answer over those before it.
   pub answered : EachTurn (Answered s) [] turns
-  -- Any other counts once or not at all.
-  pub counts : EachTurn (CountsOnce s) [] turns
+  -- Any other counts once or not at all; not at all if power went in it before its first write.
+  pub counts : EachTurn CountsOnce [] turns
   -- The next opening succeeds, and the till is answered, if the device doesn't fail.
   pub opens : NeverFailed h disk (left_of result) → IsAnswered result
   -- The cards are those of applying each new request once, in the order counted.

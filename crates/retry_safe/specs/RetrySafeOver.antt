@@ -72,7 +72,7 @@ pub record RetrySafeOver {L R T : Type 0} (h : LogHistory L) (i : BatchInput R) 
   pub gone : IfAnswered result (λ _ _. HasGone h s at log turns)
   -- Each that counts does so by the answer over those before it, and once.
   pub answered : EachTurn (Answered s) [] turns
-  pub counts : EachTurn (CountsOnce s) [] turns
+  pub counts : EachTurn CountsOnce [] turns
   -- The next opening succeeds, and the till is answered, unless the disk couldn't be had.
   pub opens : IsAnswered result
   -- The cards are those of applying each new request once, in the order counted.

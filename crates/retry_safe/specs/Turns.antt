@@ -1,12 +1,12 @@
 -- The messages that a run received, each with what it counted and its reply. All of it is our own.
-use Rattle.std.specs.Prelude.{◌≡◌, ◌≢◌, ℕ, Bool, List, [], ◌∷◌, ◌++◌, Some, flat_map, option_to_list}
+use Rattle.std.specs.Prelude.{◌≡◌, ◌≢◌, ℕ, zero, suc, List, [], ◌∷◌, ◌++◌, None, Option, Some, flat_map, option_to_list}
 use Rattle.std.specs.List.{AllByRecursion}
 use Rattle.request_cards.specs.declared.reply.Reply.{Reply}
 use Rattle.request_cards.specs.declared.reply.Reply.TheVariants.{Cut}
-use Rattle.request_cards.specs.Ledgers.{plain, reply}
+use Rattle.request_cards.specs.Ledgers.{reply}
 use Rattle.request_cards.specs.Reading.{request_of}
 use Rattle.request_cards.specs.Requests.{Ask}
-use Rattle.host_session.specs.events.Counted.{MayCount}
+use Rattle.host_session.specs.events.Counted.{MayBeIn}
 use Rattle.host_session.specs.events.Events.{Message}
 use Rattle.host_session.specs.session.Handling.{IsMedia}
 use Rattle.host_session.specs.shop.Shop.{Shop, start_of}
@@ -14,8 +14,6 @@ use Rattle.host_session.specs.shop.Shop.{Shop, start_of}
 -- One message that was received.
 pub record Turn : Type 0 where
   pub message : Message
-  -- the device failed in it, or power went for good
-  pub failed : Bool
   -- what it counts: its request once, or nothing
   pub counted : List Ask
   -- its reply
@@ -43,12 +41,16 @@ abbrev pub Answered : Shop → List Ask → Turn → Type 0
 Answered s before t = IsAnswer t.reply
     → (t.counted ≡ asks_in t.message.bytes) × (t.reply ≡ reply (start_of s) before (request_of t.message.bytes))
 
--- What any message counts (`Counts` of host_session has the cases). If power went in it before its first write, it counts
--- nothing; if later, its request, except that a first set may count or not up to write 3619. If power went for good, or
--- the device failed, a message may count or not.
-abbrev pub CountsOnce : Shop → List Ask → Turn → Type 0
-CountsOnce s before t = MayCount s.top (plain (start_of s) before) (request_of t.message.bytes) t.message.cut_after
-    t.failed t.counted
+-- what a request may count whatever came of it: itself once, or nothing; nothing if power went before its first write
+abbrev pub IsOnce : Option Ask → (cut_after : Option ℕ) → (counted : List Ask) → Type 0
+IsOnce None cut_after counted = counted ≡ []
+IsOnce (Some a) None counted = MayBeIn a counted
+IsOnce (Some a) (Some zero) counted = counted ≡ []
+IsOnce (Some a) (Some (suc n)) counted = MayBeIn a counted
+
+-- the same of a message, whatever counted before it
+abbrev pub CountsOnce : List Ask → Turn → Type 0
+CountsOnce before t = IsOnce (request_of t.message.bytes) t.message.cut_after t.counted
 
 -- none of these requests is of the till of that one
 abbrev pub NoneOfTill : Ask → List Ask → Type 0
