@@ -66,7 +66,7 @@ IsRecordsJob rows image result = ((form : RecordForm) × IsRecordForm rows form
 abbrev pub IsStoringJob : List Row → Bor Text → Result Job JobFault → Type 0
 IsStoringJob rows image result = ((records : Bor Text) × (columns : Columns)
     × (records.now ≡ value (codes "RECORDS") rows) × AreColumns rows columns
-    × IsNamedJob rows (λ name. jobs.Store image name records columns (loss_in rows)) result)
+    × IsNamedJob rows (λ name. jobs.Store image records columns (loss_in rows) name) result)
     ⊎ IsColumnFault rows result
 
 -- the job that makes a relative file; or there is no name for it, or no length of its records

@@ -210,7 +210,7 @@ module _ {F : Type 0} (position : F → Option ℕ) (bytes contents : F → Opti
       IsDeleted told image (name_bytes name) file after old new end
   IsJobRun told (jobs.Put path name source kind) image script file after old new end =
       IsPut told image (name_bytes name) kind script file after old new end
-  IsJobRun told (jobs.Store path name text c loss) image script file after old new end =
+  IsJobRun told (jobs.Store path text c loss name) image script file after old new end =
       IsStored told image (name_bytes name) script loss file after old new end
   IsJobRun told (jobs.Take what path name) image script file after old new end =
       (after ≡ file) × IsTakingEnd told what image (name_bytes name) old new end

@@ -86,7 +86,7 @@ fn storing_in<'a>(
 ) -> Result<Job<'a>, JobFault>
     ensures { (records : Bor Text) × (records.now ≡ value (codes "RECORDS") (rows_of (found_of matches.now)))
         × IsNamedJob (rows_of (found_of matches.now)) (λ name.
-        jobs.Store image.entry name records columns (loss_in (rows_of (found_of matches.now)))) result }
+        jobs.Store image.entry records columns (loss_in (rows_of (found_of matches.now))) name) result }
 {
     let records = value_of(matches, "RECORDS");
     match Name::read(value_of(matches, "NAME")) {

@@ -176,8 +176,8 @@ module _ {H W : Type 0} (rights : Rights H) (stands : H → List ℕ → Stands)
   IsJobOver (jobs.Rename image from to) old new end = IsChangeEnd contents (codes "RENAMED\n") old new end
   IsJobOver (jobs.Delete image name) old new end = IsChangeEnd contents (codes "DELETED\n") old new end
   IsJobOver (jobs.Put image name file kind) old new end = IsChangeEnd contents (codes "PUT\n") old new end
-  -- `do_store` says more
-  IsJobOver (jobs.Store image name records columns loss) old new end = IsQuietEnd old new end
+  IsJobOver (jobs.Store image records columns loss name) old new end =
+      AreStoredOver image.now (name_bytes name) records.now columns loss old new end
   IsJobOver (jobs.Play image script) old new end = IsPlayedOverFile image.now script.now old new end
   IsJobOver (jobs.PlaySynced image script) old new end = IsPlayedOverFile image.now script.now old new end
   IsJobOver (jobs.RepairSides image loss unowned effect) old new end =

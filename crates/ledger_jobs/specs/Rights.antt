@@ -40,7 +40,7 @@ first_file (jobs.Make image name size loss) = Some image.now
 first_file (jobs.Rename image from to) = Some image.now
 first_file (jobs.Delete image name) = Some image.now
 first_file (jobs.Put image name file kind) = Some image.now
-first_file (jobs.Store image name records columns loss) = Some image.now
+first_file (jobs.Store image records columns loss name) = Some image.now
 first_file (jobs.Draw what image) = Some image.now
 first_file (jobs.View what image) = Some image.now
 first_file (jobs.Trim image) = Some image.now
@@ -117,7 +117,7 @@ module _ {H : Type 0} (rights : Rights H) (host : H) where
   MayDo (jobs.Rename image from to) = MayChangeImage image.now
   MayDo (jobs.Delete image name) = MayChangeImage image.now
   MayDo (jobs.Put image name file kind) = MayChangeImage image.now × MayReadText file.now
-  MayDo (jobs.Store image name records columns loss) = MayChangeImage image.now × MayReadText records.now
+  MayDo (jobs.Store image records columns loss name) = MayChangeImage image.now × MayReadText records.now
   MayDo (jobs.Draw what image) = MayReadImage image.now
   MayDo (jobs.View what image) = MayReadImage image.now
   -- `do_trim` does that job

@@ -221,10 +221,10 @@ where
         } => do_put(rt, image, name, file, kind, out),
         Job::Store {
             image,
-            ref name,
             records,
             columns,
             loss,
+            ref name,
         } => do_store(rt, image, name, records, columns, loss, out),
         Job::Take {
             what,

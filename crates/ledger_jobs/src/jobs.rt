@@ -291,14 +291,14 @@ pub enum Job<'a> {
     Store {
         /// The image's path.
         image: &'a str,
-        /// The name of the file.
-        name: Name,
         /// The text's path.
         records: &'a str,
         /// How its lines have the records.
         columns: Columns,
         /// What is done if the disk has lost a part of a file.
         loss: Loss,
+        /// The name of the file.
+        name: Name,
     },
     /// An image that is read, drawn.
     Draw {

@@ -86,7 +86,7 @@ returns-in-Put g c =
 pub returns-in-Store : goal.returns-in-Store
 returns-in-Store g c =
     subst (λ (job : Job). IsJobOver g.R.HostFiles.rights g.R.HostFiles.stands g.W.Write.contents c.args.rt.now job
-    c.args.out.now c.do_store.new.out c.do_store.result) (sym c.in-Store.is) c.do_store.ensures.0
+    c.args.out.now c.do_store.new.out c.do_store.result) (sym c.in-Store.is) c.do_store.ensures
 
 pub returns-in-Compare : goal.returns-in-Compare
 returns-in-Compare g c =
