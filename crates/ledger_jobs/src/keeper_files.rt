@@ -3,7 +3,7 @@ ghost use Rattle.std.specs.Prelude.{◌≡◌, IfErr, IfOk, codes, length, take,
 ghost use Rattle.d64_image.specs.Keeps.{Agrees};
 ghost use Rattle.d64_image.specs.Memory.{sectors_in};
 ghost use Rattle.keeper_commands.specs.Makes.{IsNewName};
-ghost use Rattle.image_file.specs.ImageFile.{is_synced, placed};
+ghost use Rattle.image_file.specs.ImageFile.{is_synced, placed, placed_file};
 ghost use Rattle.command_faults.specs.declared.faults.CommandFault.TheVariants.{NoMemory};
 ghost use Rattle.ledger_jobs.specs.Changes.{IsChangeEnd};
 ghost use Rattle.ledger_jobs.specs.Columns.{text_in};
@@ -37,6 +37,7 @@ where
     F: EndedFile + Locks + OpenFile + Drop,
     R: HostFiles<File = F> + AllocGlobal,
     requires image { MayChangeImage R.rights rt.now path.now }
+    ensures owned { IfOk result (λ taken. F.IsOwned (placed_file taken.1)) }
     ensures synced { IfOk result (λ taken. length (vec_items taken.0) ≡ 174848 → is_synced taken.1) }
     ensures agrees { IfOk result (λ taken. Agrees (placed.kept taken.1) (sectors_in (vec_items taken.0))) }
     ensures read { OfWritten R.stands rt.now path.now

@@ -19,7 +19,7 @@ use shop_log::ImageLog;
 /// which disk it leaves. That disk is opened, and the session answers `again`.
 ///
 /// `NoMemory`: the disk that is left couldn't be had. `Open`: it is no shop's, as if the one that was served was none.
-/// `Device` is never returned. It takes no memory but the room, and up to 430 kB of stack.
+/// `Device` is never returned. It takes no memory but the room, and as much stack as an opening (docs/EMBED.md).
 pub fn retry_after_log_loss<L: ImageLog, R: BatchSource, T: Reports<L>, P: PowerLoss<L>>(
     disk: MemDisk,
     log: &mut L,

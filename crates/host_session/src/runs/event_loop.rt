@@ -107,7 +107,7 @@ fn run_on<D: Sectors, A: EventSource<D>, T: ReplySink<D>>(
 }
 
 /// Runs the events one after another on a disk that is opened first, and passes each reply on before the next event is
-/// taken. The clauses of `IsRun` say what it does. It takes up to 430 kB of stack, with resets 940 kB, as measured.
+/// taken. The clauses of `IsRun` say what it does. docs/EMBED.md says how much stack it takes.
 pub fn run<D: Sectors, A: EventSource<D>, T: ReplySink<D>>(
     disk: D,
     asks: &mut A,

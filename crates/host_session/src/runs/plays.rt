@@ -56,7 +56,7 @@ fn fault_of(fault: LoopFault) -> PlayFault
 /// and the reply is `Cut`. The replies are appended to the list.
 ///
 /// `play` stops after a message with the reply MEDIA, and after a whole recovery that failed; the list has the replies
-/// to both. It takes up to 430 kB of stack, with resets 940 kB, as measured.
+/// to both. docs/EMBED.md says how much stack a play takes.
 pub fn play<D: Sectors>(
     disk: D,
     events: &[Event<'_>],

@@ -61,8 +61,7 @@ fn fault_of(fault: LoopFault) -> ScriptFault
 ///
 /// All lines are checked before anything else is done. No memory is allocated. After `Output` the lines played stand,
 /// the one whose reply wasn't fully taken among them. If the device failed, the last reply is passed on before `Device`
-/// is returned; whether the output took that reply isn't reported. It takes up to 430 kB of stack, with resets 940 kB,
-/// as measured.
+/// is returned; whether the output took that reply isn't reported. docs/EMBED.md says how much stack it takes.
 pub fn play_script<D: Sectors, T: ReplySink<D>>(
     disk: D,
     script: &[u8],

@@ -21,7 +21,7 @@ impl<D: Sectors> Session<D> {
     ///
     /// `Device` is returned if the device failed, perhaps after writes.
     ///
-    /// It takes up to 430 kB of stack, as measured (no clause counts it); the session takes 86 kB.
+    /// The session takes 86 kB. docs/EMBED.md says how much stack an opening takes: no clause counts it.
     pub fn open(disk: D) -> Result<Session<D>, (OpenFault, D)>
         // the disk was a shop's, and is the same shop's now, at rest
         ensures ok { IfOk result (λ x.

@@ -102,7 +102,7 @@ fn ended(disk: MemDisk, end: Result<(), LoopFault>) -> Result<MemDisk, (LoopFaul
 /// log takes no more commits. Then the last batch, or what the opening mended, counts whole or not, and no reply of it
 /// was reported.
 ///
-/// It takes no memory but the room, and up to 430 kB of stack.
+/// It takes no memory but the room, and as much stack as an opening (docs/EMBED.md).
 pub fn serve_batches<L: ImageLog, R: BatchSource, T: Reports<L>>(
     disk: MemDisk,
     log: &mut L,
