@@ -9,7 +9,7 @@ use Rattle.request_cards.specs.Ledgers.{Start, State, plain}
 use Rattle.request_cards.specs.Reading.{request_of}
 use Rattle.request_cards.specs.Requests.{Ask}
 use Rattle.retry_safe.proofs.Received.{counted_are, messages_are, turns_of}
-use Rattle.retry_safe.specs.Turns.{Turn, asks_in, counted_in}
+use Rattle.retry_safe.specs.Turns.{Applied, EachTurn, Turn, asks_in, counted_in}
 
 -- what each line counts, and that nothing failed in it
 abbrev pub asks_of : List (List ℕ) → List (List Ask)
@@ -46,3 +46,9 @@ turn_asks s ls = sym (all_are ls)
 pub as_many_turns : (s : Shop) (ls : List (List ℕ)) → length ls ≡ length (line_turns s ls)
 as_many_turns s ls = sym (length-map ls uncut) ∙ ap length (sym (turn_messages s ls))
     ∙ length-map (line_turns s ls) (λ t. t.message)
+
+-- each of them counts, with the answer over those before it
+pub applied_lines : (s : Shop) (before : List Ask) (ls : List (List ℕ))
+    → EachTurn (Applied s) before (turns_of (start_of s) before (map uncut ls) (unfailed ls) (asks_of ls))
+applied_lines s before [] = tt
+applied_lines s before (l ∷ ls) = ((refl, refl), applied_lines s (before ++ asks_in l) ls)

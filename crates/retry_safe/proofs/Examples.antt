@@ -14,7 +14,7 @@ use Rattle.request_cards.specs.Reading.{amounts, kind_before, kind_of, request_o
 use Rattle.line_text.specs.Numbers.{number_before, number_in}
 use Rattle.request_cards.specs.Requests.{Ask}
 use Rattle.retry_safe.specs.Left.{IsReceived}
-use Rattle.retry_safe.specs.Turns.{Answered, CountsOnce, EachTurn, IsAnswer, NoneOfTill, Turn, counted_in}
+use Rattle.retry_safe.specs.Turns.{Answered, AreAnswered, CountsOnce, EachTurn, IsAnswer, NoneOfTill, Turn, counted_in}
 
 -- till 1 sets item 15 to 7 and is answered
 abbrev set_to_7 : Turn
@@ -65,6 +65,22 @@ cut_is_no_answer h = h.0 refl
 
 pub media_is_no_answer : IsAnswer (Told 1 1 Media) → ⊥
 media_is_no_answer h = h.1 (1, 1, refl)
+
+-- CUT is the reply to a message with a reset alone, and MEDIA only to the last one
+pub no_cut_without_a_reset : AreAnswered (record set_to_7 { reply = Cut } ∷ []) → ⊥
+no_cut_without_a_reset h = h.0 refl refl
+
+pub no_media_before_another : AreAnswered (record set_to_7 { reply = Told 1 1 Media } ∷ set_to_7 ∷ []) → ⊥
+no_media_before_another h = let e : set_to_7 ∷ [] ≡ [] = h.1.0 (1, 1, refl) in cc
+
+pub last_may_get_media : AreAnswered (cut_receive [] ∷ record set_to_7 { reply = Told 1 1 Media } ∷ [])
+last_may_get_media = (
+  λ e none. cc,
+  λ m. let e : Cut ≡ Told m.0 m.1 Media = m.2 in absurd cc,
+  λ e. let z : Told 1 1 Media ≡ Cut = e in absurd cc,
+  λ m. refl,
+  tt,
+)
 
 -- a request in which power went after a write may count or not; not if power went before its first write
 pub cut_receipt_may_be_in : CountsOnce (set ∷ []) (cut_receive (receive ∷ []))

@@ -1,3 +1,4 @@
+mod Answered
 mod Asking
 mod Counted
 mod Counting

@@ -23,7 +23,7 @@ use Rattle.retry_safe.proofs.Repeats.{told_so_again}
 use Rattle.retry_safe.specs.Asked.{IsAsked}
 use Rattle.retry_safe.specs.Left.{IsLeft, IsOfShop}
 use Rattle.retry_safe.specs.RetrySafe.{IfAnswered, IsAnswered, IsOpened, Reopened, RetrySafe, left_of}
-use Rattle.retry_safe.specs.Turns.{IsLastOfTill, Turn, asks_in, counted_in}
+use Rattle.retry_safe.specs.Turns.{AllAnswered, IsLastOfTill, Turn, asks_in, counted_in}
 
 -- the reply to a message looks at the limits of the shop alone
 pub replies_on : (s : Shop) (state : State) (o : Option Ask)
@@ -93,7 +93,7 @@ module _ {D : Type 0} (h : History D) (s : Shop) (events : List Message) (power 
         turns = x.turns;
         received = x.received;
         told = x.told;
-        all = λ uncut enough never. all_so result (map (λ t. t.message) x.turns ≡ events) (x.all uncut enough
+        all = λ uncut enough never. all_so result (AllAnswered events x.turns) (x.all uncut enough
             (never_failed_first h disk left end x.later (omega (arith, later, asked.later)) never));
         answered = x.answered;
         counts = x.counts;
@@ -120,7 +120,7 @@ no_memory h s events power again disk d old new shop same told = record {
   received = (events, refl);
   told = told ∙ sym (append-nil old);
   all = λ uncut enough never. tt;
-  answered = tt;
+  answered = (tt, tt);
   counts = tt;
   opens = λ never. refl;
   cards = tt;

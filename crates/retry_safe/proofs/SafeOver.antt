@@ -21,16 +21,17 @@ use Rattle.host_session.specs.shop.Shop.{IsSettled, IsShop, Shop, start_of, with
 use Rattle.line_server.specs.Batches.{BatchInput}
 use Rattle.line_server.proofs.lemmas.logged.UnderWay.{as_many_replies}
 use Rattle.line_server.specs.logged.Reporting.{LogOutput}
-use Rattle.line_server.specs.logged.Serves.{IsServedOver, shop_behind}
+use Rattle.line_server.specs.logged.Serves.{IsOver, IsServedOver, shop_behind}
 use Rattle.request_cards.proofs.Plain.{message_more}
 use Rattle.request_cards.specs.Ledgers.{plain, reply}
 use Rattle.request_cards.specs.Reading.{request_of}
 use Rattle.request_cards.specs.Requests.{Ask}
 use Rattle.request_cards.specs.declared.reply.Reply.{Reply}
-use Rattle.retry_safe.proofs.Counting.{as_many_turns, asks_of, counted_lines, line_turns, turn_asks, turn_messages, unfailed}
+use Rattle.retry_safe.proofs.Counting.{applied_lines, as_many_turns, asks_of, counted_lines, line_turns, turn_asks}
+use Rattle.retry_safe.proofs.Counting.{turn_messages, unfailed}
 use Rattle.retry_safe.proofs.Fronts.{Front, of_first, of_none, with_told}
-use Rattle.retry_safe.specs.RetrySafeOver.{AreKept, AreRead, AreToldOver, HasGone, RetrySafeOver}
-use Rattle.retry_safe.proofs.Received.{answered_are, counts_are}
+use Rattle.retry_safe.specs.RetrySafeOver.{AreKept, AreRead, AreToldOver, HasGone, IsToldWhole, RetrySafeOver}
+use Rattle.retry_safe.proofs.Received.{counts_are}
 use Rattle.retry_safe.proofs.Safe.{all_so, answered_so, opened_so, repeats, replies_on}
 use Rattle.retry_safe.specs.Asked.{IsAsked}
 use Rattle.retry_safe.specs.Left.{IsReceived}
@@ -64,6 +65,20 @@ all_read : (r : Result MemDisk (LoopFault × MemDisk)) (All Over Read Told Many 
     → All ⊎ (Over ⊎ (Read ⊎ (Told ⊎ Many)))
 all_read (Ok d) All Over Read Told Many all over read told opened = inl all
 all_read (Err e) All Over Read Told Many all over read told opened = by_fault All Over Read Told Many e.0 over read told opened
+
+-- how the reporting of replies ended
+by_end : (All Over Told : Type 0) (fault : LoopFault) → (fault ≡ loop.Input → All) → (fault ≡ loop.Device → Over)
+    → (fault ≡ loop.Output → Told) → ((f : OpenFault) → fault ≡ loop.Open f → ⊥) → All ⊎ (Over ⊎ Told)
+by_end All Over Told loop.Device all over told opened = inr (inl (over refl))
+by_end All Over Told loop.Input all over told opened = inl (all refl)
+by_end All Over Told loop.Output all over told opened = inr (inr (told refl))
+by_end All Over Told (loop.Open f) all over told opened = absurd (opened f refl)
+
+all_told : (r : Result MemDisk (LoopFault × MemDisk)) (All Over Told : Type 0) → (IsOver r → All)
+    → IfErr r (λ e. e.0 ≡ loop.Device → Over) → IfErr r (λ e. e.0 ≡ loop.Output → Told)
+    → IfErr r (λ e. (f : OpenFault) → e.0 ≡ loop.Open f → ⊥) → All ⊎ (Over ⊎ Told)
+all_told (Ok d) All Over Told all over told opened = inl (all tt)
+all_told (Err e) All Over Told all over told opened = by_end All Over Told e.0 all over told opened
 
 -- each line counts
 kept_all : {L : Type 0} (h : LogHistory L) (at n k : ℕ) (xs : List (Reply × L)) → k + length xs ≤ n → AreKept h at n k xs
@@ -115,12 +130,15 @@ module _ {L R T : Type 0} (h : LogHistory L) (i : BatchInput R) (o : LogOutput L
 
   module _ (front rest : List (List ℕ)) (parts : front ++ rest ≡ Ls)
       (kept : AreKept h at (length front) 0 (served.turns ++ option_to_list served.last)) where
-    told : AreToldOver h o s Ls at (length (line_turns s front)) old_out new_out
+    told : AreToldOver h o s Ls at (length (line_turns s front)) new old_out new_out
     told = record {
       turns = served.turns;
       last = served.last;
       told = served.told;
       replies_are = served.replies_are s shop;
+      all = all_told ended (IsToldWhole o (length Ls) served.turns served.last new_out) (h.is_over new ≡ true)
+          (o.has_failed new_out ≡ true) (λ over. ((served.all over).0, (served.all over).1, served.handed over))
+          served.device served.output (opens ended served.«open»);
       kept = subst (λ (n : ℕ). AreKept h at n 0 (served.turns ++ option_to_list served.last)) (as_many_turns s front) kept;
     }
 
@@ -157,7 +175,7 @@ module _ {L R T : Type 0} (h : LogHistory L) (i : BatchInput R) (o : LogOutput L
           left = leaves;
           shop = subst (λ (asks : List Ask). IsShop (disk_image left) (with_state s (plain (start_of s) asks))) (turn_asks s ls) f.shop;
         });
-        answered = answered_are s [] (map uncut ls) (unfailed ls) (asks_of ls) (counted_lines (start_of s) [] ls);
+        answered = applied_lines s [] ls;
         counts = counts_are s [] (map uncut ls) (unfailed ls) (asks_of ls) (counted_lines (start_of s) [] ls);
         opens = opened_so result (is.opens (never_failed left (left_of result)));
         cards = answered_so result _ _ (λ d r y. subst (IsSettled (disk_image d)) (cards_after s ls again) y.1) is.answer;
@@ -180,7 +198,7 @@ module _ {L R T : Type 0} (h : LogHistory L) (i : BatchInput R) (o : LogOutput L
         received = received Ls [] (append-nil Ls) kept;
         told = told Ls [] (append-nil Ls) kept;
         gone = tt;
-        answered = answered_are s [] (map uncut Ls) (unfailed Ls) (asks_of Ls) (counted_lines (start_of s) [] Ls);
+        answered = applied_lines s [] Ls;
         counts = counts_are s [] (map uncut Ls) (unfailed Ls) (asks_of Ls) (counted_lines (start_of s) [] Ls);
         opens = refl;
         cards = tt;

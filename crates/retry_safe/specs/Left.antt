@@ -9,7 +9,7 @@ use Rattle.host_session.specs.events.Within.{most_of_run}
 use Rattle.host_session.specs.shop.Shop.{IsShop, Shop, start_of, with_state}
 use Rattle.request_cards.specs.Ledgers.{State, plain}
 use Rattle.request_cards.specs.declared.reply.Reply.{Reply}
-use Rattle.retry_safe.specs.Turns.{Answered, CountsOnce, EachTurn, Turn, counted_in}
+use Rattle.retry_safe.specs.Turns.{AllAnswered, Answered, AreAnswered, CountsOnce, EachTurn, Turn, counted_in}
 
 -- the image is this shop's, whatever its cards
 abbrev pub IsOfShop : Shop → Image → Type 0
@@ -29,10 +29,9 @@ pub record IsLeft {D : Type 0} (h : History D) (s : Shop) (events : List Message
   pub turns : List Turn
   pub received : IsReceived events turns
   pub told : new ≡ old ++ map (λ t. t.reply) turns
-  pub answered : EachTurn (Answered s) [] turns
+  pub answered : AreAnswered turns × EachTurn (Answered s) [] turns
   pub counts : EachTurn CountsOnce [] turns
-  pub all : AreUncut events → most_of_run (length events) < power → NeverFailed h disk left
-      → map (λ t. t.message) turns ≡ events
+  pub all : AreUncut events → most_of_run (length events) < power → NeverFailed h disk left → AllAnswered events turns
   pub shop : IsShop (h.image left) (with_state s (plain (start_of s) (counted_in turns)))
   pub held : HeldOnly h disk left (IsOfShop s)
   pub later : h.failures disk ≤ h.failures left

@@ -17,7 +17,8 @@ use Rattle.request_cards.specs.Reading.{request_of}
 use Rattle.request_cards.specs.Requests.{Ask}
 use Rattle.request_cards.specs.declared.reply.Reply.{Reply}
 use Rattle.retry_safe.specs.Left.{IsOfShop, IsReceived}
-use Rattle.retry_safe.specs.Turns.{Answered, CountsOnce, EachTurn, IsLastOfTill, Turn, asks_in, counted_in}
+use Rattle.retry_safe.specs.Turns.{AllAnswered, Answered, AreAnswered, CountsOnce, EachTurn, IsLastOfTill, Turn, asks_in}
+use Rattle.retry_safe.specs.Turns.{counted_in}
 
 -- an open session with the last reply to a till, or why there is none, with the disk
 abbrev pub Reopened : Type 0 → Type 0
@@ -50,11 +51,12 @@ pub record RetrySafe {D : Type 0} (h : History D) (s : Shop) (events : List Mess
   pub turns : List Turn
   pub received : IsReceived events turns
   pub told : new ≡ old ++ map (λ t. t.reply) turns
-  -- All were received, if power is enough for them.
+  -- All were received and answered, if none has a reset, power is enough for them, and the device doesn't fail.
   pub all : AreUncut events → most_of_run (length events) < power → NeverFailed h disk (left_of result)
-      → IfAnswered result (λ _ _. map (λ t. t.message) turns ≡ events)
-  -- Each that was answered counts, with the answer over those before it.
-  pub answered : EachTurn (Answered s) [] turns
+      → IfAnswered result (λ _ _. AllAnswered events turns)
+  -- Each was answered, unless a reset was in it (CUT), or it is the last one (MEDIA). Each that was answered counts, with
+  -- the answer over those before it.
+  pub answered : AreAnswered turns × EachTurn (Answered s) [] turns
   -- Any other counts once or not at all; not at all if power went in it before its first write.
   pub counts : EachTurn CountsOnce [] turns
   -- The next opening succeeds, and the till is answered, if the device doesn't fail.

@@ -1,5 +1,5 @@
 -- The promise of the product for a shop that is served over a log, as one record. All of it is our own.
-use Rattle.std.specs.Prelude.{◌≡◌, ◌⊎◌, ◌≤◌, ◌+◌, ◌++◌, ℕ, List, [], ◌∷◌, OnSome, Option, length, map}
+use Rattle.std.specs.Prelude.{◌≡◌, ◌⊎◌, ◌≤◌, ◌+◌, ◌++◌, ℕ, List, [], ◌∷◌, None, OnSome, Option, length, map}
 use Rattle.std.specs.Prelude.{option_to_list, true}
 use Rattle.std.specs.Io.KnownBytes.{Consumes, IsAtEnd}
 use Rattle.d64_image.specs.Images.{Image}
@@ -19,7 +19,7 @@ use Rattle.request_cards.specs.Requests.{Ask}
 use Rattle.request_cards.specs.declared.reply.Reply.{Reply}
 use Rattle.retry_safe.specs.Left.{IsReceived}
 use Rattle.retry_safe.specs.RetrySafe.{IfAnswered, IsAnswered, Reopened}
-use Rattle.retry_safe.specs.Turns.{Answered, CountsOnce, EachTurn, IsLastOfTill, Turn, asks_in, counted_in}
+use Rattle.retry_safe.specs.Turns.{Applied, CountsOnce, EachTurn, IsLastOfTill, Turn, asks_in, counted_in}
 use Rattle.line_text.specs.scripts.Lines.{lines}
 use Rattle.shop_log.specs.ImageLogs.{LogHistory}
 
@@ -28,14 +28,20 @@ abbrev pub AreKept : {L : Type 0} → LogHistory L → ℕ → ℕ → ℕ → L
 AreKept h at n k [] = Unit {0}
 AreKept h at n k (x ∷ xs) = (h.moment x.1 ≤ at → k + 1 ≤ n) × AreKept h at n (k + 1) xs
 
+-- each line has its reply, and the last of these was handed on
+abbrev pub IsToldWhole : {L T : Type 0} → LogOutput L T → (lines : ℕ) → List (Reply × L) → Option (Reply × L) → T → Type 0
+IsToldWhole o lines turns last new = (last ≡ None) × (length turns ≡ lines) × ((turns ≡ []) ⊎ o.is_handed_on new)
+
 -- Replies to these lines were reported. The first n lines count after power has gone at that moment.
 pub record AreToldOver {L T : Type 0} (h : LogHistory L) (o : LogOutput L T) (s : Shop) (ls : List (List ℕ)) (at n : ℕ)
-    (old new : T) : Type 0 where
+    (log : L) (old new : T) : Type 0 where
   -- each reply beside the log over which it was reported, and the one that the output broke off
   pub turns : List (Reply × L)
   pub last : Option (Reply × L)
   pub told : IsToldTo o old new turns last
   pub replies_are : AreFirst (told_in (turns ++ option_to_list last)) (replies (start_of s) [] ls)
+  -- all of them, unless the log takes no more commits, or the output may have failed
+  pub all : IsToldWhole o (length ls) turns last new ⊎ ((h.is_over log ≡ true) ⊎ (o.has_failed new ≡ true))
   pub kept : AreKept h at n 0 (turns ++ option_to_list last)
 
 -- Lines were read from an input, over this log and output at the end.
@@ -66,12 +72,13 @@ pub record RetrySafeOver {L R T : Type 0} (h : LogHistory L) (i : BatchInput R) 
   pub read : AreRead h i o log old_in new_in new
   pub turns : List Turn
   pub received : IsReceived (map uncut (lines read.handled)) turns
-  -- The replies that were reported are those to the first lines. What was reported before power went counts.
-  pub told : AreToldOver h o s (lines read.handled) at (length turns) old new
+  -- The replies that were reported are those to the first lines: to all, if log and output didn't fail. What was reported
+  -- before power went counts.
+  pub told : AreToldOver h o s (lines read.handled) at (length turns) log old new
   -- What power left is the shop after the lines that count.
   pub gone : IfAnswered result (λ _ _. HasGone h s at log turns)
-  -- Each that counts does so by the answer over those before it, and once.
-  pub answered : EachTurn (Answered s) [] turns
+  -- Each of these counts once, with the answer over those before it.
+  pub answered : EachTurn (Applied s) [] turns
   pub counts : EachTurn CountsOnce [] turns
   -- The next opening succeeds, and the till is answered, unless the disk couldn't be had.
   pub opens : IsAnswered result

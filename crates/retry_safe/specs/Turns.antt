@@ -1,5 +1,5 @@
 -- The messages that a run received, each with what it counted and its reply. All of it is our own.
-use Rattle.std.specs.Prelude.{◌≡◌, ◌≢◌, ℕ, zero, suc, List, [], ◌∷◌, ◌++◌, None, Option, Some, flat_map, option_to_list}
+use Rattle.std.specs.Prelude.{◌≡◌, ◌≢◌, ℕ, zero, suc, List, [], ◌∷◌, ◌++◌, None, Option, Some, flat_map, map, option_to_list}
 use Rattle.std.specs.List.{AllByRecursion}
 use Rattle.request_cards.specs.declared.reply.Reply.{Reply}
 use Rattle.request_cards.specs.declared.reply.Reply.TheVariants.{Cut}
@@ -36,10 +36,23 @@ EachTurn P before (t ∷ ts) = P before t × EachTurn P (before ++ t.counted) ts
 abbrev pub IsAnswer : Reply → Type 0
 IsAnswer r = (r ≢ Cut) × ¬ (IsMedia r)
 
+-- The message counts, if it is a request, and its reply is the answer over the requests counted before it.
+abbrev pub Applied : Shop → List Ask → Turn → Type 0
+Applied s before t =
+    (t.counted ≡ asks_in t.message.bytes) × (t.reply ≡ reply (start_of s) before (request_of t.message.bytes))
+
 -- A message that was answered counts, and the answer is the one over the requests counted before it.
 abbrev pub Answered : Shop → List Ask → Turn → Type 0
-Answered s before t = IsAnswer t.reply
-    → (t.counted ≡ asks_in t.message.bytes) × (t.reply ≡ reply (start_of s) before (request_of t.message.bytes))
+Answered s before t = IsAnswer t.reply → Applied s before t
+
+-- Each message was answered, unless a reset was in it, which gets CUT, or it is the last one, which may get MEDIA.
+abbrev pub AreAnswered : List Turn → Type 0
+AreAnswered [] = Unit {0}
+AreAnswered (t ∷ ts) = (t.reply ≡ Cut → t.message.cut_after ≢ None) × (IsMedia t.reply → ts ≡ []) × AreAnswered ts
+
+-- These messages were received, and each was answered.
+abbrev pub AllAnswered : List Message → List Turn → Type 0
+AllAnswered events turns = (map (λ t. t.message) turns ≡ events) × EachTurn (λ _ t. IsAnswer t.reply) [] turns
 
 -- what a request may count whatever came of it: itself once, or nothing; nothing if power went before its first write
 abbrev pub IsOnce : Option Ask → (cut_after : Option ℕ) → (counted : List Ask) → Type 0

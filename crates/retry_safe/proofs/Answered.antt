@@ -1,0 +1,124 @@
+-- Which messages of a run were answered.
+use Rattle.std.proofs.Common.{◌≡◌, ◌≢◌, ◌∙◌, ℕ, Bool, true, false, List, [], ◌∷◌, ◌++◌, None, Option, Some, refl, subst, sym}
+use Rattle.host_session.proofs.lemmas.session.Handled.{media-word, one-bool, syntax-other}
+use Rattle.host_session.proofs.lemmas.session.Replies.{kept-other}
+use Rattle.host_session.proofs.lemmas.session.Settled.{settled-other}
+use Rattle.host_session.specs.events.Counted.{FailsAtLast, IsCounted, NoneGotMedia, answer}
+use Rattle.host_session.specs.events.Events.{Message}
+use Rattle.host_session.specs.events.Quiet.{AreUncut}
+use Rattle.host_session.specs.session.Handling.{IsMedia}
+use Rattle.host_session.specs.shop.Shop.{Shop, start_of}
+use Rattle.request_cards.specs.Ledgers.{Entry, Start, State, plain, standing, word_in, word_on}
+use Rattle.request_cards.specs.Reading.{request_of}
+use Rattle.request_cards.specs.Requests.{Ask}
+use Rattle.request_cards.specs.Trade.{outcome}
+use Rattle.request_cards.specs.declared.answer.Answer.{Answer}
+use Rattle.request_cards.specs.declared.reply.Reply.TheVariants.{Cut, Syntax, Told}
+use Rattle.request_cards.specs.declared.reply.Word.TheVariants.{Media}
+use Rattle.request_cards.specs.declared.standing.Standing.{Standing}
+use Rattle.request_cards.specs.declared.standing.Standing.TheVariants.{New, Settled}
+use Rattle.retry_safe.proofs.Received.{turns_of}
+use Rattle.retry_safe.specs.Turns.{AreAnswered, EachTurn, IsAnswer}
+
+-- the device failed in no message without a reset, but perhaps in the last one
+abbrev pub FailsOnlyAtLast : List Message → List Bool → Type 0
+FailsOnlyAtLast (m ∷ ms) (f ∷ fs) = (m.cut_after ≡ None → f ≡ true → ms ≡ []) × FailsOnlyAtLast ms fs
+FailsOnlyAtLast _ _ = Unit {0}
+
+pub none_failed : (ms : List Message) (fs : List Bool) → NoneGotMedia ms fs → FailsOnlyAtLast ms fs
+none_failed [] fs none = tt
+none_failed (m ∷ ms) [] none = tt
+none_failed (m ∷ ms) (f ∷ fs) none = ((λ uncut is. one-bool is (none.0 uncut)), none_failed ms fs none.1)
+
+one_more : (ms : List Message) (fs : List Bool) (last : Message) → NoneGotMedia ms fs
+    → FailsOnlyAtLast (ms ++ last ∷ []) (fs ++ true ∷ [])
+one_more [] [] last none = ((λ uncut is. refl), tt)
+one_more [] (f ∷ fs) last none = absurd none
+one_more (m ∷ ms) [] last none = absurd none
+one_more (m ∷ ms) (f ∷ fs) last none = ((λ uncut is. one-bool is (none.0 uncut)), one_more ms fs last none.1)
+
+pub last_failed : (ms : List Message) (fs : List Bool) → FailsAtLast ms fs → FailsOnlyAtLast ms fs
+last_failed ms fs x =
+    subst (λ (xs : List Message). FailsOnlyAtLast xs fs) (sym x.messages_are)
+    (subst (λ (gs : List Bool). FailsOnlyAtLast (x.before ++ x.last ∷ []) gs) (sym x.fails_are)
+    (one_more x.before x.answered x.last x.whole))
+
+-- the word on a request in a state is never MEDIA
+word_other : (tills : ℕ) (last prior : Option Entry) (a : Ask) (kept : Answer) (st : Standing)
+    → standing tills last prior a ≡ st → word_on st kept ≢ Media
+word_other tills last prior a kept New is e = kept-other kept e
+word_other tills last prior a kept (Settled w) is e = settled-other tills last prior a w is e
+
+no_media : (start : Start) (state : State) (a : Ask) → word_in start state a ≢ Media
+no_media start state a e =
+    word_other start.tills (state.ledger.kept a.till) (state.prior a.till) a
+    (outcome state.ledger.cards start.top a.body).0 _ refl e
+
+-- a message without a reset never gets CUT
+no_cut : (start : Start) (state : State) (m : Message) (f : Bool) (o : Option Ask) → request_of m.bytes ≡ o
+    → m.cut_after ≡ None → answer start state m f ≢ Cut
+no_cut start state m true None is uncut e =
+    let reply : answer start state m true ≡ Syntax = rw (uncut, is) refl in
+    let other : Syntax ≡ Cut = sym reply ∙ e in
+    cc
+no_cut start state m true (Some a) is uncut e =
+    let reply : answer start state m true ≡ Told a.till a.number Media = rw (uncut, is) refl in
+    let other : Told a.till a.number Media ≡ Cut = sym reply ∙ e in
+    cc
+no_cut start state m false None is uncut e =
+    let reply : answer start state m false ≡ Syntax = rw (uncut, is) refl in
+    let other : Syntax ≡ Cut = sym reply ∙ e in
+    cc
+no_cut start state m false (Some a) is uncut e =
+    let reply : answer start state m false ≡ Told a.till a.number (word_in start state a) = rw (uncut, is) refl in
+    let other : Told a.till a.number (word_in start state a) ≡ Cut = sym reply ∙ e in
+    cc
+
+-- MEDIA is the reply if the device failed in a message without a reset
+media_is : (start : Start) (state : State) (m : Message) (f : Bool) (o : Option Ask) (after : Option ℕ)
+    → request_of m.bytes ≡ o → m.cut_after ≡ after → IsMedia (answer start state m f) → (m.cut_after ≡ None) × (f ≡ true)
+media_is start state m f o (Some n) is cut x =
+    let reply : answer start state m f ≡ Cut = rw cut refl in
+    let other : Cut ≡ Told x.0 x.1 Media = sym reply ∙ x.2 in
+    absurd cc
+media_is start state m true o None is uncut x = (uncut, refl)
+media_is start state m false None None is uncut x =
+    let reply : answer start state m false ≡ Syntax = rw (uncut, is) refl in
+    syntax-other (x.0, x.1, sym reply ∙ x.2)
+media_is start state m false (Some a) None is uncut x =
+    let reply : answer start state m false ≡ Told a.till a.number (word_in start state a) = rw (uncut, is) refl in
+    absurd (no_media start state a (media-word a.till a.number (word_in start state a) (x.0, x.1, sym reply ∙ x.2)))
+
+-- the messages that weren't answered have a reset, or are the last
+pub are_answered : (start : Start) (before : List Ask) (ms : List Message) (fs : List Bool) (cs : List (List Ask))
+    → FailsOnlyAtLast ms fs → AreAnswered (turns_of start before ms fs cs)
+are_answered start before [] fs cs at = tt
+are_answered start before (m ∷ ms) [] cs at = tt
+are_answered start before (m ∷ ms) (f ∷ fs) [] at = tt
+are_answered start before (m ∷ ms) (f ∷ fs) (c ∷ cs) at = (
+  λ e uncut. no_cut start (plain start before) m f (request_of m.bytes) refl uncut e,
+  λ x.
+      let failed = media_is start (plain start before) m f (request_of m.bytes) m.cut_after refl refl x in
+      none_left (before ++ c) ms fs cs (at.0 failed.0 failed.1),
+  are_answered start (before ++ c) ms fs cs at.1,
+)
+  where
+    none_left : (bs : List Ask) (xs : List Message) (gs : List Bool) (ds : List (List Ask)) → xs ≡ []
+        → turns_of start bs xs gs ds ≡ []
+    none_left bs [] gs ds is = refl
+    none_left bs (x ∷ xs) gs ds is = absurd cc
+
+-- each was answered, if none has a reset and the device failed in none
+pub all_answered : (start : Start) (before : List Ask) (ms : List Message) (fs : List Bool) (cs : List (List Ask))
+    → AreUncut ms → NoneGotMedia ms fs → EachTurn (λ _ t. IsAnswer t.reply) before (turns_of start before ms fs cs)
+all_answered start before [] fs cs uncut none = tt
+all_answered start before (m ∷ ms) [] cs uncut none = tt
+all_answered start before (m ∷ ms) (f ∷ fs) [] uncut none = tt
+all_answered start before (m ∷ ms) (f ∷ fs) (c ∷ cs) uncut none = (
+  (
+    no_cut start (plain start before) m f (request_of m.bytes) refl uncut.0,
+    λ x. one-bool (media_is start (plain start before) m f (request_of m.bytes) m.cut_after refl refl x).1
+        (none.0 uncut.0),
+  ),
+  all_answered start (before ++ c) ms fs cs uncut.1 none.1,
+)
