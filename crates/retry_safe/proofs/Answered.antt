@@ -1,5 +1,6 @@
 -- Which messages of a run were answered.
 use Rattle.std.proofs.Common.{◌≡◌, ◌≢◌, ◌∙◌, ℕ, Bool, true, false, List, [], ◌∷◌, ◌++◌, None, Option, Some, refl, subst, sym}
+use Rattle.std.specs.Prelude.{IsSome}
 use Rattle.host_session.proofs.lemmas.session.Handled.{media-word, one-bool, syntax-other}
 use Rattle.host_session.proofs.lemmas.session.Replies.{kept-other}
 use Rattle.host_session.proofs.lemmas.session.Settled.{settled-other}
@@ -18,7 +19,7 @@ use Rattle.request_cards.specs.declared.reply.Word.TheVariants.{Media}
 use Rattle.request_cards.specs.declared.standing.Standing.{Standing}
 use Rattle.request_cards.specs.declared.standing.Standing.TheVariants.{New, Settled}
 use Rattle.retry_safe.proofs.Received.{turns_of}
-use Rattle.retry_safe.specs.Turns.{AreAnswered, EachTurn, IsAnswer}
+use Rattle.retry_safe.specs.Turns.{AreAnswered, EachTurn, IsAnswer, IsStopped, Turn}
 
 -- the device failed in no message without a reset, but perhaps in the last one
 abbrev pub FailsOnlyAtLast : List Message → List Bool → Type 0
@@ -122,3 +123,49 @@ all_answered start before (m ∷ ms) (f ∷ fs) (c ∷ cs) uncut none = (
   ),
   all_answered start (before ++ c) ms fs cs uncut.1 none.1,
 )
+
+-- the last of these messages wasn't answered; without any, this holds
+abbrev EndsSo : Type 0 → List Turn → Type 0
+EndsSo P [] = P
+EndsSo P (t ∷ ts) = EndsSo (¬ (IsAnswer t.reply)) ts
+
+ends_so : (P : Type 0) (first : List Turn) (last : Turn) → EndsSo P (first ++ last ∷ []) → ¬ (IsAnswer last.reply)
+ends_so P [] last is = is
+ends_so P (t ∷ ts) last is = ends_so (¬ (IsAnswer t.reply)) ts last is
+
+-- a message in which the device failed isn't answered
+not_answered : (start : Start) (state : State) (m : Message) (o : Option Ask) (after : Option ℕ) → request_of m.bytes ≡ o
+    → m.cut_after ≡ after → (m.cut_after ≡ None → IsSome o) → ¬ (IsAnswer (answer start state m true))
+not_answered start state m o (Some n) is cut asked told = told.0 (rw cut refl)
+not_answered start state m None None is uncut asked told = absurd (asked uncut)
+not_answered start state m (Some a) None is uncut asked told = told.1 (a.till, a.number, rw (uncut, is) refl)
+
+last_unanswered : (P : Type 0) (start : Start) (before : List Ask) (ms : List Message) (fs : List Bool) (last : Message)
+    (cs : List (List Ask)) → NoneGotMedia ms fs → (last.cut_after ≡ None → IsSome (request_of last.bytes))
+    → IsCounted start before (ms ++ last ∷ []) (fs ++ true ∷ []) cs
+    → EndsSo P (turns_of start before (ms ++ last ∷ []) (fs ++ true ∷ []) cs)
+last_unanswered P start before [] [] last [] none asked is = absurd is
+last_unanswered P start before [] [] last (c ∷ []) none asked is =
+    not_answered start (plain start before) last (request_of last.bytes) last.cut_after refl refl asked
+last_unanswered P start before [] [] last (c ∷ d ∷ ds) none asked is = absurd is.1
+last_unanswered P start before [] (f ∷ fs) last cs none asked is = absurd none
+last_unanswered P start before (m ∷ ms) [] last cs none asked is = absurd none
+last_unanswered P start before (m ∷ ms) (f ∷ fs) last [] none asked is = absurd is
+last_unanswered P start before (m ∷ ms) (f ∷ fs) last (c ∷ cs) none asked is =
+    last_unanswered (¬ (IsAnswer (answer start (plain start before) m f))) start (before ++ c) ms fs last cs none.1 asked is.1
+
+-- the run stopped at a message that wasn't answered
+pub stopped : (start : Start) (ms : List Message) (fs : List Bool) (cs : List (List Ask)) → FailsAtLast ms fs
+    → IsCounted start [] ms fs cs → IsStopped (turns_of start [] ms fs cs)
+stopped start ms fs cs x =
+    let Ends : List Message → List Bool → Type 0 =
+    λ xs gs. IsCounted start [] xs gs cs → EndsSo (Unit {0}) (turns_of start [] xs gs cs) in
+    let ends : Ends ms fs = subst (λ (xs : List Message). Ends xs fs) (sym x.messages_are)
+    (subst (λ (gs : List Bool). Ends (x.before ++ x.last ∷ []) gs) (sym x.fails_are)
+    (last_unanswered (Unit {0}) start [] x.before x.answered x.last cs x.whole x.asked)) in
+    λ is first last at. ends_so (Unit {0}) first last
+    (subst (λ (ts : List Turn). EndsSo (Unit {0}) ts) at (ends is))
+
+pub none_stopped : IsStopped []
+none_stopped [] last at = absurd cc
+none_stopped (t ∷ ts) last at = absurd cc

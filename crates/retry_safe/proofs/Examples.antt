@@ -14,7 +14,8 @@ use Rattle.request_cards.specs.Reading.{amounts, kind_before, kind_of, request_o
 use Rattle.line_text.specs.Numbers.{number_before, number_in}
 use Rattle.request_cards.specs.Requests.{Ask}
 use Rattle.retry_safe.specs.Left.{IsReceived}
-use Rattle.retry_safe.specs.Turns.{Answered, AreAnswered, CountsOnce, EachTurn, IsAnswer, NoneOfTill, Turn, counted_in}
+use Rattle.retry_safe.specs.Turns.{Answered, AreAnswered, CountsOnce, EachTurn, IsAnswer, IsStopped, NoneOfTill, Turn}
+use Rattle.retry_safe.specs.Turns.{counted_in}
 
 -- till 1 sets item 15 to 7 and is answered
 abbrev set_to_7 : Turn
@@ -81,6 +82,12 @@ last_may_get_media = (
   λ m. refl,
   tt,
 )
+
+-- a run that leaves out events ends in a message that wasn't answered
+pub an_answer_stops_no_run : IsStopped (set_to_7 ∷ []) → ⊥
+an_answer_stops_no_run h = h [] set_to_7 refl ((λ e. cc), λ m.
+    let e : Told 1 1 (Kept (told.Done 7)) ≡ Told m.0 m.1 Media = m.2 in
+    cc)
 
 -- a request in which power went after a write may count or not; not if power went before its first write
 pub cut_receipt_may_be_in : CountsOnce (set ∷ []) (cut_receive (receive ∷ []))

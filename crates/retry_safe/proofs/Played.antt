@@ -1,5 +1,5 @@
 -- What a run leaves over a fuse, of the disk beneath it.
-use Rattle.std.proofs.Common.{◌≡◌, ◌∙◌, ◌<◌, ⊎_elim, ℕ, Bool, List, [], ◌++◌, ap, append-nil, arith}
+use Rattle.std.proofs.Common.{◌≡◌, ◌∙◌, ◌<◌, ◌⊎◌, ⊎_elim, ℕ, Bool, List, [], ◌++◌, ap, append-nil, arith, inl, inr}
 use Rattle.std.proofs.Common.{Err, Ok, length, refl, subst, sym}
 use Rattle.d64_image.proofs.Moments.{never_failed}
 use Rattle.d64_image.specs.declared.fuse.Fuse.{Fuse}
@@ -22,10 +22,10 @@ use Rattle.request_cards.proofs.Plain.{plain_nil}
 use Rattle.request_cards.specs.Ledgers.{plain}
 use Rattle.request_cards.specs.Requests.{Ask}
 use Rattle.request_cards.specs.declared.reply.Reply.{Reply}
-use Rattle.retry_safe.proofs.Answered.{FailsOnlyAtLast, all_answered, are_answered, last_failed, none_failed}
+use Rattle.retry_safe.proofs.Answered.{FailsOnlyAtLast, all_answered, are_answered, last_failed, none_failed, none_stopped, stopped}
 use Rattle.retry_safe.proofs.Received.{answered_are, counted_are, counts_are, messages_are, replies_are, turns_of}
 use Rattle.retry_safe.specs.Left.{IsLeft, IsOfShop}
-use Rattle.retry_safe.specs.Turns.{EachTurn, IsAnswer}
+use Rattle.retry_safe.specs.Turns.{EachTurn, IsAnswer, IsStopped}
 
 module _ {D : Type 0} (h : History D) (s : Shop) (ms : List Message) (n : ℕ) (a b : Fuse D) (old new : List Reply) where
   -- on the way, beneath the fuse
@@ -42,16 +42,20 @@ module _ {D : Type 0} (h : History D) (s : Shop) (ms : List Message) (n : ℕ) (
       → told ≡ answers (start_of s) [] begun fails counted
       → IsShop (h.image (fuse_disk b)) (with_state s (plain (start_of s) (all_of counted)))
       → HeldBeginnings (fuse h) s ms a b → FailsOnlyAtLast begun fails
+      → (begun ≡ ms) ⊎ IsStopped (turns_of (start_of s) [] begun fails counted)
       → (AreUncut ms → most_of_run (length ms) < n → NeverFailed h (fuse_disk a) (fuse_disk b)
       → (begun ≡ ms) × EachTurn (λ _ t. IsAnswer t.reply) [] (turns_of (start_of s) [] begun fails counted))
       → IsLeft h s ms n (fuse_disk a) (fuse_disk b) old new
-  of_played limit begun rest told fails counted parts put is told_is shop held fell all =
+  of_played limit begun rest told fails counted parts put is told_is shop held fell end all =
       let start = start_of s in
       let turns = turns_of start [] begun fails counted in
       let messages = messages_are start [] begun fails counted is in
       record {
         turns = turns;
-        received = (rest, ap (λ xs. xs ++ rest) messages ∙ parts);
+        received = (
+          (rest, ap (λ xs. xs ++ rest) messages ∙ parts),
+          ⊎_elim (λ whole. inl (messages ∙ whole)) (λ stop. inr stop) end,
+        );
         told = put ∙ ap (λ xs. old ++ xs) (told_is ∙ replies_are start [] begun fails counted is);
         answered = (are_answered start [] begun fails counted fell, answered_are s [] begun fails counted is);
         counts = counts_are s [] begun fails counted is;
@@ -83,7 +87,7 @@ module _ {D : Type 0} (h : History D) (s : Shop) (ms : List Message) (n : ℕ) (
       → HeldBeginnings (fuse h) s ms a b → IsLeft h s ms n (fuse_disk a) (fuse_disk b) old new
   played_whole limit told put p held =
       of_played limit ms [] told p.fails p.counted (append-nil ms) put p.is p.told_is p.ends.shop held
-      (none_failed ms p.fails p.whole)
+      (none_failed ms p.fails p.whole) (inl refl)
       (λ uncut more never. (refl, all_answered (start_of s) [] ms p.fails p.counted uncut p.whole))
 
   -- power went, or the device failed, in a message
@@ -93,7 +97,8 @@ module _ {D : Type 0} (h : History D) (s : Shop) (ms : List Message) (n : ℕ) (
       → IsLeft h s ms n (fuse_disk a) (fuse_disk b) old new
   played_in_part limit told put p held not =
       of_played limit p.begun p.rest told p.played.fails p.played.counted p.parts put p.played.is p.played.told_is p.played.ends
-      held (last_failed p.begun p.played.fails p.played.whole) (λ uncut more never. absurd (not uncut more never))
+      held (last_failed p.begun p.played.fails p.played.whole)
+      (inr (stopped (start_of s) p.begun p.played.fails p.played.counted p.played.whole p.played.is)) (λ uncut more never. absurd (not uncut more never))
 
   -- or in the opening
   pub not_played : fuse_limit a ≡ n → new ≡ old → IsShop (h.image (fuse_disk b)) s → HeldBeginnings (fuse h) s ms a b
@@ -102,7 +107,7 @@ module _ {D : Type 0} (h : History D) (s : Shop) (ms : List Message) (n : ℕ) (
   not_played limit same shop held not =
       of_played limit [] ms [] [] [] refl (same ∙ sym (append-nil old)) tt refl
       (subst (λ state. IsShop (h.image (fuse_disk b)) (with_state s state)) (sym (plain_nil (start_of s))) shop)
-      held tt (λ uncut more never. absurd (not uncut more never))
+      held tt (inr none_stopped) (λ uncut more never. absurd (not uncut more never))
 
   -- the three ends of a run
   pub after_ok : (room : ℕ) → PlaysEvents (fuse h) ms a room old new (Ok b) → fuse_limit a ≡ n → IsShop (h.image (fuse_disk a)) s

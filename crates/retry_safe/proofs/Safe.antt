@@ -1,6 +1,6 @@
 -- The promise, of what a run leaves, openings behind it, and a message asked again.
 use Rattle.std.proofs.Common.{◌≡◌, ◌∙◌, ◌≤◌, ⊎_elim, ℕ, List, [], ◌∷◌, ◌++◌, Option, Some, None, Ok, Err, ap, append-nil, arith}
-use Rattle.std.proofs.Common.{map, refl, subst, sym}
+use Rattle.std.proofs.Common.{inr, map, refl, subst, sym}
 use Rattle.std.proofs.lemmas.Grind.{flat_map-append}
 use Rattle.d64_image.proofs.Moments.{never_failed_first, never_failed_rest}
 use Rattle.d64_image.specs.History.{History}
@@ -19,6 +19,7 @@ use Rattle.request_cards.specs.Ledgers.{State, after_message, plain, reply, repl
 use Rattle.request_cards.specs.Reading.{request_of}
 use Rattle.request_cards.specs.Requests.{Ask}
 use Rattle.request_cards.specs.declared.reply.Reply.{Reply}
+use Rattle.retry_safe.proofs.Answered.{none_stopped}
 use Rattle.retry_safe.proofs.Repeats.{told_so_again}
 use Rattle.retry_safe.specs.Asked.{IsAsked}
 use Rattle.retry_safe.specs.Left.{IsLeft, IsOfShop}
@@ -117,7 +118,7 @@ pub no_memory : {D : Type 0} (h : History D) (s : Shop) (events : List Message) 
     → RetrySafe h s events power again disk old new (Err (faults.NoMemory, d))
 no_memory h s events power again disk d old new shop same told = record {
   turns = [];
-  received = (events, refl);
+  received = ((events, refl), inr none_stopped);
   told = told ∙ sym (append-nil old);
   all = λ uncut enough never. tt;
   answered = (tt, tt);

@@ -16,7 +16,7 @@ use Rattle.request_cards.specs.Ledgers.{plain, reply}
 use Rattle.request_cards.specs.Reading.{request_of}
 use Rattle.request_cards.specs.Requests.{Ask}
 use Rattle.request_cards.specs.declared.reply.Reply.{Reply}
-use Rattle.retry_safe.specs.Left.{IsOfShop, IsReceived}
+use Rattle.retry_safe.specs.Left.{IsOfShop, IsReceived, IsWholeOrStopped}
 use Rattle.retry_safe.specs.Turns.{AllAnswered, Answered, AreAnswered, CountsOnce, EachTurn, IsLastOfTill, Turn, asks_in}
 use Rattle.retry_safe.specs.Turns.{counted_in}
 
@@ -47,9 +47,10 @@ IsAnswered (Err e) = e.0 ≡ faults.NoMemory
 -- openings. Then the disk was opened, and a till sent a message again. `h` is the history of the caller's own device.
 pub record RetrySafe {D : Type 0} (h : History D) (s : Shop) (events : List Message) (power : ℕ) (again : List ℕ)
     (disk : D) (old new : List Reply) (result : Reopened D) : Type 0 where
-  -- Whatever the events: these were received, a prefix of them, and no other counts.
+  -- Whatever the events: these were received, a prefix of them, and no other counts. The rest wasn't received because the
+  -- last of these wasn't answered, or because the opening failed.
   pub turns : List Turn
-  pub received : IsReceived events turns
+  pub received : IsReceived events turns × IsWholeOrStopped events turns
   pub told : new ≡ old ++ map (λ t. t.reply) turns
   -- All were received and answered, if none has a reset, power is enough for them, and the device doesn't fail.
   pub all : AreUncut events → most_of_run (length events) < power → NeverFailed h disk (left_of result)

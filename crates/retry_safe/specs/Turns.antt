@@ -50,6 +50,10 @@ abbrev pub AreAnswered : List Turn → Type 0
 AreAnswered [] = Unit {0}
 AreAnswered (t ∷ ts) = (t.reply ≡ Cut → t.message.cut_after ≢ None) × (IsMedia t.reply → ts ≡ []) × AreAnswered ts
 
+-- The last of these messages wasn't answered, or there is none.
+abbrev pub IsStopped : List Turn → Type 0
+IsStopped turns = (first : List Turn) (last : Turn) → turns ≡ first ++ last ∷ [] → ¬ (IsAnswer last.reply)
+
 -- These messages were received, and each was answered.
 abbrev pub AllAnswered : List Message → List Turn → Type 0
 AllAnswered events turns = (map (λ t. t.message) turns ≡ events) × EachTurn (λ _ t. IsAnswer t.reply) [] turns
