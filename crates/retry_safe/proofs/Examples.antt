@@ -85,9 +85,12 @@ last_may_get_media = (
 
 -- a run that leaves out events ends in a message that wasn't answered
 pub an_answer_stops_no_run : IsStopped (set_to_7 ∷ []) → ⊥
-an_answer_stops_no_run h = h [] set_to_7 refl ((λ e. cc), λ m.
-    let e : Told 1 1 (Kept (told.Done 7)) ≡ Told m.0 m.1 Media = m.2 in
-    cc)
+an_answer_stops_no_run h = h [] set_to_7 refl (
+  (λ e. cc),
+  λ m.
+      let e : Told 1 1 (Kept (told.Done 7)) ≡ Told m.0 m.1 Media = m.2 in
+      cc,
+)
 
 -- a request in which power went after a write may count or not; not if power went before its first write
 pub cut_receipt_may_be_in : CountsOnce (set ∷ []) (cut_receive (receive ∷ []))
