@@ -1,5 +1,6 @@
 -- Which messages of a run were answered.
 use Rattle.std.proofs.Common.{◌≡◌, ◌≢◌, ◌∙◌, ℕ, Bool, true, false, List, [], ◌∷◌, ◌++◌, None, Option, Some, refl, subst, sym}
+use Rattle.std.proofs.lemmas.Bool.{false≢true}
 use Rattle.std.specs.Prelude.{IsSome}
 use Rattle.host_session.proofs.lemmas.session.Handled.{media-word, one-bool, syntax-other}
 use Rattle.host_session.proofs.lemmas.session.Replies.{kept-other}
@@ -137,7 +138,7 @@ ends_so P (t ∷ ts) last is = ends_so (¬ (IsAnswer t.reply)) ts last is
 not_answered : (start : Start) (state : State) (m : Message) (o : Option Ask) (after : Option ℕ) → request_of m.bytes ≡ o
     → m.cut_after ≡ after → (m.cut_after ≡ None → IsSome o) → ¬ (IsAnswer (answer start state m true))
 not_answered start state m o (Some n) is cut asked told = told.0 (rw cut refl)
-not_answered start state m None None is uncut asked told = absurd (asked uncut)
+not_answered start state m None None is uncut asked told = false≢true (asked uncut)
 not_answered start state m (Some a) None is uncut asked told = told.1 (a.till, a.number, rw (uncut, is) refl)
 
 last_unanswered : (P : Type 0) (start : Start) (before : List Ask) (ms : List Message) (fs : List Bool) (last : Message)
