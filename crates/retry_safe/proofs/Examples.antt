@@ -72,15 +72,17 @@ pub no_cut_without_a_reset : AreAnswered (record set_to_7 { reply = Cut } ∷ []
 no_cut_without_a_reset h = h.0 refl refl
 
 pub no_media_before_another : AreAnswered (record set_to_7 { reply = Told 1 1 Media } ∷ set_to_7 ∷ []) → ⊥
-no_media_before_another h = let e : set_to_7 ∷ [] ≡ [] = h.1.0 (1, 1, refl) in cc
+no_media_before_another h = let e : set_to_7 ∷ [] ≡ [] = h.1 (1, 1, refl) in cc
 
 pub last_may_get_media : AreAnswered (cut_receive [] ∷ record set_to_7 { reply = Told 1 1 Media } ∷ [])
 last_may_get_media = (
   λ e none. cc,
   λ m. let e : Cut ≡ Told m.0 m.1 Media = m.2 in absurd cc,
-  λ e. let z : Told 1 1 Media ≡ Cut = e in absurd cc,
-  λ m. refl,
-  tt,
+  (
+    λ e. let z : Told 1 1 Media ≡ Cut = e in absurd cc,
+    λ m. refl,
+    tt,
+  ),
 )
 
 -- a run that leaves out events ends in a message that wasn't answered
