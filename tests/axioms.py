@@ -5,8 +5,8 @@
 
 CRATE is a program, `ledger` if none is named. The crates that it stands on must be built (`rt ci`, or `rt all check`). The kit's
 checker reads them and lists each C function whose contract the verdict can rest on (`--list-axioms`), and the words of its verdict.
-The page has these, with the kit, the libraries of the program logic, and the kit's crates that the program stands on. Without words
-the page is written. With `--check` nothing is written, and the status is 1 if the page isn't up to date. It is 2 if there is no
+The page has these, the logic of the kit with its libraries, and the kit's crates that the program stands on. Without words the
+page is written. With `--check` nothing is written, and the status is 1 if the page isn't up to date. It is 2 if there is no
 verdict."""
 
 import json
@@ -77,9 +77,9 @@ def reported(crate):
 def page(crate):
     found, verdict, of_kit = reported(crate)
     logic = json.loads(PROJECT.read_text(encoding="utf-8"))
-    kit = (KIT / "KIT-ID").read_text(encoding="utf-8").splitlines()[0]
+    kit = (KIT / "KIT-ID").read_text(encoding="utf-8").split()[-1]
     lines = [f"What the proof of the program {crate} rests on, as the toolchain reports it. tests/axioms.py makes this page.", ""]
-    lines += [f"Kit: {kit}", f"Axioms of the verdict: {verdict.get('axioms', '0')}", ""]
+    lines += [f"Logic of the kit: {kit}", f"Axioms of the verdict: {verdict.get('axioms', '0')}", ""]
     lines += ["C functions. Each is assumed to do what some routine of the logic does, and that routine to meet the contract."]
     for name, functions in sorted(found.items()):
         lines += ["", f"{name}:", *(f"  {it}" for it in functions)] if functions else []
