@@ -1,7 +1,8 @@
 -- What was printed of a play over a file, by how it ended, and of whose shop.
-use Rattle.std.proofs.Common.{◌≡◌, ◌≢◌, ◌∙◌, ℕ, List, Option, Ok, Err, ap, refl, subst, sym, take, ⊎_elim}
+use Rattle.std.proofs.Common.{◌≡◌, ◌≢◌, ◌∙◌, ℕ, List, None, Option, Ok, Err, ap, refl, subst, sym, take, ⊎_elim}
 use Rattle.std.proofs.lemmas.Bool.{false≢true}
-use Rattle.std.specs.Prelude.{IfErr, IsOk}
+use Rattle.std.proofs.lemmas.Option.{none-some}
+use Rattle.std.specs.Prelude.{IfErr, IsOk, OnOk}
 use Rattle.std.specs.Io.KnownBytes.{Appends}
 use Rattle.command_faults.specs.declared.faults.CommandFault.TheVariants as faults
 use Rattle.d64_image.specs.Images.{Image}
@@ -10,7 +11,7 @@ use Rattle.host_session.specs.runs.Chains.{told_in}
 use Rattle.host_session.specs.shop.Shop.{IsShop, Shop}
 use Rattle.request_cards.specs.Ledgers.{report}
 use Rattle.request_cards.specs.declared.reply.Reply.{Reply}
-use Rattle.line_text.specs.scripts.Lines.{lines}
+use Rattle.line_text.specs.scripts.Lines.{first_reset, lines}
 use Rattle.image_file.specs.ImageFile.{placed}
 use Rattle.image_file.specs.paths.Standing.{Stands}
 use Rattle.shop_commands.specs.Plays.{IsUntouched}
@@ -23,7 +24,9 @@ use Rattle.ledger_jobs.specs.Changes.{IsQuietEnd}
 use Rattle.ledger_jobs.specs.DurableRuns.{IsDurableRun}
 use Rattle.ledger_jobs.specs.Ends.{Ended, JobEnd, as_job}
 use Rattle.ledger_jobs.specs.HostFiles.{IsShopAt, OfWritten}
-use Rattle.ledger_jobs.specs.Replies.{AreAnsweredBy, AreReplyLines, IsFileService, IsPlainPlayed, IsShopOf, lines_to}
+use Rattle.ledger_jobs.specs.LoggedPlays.{IsLoggedPlayEnd}
+use Rattle.ledger_jobs.specs.Replies.{AreAnswered, AreAnsweredBy, AreReplyLines, IsFileService, IsLoggedService, IsPlainPlayed}
+use Rattle.ledger_jobs.specs.Replies.{IsShopOf, lines_to}
 use Rattle.ledger_jobs.specs.Runs.{IsPlayRun}
 use Rattle.ledger_jobs.specs.declared.refusals.Refusal.TheVariants as refusals
 use Rattle.ledger_jobs.specs.declared.reply_lines.ReplyLines.{ReplyLines}
@@ -104,3 +107,22 @@ module _ {W : Type 0} (contents : W → Option (List ℕ)) (Is At : Shop → Typ
   pub served-at : (end : JobEnd) → IsFileService contents Is old new end → IsFileService contents At old new end
   served-at (Err refusal) x = (x.0, x.1, tt)
   served-at (Ok found) x = let y = x.2 in (x.0, x.1, (y.0, y.1, weaker y.0 y.2, y.3))
+
+  -- the same over a log
+  pub answered-at : (ls : List (List ℕ)) (end : JobEnd) → OnOk end (AreAnswered contents Is ls old new)
+      → OnOk end (AreAnswered contents At ls old new)
+  answered-at ls (Err refusal) x = tt
+  answered-at ls (Ok found) x = (x.0, weaker x.0 x.1, x.2)
+
+  pub logged-at : (end : JobEnd) → IsLoggedService contents Is old new end → IsLoggedService contents At old new end
+  logged-at (Err refusal) x = (x.0, x.1, tt)
+  logged-at (Ok found) x = let y = x.2 in (x.0, x.1, (y.0, y.1, weaker y.0 y.2, y.3))
+
+-- a script without resets that was played over a log has no line at which it is refused
+pub played-text : {W : Type 0} (contents : W → Option (List ℕ)) (Is : Shop → Type 0) (items slice all : List ℕ) (old new : W)
+    (end : JobEnd) → slice ≡ items → items ≡ all → first_reset (lines items) ≡ None
+    → OnOk end (AreAnswered contents Is (lines slice) old new) → IsLoggedPlayEnd contents Is all old new end
+played-text contents Is items slice all old new end same is plain done = record {
+  reset = λ n found. absurd (none-some n (sym plain ∙ ap (λ (bytes : List ℕ). first_reset (lines bytes)) is ∙ found));
+  done = subst (λ (bytes : List ℕ). OnOk end (AreAnswered contents Is (lines bytes) old new)) (same ∙ is) done;
+}

@@ -29,7 +29,7 @@ use Rattle.ledger_jobs.specs.LandedRuns.{IsDoneAndLanded, IsLandedEnd, watched_e
 use Rattle.ledger_jobs.specs.LoggedPlays.{IsLoggedPlay}
 use Rattle.ledger_jobs.specs.LoggedRuns.{IsLoggedRun}
 use Rattle.ledger_jobs.specs.Losses.{IsEndOfRun}
-use Rattle.ledger_jobs.specs.Replies.{AreAnswered, AreReplyLines, lines_to}
+use Rattle.ledger_jobs.specs.Replies.{AreAnswered, AreReplyLines, IsShopOf, lines_to}
 use Rattle.ledger_jobs.specs.declared.reply_lines.ReplyLines.{ReplyLines}
 
 -- a writer that is lent was passed a reply as any writer
@@ -131,21 +131,23 @@ module _ {F D W : Type 0} {G : Ghosts F} (h : FolderHistory D) (contents : W →
       (AreReplyLines contents first final) untold told-lines ended play.run
 
   play-answered : (left : LiveLog F D G) (ended : Result Unit CommandFault) → Play left ended → IsOk (as_run ended)
-      → AreAnswered contents (lines script) first final
+      → AreAnswered contents (IsShopOf image) (lines script) first final
   play-answered left (Ok _) play ok =
       let run = play.run in
       let (s, shop) = run.served.shop in
-      let whole = play.whole refl s (subst (λ (c : Image). IsShop c s) run.holds shop) in
+      let held = subst (λ (c : Image). IsShop c s) run.holds shop in
+      let whole = play.whole refl s held in
       let (xs, same, (ghost, printed)) = whole.told in (
         s,
+        (run.size, held),
         subst (λ (rs : List Reply). Appends (contents first) (contents final) (report rs)) (same ∙ whole.replies_are)
             (given-back (report (told_in xs)) ghost printed),
       )
   play-answered left (Err fault) play ok = cc
 
-  -- one that is done printed the replies to all lines
+  -- one that is done printed the replies of the image's shop to all lines
   pub played-answered : (gone : Bool) (folder : Option D) (end : JobEnd) → Landed gone folder end
-      → OnOk end (AreAnswered contents (lines script) first final)
+      → OnOk end (AreAnswered contents (IsShopOf image) (lines script) first final)
   played-answered gone folder (Err refusal) x = tt
   played-answered gone folder (Ok found) x =
       let (ended, is, play) = x.done in

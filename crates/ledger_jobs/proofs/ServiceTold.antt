@@ -28,7 +28,7 @@ use Rattle.ledger_jobs.specs.Ends.{JobEnd, as_run}
 use Rattle.ledger_jobs.specs.LandedRuns.{IsDoneAndLanded}
 use Rattle.ledger_jobs.specs.LoggedRuns.{IsLoggedRun, IsUnlogged}
 use Rattle.ledger_jobs.specs.Losses.{IsEndOfRun, IsGuarded}
-use Rattle.ledger_jobs.specs.Replies.{AreAnswered, AreAnsweredBy, AreReplyLines, IsShopOf, IsToldAll, IsToldSome, lines_to}
+use Rattle.ledger_jobs.specs.Replies.{AreAnsweredBy, AreReplyLines, IsShopOf, IsToldAll, IsToldSome, lines_to}
 use Rattle.ledger_jobs.specs.WatchedFiles.{while_there}
 use Rattle.ledger_jobs.specs.declared.jobs.Loss.{Loss}
 use Rattle.ledger_jobs.specs.declared.reply_lines.ReplyLines.{ReplyLines}
@@ -135,8 +135,3 @@ module _ {W : Type 0} (contents : W → Option (List ℕ)) (old new : ReplyLines
     subst (λ (rs : List Reply). Appends (contents first) (contents final) (report rs)) told.replies
         (given-back (report (told_in told.turns)) told.is.0 told.is.1),
   )
-
-  pub some-answered : (image : List ℕ) (end : JobEnd) → OnOk end (IsToldAll (lines_to contents) image old new)
-      → OnOk end ((ls : List (List ℕ)) × AreAnswered contents ls first final)
-  some-answered image (Err refusal) x = tt
-  some-answered image (Ok found) x = let y = all-answered image (Ok found) x in (y.1, (y.0, y.3))

@@ -130,10 +130,10 @@ module _ {H W : Type 0} (rights : Rights H) (stands : H → List ℕ → Stands)
   IsPlayedOverFile image script old new end = IsQuietEnd old new end × AreReplyLines contents old new
       × OfText stands host script (λ all. IsPlainPlayed contents (IsShopAt stands host image) all old new end)
 
-  -- a script was played over a log beside an image
-  abbrev pub IsPlayedOverLog : List ℕ → W → W → JobEnd → Type 0
-  IsPlayedOverLog script old new end = IsLoggedEnd old new end × AreReplyLines contents old new
-      × OfText stands host script (λ all. IsLoggedPlayEnd contents all old new end)
+  -- a script was played on the shop of an image, over a log beside it
+  abbrev pub IsPlayedOverLog : (image script : List ℕ) → W → W → JobEnd → Type 0
+  IsPlayedOverLog image script old new end = IsLoggedEnd old new end × AreReplyLines contents old new
+      × OfText stands host script (λ all. IsLoggedPlayEnd contents (IsShopAt stands host image) all old new end)
 
   -- the images at these paths were drawn on a sheet
   abbrev pub AreDrawnOnSheet : List (List ℕ) → W → W → JobEnd → Type 0
@@ -185,8 +185,9 @@ module _ {H W : Type 0} (rights : Rights H) (stands : H → List ℕ → Stands)
   IsJobOver (jobs.Sheet images) old new end = AreDrawnOnSheet (paths_of images) old new end
   IsJobOver (jobs.Describe images) old new end = AreDescribed (paths_of images) old new end
   IsJobOver (jobs.Several what images) old new end = AreOverviewed what (paths_of images) old new end
-  IsJobOver (jobs.PlayLogged image script) old new end = IsPlayedOverLog script.now old new end
-  IsJobOver (jobs.Serve image OverLog durability loss) old new end = IsLoggedService contents old new end
+  IsJobOver (jobs.PlayLogged image script) old new end = IsPlayedOverLog image.now script.now old new end
+  IsJobOver (jobs.Serve image OverLog durability loss) old new end =
+      IsLoggedService contents (IsShopAt stands host image.now) old new end
   IsJobOver (jobs.Serve image InPlace durability loss) old new end =
       IsFileService contents (IsShopAt stands host image.now) old new end
   -- `do_trim` does that job

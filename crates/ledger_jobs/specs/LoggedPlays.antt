@@ -44,8 +44,8 @@ pub record IsLoggedPlay {L T : Type 0} (h : LogHistory L) (o : LogOutput L T) (i
   pub whole : IsOk ended → (s : Shop) → IsShop (sectors_in image) s → IsPlayedWhole h o s image script log after old new
 
 -- The job that plays this script over a log ended so. One with a reset is refused for the first line that has one, once the
--- files are open, and nothing is printed. When it is done, a shop's replies to all lines were printed.
-pub record IsLoggedPlayEnd {W : Type 0} (contents : W → Option (List ℕ)) (script : List ℕ) (old new : W) (end : JobEnd)
-    : Type 0 where
+-- files are open, and nothing is printed. When it is done, a shop's replies to all lines were printed. `Is` says which shop.
+pub record IsLoggedPlayEnd {W : Type 0} (contents : W → Option (List ℕ)) (Is : Shop → Type 0) (script : List ℕ) (old new : W)
+    (end : JobEnd) : Type 0 where
   pub reset : (n : ℕ) → first_reset (lines script) ≡ Some n → (new ≡ old) × IsErr end × IfErr end (IsRefusedAt n)
-  pub done : OnOk end (AreAnswered contents (lines script) old new)
+  pub done : OnOk end (AreAnswered contents Is (lines script) old new)

@@ -46,9 +46,9 @@ IsToldAll o image old new =
 abbrev pub AreAnsweredBy : {W : Type 0} → (W → Option (List ℕ)) → Shop → (ls : List (List ℕ)) → W → W → Type 0
 AreAnsweredBy contents s ls old new = Appends (contents old) (contents new) (report (replies (start_of s) [] ls))
 
--- the same of a shop over a log, of whose image a host says nothing
-abbrev pub AreAnswered : {W : Type 0} → (W → Option (List ℕ)) → List (List ℕ) → W → W → Type 0
-AreAnswered contents ls old new = (s : Shop) × AreAnsweredBy contents s ls old new
+-- the same of a shop of which `Is` says which it is
+abbrev pub AreAnswered : {W : Type 0} → (W → Option (List ℕ)) → (Is : Shop → Type 0) → (ls : List (List ℕ)) → W → W → Type 0
+AreAnswered contents Is ls old new = (s : Shop) × Is s × AreAnsweredBy contents s ls old new
 
 -- lines of replies were printed, the last of them perhaps not to its end, and nothing else
 abbrev pub AreReplyLines : {W : Type 0} → (W → Option (List ℕ)) → W → W → Type 0
@@ -68,6 +68,7 @@ IsFileService contents Is old new end = IsServiceEnd old new end × AreReplyLine
     × OnOk end ((s : Shop) × (ls : List (List ℕ)) × Is s × AreAnsweredBy contents s ls old new)
 
 -- A service over a log ended so. Only lines of replies were printed; when it is done, those of a shop's replies to some lines.
-abbrev pub IsLoggedService : {W : Type 0} → (W → Option (List ℕ)) → W → W → JobEnd → Type 0
-IsLoggedService contents old new end = IsLoggedEnd old new end × AreReplyLines contents old new
-    × OnOk end ((ls : List (List ℕ)) × AreAnswered contents ls old new)
+-- `Is` says which shop.
+abbrev pub IsLoggedService : {W : Type 0} → (W → Option (List ℕ)) → (Is : Shop → Type 0) → W → W → JobEnd → Type 0
+IsLoggedService contents Is old new end = IsLoggedEnd old new end × AreReplyLines contents old new
+    × OnOk end ((s : Shop) × (ls : List (List ℕ)) × Is s × AreAnsweredBy contents s ls old new)

@@ -54,6 +54,7 @@ where
     R: HostFiles<File = F>,
     requires { MayWrite R.rights rt.now path.now }
     ensures owned { IfOk result F.IsOwned }
+    ensures shared { IfOk result F.IsShared }
     ensures bytes { IfOk result (λ image. AreOf R.stands rt.now path.now (F.unread image)) }
     ensures err { IfErr result IsUnread }
 {

@@ -3,16 +3,17 @@ ghost use Rattle.std.specs.Prelude.{◌≡◌, ℕ, Bool, IfErr, IfOk, IsOk, Non
 ghost use Rattle.d64_image.specs.Memory.{sectors_in};
 ghost use Rattle.host_session.specs.shop.Shop.{IsShop, Shop};
 ghost use Rattle.ledger_jobs.specs.Changes.{IsLoggedEnd};
-ghost use Rattle.ledger_jobs.specs.HostFiles.{IsRefusedAt, OfText};
+ghost use Rattle.ledger_jobs.specs.HostFiles.{IsRefusedAt, IsShopAt, OfText};
 ghost use Rattle.ledger_jobs.specs.JobRuns.{IsPlayedOverLog};
 ghost use Rattle.ledger_jobs.specs.LandedRuns.{HasLanded, IsDoneAndLanded};
 ghost use Rattle.ledger_jobs.specs.LoggedPlays.{IsLoggedPlay};
 ghost use Rattle.ledger_jobs.specs.Losses.{IsEndOfRun};
-ghost use Rattle.ledger_jobs.specs.Replies.{AreAnswered, AreReplyLines};
+ghost use Rattle.ledger_jobs.specs.Replies.{AreAnswered, AreReplyLines, IsShopOf};
 ghost use Rattle.shop_log.specs.life.LiveLogs.{of_live};
 ghost use Rattle.line_server.specs.logged.Serves.{shop_behind};
 ghost use Rattle.line_text.specs.scripts.Lines.{first_reset, lines};
 ghost use Rattle.ledger_jobs.specs.Rights.{MayChangeImage, MayReadText};
+ghost use Rattle.image_file.specs.paths.Standing.{AreOf};
 
 use crate::files::script_to_play;
 use crate::jobs::Loss;
@@ -79,7 +80,7 @@ where
     requires plain { first_reset (lines script.now) ≡ None }
     ensures quiet { IsLoggedEnd out.old out.new result }
     ensures lines { AreReplyLines W.contents out.old out.new }
-    ensures done { OnOk result (AreAnswered W.contents (lines script.now) out.old out.new) }
+    ensures done { OnOk result (AreAnswered W.contents (IsShopOf image.now) (lines script.now) out.old out.new) }
 {
     let mut printer = ReplyLines::new(out);
     let (_, ended) = play_begun(alloc, image, script, log, name, &mut printer);
@@ -115,11 +116,14 @@ where
     R: HostFiles<File = F> + AllocGlobal,
     W: Write,
     requires owned { F.IsOwned image }
+    requires shared { F.IsShared image }
+    requires bytes { AreOf R.stands rt.now path.now (F.unread image) }
     requires image { MayChangeImage R.rights rt.now path.now }
     requires plain { first_reset (lines script.now) ≡ None }
     ensures quiet { IsLoggedEnd out.old out.new result }
     ensures lines { AreReplyLines W.contents out.old out.new }
-    ensures done { OnOk result (AreAnswered W.contents (lines script.now) out.old out.new) }
+    ensures done { OnOk result (AreAnswered W.contents (IsShopAt R.stands rt.now path.now) (lines script.now)
+        out.old out.new) }
 {
     let alloc = rt.alloc();
     let name = name_of(rt, path, &image)?;
@@ -146,7 +150,7 @@ where
     W: Write,
     requires image { MayChangeImage R.rights rt.now path.now }
     requires script { MayReadText R.rights rt.now script.now }
-    ensures { IsPlayedOverLog R.rights R.stands W.contents rt.now script.now out.old out.new result }
+    ensures { IsPlayedOverLog R.rights R.stands W.contents rt.now path.now script.now out.old out.new result }
 {
     let image = opened_image(rt, path)?;
     let script = plain_script(rt, script)?;

@@ -1,21 +1,23 @@
 //! Serving the shop of the image at a path, over a log beside it.
-ghost use Rattle.std.specs.Prelude.{◌≡◌, IfErr, IfOk, OnOk, length, string_bytes};
+ghost use Rattle.std.specs.Prelude.{◌≡◌, IfErr, IfOk, IfSome, OnOk, flat_map, length, string_bytes, take, vec_items};
 ghost use Rattle.ledger_jobs.specs.Changes.{IsLoggedEnd};
 ghost use Rattle.ledger_jobs.specs.Ends.{landing_fault, unlanded as unlanded_end};
-ghost use Rattle.ledger_jobs.specs.HostFiles.{IsUnopened};
+ghost use Rattle.ledger_jobs.specs.HostFiles.{IsShopAt, IsUnopened, OfWritten};
 ghost use Rattle.ledger_jobs.specs.LandedRuns.{IsDoneAndLanded, IsLandedEnd};
 ghost use Rattle.ledger_jobs.specs.LoggedRuns.{IsLoggedRun, IsUnlogged};
 ghost use Rattle.ledger_jobs.specs.Losses.{IsEndOfRun, IsGuarded};
-ghost use Rattle.ledger_jobs.specs.Replies.{IsLoggedService, IsToldAll, IsToldSome};
+ghost use Rattle.ledger_jobs.specs.Replies.{IsLoggedService, IsShopOf, IsToldAll, IsToldSome};
 ghost use Rattle.ledger_jobs.specs.WatchedFiles.{while_there};
 ghost use Rattle.shop_log.specs.life.LiveLogs.{of_live};
 ghost use Rattle.line_server.specs.logged.Reporting.{of_output};
 ghost use Rattle.ledger_jobs.specs.Rights.{MayChangeImage};
 ghost use Rattle.image_file.specs.paths.Rights.{Look, May, MayWrite, Remove};
+ghost use Rattle.image_file.specs.paths.Standing.{AreOf};
 ghost use Rattle.shop_log.specs.life.LogRights.{MayKeepLogOf, making_of};
 
 use crate::image_logs::{is_sized, log_refusal, opened_alone};
 use crate::jobs::Loss;
+use crate::locks::read_shared;
 use crate::losses::{loss_refusal, serve_logged_guarded};
 use crate::outcomes::told;
 use crate::refusals::Refusal;
@@ -184,7 +186,7 @@ where
     N: Stays + Drop,
     I: BatchSource,
     W: Write,
-    ensures { IsLoggedService W.contents out.old out.new result }
+    ensures { IsLoggedService W.contents (IsShopOf image.now) out.old out.new result }
 {
     let mut printer = ReplyLines::new(out);
     serve_watched(alloc, image, log, loss, input, name, &mut printer)
@@ -217,6 +219,8 @@ where
     R: HostFiles<File = F>,
     requires { MayWrite R.rights rt.now path.now }
     ensures owned { IfOk result F.IsOwned }
+    ensures shared { IfOk result F.IsShared }
+    ensures bytes { IfOk result (λ image. AreOf R.stands rt.now path.now (F.unread image)) }
     ensures err { IfErr result IsUnopened }
 {
     let image = opened_alone(rt, path)?;
@@ -226,8 +230,26 @@ where
     Err(Refusal::Fault(CommandFault::ImageSize))
 }
 
+/// The bytes of the image in this file, which nobody else writes and of which nothing was read. `Device` if they aren't
+/// those of this shop, which was landed: then the image's path leads to another file.
+fn landed_bytes<F: Locks>(
+    alloc: Global,
+    image: &mut F,
+    shop: &[[u8; 256]],
+) -> Result<Vec<u8>, Refusal>
+    requires shared { F.IsShared image.old }
+    ensures shop { IfOk result (λ bytes. vec_items bytes ≡ flat_map (λ sector. sector) shop.now) }
+    ensures read { IfOk result (λ bytes. IfSome (F.unread image.old) (λ all. vec_items bytes ≡ take 174849 all)) }
+{
+    let bytes = told(read_shared(alloc, image))?;
+    if bytes.as_slice() != shop.as_flattened() {
+        return Err(Refusal::Fault(CommandFault::Device));
+    }
+    Ok(bytes)
+}
+
 /// The bytes of the shop of the image at a path, and a log beside it that was begun with them. A log that stood there was
-/// landed. Other programs may read the image from then on.
+/// landed: the image has these bytes then. Other programs may read it from then on.
 pub(crate) fn begun_beside<'a, F, R>(
     rt: &'a R,
     path: &str,
@@ -240,19 +262,17 @@ where
     F: EndedFile + Locks + OpenFile + Drop,
     R: HostFiles<File = F> + AllocGlobal,
     requires owned { F.IsOwned image.old }
+    requires shared { F.IsShared image.old }
+    requires bytes { AreOf R.stands rt.now path.now (F.unread image.old) }
     requires image { MayWrite R.rights rt.now path.now }
     requires log { MayKeepLogOf R.rights rt.now (string_bytes names.now.image) }
+    ensures { IfOk result (λ begun. OfWritten R.stands rt.now path.now (λ all. vec_items begun.0 ≡ take 174849 all)) }
 {
     let alloc = rt.alloc();
     let mut folder = folder_of(rt, names, path, durability)?;
     let shop = shop_of(rt, &mut folder, loss)?;
     let room = told(LogRoom::new(alloc).map_err(From::from))?;
-    let bytes = told(
-        shop.as_slice()
-            .as_flattened()
-            .to_vec(alloc)
-            .map_err(From::from),
-    )?;
+    let bytes = landed_bytes(alloc, image, shop.as_slice())?;
     let log = match LiveLog::begin(alloc, folder, room, shop) {
         Ok(log) => log,
         Err((error, _)) => return cleared_end(rt, path, image, names, told(Err(error))),
@@ -279,7 +299,7 @@ where
     R: HostFiles<File = F> + Input + AllocGlobal,
     W: Write,
     requires { MayChangeImage R.rights rt.now path.now }
-    ensures { IsLoggedService W.contents out.old out.new result }
+    ensures { IsLoggedService W.contents (IsShopAt R.stands rt.now path.now) out.old out.new result }
 {
     let alloc = rt.alloc();
     let mut image = opened_image(rt, path)?;

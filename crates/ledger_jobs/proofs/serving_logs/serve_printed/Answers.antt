@@ -1,7 +1,7 @@
 -- What was printed is what was passed on.
 use Rattle.std.proofs.Common.{rules}
 use Rattle.ledger_jobs.proofs.LoggedTold.{lent-logged}
-use Rattle.ledger_jobs.proofs.ServiceTold.{lent-lines, some-answered, some-lines}
+use Rattle.ledger_jobs.proofs.ServiceTold.{all-answered, lent-lines, some-lines}
 use Rattle.ledger_jobs.proofs.serving_logs.serve_printed.Goals as goal
 
 pub returns : goal.returns
@@ -15,6 +15,6 @@ returns g c =
           c.serve_watched.ensures.quiet,
       some-lines told before behind c.args.out.now _ c.new-printer.ensures.out (λ same. search rules)
           c.serve_watched.ensures.some,
-      some-answered told before behind c.args.out.now _ c.new-printer.ensures.out (λ same. search rules) c.args.image.now end
+      all-answered told before behind c.args.out.now _ c.new-printer.ensures.out (λ same. search rules) c.args.image.now end
           c.serve_watched.ensures.all,
     )
