@@ -109,6 +109,7 @@ def remains(text, out):
 def imports(crate, text):
     """The modules of the crate of which the text uses something that it imports, and those of them of which it calls functions."""
     used, called = set(), set()
+    text = re.sub(r"//.*", "", text)
     for module, some, one in re.findall(r"^(?:pub )?use crate::((?:[a-z]\w*::)*[a-z]\w*)::(?:\{([^}]*)\}|(\w+));", text, re.M):
         names = [it for it in re.findall(r"\w+", some or one) if len(re.findall(rf"\b{it}\b", text)) > 1]
         used |= {module for _ in names}
@@ -213,7 +214,7 @@ def gates(crate, keeps, types, functions=frozenset()):
         elif name:
             new = {it: imported(crate, it, keeps, types) for it in lines}
             out = left_out(text, functions) if name in keeps else [it for it in lines if CODE.match(it)]
-            new |= {it: OUT + it for it in lines if it in goes}
+            new |= {it: OUT + it for it in lines if it in goes} | dict(parted(crate, text, types))
             for it in out:
                 new |= without(crate, name, it)
             if any(new.values()):
@@ -236,6 +237,16 @@ def imported(crate, line, keeps, types):
     parts = [gone, [it for it in names if it not in gone]]
     items = [f"use crate::{found[1]}::{{{', '.join(it)}}};" for it in parts if it]
     return OUT + " ".join(items) if gone else None
+
+
+def parted(crate, text, types):
+    """The lines of imports over several lines that name functions which are left out, each with what is left of it."""
+    for module, names in re.findall(r"^use crate::((?:[a-z]\w*::)*[a-z]\w*)::\{\n([^}]*)\n\};", text, re.M):
+        for line in names.split("\n") if module in types else []:
+            gone = [it for it in re.findall(r"\w+", line) if re.search(rf"^(?:pub(?:\(crate\))? )?(?:const )?fn {it}\b", source(crate, module), re.M)]
+            stays = [it for it in re.findall(r"\w+", line) if it not in gone]
+            if gone:
+                yield line, f"    {''.join(f'{it}, ' for it in stays)}/* {', '.join(gone)} */"
 
 
 def written(path):
