@@ -5,8 +5,9 @@ import re
 FUNCTION = re.compile(r"( *)(?:pub(?:\([a-z]+\))? )?(?:const )?fn (\w+)")
 # a constant, to its end
 CONSTANT = re.compile(r"^(?:pub(?:\([a-z]+\))? )?(?:const|static) (\w+)(:.*?;)$", re.M | re.S)
-# What gated.py writes into an edit: items that the check isn't to read, one by one or in a comment.
-GATE = re.compile(r"(?:.* )?/\*|\*/(?: .*)?|#\[cfg\(test\)\] .*")
+# What gated.py writes into an edit: items that the check isn't to read, one by one or in a comment; in definitions and proofs a comment
+# too, and behind it what the last bracket of the file closes.
+GATE = re.compile(r"(?:.* )?/\*|.*/\* .* \*/|/\* .*|\*/(?: .*)?|#\[cfg\(test\)\] .*|impl\b.* #\[cfg\(test\)\] impl\b.*|(?:module .*)?\{- .*|.* -\}|use Rattle\.std\.specs\.Prelude\.\{ℕ|unread (?:[:=]|e =) .*|record Unread .*|.*Unit \{0\}\)?|.* -- unread")
 # `impl<T> Trait<Word> for Type<T> {`: the proofs of a method are in TypeTrait, or in TypeTraitWord where several are of one trait
 IMPL = re.compile(r"impl(?:<(?P<own>.*?)>)? (?:(?:\w+::)*(?P<trait>\w+)(?:<(?P<word>.*)>)? for )?(?:\w+::)*(?P<type>\w+)(?:<(?P<of>.*)>)?")
 
