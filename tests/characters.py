@@ -1,7 +1,7 @@
 #!/usr/bin/env python3
 """Compares the tables of line_text/specs/petscii/Characters with the characters that cc1541 (Debian, 4.0) prints for each byte of a
-file's name, in both sets. The differences that crates/line_text/README.md lists are known; any other is printed, and the
-status is 1. Without cc1541 the status is 2."""
+file's name, in both sets. The differences in KNOWN and KNOWN_MIXED are known; any other is printed, and the status is 1. Without
+cc1541 the status is 2."""
 
 import re
 import shutil
@@ -11,7 +11,8 @@ import tempfile
 from pathlib import Path
 
 SPEC = Path(__file__).resolve().parent.parent / "crates/line_text/specs/petscii/Characters.antt"
-# bytes whose character is another than in either of cc1541's two tables
+# bytes whose character is another than in either of cc1541's two tables: here ' U+00A0 U+258F U+2595 U+1FB87 U+2582, there
+# U+2019, a space, U+258E U+1FB75 U+1FB75 U+2581; of the mixed ones here U+1FB96, there U+1FB95
 KNOWN = {0x27, 0xA0, 0xA5, 0xA7, 0xAA, 0xAF}
 KNOWN_MIXED = {0x7E, 0xDE}
 # what a byte stands for again, by the C64's table: cc1541 has another table there

@@ -150,7 +150,7 @@ module _ {H W : Type 0} (rights : Rights H) (stands : H → List ℕ → Stands)
   AreOverviewed what paths old new end =
       IsSeveralEnd (AreHandedOn (IsReadAt rights stands host) (IsOverviewOf contents what) contents paths old new) end
 
-  -- a job that reads its images was done so over the bytes that the host has at the paths of its words
+  -- a job ended so, over the bytes that the host has at the paths of its words
   abbrev pub IsJobOver : Job → W → W → JobEnd → Type 0
   IsJobOver (jobs.List form image) old new end = OfRead rights stands host (readings.List form) image.now
       (IsReadOver contents (readings.List form) old new end)

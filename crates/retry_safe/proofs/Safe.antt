@@ -101,8 +101,11 @@ module _ {D : Type 0} (h : History D) (s : Shop) (events : List Message) (power 
         opens = λ never. opened_so result (asked.opens
             (never_failed_rest h disk mid end (omega (arith, x.later, later)) asked.later never));
         cards = answered_so result _ _ (λ d r y. subst (IsSettled (h.image d)) (cards_after x) y.1) asked.answer;
-        repeat = λ before last. answered_so result _ _
-            (λ d r y. y.0 ∙ replies_on s state (request_of again) ∙ repeats s x.turns again before last) asked.answer;
+        repeat = (
+          answered_so result _ _ (λ d r y. y.0 ∙ replies_on s state (request_of again)) asked.answer,
+          λ before last. answered_so result _ _
+              (λ d r y. y.0 ∙ replies_on s state (request_of again) ∙ repeats s x.turns again before last) asked.answer,
+        );
         owners = answered_so result _ _ (λ d r y. y.1.clean) asked.answer;
         others = answered_so result _ _ (λ d r y t is. ap (λ z. z.rest) (IsShop-one (h.image d) t _ is y.1.shop))
             asked.answer;
@@ -125,7 +128,7 @@ no_memory h s events power again disk d old new shop same told = record {
   counts = tt;
   opens = λ never. refl;
   cards = tt;
-  repeat = λ before last. tt;
+  repeat = (tt, λ before last. tt);
   owners = tt;
   others = tt;
   held = subst (λ x. HeldOnly h disk x (IsOfShop s)) (sym same) (start h disk (IsOfShop s) (s.state, shop));

@@ -179,10 +179,15 @@ module _ {L R T : Type 0} (h : LogHistory L) (i : BatchInput R) (o : LogOutput L
         counts = counts_are s [] (map uncut ls) (unfailed ls) (asks_of ls) (counted_lines (start_of s) [] ls);
         opens = opened_so result (is.opens (never_failed left (left_of result)));
         cards = answered_so result _ _ (λ d r y. subst (IsSettled (disk_image d)) (cards_after s ls again) y.1) is.answer;
-        repeat = λ before last. answered_so result _ _
-            (λ d r y. y.0 ∙ replies_on s (plain (start_of s) (requests_of ls)) (request_of again)
-            ∙ ap (λ (asks : List Ask). reply (start_of s) asks (request_of again)) (turn_asks s ls)
-            ∙ repeats s turns again before last) is.answer;
+        repeat = (
+          answered_so result _ _
+              (λ d r y. y.0 ∙ replies_on s (plain (start_of s) (requests_of ls)) (request_of again)
+              ∙ ap (λ (asks : List Ask). reply (start_of s) asks (request_of again)) (turn_asks s ls)) is.answer,
+          λ before last. answered_so result _ _
+              (λ d r y. y.0 ∙ replies_on s (plain (start_of s) (requests_of ls)) (request_of again)
+              ∙ ap (λ (asks : List Ask). reply (start_of s) asks (request_of again)) (turn_asks s ls)
+              ∙ repeats s turns again before last) is.answer,
+        );
         owners = answered_so result _ _ (λ d r y. y.1.clean) is.answer;
         others = answered_so result _ _ (λ d r y t x. ap (λ z. z.rest) (IsShop-one (disk_image d) t _ x y.1.shop)) is.answer;
       }
@@ -202,7 +207,7 @@ module _ {L R T : Type 0} (h : LogHistory L) (i : BatchInput R) (o : LogOutput L
         counts = counts_are s [] (map uncut Ls) (unfailed Ls) (asks_of Ls) (counted_lines (start_of s) [] Ls);
         opens = refl;
         cards = tt;
-        repeat = λ before last. tt;
+        repeat = (tt, λ before last. tt);
         owners = tt;
         others = tt;
       }

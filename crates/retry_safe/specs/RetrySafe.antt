@@ -65,9 +65,11 @@ pub record RetrySafe {D : Type 0} (h : History D) (s : Shop) (events : List Mess
   -- The cards are those of applying each new request once, in the order counted.
   pub cards : IfAnswered result (λ d _. IsSettled (h.image d)
       (with_state s (plain (start_of s) (counted_in turns ++ asks_in again))))
-  -- A message that counted, repeated before its till's next one, gets the answer that is kept of it.
-  pub repeat : (before : List Ask) → IsLastOfTill again before turns
-      → IfAnswered result (λ _ r. r ≡ reply (start_of s) before (request_of again))
+  -- The till gets the answer over the requests that count. A message that counted, repeated before its till's next one, gets
+  -- the answer that is kept of it.
+  pub repeat : IfAnswered result (λ _ r. r ≡ reply (start_of s) (counted_in turns) (request_of again))
+      × ((before : List Ask) → IsLastOfTill again before turns
+      → IfAnswered result (λ _ r. r ≡ reply (start_of s) before (request_of again)))
   -- Every block has one owner, and the map agrees.
   pub owners : IfAnswered result (λ d _. IsClean (h.image d))
   -- The other files stay.
