@@ -14,7 +14,6 @@ pub mod LastOnes
 pub mod LineStored
 pub mod Lined
 pub mod LinesStored
-pub mod Made
 pub mod Mendings
 pub mod Numbered
 pub mod OneStored
@@ -29,5 +28,6 @@ pub mod Repairs
 pub mod Returned
 pub mod SameRepairs
 pub mod SeveralColumns
+pub mod ShopFiles
 pub mod TextGrown
 pub mod TextStored

@@ -1,3 +1,2 @@
 -- The lemmas, by what they are about.
-pub mod changes
 pub mod rescue

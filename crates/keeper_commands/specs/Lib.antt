@@ -1,4 +1,3 @@
-pub mod changes
 pub mod rescue
 pub mod Bytes
 pub mod ColumnLines
@@ -12,5 +11,6 @@ pub mod Rebuilds
 pub mod Records
 pub mod Refusals
 pub mod Repairs
+pub mod ShopFiles
 pub mod Stores
 pub mod Storing

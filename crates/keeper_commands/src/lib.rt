@@ -1,11 +1,9 @@
-//! What a keeper of disks does with an image: its records as lines and back, the bytes of a file, its repair, new
-//! files, files renamed, deleted and put there, and what can be rescued.
+//! What a keeper of disks does with an image: its records as lines and back, the bytes of a file, its repair, and what
+//! can be rescued.
 #![tactic(auto)]
 
 mod byte_printing;
 mod chains;
-// Changes to the files of an image, as commands: checked, made, and printed.
-mod changes;
 mod column_lines;
 mod faults;
 mod finding;
@@ -25,15 +23,12 @@ mod record_printing;
 mod record_storing;
 // What can be rescued of the files of a disk, written to a folder that is new.
 mod rescue;
+mod shop_files;
 mod storing;
 mod unclosed_records;
 
 pub use byte_printing::bytes_image;
 pub use chains::{put_file, read_file};
-pub use changes::deleting::delete_image;
-pub use changes::putting::put_image;
-pub use changes::renaming::rename_image;
-pub use changes::shop_files::has_shop_file;
 pub use column_lines::plain_lines;
 pub use finding::{Candidates, length_of_records};
 pub use forms::{ByteForm, ColumnForm, RecordForm};
@@ -41,7 +36,7 @@ pub use laws::{
     columns_come_back, last_lines_count, printed_records_are_stored, records_come_back,
     repairs_print_the_same, stored_again_is_quiet, stored_records_are_so,
 };
-pub use making::{is_new_name, make_image};
+pub use making::is_new_name;
 pub use mending::repair_image;
 pub use piece_printing::put_pieces;
 pub use rebuilding::rebuild_image;
@@ -54,4 +49,5 @@ pub use rescue::laws::names_stay_inside;
 pub use rescue::mem_folder::{MemFile, MemFolder};
 pub use rescue::rescuing::Rescued;
 pub use rescue::rows::Row;
+pub use shop_files::has_shop_file;
 pub use unclosed_records::unclosed_records_image;

@@ -1,11 +1,18 @@
 -- What comes of a job that is run over the bytes of its files. All of it is our own.
-use Rattle.std.specs.Prelude.{◌≡◌, ◌≢◌, ◌⊎◌, ℕ, Bool, false, true, List, Option, None, Some, Result, Ok, Err, length}
+use Rattle.ledger_cli.specs.Changed.{IsChangeJob}
+use Rattle.disk_changes.specs.Deletes.{IsDeleteRefusal, IsDeleted}
+use Rattle.disk_changes.specs.Makes.{IsMade, IsMakeRefusal}
+use Rattle.disk_changes.specs.Puts.{IsPut, IsPutRefusal}
+use Rattle.disk_changes.specs.Rebuilds.{IsRebuildRefusal, IsRebuilt}
+use Rattle.disk_changes.specs.Renames.{IsRenameRefusal, IsRenamed}
+use Rattle.disk_changes.specs.Repairs.{IsRepairRefusal, IsRepaired}
+use Rattle.disk_changes.specs.Stores.{IsStoreRefusal, IsStored}
+use Rattle.std.specs.Prelude.{◌≡◌, ◌≢◌, ◌⊎◌, ℕ, List, Option, None, Some, Result, Ok, Err, length}
 use Rattle.d64_image.specs.declared.device_as_file.DeviceAsFile.{DeviceAsFile}
 use Rattle.d64_image.specs.declared.mirror.Mirror.{Mirror}
 use Rattle.ledger_cli.specs.Making.{IsImageCopied, IsImageMade}
 use Rattle.ledger_cli.specs.Streams.{HandsSectors, IsBegun, WhyUnbegun, stream, stream_file}
 use Rattle.disk_layout.specs.declared.faults.Fault.{Fault}
-use Rattle.file_changes.specs.declared.file_type.FileType.{FileType}
 use Rattle.host_session.specs.runs.Outputs.{written}
 use Rattle.line_text.specs.Handed.{AppendsPart}
 use Rattle.shop_commands.specs.Plays.{IsUntouched}
@@ -14,29 +21,21 @@ use Rattle.command_faults.specs.declared.faults.CommandFault.{CommandFault}
 use Rattle.command_faults.specs.declared.faults.CommandFault.TheVariants as faults
 use Rattle.ledger_jobs.specs.Comparisons.{IsComparingRun}
 use Rattle.ledger_jobs.specs.Drawings.{IsDrawingRun}
-use Rattle.ledger_jobs.specs.Edited.{IsDeleteOver, IsRenameOver}
-use Rattle.ledger_jobs.specs.EditRefusals.{IsEditEnd}
 use Rattle.ledger_jobs.specs.Ends.{Ended, EndsAs, JobEnd, as_job, as_run, end_status, refusal_line}
-use Rattle.ledger_jobs.specs.Keeping.{IsDryRepair, IsRepairOver}
-use Rattle.ledger_jobs.specs.Kept.{IsMakeOver, IsStoreOver}
 use Rattle.ledger_jobs.specs.Listings.{IsListingRun}
-use Rattle.ledger_jobs.specs.Losses.{IsEndOf, IsEndOfRun, IsGuarded, IsRepairedEndOf, IsTakingEnd}
+use Rattle.ledger_jobs.specs.Jobs.{frees, shortened}
+use Rattle.ledger_jobs.specs.Losses.{IsEndOf, IsGuarded, IsTakingEnd}
 use Rattle.ledger_jobs.specs.Names.{name_bytes}
 use Rattle.ledger_jobs.specs.NewDisks.{IsNewImage}
-use Rattle.ledger_jobs.specs.Puts.{IsPutOver}
 use Rattle.shop_commands.specs.Images.{AreFreshBytes}
 use Rattle.ledger_jobs.specs.Runs.{IsPlayRun, IsReadingEnd}
 use Rattle.disk_pictures.specs.Views.{IsViewRun}
 use Rattle.ledger_jobs.specs.declared.jobs.Job.{Job}
 use Rattle.ledger_jobs.specs.declared.jobs.Job.TheVariants as jobs
-use Rattle.ledger_jobs.specs.declared.jobs.Effect.{Effect}
-use Rattle.ledger_jobs.specs.declared.jobs.Effect.TheVariants as effects
+use Rattle.ledger_jobs.specs.declared.jobs.Effect.TheVariants.{Written}
 use Rattle.ledger_jobs.specs.declared.jobs.Findings.{Findings}
 use Rattle.ledger_jobs.specs.declared.jobs.Findings.TheVariants as findings
 use Rattle.ledger_jobs.specs.declared.jobs.Loss.{Loss}
-use Rattle.ledger_jobs.specs.declared.jobs.Loss.TheVariants as losses
-use Rattle.ledger_jobs.specs.declared.jobs.Unowned.{Unowned}
-use Rattle.ledger_jobs.specs.declared.jobs.Unowned.TheVariants as unowned
 use Rattle.ledger_jobs.specs.declared.jobs.Reading.{Reading}
 use Rattle.ledger_jobs.specs.declared.jobs.Reading.TheVariants as readings
 use Rattle.ledger_jobs.specs.declared.refusals.Refusal.TheVariants as refusals
@@ -88,11 +87,6 @@ abbrev pub IsServiceEnd : {F W : Type 0} → (image : List ℕ) → F → F → 
 IsServiceEnd image file after old new (Ok printed) = (printed ≡ None) × (length image ≡ 174848)
 IsServiceEnd image file after old new (Err fault) = IsServiceFault image file after old new fault
 
--- a repair that frees what nobody owns, or doesn't
-abbrev pub frees : Unowned → Bool
-frees unowned.Freed = true
-frees unowned.Kept = false
-
 module _ {F : Type 0} (position : F → Option ℕ) (bytes contents : F → Option (List ℕ)) {W : Type 0} where
   -- the making of an image over the file ended so; without one it isn't made
   abbrev pub IsFormatted : (W → Option (List ℕ)) → ℕ → Option F → Option F → W → W → JobEnd → Type 0
@@ -126,54 +120,6 @@ module _ {F : Type 0} (position : F → Option ℕ) (bytes contents : F → Opti
   IsServed image loss file after old new end = IsOverFile image file after old new end
       (λ f left. IsGuarded image loss (IsUntouched f left old new) (IsEndOf (IsServiceEnd image f left old new)) end)
 
-  -- a repair of the disk ended so
-  abbrev pub IsRepaired : (W → Option (List ℕ)) → List ℕ → Bool → Loss → Option F → Option F → W → W → JobEnd → Type 0
-  IsRepaired told image free loss file after old new end = IsOverFile image file after old new end
-      (λ f left. IsGuarded image loss (IsUntouched f left old new)
-      (IsRepairedEndOf (IsRepairOver free (stream position bytes contents) told image f left old new)) end)
-
-  -- a repair of the disk, or of a copy of it in memory
-  abbrev pub IsRepairJob : (W → Option (List ℕ)) → List ℕ → Unowned → Effect → Loss → Option F → Option F → W → W
-      → JobEnd → Type 0
-  IsRepairJob told image u effects.Written loss file after old new end =
-      IsRepaired told image (frees u) loss file after old new end
-  IsRepairJob told image u effects.Printed loss file after old new end = (after ≡ file)
-      × IsGuarded image loss (new ≡ old) (IsRepairedEndOf (IsDryRepair (frees u) told image old new)) end
-
-  -- the making of a relative file did
-  abbrev pub IsMade : (W → Option (List ℕ)) → (image name : List ℕ) → ℕ → Loss → Option F → Option F → W → W → JobEnd
-      → Type 0
-  IsMade told image name L loss file after old new end = IsOverFile image file after old new end
-      (λ f left. IsGuarded image loss (IsUntouched f left old new)
-      (IsEndOfRun (IsMakeOver (stream position bytes contents) told image name L f left old new)) end)
-
-  -- the storing of records in one did
-  abbrev pub IsStored : (W → Option (List ℕ)) → (image name text : List ℕ) → Loss → Option F → Option F → W → W
-      → JobEnd → Type 0
-  IsStored told image name text loss file after old new end = IsOverFile image file after old new end
-      (λ f left. IsGuarded image loss (IsUntouched f left old new)
-      (IsEndOfRun (IsStoreOver (stream position bytes contents) told image name text f left old new)) end)
-
-  -- the renaming of a file did
-  abbrev pub IsRenamed : (W → Option (List ℕ)) → (image from to : List ℕ) → Option F → Option F → W → W → JobEnd
-      → Type 0
-  IsRenamed told image from to file after old new end = IsOverFile image file after old new end
-      (λ f left. IsEditEnd image from (IsUntouched f left old new)
-      (IsRenameOver (stream position bytes contents) told image from to f left old new) end)
-
-  -- the deletion of a file did
-  abbrev pub IsDeleted : (W → Option (List ℕ)) → (image name : List ℕ) → Option F → Option F → W → W → JobEnd → Type 0
-  IsDeleted told image name file after old new end = IsOverFile image file after old new end
-      (λ f left. IsEditEnd image name (IsUntouched f left old new)
-      (IsDeleteOver (stream position bytes contents) told image name f left old new) end)
-
-  -- the putting of a file did
-  abbrev pub IsPut : (W → Option (List ℕ)) → (image name : List ℕ) → FileType → List ℕ → Option F → Option F → W → W
-      → JobEnd → Type 0
-  IsPut told image name kind given file after old new end = IsOverFile image file after old new end
-      (λ f left. IsGuarded image losses.Refused (IsUntouched f left old new)
-      (IsEndOfRun (IsPutOver (stream position bytes contents) told image name kind given f left old new)) end)
-
   -- what comes of each job: its run over the bytes that it reads, and over the file that it writes
   abbrev pub IsJobRun : (W → Option (List ℕ)) → Job → (image script : List ℕ) → Option F → Option F → W → W → JobEnd
       → Type 0
@@ -201,17 +147,23 @@ module _ {F : Type 0} (position : F → Option ℕ) (bytes contents : F → Opti
       IsServed image loss file after old new end
   IsJobRun told (jobs.Copy path copy) image script file after old new end = IsCopyJob told image file after old new end
   IsJobRun told (jobs.Repair path loss u effect) image script file after old new end =
-      IsRepairJob told image u effect loss file after old new end
-  IsJobRun told (jobs.Make path name L loss) image script file after old new end =
-      IsMade told image (name_bytes name) L loss file after old new end
-  IsJobRun told (jobs.Rename path from to) image script file after old new end =
-      IsRenamed told image (name_bytes from) (name_bytes to) file after old new end
-  IsJobRun told (jobs.Delete path name) image script file after old new end =
-      IsDeleted told image (name_bytes name) file after old new end
-  IsJobRun told (jobs.Put path name source kind) image script file after old new end =
-      IsPut told image (name_bytes name) kind script file after old new end
-  IsJobRun told (jobs.Store path text c loss name) image script file after old new end =
-      IsStored told image (name_bytes name) script loss file after old new end
+      IsChangeJob position bytes contents told effect (IsRepaired image (frees u) (shortened loss)) (IsRepairRefusal image) file after old new end
+  IsJobRun told (jobs.RepairSides path loss u effect) image script file after old new end =
+      IsChangeJob position bytes contents told effect (IsRebuilt image (frees u) (shortened loss)) (IsRebuildRefusal image) file after old new end
+  IsJobRun told (jobs.Make path name L loss) image script file after old new end = IsChangeJob position bytes contents told Written
+      (IsMade image (name_bytes name) L (shortened loss)) (IsMakeRefusal image (name_bytes name) (shortened loss))
+      file after old new end
+  IsJobRun told (jobs.Rename path from to) image script file after old new end = IsChangeJob position bytes contents told Written
+      (IsRenamed image (name_bytes from) (name_bytes to)) (IsRenameRefusal image (name_bytes from) (name_bytes to))
+      file after old new end
+  IsJobRun told (jobs.Delete path name) image script file after old new end = IsChangeJob position bytes contents told Written
+      (IsDeleted image (name_bytes name)) (IsDeleteRefusal image (name_bytes name)) file after old new end
+  IsJobRun told (jobs.Put path name source kind) image script file after old new end = IsChangeJob position bytes contents told Written
+      (IsPut image (name_bytes name) kind script) (IsPutRefusal image (name_bytes name) kind script)
+      file after old new end
+  IsJobRun told (jobs.Store path text c loss name) image script file after old new end = IsChangeJob position bytes contents told Written
+      (IsStored image (name_bytes name) script (shortened loss))
+      (IsStoreRefusal image (name_bytes name) script (shortened loss)) file after old new end
   IsJobRun told (jobs.Take what path name) image script file after old new end =
       (after ≡ file) × IsTakingEnd told what image (name_bytes name) old new end
   IsJobRun told (jobs.Draw what path) image script file after old new end =
@@ -227,8 +179,6 @@ module _ {F : Type 0} (position : F → Option ℕ) (bytes contents : F → Opti
   IsJobRun told (jobs.Sheet paths) image script file after old new end =
       (after ≡ file) × (new ≡ old) × (end ≡ Err (refusals.Fault faults.File))
   IsJobRun told (jobs.Describe paths) image script file after old new end =
-      (after ≡ file) × (new ≡ old) × (end ≡ Err (refusals.Fault faults.File))
-  IsJobRun told (jobs.RepairSides path loss unowned effect) image script file after old new end =
       (after ≡ file) × (new ≡ old) × (end ≡ Err (refusals.Fault faults.File))
   IsJobRun told (jobs.Extract choice path folder) image script file after old new end =
       (after ≡ file) × (new ≡ old) × (end ≡ Err (refusals.Fault faults.File))

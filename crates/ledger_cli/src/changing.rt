@@ -1,10 +1,7 @@
-//! Jobs that write their image, run over its file.
-ghost use Rattle.std.specs.Prelude.{◌≡◌, ◌≤◌, length};
-ghost use Rattle.keeper_commands.specs.Makes.{IsNewName};
-ghost use Rattle.ledger_cli.specs.Runs.{IsCopyJob, IsFormatted, IsMade, IsNewMade, IsPlayed, IsRepairJob, IsRepaired, IsServed, IsStored};
-ghost use Rattle.ledger_cli.specs.Runs.{frees as frees_of};
+//! Jobs that make an image or run its shop, over its file.
+ghost use Rattle.std.specs.Prelude.{◌≤◌, length};
+ghost use Rattle.ledger_cli.specs.Runs.{IsCopyJob, IsFormatted, IsNewMade, IsPlayed, IsServed};
 ghost use Rattle.ledger_jobs.specs.Names.{name_bytes};
-ghost use Rattle.rel_records.specs.File.{IsLength};
 
 use crate::making::{copy_image, make_disk, make_image};
 use crate::playing::play_written;
@@ -12,10 +9,7 @@ use crate::stream::{begin, file_of};
 use command_faults::CommandFault;
 use disk_layout::Fault;
 use host_session::Printer;
-use ledger_jobs::{
-    Effect, Loss, Name, Refusal, Unowned, dry_repair_guarded, job_end, loss_refusal, make_guarded,
-    repair_guarded, run_end, serve_run, store_guarded,
-};
+use ledger_jobs::{Loss, Name, Refusal, job_end, loss_refusal, run_end, serve_run};
 use std::alloc::Global;
 use std::io::{Seek, Write};
 
@@ -120,106 +114,5 @@ pub(crate) fn serve<F: Write + Seek + Drop, W: Write>(
             let (stream, ended) = serve_run(alloc, image, stream, &mut lines, &mut printer);
             (file_of(stream), job_end(ended))
         }
-    }
-}
-
-/// Repairs the disk of the image, over its file.
-fn mend<F: Write + Seek + Drop, W: Write>(
-    alloc: Global,
-    image: &[u8],
-    free: bool,
-    loss: Loss,
-    file: Option<F>,
-    out: &mut W,
-) -> (Option<F>, Ended)
-    ensures { IsRepaired F.stream_position F.stream_bytes F.contents W.contents image.now free loss file result.0
-        out.old out.new result.1 }
-{
-    match begin(alloc, image, file) {
-        Ok(stream) => {
-            let (stream, ended) = repair_guarded(alloc, image, free, stream, loss, out);
-            (file_of(stream), ended)
-        }
-        Err((fault, file)) => (file, Err(Refusal::Fault(fault))),
-    }
-}
-
-/// Whether a repair frees what nobody owns.
-fn frees(unowned: Unowned) -> bool
-    ensures { result ≡ frees_of unowned }
-{
-    match unowned {
-        Unowned::Freed => true,
-        Unowned::Kept => false,
-    }
-}
-
-/// Repairs the disk of the image over its file, or only a copy of it in memory.
-pub(crate) fn repair<F: Write + Seek + Drop, W: Write>(
-    alloc: Global,
-    image: &[u8],
-    unowned: Unowned,
-    effect: Effect,
-    loss: Loss,
-    file: Option<F>,
-    out: &mut W,
-) -> (Option<F>, Ended)
-    ensures { IsRepairJob F.stream_position F.stream_bytes F.contents W.contents image.now unowned effect loss
-        file result.0 out.old out.new result.1 }
-{
-    match effect {
-        Effect::Written => mend(alloc, image, frees(unowned), loss, file, out),
-        Effect::Printed => {
-            let ended = dry_repair_guarded(alloc, image, frees(unowned), loss, out);
-            (file, ended)
-        }
-    }
-}
-
-/// Makes a relative file on the disk of the image, over its file.
-pub(crate) fn make<F: Write + Seek + Drop, W: Write>(
-    alloc: Global,
-    image: &[u8],
-    name: &Name,
-    length: u8,
-    loss: Loss,
-    file: Option<F>,
-    out: &mut W,
-) -> (Option<F>, Ended)
-    requires name { IsNewName (name_bytes name.now) }
-    requires length { IsLength length }
-    ensures { IsMade F.stream_position F.stream_bytes F.contents W.contents image.now (name_bytes name.now) length loss
-        file result.0 out.old out.new result.1 }
-{
-    match begin(alloc, image, file) {
-        Ok(stream) => {
-            let name = name.as_bytes();
-            let (stream, ended) = make_guarded(alloc, image, name, length, stream, loss, out);
-            (file_of(stream), ended)
-        }
-        Err((fault, file)) => (file, Err(Refusal::Fault(fault))),
-    }
-}
-
-/// Stores records in a relative file of the image, over its file.
-pub(crate) fn store<F: Write + Seek + Drop, W: Write>(
-    alloc: Global,
-    image: &[u8],
-    name: &Name,
-    records: &[u8],
-    loss: Loss,
-    file: Option<F>,
-    out: &mut W,
-) -> (Option<F>, Ended)
-    ensures { IsStored F.stream_position F.stream_bytes F.contents W.contents image.now (name_bytes name.now) records.now
-        loss file result.0 out.old out.new result.1 }
-{
-    match begin(alloc, image, file) {
-        Ok(stream) => {
-            let name = name.as_bytes();
-            let (stream, ended) = store_guarded(alloc, image, name, records, stream, loss, out);
-            (file_of(stream), ended)
-        }
-        Err((fault, file)) => (file, Err(Refusal::Fault(fault))),
     }
 }

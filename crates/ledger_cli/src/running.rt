@@ -3,8 +3,8 @@ ghost use Rattle.std.specs.Prelude.{◌≡◌, Option};
 ghost use Rattle.ledger_cli.specs.Runs.{IsChecked, IsJobRun, IsRead, IsRun};
 ghost use Rattle.ledger_jobs.specs.Jobs.{IsFit};
 
-use crate::changing::{Ended, begin_disk, copy, format, make, play, repair, serve, store};
-use crate::editing::{delete, put, rename};
+use crate::changing::{Ended, begin_disk, copy, format, play, serve};
+use crate::editing::{delete, make, put, rebuild, rename, repair, store};
 use command_faults::CommandFault;
 use disk_pictures::view_image;
 use ledger_jobs::{
@@ -62,6 +62,12 @@ fn obey<F: Write + Seek + Drop, W: Write>(
             effect,
             ..
         } => repair(alloc, image, unowned, effect, loss, file, out),
+        Job::RepairSides {
+            loss,
+            unowned,
+            effect,
+            ..
+        } => rebuild(alloc, image, unowned, effect, loss, file, out),
         Job::Make {
             ref name,
             length,
@@ -83,15 +89,12 @@ fn obey<F: Write + Seek + Drop, W: Write>(
         Job::Draw { what, .. } => (file, job_end(drawing_run(alloc, what, image, out))),
         Job::View { what, .. } => (file, run_end(view_image(alloc, what, image, out))),
         Job::Compare { .. } => (file, job_end(comparing_run(alloc, image, script, out))),
-        // it needs the bytes of each image, or standard error too
-        Job::Several { .. } | Job::Sheet { .. } | Job::Describe { .. } | Job::Trim { .. } => {
-            (file, Err(Refusal::Fault(CommandFault::File)))
-        }
-        // two steps over one file, or a folder
-        Job::RepairSides { .. } | Job::Extract { .. } => (
-            file,
-            Err(Refusal::Fault(CommandFault::File)),
-        ),
+        // it needs the bytes of each image, or standard error too, or a folder
+        Job::Several { .. }
+        | Job::Sheet { .. }
+        | Job::Describe { .. }
+        | Job::Trim { .. }
+        | Job::Extract { .. } => (file, Err(Refusal::Fault(CommandFault::File))),
     }
 }
 
@@ -106,16 +109,15 @@ fn obey<F: Write + Seek + Drop, W: Write>(
 /// a job ends with 3 and `FILE`, and nothing is printed. A job that only reads leaves it as it was. There are no logs:
 /// `Serve` and `PlayLogged` write the image itself.
 ///
-/// Four kinds of job end with 3 and `FILE`:
+/// Three kinds of job end with 3 and `FILE`:
 /// - a job over several images, since only one has its bytes here: call `overview_run` for each;
 /// - `Extract`, since there is no folder: call `extract_run` over one;
-/// - `RepairSides`: call `rebuild_image` of `keeper_commands`, and then `repair_image`;
 /// - `Trim`, which reports on standard error: call `trim_run`.
 ///
-/// The file is handed each sector at 256 times its index, before memory takes it, and nothing else; `Format`, `New` and
-/// `Copy` hand it the whole image. It isn't cut: what a longer file held after an image stays there. The caller decides
-/// whether it was there before, and when its sectors are synced. If it fails, the status is 3, and nothing is known of
-/// what it was handed in that call.
+/// `Play` and `Serve` hand the file each sector at 256 times its index, before memory takes it, and nothing else. All other
+/// jobs hand it the whole image, the directory's first sector spoiled first and written last. It isn't cut: what a longer
+/// file held after an image stays there. The caller decides whether it was there before, and when its sectors are synced. If
+/// it fails, the status is 3, and nothing is known of what it was handed in that call.
 pub fn run_over<F: Write + Seek + Drop, W: Write, E: Write>(
     alloc: Global,
     job: &Job<'_>,

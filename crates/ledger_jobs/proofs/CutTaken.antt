@@ -4,7 +4,7 @@ use Rattle.std.specs.Prelude.{Err, None, Ok, Option, Result, Some}
 use Rattle.d64_image.specs.declared.place.Place.{Place}
 use Rattle.command_faults.specs.declared.faults.CommandFault.{CommandFault}
 use Rattle.ledger_jobs.proofs.Taken.{taken-size}
-use Rattle.ledger_jobs.specs.Keeping.{IsTakingRun}
+use Rattle.ledger_jobs.specs.Takings.{IsTakingRun}
 use Rattle.ledger_jobs.specs.Losses.{IsSeen, IsTakingEnd, taken_end}
 use Rattle.ledger_jobs.specs.declared.jobs.Taking.{Taking}
 

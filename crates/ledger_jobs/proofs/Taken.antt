@@ -8,7 +8,7 @@ use Rattle.keeper_commands.specs.declared.finding.Candidates.{Candidates}
 use Rattle.keeper_commands.specs.declared.finding.Candidates.TheVariants.{All, Closed}
 use Rattle.keeper_commands.specs.declared.forms.ByteForm.{ByteForm}
 use Rattle.keeper_commands.specs.declared.forms.RecordForm.{RecordForm}
-use Rattle.ledger_jobs.specs.Keeping.{IsTaken, IsTakingRun}
+use Rattle.ledger_jobs.specs.Takings.{IsTaken, IsTakingRun}
 use Rattle.ledger_jobs.specs.declared.jobs.Taking.{Taking}
 use Rattle.ledger_jobs.specs.declared.jobs.Taking.TheVariants as takings
 

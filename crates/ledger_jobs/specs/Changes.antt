@@ -1,30 +1,36 @@
 -- What a job prints that changes files of a disk, or makes an image. Our own.
-use Rattle.std.specs.Prelude.{◌≡◌, ◌≢◌, ◌⊎◌, IfErr, IfOk, OnErr, ℕ, Bool, List, None, Option, Result, Ok, Err, length}
+use Rattle.std.specs.Prelude.{◌≡◌, ◌≢◌, ◌⊎◌, IfErr, IfOk, ℕ, List, None, Option, Result, Ok, Err, if◌then◌else◌, nat_eq}
 use Rattle.std.specs.Io.KnownBytes.{Appends}
-use Rattle.command_faults.specs.Outputs.{HandsPart}
 use Rattle.command_faults.specs.declared.faults.CommandFault.{CommandFault}
 use Rattle.command_faults.specs.declared.faults.CommandFault.TheVariants as faults
-use Rattle.d64_image.specs.Images.{Image}
-use Rattle.d64_image.specs.Memory.{sectors_in}
-use Rattle.keeper_commands.specs.Repairs.{IsMendedAs, mended_text}
+use Rattle.disk_changes.specs.declared.changes.Changed.{Changed}
+use Rattle.disk_changes.specs.declared.changes.Why.{Why}
+use Rattle.disk_changes.specs.declared.changes.Why.TheVariants as whys
+use Rattle.folder_changes.specs.FolderChanges.{IsToldAs}
+use Rattle.folder_changes.specs.declared.stops.Stop.{Stop}
+use Rattle.folder_changes.specs.declared.stops.Stop.TheVariants as stops
 use Rattle.line_text.specs.Handed.{AppendsPart}
-use Rattle.ledger_jobs.specs.Ends.{IsEndOver, JobEnd}
+use Rattle.ledger_jobs.specs.Ends.{EndsAs, IsEndOver, JobEnd}
+use Rattle.ledger_jobs.specs.declared.refusals.Refusal.{Refusal}
 use Rattle.ledger_jobs.specs.declared.refusals.Refusal.TheVariants as refusals
 
--- What a run printed that prints this text if it is done. Nothing, unless it ended with `File`: then the output failed, and
--- a beginning of the text was printed.
-abbrev pub IsChangeTold : {W : Type 0} → (W → Option (List ℕ)) → (text : List ℕ) → W → W → Result Unit CommandFault → Type 0
-IsChangeTold contents text old new (Ok _) = Appends (contents old) (contents new) text
-IsChangeTold contents text old new (Err faults.File) = HandsPart (contents old) (contents new) text
-IsChangeTold contents text old new (Err _) = new ≡ old
+-- what is reported of a change that was stopped
+abbrev pub stop_refusal : Stop → Refusal
+stop_refusal (stops.Refused (whys.Fault fault)) = refusals.Fault fault
+stop_refusal (stops.Refused (whys.Short p)) = refusals.Short p
+stop_refusal (stops.Refused whys.ShopFile) = refusals.ShopFile
+stop_refusal stops.Device = refusals.Fault faults.Device
+stop_refusal stops.Output = refusals.Fault faults.File
 
--- A job ended so that prints this text if it is done. If it isn't, nothing was printed, or a beginning of the text was, and
--- it ended with `File`.
-pub record IsChangeEnd {W : Type 0} (contents : W → Option (List ℕ)) (text : List ℕ) (old new : W) (end : JobEnd) : Type 0
-  where
-    pub done : IfOk end (λ found. (found ≡ None) × Appends (contents old) (contents new) text)
-    pub quiet : IfErr end (λ refusal. refusal ≢ refusals.Fault faults.File → new ≡ old)
-    pub part : OnErr end ((new ≡ old) ⊎ HandsPart (contents old) (contents new) text)
+-- what came of a change, as a job's end: so many sectors are left, or it was stopped
+abbrev pub as_change : Result ℕ Stop → JobEnd
+as_change (Ok n) = if nat_eq n 0 then Ok None else Err (refusals.Kept n)
+as_change (Err stop) = Err (stop_refusal stop)
+
+-- A job that changes an image ended so. This holds of what comes of the change, and its text was printed; or this holds of
+-- why it isn't made, and nothing was; or the image couldn't be kept, and nothing was printed; or the output failed.
+abbrev pub IsChangeEnd : {W : Type 0} → (W → Option (List ℕ)) → (Changed → Type 0) → (Why → Type 0) → W → W → JobEnd → Type 0
+IsChangeEnd contents Is Refuses old new end = EndsAs as_change end (IsToldAs contents Is Refuses old new)
 
 -- what a run over a file that is made printed, whose text this is
 abbrev pub IsMakingTold : {W : Type 0} → (W → Option (List ℕ)) → (text : List ℕ) → W → W → Result Unit CommandFault → Type 0
@@ -37,24 +43,6 @@ IsMakingTold contents text old new (Err _) = new ≡ old
 abbrev pub IsMakingEnd : {W : Type 0} → (W → Option (List ℕ)) → (text : List ℕ) → W → W → JobEnd → Type 0
 IsMakingEnd contents text old new end =
     (ended : Result Unit CommandFault) × IsMakingTold contents text old new ended × IsEndOver ended end
-
--- What was printed of a repair that isn't done, or not to its end: nothing, or a beginning of what is printed of the disk as
--- it is mended.
-abbrev pub IsMendingPart : {W : Type 0} → Bool → (W → Option (List ℕ)) → (image : List ℕ) → W → W → Type 0
-IsMendingPart free contents image old new = (new ≡ old)
-    ⊎ ((after : Image) × (n : ℕ) × IsMendedAs free (sectors_in image) after n
-    × HandsPart (contents old) (contents new) (mended_text (sectors_in image) after n))
-
--- What a repair of the disk of an image printed: what it mended, if that is done. If it isn't, nothing, unless the output or
--- the file failed: then a beginning of that, or nothing.
-abbrev pub IsRepairTold : {W : Type 0} → Bool → (W → Option (List ℕ)) → (image : List ℕ) → W → W → Result ℕ CommandFault
-    → Type 0
-IsRepairTold free contents image old new (Ok n) = (length image ≡ 174848) × ((after : Image)
-    × IsMendedAs free (sectors_in image) after n
-    × Appends (contents old) (contents new) (mended_text (sectors_in image) after n))
-IsRepairTold free contents image old new (Err faults.File) = IsMendingPart free contents image old new
-IsRepairTold free contents image old new (Err faults.Device) = IsMendingPart free contents image old new
-IsRepairTold free contents image old new (Err _) = new ≡ old
 
 -- a job that isn't done printed nothing, unless the output or the file failed
 abbrev pub IsQuietEnd : {W : Type 0} → W → W → JobEnd → Type 0

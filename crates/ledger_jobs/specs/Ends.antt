@@ -124,11 +124,6 @@ abbrev pub as_run : Result Unit CommandFault → JobEnd
 as_run (Ok _) = Ok None
 as_run (Err fault) = Err (refusals.Fault fault)
 
--- what came of a repair, as a job's end: so many sectors are left, or it wasn't done
-abbrev pub as_repaired : Result ℕ CommandFault → JobEnd
-as_repaired (Ok n) = if nat_eq n 0 then Ok None else Err (refusals.Kept n)
-as_repaired (Err fault) = Err (refusals.Fault fault)
-
 -- a run ended so, and this is how its job ended
 abbrev pub EndsAs : {A : Type 0} → (A → JobEnd) → JobEnd → (A → Type 0) → Type 0
 EndsAs {A} told end P = (ended : A) × (end ≡ told ended) × P ended

@@ -3,10 +3,19 @@ use Rattle.std.specs.Borrow.{Bor}
 use Rattle.std.specs.Prelude.{◌≡◌, ℕ, Err, List, Option, Vec, codes, map, take, vec_items}
 use Rattle.std.specs.declared.alloc.Global.{Global}
 use Rattle.command_faults.specs.declared.faults.CommandFault.TheVariants as faults
+use Rattle.disk_changes.specs.Deletes.{IsDeleteRefusal, IsDeleted}
+use Rattle.disk_changes.specs.Makes.{IsMade, IsMakeRefusal}
+use Rattle.disk_changes.specs.Puts.{IsPut, IsPutRefusal}
+use Rattle.disk_changes.specs.Rebuilds.{IsRebuildRefusal, IsRebuilt}
+use Rattle.disk_changes.specs.Renames.{IsRenameRefusal, IsRenamed}
+use Rattle.disk_changes.specs.Repairs.{IsRepairRefusal, IsRepaired}
+use Rattle.disk_changes.specs.Stores.{IsStoreRefusal, IsStored}
+use Rattle.disk_changes.specs.declared.changes.Changed.{Changed}
+use Rattle.disk_changes.specs.declared.changes.Why.{Why}
 use Rattle.keeper_commands.specs.declared.rescue.choices.Choice.{Choice}
 use Rattle.image_file.specs.paths.Rights.{Rights}
 use Rattle.image_file.specs.paths.Standing.{Stands}
-use Rattle.ledger_jobs.specs.Changes.{IsChangeEnd, IsLoggedEnd, IsMakingEnd, IsQuietEnd, IsRepairTold}
+use Rattle.ledger_jobs.specs.Changes.{IsChangeEnd, IsLoggedEnd, IsMakingEnd, IsQuietEnd}
 use Rattle.ledger_jobs.specs.Columns.{text_in}
 use Rattle.ledger_jobs.specs.Comparisons.{IsComparingRun}
 use Rattle.ledger_jobs.specs.Copies.{IsCopyEnd}
@@ -16,32 +25,26 @@ use Rattle.ledger_jobs.specs.EachImage.{AreHandedOn, IsSeveralEnd}
 use Rattle.ledger_jobs.specs.Ends.{EndsAs, JobEnd, as_job, as_run}
 use Rattle.ledger_jobs.specs.Extracts.{IsExtractedTo}
 use Rattle.ledger_jobs.specs.HostFiles.{IsReadAt, IsShopAt, OfImage, OfRead, OfText, OfWritten, RunEnds}
-use Rattle.ledger_jobs.specs.Jobs.{frees, needed}
-use Rattle.ledger_jobs.specs.Keeping.{IsDryRepair}
+use Rattle.ledger_jobs.specs.Jobs.{frees, needed, shortened}
 use Rattle.ledger_jobs.specs.Listings.{IsListingRun}
 use Rattle.ledger_jobs.specs.LoggedPlays.{IsLoggedPlayEnd}
-use Rattle.ledger_jobs.specs.Losses.{IsEndOfRun, IsGuarded, IsRepairedEndOf, IsTakingEnd}
+use Rattle.ledger_jobs.specs.Losses.{IsTakingEnd}
 use Rattle.ledger_jobs.specs.Names.{name_bytes}
 use Rattle.ledger_jobs.specs.Overviews.{IsOverviewOf}
 use Rattle.ledger_jobs.specs.Replies.{AreReplyLines, IsFileService, IsLoggedService, IsPlainPlayed}
 use Rattle.ledger_jobs.specs.Runs.{IsReadingEnd}
 use Rattle.ledger_jobs.specs.SheetPages.{IsSheetPrinted}
-use Rattle.ledger_jobs.specs.SideRepairs.{AreSidesWritten, IsJudgedFirst, IsSidesEnd}
-use Rattle.ledger_jobs.specs.Stores.{IsStoreTold}
 use Rattle.disk_pictures.specs.Views.{IsViewRun}
-use Rattle.ledger_jobs.specs.declared.jobs.Columns.{Columns}
 use Rattle.ledger_jobs.specs.declared.jobs.Drawing.{Drawing}
 use Rattle.ledger_jobs.specs.declared.jobs.Effect.{Effect}
 use Rattle.ledger_jobs.specs.declared.jobs.Effect.TheVariants.{Printed, Written}
 use Rattle.ledger_jobs.specs.declared.jobs.Findings.TheVariants.{First, All}
 use Rattle.ledger_jobs.specs.declared.jobs.Job.{Job}
 use Rattle.ledger_jobs.specs.declared.jobs.Job.TheVariants as jobs
-use Rattle.ledger_jobs.specs.declared.jobs.Loss.{Loss}
 use Rattle.ledger_jobs.specs.declared.jobs.Overview.{Overview}
 use Rattle.ledger_jobs.specs.declared.jobs.Reading.{Reading}
 use Rattle.ledger_jobs.specs.declared.jobs.Reading.TheVariants as readings
 use Rattle.ledger_jobs.specs.declared.jobs.Taking.{Taking}
-use Rattle.ledger_jobs.specs.declared.jobs.Unowned.{Unowned}
 use Rattle.ledger_jobs.specs.declared.jobs.Way.TheVariants.{InPlace, OverLog}
 use Rattle.ledger_jobs.specs.declared.refusals.Refusal.TheVariants as refusals
 use Rattle.disk_pictures.specs.declared.views.View.{View}
@@ -54,6 +57,14 @@ IsReadOver contents what old new end all =
 -- the paths of several words
 abbrev pub paths_of : Vec (Bor (List ℕ)) Global → List (List ℕ)
 paths_of images = map (λ image. image.now) (vec_items images)
+
+-- The image at a path was changed, all or nothing, by the bytes of another file.
+abbrev pub IsChangeByText : {H W : Type 0} → (H → List ℕ → Stands) → (W → Option (List ℕ)) → H → (path text : List ℕ)
+    → (List ℕ → List ℕ → Changed → Type 0) → (List ℕ → List ℕ → Why → Type 0) → W → W → JobEnd → Type 0
+IsChangeByText stands contents host path text Is Refuses old new end = RunEnds old new end ((image bytes : List ℕ)
+    × OfWritten stands host path (λ all. image ≡ take 174849 all)
+    × OfText stands host text (λ all. bytes ≡ all)
+    × IsChangeEnd contents (Is image bytes) (Refuses image bytes) old new end)
 
 module _ {H W : Type 0} (rights : Rights H) (stands : H → List ℕ → Stands) (contents : W → Option (List ℕ)) (host : H) where
   -- all faults of the image at a path were listed
@@ -92,38 +103,14 @@ module _ {H W : Type 0} (rights : Rights H) (stands : H → List ℕ → Stands)
   IsExtractedFrom choice path old new end = OfImage rights stands host path
       (λ all. RunEnds old new end (IsExtractedTo contents choice (take 174849 all) old new end))
 
-  -- what a repair of it would do was printed
-  abbrev pub IsRepairShown : Unowned → Loss → List ℕ → W → W → JobEnd → Type 0
-  IsRepairShown unowned loss path old new end = OfImage rights stands host path
-      (λ all. RunEnds old new end (IsGuarded (take 174849 all) loss (new ≡ old)
-      (IsRepairedEndOf (IsDryRepair (frees unowned) contents (take 174849 all) old new)) end))
-
-  -- it was repaired
-  abbrev pub IsRepairedOver : Unowned → Loss → List ℕ → W → W → JobEnd → Type 0
-  IsRepairedOver unowned loss path old new end = OfWritten stands host path
-      (λ all. RunEnds old new end (IsGuarded (take 174849 all) loss (new ≡ old)
-      (IsRepairedEndOf (IsRepairTold (frees unowned) contents (take 174849 all) old new)) end))
-
-  -- it was, or only that was printed
-  abbrev pub IsRepairDoneOver : Effect → Unowned → Loss → List ℕ → W → W → JobEnd → Type 0
-  IsRepairDoneOver Printed unowned loss path old new end = IsRepairShown unowned loss path old new end
-  IsRepairDoneOver Written unowned loss path old new end = IsRepairedOver unowned loss path old new end
-
-  -- its side sectors were built anew, and then it was repaired; or only what that mends was printed
-  abbrev pub AreSidesDoneOver : Effect → Unowned → Loss → List ℕ → W → W → JobEnd → Type 0
-  AreSidesDoneOver Printed unowned loss path old new end = OfImage rights stands host path
-      (λ all. RunEnds old new end (IsJudgedFirst (take 174849 all) loss old new end
-      (IsSidesEnd (frees unowned) contents loss (take 174849 all) old new end)))
-  AreSidesDoneOver Written unowned loss path old new end = OfWritten stands host path
-      (λ all. RunEnds old new end (IsJudgedFirst (take 174849 all) loss old new end
-      (AreSidesWritten (frees unowned) contents (take 174849 all) old new end)))
-
-  -- records of a text were stored in the file of this name
-  abbrev pub AreStoredOver : (image name records : List ℕ) → Columns → Loss → W → W → JobEnd → Type 0
-  AreStoredOver image name records columns loss old new end = IsQuietEnd old new end
-      × OfWritten stands host image (λ all. OfText stands host records (λ text. RunEnds old new end
-      (IsGuarded (take 174849 all) loss (new ≡ old)
-      (IsEndOfRun (IsStoreTold contents (take 174849 all) name (text_in columns text) old new)) end)))
+  -- it was changed, all or nothing, or only what a change would print was printed: this holds of the change or its refusal
+  abbrev pub IsChangeOver : Effect → List ℕ → (List ℕ → Changed → Type 0) → (List ℕ → Why → Type 0) → W → W → JobEnd → Type 0
+  IsChangeOver Written path Is Refuses old new end = RunEnds old new end ((image : List ℕ)
+      × OfWritten stands host path (λ all. image ≡ take 174849 all)
+      × IsChangeEnd contents (Is image) (Refuses image) old new end)
+  IsChangeOver Printed path Is Refuses old new end = RunEnds old new end ((image : List ℕ)
+      × OfImage rights stands host path (λ all. image ≡ take 174849 all)
+      × IsChangeEnd contents (Is image) (Refuses image) old new end)
 
   -- a script was played on the shop of an image, over its file
   abbrev pub IsPlayedOverFile : (image script : List ℕ) → W → W → JobEnd → Type 0
@@ -167,21 +154,30 @@ module _ {H W : Type 0} (rights : Rights H) (stands : H → List ℕ → Stands)
   IsJobOver (jobs.Compare before after) old new end = IsComparedOver before.now after.now old new end
   IsJobOver (jobs.Copy image copy) old new end = IsCopiedFrom image.now old new end
   IsJobOver (jobs.Extract choice image folder) old new end = IsExtractedFrom choice image.now old new end
-  IsJobOver (jobs.Repair image loss unowned effect) old new end =
-      IsRepairDoneOver effect unowned loss image.now old new end
+  IsJobOver (jobs.Repair image loss unowned effect) old new end = IsChangeOver effect image.now
+      (λ bytes. IsRepaired bytes (frees unowned) (shortened loss)) IsRepairRefusal old new end
   IsJobOver (jobs.Format image tills) old new end = IsMakingEnd contents (codes "FORMATTED\n") old new end
   IsJobOver (jobs.FormatNew image tills) old new end = IsMakingEnd contents (codes "FORMATTED\n") old new end
   IsJobOver (jobs.New image name id) old new end = IsMakingEnd contents (codes "FORMATTED\n") old new end
-  IsJobOver (jobs.Make image name size loss) old new end = IsChangeEnd contents (codes "MADE\n") old new end
-  IsJobOver (jobs.Rename image from to) old new end = IsChangeEnd contents (codes "RENAMED\n") old new end
-  IsJobOver (jobs.Delete image name) old new end = IsChangeEnd contents (codes "DELETED\n") old new end
-  IsJobOver (jobs.Put image name file kind) old new end = IsChangeEnd contents (codes "PUT\n") old new end
+  IsJobOver (jobs.Make image name size loss) old new end = IsChangeOver Written image.now
+      (λ bytes. IsMade bytes (name_bytes name) size (shortened loss))
+      (λ bytes. IsMakeRefusal bytes (name_bytes name) (shortened loss)) old new end
+  IsJobOver (jobs.Rename image from to) old new end = IsChangeOver Written image.now
+      (λ bytes. IsRenamed bytes (name_bytes from) (name_bytes to))
+      (λ bytes. IsRenameRefusal bytes (name_bytes from) (name_bytes to)) old new end
+  IsJobOver (jobs.Delete image name) old new end = IsChangeOver Written image.now
+      (λ bytes. IsDeleted bytes (name_bytes name)) (λ bytes. IsDeleteRefusal bytes (name_bytes name)) old new end
+  IsJobOver (jobs.Put image name file kind) old new end = IsChangeByText stands contents host image.now file.now
+      (λ bytes data. IsPut bytes (name_bytes name) kind data)
+      (λ bytes data. IsPutRefusal bytes (name_bytes name) kind data) old new end
   IsJobOver (jobs.Store image records columns loss name) old new end =
-      AreStoredOver image.now (name_bytes name) records.now columns loss old new end
+      IsChangeByText stands contents host image.now records.now
+      (λ bytes text. IsStored bytes (name_bytes name) (text_in columns text) (shortened loss))
+      (λ bytes text. IsStoreRefusal bytes (name_bytes name) (text_in columns text) (shortened loss)) old new end
   IsJobOver (jobs.Play image script) old new end = IsPlayedOverFile image.now script.now old new end
   IsJobOver (jobs.PlaySynced image script) old new end = IsPlayedOverFile image.now script.now old new end
-  IsJobOver (jobs.RepairSides image loss unowned effect) old new end =
-      AreSidesDoneOver effect unowned loss image.now old new end
+  IsJobOver (jobs.RepairSides image loss unowned effect) old new end = IsChangeOver effect image.now
+      (λ bytes. IsRebuilt bytes (frees unowned) (shortened loss)) IsRebuildRefusal old new end
   IsJobOver (jobs.Sheet images) old new end = AreDrawnOnSheet (paths_of images) old new end
   IsJobOver (jobs.Describe images) old new end = AreDescribed (paths_of images) old new end
   IsJobOver (jobs.Several what images) old new end = AreOverviewed what (paths_of images) old new end

@@ -4,6 +4,10 @@ use Rattle.keeper_commands.specs.Makes.{IsNewName}
 use Rattle.ledger_jobs.specs.Names.{name_bytes}
 use Rattle.ledger_jobs.specs.declared.jobs.Job.{Job}
 use Rattle.ledger_jobs.specs.declared.jobs.Job.TheVariants as jobs
+use Rattle.damaged_files.specs.declared.sides.planning.Shortened.{Shortened}
+use Rattle.damaged_files.specs.declared.sides.planning.Shortened.TheVariants as cuts
+use Rattle.ledger_jobs.specs.declared.jobs.Loss.{Loss}
+use Rattle.ledger_jobs.specs.declared.jobs.Loss.TheVariants as losses
 use Rattle.ledger_jobs.specs.declared.jobs.Reading.{Reading}
 use Rattle.ledger_jobs.specs.declared.jobs.Reading.TheVariants as readings
 use Rattle.ledger_jobs.specs.declared.jobs.Unowned.{Unowned}
@@ -30,3 +34,8 @@ needed _ all = take 174849 all
 abbrev pub frees : Unowned → Bool
 frees Kept = false
 frees Freed = true
+
+-- what is done with a file that is cut short, if this is done with what is lost
+abbrev pub shortened : Loss → Shortened
+shortened losses.Refused = cuts.Refused
+shortened losses.Accepted = cuts.Accepted

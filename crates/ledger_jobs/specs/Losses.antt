@@ -4,8 +4,8 @@ use Rattle.d64_image.specs.declared.place.Place.{Place}
 use Rattle.command_faults.specs.declared.faults.CommandFault.{CommandFault}
 use Rattle.damaged_files.specs.cut.Told.{IsCutShort, IsToldOfImage}
 use Rattle.command_faults.specs.declared.faults.CommandFault.TheVariants as faults
-use Rattle.ledger_jobs.specs.Ends.{Ended, JobEnd, as_job, as_repaired, as_run}
-use Rattle.ledger_jobs.specs.Keeping.{IsTaken, IsTakingFault}
+use Rattle.ledger_jobs.specs.Ends.{Ended, JobEnd, as_job, as_run}
+use Rattle.ledger_jobs.specs.Takings.{IsTaken, IsTakingFault}
 use Rattle.ledger_jobs.specs.declared.jobs.Loss.{Loss}
 use Rattle.ledger_jobs.specs.declared.jobs.Loss.TheVariants as losses
 use Rattle.ledger_jobs.specs.declared.jobs.Taking.{Taking}
@@ -46,10 +46,6 @@ IsEndOf IsRun end = (ended : Ended) × (end ≡ as_job ended) × IsRun ended
 -- a run that prints no fault and ended so is reported as this end
 abbrev pub IsEndOfRun : (Result Unit CommandFault → Type 0) → JobEnd → Type 0
 IsEndOfRun IsRun end = (ended : Result Unit CommandFault) × (end ≡ as_run ended) × IsRun ended
-
--- a repair that ended so is reported as this end
-abbrev pub IsRepairedEndOf : (Result ℕ CommandFault → Type 0) → JobEnd → Type 0
-IsRepairedEndOf IsRun end = (ended : Result ℕ CommandFault) × (end ≡ as_repaired ended) × IsRun ended
 
 -- how a taking ends of a file that is cut short there, or isn't
 abbrev pub taken_end : Result Unit CommandFault → Option Place → JobEnd

@@ -12,12 +12,11 @@ use crate::copying::do_copying;
 use crate::descriptions::do_describing;
 use crate::drawing::drawing_run;
 use crate::durable_runs::play_durably;
-use crate::editing::{do_delete, do_rename};
+use crate::editing::{do_delete, do_make, do_rebuild, do_rename, do_repair};
 use crate::extracting::do_extracting;
 use crate::files::{AtPath, Older, script_to_play};
 use crate::image_logs::opened_and_landed;
 use crate::jobs::{Drawing, Findings, Job, Reading, Taking, Way};
-use crate::keeper_files::{do_make, do_repair, do_store};
 use crate::listings::do_listing;
 use crate::locks::own_image;
 use crate::losses::take_told;
@@ -26,14 +25,13 @@ use crate::new_disks::do_new;
 use crate::outcomes::{job_end, over_end, told};
 use crate::overviews::do_several;
 use crate::playing_logs::do_logged_playing;
-use crate::putting::do_put;
+use crate::putting::{do_put, do_store};
 use crate::readings::{do_reading, image_at};
 use crate::refusals::Refusal;
 use crate::reply_lines::ReplyLines;
 use crate::serving_images::do_serving;
 use crate::serving_logs::do_logged_serving;
 use crate::sheets::do_sheet;
-use crate::side_repairs::do_repair_sides;
 use crate::viewing::do_viewing;
 use command_faults::CommandFault;
 use disk_layout::Fault;
@@ -141,9 +139,8 @@ where
 ///
 /// `InUse` if another program has the image; `Log` if its log gives no image; `File` if a file couldn't be opened or
 /// read. The other faults are those of `reading_run`, `format_image`, `new_run`, `play_durably`, `play_logged`,
-/// `serve_guarded`, `serve_logged_guarded`, `copy_run`, `repair_guarded`, `rebuild_image`, `make_guarded`, `rename_guarded`,
-/// `delete_guarded`, `put_guarded`, `store_guarded`, `take_told`, `extract_run`, `listing_run`, `drawing_run`,
-/// `comparing_run` and `view_image`. `Trim` ends with `File`, since it reports on standard error: call `do_trim`. What is
+/// `serve_guarded`, `serve_logged_guarded`, `copy_run`, `change_image`, `show_change`, `take_told`, `extract_run`,
+/// `listing_run`, `drawing_run`, `comparing_run` and `view_image`. `Trim` ends with `File`, since it reports on standard error: call `do_trim`. What is
 /// wrong with one of several images is printed; only a failed output ends the job before the last of them.
 pub fn do_job<F, R, W>(rt: &R, job: &Job<'_>, out: &mut W) -> Result<Option<Fault>, Refusal>
 where
@@ -200,7 +197,7 @@ where
             loss,
             unowned,
             effect,
-        } => do_repair_sides(rt, image, unowned, effect, loss, out),
+        } => do_rebuild(rt, image, unowned, effect, loss, out),
         Job::Make {
             image,
             ref name,

@@ -1,92 +1,28 @@
-//! A file of an image renamed or deleted, unless a file is cut short or that one is a shop's.
-ghost use Rattle.std.specs.Prelude.{◌≤◌, codes, length};
-ghost use Rattle.d64_image.specs.Keeps.{Agrees};
-ghost use Rattle.d64_image.specs.Memory.{sectors_in};
-ghost use Rattle.shop_commands.specs.Plays.{IsUntouched};
+//! What changes files of the image at a path.
+ghost use Rattle.disk_changes.specs.Deletes.{IsDeleteRefusal, IsDeleted};
+ghost use Rattle.disk_changes.specs.Makes.{IsMade, IsMakeRefusal};
+ghost use Rattle.disk_changes.specs.Rebuilds.{IsRebuildRefusal, IsRebuilt};
+ghost use Rattle.disk_changes.specs.Renames.{IsRenameRefusal, IsRenamed};
+ghost use Rattle.disk_changes.specs.Repairs.{IsRepairRefusal, IsRepaired};
 ghost use Rattle.keeper_commands.specs.Makes.{IsNewName};
-ghost use Rattle.ledger_jobs.specs.Changes.{IsChangeEnd};
-ghost use Rattle.ledger_jobs.specs.Edited.{IsDeleteOver, IsRenameOver};
-ghost use Rattle.ledger_jobs.specs.EditRefusals.{IsEditEnd, IsEditJudged};
+ghost use Rattle.ledger_jobs.specs.JobRuns.{IsChangeOver};
+ghost use Rattle.ledger_jobs.specs.Jobs.{frees, shortened as shortened_of};
 ghost use Rattle.ledger_jobs.specs.Names.{name_bytes};
-ghost use Rattle.ledger_jobs.specs.Rights.{MayChangeImage};
+ghost use Rattle.ledger_jobs.specs.Rights.{MayChangeImage, MayRepair};
+ghost use Rattle.ledger_jobs.specs.declared.jobs.Effect.TheVariants.{Written};
+ghost use Rattle.rel_records.specs.File.{IsLength};
 
-use crate::edit_runs::{delete_run, rename_run};
-use crate::jobs::Loss;
-use crate::keeper_files::image_to_keep;
-use crate::losses::loss_refusal;
+use crate::changing::do_change;
+use crate::jobs::{Effect, Loss, Unowned};
 use crate::names::Name;
-use crate::outcomes::run_end;
 use crate::refusals::Refusal;
-use d64_image::SectorFile;
+use disk_changes::Change;
 use disk_layout::Fault;
 use image_file::{EndedFile, HostFiles, Locks};
-use keeper_commands::has_shop_file;
-use std::alloc::Global;
 use std::fs::OpenFile;
-use std::io::Write;
+use std::io::{Read, Write};
 
-/// Why the entry of this name isn't changed: `Short` if a file of the image is cut short, `ShopFile` if the file of the name
-/// is one of a shop's two. It is also a refusal that there was no memory to see that, or that the image has another size.
-fn edit_refusal(alloc: Global, image: &[u8], name: &[u8]) -> Option<Refusal>
-    ensures { IsEditJudged image.now name.now result }
-{
-    if let Some(refusal) = loss_refusal(alloc, image, Loss::Refused) {
-        return Some(refusal);
-    }
-    match has_shop_file(alloc, image, name) {
-        Ok(false) => None,
-        Ok(true) => Some(Refusal::ShopFile),
-        Err(fault) => Some(Refusal::Fault(fault)),
-    }
-}
-
-/// Renames a file on the disk of the image that the file keeps, as `rename_run` does. It is refused if a file of the disk
-/// is cut short (`Short`), or if the file to be renamed is one of a shop's two (`ShopFile`). Then nothing was printed or
-/// changed.
-pub fn rename_guarded<F: SectorFile, W: Write>(
-    alloc: Global,
-    image: &[u8],
-    from: &[u8],
-    to: &[u8],
-    file: F,
-    out: &mut W,
-) -> (F, Result<Option<Fault>, Refusal>)
-    requires to { length to.now ≤ 16 }
-    // if it is known what the file keeps, it is this image
-    requires agrees { Agrees (F.keeps.kept file) (sectors_in image.now) }
-    ensures { IsEditEnd image.now from.now (IsUntouched file result.0 out.old out.new)
-        (IsRenameOver F.keeps W.contents image.now from.now to.now file result.0 out.old out.new) result.1 }
-{
-    if let Some(refusal) = edit_refusal(alloc, image, from) {
-        return (file, Err(refusal));
-    }
-    let (left, ended) = rename_run(alloc, image, from, to, file, out);
-    (left, run_end(ended))
-}
-
-/// Deletes a file on the disk of the image that the file keeps, as `delete_run` does. It is refused if a file of the disk
-/// is cut short (`Short`), or if the file to be deleted is one of a shop's two (`ShopFile`). Then nothing was printed or
-/// changed.
-pub fn delete_guarded<F: SectorFile, W: Write>(
-    alloc: Global,
-    image: &[u8],
-    name: &[u8],
-    file: F,
-    out: &mut W,
-) -> (F, Result<Option<Fault>, Refusal>)
-    // if it is known what the file keeps, it is this image
-    requires agrees { Agrees (F.keeps.kept file) (sectors_in image.now) }
-    ensures { IsEditEnd image.now name.now (IsUntouched file result.0 out.old out.new)
-        (IsDeleteOver F.keeps W.contents image.now name.now file result.0 out.old out.new) result.1 }
-{
-    if let Some(refusal) = edit_refusal(alloc, image, name) {
-        return (file, Err(refusal));
-    }
-    let (left, ended) = delete_run(alloc, image, name, file, out);
-    (left, run_end(ended))
-}
-
-/// Renames a file of the image at a path, over its file.
+/// Renames a file of the image at a path.
 pub(crate) fn do_rename<F, R, W>(
     rt: &R,
     path: &str,
@@ -95,20 +31,20 @@ pub(crate) fn do_rename<F, R, W>(
     out: &mut W,
 ) -> Result<Option<Fault>, Refusal>
 where
-    F: EndedFile + Locks + OpenFile + Drop,
-    R: HostFiles<File = F> + AllocGlobal,
+    F: EndedFile + Read + Locks + OpenFile + Drop,
+    R: HostFiles<File = F> + Input + AllocGlobal,
     W: Write,
     requires image { MayChangeImage R.rights rt.now path.now }
     requires to { IsNewName (name_bytes to.now) }
-    ensures { IsChangeEnd W.contents (codes "RENAMED\n") out.old out.new result }
+    ensures { IsChangeOver R.rights R.stands W.contents rt.now Written path.now
+        (λ image. IsRenamed image (name_bytes from.now) (name_bytes to.now))
+        (λ image. IsRenameRefusal image (name_bytes from.now) (name_bytes to.now)) out.old out.new result }
 {
-    let (image, file) = image_to_keep(rt, path)?;
     let (from, to) = (from.as_bytes(), to.as_bytes());
-    let (_, ended) = rename_guarded(rt.alloc(), image.as_slice(), from, to, file, out);
-    ended
+    do_change(rt, path, &Change::Rename { from, to }, Effect::Written, out)
 }
 
-/// Deletes a file of the image at a path, over its file.
+/// Deletes a file of the image at a path.
 pub(crate) fn do_delete<F, R, W>(
     rt: &R,
     path: &str,
@@ -116,13 +52,86 @@ pub(crate) fn do_delete<F, R, W>(
     out: &mut W,
 ) -> Result<Option<Fault>, Refusal>
 where
-    F: EndedFile + Locks + OpenFile + Drop,
-    R: HostFiles<File = F> + AllocGlobal,
+    F: EndedFile + Read + Locks + OpenFile + Drop,
+    R: HostFiles<File = F> + Input + AllocGlobal,
     W: Write,
     requires image { MayChangeImage R.rights rt.now path.now }
-    ensures { IsChangeEnd W.contents (codes "DELETED\n") out.old out.new result }
+    ensures { IsChangeOver R.rights R.stands W.contents rt.now Written path.now
+        (λ image. IsDeleted image (name_bytes name.now))
+        (λ image. IsDeleteRefusal image (name_bytes name.now)) out.old out.new result }
 {
-    let (image, file) = image_to_keep(rt, path)?;
-    let (_, ended) = delete_guarded(rt.alloc(), image.as_slice(), name.as_bytes(), file, out);
-    ended
+    let name = name.as_bytes();
+    do_change(rt, path, &Change::Delete { name }, Effect::Written, out)
+}
+
+/// Makes a relative file in the image at a path.
+pub(crate) fn do_make<F, R, W>(
+    rt: &R,
+    path: &str,
+    name: &Name,
+    length: u8,
+    loss: Loss,
+    out: &mut W,
+) -> Result<Option<Fault>, Refusal>
+where
+    F: EndedFile + Read + Locks + OpenFile + Drop,
+    R: HostFiles<File = F> + Input + AllocGlobal,
+    W: Write,
+    requires image { MayChangeImage R.rights rt.now path.now }
+    requires name { IsNewName (name_bytes name.now) }
+    requires length { IsLength length }
+    ensures { IsChangeOver R.rights R.stands W.contents rt.now Written path.now
+        (λ image. IsMade image (name_bytes name.now) length (shortened_of loss))
+        (λ image. IsMakeRefusal image (name_bytes name.now) (shortened_of loss)) out.old out.new result }
+{
+    let (name, cut) = (name.as_bytes(), loss.shortened());
+    do_change(
+        rt,
+        path,
+        &Change::Make { name, length, cut },
+        Effect::Written,
+        out,
+    )
+}
+
+/// Repairs the image at a path, or only prints what that would mend.
+pub(crate) fn do_repair<F, R, W>(
+    rt: &R,
+    path: &str,
+    unowned: Unowned,
+    effect: Effect,
+    loss: Loss,
+    out: &mut W,
+) -> Result<Option<Fault>, Refusal>
+where
+    F: EndedFile + Read + Locks + OpenFile + Drop,
+    R: HostFiles<File = F> + Input + AllocGlobal,
+    W: Write,
+    requires image { MayRepair R.rights rt.now effect path.now }
+    ensures { IsChangeOver R.rights R.stands W.contents rt.now effect path.now
+        (λ image. IsRepaired image (frees unowned) (shortened_of loss)) IsRepairRefusal out.old out.new result }
+{
+    let (free, cut) = (unowned.is_freed(), loss.shortened());
+    do_change(rt, path, &Change::Repair { free, cut }, effect, out)
+}
+
+/// The same, once the side sectors of the image are built anew.
+pub(crate) fn do_rebuild<F, R, W>(
+    rt: &R,
+    path: &str,
+    unowned: Unowned,
+    effect: Effect,
+    loss: Loss,
+    out: &mut W,
+) -> Result<Option<Fault>, Refusal>
+where
+    F: EndedFile + Read + Locks + OpenFile + Drop,
+    R: HostFiles<File = F> + Input + AllocGlobal,
+    W: Write,
+    requires image { MayRepair R.rights rt.now effect path.now }
+    ensures { IsChangeOver R.rights R.stands W.contents rt.now effect path.now
+        (λ image. IsRebuilt image (frees unowned) (shortened_of loss)) IsRebuildRefusal out.old out.new result }
+{
+    let (free, cut) = (unowned.is_freed(), loss.shortened());
+    do_change(rt, path, &Change::Rebuild { free, cut }, effect, out)
 }

@@ -1,8 +1,9 @@
 //! What the program can be asked to do.
 ghost use Rattle.std.specs.Prelude.{◌≡◌};
-ghost use Rattle.ledger_jobs.specs.Jobs.{frees};
+ghost use Rattle.ledger_jobs.specs.Jobs.{frees, shortened as shortened_of};
 
 use crate::names::Name;
+use damaged_files::Shortened;
 use disk_pictures::View;
 use disk_reports::NameForm;
 use file_changes::FileType;
@@ -89,6 +90,18 @@ pub enum Loss {
     Accepted,
 }
 
+impl Loss {
+    /// The same, of a file that is cut short.
+    pub fn shortened(self) -> Shortened
+        ensures { result ≡ shortened_of self }
+    {
+        match self {
+            Loss::Refused => Shortened::Refused,
+            Loss::Accepted => Shortened::Accepted,
+        }
+    }
+}
+
 /// What a repair does with the sectors that the map calls taken and that no file owns.
 #[derive(Clone, Copy, Debug, PartialEq, Eq)]
 pub enum Unowned {
@@ -100,7 +113,7 @@ pub enum Unowned {
 
 impl Unowned {
     /// Whether they become free.
-    pub(crate) fn is_freed(self) -> bool
+    pub fn is_freed(self) -> bool
         ensures { result ≡ frees self }
     {
         match self {

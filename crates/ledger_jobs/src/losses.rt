@@ -1,32 +1,24 @@
-//! What a disk has lost of its files: it is looked for before a job changes the disk, and reported if a file is taken
-//! out.
+//! What a disk has lost of its files: it is looked for before a shop is served, and reported if a file is taken out.
 ghost use Rattle.std.specs.Prelude.{◌≡◌, IfErr, IfOk, IfSome, option_map, take};
-ghost use Rattle.d64_image.specs.Keeps.{Agrees};
-ghost use Rattle.d64_image.specs.Memory.{sectors_in};
-ghost use Rattle.keeper_commands.specs.Makes.{IsNewName};
 ghost use Rattle.image_file.specs.Durable.{IsSynced};
 ghost use Rattle.image_file.specs.ImageFile.{placed};
-ghost use Rattle.shop_commands.specs.Plays.{IsUntouched};
 ghost use Rattle.command_faults.specs.declared.faults.CommandFault.TheVariants.{NoMemory};
 ghost use Rattle.ledger_jobs.specs.DurableRuns.{IsDurableRun};
 ghost use Rattle.ledger_jobs.specs.FileServes.{IsUnserved};
-ghost use Rattle.ledger_jobs.specs.Keeping.{IsDryRepair, IsRepairOver};
-ghost use Rattle.ledger_jobs.specs.Kept.{IsMakeOver, IsStoreOver};
-ghost use Rattle.ledger_jobs.specs.Losses.{IsEndOf, IsEndOfRun, IsGuarded, IsJudged, IsRepairedEndOf, IsSeen};
+ghost use Rattle.ledger_jobs.specs.Losses.{IsEndOf, IsEndOfRun, IsGuarded, IsJudged, IsSeen};
 ghost use Rattle.ledger_jobs.specs.Losses.{IsTakingEnd, taken_end};
 ghost use Rattle.ledger_jobs.specs.LoggedRuns.{IsLoggedRun, IsUnlogged};
 ghost use Rattle.ledger_jobs.specs.Serves.{IsServeRun};
 ghost use Rattle.ledger_jobs.specs.declared.refusals.Refusal.TheVariants as refusals;
-ghost use Rattle.rel_records.specs.File.{IsLength};
 
 use crate::durable_runs::serve_durably;
 use crate::jobs::{Loss, Taking};
-use crate::keeper_runs::{dry_repair_run, make_run, repair_run, store_run, taking_run};
 use crate::logged_runs::serve_logged;
-use crate::outcomes::{job_end, repaired_end, run_end};
+use crate::outcomes::{job_end, run_end};
 use crate::refusals::Refusal;
+use crate::takings::taking_run;
 use command_faults::CommandFault;
-use d64_image::{ImageFault, KeptMirror, Place, SectorFile};
+use d64_image::{ImageFault, KeptMirror, Place};
 use damaged_files::find_image_cut;
 use disk_layout::Fault;
 use image_file::{Durability, ImageFile, WritesAt};
@@ -115,95 +107,6 @@ pub fn serve_logged_guarded<L: ImageLog, R: BatchSource, T: Reports<L>>(
         return Err(refusal);
     }
     run_end(serve_logged(alloc, image, log, input, out))
-}
-
-/// Repairs the disk of the image that the file keeps, as `repair_run` does. If a file of it is cut short and no loss is
-/// accepted, the error is `Short`, and nothing was printed or changed.
-pub fn repair_guarded<F: SectorFile, W: Write>(
-    alloc: Global,
-    image: &[u8],
-    free: bool,
-    file: F,
-    loss: Loss,
-    out: &mut W,
-) -> (F, Result<Option<Fault>, Refusal>)
-    // if it is known what the file keeps, it is this image
-    requires agrees { Agrees (F.keeps.kept file) (sectors_in image.now) }
-    ensures { IsGuarded image.now loss (IsUntouched file result.0 out.old out.new)
-        (IsRepairedEndOf (IsRepairOver free F.keeps W.contents image.now file result.0 out.old out.new)) result.1 }
-{
-    if let Some(refusal) = loss_refusal(alloc, image, loss) {
-        return (file, Err(refusal));
-    }
-    let (left, ended) = repair_run(alloc, image, free, file, out);
-    (left, repaired_end(ended))
-}
-
-/// Repairs a copy of the image in memory, as `dry_repair_run` does. If a file of it is cut short and no loss is accepted,
-/// the error is `Short`, and nothing was printed.
-pub fn dry_repair_guarded<W: Write>(
-    alloc: Global,
-    image: &[u8],
-    free: bool,
-    loss: Loss,
-    out: &mut W,
-) -> Result<Option<Fault>, Refusal>
-    ensures { IsGuarded image.now loss (out.new ≡ out.old)
-        (IsRepairedEndOf (IsDryRepair free W.contents image.now out.old out.new)) result }
-{
-    if let Some(refusal) = loss_refusal(alloc, image, loss) {
-        return Err(refusal);
-    }
-    repaired_end(dry_repair_run(alloc, image, free, out))
-}
-
-/// Makes a relative file on the disk of the image that the file keeps, as `make_run` does. If a file of the image is cut
-/// short and no loss is accepted, the error is `Short`, and nothing was printed or changed.
-pub fn make_guarded<F: SectorFile, W: Write>(
-    alloc: Global,
-    image: &[u8],
-    name: &[u8],
-    length: u8,
-    file: F,
-    loss: Loss,
-    out: &mut W,
-) -> (F, Result<Option<Fault>, Refusal>)
-    requires name { IsNewName name.now }
-    requires length { IsLength length }
-    // if it is known what the file keeps, it is this image
-    requires agrees { Agrees (F.keeps.kept file) (sectors_in image.now) }
-    ensures { IsGuarded image.now loss (IsUntouched file result.0 out.old out.new)
-        (IsEndOfRun (IsMakeOver F.keeps W.contents image.now name.now length file result.0 out.old out.new)) result.1 }
-{
-    if let Some(refusal) = loss_refusal(alloc, image, loss) {
-        return (file, Err(refusal));
-    }
-    let (left, ended) = make_run(alloc, image, name, length, file, out);
-    (left, run_end(ended))
-}
-
-/// Stores records on the disk of the image that the file keeps, as `store_run` does. If a file of it is cut short and no
-/// loss is accepted, the error is `Short`, and nothing was printed or changed.
-pub fn store_guarded<F: SectorFile, W: Write>(
-    alloc: Global,
-    image: &[u8],
-    name: &[u8],
-    text: &[u8],
-    file: F,
-    loss: Loss,
-    out: &mut W,
-) -> (F, Result<Option<Fault>, Refusal>)
-    // if it is known what the file keeps, it is this image
-    requires agrees { Agrees (F.keeps.kept file) (sectors_in image.now) }
-    ensures { IsGuarded image.now loss (IsUntouched file result.0 out.old out.new)
-        (IsEndOfRun (IsStoreOver F.keeps W.contents image.now name.now text.now file result.0 out.old out.new))
-        result.1 }
-{
-    if let Some(refusal) = loss_refusal(alloc, image, loss) {
-        return (file, Err(refusal));
-    }
-    let (left, ended) = store_run(alloc, image, name, text, file, out);
-    (left, run_end(ended))
 }
 
 /// How a taking ended of a file that is cut short there, or isn't.

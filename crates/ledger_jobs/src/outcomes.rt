@@ -2,7 +2,7 @@
 ghost use Rattle.std.specs.Prelude.{◌≡◌};
 ghost use Rattle.std.specs.Io.KnownBytes.{Keeps};
 ghost use Rattle.ledger_jobs.specs.EachImage.{IsSeveralEnd};
-ghost use Rattle.ledger_jobs.specs.Ends.{IsEndOver, as_job, as_repaired, as_run, told_of};
+ghost use Rattle.ledger_jobs.specs.Ends.{IsEndOver, as_job, as_run, told_of};
 
 use crate::refusals::Refusal;
 use command_faults::CommandFault;
@@ -50,17 +50,6 @@ pub(crate) fn over_end(
     match (ended, refused) {
         (Err(CommandFault::File), Some(refusal)) => Err(refusal),
         (ended, _) => run_end(ended),
-    }
-}
-
-/// What came of a repair, as a job's end: so many sectors are left.
-pub(crate) fn repaired_end(ended: Result<u16, CommandFault>) -> Result<Option<Fault>, Refusal>
-    ensures { result ≡ as_repaired ended }
-{
-    match ended {
-        Ok(0) => Ok(None),
-        Ok(left) => Err(Refusal::Kept(left)),
-        Err(why) => Err(Refusal::Fault(why)),
     }
 }
 

@@ -1,58 +1,32 @@
-//! A file put on the disk of an image, unless a file of it is cut short.
-ghost use Rattle.std.specs.Prelude.{◌≤◌, codes, length};
-ghost use Rattle.d64_image.specs.Keeps.{Agrees};
-ghost use Rattle.d64_image.specs.Memory.{sectors_in};
-ghost use Rattle.shop_commands.specs.Plays.{IsUntouched};
+//! What changes files of the image at a path by the bytes of another file.
+ghost use Rattle.std.specs.Prelude.{◌≡◌, IfErr, IfOk, vec_items};
+ghost use Rattle.command_faults.specs.declared.faults.CommandFault.TheVariants.{NoMemory};
+ghost use Rattle.disk_changes.specs.Puts.{IsPut, IsPutRefusal};
+ghost use Rattle.disk_changes.specs.Stores.{IsStoreRefusal, IsStored};
 ghost use Rattle.keeper_commands.specs.Makes.{IsNewName};
-ghost use Rattle.ledger_jobs.specs.Changes.{IsChangeEnd};
-ghost use Rattle.ledger_jobs.specs.Losses.{IsEndOfRun, IsGuarded};
+ghost use Rattle.ledger_jobs.specs.Columns.{text_in};
+ghost use Rattle.ledger_jobs.specs.JobRuns.{IsChangeByText};
+ghost use Rattle.ledger_jobs.specs.Jobs.{shortened as shortened_of};
 ghost use Rattle.ledger_jobs.specs.Names.{name_bytes};
-ghost use Rattle.ledger_jobs.specs.Puts.{IsPutOver};
-ghost use Rattle.ledger_jobs.specs.declared.jobs.Loss.TheVariants as losses;
 ghost use Rattle.ledger_jobs.specs.Rights.{MayChangeImage, MayReadText};
+ghost use Rattle.ledger_jobs.specs.declared.refusals.Refusal.TheVariants as refusals;
 
-use crate::edit_runs::put_run;
-use crate::files::script_at;
-use crate::jobs::Loss;
-use crate::keeper_files::image_to_keep;
-use crate::losses::loss_refusal;
+use crate::changing::{change_taken, image_to_change};
+use crate::files::script_to_play;
+use crate::jobs::{Columns, Loss};
 use crate::names::Name;
-use crate::outcomes::{run_end, told};
 use crate::refusals::Refusal;
-use d64_image::SectorFile;
+use command_faults::CommandFault;
+use disk_changes::Change;
 use disk_layout::Fault;
 use file_changes::FileType;
 use image_file::{EndedFile, HostFiles, Locks};
+use keeper_commands::plain_lines;
 use std::alloc::Global;
 use std::fs::OpenFile;
 use std::io::{Read, Write};
 
-/// Puts a file on the disk of the image that the file keeps, as `put_run` does. If a file of the disk is cut short, the
-/// error is `Short`, and nothing was printed or changed.
-pub fn put_guarded<F: SectorFile, W: Write>(
-    alloc: Global,
-    image: &[u8],
-    name: &[u8],
-    kind: FileType,
-    content: &[u8],
-    file: F,
-    out: &mut W,
-) -> (F, Result<Option<Fault>, Refusal>)
-    requires name { length name.now ≤ 16 }
-    // if it is known what the file keeps, it is this image
-    requires agrees { Agrees (F.keeps.kept file) (sectors_in image.now) }
-    ensures { IsGuarded image.now losses.Refused (IsUntouched file result.0 out.old out.new)
-        (IsEndOfRun (IsPutOver F.keeps W.contents image.now name.now kind content.now file result.0 out.old out.new))
-        result.1 }
-{
-    if let Some(refusal) = loss_refusal(alloc, image, Loss::Refused) {
-        return (file, Err(refusal));
-    }
-    let (left, ended) = put_run(alloc, image, name, kind, content, file, out);
-    (left, run_end(ended))
-}
-
-/// Puts the bytes of the file at a path, or of standard input, on the disk of the image at another, over its file.
+/// Puts the bytes of the file at a path, or of standard input, on the disk of the image at another.
 pub(crate) fn do_put<F, R, W>(
     rt: &R,
     path: &str,
@@ -68,11 +42,60 @@ where
     requires image { MayChangeImage R.rights rt.now path.now }
     requires file { MayReadText R.rights rt.now source.now }
     requires name { IsNewName (name_bytes name.now) }
-    ensures { IsChangeEnd W.contents (codes "PUT\n") out.old out.new result }
+    ensures { IsChangeByText R.stands W.contents rt.now path.now source.now
+        (λ image bytes. IsPut image (name_bytes name.now) kind bytes)
+        (λ image bytes. IsPutRefusal image (name_bytes name.now) kind bytes) out.old out.new result }
 {
-    let (image, file) = image_to_keep(rt, path)?;
-    let content = told(script_at(rt, source))?;
-    let (image, name, content) = (image.as_slice(), name.as_bytes(), content.as_slice());
-    let (_, ended) = put_guarded(rt.alloc(), image, name, kind, content, file, out);
-    ended
+    let (image, file) = image_to_change(rt, path)?;
+    let data = script_to_play(rt, source)?;
+    let (name, content) = (name.as_bytes(), data.as_slice());
+    let what = Change::Put {
+        name,
+        kind,
+        content,
+    };
+    change_taken(rt, path, image.as_slice(), file, &what, out)
+}
+
+/// The text with one column for each record. `NoMemory` if there was none for it.
+fn one_column(alloc: Global, columns: Columns, text: Vec<u8>) -> Result<Vec<u8>, Refusal>
+    ensures ok { IfOk result (λ plain. vec_items plain ≡ text_in columns (vec_items text)) }
+    ensures err { IfErr result (λ refusal. refusal ≡ refusals.Fault NoMemory) }
+{
+    match columns {
+        Columns::One => Ok(text),
+        Columns::Several(form) => match plain_lines(alloc, form, text.as_slice()) {
+            Ok(plain) => Ok(plain),
+            Err(_) => Err(Refusal::Fault(CommandFault::NoMemory)),
+        },
+    }
+}
+
+/// Stores the records of the text at a path in a relative file of the image at another.
+pub(crate) fn do_store<F, R, W>(
+    rt: &R,
+    path: &str,
+    name: &Name,
+    records: &str,
+    columns: Columns,
+    loss: Loss,
+    out: &mut W,
+) -> Result<Option<Fault>, Refusal>
+where
+    F: EndedFile + Read + Locks + OpenFile + Drop,
+    R: HostFiles<File = F> + Input + AllocGlobal,
+    W: Write,
+    requires image { MayChangeImage R.rights rt.now path.now }
+    requires records { MayReadText R.rights rt.now records.now }
+    ensures { IsChangeByText R.stands W.contents rt.now path.now records.now
+        (λ image bytes. IsStored image (name_bytes name.now) (text_in columns bytes) (shortened_of loss))
+        (λ image bytes. IsStoreRefusal image (name_bytes name.now) (text_in columns bytes) (shortened_of loss))
+        out.old out.new result }
+{
+    let (image, file) = image_to_change(rt, path)?;
+    let records = script_to_play(rt, records)?;
+    let lines = one_column(rt.alloc(), columns, records)?;
+    let (name, text, cut) = (name.as_bytes(), lines.as_slice(), loss.shortened());
+    let what = Change::Store { name, text, cut };
+    change_taken(rt, path, image.as_slice(), file, &what, out)
 }

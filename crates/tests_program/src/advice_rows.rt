@@ -56,4 +56,5 @@ person ledger_cli repair a.d64
 tells DEVICE|ledger: a.d64: other error; copy it to another medium, check the copy, and go on there|
 ends 3
 written
+logged
 ";

@@ -14,8 +14,8 @@ fn rows_hold(rt: HostRuntime) {
     hold(&rt, &ROWS);
 }
 
-/// A file that is renamed: sixteen bytes of its entry. Each sector is brought to the disk before the next is written, and
-/// all before the first byte is read.
+/// A file that is renamed: sixteen bytes of its entry. All is brought to the disk before the
+/// first byte is read, and the new image before its log is removed.
 const RENAMED: &[u8] = b"
 # CARDS has the third entry of 18/1. The new name is in its place.
 $ ledger_cli make a.d64 CARDS --length 30
@@ -44,6 +44,7 @@ $ ledger_cli rename a.d64 CARDS 'OLD CARDS'
 tells DEVICE|
 ends 3
 rewritten
+logged
 
 # A wrong map is no matter of names; a chain without an end is.
 hurt WRONG MAP

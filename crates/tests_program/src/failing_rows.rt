@@ -34,6 +34,7 @@ $ ledger_cli store a.d64 CARDS s.txt
 tells DEVICE|
 ends 3
 written
+logged
 syncs 2
 ";
 
@@ -52,6 +53,7 @@ $ ledger_cli repair a.d64
 tells DEVICE|
 ends 3
 rewritten
+logged
 size 174848
 
 hurt COUNT
@@ -62,6 +64,7 @@ $ ledger_cli repair a.d64
 tells DEVICE|
 ends 3
 written
+logged
 size 174848
 
 script 8,EGGS\r|2,\"MILK\\0d\"|
@@ -70,6 +73,7 @@ $ ledger_cli make a.d64 OTHER --length 30
 tells DEVICE|
 ends 3
 written
+logged
 size 174848
 
 script 8,EGGS\r|2,\"MILK\\0d\"|
@@ -78,6 +82,7 @@ $ ledger_cli store a.d64 CARDS s.txt
 tells DEVICE|
 ends 3
 rewritten
+logged
 size 174848
 ";
 

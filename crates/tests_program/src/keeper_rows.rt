@@ -14,7 +14,7 @@ fn rows_hold(rt: HostRuntime) {
     hold(&rt, &ROWS);
 }
 
-/// Images that are repaired: each sector is synced before the next is written, and before the first is read.
+/// Images that are repaired: what is there is synced before it is read, and what is mended all at once.
 const REPAIRED: &[u8] = b"
 $ ledger_cli repair a.d64
 prints OK|
@@ -37,8 +37,7 @@ hurt WRONG MAP
 $ ledger_cli repair a.d64
 prints MENDED 18/0|MENDED 18/1|OK|
 leaves the shop
-synced
-syncs 3
+syncs 2
 reads-behind 1 sync
 size 174848
 
@@ -67,8 +66,8 @@ sync 2 fails
 $ ledger_cli repair a.d64
 tells DEVICE|
 ends 3
-leaves another
-synced
+leaves the shop
+logged
 syncs 2
 reads-behind 1 sync
 size 174848
@@ -99,8 +98,7 @@ hurt UNOWNED
 $ ledger_cli repair --free a.d64
 prints FREED 2/5|MENDED 18/0|MENDED 18/1|OK|
 leaves the shop
-synced
-syncs 3
+syncs 2
 reads-behind 1 sync
 
 hurt UNOWNED

@@ -13,7 +13,7 @@ fn rows_hold(rt: HostRuntime) {
     hold(&rt, &ROWS);
 }
 
-/// A program of two bytes: its sector, the map and the directory are written, each synced before the next.
+/// A program of two bytes: its sector, the map and the directory are written, and synced together.
 const PUT: &[u8] = b"
 hurt HI IN 17/4
 hurt 17/4 TAKEN
@@ -25,8 +25,7 @@ script HI
 $ ledger_cli put a.d64 HI s.txt --type prg
 prints PUT|
 leaves the one aside
-synced
-syncs 4
+syncs 2
 reads-behind 1 sync
 $ ledger_cli bytes a.d64 HI
 prints HI
@@ -70,12 +69,13 @@ $ ledger_cli put a.d64 HI s.txt --type prg
 tells SHORT 17/0|
 ends 1
 
-# The second of four syncs fails: the file isn't there yet.
+# The image can't be synced once it is written: its log stays.
 sync 2 fails
 $ ledger_cli put a.d64 HI s.txt --type prg
 tells DEVICE|
 ends 3
 written
+logged
 ";
 
 /// Words that ask for a file to be put there, and words of which one is no type or no name.

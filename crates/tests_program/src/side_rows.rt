@@ -12,7 +12,7 @@ fn rows_hold(rt: HostRuntime) {
     hold(&rt, &ROWS);
 }
 
-/// Images that are repaired: each sector is synced before the next is written, and before the first is read. Then those
+/// Images that are repaired: what is there is synced before it is read, and what is mended all at once. Then those
 /// that are refused. They have a loop, or a file that was cut short: its entry counts two blocks more than there are, and
 /// the repair may accept that, or its block has zeros alone.
 const WRITTEN: &[u8] = b"
@@ -43,8 +43,7 @@ hurt WRONG MAP
 $ ledger_cli repair a.d64 --sides
 prints MENDED 17/1|MENDED 18/0|OK|
 leaves the shop
-synced
-syncs 3
+syncs 2
 reads-behind 1 sync
 
 $ ledger_cli repair --sides a.d64
@@ -75,8 +74,7 @@ hurt MORE COUNTED
 $ ledger_cli repair --sides --accept-loss a.d64
 prints MENDED 17/1|MENDED 18/1|OK|
 leaves the shop
-synced
-syncs 3
+syncs 2
 reads-behind 1 sync
 
 hurt STOCK LOST
@@ -102,7 +100,7 @@ $ ledger_cli repair --sides a.d64
 tells DEVICE|
 ends 3
 leaves the shop
-synced
+logged
 syncs 2
 reads-behind 1 sync
 

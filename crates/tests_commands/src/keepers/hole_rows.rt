@@ -115,10 +115,10 @@ fn many_records_are_printed_once(rt: HostRuntime) {
 
 /// Checks that a file with records of so many bytes is made.
 fn is_made(rt: &(impl Abort + AllocGlobal), blank: &MemDisk, length: u8) {
-    let mut out = Vec::new(rt.alloc());
-    let (ended, _) = made(rt, blank.bytes(), b"CARDS", length, &mut out);
-    is_told(rt, ended, "");
-    same_at(rt, out.as_slice(), b"MADE\n".as_slice(), length);
+    match made(rt, blank.bytes(), b"CARDS", length) {
+        Ok(after) => same_at(rt, after.text.as_slice(), b"MADE\n".as_slice(), length),
+        Err(_) => panic!(rt; "a file of {length} bytes a record isn't made"),
+    }
 }
 
 #[test]

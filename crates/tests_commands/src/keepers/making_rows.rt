@@ -1,13 +1,12 @@
 //! Files made on the blank disk for two tills, with the bytes that the layout of a directory asks for, and what is
 //! refused.
 use crate::comparing::same_at;
-use crate::files::Full;
-use crate::keepers::disks::{Change, changed, loaded, with_record};
+use crate::keepers::disks::{Change, changed, with_record};
 use crate::runs::is_told;
-use command_faults::CommandFault;
 use d64_image::{MemDisk, Place, Sectors};
-use keeper_commands::{is_new_name, make_image};
-use std::io::Write;
+use damaged_files::Shortened;
+use disk_changes::{Changed, Why, change};
+use keeper_commands::is_new_name;
 use std::process::Abort;
 
 /// Names, and whether a new file can have them: no byte, sixteen, seventeen, a shifted space at the end and within.
@@ -25,21 +24,23 @@ static NAMES: [(&[u8], bool); 6] = [
 static SLOT: &[u8; 32] =
     b"\0\0\x84\x11\x04ADD\xC1\xA0\xA0\xA0\xA0\xA0\xA0\xA0\xA0\xA0\xA0\xA0\xA0\x11\x05\x1E\0\0\0\0\0\0\x02\0";
 
-/// Makes a file on a disk in memory that holds this image: how that ends, and its bytes.
-pub(crate) fn made<W: Write>(
+/// What comes of making a file on the disk of this image.
+pub(crate) fn made(
     rt: &(impl Abort + AllocGlobal),
     image: &[u8],
     name: &[u8],
     length: u8,
-    out: &mut W,
-) -> (Result<(), CommandFault>, MemDisk) {
+) -> Result<Changed, Why> {
     assert!(rt;
         is_new_name(name) && length >= 1 && length <= 254,
         "there is no such file"
     );
-    let mut disk = loaded(rt, image);
-    let ended = make_image(rt.alloc(), image, name, length, &mut disk, out);
-    (ended, disk)
+    let cut = Shortened::Refused;
+    change(
+        rt.alloc(),
+        &disk_changes::Change::Make { name, length, cut },
+        image,
+    )
 }
 
 /// Checks that the sector has these bytes from there on.
@@ -55,13 +56,12 @@ fn has_bytes(rt: &impl Abort, disk: &mut MemDisk, place: (u8, u8), from: usize, 
     }
 }
 
-/// Checks that this is reported of a file GAME, and nothing printed or written.
+/// Checks that this is reported of a file GAME.
 fn is_refused(rt: &(impl Abort + AllocGlobal), before: &MemDisk, name: &[u8], told: &str) {
-    let mut out = Vec::new(rt.alloc());
-    let (ended, after) = made(rt, before.bytes(), name, 254, &mut out);
-    is_told(rt, ended, told);
-    same_at(rt, out.as_slice(), b"", told);
-    same_at(rt, after.bytes() == before.bytes(), true, told);
+    match made(rt, before.bytes(), name, 254) {
+        Err(Why::Fault(fault)) => is_told(rt, Err(fault), told),
+        _ => panic!(rt; "{told} isn't reported"),
+    }
 }
 
 /// Changes of the blank disk, and what is reported: the map's count of track 1, a block count, a loop, and a deleted
@@ -87,12 +87,12 @@ fn files_are_made(rt: HostRuntime) {
         same_at(&rt, is_new_name(name), good, name);
     }
     let blank = changed(&rt, &[]);
-    let mut out = Vec::new(rt.alloc());
-    let (ended, disk) = made(&rt, blank.bytes(), b"ADD\xC1", 30, &mut out);
-    same_at(&rt, ended, Ok(()), "made");
-    same_at(&rt, out.as_slice(), b"MADE\n", "printed");
-    is_refused(&rt, &disk, b"ADD\xC1", "FILE EXISTS");
-    let mut disk = disk;
+    let Ok(after) = made(&rt, blank.bytes(), b"ADD\xC1", 30) else {
+        panic!(&rt; "it isn't made");
+    };
+    same_at(&rt, after.text.as_slice(), b"MADE\n", "printed");
+    is_refused(&rt, &after.disk, b"ADD\xC1", "FILE EXISTS");
+    let mut disk = after.disk;
     has_bytes(&rt, &mut disk, (18, 1), 64, SLOT);
     // eight records of 30 bytes: the last index is 241
     has_bytes(&rt, &mut disk, (17, 4), 0, b"\0\xF1\xFF\0");
@@ -100,8 +100,7 @@ fn files_are_made(rt: HostRuntime) {
     has_bytes(&rt, &mut disk, (17, 5), 0, b"\0\x11\0\x1E\x11\x05\0");
 }
 
-// The blank disk has 660 free blocks, and a file of 654 blocks takes six side sectors. The output takes no byte: the
-// file is made.
+// The blank disk has 660 free blocks, and a file of 654 blocks takes six side sectors.
 #[test]
 fn files_are_refused(rt: HostRuntime) {
     for &(changes, told) in &REFUSED {
@@ -113,8 +112,4 @@ fn files_are_refused(rt: HostRuntime) {
         b"GAME",
         "DISK FULL",
     );
-    let blank = changed(&rt, &[]);
-    let (ended, disk) = made(&rt, blank.bytes(), b"GAME", 254, &mut Full::taking(0));
-    is_told(&rt, ended, "FILE");
-    is_refused(&rt, &disk, b"GAME", "FILE EXISTS");
 }

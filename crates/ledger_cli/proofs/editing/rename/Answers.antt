@@ -1,28 +1,17 @@
--- The file was renamed over the one that was handed in.
+-- The change, by the bytes of its names.
 use Rattle.std.proofs.Common.{subst}
-use Rattle.ledger_cli.proofs.Over.{over}
-use Rattle.ledger_cli.specs.Streams.{stream}
-use Rattle.shop_commands.specs.Plays.{IsUntouched}
-use Rattle.ledger_jobs.specs.EditRefusals.{IsEditEnd}
-use Rattle.ledger_jobs.specs.Edited.{IsRenameOver}
-use Rattle.ledger_jobs.specs.Names.{name_bytes}
+use Rattle.disk_changes.specs.Renames.{IsRenameRefusal, IsRenamed}
+use Rattle.ledger_cli.specs.Changed.{IsChangeJob}
 use Rattle.ledger_cli.proofs.editing.rename.Goals as goal
+use Rattle.ledger_jobs.specs.Names.{name_bytes}
+use Rattle.ledger_jobs.specs.declared.jobs.Effect.TheVariants.{Written}
 
-pub returns-in-Ok : goal.returns-in-Ok
-returns-in-Ok g c =
-    let old = c.args.out.now in
-    let run = c.rename_guarded-stream in
-    let end = run.result.1 in
-    let K = stream g.F.Seek.stream_position g.F.Seek.stream_bytes g.F.Write.contents in
-    over c.args.image.now c.args.file c.file_of.result old run.new.out end
-    (λ b a. IsEditEnd c.args.image.now (name_bytes c.args.from.now) (IsUntouched b a old run.new.out)
-    (IsRenameOver K g.W.Write.contents c.args.image.now (name_bytes c.args.from.now) (name_bytes c.args.to.now) b a old
-    run.new.out) end)
-    c.in-Ok.stream run.result.0 c.in-Ok.ensures.ok c.file_of.ensures
-    (subst (λ n. IsEditEnd c.args.image.now (name_bytes c.args.from.now)
-    (IsUntouched c.in-Ok.stream run.result.0 old run.new.out)
-    (IsRenameOver K g.W.Write.contents c.args.image.now (name_bytes c.args.from.now) n c.in-Ok.stream run.result.0 old
-    run.new.out) end) c.as_bytes-to.ensures
-    (subst (λ n. IsEditEnd c.args.image.now n (IsUntouched c.in-Ok.stream run.result.0 old run.new.out)
-    (IsRenameOver K g.W.Write.contents c.args.image.now n c.as_bytes-to.result.now c.in-Ok.stream run.result.0 old
-    run.new.out) end) c.as_bytes-from.ensures run.ensures))
+pub returns : goal.returns
+returns g c =
+    let at = IsChangeJob g.F.Seek.stream_position g.F.Seek.stream_bytes g.F.Write.contents g.W.Write.contents Written in
+    let run = c.change_over in
+    let image = c.args.image.now in
+    subst (λ n. at (IsRenamed image (name_bytes c.args.from.now) n) (IsRenameRefusal image (name_bytes c.args.from.now) n)
+    c.args.file run.result.0 c.args.out.now run.new.out run.result.1) c.as_bytes-to.ensures
+    (subst (λ n. at (IsRenamed image n c.as_bytes-to.result.now) (IsRenameRefusal image n c.as_bytes-to.result.now)
+    c.args.file run.result.0 c.args.out.now run.new.out run.result.1) c.as_bytes-from.ensures run.ensures)

@@ -1,5 +1,5 @@
 -- What was printed, by how the run ended.
-use Rattle.ledger_jobs.proofs.ChangeTold.{format-told}
+use Rattle.ledger_jobs.proofs.MadeTold.{format-told}
 use Rattle.ledger_jobs.proofs.dispatch.do_format.Goals as goal
 
 pub returns : goal.returns

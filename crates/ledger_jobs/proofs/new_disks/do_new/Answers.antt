@@ -1,5 +1,5 @@
 -- What was printed, by how the run ended.
-use Rattle.ledger_jobs.proofs.ChangeTold.{new-told}
+use Rattle.ledger_jobs.proofs.MadeTold.{new-told}
 use Rattle.ledger_jobs.proofs.new_disks.do_new.Goals as goal
 
 pub returns : goal.returns

@@ -1,61 +1,54 @@
-//! Changes of an image as commands: what they print, and what they refuse.
+//! Changes of an image as functions of its bytes: what they print, and what they refuse.
 use crate::comparing::{differs_in, same_at};
-use crate::keepers::disks::{changed, fresh, loaded};
+use crate::keepers::disks::{changed, fresh, with_record};
 use command_faults::CommandFault;
 use d64_image::MemDisk;
+use disk_changes::{Change, Changed, Why, change};
 use file_changes::FileType;
-use keeper_commands::{delete_image, put_image, rename_image};
 use std::process::Abort;
 
-/// How a change ended, what was printed, and the disk then.
-type Made = (Result<(), CommandFault>, Vec<u8>, MemDisk);
+/// What comes of a change.
+type Made = Result<Changed, Why>;
 
-/// Renames an entry of a copy of the disk.
+/// An entry of the disk renamed.
 fn renamed(rt: &(impl Abort + AllocGlobal), before: &MemDisk, from: &[u8], to: &[u8]) -> Made {
     assert!(rt; to.len() <= 16, "no entry has such a name");
-    let mut disk = loaded(rt, before.bytes());
-    let mut out = Vec::new(rt.alloc());
-    let ended = rename_image(rt.alloc(), before.bytes(), from, to, &mut disk, &mut out);
-    (ended, out, disk)
+    change(rt.alloc(), &Change::Rename { from, to }, before.bytes())
 }
 
-/// Deletes a file of a copy of the disk.
+/// A file of the disk deleted.
 fn deleted(rt: &(impl Abort + AllocGlobal), before: &MemDisk, name: &[u8]) -> Made {
-    let mut disk = loaded(rt, before.bytes());
-    let mut out = Vec::new(rt.alloc());
-    let ended = delete_image(rt.alloc(), before.bytes(), name, &mut disk, &mut out);
-    (ended, out, disk)
+    change(rt.alloc(), &Change::Delete { name }, before.bytes())
 }
 
-/// Puts a file of one byte on a copy of the disk.
+/// A file of one byte put on the disk.
 fn put(rt: &(impl Abort + AllocGlobal), before: &MemDisk, name: &[u8]) -> Made {
     assert!(rt; name.len() <= 16, "no entry has such a name");
-    let mut disk = loaded(rt, before.bytes());
-    let mut out = Vec::new(rt.alloc());
-    let kind = FileType::Prg;
-    let ended = put_image(
-        rt.alloc(),
-        before.bytes(),
+    let (kind, content) = (FileType::Prg, b"A".as_slice());
+    let what = Change::Put {
         name,
         kind,
-        b"A",
-        &mut disk,
-        &mut out,
-    );
-    (ended, out, disk)
+        content,
+    };
+    change(rt.alloc(), &what, before.bytes())
 }
 
-/// Checks that a change was made, that this was printed, and that these bytes are others then.
-fn is_made(
+/// The disk once a change was made that prints this, and after which these bytes are others.
+fn made(
     rt: &impl Abort,
     before: &MemDisk,
-    (ended, out, disk): Made,
+    made: Made,
     printed: &[u8],
     changes: &[(usize, &'static [u8])],
-) {
-    same_at(rt, ended, Ok(()), printed);
-    same_at(rt, out.as_slice(), printed, "printed");
-    differs_in(rt, disk.bytes(), before.bytes(), changes);
+) -> MemDisk {
+    match made {
+        Ok(made) => {
+            same_at(rt, made.text.as_slice(), printed, "printed");
+            differs_in(rt, made.disk.bytes(), before.bytes(), changes);
+            made.disk
+        }
+        Err(why) => panic!(rt; "it was refused: {why:?}"),
+    }
 }
 
 /// The bytes that are others once a file was put.
@@ -66,68 +59,56 @@ static PUT: [(usize, &[u8]); 4] = [
     (91_742, b"\x01"),
 ];
 
-/// Those once STOCK was deleted, and once it was renamed.
-static DELETED: [(usize, &[u8]); 2] = [(91_650, b"\0"), (91_460, b"\x13\xF3\xFF\x1F")];
-
+/// Those once it was renamed, and once it was deleted.
 static RENAMED: [(usize, &[u8]); 1] = [(
-    91_653,
+    91_717,
     b"OLD\xA0\xA0\xA0\xA0\xA0\xA0\xA0\xA0\xA0\xA0\xA0\xA0\xA0",
 )];
 
+static DELETED: [(usize, &[u8]); 2] = [(91_714, b"\0"), (91_460, b"\x11\xF0\xFF\x1F")];
+
 #[test]
 fn changes_are_printed(rt: HostRuntime) {
-    let before = fresh(&rt);
-    let made = renamed(&rt, &before, b"STOCK", b"OLD");
-    is_made(&rt, &before, made, b"RENAMED\n", &RENAMED);
-    let made = deleted(&rt, &before, b"STOCK");
-    is_made(&rt, &before, made, b"DELETED\n", &DELETED);
-    let made = put(&rt, &before, b"SIXTEEN LETTERS.");
-    is_made(&rt, &before, made, b"PUT\n", &PUT);
+    let blank = fresh(&rt);
+    let disk = put(&rt, &blank, b"SIXTEEN LETTERS.");
+    let disk = made(&rt, &blank, disk, b"PUT\n", &PUT);
+    let after = renamed(&rt, &disk, b"SIXTEEN LETTERS.", b"OLD");
+    let _ = made(&rt, &disk, after, b"RENAMED\n", &RENAMED);
+    let after = deleted(&rt, &disk, b"SIXTEEN LETTERS.");
+    let _ = made(&rt, &disk, after, b"DELETED\n", &DELETED);
 }
 
-/// Checks that a change was refused for this fault, with status 1, and that nothing was printed or written.
-fn is_refused(rt: &impl Abort, before: &MemDisk, (ended, out, disk): Made, fault: CommandFault) {
-    same_at(rt, ended, Err(fault), fault);
-    same_at(rt, fault.status(), 1, fault);
-    same_at(rt, out.as_slice(), b"", fault);
-    differs_in(rt, disk.bytes(), before.bytes(), &[]);
+/// Checks that a change was refused for this reason.
+fn is_refused(rt: &impl Abort, made: Made, why: Why) {
+    match made {
+        Ok(_) => panic!(rt; "it was made"),
+        Err(told) => same_at(rt, told, why, "why"),
+    }
 }
 
 // A name of seventeen bytes is in no entry.
 #[test]
 fn changes_are_refused(rt: HostRuntime) {
-    let good = fresh(&rt);
+    let good = with_record(&rt, b"CARDS", 30, 1, b"A");
     let long = b"SEVENTEEN LETTERS";
-    let none = CommandFault::NoFile;
-    is_refused(&rt, &good, renamed(&rt, &good, long, b"OLD"), none);
-    is_refused(&rt, &good, deleted(&rt, &good, long), none);
-    let there = CommandFault::FileExists;
-    is_refused(
-        &rt,
-        &good,
-        renamed(&rt, &good, b"STOCK", b"REQUESTS"),
-        there,
-    );
-    is_refused(&rt, &good, put(&rt, &good, b"STOCK"), there);
-    let locked = changed(&rt, &[(18, 1, 2, &[0xC4])]);
-    is_refused(
-        &rt,
-        &locked,
-        deleted(&rt, &locked, b"STOCK"),
-        CommandFault::Locked,
-    );
-}
-
-/// Checks that a change was refused, and that nothing was written.
-fn is_kept(rt: &impl Abort, before: &MemDisk, (ended, _, disk): Made) {
-    same_at(rt, ended.is_err(), true, "unclosed");
-    differs_in(rt, disk.bytes(), before.bytes(), &[]);
+    let none = Why::Fault(CommandFault::NoFile);
+    is_refused(&rt, renamed(&rt, &good, long, b"OLD"), none);
+    is_refused(&rt, deleted(&rt, &good, long), none);
+    let there = Why::Fault(CommandFault::FileExists);
+    is_refused(&rt, renamed(&rt, &good, b"CARDS", b"REQUESTS"), there);
+    is_refused(&rt, put(&rt, &good, b"STOCK"), there);
+    is_refused(&rt, renamed(&rt, &good, b"STOCK", b"OLD"), Why::ShopFile);
+    is_refused(&rt, deleted(&rt, &good, b"REQUESTS"), Why::ShopFile);
 }
 
 // An entry of the type 04 isn't closed, so its disk isn't sound.
 #[test]
 fn disks_that_are_not_sound_are_refused(rt: HostRuntime) {
     let unclosed = changed(&rt, &[(18, 1, 2, &[0x04])]);
-    is_kept(&rt, &unclosed, renamed(&rt, &unclosed, b"STOCK", b"OLD"));
-    is_kept(&rt, &unclosed, deleted(&rt, &unclosed, b"REQUESTS"));
+    for made in [
+        renamed(&rt, &unclosed, b"STOCK", b"OLD"),
+        deleted(&rt, &unclosed, b"REQUESTS"),
+    ] {
+        same_at(&rt, made.is_err(), true, "unclosed");
+    }
 }

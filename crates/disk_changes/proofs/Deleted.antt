@@ -1,0 +1,46 @@
+-- What comes of a deletion on the disk in memory.
+use Rattle.std.proofs.Common.{◌≡◌, ◌⊎◌, ⊎_elim, ℕ, List, Ok, Err, inr, refl, subst, sym}
+use Rattle.std.specs.Prelude.{codes}
+use Rattle.d64_image.specs.Images.{Image}
+use Rattle.d64_image.specs.Memory.{disk_image, memory, sectors_in}
+use Rattle.d64_image.specs.declared.mem_disk.MemDisk.{MemDisk}
+use Rattle.damaged_files.specs.declared.sides.planning.Shortened.TheVariants.{Refused}
+use Rattle.disk_changes.proofs.Judged.{never-fails}
+use Rattle.disk_changes.specs.Deletes.{IsDeleteRefusal, IsDeleted}
+use Rattle.disk_changes.specs.Judged.{IsCleanDisk}
+use Rattle.disk_changes.specs.declared.changes.Changed.{Changed}
+use Rattle.disk_changes.specs.declared.changes.Why.TheVariants as whys
+use Rattle.disk_layout.specs.Clean.{IsCleanLayout}
+use Rattle.file_changes.specs.Deletes.{Deletes, HasFreed}
+use Rattle.file_changes.specs.declared.faults.ChangeFault.{ChangeFault}
+use Rattle.file_changes.specs.declared.faults.ChangeFault.TheVariants as change
+use Rattle.disk_changes.specs.Judged.{edit_fault}
+use Rattle.keeper_commands.specs.ShopFiles.{HasShopFile}
+
+module _ (image name : List ℕ) (a b : MemDisk) (whole : IsCleanDisk image Refused) (is : disk_image a ≡ sectors_in image) where
+  clean : IsCleanLayout (disk_image a) whole.layout
+  clean = subst (λ (i : Image). IsCleanLayout i whole.layout) (sym is) whole.clean
+
+  pub delete-done : (x : Unit {0}) → Deletes memory a b name (Ok x) → ¬ (HasShopFile image name) → (made : Changed)
+      → made.disk ≡ b → made.text.items ≡ codes "DELETED\n" → IsDeleted image name made
+  delete-done x c other made disk text = record {
+    before = whole;
+    other = other;
+    after = subst (λ (d : MemDisk). HasFreed (sectors_in image) whole.layout name (disk_image d)) (sym disk)
+        (subst (λ (i : Image). HasFreed i whole.layout name (disk_image b)) is (c.layout whole.layout clean.layout).ok);
+    text = text;
+  }
+
+  no-exists : (change.Exists ≡ change.NotFound) ⊎ ((change.Exists ≡ change.Locked) ⊎ (change.Exists ≡ change.Device)) → ⊥
+  no-exists told = ⊎_elim (λ e. cc) (⊎_elim (λ e. cc) (λ e. cc)) told
+
+  no-full : (change.Full ≡ change.NotFound) ⊎ ((change.Full ≡ change.Locked) ⊎ (change.Full ≡ change.Device)) → ⊥
+  no-full told = ⊎_elim (λ e. cc) (⊎_elim (λ e. cc) (λ e. cc)) told
+
+  pub delete-refused : (fault : ChangeFault) → Deletes memory a b name (Err fault)
+      → IsDeleteRefusal image name (whys.Fault (edit_fault fault))
+  delete-refused change.NotFound c = record { disk = whole; but = inr ((c.layout whole.layout clean.layout).not_found refl) }
+  delete-refused change.Locked c = record { disk = whole; but = (c.layout whole.layout clean.layout).locked refl }
+  delete-refused change.Device c = absurd (never-fails a b c.failures)
+  delete-refused change.Exists c = absurd (no-exists c.told)
+  delete-refused change.Full c = absurd (no-full c.told)

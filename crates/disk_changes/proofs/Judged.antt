@@ -1,0 +1,71 @@
+-- An image that was judged.
+use Rattle.std.proofs.Common.{◌≡◌, ◌<◌, List, arith, length, subst, sym, ℕ}
+use Rattle.std.specs.Prelude.{None, Some}
+use Rattle.command_faults.specs.declared.faults.CommandFault.TheVariants as faults
+use Rattle.d64_image.specs.History.{Failed}
+use Rattle.d64_image.specs.Images.{Image}
+use Rattle.d64_image.specs.Memory.{memory, sectors_in}
+use Rattle.d64_image.specs.declared.mem_disk.MemDisk.{MemDisk}
+use Rattle.d64_image.specs.declared.place.Place.{Place}
+use Rattle.damaged_files.specs.cut.Told.{HasNoCut, IsCutShort, IsToldOf}
+use Rattle.damaged_files.specs.declared.sides.planning.Shortened.{Shortened}
+use Rattle.disk_changes.specs.Judged.{IsCleanDisk, IsSoundWhole, IsTaken, IsUnclean, IsUntaken}
+use Rattle.disk_changes.specs.declared.changes.Why.{Why}
+use Rattle.disk_changes.specs.declared.changes.Why.TheVariants as whys
+use Rattle.disk_layout.specs.Clean.{IsCleanLayout}
+use Rattle.disk_layout.specs.Layout.{IsLayout, IsSound, Layout}
+
+-- a disk in memory doesn't fail
+pub never-fails : (a b : MemDisk) → Failed memory a b → ⊥
+never-fails a b failed = low (failed.rose (omega arith))
+  where
+    low : 0 < 0 → ⊥
+    low lt = absurd (omega (arith, lt))
+
+module _ (image : List ℕ) (img : Image) (is : img ≡ sectors_in image) (size : length image ≡ 174848) (sound : IsSound img) where
+  pub is-whole : ((l : Layout) → IsLayout img l → HasNoCut img l None) → IsSoundWhole image
+  is-whole uncut = record {
+    size = size;
+    layout = sound.0;
+    sound = subst (λ (i : Image). IsLayout i sound.0) is sound.1;
+    uncut = λ l layout. subst (λ (i : Image). HasNoCut i l None) is (uncut l (subst (λ (i : Image). IsLayout i l) (sym is) layout));
+  }
+
+  pub is-short : (p : Place) → ((l : Layout) → IsLayout img l → IsToldOf img l None (Some p)) → IsCutShort image p
+  is-short p told =
+      let first = subst (λ (i : Image). IsToldOf i sound.0 None (Some p)) is (told sound.0 sound.1) in
+      record {
+        size = size;
+        layout = sound.0;
+        sound = subst (λ (i : Image). IsLayout i sound.0) is sound.1;
+        number = first.number;
+        file = first.file;
+        there = first.there;
+        cut = first.cut;
+      }
+
+-- of a sound disk no file is cut short
+pub uncut-is : (image : List ℕ) (img : Image) → img ≡ sectors_in image
+    → ((l : Layout) → IsLayout img l → HasNoCut img l None) → (p : Place) → IsCutShort image p → ⊥
+uncut-is image img is uncut p short =
+    let there : IsLayout img short.layout = subst (λ (i : Image). IsLayout i short.layout) (sym is) short.sound in
+    subst (λ (i : Image). HasNoCut i short.layout None) is (uncut short.layout there) short.number short.file p short.there tt
+    short.cut
+
+-- and another one has none
+pub unsound-is : (image : List ℕ) (img : Image) → img ≡ sectors_in image → (IsSound img → ⊥) → (p : Place)
+    → IsCutShort image p → ⊥
+unsound-is image img is unsound p short =
+    unsound (short.layout, subst (λ (i : Image). IsLayout i short.layout) (sym is) short.sound)
+
+-- an image that isn't taken isn't that of a clean disk
+pub untaken-unclean : (image : List ℕ) (why : Why) → IsUntaken image why → IsUnclean image why
+untaken-unclean image (whys.Fault faults.ImageSize) c = c
+untaken-unclean image (whys.Fault faults.NoMemory) c = c
+untaken-unclean image (whys.Short p) c = c
+untaken-unclean image _ c = absurd c
+
+abbrev pub is-clean-disk : (image : List ℕ) (cut : Shortened) (img : Image) → img ≡ sectors_in image → IsTaken image cut
+    → (l : Layout) → IsCleanLayout img l → IsCleanDisk image cut
+is-clean-disk image cut img is taken l clean =
+    record { taken = taken; layout = l; clean = subst (λ (i : Image). IsCleanLayout i l) is clean }

@@ -1,0 +1,52 @@
+-- What comes of putting a file on the disk in memory.
+use Rattle.std.proofs.Common.{◌≡◌, ◌⊎◌, ⊎_elim, ℕ, List, Ok, Err, length, refl, subst, sym}
+use Rattle.std.specs.Prelude.{codes}
+use Rattle.d64_image.specs.Images.{Image}
+use Rattle.d64_image.specs.Memory.{disk_image, memory, sectors_in}
+use Rattle.d64_image.specs.declared.mem_disk.MemDisk.{MemDisk}
+use Rattle.damaged_files.specs.declared.sides.planning.Shortened.TheVariants.{Refused}
+use Rattle.disk_changes.proofs.Judged.{never-fails}
+use Rattle.disk_changes.specs.Judged.{IsCleanDisk}
+use Rattle.disk_changes.specs.Puts.{IsPut, IsPutRefusal}
+use Rattle.disk_changes.specs.declared.changes.Changed.{Changed}
+use Rattle.disk_changes.specs.declared.changes.Why.TheVariants as whys
+use Rattle.disk_layout.specs.Clean.{IsCleanLayout}
+use Rattle.file_changes.specs.Puts.{HasNoRoomFor, HasPut, Puts, sectors_for, stored}
+use Rattle.file_changes.specs.declared.faults.ChangeFault.{ChangeFault}
+use Rattle.file_changes.specs.declared.faults.ChangeFault.TheVariants as change
+use Rattle.file_changes.specs.declared.file_type.FileType.{FileType}
+use Rattle.disk_changes.specs.Judged.{edit_fault}
+
+no-missing : (change.NotFound ≡ change.Exists) ⊎ ((change.NotFound ≡ change.Full) ⊎ (change.NotFound ≡ change.Device)) → ⊥
+no-missing told = ⊎_elim (λ e. cc) (⊎_elim (λ e. cc) (λ e. cc)) told
+
+no-locked : (change.Locked ≡ change.Exists) ⊎ ((change.Locked ≡ change.Full) ⊎ (change.Locked ≡ change.Device)) → ⊥
+no-locked told = ⊎_elim (λ e. cc) (⊎_elim (λ e. cc) (λ e. cc)) told
+
+module _ (image name : List ℕ) (kind : FileType) (content : List ℕ) (a b : MemDisk) (whole : IsCleanDisk image Refused)
+    (is : disk_image a ≡ sectors_in image) where
+  clean : IsCleanLayout (disk_image a) whole.layout
+  clean = subst (λ (i : Image). IsCleanLayout i whole.layout) (sym is) whole.clean
+
+  pub put-done : (x : Unit {0}) → Puts memory a b name kind content (Ok x) → (made : Changed) → made.disk ≡ b
+      → made.text.items ≡ codes "PUT\n" → IsPut image name kind content made
+  put-done x c made disk text = record {
+    before = whole;
+    after = subst (λ (d : MemDisk). HasPut (sectors_in image) whole.layout name kind (stored content) (disk_image d)) (sym disk)
+        (subst (λ (i : Image). HasPut i whole.layout name kind (stored content) (disk_image b)) is
+        (c.layout whole.layout clean.layout).ok);
+    text = text;
+  }
+
+  pub put-refused : (fault : ChangeFault) → Puts memory a b name kind content (Err fault)
+      → IsPutRefusal image name kind content (whys.Fault (edit_fault fault))
+  put-refused change.Exists c = record { disk = whole; but = (c.layout whole.layout clean.layout).refuses.exists refl }
+  put-refused change.Full c =
+      let full = (c.layout whole.layout clean.layout).refuses.full refl in
+      record {
+        disk = whole;
+        but = (subst (λ (i : Image). HasNoRoomFor i whole.layout (sectors_for (length (stored content)))) is full.0, full.1);
+      }
+  put-refused change.Device c = absurd (never-fails a b c.failures)
+  put-refused change.NotFound c = absurd (no-missing c.told)
+  put-refused change.Locked c = absurd (no-locked c.told)

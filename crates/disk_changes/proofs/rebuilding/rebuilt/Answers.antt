@@ -1,0 +1,22 @@
+-- Both changes, one after the other.
+use Rattle.std.proofs.Common.{◌∙◌, ◌++◌, List, ap, subst, sym, ℕ}
+use Rattle.std.proofs.lemmas.Result.{IfOk-weaker}
+use Rattle.d64_image.specs.Memory.{disk_image, sectors_in}
+use Rattle.disk_changes.specs.Rebuilds.{IsRebuiltOf}
+use Rattle.disk_changes.proofs.rebuilding.rebuilt.Goals as goal
+use Rattle.keeper_commands.specs.Repairs.{changed_text}
+
+pub returns-clause-ok : goal.returns-clause-ok
+returns-clause-ok c = IfOk-weaker c.after.result _ _
+    (λ made is. record {
+      bytes = c.bytes.result.now;
+      built = subst (IsRebuiltOf c.args.image.now) (sym c.bytes.ensures.image) c.in_ok-disk.ensures.ok.0;
+      second = c.in_ok-then.then;
+      repaired = c.in_ok-then.ensures.ok;
+      disk = is.0;
+      left = is.1;
+      text = is.2 ∙ ap (λ (t : List ℕ). t ++ c.in_ok-then.then.text.items)
+          (c.in_ok-disk.ensures.ok.1
+          ∙ ap (λ (t : List ℕ). t ++ changed_text (sectors_in c.args.image.now) (disk_image c.in_ok-disk.disk)) c.new-text.ensures.items
+          ∙ ap (changed_text (sectors_in c.args.image.now)) (sym c.bytes.ensures.image));
+    }) c.after.ensures.ok

@@ -1,0 +1,44 @@
+-- What comes of a change to an image, or why it isn't made. Our own.
+use Rattle.std.specs.Prelude.{◌≤◌, List, length, ℕ}
+use Rattle.disk_changes.specs.Deletes.{IsDeleteRefusal, IsDeleted}
+use Rattle.disk_changes.specs.Makes.{IsMade, IsMakeRefusal}
+use Rattle.disk_changes.specs.Puts.{IsPut, IsPutRefusal}
+use Rattle.disk_changes.specs.Rebuilds.{IsRebuildRefusal, IsRebuilt}
+use Rattle.disk_changes.specs.Renames.{IsRenameRefusal, IsRenamed}
+use Rattle.disk_changes.specs.Repairs.{IsRepairRefusal, IsRepaired}
+use Rattle.disk_changes.specs.Stores.{IsStoreRefusal, IsStored}
+use Rattle.disk_changes.specs.declared.changes.Change.{Change}
+use Rattle.disk_changes.specs.declared.changes.Change.TheVariants as changes
+use Rattle.disk_changes.specs.declared.changes.Changed.{Changed}
+use Rattle.disk_changes.specs.declared.changes.Why.{Why}
+use Rattle.rel_records.specs.File.{IsLength}
+
+-- the name that a file gets fits an entry, and so does the length of its records
+abbrev pub IsFit : Change → Type 0
+IsFit (changes.Rename from to) = length to.now ≤ 16
+IsFit (changes.Delete name) = Unit {0}
+IsFit (changes.Put name kind content) = length name.now ≤ 16
+IsFit (changes.Make name L cut) = (length name.now ≤ 16) × IsLength L
+IsFit (changes.Store name text cut) = Unit {0}
+IsFit (changes.Repair free cut) = Unit {0}
+IsFit (changes.Rebuild free cut) = Unit {0}
+
+-- the change was made
+abbrev pub IsChanged : Change → (image : List ℕ) → Changed → Type 0
+IsChanged (changes.Rename from to) image made = IsRenamed image from.now to.now made
+IsChanged (changes.Delete name) image made = IsDeleted image name.now made
+IsChanged (changes.Put name kind content) image made = IsPut image name.now kind content.now made
+IsChanged (changes.Make name L cut) image made = IsMade image name.now L cut made
+IsChanged (changes.Store name text cut) image made = IsStored image name.now text.now cut made
+IsChanged (changes.Repair free cut) image made = IsRepaired image free cut made
+IsChanged (changes.Rebuild free cut) image made = IsRebuilt image free cut made
+
+-- it wasn't, for this reason
+abbrev pub IsRefused : Change → (image : List ℕ) → Why → Type 0
+IsRefused (changes.Rename from to) image why = IsRenameRefusal image from.now to.now why
+IsRefused (changes.Delete name) image why = IsDeleteRefusal image name.now why
+IsRefused (changes.Put name kind content) image why = IsPutRefusal image name.now kind content.now why
+IsRefused (changes.Make name L cut) image why = IsMakeRefusal image name.now cut why
+IsRefused (changes.Store name text cut) image why = IsStoreRefusal image name.now text.now cut why
+IsRefused (changes.Repair free cut) image why = IsRepairRefusal image why
+IsRefused (changes.Rebuild free cut) image why = IsRebuildRefusal image why

@@ -1,0 +1,9 @@
+pub mod Changes
+pub mod Deletes
+pub mod Judged
+pub mod Makes
+pub mod Puts
+pub mod Rebuilds
+pub mod Renames
+pub mod Repairs
+pub mod Stores

@@ -1,0 +1,24 @@
+-- What comes of putting a file into an image. Our own.
+use Rattle.std.specs.Prelude.{◌≡◌, List, codes, length, ℕ}
+use Rattle.command_faults.specs.declared.faults.CommandFault.TheVariants as faults
+use Rattle.d64_image.specs.Memory.{disk_image, sectors_in}
+use Rattle.damaged_files.specs.declared.sides.planning.Shortened.TheVariants.{Refused}
+use Rattle.disk_changes.specs.Judged.{IsCleanBut, IsCleanDisk, IsUnclean}
+use Rattle.disk_changes.specs.declared.changes.Changed.{Changed}
+use Rattle.disk_changes.specs.declared.changes.Why.{Why}
+use Rattle.disk_changes.specs.declared.changes.Why.TheVariants as whys
+use Rattle.file_changes.specs.Puts.{HasNoRoomFor, HasPut, IsNewName, sectors_for, stored}
+use Rattle.file_changes.specs.declared.file_type.FileType.{FileType}
+
+-- The file is there on the disk that comes of it; and what is printed.
+pub record IsPut (image name : List ℕ) (kind : FileType) (content : List ℕ) (made : Changed) : Type 0 where
+  pub before : IsCleanDisk image Refused
+  pub after : HasPut (sectors_in image) before.layout name kind (stored content) (disk_image made.disk)
+  pub text : made.text.items ≡ codes "PUT\n"
+
+-- why a file isn't put there
+abbrev pub IsPutRefusal : (image name : List ℕ) → FileType → (content : List ℕ) → Why → Type 0
+IsPutRefusal image name kind content (whys.Fault faults.FileExists) = IsCleanBut image Refused (λ l. ¬ (IsNewName l name))
+IsPutRefusal image name kind content (whys.Fault faults.DiskFull) = IsCleanBut image Refused (λ l.
+    HasNoRoomFor (sectors_in image) l (sectors_for (length (stored content))) × IsNewName l name)
+IsPutRefusal image name kind content why = IsUnclean image why

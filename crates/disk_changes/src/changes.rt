@@ -1,0 +1,91 @@
+//! A change, what comes of it, and why it isn't made.
+ghost use Rattle.std.specs.Prelude.{◌≡◌};
+ghost use Rattle.command_faults.specs.declared.faults.CommandFault.TheVariants as faults;
+ghost use Rattle.disk_changes.specs.declared.changes.Why.TheVariants as whys;
+
+use command_faults::CommandFault;
+use d64_image::{MemDisk, Place};
+use damaged_files::Shortened;
+use disk_layout::Fault;
+use file_changes::FileType;
+
+/// A change to the files of a disk. A name that a file gets has at most sixteen bytes. If a file of the disk is cut short,
+/// nothing is changed, unless `cut` accepts that.
+#[derive(Clone, Copy)]
+pub enum Change<'a> {
+    /// The first entry with the one name gets the other.
+    Rename {
+        from: &'a [u8],
+        to: &'a [u8],
+    },
+    /// The first file with the name is deleted.
+    Delete {
+        name: &'a [u8],
+    },
+    /// A new file of this name, type and data.
+    Put {
+        name: &'a [u8],
+        kind: FileType,
+        content: &'a [u8],
+    },
+    /// A new relative file of this name, whose records have `length` bytes, 1 to 254.
+    Make {
+        name: &'a [u8],
+        length: u8,
+        cut: Shortened,
+    },
+    /// The records of the text's lines, stored in the first closed relative file of the name.
+    Store {
+        name: &'a [u8],
+        text: &'a [u8],
+        cut: Shortened,
+    },
+    /// The disk is repaired. If `free`, sectors that no file owns become free.
+    Repair {
+        free: bool,
+        cut: Shortened,
+    },
+    /// The same, after its side sectors are built anew.
+    Rebuild {
+        free: bool,
+        cut: Shortened,
+    },
+}
+
+/// What comes of a change.
+#[derive(Drop)]
+pub struct Changed {
+    /// The disk after it.
+    pub disk: MemDisk,
+    /// What is printed.
+    pub text: Vec<u8>,
+    /// How many sectors stay taken though no file owns them. 0 of a change that isn't a repair.
+    pub left: u16,
+}
+
+/// Why a change isn't made.
+#[derive(Clone, Copy, Debug, PartialEq, Eq)]
+pub enum Why {
+    /// What the image or the words have wrong, or there was no memory.
+    Fault(CommandFault),
+    /// A file of the image is cut short: its chain ends at this sector, too early.
+    Short(Place),
+    /// The file is one of a shop's two.
+    ShopFile,
+}
+
+impl From<CommandFault> for Why {
+    ghost from_gives = { λ fault why. why ≡ whys.Fault fault };
+
+    fn from(fault: CommandFault) -> Why {
+        Why::Fault(fault)
+    }
+}
+
+impl From<Fault> for Why {
+    ghost from_gives = { λ fault why. why ≡ whys.Fault (faults.Layout fault) };
+
+    fn from(fault: Fault) -> Why {
+        Why::Fault(CommandFault::Layout(fault))
+    }
+}

@@ -1,0 +1,35 @@
+//! A change, as a function of an image's bytes.
+ghost use Rattle.std.specs.Prelude.{IfErr, IfOk};
+ghost use Rattle.disk_changes.specs.Changes.{IsChanged, IsFit, IsRefused};
+
+use crate::changes::{Change, Changed, Why};
+use crate::deleting::deleted;
+use crate::making::made;
+use crate::putting::put;
+use crate::rebuilding::rebuilt;
+use crate::renaming::renamed;
+use crate::repairing::repaired;
+use crate::storing::stored;
+use std::alloc::Global;
+
+/// The disk that comes of a change to that of the image, and what is printed; or why the change isn't made. Nothing is
+/// read or written.
+pub fn change(alloc: Global, what: &Change<'_>, image: &[u8]) -> Result<Changed, Why>
+    requires fit { IsFit what.now }
+    ensures ok { IfOk result (IsChanged what.now image.now) }
+    ensures err { IfErr result (IsRefused what.now image.now) }
+{
+    match *what {
+        Change::Rename { from, to } => renamed(alloc, image, from, to),
+        Change::Delete { name } => deleted(alloc, image, name),
+        Change::Put {
+            name,
+            kind,
+            content,
+        } => put(alloc, image, name, kind, content),
+        Change::Make { name, length, cut } => made(alloc, image, name, length, cut),
+        Change::Store { name, text, cut } => stored(alloc, image, name, text, cut),
+        Change::Repair { free, cut } => repaired(alloc, image, free, cut),
+        Change::Rebuild { free, cut } => rebuilt(alloc, image, free, cut),
+    }
+}

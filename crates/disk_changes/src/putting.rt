@@ -1,0 +1,29 @@
+//! A file put into an image.
+ghost use Rattle.std.specs.Prelude.{◌≤◌, IfErr, IfOk, length};
+ghost use Rattle.disk_changes.specs.Puts.{IsPut, IsPutRefusal};
+
+use crate::changes::{Changed, Why};
+use crate::judging::clean_disk;
+use crate::outcomes::{changed, refusal};
+use damaged_files::Shortened;
+use file_changes::{FileType, put_file};
+use std::alloc::Global;
+
+/// The image with a new file of this name, type and data. The name was judged before.
+pub(crate) fn put(
+    alloc: Global,
+    image: &[u8],
+    name: &[u8],
+    kind: FileType,
+    content: &[u8],
+) -> Result<Changed, Why>
+    requires name { length name.now ≤ 16 }
+    ensures ok { IfOk result (IsPut image.now name.now kind content.now) }
+    ensures err { IfErr result (IsPutRefusal image.now name.now kind content.now) }
+{
+    let mut disk = clean_disk(alloc, image, Shortened::Refused)?;
+    if let Err(fault) = put_file(&mut disk, name, kind, content) {
+        return Err(refusal(fault));
+    }
+    changed(alloc, disk, b"PUT\n")
+}

@@ -1,0 +1,34 @@
+//! Records stored in a relative file of an image.
+ghost use Rattle.std.specs.Prelude.{IfErr, IfOk};
+ghost use Rattle.disk_changes.specs.Stores.{IsStoreRefusal, IsStored};
+
+use crate::changes::{Changed, Why};
+use crate::judging::taken_disk;
+use crate::outcomes::in_memory;
+use damaged_files::Shortened;
+use keeper_commands::store_image;
+use std::alloc::Global;
+
+/// The image with the records of the text's lines stored in the first closed relative file of this name, and the lines of
+/// those that changed.
+pub(crate) fn stored(
+    alloc: Global,
+    image: &[u8],
+    name: &[u8],
+    text: &[u8],
+    cut: Shortened,
+) -> Result<Changed, Why>
+    ensures ok { IfOk result (IsStored image.now name.now text.now cut) }
+    ensures err { IfErr result (IsStoreRefusal image.now name.now text.now cut) }
+{
+    let mut disk = taken_disk(alloc, image, cut)?;
+    let mut told = Vec::new(alloc);
+    match store_image(alloc, image, name, text, &mut disk, &mut told) {
+        Ok(()) => Ok(Changed {
+            disk,
+            text: told,
+            left: 0,
+        }),
+        Err(fault) => Err(Why::Fault(in_memory(fault))),
+    }
+}
