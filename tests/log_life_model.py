@@ -32,8 +32,11 @@ STEPS = {
     'named': 'the folder is not synced after the renaming',
     'zeros': 'a full log is written again in place',
     'judge': 'a log is landed on any image',
+    'marked alone': 'a marked log is landed on any image',
     'wins': 'IMAGE is taken though a log is there',
     'mark again': 'a reader doesn\'t look for the mark again after it read IMAGE',
+    'name again': 'a reader of a marked log doesn\'t look for its name after it read IMAGE',
+    'mark first': 'a reader takes the mark that it finds behind the log\'s blocks',
     'log first': 'a reader reads IMAGE before the log',
     'lock': 'a reader may look before the log stands',
 }
@@ -146,6 +149,16 @@ def read_log(data):
     return None if base is None else (base, image, data[-1] != 0, whole)
 
 
+def is_mix(image, base, shop):
+    """Whether each byte of an image is as one of the two others has it."""
+    return all(byte in pair for one, *two in zip(image, base, shop) for byte, pair in zip(one, zip(*two)))
+
+
+def is_of(image, base, shop, marked):
+    """Whether a log is of this image: it is the base, or the log is marked and was being brought there."""
+    return image == base or marked and is_mix(image, base, shop)
+
+
 class World:
     """A folder, and the images that may be found there: those since the last one that was confirmed."""
 
@@ -187,16 +200,26 @@ class World:
             if image is None:
                 image = yield from self.read_image()
         else:
+            mark = bytes(disk.seen[log][-1:])
+            yield
             data = bytearray()
             while len(data) < BLOCK * BLOCKS + 1:
                 data += disk.seen[log][len(data):len(data) + self.rng.choice((1, 3, BLOCK))]
                 yield
+            # commits may have come while it was read, and then the mark
+            if self.without != 'mark first':
+                data[-1:] = mark
             if image is None:
                 image = yield from self.read_image()
-            if self.without != 'mark again':
-                data[-1] |= disk.seen[log][-1]
             found = read_log(data)
-            if found is None or not found[2] and found[0] != image:
+            if found is None:
+                raise Wrong('a reader is refused')
+            # a writer judged the log if it landed it meanwhile: it got its mark, or it had that and lost its name
+            if found[2]:
+                landed = self.without != 'name again' and disk.names.get('LOG') != log
+            else:
+                landed = self.without != 'mark again' and disk.seen[log][-1] != 0
+            if not landed and not is_of(image, *found[:3]):
                 raise Wrong('a reader is refused')
             image = found[1]
         if image not in self.may_be[least:]:
@@ -252,7 +275,7 @@ class World:
         if found is None:
             raise Refused('no base')
         base, image, marked, _ = found
-        if without != 'judge' and not marked and base != self.sectors():
+        if not (without == 'judge' or marked and without == 'marked alone' or is_of(self.sectors(), base, image, marked)):
             raise Refused('of another image')
         if without == 'wins':
             image = self.sectors()
@@ -360,7 +383,7 @@ class World:
                 pass
         except Refused:
             return
-        if found and not found[2]:
+        if found:
             raise Wrong('a log was landed on another image')
 
 

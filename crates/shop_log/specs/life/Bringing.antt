@@ -3,6 +3,7 @@ use Rattle.std.specs.Prelude.{ℕ, ◌≡◌, ◌≤◌, [], ◌∷◌, List, No
 use Rattle.d64_image.specs.Images.{Image}
 use Rattle.shop_log.specs.Files.{Mixed, overwritten}
 use Rattle.shop_log.specs.life.Folders.{AllLeft, Folder, FolderHistory, HasImage, HasNames}
+use Rattle.shop_log.specs.life.Mixes.{IsMixOf}
 use Rattle.shop_log.specs.life.Shops.{Gives, GivesOneOf}
 
 -- the log with its mark
@@ -20,6 +21,14 @@ IsSettledAs held s = HasImage held s × HasNames held s
 -- these bytes are its log
 abbrev pub HasLog : List ℕ → Folder → Type 0
 HasLog log s = s.log ≡ Some log
+
+-- the log with its mark, beside the IMAGE that reads find
+abbrev pub IsMarkedIn : List ℕ → Folder → Folder → Type 0
+IsMarkedIn log held s = HasLog (marked_log log) s × HasImage held s
+
+-- these bytes are its log, and IMAGE is a mix of two images
+abbrev pub IsLanding : List ℕ → Image → Image → Folder → Type 0
+IsLanding log base shop s = HasLog log s × IsMixOf base shop s.image
 
 -- IMAGE is this image, and the folder gives it too
 abbrev pub IsBrought : Image → Folder → Type 0

@@ -3,7 +3,6 @@ use Rattle.std.specs.Prelude.{ℕ, ◌+◌, ◌-◌, ◌≡◌, ◌≤◌, ◌�
 use Rattle.std.proofs.Common.{arith, inl, inr}
 use Rattle.d64_image.specs.Images.{Image}
 use Rattle.shop_log.specs.Memory.{mem_bytes, memory}
-use Rattle.shop_log.specs.declared.mem_log.MemLog.{MemLog}
 use Rattle.shop_log.specs.life.Folders.{Folder, HasImage, HasNames, IsImageWritten, IsMaking, IsNaming, IsRemoving, being_made, named, unlogged, with_log, with_sector}
 use Rattle.shop_log.specs.life.Folders.Making.{Missing}
 use Rattle.shop_log.specs.declared.life.mem_folder.FolderCall.{FolderCall}
@@ -30,7 +29,7 @@ seen_after first (call ∷ earlier) = effect call (seen_after first earlier)
 
 -- what a power loss may leave after a call, from what one might have left before; reads returned `seen` then
 abbrev pub step : FolderCall → Folder → Folder → Folder → Type 0
-step (Write index bytes) seen from s = IsImageWritten from s
+step (Write index bytes) seen from s = IsImageWritten index bytes from s
 step SyncImage seen from s = (s ≡ from) × HasImage seen s
 step Make seen from s = IsMaking from s
 step (Name bytes) seen from s = IsNaming bytes.items from s

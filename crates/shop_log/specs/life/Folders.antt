@@ -1,7 +1,8 @@
 -- The folder in which an image stands, with its log beside it: what it holds, and what a power loss may leave. Our own.
-use Rattle.std.specs.Prelude.{ℕ, ◌+◌, ◌-◌, ◌≡◌, ◌≤◌, ◌⊎◌, Bool, IsSome, List, None, OnErr, OnOk, Option, Result, Some, false, slice_set, true}
+use Rattle.std.specs.Prelude.{ℕ, ◌+◌, ◌-◌, ◌≡◌, ◌≤◌, ◌<◌, ◌⊎◌, Bool, IsSome, List, None, OnErr, OnOk, Option, Result, Some, false, slice_index, slice_set, true}
 use Rattle.d64_image.specs.Images.{Image}
 use Rattle.shop_log.specs.Files.{FileHistory}
+use Rattle.shop_log.specs.life.Mixes.{byte_of}
 
 -- To which file the name of a log in the making leads.
 pub data Making : Type 0 where
@@ -83,10 +84,12 @@ module _ {D : Type 0} (h : FolderHistory D) where
 abbrev pub Same : Folder → Folder → Type 0
 Same from s = s ≡ from
 
--- Other sectors of IMAGE may stand there, or torn ones; the rest is as it was.
-pub record IsImageWritten (from s : Folder) : Type 0 where
+-- This sector of IMAGE may be torn: each byte of it is as it was, or as it is written. The rest is as it was.
+pub record IsImageWritten (index : ℕ) (bytes : List ℕ) (from s : Folder) : Type 0 where
   pub log : s.log ≡ from.log
   pub making : s.making ≡ from.making
+  pub each : (i j : ℕ) → i < 683 → j < 256 → (byte_of s.image i j ≡ byte_of from.image i j)
+      ⊎ ((i ≡ index) × (byte_of s.image i j ≡ slice_index bytes j))
 
 -- A log is being made: its name leads to it, or to what it led to before, or to nothing.
 pub record IsMaking (from s : Folder) : Type 0 where

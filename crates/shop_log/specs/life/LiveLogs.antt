@@ -17,7 +17,7 @@ pub stands_gives : {F : Type 0} {G : Ghosts F} (log : Log F G) (base shop : Imag
 stands_gives log base shop stands image is = record {
   size = stands.size;
   based = stands.based;
-  own = inr (is ∙ sym stands.base);
+  own = inl (is ∙ sym stands.base);
   is = stands.image;
 }
 

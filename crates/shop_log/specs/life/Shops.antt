@@ -3,13 +3,14 @@ use Rattle.std.specs.Prelude.{ℕ, ◌<◌, ◌≡◌, ◌⊎◌, Contains, List
 use Rattle.d64_image.specs.Images.{Image}
 use Rattle.shop_log.specs.Recovered.{base_end, base_of, is_marked, recovered}
 use Rattle.shop_log.specs.life.Folders.{Folder}
+use Rattle.shop_log.specs.life.Mixes.{IsMixOf}
 
--- A log beside this IMAGE gives an image: it has its base, and it is marked or IMAGE is the base. Then it gives the image
--- that its whole commits stand for.
+-- A log beside this IMAGE gives an image, that of its whole commits. IMAGE is its base; or the log is marked, and IMAGE is
+-- a mix of its base and that image, since it was being brought there.
 pub record LogGives (log : List ℕ) (image given : Image) : Type 0 where
   pub size : length log ≡ 4198400
   pub based : 0 < base_end log
-  pub own : (is_marked log ≡ true) ⊎ (image ≡ base_of log)
+  pub own : (image ≡ base_of log) ⊎ ((is_marked log ≡ true) × IsMixOf (base_of log) given image)
   pub is : recovered log ≡ given
 
 -- by the log, if there is one; otherwise IMAGE itself

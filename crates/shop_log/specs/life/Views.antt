@@ -1,25 +1,35 @@
 -- What a reader sees of an image and its log, while a writer may go on. Our own.
-use Rattle.std.specs.Prelude.{ℕ, ◌<◌, ◌≡◌, ◌⊎◌, Bool, List, None, Option, Some, false, if◌then◌else◌, length, true}
+use Rattle.std.specs.Prelude.{ℕ, ◌≡◌, ◌⊎◌, Bool, List, None, Option, Some, false, true}
 use Rattle.d64_image.specs.Images.{Image}
-use Rattle.shop_log.specs.Recovered.{is_marked}
-use Rattle.shop_log.specs.life.Bringing.{marked_log}
+use Rattle.shop_log.specs.Recovered.{is_marked, recovered}
+use Rattle.shop_log.specs.life.Mixes.{IsMixOf}
 use Rattle.shop_log.specs.life.Shops.{given_by}
 
 -- What stands there. After the log was opened, it is what the open file has, whatever its name leads to by then.
 pub record Seen : Type 0 where
   pub log : Option (List ℕ)
   pub image : Image
+  -- whether the log's name leads to that log
+  pub named : Bool
 
 -- it has a log, which has its mark
 abbrev pub HasMark : Seen → Type 0
 HasMark s = (f : List ℕ) × (s.log ≡ Some f) × (is_marked f ≡ true)
 
+-- and which stands for this image
+abbrev pub Lands : Image → Seen → Type 0
+Lands shop s = (f : List ℕ) × (s.log ≡ Some f) × (is_marked f ≡ true) × (recovered f ≡ shop)
+
 -- What a writer may do while a reader looks.
 pub record Goes (s t : Seen) : Type 0 where
   -- with no log nothing: a writer that begins has the lock for itself
   pub none : s.log ≡ None → t ≡ s
-  -- a mark stays
-  pub mark : HasMark s → HasMark t
+  -- a log that has lost its name doesn't get it back
+  pub name : t.named ≡ true → s.named ≡ true
+  -- a mark stays, and what the log stands for
+  pub mark : (shop : Image) → Lands shop s → Lands shop t
+  -- while it has its name, each byte of IMAGE stays, or becomes that image's
+  pub landing : (shop : Image) → Lands shop s → t.named ≡ true → IsMixOf s.image shop t.image
   -- and before there is one IMAGE stays
   pub image : (t.image ≡ s.image) ⊎ HasMark t
 
@@ -28,14 +38,12 @@ module _ {V : Type 0} (seen : V → Option Seen) where
   abbrev pub GoesTo : Seen → V → Type 0
   GoesTo s v = (t : Seen) × (seen v ≡ Some t) × Goes s t
 
--- whether its log has its mark
-pub record IsMarkOf (s : Seen) (mark : Bool) : Type 0 where
-  pub there : mark ≡ true → HasMark s
-  pub is : HasMark s → mark ≡ true
-
--- the log, with a mark if it got one by now
-abbrev pub marked_if : Bool → List ℕ → List ℕ
-marked_if mark f = if mark then (if is_marked f then f else marked_log f) else f
+-- Whether a writer has landed the log since it was read: it got its mark, or it had that and lost its name.
+pub record HasLanded (s : Seen) (marked landed : Bool) : Type 0 where
+  pub got : marked ≡ false → landed ≡ true → HasMark s
+  pub not_got : marked ≡ false → HasMark s → landed ≡ true
+  pub lost : marked ≡ true → landed ≡ true → s.named ≡ false
+  pub not_lost : marked ≡ true → landed ≡ false → s.named ≡ true
 
 -- the image that is given, by the log, or by IMAGE
 abbrev pub SeenGives : Seen → Image → Type 0

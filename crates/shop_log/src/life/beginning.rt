@@ -20,9 +20,11 @@ pub fn begin<F: LogFile, D: LogFolder<F>>(
     folder: &mut D,
     room: LogRoom,
     now: &mut [[u8; 256]],
+    base: &mut [[u8; 256]],
     shop: &mut [[u8; 256]],
 ) -> Result<Log<F>, LogFault>
     requires now { length now.old ≡ 683 }
+    requires base { length base.old ≡ 683 }
     requires shop { length shop.old ≡ 683 }
     ensures any_moment { (shops : List Image) (s : Folder) → D.history.held folder.old ≡ Some s → GivesOneOf shops s
         → AllLeft D.history folder.old (GivesOneOf shops)
@@ -33,7 +35,7 @@ pub fn begin<F: LogFile, D: LogFolder<F>>(
     // an error is returned only if the log gives no image, or after a failure of the folder or of the log's file
     ensures cause { IfErr result (λ e. IsMisfit e ⊎ (D.history.has_failed folder.new ≡ true)) }
 {
-    land(folder, now, shop)?;
+    land(folder, now, base, shop)?;
     let log = make_new(folder, room, shop)?;
     Ok(log)
 }

@@ -1,7 +1,7 @@
 //! An image that is copied into IMAGE, and a log that is removed.
 ghost use Rattle.std.specs.Prelude.{◌≡◌, ◌<◌, [], List, OnErr, OnOk, Some, ℕ, length, slice_index_or, true};
 ghost use Rattle.d64_image.specs.Images.{Image};
-ghost use Rattle.shop_log.specs.life.Bringing.{HasLog, IsAlone, IsBrought, RestsAlone};
+ghost use Rattle.shop_log.specs.life.Bringing.{IsAlone, IsBrought, IsLanding, RestsAlone};
 ghost use Rattle.shop_log.specs.life.Folders.{AllLeft, Folder, HasImage, LeavesFolders, with_image, with_sector};
 
 use crate::life::log_folder::LogFolder;
@@ -17,9 +17,11 @@ fn bring_sector<F: LogFile, D: LogFolder<F>>(
     sector: &[u8; 256],
 ) -> io::Result<()>
     requires within { index < 683 }
-    ensures any_moment { (log : List ℕ) → AllLeft D.history folder.old (HasLog log)
-        → LeavesFolders D.history folder.old folder.new (HasLog log) }
-    ensures log { (log : List ℕ) → AllLeft D.history folder.old (HasLog log) → AllLeft D.history folder.new (HasLog log) }
+    ensures any_moment { (log : List ℕ) (base shop : Image) → slice_index_or shop index [] ≡ sector.now
+        → AllLeft D.history folder.old (IsLanding log base shop)
+        → LeavesFolders D.history folder.old folder.new (IsLanding log base shop) }
+    ensures landing { (log : List ℕ) (base shop : Image) → slice_index_or shop index [] ≡ sector.now
+        → AllLeft D.history folder.old (IsLanding log base shop) → AllLeft D.history folder.new (IsLanding log base shop) }
     ensures ok { OnOk result ((s : Folder) → D.history.held folder.old ≡ Some s
         → slice_index_or s.image index [] ≡ now.now
         → D.history.held folder.new ≡ Some (with_sector index sector.now s)) }
@@ -32,7 +34,7 @@ fn bring_sector<F: LogFile, D: LogFolder<F>>(
 }
 
 /// Writes each sector of IMAGE that differs from those of the image, and syncs IMAGE. `now` is what IMAGE has. The log
-/// stays, and must be marked.
+/// stays, and must be marked. A power loss leaves each byte of IMAGE as it was, or as the image has it.
 pub(crate) fn bring<F: LogFile, D: LogFolder<F>>(
     folder: &mut D,
     now: &[[u8; 256]],
@@ -40,9 +42,10 @@ pub(crate) fn bring<F: LogFile, D: LogFolder<F>>(
 ) -> io::Result<()>
     requires now { length now.now ≡ 683 }
     requires shop { length shop.now ≡ 683 }
-    ensures any_moment { (log : List ℕ) → AllLeft D.history folder.old (HasLog log)
-        → LeavesFolders D.history folder.old folder.new (HasLog log) }
-    ensures log { (log : List ℕ) → AllLeft D.history folder.old (HasLog log) → AllLeft D.history folder.new (HasLog log) }
+    ensures any_moment { (log : List ℕ) (base : Image) → AllLeft D.history folder.old (IsLanding log base shop.now)
+        → LeavesFolders D.history folder.old folder.new (IsLanding log base shop.now) }
+    ensures landing { (log : List ℕ) (base : Image) → AllLeft D.history folder.old (IsLanding log base shop.now)
+        → AllLeft D.history folder.new (IsLanding log base shop.now) }
     ensures ok { OnOk result ((s : Folder) → D.history.held folder.old ≡ Some s → s.image ≡ now.now
         → (D.history.held folder.new ≡ Some (with_image shop.now s))
         × AllLeft D.history folder.new (HasImage (with_image shop.now s))) }

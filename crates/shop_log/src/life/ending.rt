@@ -36,6 +36,7 @@ pub(crate) fn end_log<F: LogFile, D: LogFolder<F>>(
     if is_over {
         return Err(LogFault::File(io::ErrorKind::Other.into()));
     }
+    let mut now = image_room(alloc)?;
     let mut shop = image_room(alloc)?;
-    land(folder, base, shop.as_mut_slice())
+    land(folder, now.as_mut_slice(), base, shop.as_mut_slice())
 }

@@ -14,6 +14,7 @@ use image_file::HostFiles;
 use std::alloc::Global;
 use std::fs::OpenFile;
 use std::io::{self, Read, Seek, SeekFrom};
+use std::os::unix::fs::MetadataExt;
 
 /// An image's open file, and its log, which is opened when it is read and stays open. Nothing is written. The log is
 /// synced when it is read, so that what is shown stays if the power fails. Nothing is known of what the two hold: they
@@ -66,7 +67,13 @@ where
         let Some(mut file) = log_to_read(self.rt, self.names)? else {
             return Ok(None);
         };
-        let bytes = log_bytes(self.alloc, &mut file)?;
+        let mark = byte_behind(&mut file)?;
+        file.seek(SeekFrom::Start(0))?;
+        let mut bytes = log_bytes(self.alloc, &mut file)?;
+        // blocks may have come while it was read, and then the mark: it counts as it was before
+        if let Some(byte) = bytes.get_mut(BLOCK * BLOCKS) {
+            *byte = mark;
+        }
         file.sync_data()?;
         self.log = Some(file);
         Ok(Some(bytes))
@@ -76,10 +83,17 @@ where
         read_sectors(&mut self.image, image)
     }
 
-    fn read_mark(&mut self) -> io::Result<bool> {
-        match &mut self.log {
-            Some(file) => Ok(byte_behind(file)? != 0),
-            None => Ok(false),
+    fn has_landed(&mut self, marked: bool) -> io::Result<bool> {
+        let Some(file) = &mut self.log else {
+            return Ok(false);
+        };
+        if !marked {
+            return Ok(byte_behind(file)? != 0);
         }
+        let Some(other) = log_to_read(self.rt, self.names)? else {
+            return Ok(true);
+        };
+        let (one, two) = (OpenFile::metadata(file)?, OpenFile::metadata(&other)?);
+        Ok(one.dev() != two.dev() || one.ino() != two.ino())
     }
 }

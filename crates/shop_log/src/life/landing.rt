@@ -102,10 +102,13 @@ fn land_log<F: LogFile, D: LogFolder<F>>(
     folder: &mut D,
     log: &[u8],
     now: &[[u8; 256]],
+    base: &mut [[u8; 256]],
     shop: &mut [[u8; 256]],
 ) -> Result<(), LogFault>
     requires now { length now.now ≡ 683 }
+    requires base { length base.old ≡ 683 }
     requires shop { length shop.old ≡ 683 }
+    ensures base { length base.new ≡ 683 }
     ensures sized { length shop.new ≡ 683 }
     ensures any_moment { (shops : List Image) (s : Folder) → IsFound D.history folder.old shops s → s.log ≡ Some log.now
         → now.now ≡ s.image → LeavesFolders D.history folder.old folder.new (GivesOneOf shops) }
@@ -115,23 +118,26 @@ fn land_log<F: LogFile, D: LogFolder<F>>(
         × ((given : Image) → LogGives log.now now.now given → ⊥)) }
     ensures cause { IfErr result (λ e. IsMisfit e ⊎ (D.history.has_failed folder.new ≡ true)) }
 {
-    judge(log, now, shop)?;
+    judge(log, now, base, shop)?;
     land_found(folder, now, shop)?;
     Ok(())
 }
 
 /// Lands a log that is there: the folder is settled, the log is checked, the image that it gives is copied into IMAGE,
-/// and the log is removed. `shop` is that image, or IMAGE's own if there is no log. A power loss at any moment, and an
-/// error, leave a folder from which the next opening finds an image that it might have found before. If the log gives no
-/// image, nothing was changed.
+/// and the log is removed. `shop` is that image, or IMAGE's own if there is no log. `base` is room for the log's base. A
+/// power loss at any moment, and an error, leave a folder from which the next opening finds an image that it might have
+/// found before. If the log gives no image, nothing was changed.
 pub fn land<F: LogFile, D: LogFolder<F>>(
     folder: &mut D,
     now: &mut [[u8; 256]],
+    base: &mut [[u8; 256]],
     shop: &mut [[u8; 256]],
 ) -> Result<(), LogFault>
     requires now { length now.old ≡ 683 }
+    requires base { length base.old ≡ 683 }
     requires shop { length shop.old ≡ 683 }
     ensures now { length now.new ≡ 683 }
+    ensures base { length base.new ≡ 683 }
     ensures shop { length shop.new ≡ 683 }
     ensures any_moment { (shops : List Image) (s : Folder) → D.history.held folder.old ≡ Some s → GivesOneOf shops s
         → AllLeft D.history folder.old (GivesOneOf shops)
@@ -144,7 +150,7 @@ pub fn land<F: LogFile, D: LogFolder<F>>(
     ensures cause { IfErr result (λ e. IsMisfit e ⊎ (D.history.has_failed folder.new ≡ true)) }
 {
     match find(folder, now)? {
-        Some(log) => land_log(folder, log.as_slice(), now, shop),
+        Some(log) => land_log(folder, log.as_slice(), now, base, shop),
         None => {
             shop.copy_from_slice(now);
             Ok(())

@@ -20,10 +20,11 @@ pub trait LogFolder<F: LogFile> {
         ensures image { OnOk result ((s : Folder) → history.held self.old ≡ Some s → image.new ≡ s.image) }
         ensures acts { Acts history self.old self.new (λ s. s) Same result };
 
-    /// Writes the sector of IMAGE with this index. Until a sync a power loss may leave any sectors in IMAGE.
+    /// Writes the sector of IMAGE with this index. Until a sync a power loss leaves each byte of it as it was or as it is
+    /// now, in any mix. An error does that too.
     fn write_sector(&mut self, index: usize, sector: &[u8; 256]) -> io::Result<()>
         requires within { index < 683 }
-        ensures { Acts history self.old self.new (with_sector index sector.now) IsImageWritten result };
+        ensures { Acts history self.old self.new (with_sector index sector.now) (IsImageWritten index sector.now) result };
 
     /// Syncs IMAGE.
     fn sync_image(&mut self) -> io::Result<()>

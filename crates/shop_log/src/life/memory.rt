@@ -40,8 +40,14 @@ pub fn land_in<F: LogFile, D: LogFolder<F>>(
         → (D.history.held folder.new ≡ Some s) × ((given : Image) → Gives s given → ⊥)) }
 {
     let mut now = image_room(alloc)?;
+    let mut base = image_room(alloc)?;
     let mut shop = image_room(alloc)?;
-    match land(folder, now.as_mut_slice(), shop.as_mut_slice()) {
+    match land(
+        folder,
+        now.as_mut_slice(),
+        base.as_mut_slice(),
+        shop.as_mut_slice(),
+    ) {
         Ok(()) => Ok(shop),
         Err(fault) => Err(fault),
     }
@@ -61,8 +67,14 @@ pub fn view_in<V: ViewsImage>(
     ensures without { V.HasNoLog folder.old → IfOk result IsNone }
 {
     let mut now = image_room(alloc)?;
+    let mut base = image_room(alloc)?;
     let mut shop = image_room(alloc)?;
-    match view(folder, now.as_mut_slice(), shop.as_mut_slice()) {
+    match view(
+        folder,
+        now.as_mut_slice(),
+        base.as_mut_slice(),
+        shop.as_mut_slice(),
+    ) {
         Ok(true) => Ok(Some(shop)),
         Ok(false) => Ok(None),
         Err(fault) => Err(fault),

@@ -4,6 +4,7 @@ use crate::comparing::{same, same_at};
 use crate::logged::logs::{begun, change, commit, numbered, two_touched, without};
 use shop_log::{
     ImageLog, LiveLog, LogFault, LogFolder, LogRoom, MemFolder, MemLog, Misfit, land, land_in,
+    replace,
 };
 use std::process::Abort;
 
@@ -33,12 +34,23 @@ fn changed(rt: &(impl Abort + AllocGlobal)) -> Vec<[u8; 256]> {
     image
 }
 
-/// The image before it, with one of its sectors torn and another one new.
+/// The image on the way from the one before to the one after: the first byte of a sector is still old, all other bytes of
+/// it are new, and so is the last one of another sector.
 fn torn(rt: &(impl Abort + AllocGlobal)) -> Vec<[u8; 256]> {
     let mut image = numbered(rt);
     if image.len() == 683 {
         image[357] = [0; 256];
+        image[357][0] = 106;
         image[682][255] = 255;
+    }
+    image
+}
+
+/// That image with a byte that is neither old nor new.
+fn foreign(rt: &(impl Abort + AllocGlobal)) -> Vec<[u8; 256]> {
+    let mut image = torn(rt);
+    if image.len() == 683 {
+        image[682][0] = 1;
     }
     image
 }
@@ -75,12 +87,17 @@ fn held(rt: &(impl Abort + AllocGlobal), folder: &mut MemFolder) -> Found {
 
 /// What is found in the folder of this image and log once it was landed.
 fn landed(rt: &(impl Abort + AllocGlobal), image: &[[u8; 256]], log: &[u8]) -> Found {
-    let (mut now, mut shop) = (room(rt), room(rt));
-    if image.len() != 683 || now.len() != 683 || shop.len() != 683 {
+    let (mut now, mut base, mut shop) = (room(rt), room(rt), room(rt));
+    if image.len() != 683 || now.len() != 683 || base.len() != 683 || shop.len() != 683 {
         return Found::Failed;
     }
     let mut folder = MemFolder::with_log(rt.alloc(), image, log).expect(rt, "there is memory");
-    match land(&mut folder, now.as_mut_slice(), shop.as_mut_slice()) {
+    match land(
+        &mut folder,
+        now.as_mut_slice(),
+        base.as_mut_slice(),
+        shop.as_mut_slice(),
+    ) {
         Ok(()) => held(rt, &mut folder),
         Err(LogFault::Unfit(Misfit::NoBase)) => Found::NoBase,
         Err(LogFault::Unfit(Misfit::Foreign)) => Found::Foreign,
@@ -123,12 +140,13 @@ fn power_lost_on_the_way(rt: HostRuntime) {
     );
     same(
         &rt,
-        landed(&rt, half.as_slice(), cut_mark.as_slice()),
+        landed(&rt, old.as_slice(), cut_mark.as_slice()),
         Found::Before,
     );
 }
 
-/// A log without its mark beside an image that isn't its base; a log of zeros; one that is a byte short.
+/// A log without its mark beside an image that isn't its base; one with its mark beside an image that has a byte which is
+/// neither the base's nor the shop's; a log of zeros; one that is a byte short.
 #[test]
 fn logs_that_give_no_image(rt: HostRuntime) {
     let (old, new) = (numbered(&rt), changed(&rt));
@@ -136,6 +154,20 @@ fn logs_that_give_no_image(rt: HostRuntime) {
     same(
         &rt,
         landed(&rt, new.as_slice(), log.as_slice()),
+        Found::Foreign,
+    );
+    let (half, other) = (torn(&rt), foreign(&rt));
+    let mark = marked(&rt, log.as_slice());
+    same(
+        &rt,
+        landed(&rt, other.as_slice(), mark.as_slice()),
+        Found::Foreign,
+    );
+    let cut = without(&rt, log.as_slice(), 188_480);
+    let cut_mark = marked(&rt, cut.as_slice());
+    same(
+        &rt,
+        landed(&rt, half.as_slice(), cut_mark.as_slice()),
         Found::Foreign,
     );
     let zeros = vec![in rt.alloc(); 0; 4_198_400].expect(&rt, "there is memory");
@@ -165,6 +197,19 @@ fn service(
     let shop = land_in(rt.alloc(), &mut folder).ok()?;
     let room = LogRoom::new(rt.alloc()).ok()?;
     LiveLog::begin(rt.alloc(), folder, room, shop).ok()
+}
+
+/// An image takes the place of another.
+#[test]
+fn an_image_is_replaced(rt: HostRuntime) {
+    let (old, new) = (numbered(&rt), changed(&rt));
+    let room = LogRoom::new(rt.alloc()).expect(&rt, "there is memory");
+    if old.len() == 683 && new.len() == 683 {
+        let mut folder = MemFolder::new(rt.alloc(), old.as_slice()).expect(&rt, "there is memory");
+        let done = replace(&mut folder, room, old.as_slice(), new.as_slice()).is_ok();
+        same(&rt, done, true);
+        same(&rt, held(&rt, &mut folder), Found::After);
+    }
 }
 
 /// A service of one commit.

@@ -4,8 +4,9 @@ use Rattle.std.proofs.lemmas.Bool.{cases_eq}
 use Rattle.std.proofs.lemmas.List.{get_or-set_other, get_or-set_same, length-set, set-get_or}
 use Rattle.std.specs.Prelude.{Err, Ok, OnOk, Option, Result, Some, slice_index_or, slice_set}
 use Rattle.d64_image.specs.Images.{Image}
-use Rattle.shop_log.specs.life.Bringing.{HasLog, IsBrought, RestsAlone}
+use Rattle.shop_log.specs.life.Bringing.{IsBrought, IsLanding, RestsAlone}
 use Rattle.shop_log.specs.life.Folders.{Acts, AllLeft, Brings, Folder, FolderHistory, HasImage, HasNames, IsImageWritten, IsRemoving, LeavesFolders, unlogged, with_image, with_sector}
+use Rattle.shop_log.proofs.lemmas.life.Mixed.{landing_sector}
 use Rattle.shop_log.proofs.lemmas.life.Steps.{goes_on, joined, started}
 
 -- the first k sectors are those of the image, the others as they were
@@ -44,29 +45,35 @@ same_sector o s index now bytes is same held =
     held ∙ ap (λ (i : Image). Some (with_image i s)) put
 
 module _ {D : Type 0} (h : FolderHistory D) where
-  -- nothing was written
-  pub same_moments : (d : D) (log : List ℕ) → AllLeft h d (HasLog log) → LeavesFolders h d d (HasLog log)
-  same_moments d log all = started h d (HasLog log) all
+  module _ (log : List ℕ) (base shop : Image) where
+    -- nothing was written
+    pub same_moments : (d : D) → AllLeft h d (IsLanding log base shop) → LeavesFolders h d d (IsLanding log base shop)
+    same_moments d all = started h d (IsLanding log base shop) all
 
-  module _ {T E : Type 0} (old new : D) (index : ℕ) (bytes : List ℕ) (writing : Result T E)
-      (acts : Acts h old new (with_sector index bytes) IsImageWritten writing) where
-    pub written_log : (log : List ℕ) → AllLeft h old (HasLog log) → AllLeft h new (HasLog log)
-    written_log log all s may = let from = acts.outcomes s may in from.2.log ∙ all from.0 from.1
+    module _ {T E : Type 0} (old new : D) (index : ℕ) (bytes : List ℕ) (is : slice_index_or shop index [] ≡ bytes)
+        (writing : Result T E) (acts : Acts h old new (with_sector index bytes) (IsImageWritten index bytes) writing)
+        (all : AllLeft h old (IsLanding log base shop)) where
+      pub written_landing : AllLeft h new (IsLanding log base shop)
+      written_landing s may =
+          let from = acts.outcomes s may in
+          landing_sector log index bytes base shop from.0 s is from.2 (all from.0 from.1)
 
-    pub written_moments : (log : List ℕ) → AllLeft h old (HasLog log) → LeavesFolders h old new (HasLog log)
-    written_moments log all = goes_on h old old new (HasLog log) (started h old (HasLog log) all) acts.time (written_log log all)
+      pub written_moments : LeavesFolders h old new (IsLanding log base shop)
+      written_moments = goes_on h old old new (IsLanding log base shop) (started h old (IsLanding log base shop) all) acts.time
+          written_landing
 
   -- what the loop keeps
   pub record IsBringing (old d : D) (k : ℕ) (now shop : Image) : Type 0 where
-    pub moments : (log : List ℕ) → AllLeft h old (HasLog log) → LeavesFolders h old d (HasLog log)
-    pub log : (log : List ℕ) → AllLeft h old (HasLog log) → AllLeft h d (HasLog log)
+    pub moments : (log : List ℕ) (base : Image) → AllLeft h old (IsLanding log base shop)
+        → LeavesFolders h old d (IsLanding log base shop)
+    pub landing : (log : List ℕ) (base : Image) → AllLeft h old (IsLanding log base shop) → AllLeft h d (IsLanding log base shop)
     pub held : (s : Folder) → h.held old ≡ Some s → s.image ≡ now
         → (image : Image) × IsPartly k now shop image × (h.held d ≡ Some (with_image image s))
 
   pub bringing_first : (old : D) (now shop : Image) → length now ≡ 683 → IsBringing old old 0 now shop
   bringing_first old now shop size = record {
-    moments = λ log all. started h old (HasLog log) all;
-    log = λ log all. all;
+    moments = λ log base all. started h old (IsLanding log base shop) all;
+    landing = λ log base all. all;
     held = λ s held is. (
       now,
       none_yet now shop size,
@@ -75,33 +82,44 @@ module _ {D : Type 0} (h : FolderHistory D) where
   }
 
   module _ (old d new : D) (k : ℕ) (now shop : Image) (so_far : IsBringing old d k now shop)
-      (moments : (log : List ℕ) → AllLeft h d (HasLog log) → LeavesFolders h d new (HasLog log)) where
-    pub bring_moments : (log : List ℕ) → AllLeft h old (HasLog log) → LeavesFolders h old new (HasLog log)
-    bring_moments log all = joined h old d new (HasLog log) (so_far.moments log all) (moments log (so_far.log log all))
+      (moments : (log : List ℕ) (base x : Image) → slice_index_or x k [] ≡ slice_index_or shop k []
+      → AllLeft h d (IsLanding log base x) → LeavesFolders h d new (IsLanding log base x)) where
+    pub bring_moments : (log : List ℕ) (base : Image) → AllLeft h old (IsLanding log base shop)
+        → LeavesFolders h old new (IsLanding log base shop)
+    bring_moments log base all = joined h old d new (IsLanding log base shop) (so_far.moments log base all)
+        (moments log base shop refl (so_far.landing log base all))
 
-    pub bringing_more : k < 683
-        → ((log : List ℕ) → AllLeft h d (HasLog log) → AllLeft h new (HasLog log))
-        → ((s : Folder) → h.held d ≡ Some s → slice_index_or s.image k [] ≡ slice_index_or now k []
-        → h.held new ≡ Some (with_sector k (slice_index_or shop k []) s))
-        → IsBringing old new (k + 1) now shop
-    bringing_more low stays ok = record {
-      moments = bring_moments;
-      log = λ log all. stays log (so_far.log log all);
-      held = λ s held is.
-          let before = so_far.held s held is in (
-            slice_set before.0 k (get_or shop k []),
-            one_more k now shop before.0 low before.1,
-            ok (with_image before.0 s) before.2 (before.1.rest k (omega arith)),
-          );
-    }
+    module _ (stays : (log : List ℕ) (base x : Image) → slice_index_or x k [] ≡ slice_index_or shop k []
+        → AllLeft h d (IsLanding log base x) → AllLeft h new (IsLanding log base x)) where
+      pub bring_landing : (log : List ℕ) (base : Image) → AllLeft h old (IsLanding log base shop)
+          → AllLeft h new (IsLanding log base shop)
+      bring_landing log base all = stays log base shop refl (so_far.landing log base all)
+
+      pub bringing_more : k < 683
+          → ((s : Folder) → h.held d ≡ Some s → slice_index_or s.image k [] ≡ slice_index_or now k []
+          → h.held new ≡ Some (with_sector k (slice_index_or shop k []) s))
+          → IsBringing old new (k + 1) now shop
+      bringing_more low ok = record {
+        moments = bring_moments;
+        landing = bring_landing;
+        held = λ s held is.
+            let before = so_far.held s held is in (
+              slice_set before.0 k (get_or shop k []),
+              one_more k now shop before.0 low before.1,
+              ok (with_image before.0 s) before.2 (before.1.rest k (omega arith)),
+            );
+      }
 
   module _ {E : Type 0} (old d new : D) (k : ℕ) (now shop : Image) (so_far : IsBringing old d k now shop)
       (syncing : Result Unit E) (brings : Brings h d new HasImage syncing) where
-    pub brought_log : (log : List ℕ) → AllLeft h old (HasLog log) → AllLeft h new (HasLog log)
-    brought_log log all s may = so_far.log log all s (brings.outcomes s may)
+    pub brought_landing : (log : List ℕ) (base : Image) → AllLeft h old (IsLanding log base shop)
+        → AllLeft h new (IsLanding log base shop)
+    brought_landing log base all s may = so_far.landing log base all s (brings.outcomes s may)
 
-    pub brought_moments : (log : List ℕ) → AllLeft h old (HasLog log) → LeavesFolders h old new (HasLog log)
-    brought_moments log all = goes_on h old d new (HasLog log) (so_far.moments log all) brings.time (brought_log log all)
+    pub brought_moments : (log : List ℕ) (base : Image) → AllLeft h old (IsLanding log base shop)
+        → LeavesFolders h old new (IsLanding log base shop)
+    brought_moments log base all = goes_on h old d new (IsLanding log base shop) (so_far.moments log base all) brings.time
+        (brought_landing log base all)
 
     brought_of : 683 ≤ k → length shop ≡ 683 → (r : Result Unit E)
         → OnOk r ((s : Folder) → h.held d ≡ Some s → AllLeft h new (HasImage s))

@@ -2,9 +2,12 @@
 use Rattle.std.proofs.Common.{◌≡◌, ◌∙◌, ℕ, Global, List, Vec, ap, refl, subst, sym}
 use Rattle.std.specs.Prelude.{Contains, Err, IfErr, IfOk, None, Ok, OnOk, Option, Result, Some, option_map}
 use Rattle.d64_image.specs.Images.{Image}
-use Rattle.shop_log.specs.life.Bringing.{HasLog, IsBrought, IsFound, IsSettledAs, RestsAlone, marked_log}
+use Rattle.shop_log.specs.Recovered.{base_of}
+use Rattle.shop_log.specs.life.Bringing.{IsBrought, IsFound, IsLanding, IsMarkedIn, IsSettledAs, RestsAlone, marked_log}
 use Rattle.shop_log.specs.life.Folders.{Acts, AllLeft, Brings, Folder, FolderHistory, HasImage, HasNames, LeavesFolders, Same, with_image, with_log}
+use Rattle.shop_log.specs.life.Mixes.{IsMixOf}
 use Rattle.shop_log.specs.life.Shops.{Gives, GivesOneOf, LogGives, given_by}
+use Rattle.shop_log.proofs.lemmas.life.Mixed.{mix_gives}
 use Rattle.shop_log.proofs.lemmas.life.Marks.{gives_log, marked_gives}
 use Rattle.shop_log.proofs.lemmas.life.Steps.{joined, weaker}
 
@@ -49,28 +52,38 @@ module _ {D : Type 0} (h : FolderHistory D) where
         synced s held o (subst (h.may_leave a) (sym (y.2 ∙ x.2)) x.1)
     found_settled (Err e) acts = tt
 
-  -- the log is marked, and gives the shop beside any IMAGE
+  -- the log is marked, and gives the shop beside each mix of its base and that
   module _ (old a : D) (shops : List Image) (s : Folder) (f : List ℕ) (shop : Image) (there : IsFound h old shops s)
       (log : s.log ≡ Some f) (gives : LogGives f s.image shop)
       (marking : LeavesFolders h old a (GivesOneOf shops))
-      (marked : (h.held a ≡ Some (with_log (marked_log f) s)) × AllLeft h a (HasLog (marked_log f))) where
+      (marked : (h.held a ≡ Some (with_log (marked_log f) s)) × AllLeft h a (IsMarkedIn f s)) where
     contained : Contains shops shop
     contained = subst (Contains shops) (sym (gives_log s f there.gives.0 log there.gives.2).is ∙ gives.is) there.gives.1
 
-    gives_shop : (o : Folder) → HasLog (marked_log f) o → Gives o shop
-    gives_shop o is = subst (λ (l : Option (List ℕ)). given_by l o.image shop) (sym is) (marked_gives f s.image o.image shop gives)
+    abbrev Lands : Folder → Type 0
+    Lands = IsLanding (marked_log f) (base_of f) shop
+
+    marked_lands : AllLeft h a Lands
+    marked_lands o may =
+        let is = marked.1 o may in
+        (is.0, subst (IsMixOf (base_of f) shop) (sym is.1) (mix_gives f s.image shop gives))
+
+    gives_shop : (o : Folder) → Lands o → Gives o shop
+    gives_shop o is = subst (λ (l : Option (List ℕ)). given_by l o.image shop) (sym is.0)
+        (marked_gives f s.image o.image shop gives is.1)
 
     one_of : (o : Folder) → Gives o shop → GivesOneOf shops o
     one_of o is = (shop, contained, is)
 
-    module _ (b : D) (moments : (log : List ℕ) → AllLeft h a (HasLog log) → LeavesFolders h a b (HasLog log)) where
+    module _ (b : D) (moments : (log : List ℕ) (base : Image) → AllLeft h a (IsLanding log base shop)
+        → LeavesFolders h a b (IsLanding log base shop)) where
       pub bring_landed : LeavesFolders h old b (GivesOneOf shops)
       bring_landed = joined h old a b (GivesOneOf shops) marking
-          (weaker h a b (HasLog (marked_log f)) (GivesOneOf shops) (λ o is. one_of o (gives_shop o is))
-          (moments (marked_log f) marked.1))
+          (weaker h a b Lands (GivesOneOf shops) (λ o is. one_of o (gives_shop o is))
+          (moments (marked_log f) (base_of f) marked_lands))
 
       module _ (now : Image) (is_now : now ≡ s.image)
-          (stays : (log : List ℕ) → AllLeft h a (HasLog log) → AllLeft h b (HasLog log))
+          (stays : (log : List ℕ) (base : Image) → AllLeft h a (IsLanding log base shop) → AllLeft h b (IsLanding log base shop))
           (ok : (x : Folder) → h.held a ≡ Some x → x.image ≡ now
           → (h.held b ≡ Some (with_image shop x)) × AllLeft h b (HasImage (with_image shop x))) where
         pub whole : (h.held b ≡ Some (with_image shop (with_log (marked_log f) s)))
@@ -78,7 +91,7 @@ module _ {D : Type 0} (h : FolderHistory D) where
         whole = ok (with_log (marked_log f) s) marked.0 (sym is_now)
 
         pub brought : AllLeft h b (IsBrought shop)
-        brought o may = (whole.1 o may, gives_shop o (stays (marked_log f) marked.1 o may))
+        brought o may = (whole.1 o may, gives_shop o (stays (marked_log f) (base_of f) marked_lands o may))
 
         pub landed : (new : D) → ((x : Image) → AllLeft h b (IsBrought x) → LeavesFolders h b new (IsBrought x))
             → LeavesFolders h old new (GivesOneOf shops)
@@ -93,9 +106,9 @@ module _ {D : Type 0} (h : FolderHistory D) where
       → ((shops : List Image) (s : Folder) (f : List ℕ) → IsFound h old shops s → s.log ≡ Some f
       → LeavesFolders h old a (GivesOneOf shops))
       → ((shops : List Image) (s : Folder) (f : List ℕ) → IsFound h old shops s → s.log ≡ Some f
-      → (h.held a ≡ Some (with_log (marked_log f) s)) × AllLeft h a (HasLog (marked_log f)))
-      → ((log : List ℕ) → AllLeft h a (HasLog log) → LeavesFolders h a b (HasLog log))
-      → ((log : List ℕ) → AllLeft h a (HasLog log) → AllLeft h b (HasLog log))
+      → (h.held a ≡ Some (with_log (marked_log f) s)) × AllLeft h a (IsMarkedIn f s))
+      → ((log : List ℕ) (base : Image) → AllLeft h a (IsLanding log base shop) → LeavesFolders h a b (IsLanding log base shop))
+      → ((log : List ℕ) (base : Image) → AllLeft h a (IsLanding log base shop) → AllLeft h b (IsLanding log base shop))
       → ((x : Folder) → h.held a ≡ Some x → x.image ≡ now
       → (h.held b ≡ Some (with_image shop x)) × AllLeft h b (HasImage (with_image shop x)))
       → (r : Result Unit E)

@@ -6,8 +6,10 @@ use Rattle.d64_image.specs.Images.{Image}
 use Rattle.shop_log.specs.Files.{FileHistory, Mixed, Only, SyncsBytes, WritesBytes}
 use Rattle.shop_log.proofs.Commits.{new_mixed}
 use Rattle.shop_log.proofs.Marked.{is_there, mark_left, same_recovered}
-use Rattle.shop_log.specs.life.Bringing.{HasLog, IsFound, MarkTorn, marked_log}
+use Rattle.shop_log.specs.Recovered.{base_of}
+use Rattle.shop_log.specs.life.Bringing.{HasLog, IsFound, IsMarkedIn, MarkTorn, marked_log}
 use Rattle.shop_log.specs.life.Folders.{Acts, AllLeft, Folder, FolderHistory, IsReturned, LeavesFolders, LogOf, Same, with_log}
+use Rattle.shop_log.specs.life.Mixes.{IsMixOf}
 use Rattle.shop_log.specs.life.Shops.{Gives, GivesOneOf, LogGives, given_by}
 use Rattle.shop_log.proofs.lemmas.life.Steps.{goes_on, started}
 
@@ -20,23 +22,28 @@ mark_gives d c image given torn gives =
       size = mixed.size ∙ gives.size;
       based = left.based;
       own = ⊎_elim
-          (λ marked. inl (⊎_elim
-          (λ (same : slice_index c (4194304 + 0) ≡ slice_index d (4194304 + 0)). ap (λ (k : ℕ). not (eqb k 0)) same ∙ marked)
-          (λ (one : slice_index c (4194304 + 0) ≡ slice_index (1 ∷ []) 0). ap (λ (k : ℕ). not (eqb k 0)) one)
-          (mixed.each 0 (omega arith))))
-          (λ same. inr (same ∙ sym left.base))
+          (λ same. inl (same ∙ sym left.base))
+          (λ marked. inr (
+            ⊎_elim
+                (λ (same : slice_index c (4194304 + 0) ≡ slice_index d (4194304 + 0)). ap (λ (k : ℕ). not (eqb k 0)) same ∙ marked.0)
+                (λ (one : slice_index c (4194304 + 0) ≡ slice_index (1 ∷ []) 0). ap (λ (k : ℕ). not (eqb k 0)) one)
+                (mixed.each 0 (omega arith)),
+            subst (λ (b : Image). IsMixOf b given image) (sym left.base) marked.1,
+          ))
           gives.own;
       is = same_recovered d gives.size c mixed ∙ gives.is;
     }
 
--- with its mark it gives the same beside any IMAGE
-pub marked_gives : (f : List ℕ) (image other given : Image) → LogGives f image given → LogGives (marked_log f) other given
-marked_gives f image other given gives =
+-- with its mark it gives the same beside each mix of its base and that
+pub marked_gives : (f : List ℕ) (image other given : Image) → LogGives f image given → IsMixOf (base_of f) given other
+    → LogGives (marked_log f) other given
+marked_gives f image other given gives mix =
     let mixed : Mixed 4194304 (1 ∷ []) f (marked_log f) = new_mixed f 4194304 (1 ∷ []) (omega (arith, gives.size)) in
+    let left = mark_left f gives.size (marked_log f) mixed gives.based in
     record {
       size = mixed.size ∙ gives.size;
-      based = (mark_left f gives.size (marked_log f) mixed gives.based).based;
-      own = inl (is_there f gives.size);
+      based = left.based;
+      own = inr (is_there f gives.size, subst (λ (b : Image). IsMixOf b given other) (sym left.base) mix);
       is = same_recovered f gives.size (marked_log f) mixed ∙ gives.is;
     }
 
@@ -142,12 +149,15 @@ module _ {D F : Type 0} (h : FolderHistory D) (g : FileHistory F) (old : D) (sho
         pub mark_held : h.held new ≡ Some (with_log (marked_log f) s)
         mark_held = back s (marked_log f) (kept s found.held) is_put.0
 
-        pub mark_stays : AllLeft h new (HasLog (marked_log f))
+        pub mark_stays : AllLeft h new (IsMarkedIn f s)
         mark_stays o may =
             let from = returned.outcomes o may in
             ⊎_elim
             (λ same. absurd (not_none from.0 (was from.0 from.1) same.1))
-            (λ closed. log_is (marked_log f) closed.0 from.0 o closed.2 (is_put.1 closed.0 closed.1))
+            (λ closed. (
+              log_is (marked_log f) closed.0 from.0 o closed.2 (is_put.1 closed.0 closed.1),
+              ap (λ (x : Folder). x.image) closed.2 ∙ (found.settled from.0 (was from.0 from.1)).0,
+            ))
             from.2
           where
             not_none : (from : Folder) → h.may_leave old from → from.log ≡ None → ⊥

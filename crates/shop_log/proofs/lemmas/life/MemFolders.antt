@@ -7,8 +7,9 @@ use Rattle.shop_log.specs.Files.{Rests}
 use Rattle.shop_log.specs.Memory.{mem_bytes, memory}
 use Rattle.shop_log.specs.declared.mem_log.MemLog.{MemLog}
 use Rattle.shop_log.proofs.Remembered.{all_came}
-use Rattle.shop_log.specs.life.FolderCalls.{leaves, left_by, left_le, moments, none_failed, seen_after, step}
-use Rattle.shop_log.specs.life.Folders.{CountsFailure, Folder, IsReturned, LeftOpen, LogOf, with_log}
+use Rattle.shop_log.proofs.lemmas.life.Mixed.{sector_set}
+use Rattle.shop_log.specs.life.FolderCalls.{leaves, left_by, left_le, moments, none_failed, seen_after}
+use Rattle.shop_log.specs.life.Folders.{Folder, IsReturned, LeftOpen, LogOf, with_log}
 use Rattle.shop_log.specs.life.MemFolders.{first_of, folder_in_memory, held_of, lost_moments}
 use Rattle.shop_log.specs.declared.life.mem_folder.FolderCall.{FolderCall}
 use Rattle.shop_log.specs.declared.life.mem_folder.FolderCall.TheVariants.{Make, Name, Remove, Return, SyncImage, SyncNames, Write}
@@ -25,7 +26,11 @@ not_failed false c is = (refl, is)
 -- and all that was done
 pub folder_came : (first : Folder) (calls : List FolderCall) → none_failed calls ≡ true → leaves first calls (seen_after first calls)
 folder_came first [] fine = refl
-folder_came first (Write index bytes ∷ e) fine = (seen_after first e, folder_came first e fine, record { log = refl; making = refl })
+folder_came first (Write index bytes ∷ e) fine = (
+  seen_after first e,
+  folder_came first e fine,
+  record { log = refl; making = refl; each = λ i j low small. sector_set (seen_after first e).image index bytes i j },
+)
 folder_came first (SyncImage ∷ e) fine = (seen_after first e, folder_came first e fine, (refl, refl))
 folder_came first (Make ∷ e) fine = (seen_after first e, folder_came first e fine, record { image = refl; log = refl })
 folder_came first (Name bytes ∷ e) fine =

@@ -1,5 +1,5 @@
 -- A log in its folder, as time goes on.
-use Rattle.std.proofs.Common.{◌≡◌, ◌≤◌, ◌+◌, ◌-◌, ◌⊎◌, ◌∙◌, ℕ, Bool, List, ap, arith, false, inl, inr, refl, subst, sym, true, ⊎_elim}
+use Rattle.std.proofs.Common.{◌≡◌, ◌≤◌, ◌⊎◌, ◌∙◌, ℕ, Bool, List, ap, arith, false, inl, inr, refl, subst, sym, true, ⊎_elim}
 use Rattle.std.proofs.lemmas.Bool.{false≢true}
 use Rattle.std.proofs.lemmas.Option.{same_Some}
 use Rattle.std.specs.Prelude.{Option, Some}
@@ -10,7 +10,7 @@ use Rattle.shop_log.specs.Logs.{StandsFor, log_file}
 use Rattle.shop_log.specs.Recovered.{IsLeft, is_marked}
 use Rattle.shop_log.specs.declared.log.Log.{Log}
 use Rattle.shop_log.specs.declared.log_file.LogFile.{Ghosts}
-use Rattle.shop_log.specs.life.Folders.{Folder, FolderHistory, LeftOpen, with_log}
+use Rattle.shop_log.specs.life.Folders.{Folder, FolderHistory, with_log}
 use Rattle.shop_log.specs.life.LiveLogs.{GivesAtMost, IsRenewing, Stands, file_time, gives_image, left_from, left_last, moment_now, of_live, only_image}
 use Rattle.shop_log.specs.life.Serving.{Serves}
 use Rattle.shop_log.specs.life.Shops.{Gives, LogGives}
@@ -39,8 +39,8 @@ module _ {F D : Type 0} {G : Ghosts F} (h : FolderHistory D) where
     left_gives : (image : Image) (c : List ℕ) → image ≡ base → IsLeft base before now c
         → LogGives c image before ⊎ LogGives c image now
     left_gives image c is left = ⊎_elim
-        (λ old. inl record { size = left.size; based = left.based; own = inr (is ∙ sym left.base); is = old })
-        (λ new. inr record { size = left.size; based = left.based; own = inr (is ∙ sym left.base); is = new })
+        (λ old. inl record { size = left.size; based = left.based; own = inl (is ∙ sym left.base); is = old })
+        (λ new. inr record { size = left.size; based = left.based; own = inl (is ∙ sym left.base); is = new })
         left.image
 
     -- What a power loss leaves while a commit is made: what it might have left before, or a folder that gives one of two

@@ -1,14 +1,14 @@
 -- A full log is closed, marked and landed, and a new one gets its name.
 use Rattle.std.proofs.Common.{◌≡◌, ◌≤◌, ◌+◌, ◌-◌, ◌⊎◌, ◌∙◌, ℕ, Bool, List, [], ◌∷◌, ap, arith, false, inl, inr, refl, subst, sym, true, ⊎_elim}
 use Rattle.std.proofs.lemmas.Option.{none-some, same_Some}
-use Rattle.std.specs.Prelude.{Contains, Err, IfOk, IsSome, None, Ok, Option, Result, Some, slice_index_or}
+use Rattle.std.specs.Prelude.{Contains, Err, IfOk, IsSome, Ok, Option, Result, Some, slice_index_or}
 use Rattle.d64_image.specs.Images.{Image}
-use Rattle.shop_log.specs.Logs.{StandsFor, log_file}
+use Rattle.shop_log.specs.Logs.{log_file}
 use Rattle.shop_log.specs.declared.log.Log.{Log}
 use Rattle.shop_log.specs.declared.log_file.LogFile.{Ghosts}
-use Rattle.shop_log.specs.life.Bringing.{HasLog, IsBrought, IsFound, RestsAlone, marked_log}
+use Rattle.shop_log.specs.life.Bringing.{IsBrought, IsFound, IsLanding, IsMarkedIn, RestsAlone, marked_log}
 use Rattle.shop_log.specs.life.Folders.{AllLeft, Folder, FolderHistory, HasImage, IsReturned, LeavesFolders, LeftOpen, with_image, with_log}
-use Rattle.shop_log.specs.life.LiveLogs.{IsRenewing, Stands, file_time, gives_image, left_from, moment_now, stands_gives}
+use Rattle.shop_log.specs.life.LiveLogs.{IsRenewing, Stands, file_time, left_from, moment_now, stands_gives}
 use Rattle.shop_log.specs.life.Serving.{Serves}
 use Rattle.shop_log.specs.life.Shops.{Gives, GivesOneOf, LogGives, given_by}
 use Rattle.shop_log.proofs.lemmas.life.Landed.{bring_landed, brought, whole}
@@ -173,9 +173,10 @@ module _ {F D E : Type 0} {G : Ghosts F} (h : FolderHistory D) (d a : D) (log : 
 
       module _ (e : D)
           (marked : (shops : List Image) (s : Folder) (f : List ℕ) → IsFound h a shops s → s.log ≡ Some f
-          → (h.held b ≡ Some (with_log (marked_log f) s)) × AllLeft h b (HasLog (marked_log f)))
-          (moments : (log : List ℕ) → AllLeft h b (HasLog log) → LeavesFolders h b e (HasLog log)) where
-        is_marked : (h.held b ≡ Some (with_log (marked_log bytes) (with_log bytes stands.some))) × AllLeft h b (HasLog (marked_log bytes))
+          → (h.held b ≡ Some (with_log (marked_log f) s)) × AllLeft h b (IsMarkedIn f s))
+          (moments : (log : List ℕ) (x : Image) → AllLeft h b (IsLanding log x now) → LeavesFolders h b e (IsLanding log x now)) where
+        is_marked : (h.held b ≡ Some (with_log (marked_log bytes) (with_log bytes stands.some)))
+            × AllLeft h b (IsMarkedIn bytes (with_log bytes stands.some))
         is_marked = marked (now ∷ []) (with_log bytes stands.some) bytes found refl
 
         landing : LeavesFolders h a e (GivesOneOf (now ∷ []))
@@ -187,7 +188,7 @@ module _ {F D E : Type 0} {G : Ghosts F} (h : FolderHistory D) (d a : D) (log : 
         bring_renewing = renewing e landing
 
         module _ (new : D)
-            (stays : (log : List ℕ) → AllLeft h b (HasLog log) → AllLeft h e (HasLog log))
+            (stays : (log : List ℕ) (x : Image) → AllLeft h b (IsLanding log x now) → AllLeft h e (IsLanding log x now))
             (ok : (x : Folder) → h.held b ≡ Some x → x.image ≡ base
             → (h.held e ≡ Some (with_image now x)) × AllLeft h e (HasImage (with_image now x)))
             (making : (s : Folder) → h.held e ≡ Some s → AllLeft h e (IsBrought now) → LeavesFolders h e new (IsBrought now)) where

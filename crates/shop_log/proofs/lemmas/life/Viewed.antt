@@ -1,149 +1,166 @@
 -- A log that is read, and then the image and the log's mark, while a writer may go on.
-use Rattle.std.proofs.Common.{◌≡◌, ◌∙◌, ℕ, Bool, List, Option, Some, None, ap, false, inl, inr, length, refl, subst, sym, true, ⊎_elim}
+use Rattle.std.proofs.Common.{◌≡◌, ◌<◌, ◌∙◌, ℕ, Bool, List, Option, Some, ap, false, inr, length, refl, subst, sym, true, ⊎_elim}
 use Rattle.std.proofs.lemmas.Bool.{false≢true}
 use Rattle.std.proofs.lemmas.Option.{same_Some}
 use Rattle.std.specs.Prelude.{Err, IfErr, IfOk, Ok, Result}
 use Rattle.d64_image.specs.Images.{Image}
-use Rattle.shop_log.specs.Recovered.{base_of, is_marked}
-use Rattle.shop_log.specs.life.Bringing.{marked_log}
+use Rattle.shop_log.specs.Recovered.{base_end, base_of, is_marked, recovered}
+use Rattle.shop_log.specs.life.Mixes.{IsMixOf}
 use Rattle.shop_log.specs.life.Shops.{LogGives, given_by}
-use Rattle.shop_log.specs.life.Views.{Goes, GoesTo, HasMark, IsLogViewed, IsMarkOf, IsViewed, Seen, SeenGives, marked_if}
-use Rattle.shop_log.proofs.lemmas.life.Marks.{marked_gives}
+use Rattle.shop_log.specs.life.Views.{Goes, GoesTo, HasLanded, HasMark, IsLogViewed, IsViewed, Lands, Seen, SeenGives}
+use Rattle.shop_log.proofs.lemmas.life.Mixed.{mix_back, mix_gives, mix_more}
 
 pub if_err : {T E : Type 0} (Q : E → Type 0) (P : Type 0) (r : Result T E) → P → IfErr r (λ e. Q e → P)
 if_err Q P (Ok x) p = tt
 if_err Q P (Err e) p = λ q. p
 
--- beside any IMAGE a marked log gives what it gave
-marked_beside : (f : List ℕ) (image other given : Image) → is_marked f ≡ true → LogGives f image given → LogGives f other given
-marked_beside f image other given marked gives = record {
-  size = gives.size;
-  based = gives.based;
-  own = inl marked;
-  is = gives.is;
-}
-
--- with the mark that it got it gives what it gave
-got_gives : (m : Bool) (f : List ℕ) (image other given : Image) → m ≡ true → LogGives f image given
-    → LogGives (marked_if m f) other given
-got_gives false f image other given is gives = absurd (false≢true is)
-got_gives true f image other given is gives = by_mark (is_marked f) refl
-  where
-    by_mark : (b : Bool) → is_marked f ≡ b → LogGives (marked_if true f) other given
-    by_mark true marked = rw marked (marked_beside f image other given marked gives)
-    by_mark false marked = rw marked (marked_gives f image other given gives)
-
-not_got : (m : Bool) (f : List ℕ) (image given : Image) → m ≡ false → LogGives f image given → LogGives (marked_if m f) image given
-not_got false f image given is gives = gives
-not_got true f image given is gives = absurd (false≢true (sym is))
-
-module _ (s t u : Seen) (m : Bool) (f : List ℕ) (log : s.log ≡ Some f) (one : Goes s t) (two : Goes t u)
-    (mark : IsMarkOf u m) where
+module _ (s t u : Seen) (l : Bool) (f : List ℕ) (log : s.log ≡ Some f) (name : s.named ≡ true) (one : Goes s t)
+    (two : Goes t u) (looked : HasLanded u (is_marked f) l) where
   pub gives_log : (given : Image) → SeenGives s given → LogGives f s.image given
   gives_log given gives = subst (λ (o : Option (List ℕ)). given_by o s.image given) log gives
 
   gives_back : (given : Image) → LogGives f s.image given → SeenGives s given
   gives_back given gives = subst (λ (o : Option (List ℕ)). given_by o s.image given) (sym log) gives
 
-  -- an image that was given is judged to be given
-  pub judged : (given : Image) → SeenGives s given → LogGives (marked_if m f) t.image given
-  judged given gives =
-      let here = gives_log given gives in
-      by_mark m refl here
-    where
-      by_mark : (b : Bool) → m ≡ b → LogGives f s.image given → LogGives (marked_if m f) t.image given
-      by_mark true is here = got_gives m f s.image t.image given is here
-      by_mark false is here = not_got m f t.image given is record {
-        size = here.size;
-        based = here.based;
-        own = ⊎_elim
-            (λ marked. inl marked)
-            (λ base. ⊎_elim
-            (λ (same : t.image ≡ s.image). inr (same ∙ base))
-            (λ (got : HasMark t). absurd (false≢true (sym is ∙ mark.is (two.mark got))))
-            one.image)
-            here.own;
-        is = here.is;
+  has_mark : (a b : Seen) → Goes a b → HasMark a → HasMark b
+  has_mark a b goes got =
+      let there = goes.mark (recovered got.0) (got.0, got.1, got.2, refl) in
+      (there.0, there.1, there.2)
+
+  -- no writer has landed it
+  module _ (not : l ≡ false) where
+    -- the log had its mark when it was read
+    module _ (marked : is_marked f ≡ true) where
+      lands : Lands (recovered f) s
+      lands = (f, log, marked, refl)
+
+      there : u.named ≡ true
+      there = looked.not_lost marked not
+
+      first : IsMixOf s.image (recovered f) t.image
+      first = one.landing (recovered f) lands (two.name there)
+
+      marked_judged : (given : Image) → LogGives f s.image given → LogGives f t.image given
+      marked_judged given gives = record {
+        size = gives.size;
+        based = gives.based;
+        own = inr (
+          marked,
+          mix_more (base_of f) given s.image t.image (mix_gives f s.image given gives)
+              (subst (λ (x : Image). IsMixOf s.image x t.image) gives.is first),
+        );
+        is = gives.is;
       }
 
-  -- where nothing has changed in the end, what is judged to be given is
-  pub was_given : (v : Seen) → Goes u v → v ≡ s → (shop : Image) → LogGives (marked_if m f) t.image shop → SeenGives s shop
-  was_given v three same shop gives = by_mark m refl
-    where
-      marked_s : HasMark u → is_marked f ≡ true
-      marked_s got =
-          let there : HasMark s = subst HasMark same (three.mark got) in
-          ap is_marked (same_Some _ _ (sym log ∙ there.1)) ∙ there.2
-
-      by_mark : (b : Bool) → m ≡ b → SeenGives s shop
-      by_mark true is =
-          let marked : is_marked f ≡ true = marked_s (mark.there is) in
-          let plain : LogGives f t.image shop =
-          subst (λ (x : List ℕ). LogGives x t.image shop) (unchanged marked) gives in
-          gives_back shop (marked_beside f t.image s.image shop marked plain)
-        where
-          unchanged : is_marked f ≡ true → marked_if m f ≡ f
-          unchanged marked = rw is (rw marked refl)
-      by_mark false is =
-          let plain : LogGives f t.image shop = subst (λ (x : List ℕ). LogGives x t.image shop) unmarked gives in
-          gives_back shop record {
-            size = plain.size;
-            based = plain.based;
-            own = ⊎_elim
-                (λ marked. inl marked)
-                (λ base. ⊎_elim
-                (λ (same_image : t.image ≡ s.image). inr (sym same_image ∙ base))
-                (λ (got : HasMark t). absurd (false≢true (sym is ∙ mark.is (two.mark got))))
-                one.image)
-                plain.own;
-            is = plain.is;
+      marked_back : (v : Seen) → Goes u v → v ≡ s → (shop : Image) → LogGives f t.image shop → LogGives f s.image shop
+      marked_back v three same shop gives =
+          let then = one.mark (recovered f) lands in
+          let next : IsMixOf t.image (recovered f) u.image = two.landing (recovered f) then there in
+          let last : IsMixOf u.image (recovered f) v.image = three.landing (recovered f) (two.mark (recovered f) then)
+          (ap (λ (x : Seen). x.named) same ∙ name) in
+          record {
+            size = gives.size;
+            based = gives.based;
+            own = inr (
+              marked,
+              mix_back (base_of f) shop s.image t.image v.image
+                  (subst (λ (x : Image). IsMixOf s.image x t.image) gives.is first)
+                  (subst (λ (x : Image). IsMixOf t.image x v.image) gives.is (mix_more t.image (recovered f) u.image v.image next last))
+                  (ap (λ (x : Seen). x.image) same) (mix_gives f t.image shop gives),
+            );
+            is = gives.is;
           }
-        where
-          unmarked : marked_if m f ≡ f
-          unmarked = rw is refl
 
-module _ {V : Type 0} (seen : V → Option Seen) (v0 v1 v2 : V) (m : Bool) (f fm : List ℕ) (now : Image)
+    -- it has no mark in the end
+    image_stays : is_marked f ≡ false → t.image ≡ s.image
+    image_stays none = ⊎_elim (λ same. same)
+        (λ got. absurd (false≢true (sym not ∙ looked.not_got none (has_mark t u two got))))
+        one.image
+
+    -- an image that was given is judged to be given
+    pub judged : (given : Image) → SeenGives s given → LogGives f t.image given
+    judged given gives = by_log (is_marked f) refl
+      where
+        by_log : (b : Bool) → is_marked f ≡ b → LogGives f t.image given
+        by_log true is = marked_judged is given (gives_log given gives)
+        by_log false is = subst (λ (i : Image). LogGives f i given) (sym (image_stays is)) (gives_log given gives)
+
+    -- where nothing has changed in the end, what is judged to be given is
+    pub was_given : (v : Seen) → Goes u v → v ≡ s → (shop : Image) → LogGives f t.image shop → SeenGives s shop
+    was_given v three same shop gives = by_log (is_marked f) refl
+      where
+        by_log : (b : Bool) → is_marked f ≡ b → SeenGives s shop
+        by_log true is = gives_back shop (marked_back is v three same shop gives)
+        by_log false is = gives_back shop (subst (λ (i : Image). LogGives f i shop) (image_stays is) gives)
+
+  -- a writer has: then something has changed
+  pub was_changed : {P : Type 0} → l ≡ true → (v : Seen) → Goes u v → v ≡ s → P
+  was_changed {P} landed v three same = by_log (is_marked f) refl
+    where
+      by_log : (b : Bool) → is_marked f ≡ b → P
+      by_log true is = absurd (false≢true (sym (looked.lost is landed)
+          ∙ three.name (ap (λ (x : Seen). x.named) same ∙ name)))
+      by_log false is =
+          let there : HasMark s = subst HasMark same (has_mark u v three (looked.got is landed)) in
+          absurd (false≢true (sym is ∙ ap is_marked (same_Some _ _ (sym log ∙ there.1)) ∙ there.2))
+
+module _ {V : Type 0} (seen : V → Option Seen) (v0 v1 v2 : V) (m l : Bool) (f : List ℕ) (now : Image) (is_m : m ≡ is_marked f)
     (image : (s : Seen) → seen v0 ≡ Some s → now ≡ s.image)
     (goes0 : (s : Seen) → seen v0 ≡ Some s → GoesTo seen s v1)
-    (mark : (s : Seen) → seen v1 ≡ Some s → IsMarkOf s m)
+    (looked : (s : Seen) → seen v1 ≡ Some s → HasLanded s m l)
     (goes1 : (s : Seen) → seen v1 ≡ Some s → GoesTo seen s v2)
-    (size : length fm ≡ length f) (put : length f ≡ 4198400 → fm ≡ marked_if m f)
-    (s t : Seen) (at : seen v0 ≡ Some t) (one : Goes s t) (log : s.log ≡ Some f) where
+    (s t : Seen) (at : seen v0 ≡ Some t) (one : Goes s t) (log : s.log ≡ Some f) (name : s.named ≡ true) where
   u : GoesTo seen t v1
   u = goes0 t at
 
-  is_judged : (given : Image) → SeenGives s given → LogGives (marked_if m f) t.image given
-  is_judged given gives = judged s t u.0 m f log one u.2 (mark u.0 u.1) given gives
+  look : HasLanded u.0 (is_marked f) l
+  look = subst (λ (b : Bool). HasLanded u.0 b l) is_m (looked u.0 u.1)
 
-  pub not_refused : ((given : Image) → LogGives fm now given → ⊥) → (given : Image) → SeenGives s given → ⊥
-  not_refused refused given gives =
-      let here : length f ≡ 4198400 = (gives_log s t u.0 m f log one u.2 (mark u.0 u.1) given gives).size in
-      let read : LogGives (marked_if m f) now given =
-      subst (λ (i : Image). LogGives (marked_if m f) i given) (sym (image t at)) (is_judged given gives) in
-      refused given (subst (λ (x : List ℕ). LogGives x now given) (sym (put here)) read)
+  is_given : (given : Image) → SeenGives s given → LogGives f s.image given
+  is_given given gives = gives_log s t u.0 l f log name one u.2 look given gives
 
-  pub viewed : (shop : Image) → LogGives fm now shop → IsLogViewed seen s v2 shop
-  viewed shop gives =
-      let here : fm ≡ marked_if m f = put (sym size ∙ gives.size) in
-      let read : LogGives (marked_if m f) t.image shop =
-      subst (λ (i : Image). LogGives (marked_if m f) i shop) (image t at) (subst (λ (x : List ℕ). LogGives x now shop) here gives) in
+  -- the log was judged
+  module _ (not : l ≡ false) where
+    is_judged : (given : Image) → SeenGives s given → LogGives f now given
+    is_judged given gives = subst (λ (i : Image). LogGives f i given) (sym (image t at))
+        (judged s t u.0 l f log name one u.2 look not given gives)
+
+    pub not_refused : ((given : Image) → LogGives f now given → ⊥) → (given : Image) → SeenGives s given → ⊥
+    not_refused refused given gives = refused given (is_judged given gives)
+
+    pub viewed : (shop : Image) → LogGives f now shop → IsLogViewed seen s v2 shop
+    viewed shop gives =
+        let w = goes1 u.0 u.1 in
+        record {
+          given = λ given was. sym gives.is ∙ (is_judged given was).is;
+          still = λ same. was_given s t u.0 l f log name one u.2 look not w.0 w.2 (same_Some w.0 s (sym w.1 ∙ same)) shop
+              (subst (λ (i : Image). LogGives f i shop) (image t at) gives);
+        }
+
+  -- it was only read
+  pub none_read : (length f ≡ 4198400 → 0 < base_end f → ⊥) → (given : Image) → SeenGives s given → ⊥
+  none_read never given gives = let is = is_given given gives in never is.size is.based
+
+  pub landed_viewed : l ≡ true → (shop : Image) → shop ≡ recovered f → IsLogViewed seen s v2 shop
+  landed_viewed landed shop is =
       let w = goes1 u.0 u.1 in
       record {
-        given = λ given was. sym read.is ∙ (is_judged given was).is;
-        still = λ same. was_given s t u.0 m f log one u.2 (mark u.0 u.1) w.0 w.2 (same_Some w.0 s (sym w.1 ∙ same)) shop read;
+        given = λ given was. is ∙ (is_given given was).is;
+        still = λ same. was_changed s t u.0 l f log name one u.2 look landed w.0 w.2 (same_Some w.0 s (sym w.1 ∙ same));
       }
 
 -- the log was read, and then viewed
 module _ {V E : Type 0} (seen : V → Option Seen) (v0 v1 v2 : V) (f : List ℕ) (shop : Image)
-    (goes : (s : Seen) → seen v0 ≡ Some s → GoesTo seen s v1) (log : (s : Seen) → seen v0 ≡ Some s → s.log ≡ Some f) where
+    (goes : (s : Seen) → seen v0 ≡ Some s → GoesTo seen s v1) (log : (s : Seen) → seen v0 ≡ Some s → s.log ≡ Some f)
+    (name : (s : Seen) → seen v0 ≡ Some s → s.named ≡ true) where
   pub some_viewed : (r : Result Bool E)
-      → IfOk r (λ there. (s t : Seen) → seen v1 ≡ Some t → Goes s t → s.log ≡ Some f → IsViewed seen s v2 there shop)
+      → IfOk r (λ there. (s t : Seen) → seen v1 ≡ Some t → Goes s t → s.log ≡ Some f → s.named ≡ true → IsViewed seen s v2 there shop)
       → IfOk r (λ there. (s : Seen) → seen v0 ≡ Some s → IsViewed seen s v2 there shop)
-  some_viewed (Ok there) is = λ s at. let t = goes s at in is s t.0 t.1 t.2 (log s at)
+  some_viewed (Ok there) is = λ s at. let t = goes s at in is s t.0 t.1 t.2 (log s at) (name s at)
   some_viewed (Err e) is = tt
 
   pub some_refused : (Q : E → Type 0) (r : Result Bool E)
-      → IfErr r (λ e. Q e → (s t : Seen) → seen v1 ≡ Some t → Goes s t → s.log ≡ Some f → (given : Image) → SeenGives s given → ⊥)
+      → IfErr r (λ e. Q e → (s t : Seen) → seen v1 ≡ Some t → Goes s t → s.log ≡ Some f → s.named ≡ true → (given : Image) → SeenGives s given → ⊥)
       → IfErr r (λ e. Q e → (s : Seen) → seen v0 ≡ Some s → (given : Image) → SeenGives s given → ⊥)
   some_refused Q (Ok there) is = tt
-  some_refused Q (Err e) is = λ q s at. let t = goes s at in is q s t.0 t.1 t.2 (log s at)
+  some_refused Q (Err e) is = λ q s at. let t = goes s at in is q s t.0 t.1 t.2 (log s at) (name s at)

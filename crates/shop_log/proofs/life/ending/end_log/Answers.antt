@@ -20,6 +20,17 @@ returns-in_err-close_log-clause-any_moment g c used start image stands =
     (renewing h d a c.in-Some.open_log used start image here c.close_log.result back a
     (started h a _ (closed_left h d a c.in-Some.open_log used start image here c.close_log.result back)))
 
+pub returns-in_err-now-clause-any_moment : goal.returns-in_err-now-clause-any_moment
+returns-in_err-now-clause-any_moment g c used start image stands =
+    let h = g.D.LogFolder.history in
+    let d = c.args.folder.now in
+    let a = c.close_log.new.self in
+    let here = under_name h d c.args.log c.in-Some.open_log used start start image c.in-Some.is refl stands in
+    let back = subst (λ f. IsReturned h g.F.LogFile.history d a f c.close_log.result) c.into_file.ensures c.close_log.ensures in
+    subst (λ o. IsRenewing h d o used a image) (sym c.in-Some.is)
+    (renewing h d a c.in-Some.open_log used start image here c.close_log.result back a
+    (started h a _ (closed_left h d a c.in-Some.open_log used start image here c.close_log.result back)))
+
 pub returns-in_err-shop-clause-any_moment : goal.returns-in_err-shop-clause-any_moment
 returns-in_err-shop-clause-any_moment g c used start image stands =
     let h = g.D.LogFolder.history in
@@ -70,6 +81,10 @@ returns-then-is_over-clause-over g c shut = (
       c.in-Some.is c.close_log.result (subst (λ f. IsReturned g.D.LogFolder.history g.F.LogFile.history c.args.folder.now
       c.close_log.new.self f c.close_log.result) c.into_file.ensures c.close_log.ensures),
 )
+
+pub returns-in_err-now-clause-over : goal.returns-in_err-now-clause-over
+returns-in_err-now-clause-over g c shut = absurd (was_open g.D.LogFolder.history c.args.log c.in-Some.open_log c.in-Some.is
+    c.is_closed-is_over.result c.is_closed-is_over.ensures.1 c.if-is_over.false shut)
 
 pub returns-in_err-shop-clause-over : goal.returns-in_err-shop-clause-over
 returns-in_err-shop-clause-over g c shut = absurd (was_open g.D.LogFolder.history c.args.log c.in-Some.open_log c.in-Some.is

@@ -15,10 +15,10 @@ pub returns-clause-any_moment : goal.returns-clause-any_moment
 returns-clause-any_moment g c shops s f found log now gives =
     landed g.D.LogFolder.history c.args.folder.now c.mark_found.new.folder shops s f c.args.shop.now found log gives
     (c.mark_found.ensures.any_moment shops s f found log) (c.in_ok-mark_found.ensures.ok shops s f found log)
-    c.bring.new.folder c.bring.ensures.any_moment c.args.now.now now c.bring.ensures.log c.in_ok-bring.ensures.ok
+    c.bring.new.folder c.bring.ensures.any_moment c.args.now.now now c.bring.ensures.landing c.in_ok-bring.ensures.ok
     c.unlog.new.folder c.unlog.ensures.any_moment
 
 pub returns-clause-ok : goal.returns-clause-ok
 returns-clause-ok g c = land_ok g.D.LogFolder.history c.args.folder.now c.mark_found.new.folder c.bring.new.folder
     c.unlog.new.folder c.args.now.now c.args.shop.now c.mark_found.ensures.any_moment c.in_ok-mark_found.ensures.ok
-    c.bring.ensures.any_moment c.bring.ensures.log c.in_ok-bring.ensures.ok c.unlog.result c.unlog.ensures.ok
+    c.bring.ensures.any_moment c.bring.ensures.landing c.in_ok-bring.ensures.ok c.unlog.result c.unlog.ensures.ok

@@ -8,5 +8,5 @@ use Rattle.shop_log.proofs.life.memory.land_in.Goals as goal
 pub returns-in-Ok-clause-ok : goal.returns-in-Ok-clause-ok
 returns-in-Ok-clause-ok g c shops s held gives all =
     subst (λ i. RestsAlone g.D.LogFolder.history c.land.new.folder i × Gives s i)
-    (sym (with_items_is c.in_ok-shop.shop c.land.new.shop (c.land.auto.shop ∙ c.as_mut_slice-2.ensures.len)))
+    (sym (with_items_is c.in_ok-shop.shop c.land.new.shop (c.land.auto.shop ∙ c.as_mut_slice-3.ensures.len)))
     (c.in-Ok.ensures.ok shops s held gives all)

@@ -7,7 +7,7 @@ use Rattle.shop_log.proofs.life.memory.view_in.Goals as goal
 pub returns-in-Ok-true-clause-some : goal.returns-in-Ok-true-clause-some
 returns-in-Ok-true-clause-some g c s at =
     subst (λ i. IsLogViewed g.V.ViewsImage.seen s c.view.new.folder i)
-    (sym (with_items_is c.in_ok-shop.shop c.view.new.shop (c.view.auto.shop ∙ c.as_mut_slice-2.ensures.len)))
+    (sym (with_items_is c.in_ok-shop.shop c.view.new.shop (c.view.auto.shop ∙ c.as_mut_slice-3.ensures.len)))
     (subst (λ b. IsViewed g.V.ViewsImage.seen s c.view.new.folder b c.view.new.shop) c.in-Ok-true.field-0-test
     (c.in-Ok-true.ensures.ok s at))
 

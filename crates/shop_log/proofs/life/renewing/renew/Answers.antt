@@ -3,7 +3,6 @@ use Rattle.std.proofs.Common.{◌≡◌, ℕ, Bool, List, Some, subst}
 use Rattle.shop_log.specs.life.Folders.{Folder, IsReturned, with_log}
 use Rattle.shop_log.specs.life.LiveLogs.{Stands}
 use Rattle.shop_log.specs.life.Serving.{Serves}
-use Rattle.shop_log.specs.life.Shops.{GivesOneOf}
 use Rattle.shop_log.proofs.lemmas.life.Renewed.{bring_renewing, closed_left, if_made, mark_renewing, new_renewing, new_serves, renewing}
 use Rattle.shop_log.proofs.lemmas.life.Steps.{started}
 use Rattle.shop_log.proofs.life.renewing.renew.Goals as goal
@@ -45,7 +44,7 @@ returns-clause-any_moment g c used stands =
     stands c.close_log.result back
     (subst (λ f. (s : Folder) (b : List ℕ) → g.D.LogFolder.history.held c.args.folder.now ≡ Some s → g.F.LogFile.history.held f ≡ Some b
     → g.D.LogFolder.history.held c.close_log.new.self ≡ Some (with_log b s)) c.into_parts-file.ensures c.in_ok-close_log.ensures.held) c.mark_found.new.folder c.mark_found.ensures.any_moment c.bring.new.folder
-    c.in_ok-mark_found.ensures.ok c.bring.ensures.any_moment c.make_new.new.folder c.bring.ensures.log
+    c.in_ok-mark_found.ensures.ok c.bring.ensures.any_moment c.make_new.new.folder c.bring.ensures.landing
     c.in_ok-bring.ensures.ok c.make_new.ensures.any_moment
 
 pub returns-clause-ok : goal.returns-clause-ok
@@ -59,5 +58,5 @@ returns-clause-ok g c =
     stands c.close_log.result back
     (subst (λ f. (s : Folder) (b : List ℕ) → g.D.LogFolder.history.held c.args.folder.now ≡ Some s → g.F.LogFile.history.held f ≡ Some b
     → g.D.LogFolder.history.held c.close_log.new.self ≡ Some (with_log b s)) c.into_parts-file.ensures c.in_ok-close_log.ensures.held) c.mark_found.new.folder c.mark_found.ensures.any_moment c.bring.new.folder
-    c.in_ok-mark_found.ensures.ok c.bring.ensures.any_moment c.make_new.new.folder c.bring.ensures.log
+    c.in_ok-mark_found.ensures.ok c.bring.ensures.any_moment c.make_new.new.folder c.bring.ensures.landing
     c.in_ok-bring.ensures.ok c.make_new.ensures.any_moment new serves)

@@ -1,8 +1,9 @@
 -- Nothing is known of the folder.
-use Rattle.std.proofs.Common.{refl}
+use Rattle.std.proofs.Common.{inl, refl}
 use Rattle.shop_log.specs.life.Folders.{IsImageWritten, with_sector}
 use Rattle.shop_log.proofs.lemmas.life.Unknown.{acts}
 use Rattle.shop_log.proofs.life.image_folder.ImageFolderLogFolderSystemLog.write_sector.Goals as goal
 
 pub returns : goal.returns
-returns g c = acts _ _ (with_sector c.args.index c.args.sector.now) IsImageWritten _ (λ s. record { log = refl; making = refl })
+returns g c = acts _ _ (with_sector c.args.index c.args.sector.now) (IsImageWritten c.args.index c.args.sector.now) _
+    (λ s. record { log = refl; making = refl; each = λ i j low small. inl refl })
