@@ -27,10 +27,10 @@ home=$(mktemp -d "$debian/home/keeper.XXXXXX")
 began=$(date +%s%N)
 git clone --quiet --depth 1 "file://$top" "$home/ledger"
 chown -R nobody:nogroup "$home"
-sed -n 's/^\(\.\/ledger [^#]*\).*/\1/p' "$top/README.md" >"$work/commands"
-[ "$(wc -l <"$work/commands")" -ge 4 ] || fail "the README has no session"
+commands=$(sed -n 's/^\(\.\/ledger [^#]*\).*/\1/p' "$top/README.md")
+[ "$(echo "$commands" | wc -l)" -ge 4 ] || fail "the README has no session"
 unshare --net chroot --userspec=nobody:nogroup "$debian" /usr/bin/env -i PATH=/usr/bin:/bin \
-    sh -eu -c 'cd "$1"; . /dev/stdin' sh "${home#"$debian"}/ledger" <"$work/commands" >"$work/printed" 2>"$work/said" || {
+    sh -euc "cd '${home#"$debian"}/ledger' && $commands" >"$work/printed" 2>"$work/said" || {
     cat "$work/said" >&2
     fail "a command failed"
 }
