@@ -17,7 +17,7 @@ import time
 from pathlib import Path
 
 TOP = Path(__file__).resolve().parent.parent
-COPIED = ("ledger", "test", "tools/tree_sum", "tools/program", "tests/release.py")
+COPIED = ("ledger", "test", "tools/gate_seconds", "tools/tree_sum", "tools/program", "tests/release.py")
 FILES = {
     "HANDLES": "Handles allowed: none.\n",
     "crates.txt": "# crates\nledger: low # the program\nlow: thiserror\nother: low\n",
