@@ -1,11 +1,12 @@
 #!/usr/bin/env python3
 """Makes the man page and the completions for bash, zsh and fish from the program's own help:
 
-    packaging/pages.py PROGRAM FOLDER NAME
+    packaging/pages.py PROGRAM FOLDER NAME COMMIT
 
 PROGRAM is asked for --help, and so is each of its subcommands. So the pages name the words that the program takes, and no others.
 The man page also has the faults that `check` prints and the words of refusals, each with its meaning, from docs/KEEPERS.md.
-NAME is the command under which the program is installed. FOLDER gets `NAME.1`, `NAME.bash`, `_NAME` (zsh) and `NAME.fish`."""
+NAME is the command under which the program is installed, COMMIT names the sources that it was built from. FOLDER gets `NAME.1`,
+`NAME.bash`, `_NAME` (zsh) and `NAME.fish`."""
 
 import re
 import subprocess
@@ -141,9 +142,10 @@ def explained_words():
     return lines
 
 
-def man_page(words, version, name):
-    """The man page of the program."""
-    lines = [f'.TH {escaped(name.upper())} 1 "" "{name} {version}" "User Commands"', ".SH NAME",
+def man_page(words, version, name, commit):
+    """The man page of the program. What `--version` prints of it is its number, and perhaps its day."""
+    number, _, day = version.partition(" ")
+    lines = [f'.TH {escaped(name.upper())} 1 "{day.strip("()")}" "{name} {number}" "User Commands"', ".SH NAME",
              f"{escaped(name)} \\- retry\\-safe stock ledger on 1541 disks", ".SH SYNOPSIS"]
     for word in words:
         lines += [".br", f".B {escaped(name)} {escaped(word.usage)}"]
@@ -163,7 +165,8 @@ def man_page(words, version, name):
     lines.append(".SH EXAMPLES")
     for line, does, printed in EXAMPLES:
         lines += [".TP", f".B {escaped(line.format(name))}", escaped(does), ".nf", *("\\&" + escaped(it) for it in printed), ".fi"]
-    lines += [".SH SEE ALSO", "The folder share/doc/ledger\\-1541: README.md, docs/KEEPERS.md, docs/MESSAGES.md, docs/TRUST.md"]
+    lines += [".SH VERSION", f"{escaped(version)}, of commit {commit}.", ".SH SEE ALSO"]
+    lines += ["The folder share/doc/ledger\\-1541: README.md, docs/KEEPERS.md, docs/MESSAGES.md, docs/TRUST.md"]
     return "\n".join(lines) + "\n"
 
 
@@ -304,13 +307,14 @@ def fish(words, options, name):
 
 
 def main():
-    if len(sys.argv) != 4:
+    if len(sys.argv) != 5:
         sys.exit(__doc__)
-    program, folder, name = Path(sys.argv[1]).resolve(), Path(sys.argv[2]), sys.argv[3]
-    version = subprocess.run([program, "--version"], check=True, capture_output=True, text=True).stdout.split()[-1]
+    program, folder, name, commit = Path(sys.argv[1]).resolve(), Path(sys.argv[2]), *sys.argv[3:]
+    printed = subprocess.run([program, "--version"], check=True, capture_output=True, text=True).stdout
+    version = printed.strip().partition(" ")[2]
     words = words_of(program)
     options = [option_of(row) for row in rows(helped(program), "Options")]
-    (folder / f"{name}.1").write_text(man_page(words, version, name), encoding="utf-8")
+    (folder / f"{name}.1").write_text(man_page(words, version, name, commit), encoding="utf-8")
     for file, made in ((f"{name}.bash", bash), (f"_{name}", zsh), (f"{name}.fish", fish)):
         (folder / file).write_text(made(words, options, name), encoding="utf-8")
 

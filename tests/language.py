@@ -2,8 +2,8 @@
 """Checks the language, links and length of the documents, and prints a line for each thing that it finds:
   tests/language.py [--counts] [FILE ..]
 
-Documents are README.md, CHANGELOG.md, SECURITY.md, docs/*.md, crates/*/README.md and each page under examples/; FILE names some of
-them. Of each it checks
+Documents are README.md, CHANGELOG.md, SECURITY.md, releases/README.md, docs/*.md, crates/*/README.md and each page under examples/;
+FILE names some of them. Of each it checks
   - sentences of more than 35 words, outside tables, code and pictures;
   - the words of WORDS below, outside code and quotation marks;
   - links: the file is there, and so is the heading that an anchor, or the name in italics after a link, refers to;
@@ -53,7 +53,7 @@ WORDS = {
 
 def documents():
     """The documents, in the order in which they are printed."""
-    found = [TOP / it for it in ("README.md", "CHANGELOG.md", "SECURITY.md")]
+    found = [TOP / it for it in ("README.md", "CHANGELOG.md", "SECURITY.md", "releases/README.md")]
     for form in ("docs/*.md", "crates/*/README.md", "examples/**/*.md"):
         found += sorted(TOP.glob(form))
     return [it for it in found if it.exists()]

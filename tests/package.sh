@@ -1,12 +1,14 @@
 #!/bin/sh
 # Tries what ./package makes:
 #   tests/package.sh [DEBIAN]
-# Two runs, in other folders and with another umask, time zone and language, make the same bytes. lintian finds no error and no warning.
+# Two runs, in other folders and with another umask, time zone and language, make the same bytes; a folder with another SHA256SUMS is left
+# alone. The program is to the byte the one that BUILT_FROM names. There are the pages for users and no other, and each link leads to a
+# file and a heading that came with it. lintian finds no error and no warning.
 # The completions complete in bash, zsh and fish (tests/completions.py). Then, where there is no kit, in a clean Debian that debootstrap
 # makes in a folder of its own: the package is installed, and somebody who isn't root has the first session of the README: a shop is
 # made, a day with power cuts is played, shown and checked, and what is printed is what the README says. The man page is shown by
-# `man`, dpkg finds each file as it was packed, the documents' links lead to files, scripts can be run, and no file is called as one of
-# Debian's package `ledger`. Then it is removed, and no file of it is left. The tarball is unpacked and run.
+# `man`, dpkg finds each file as it was packed, scripts can be run, and no file is called as one of Debian's package `ledger`. Then it
+# is removed, and no file of it is left. The tarball is unpacked and run.
 # DEBIAN is such a folder of an earlier run, which spares the download; `none` leaves this part out. PROGRAM in the environment is a
 # program that was built elsewhere. Wants root, Debian's packages debootstrap, lintian, zsh, fish and those that ./package wants.
 set -eu
@@ -24,7 +26,13 @@ fail() {
 mkdir "$work/one" "$work/two"
 "$top/package" "$work/one" >&2
 (umask 077 && cd / && TZ=Pacific/Auckland LANG=de_DE.UTF-8 "$top/package" "$work/two" >&2)
+[ "$(ls "$work/one" | wc -l)" = 4 ] || fail "not four files: $(ls "$work/one")"
 for file in "$work/one"/*; do cmp "$file" "$work/two/${file##*/}"; done
+(cd "$work/one" && sha256sum --check --strict --quiet SHA256SUMS)
+echo "$(printf x | sha256sum | cut -c 1-64)  $work/log" >"$work/two/SHA256SUMS"
+printf x >"$work/log"
+! "$top/package" "$work/two" 2>"$work/said" || fail "it replaced another SHA256SUMS"
+grep -q "names other files" "$work/said" || { cat "$work/said" >&2; exit 1; }
 lintian --allow-root --fail-on error,warning "$work"/one/*.deb >"$work/log" 2>&1 || { cat "$work/log" >&2; exit 1; }
 mkdir "$work/tree"
 dpkg-deb -x "$work"/one/*.deb "$work/tree"
@@ -32,13 +40,38 @@ share=$work/tree/usr/share
 python3 "$top/tests/completions.py" ledger-1541 "$share/bash-completion/completions/ledger-1541" \
     "$share/zsh/vendor-completions/_ledger-1541" "$share/fish/vendor_completions.d/ledger-1541.fish" >&2
 # what git has as a script is one in the package, and the program goes by the package's name in it
-(cd "$top" && git ls-files -s examples/tills) | while read -r mode _ _ file; do
+(cd "$top" && git ls-files -s examples) | while read -r mode _ _ file; do
     has=$(stat -c %a "$share/doc/ledger-1541/$file")
     [ "${mode#100}" = "$has" ] || fail "$file has mode $has"
 done
 ! grep -rnE '/usr/bin/ledger([^-]|$)|default="ledger"' "$share/doc/ledger-1541/examples" || fail "another program is called"
 grep -q '^License: Apache-2.0' "$share/doc/ledger-1541/copyright" || fail "no licence"
-[ "$debian" != none ] || { echo "package: the same bytes twice, lintian, completions, modes: no difference; not installed"; exit 0; }
+[ "$(sed -n 's/^program: //p' "$work/one/BUILT_FROM")" = "$(sha256sum <"$work/tree/usr/bin/ledger-1541" | cut -c 1-64)" ] || fail "another program"
+mkdir "$work/tar"
+tar -xf "$work"/one/*.tar -C "$work/tar" --strip-components=1
+diff -r --exclude=lintian "$work/tree/usr/share" "$work/tar/share"
+cmp "$work/tree/usr/bin/ledger-1541" "$work/tar/bin/ledger"
+cmp "$work/tar/LICENSE" /usr/share/common-licenses/Apache-2.0
+# the pages for users, and no other
+(cd "$share/doc/ledger-1541" && find . -name '*.md' | sort) >"$work/pages"
+diff - "$work/pages" <<END
+./CHANGELOG.md
+./README.md
+./SECURITY.md
+$(printf './docs/%s.md\n' CARDS DISK DRIVE FAQ GLOSSARY KEEPERS LOG MESSAGES OPERATIONS SHOP SHOP_OWNER TRUST)
+./examples/operator/QUICK_START.md
+./examples/tills/README.md
+./examples/tills/SECURITY.md
+END
+# each of their links leads to a file and a heading
+PYTHONPATH=$top/tests PYTHONDONTWRITEBYTECODE=1 python3 - "$share/doc/ledger-1541" <<'END' || fail "dead links"
+import sys
+from pathlib import Path
+from language import broken_links
+dead = [(page, *it) for page in Path(sys.argv[1]).rglob("*.md") for it in broken_links(page, page.read_text())]
+sys.exit("\n".join(map(str, dead)) or 0)
+END
+[ "$debian" != none ] || { echo "package: the same bytes twice, pages, links, lintian, completions, modes: no difference; not installed"; exit 0; }
 
 [ -e "$debian/etc/debian_version" ] || debootstrap --variant=minbase --include=man-db bookworm "$debian" >"$work/log" 2>&1 || {
     tail -n 5 "$work/log" >&2
@@ -78,20 +111,13 @@ chroot "$debian" dpkg --verify ledger-1541 >"$work/changed"
 first_minute ledger-1541
 inside "man --warnings ledger-1541" >"$work/page" 2>"$work/warned"
 grep -q '^NAME' "$work/page" && [ ! -s "$work/warned" ] || { cat "$work/warned"; exit 1; }
-# each link of the documents leads to a file that came with them
-(cd "$debian/usr/share/doc/ledger-1541" && find . -name '*.md' | while read -r page; do
-    grep -oE '\]\([^)#:]+' "$page" | cut -c 3- | while read -r link; do
-        [ -e "$(dirname "$page")/$link" ] || echo "$page: $link isn't there"
-    done
-done) >"$work/dead"
-[ ! -s "$work/dead" ] || { cat "$work/dead"; exit 1; }
 chroot "$debian" dpkg --purge ledger-1541 >"$work/log"
 files >"$work/after"
 diff "$work/before" "$work/after"
 
 rm -rf "$debian/opt/ledger"
 mkdir -p "$debian/opt/ledger"
-tar -xzf "$work"/one/*.tar.gz -C "$debian/opt/ledger" --strip-components=1
+tar -xf "$work"/one/*.tar -C "$debian/opt/ledger" --strip-components=1
 first_minute /opt/ledger/bin/ledger
 rm -rf "$debian/opt/ledger" "$debian/home/keeper" "$debian/home/ledger.deb"
 echo "package: the same bytes twice, no error of lintian, completed, installed, used for a minute, removed without a file left;" \

@@ -55,8 +55,9 @@ Prints MADE.
 
 Exit status:
   0  the file was made
-  1  the disk isn't clean (LAYOUT: repair it first), SHORT, IMAGE SIZE, LOG,
-     FILE EXISTS, DISK FULL: nothing was done
+  1  the disk isn't clean (LAYOUT and a fault: repair mends MAPWRONG and
+     COUNTWRONG, repair --sides also BADSIDE, nothing else), SHORT,
+     IMAGE SIZE, LOG, FILE EXISTS, DISK FULL: nothing was done
   2  NAME, LENGTH
   3  FILE, NO MEMORY, IN USE, DEVICE
 
@@ -85,8 +86,9 @@ column.
 
 Exit status:
   0  the records were stored
-  1  the disk isn't clean (LAYOUT: repair it first), SHORT, IMAGE SIZE, LOG,
-     NO FILE, RECORDS LINE n, DISK FULL: nothing was done
+  1  the disk isn't clean (LAYOUT and a fault: repair mends MAPWRONG and
+     COUNTWRONG, repair --sides also BADSIDE, nothing else), SHORT,
+     IMAGE SIZE, LOG, NO FILE, RECORDS LINE n, DISK FULL: nothing was done
   2  NAME, POSITIONS, FLAGS
   3  FILE, NO MEMORY, IN USE, DEVICE
 
@@ -119,8 +121,9 @@ Prints PUT. An empty FILE gives a file with one byte, a carriage return.
 
 Exit status:
   0  the file is on the disk
-  1  the disk isn't clean (LAYOUT: repair it first), SHORT, IMAGE SIZE, LOG,
-     FILE EXISTS, DISK FULL: nothing was done
+  1  the disk isn't clean (LAYOUT and a fault: repair mends MAPWRONG and
+     COUNTWRONG, repair --sides also BADSIDE, nothing else), SHORT,
+     IMAGE SIZE, LOG, FILE EXISTS, DISK FULL: nothing was done
   2  NAME, TYPE
   3  FILE, NO MEMORY, IN USE, DEVICE
 
@@ -153,8 +156,9 @@ Prints RENAMED. It renames the first file that has the name OLD.
 
 Exit status:
   0  the file was renamed
-  1  the disk is damaged (LAYOUT: repair it first), SHORT, IMAGE SIZE, LOG,
-     NO FILE, FILE EXISTS (NEW): nothing was done
+  1  a file or the directory is damaged (LAYOUT and a fault: repair --sides
+     mends BADSIDE, nothing else), SHORT, IMAGE SIZE, LOG, NO FILE,
+     FILE EXISTS (NEW), SHOP FILE: nothing was done
   2  NAME
   3  FILE, NO MEMORY, IN USE, DEVICE
 
@@ -171,8 +175,9 @@ Prints DELETED. It deletes the first file of this name, and frees its sectors.
 
 Exit status:
   0  the file was deleted
-  1  the disk isn't clean (LAYOUT: repair it first), SHORT, IMAGE SIZE, LOG,
-     NO FILE, LOCKED: nothing was done
+  1  the disk isn't clean (LAYOUT and a fault: repair mends MAPWRONG and
+     COUNTWRONG, repair --sides also BADSIDE, nothing else), SHORT,
+     IMAGE SIZE, LOG, NO FILE, LOCKED, SHOP FILE: nothing was done
   2  NAME
   3  FILE, NO MEMORY, IN USE, DEVICE
 

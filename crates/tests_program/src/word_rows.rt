@@ -150,7 +150,7 @@ size 0
 no image
 no script
 $ ledger_cli --version
-prints ledger 0.1.0|
+prints ledger 0.2.0 (2026-11-28)|
 size 0
 
 # Too many tills.
