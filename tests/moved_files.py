@@ -4,7 +4,7 @@
     tests/moved_files.py PROGRAM
 
 Behind each change the next line hears MEDIA, standard error has DEVICE, and the status is 3; also a line that is repeated and known
-from memory. Of two `serve`s under one name only the one whose file the name leads to answers. It ends by itself and uses no network."""
+from memory. If the input ends instead, it ends so too, and over a log nothing is landed or removed. Of two `serve`s under one name only the one whose file the name leads to answers. It ends by itself and uses no network."""
 
 import os
 import shutil
@@ -71,6 +71,11 @@ def made_a_folder(folder):
     (folder / "s.d64").mkdir()
 
 
+def held(folder):
+    """What stands there by its name."""
+    return {each.name: each.is_file() and each.read_bytes() for each in folder.iterdir()}
+
+
 CHANGES = [moved, replaced, removed, emptied, cut, longer, made_a_folder]
 
 
@@ -96,6 +101,15 @@ def main():
                     want(name, served.ask(line), b",".join(line.split(b",")[:2]) + b",MEDIA")
                     want(name, served.end(), (3, b"DEVICE\n"))
                     tried += 1
+                fresh(folder)
+                served = Served(folder, *words)
+                want("the first line", served.ask(b"1,1,S,15,7"), b"1,1,DONE,7")
+                change(folder)
+                before = held(folder)
+                name = f"{change.__name__} {words}, and then the input's end"
+                want(name, served.end(), (3, b"DEVICE\n"))
+                want(name, held(folder), before)
+                tried += 1
         # the goods of a shop whose copy came in its place are sold once: in place, and over a log, which the second lands
         for words, told in (["--in-place"], b"3,1,MEDIA"), ([], b""):
             fresh(folder)

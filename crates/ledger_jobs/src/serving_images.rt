@@ -49,7 +49,7 @@ where
 {
     let mut answers = WhileThere::new(&name, out);
     let (_, ended) = serve_guarded(alloc, image, file, durability, loss, input, &mut answers);
-    served_end(ended, answers.is_gone())
+    served_end(ended, answers.has_gone())
 }
 
 /// Serves the shop of this image, over its file, to what comes on standard input, while the file's name leads to it.
@@ -102,7 +102,8 @@ pub(crate) fn name_of<'a, F: OpenFile, R: HostFiles<File = F>>(
 }
 
 /// Serves the shop of the image at a path, over its file, to what comes on standard input. Once the path doesn't lead to
-/// that file any more, or the file has another length, the line at hand hears MEDIA, and it ends with `Device`.
+/// that file any more, or the file has another length, the line at hand hears MEDIA, and it ends with `Device`. It also does
+/// if this is so when the input ends.
 pub(crate) fn do_serving<F, R, W>(
     rt: &R,
     path: &str,

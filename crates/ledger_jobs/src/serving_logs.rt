@@ -1,5 +1,5 @@
 //! Serving the shop of the image at a path, over a log beside it.
-ghost use Rattle.std.specs.Prelude.{◌≡◌, IfErr, IfOk, IfSome, OnOk, flat_map, length, string_bytes, take, vec_items};
+ghost use Rattle.std.specs.Prelude.{◌≡◌, Bool, IfErr, IfOk, IfSome, OnOk, flat_map, length, string_bytes, take, true, vec_items};
 ghost use Rattle.ledger_jobs.specs.Changes.{IsLoggedEnd};
 ghost use Rattle.ledger_jobs.specs.Ends.{landing_fault, unlanded as unlanded_end};
 ghost use Rattle.ledger_jobs.specs.HostFiles.{IsShopAt, IsUnopened, OfWritten};
@@ -118,8 +118,8 @@ pub(crate) fn landed_end<L: LogFile, D: LogFolder<L> + Drop>(
 }
 
 /// Serves the shop of this image over a log that was begun with it, to an input, while the file stays to which the replies
-/// are bound. Then the log is landed, and the folder returned; but it is left where it is if the file has gone, or a commit
-/// failed.
+/// are bound. Then that file is looked for once more, the log is landed, and the folder returned. The log is left where it
+/// is if the file has gone, or a commit failed.
 fn serve_begun<L, D, N, I, T>(
     alloc: Global,
     image: &[u8],
@@ -134,14 +134,15 @@ where
     N: Stays,
     I: BatchSource,
     T: Answers<TouchedDisk<MemDisk>>,
-    ensures { IsDoneAndLanded D.history (λ left ended. IsGuarded image.now loss
+    ensures { (gone : Bool) × (answers.new.gone ≡ true → gone ≡ true)
+        × IsDoneAndLanded D.history (λ left ended. IsGuarded image.now loss
         (IsUnlogged log left input.old input.new answers.old answers.new)
         (IsEndOfRun (IsLoggedRun (of_live D.history) I.input (of_output (while_there T.answering)) image.now log left
-        input.old input.new answers.old answers.new)) ended) answers.new.gone result.0 result.1 }
+        input.old input.new answers.old answers.new)) ended) gone result.0 result.1 }
 {
     let mut log = log;
     let ended = serve_logged_guarded(alloc, image, &mut log, loss, input, answers);
-    landed_end(log, served_end(ended, answers.is_gone()))
+    landed_end(log, served_end(ended, answers.has_gone()))
 }
 
 /// Serves the shop of this image as `serve_begun` does, and passes the replies to `out` while the file of this name stays.
@@ -286,7 +287,7 @@ where
 /// Serves the shop of the image at a path, over a log beside it, to what comes on standard input. Other programs may read
 /// the image meanwhile, by its log, and none may write it. When the input ends, the log is landed: then the image is the
 /// shop's. If the path doesn't lead to the image's file any more, or the file has another length, the reply to the line
-/// at hand is MEDIA. Then the service ends with `Device`, and the log stays.
+/// at hand is MEDIA. Then, and if this is so when the input ends, the service ends with `Device`, and the log stays.
 pub(crate) fn do_logged_serving<F, R, W>(
     rt: &R,
     path: &str,

@@ -1,5 +1,5 @@
 //! Replies that are passed only while the shop's file is there.
-ghost use Rattle.std.specs.Prelude.{◌≡◌, if◌then◌else◌, Err};
+ghost use Rattle.std.specs.Prelude.{◌≡◌, if◌then◌else◌, Err, true};
 ghost use Rattle.command_faults.specs.declared.faults.CommandFault.TheVariants as faults;
 ghost use Rattle.ledger_jobs.specs.WatchedFiles.{media_for as media, while_there};
 ghost use Rattle.ledger_jobs.specs.declared.refusals.Refusal.TheVariants as refusals;
@@ -50,12 +50,14 @@ impl<'a, N, T> WhileThere<'a, N, T> {
             gone: false,
         }
     }
+}
 
-    /// Whether the file had gone when a reply was to be passed.
-    pub fn is_gone(&self) -> bool
-        ensures { result ≡ self.now.gone }
+impl<N: Stays, T> WhileThere<'_, N, T> {
+    /// Whether the file had gone when a reply was to be passed, or has gone by now: it is looked for once more.
+    pub fn has_gone(&self) -> bool
+        ensures { self.now.gone ≡ true → result ≡ true }
     {
-        self.gone
+        self.gone || !self.file.is_there()
     }
 }
 

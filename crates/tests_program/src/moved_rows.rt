@@ -68,7 +68,29 @@ input 1,1,S,1,5|
 gone 4
 $ ledger_cli serve --in-place a.d64
 prints 1,1,DONE,5|
+tells DEVICE|
+ends 3
 written
+
+# Over a log the name is looked at once more for it. Behind the last reply nothing is landed, and nothing is removed.
+input 1,1,S,1,5|
+gone 5
+$ ledger_cli serve a.d64
+prints 1,1,DONE,5|
+tells DEVICE|
+ends 3
+logged
+$ ledger_cli serve a.d64
+prints 1,1,DONE,5|
+written
+
+cut 5
+input 1,1,S,1,5|
+$ ledger_cli serve --unsynced a.d64
+prints 1,1,DONE,5|
+tells DEVICE|
+ends 3
+logged
 ";
 
 /// What is no regular file is neither opened nor written, also to explain why.

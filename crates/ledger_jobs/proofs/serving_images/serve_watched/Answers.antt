@@ -15,7 +15,7 @@ returns g c =
       quiet = lent-service before behind c.args.out.now _
           (watched-back before behind c.args.out.now _ c.new-answers.ensures.out (λ same. search rules)) c.served_end.result
           (subst (λ e. IsServiceEnd before behind e) (sym c.served_end.ensures)
-          (watched before behind c.is_gone.result ended
+          (watched before behind c.has_gone.result ended
           (serve-quiet g.R.LineSource.input _ c.args.image.now c.args.input.now c.serve_guarded-ended.new.input before behind
           c.args.durability c.args.file file c.args.loss ended c.serve_guarded-ended.ensures)));
       some = guarded-some g.R.LineSource.input g.T.Answers.answering c.args.image.now c.args.input.now
@@ -23,6 +23,6 @@ returns g c =
           c.args.durability c.args.file file c.args.loss ended c.serve_guarded-ended.ensures;
       all = watched-all g.R.LineSource.input g.T.Answers.answering c.args.image.now c.args.input.now
           c.serve_guarded-ended.new.input before behind c.args.out.now _ c.new-answers.ensures.out (λ same. search rules)
-          c.args.durability c.args.file file c.args.loss c.is_gone.result ended c.served_end.result c.served_end.ensures
+          c.args.durability c.args.file file c.args.loss c.has_gone.result ended c.served_end.result c.served_end.ensures
           c.serve_guarded-ended.ensures;
     }
