@@ -187,6 +187,7 @@ class TillPage:
     def ask(self, kind, item, quantity=1, to=None, seconds=60):
         """The answer to a request, which is shown once and above the others."""
         before = self.answers()
+        until(lambda: self.at("send").get_attribute("aria-disabled") != "true", f"till {self.till} can ask", seconds)
         self.fill(kind, item, quantity, to)
         self.send()
         until(lambda: len(self.answers()) > len(before), f"an answer of till {self.till}", seconds)

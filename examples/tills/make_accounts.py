@@ -64,7 +64,8 @@ def mosquitto_line(user, password):
 
 def mosquitto_rights(user):
     """A bridge reads what all tills of its shop ask, and writes replies and what the screen shows. A till writes its own
-    asks, and reads its own replies. All see whether the bridge is there."""
+    asks, reads its own replies and its last request, and says which device takes its numbers. All see whether the bridge is
+    there."""
     shop, till = shop_and_till(user)
     screen = [f"shops/{shop}/{topic}" for topic in ("stock/+", "tills/+", "last", "top", "history/+")]
     if user.startswith("screen-"):
@@ -74,7 +75,8 @@ def mosquitto_rights(user):
         rights += [f"write {topic}" for topic in screen] + [f"read shops/{shop}/history/asks"]
         rights += [f"read {topic}" for topic in FIGURES]
     else:
-        rights = [f"write shops/{shop}/asks/{till}", f"read shops/{shop}/replies/{till}", f"read shops/{shop}/bridge"]
+        rights = [f"write shops/{shop}/asks/{till}", f"readwrite shops/{shop}/marks/{till}"]
+        rights += [f"read shops/{shop}/{topic}" for topic in (f"replies/{till}", f"tills/{till}", "bridge")]
     return f"user {user}\n" + "".join(f"topic {right}\n" for right in rights) + "\n"
 
 
