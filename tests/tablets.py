@@ -13,6 +13,7 @@ beside its field, and nothing of it is kept; a code of make_accounts.py signs in
 import argparse
 import os
 import pty
+import re
 import subprocess
 import sys
 import tempfile
@@ -25,6 +26,19 @@ from shop_scene import PYTHON, TILLS, TillPage, until
 
 STOCK, TAPS = 1000, (0.05, 0.15, 0.3, 0.6)
 GOODS = "item,name,unit,least\n1,Mug,piece,6\n2,Postcard,piece,20\n"
+
+
+def read_code(printed, path):
+    """What zbar reads of a code that is printed with half blocks, bright on dark."""
+    from PIL import Image
+
+    halves = {" ": (0, 0), "▄": (0, 1), "▀": (1, 0), "█": (1, 1)}
+    rows = [[halves[one][half] for one in line] for line in printed.splitlines() if line for half in (0, 1)]
+    width = max(map(len, rows))
+    image = Image.new("L", (width, len(rows)), 255)
+    image.putdata([255 * one for row in rows for one in row + [1] * (width - len(row))])
+    image.resize((8 * width, 8 * len(rows)), Image.NEAREST).save(path)
+    return subprocess.run(["zbarimg", "--quiet", "--raw", path], capture_output=True, text=True, check=True).stdout.strip()
 
 
 class Trial:
@@ -309,10 +323,26 @@ class Trial:
         page.ready()
         self.sell(page)
 
+    def code(self):
+        """A code of make_accounts.py, as another program reads it: it signs in, and the password leaves the address."""
+        words = [PYTHON, TILLS / "make_accounts.py", self.broker.accounts.folder, "--qr", "till-1-1", "--page", self.pages.url("till_page")]
+        printed = "\n".join(subprocess.run(list(map(str, words)), capture_output=True, text=True, check=True).stdout.splitlines())
+        text = read_code(re.sub(r"\x1b\[[0-9;]*m", "", printed), self.folder / "code.png")
+        self.want(text == f"{self.pages.url('till_page')}#till=1&password={self.broker.password('till-1-1')}", "zbar reads another text")
+        page = TillPage(self.drivers["sign"], self.pages, 1)
+        page.at("leave").click()
+        until(lambda: page.at("password").is_displayed(), "the form")
+        page.driver.get("about:blank")
+        page.driver.get(text)
+        page.ready()
+        self.want("password" not in page.driver.current_url, "the password stays in the address")
+        self.sell(page)
+
     def run(self):
         self.main_way()
         self.taps()
         self.sign_in()
+        self.code()
         self.counted("all")
         print(f"tablets: {self.done} sold by 3 tablets and a terminal, {self.done} counted; {len(TAPS)} double taps, {self.checks} checks; no difference")
 
