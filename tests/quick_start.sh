@@ -88,4 +88,4 @@ took=$(($(cat "$root/shop/uptime") - began))
 ! grep "^set_up: .* was changed and stays" "$root/shop/log" >&2 || exit 1
 grep -qxF 'after: all holds' "$root/shop/out" || { echo "quick_start: something doesn't hold after it" >&2; exit 1; }
 echo "quick_start: $count commands in $took s on a clean Debian, 2 tills sold 2 times,"
-echo "  1 backup; set up 2 times more, 1 damaged shop restored"
+echo "  1 backup; set up 5 times more, for a name and 2 addresses; 1 damaged shop restored"

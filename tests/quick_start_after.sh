@@ -36,13 +36,26 @@ sums() {
     ledger show /var/lib/ledger/shop1.d64
 }
 before=$(sums)
-examples/operator/set_up.sh shop.example 3
+examples/operator/set_up.sh shop.example 4
 [ "$before" = "$(sums)" ]
-[ "$(sell 3 till3.book R,101,0)" = '1 R,101,0 DONE,36' ]
+[ "$(sell 4 till4.book R,101,0)" = '1 R,101,0 DONE,36' ]
 echo '# mine' >>/etc/nginx/conf.d/ledger_pages.conf
-examples/operator/set_up.sh shop.example 3 2>/shop/second || { cat /shop/second; exit 1; }
+examples/operator/set_up.sh shop.example 4 2>/shop/second || { cat /shop/second; exit 1; }
 grep -q 'ledger_pages.conf was changed and stays' /shop/second
 grep -q '^# mine' /etc/nginx/conf.d/ledger_pages.conf
+
+# an address in the place of the name: pages and broker have a certificate of it, by the same authority
+for host in 10.213.0.2 ::1 shop.example; do
+    case $host in *:*) place="[$host]" ;; *) place=$host ;; esac
+    examples/operator/set_up.sh "$host" 4 2>/shop/address || { cat /shop/address; exit 1; }
+    grep -q "gives way to one of $host" /shop/address
+    get "https://$place/till_page/" | grep -q '<title>Till</title>'
+    for port in 443 8883 8884; do
+        case $host in shop.example) named="-verify_hostname" ;; *) named="-verify_ip" ;; esac
+        openssl s_client -connect "$place:$port" -CAfile "$own/ca.crt" -verify_return_error $named "$host" </dev/null >/dev/null
+    done
+done
+[ "$before" = "$(sums)" ]
 
 # a damaged image isn't served, and calls for somebody; a restore puts the shop back
 printf '#!/bin/sh\necho "$1" >>/var/lib/ledger/alarms\n' >"$own/alarm"

@@ -137,7 +137,7 @@ class Trial(Strangers):
     def offline(self, page):
         """Without a broker the request is kept and the page says so; it goes on by itself, also over a reload."""
         self.broker.stop()
-        until(lambda: page.state() in ("No connection to the broker.", "This device is offline."), "a word that nothing comes")
+        until(lambda: page.state() in ("No connection to the shop.", "This device is offline."), "a word that nothing comes")
         before = page.answers()
         page.fill("I", 1, 1)
         page.send()
@@ -167,23 +167,28 @@ class Trial(Strangers):
         self.want(page.ask("I", 7, 1) == "DONE,69", "till 2 asks")
         page.driver.quit()
         self.drivers.remove(page.driver)
-        page = self.page("new", 2)
-        page.fill("I", 7, 5)
-        page.send()
-        until(lambda: "refuses this till's number" in page.at("stop").text, "a word that another device has the number")
-        self.want("Sell 5 of" in page.at("stop").text, "what is dropped isn't named")
-        page.at("number").send_keys("2")
+        page = TillPage(self.browser("new"), self.pages, 2)
+        page.sign_in(self.broker.password("till-1-2"))
+        until(lambda: "Till 2 was used on another device (request 2)" in page.at("stop").text, "a word that another device has the number")
+        # a number that the shop has passed is asked for again
+        self.go_on(page, "1")
+        until(lambda: page.at("number").get_attribute("value") == "2", "the shop's number, filled in")
+        self.picture(page, "asked")
         page.at("again").find_element("css selector", "button").click()
         page.ready()
         self.want(page.ask("I", 7, 5) == "DONE,64", "till 2 goes on")
         self.picture(page, "till")
         return page
 
+    def go_on(self, page, number):
+        page.at("number").clear()
+        page.at("number").send_keys(number)
+        page.at("again").find_element("css selector", "button").click()
+
     def wrong_password(self):
         page = TillPage(self.browser("wrong"), self.pages, 3)
         page.sign_in("guess")
-        until(lambda: "refuses this number or password" in page.state(), "a word to a wrong password")
-        page.at("leave").click()
+        until(lambda: "password is wrong" in page.at("sign-fault").text, "a word to a wrong password")
         until(lambda: page.at("password").is_displayed(), "the form to sign in again")
         self.checks += 1
         self.picture(page, "sign")

@@ -36,6 +36,10 @@ def missing():
         "node-url": "/usr/share/nodejs/url",
         "node-readable-stream": "/usr/share/nodejs/readable-stream",
         "openssl": "/usr/bin/openssl",
+        "qrencode": "/usr/bin/qrencode",
+        "zbar-tools": "/usr/bin/zbarimg",
+        "curl": "/usr/bin/curl",
+        "libnss3-tools": "/usr/bin/certutil",
     }
     return [package for package, path in files.items() if not os.path.exists(path)]
 
@@ -167,6 +171,7 @@ class TillPage:
         until(lambda: self.state() == "Ready", f"till {self.till} ready", seconds)
 
     def fill(self, kind, item, quantity=1, to=None):
+        until(lambda: self.at("send").get_attribute("aria-disabled") != "true", f"till {self.till} can ask")
         self.driver.find_element("css selector", f"input[value={kind}]").click()
         for name, value in [("item", item), ("to", to), ("quantity", None if kind == "L" else quantity)]:
             if value is not None:

@@ -6,6 +6,7 @@ import assert from "node:assert/strict";
 import { readFileSync } from "node:fs";
 import { test } from "node:test";
 import { goodsOf, nameIn, rowsOf, Search } from "../examples/till_page/goods.js";
+import * as marks from "../examples/till_page/marks.js";
 import * as rules from "../examples/till_page/rules.js";
 
 const MARKUP = '<img src=x onerror="alert(1)">&amp;';
@@ -70,6 +71,34 @@ test("what a form says, in messages and in words", () => {
   assert.equal(rules.answerWords("M,16,5,15", "OVER,9", name), `Nothing was done: 9 of ${MARKUP} (15) are there, and more than 999999999 can't be.`);
 });
 
+test("who has a till's numbers, as the broker keeps it", () => {
+  const [a, b] = ["00000000000000aa", "00000000000000bb"], text = `${b} 5:${a} 6:${b}`, { at, taken } = marks.marksOf(text);
+  assert.deepEqual([at, [...taken]], [b, [[5, a], [6, b]]]);
+  assert.equal(marks.marksText(at, taken), text);
+  assert.deepEqual([...marks.take(taken, 7, a)], [[6, b], [7, a]]);
+  assert.deepEqual([...marks.take(taken, 9, a)], [[9, a]]);
+  assert.deepEqual([...marks.upTo(taken, 5)], [[5, a]]);
+  assert.deepEqual([marks.lastUsed(4, taken), marks.lastUsed(7, taken), marks.lastUsed(0, new Map())], [6, 7, 0]);
+  for (const other of ["", "x", `${a} 6`, `${a} 06:${b}`, `${a}  6:${b}`, `${a} 4:${a} 5:${a} 6:${a}`, `${a}\n`, `${a} 6:${b}x`])
+    assert.deepEqual([marks.marksOf(other).at, marks.marksOf(other).taken.size], [null, 0], other);
+  assert.match(marks.newMark(), /^[0-9a-f]{16}$/);
+  assert.notEqual(marks.newMark(), marks.newMark());
+  assert.deepEqual(["- 17,I,1,1,DONE,2", "2026-11-26T19:05:12.345Z 3,S,1,1,DONE,1", "", "- 0,x"].map(marks.numberOf), [17, 3, 0, 0]);
+});
+
+test("a device goes on if its next number is free, or its own", () => {
+  const mine = "00000000000000aa", other = "00000000000000bb", none = new Map(), open = "I,1,1";
+  const rows = [
+    [{ last: 5, open: null }, 5, none, true], [{ last: 5, open: null }, 4, none, true], [{ last: 5, open: null }, 6, none, false],
+    [{ last: 5, open: null }, 5, new Map([[6, other]]), false], [{ last: 5, open }, 5, none, true],
+    [{ last: 5, open, isSent: true }, 6, new Map([[6, mine]]), true], [{ last: 5, open, isSent: true }, 6, new Map([[6, other]]), false],
+    [{ last: 5, open, isSent: false }, 6, none, false], [{ last: 5, open }, 6, none, false], [{ last: 5, open, isSent: true }, 6, none, true],
+    [{ last: 5, open, isSent: true }, 7, new Map([[6, mine], [7, other]]), true], [{ last: 0, open: null }, 0, none, true],
+  ];
+  for (const [book, shop, taken, wanted] of rows)
+    assert.equal(marks.fits(book, shop, taken, mine), wanted, JSON.stringify([book, shop, [...taken]]));
+});
+
 test("CSV after RFC 4180", () => {
   assert.deepEqual(rowsOf('\ufeffa,"b ""c"", d"\r\n\r\n"e\nf",\n'), [["a", 'b "c", d'], ["e\nf", ""]]);
   assert.throws(() => rowsOf('a,"b'), /no end/);
@@ -101,7 +130,7 @@ test("names are found without their accents", () => {
 
 test("the page puts no text where markup is read, and loads nothing from elsewhere", () => {
   const folder = new URL("../examples/", import.meta.url);
-  const files = ["index.html", "till.js", "chooser.js", "goods.js", "link.js", "book.js", "rules.js"];
+  const files = ["index.html", "till.js", "chooser.js", "goods.js", "link.js", "book.js", "marks.js", "rules.js"];
   for (const file of files.map((name) => new URL(`till_page/${name}`, folder))) {
     const text = readFileSync(file, "utf8");
     assert.ok(!/innerHTML|outerHTML|insertAdjacentHTML|document\.write|eval\(|https?:\/\//.test(text), file.pathname);

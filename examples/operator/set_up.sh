@@ -1,16 +1,18 @@
 #!/bin/sh
 # Sets up a shop on a Debian 12 machine, as root:
 #   set_up.sh HOST TILLS
-# HOST is the name by which tablets reach this machine, such as shop.example. TILLS, 1 to 64, is how many tills get an account.
+# HOST is the name or the address by which tablets reach this machine, such as shop.example, 192.0.2.7 or 2001:db8::7. TILLS,
+# 1 to 64, is how many tills get an account.
 # /usr/bin/ledger has to be there, and the packages that QUICK_START.md names. It makes the user `ledger`, an authority and a
 # certificate, the accounts, and the shop's image; it configures mosquitto and nginx, and starts the bridge and the nightly
-# backup. Run it again for more tills or after an update: passwords, certificates, goods and the image stay as they are.
+# backup. Run it again for more tills or after an update: passwords, goods and the image stay as they are, and so does a
+# certificate that names HOST and doesn't end within 60 days.
 # A configuration file that somebody changed is left alone, and named.
 set -eu
 umask 022
 host=${1:?"which name has this machine?"}
 tills=${2:?"how many tills?"}
-case $host in *[!A-Za-z0-9.-]* | -* | "") echo "set_up: $host is no host's name" >&2 && exit 1 ;; esac
+case $host in *[!A-Za-z0-9.:-]* | -* | "") echo "set_up: $host is no host's name or address" >&2 && exit 1 ;; esac
 case $tills in [1-9] | [1-5][0-9] | 6[0-4]) ;; *) echo "set_up: $tills is no number from 1 to 64" >&2 && exit 1 ;; esac
 [ "$(id -u)" = 0 ] || { echo "set_up: only root can do this" >&2; exit 1; }
 here=$(CDPATH= cd -- "$(dirname -- "$0")/.." && pwd)
@@ -41,18 +43,8 @@ for unit in "$here"/tills/*.service "$here"/operator/*.service "$here"/operator/
     put root:root 644 "$unit" "/etc/systemd/system/${unit##*/}"
 done
 
-# the authority, and the broker's certificate for this host
-if [ ! -e "$own/ca/ca.crt" ]; then
-    install -d -m 700 "$own/ca"
-    cd "$own/ca"
-    printf '[req]\ndistinguished_name=name\n[name]\n[ca]\nbasicConstraints=critical,CA:TRUE\nkeyUsage=critical,keyCertSign\n' >ca.conf
-    openssl req -config ca.conf -x509 -extensions ca -newkey ec -pkeyopt ec_paramgen_curve:prime256v1 -nodes \
-        -keyout ca.key -out ca.crt -days 3650 -subj "/CN=shop at $host" 2>/dev/null
-    openssl req -config ca.conf -newkey ec -pkeyopt ec_paramgen_curve:prime256v1 -nodes \
-        -keyout broker.key -out broker.csr -subj /CN=broker 2>/dev/null
-    printf 'subjectAltName=DNS:%s,DNS:localhost,IP:127.0.0.1\nextendedKeyUsage=serverAuth\n' "$host" >names
-    openssl x509 -req -in broker.csr -out broker.crt -CA ca.crt -CAkey ca.key -CAcreateserial -days 800 -extfile names 2>/dev/null
-fi
+# the authority, and the certificate for this host
+sh "$here/operator/make_certificate.sh" "$own/ca" "$host"
 cd "$own/ca"
 install -m 644 ca.crt "$own/ca.crt"
 install -D -m 640 -g mosquitto -t /etc/mosquitto/certs broker.crt broker.key
@@ -93,4 +85,5 @@ for _ in 1 2 3 4 5 6 7 8 9 10; do
     [ "$(curl -s http://127.0.0.1:9641/health)" != serving ] || break
     sleep 1
 done
+case $host in *:*) host="[$host]" ;; esac
 echo "set_up: a shop with $tills tills at https://$host/till_page/ and https://$host/stock_page/, passwords in $own/accounts, 1 bridge started"

@@ -1,6 +1,8 @@
 // A till's book in the browser (IndexedDB). What is kept is on the disk, as far as the browser can bring it there, before
 // a promise is fulfilled: the open wish before it is sent, an answer before it is shown.
 
+import { newMark } from "./marks.js";
+
 const NAME = "ledger-till", VERSION = 1;
 
 /** The value of a request of IndexedDB. */
@@ -58,6 +60,19 @@ export class Books {
     return found.reverse();
   }
 
+  /** The mark of this browser, which is made once. */
+  async mark() {
+    const transaction = this.store.transaction("signs", "readwrite", { durability: "strict" }), finished = complete(transaction);
+    const signs = transaction.objectStore("signs"), request = signs.get("mark");
+    let mark;
+    request.onsuccess = () => {
+      mark = request.result ?? newMark();
+      signs.put(mark, "mark");
+    };
+    await finished;
+    return mark;
+  }
+
   /** Puts a book in the place of the one before, with an answer if there is one. Throws Changed, and keeps nothing, if the
    *  book there isn't the one before. */
   async keep(place, before, book, answer = null) {
@@ -68,7 +83,7 @@ export class Books {
       const there = request.result ?? { last: 0, open: null };
       isSame = there.last === before.last && there.open === before.open;
       if (!isSame) return transaction.abort();
-      books.put({ last: book.last, open: book.open }, place);
+      books.put(book, place);
       if (answer) transaction.objectStore("answers").add({ place, ...answer });
     };
     try {

@@ -1,7 +1,7 @@
 // What carries a page's messages: MQTT over websockets, by Debian's node-mqtt (`make_mqtt.sh` makes mqtt.js of it).
 /* global mqtt */
 
-const DENIED = [4, 5];
+const DENIED = [4, 5], PAUSE = 1000;
 
 /** The broker of a page: what config.json beside this file says, or port 8884 of the machine that the page is of. */
 export async function configured() {
@@ -9,50 +9,61 @@ export async function configured() {
   return { broker: found.broker ?? `wss://${location.hostname}:8884`, shop: found.shop ?? "1" };
 }
 
-/** A connection with an account, which connects again by itself. `heard(topic, text, retained)` gets each message,
- *  `changed()` is called whenever what `trouble` returns may have changed. */
+/** A connection with an account, which connects again by itself, unless the account is denied. `heard(topic, text, retained)`
+ *  gets each message; `changed()` is called whenever what `trouble` returns may have changed, `connected()` before. */
 export class Link {
-  constructor(broker, user, password, topics, heard, changed) {
-    Object.assign(this, { broker, topics, heard, changed });
-    this.refused = 0;
-    this.client = mqtt.connect(broker, {
-      clientId: user, username: user, password, clean: true, keepalive: 10, reconnectPeriod: 1000, connectTimeout: 5000,
-      resubscribe: false, queueQoSZero: false,
+  constructor(broker, user, password, topics, heard, changed, connected = () => {}) {
+    Object.assign(this, { broker, user, password, topics, heard, changed, connected, isDenied: false, client: null });
+    this.connect();
+  }
+
+  /** Each connection has a client of its own: what was on its way over one never goes out over the next. */
+  connect() {
+    const client = mqtt.connect(this.broker, {
+      clientId: this.user, username: this.user, password: this.password, clean: true, keepalive: 10, reconnectPeriod: 0,
+      connectTimeout: 5000, resubscribe: false, queueQoSZero: false,
     });
-    this.client.on("connect", () => this.connected());
-    this.client.on("close", () => this.changed());
-    this.client.on("error", (fault) => {
-      if (DENIED.includes(fault.code)) this.refused = fault.code;
+    this.client = client;
+    client.on("connect", () => {
+      if (client !== this.client) return;
+      this.connected();
+      client.subscribe(this.topics, { qos: 1 });
       this.changed();
     });
-    this.client.on("message", (topic, bytes, packet) => {
-      heard(topic, new TextDecoder("ascii").decode(bytes), packet.retain);
+    client.on("error", (fault) => { this.isDenied ||= DENIED.includes(fault.code); });
+    client.on("close", () => this.lost(client));
+    client.on("message", (topic, bytes, packet) => {
+      if (client === this.client) this.heard(topic, new TextDecoder("ascii").decode(bytes), packet.retain);
     });
   }
 
-  connected() {
-    this.refused = 0;
-    this.client.subscribe(this.topics, { qos: 1 });
+  lost(client) {
+    if (client !== this.client) return;
+    this.end();
+    if (!this.isDenied) this.timer = setTimeout(() => this.connect(), PAUSE);
     this.changed();
   }
 
   get isConnected() {
-    return this.client.connected;
+    return this.client?.connected === true;
   }
 
   /** Sends a message if there is a connection; who sends repeats it until its answer is heard. */
-  send(topic, text) {
-    if (this.client.connected) this.client.publish(topic, text, { qos: 1 });
+  send(topic, text, retain = false) {
+    if (this.isConnected) this.client.publish(topic, text, { qos: 1, retain });
   }
 
   /** Why nothing comes, or null. */
   trouble() {
-    if (this.refused) return "The broker refuses this number or password.";
-    if (this.client.connected) return null;
-    return navigator.onLine === false ? "This device is offline." : "No connection to the broker.";
+    if (this.isDenied) return "The number or the password is wrong.";
+    if (this.isConnected) return null;
+    return navigator.onLine === false ? "This device is offline." : "No connection to the shop.";
   }
 
   end() {
-    this.client.end(true);
+    clearTimeout(this.timer);
+    const client = this.client;
+    this.client = null;
+    client?.end(true);
   }
 }

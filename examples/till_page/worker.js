@@ -1,7 +1,7 @@
 // Keeps the page's files, so that it opens without net too. A file comes from the server if that answers in time.
 /* global self, caches */
 const CACHE = "ledger-till-1", PATIENCE = 3000;
-const FILES = ["./", "style.css", "till.js", "rules.js", "book.js", "chooser.js", "goods.js", "link.js", "mqtt.js"];
+const FILES = ["./", "style.css", "till.js", "rules.js", "book.js", "chooser.js", "goods.js", "link.js", "marks.js", "mqtt.js"];
 
 self.addEventListener("install", (event) => {
   event.waitUntil(caches.open(CACHE).then((cache) => cache.addAll(FILES)).then(() => self.skipWaiting()));

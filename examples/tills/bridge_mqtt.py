@@ -77,6 +77,8 @@ class Bridge:
         if refused:
             self.ended(f"the broker at {self.place} refuses the account ({mqtt.connack_string(refused)})")
         client.subscribe(f"{self.topic}/asks/+", qos=1)
+        # a till that sees `serving` sees the shop's last number of it
+        self.serve.tick(self.publish)
         client.publish(f"{self.topic}/bridge", SERVING, qos=1, retain=True)
         for topic in self.serve.topics(self.topic):
             client.subscribe(topic, qos=1)

@@ -2,12 +2,16 @@
 """Makes the accounts of a shop at a broker, and the broker's files that give each account its rights.
 
     make_accounts.py FOLDER --shop 1 --tills 4
+    make_accounts.py FOLDER --qr till-1-3 --page https://shop.example/till_page/
 
 FOLDER gets a file `bridge-1.account` and, for each till and each screen, `till-1-N.account` and `screen-1-N.account`: one
 line USER:PASSWORD, mode 600.
 A file that is there already is kept. From all accounts in FOLDER it writes, for mosquitto, `ledger.passwords` and
 `ledger.acl`, and for RabbitMQ `ledger.definitions.json`. These hold no password, only hashes. Run it again with another
-shop or more tills, and give the broker the new files. SECURITY.md says who gets which file."""
+shop or more tills, and give the broker the new files. SECURITY.md says who gets which file.
+
+--qr prints a code with which a tablet signs in as a till: the page's address with number and password (Debian's package
+qrencode). Whoever sees the code has the account."""
 
 import argparse
 import base64
@@ -16,6 +20,7 @@ import json
 import os
 import re
 import secrets
+import subprocess
 import sys
 from pathlib import Path
 
@@ -64,7 +69,8 @@ def mosquitto_line(user, password):
 
 def mosquitto_rights(user):
     """A bridge reads what all tills of its shop ask, and writes replies and what the screen shows. A till writes its own
-    asks, and reads its own replies. All see whether the bridge is there."""
+    asks, reads its own replies and its last request, and says which device takes its numbers. All see whether the bridge is
+    there."""
     shop, till = shop_and_till(user)
     screen = [f"shops/{shop}/{topic}" for topic in ("stock/+", "tills/+", "last", "top", "history/+")]
     if user.startswith("screen-"):
@@ -74,7 +80,8 @@ def mosquitto_rights(user):
         rights += [f"write {topic}" for topic in screen] + [f"read shops/{shop}/history/asks"]
         rights += [f"read {topic}" for topic in FIGURES]
     else:
-        rights = [f"write shops/{shop}/asks/{till}", f"read shops/{shop}/replies/{till}", f"read shops/{shop}/bridge"]
+        rights = [f"write shops/{shop}/asks/{till}", f"readwrite shops/{shop}/marks/{till}"]
+        rights += [f"read shops/{shop}/{topic}" for topic in (f"replies/{till}", f"tills/{till}", "bridge")]
     return f"user {user}\n" + "".join(f"topic {right}\n" for right in rights) + "\n"
 
 
@@ -139,13 +146,33 @@ def make(folder, shops, screens=1):
     return accounts
 
 
+def print_code(folder, user, page):
+    """Prints the code of a till's account. The password goes to qrencode by a pipe: no process shows it in its words."""
+    path, (_, till) = folder / f"{user}.account", shop_and_till(user)
+    try:
+        password = path.read_text(encoding="ascii").strip().partition(":")[2]
+        subprocess.run(["qrencode", "-t", "ANSIUTF8"], input=f"{page}#till={till}&password={password}", text=True, check=True)
+    except FileNotFoundError as fault:
+        sys.exit(f"make_accounts: there is no {fault.filename}" + (" (Debian's qrencode)" if fault.filename == "qrencode" else ""))
+    except (OSError, subprocess.CalledProcessError) as fault:
+        sys.exit(f"make_accounts: {fault}")
+
+
 def main():
     parser = argparse.ArgumentParser(description=__doc__.splitlines()[0])
     parser.add_argument("folder", type=Path)
-    parser.add_argument("--shop", required=True, help="the shop's name: letters, digits and _")
-    parser.add_argument("--tills", required=True, type=int, choices=range(1, 65), metavar="TILLS", help="1 to 64")
+    parser.add_argument("--shop", help="the shop's name: letters, digits and _")
+    parser.add_argument("--tills", type=int, choices=range(1, 65), metavar="TILLS", help="1 to 64")
     parser.add_argument("--screens", type=int, default=1, choices=range(100), metavar="SCREENS", help="0 to 99, default 1")
+    parser.add_argument("--qr", metavar="TILL", help="print the code of this account, such as till-1-3")
+    parser.add_argument("--page", help="with --qr: the address of the till's page")
     given = parser.parse_args()
+    if given.qr:
+        if not (NAME.fullmatch(given.qr) and given.qr.startswith("till-") and given.page):
+            parser.error("--qr is a till's account, such as till-1-3, and wants --page")
+        return print_code(given.folder, given.qr, given.page)
+    if not (given.shop and given.tills):
+        parser.error("--shop and --tills are required")
     if not NAME.fullmatch(f"bridge-{given.shop}"):
         parser.error("a shop's name has letters, digits and _ only")
     accounts = make(given.folder, {given.shop: given.tills}, given.screens)

@@ -34,7 +34,7 @@ def parameters(places, user, context):
     return each
 
 
-class Broker:
+class Broker(wishes.Carrier):
     """Carries messages over whichever of the brokers is there."""
 
     def __init__(self, places, shop, till, user=None, ca=None):

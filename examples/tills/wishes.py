@@ -40,6 +40,14 @@ class Refused(Exception):
     """The shop's books and this till's aren't of one piece: another till has its number, or the shop is another."""
 
 
+class Taken(Exception):
+    """Another device has this till, or has used its numbers: why, and the last number that was used, or None."""
+
+    def __init__(self, why, number):
+        super().__init__(why)
+        self.number = number
+
+
 class Away(Exception):
     """What carries the messages isn't there."""
 
@@ -163,6 +171,11 @@ class Till:
         self.open = text
         return True
 
+    def go_on(self, number):
+        """Drops the open wish, and goes on after this number."""
+        self.note(f"= {number},lost")
+        self.last, self.open = number, None
+
     def ask(self):
         """The message of the open wish, the same each time."""
         return f"{self.till},{self.last + 1},{self.open}"
@@ -202,6 +215,14 @@ def answer_to(till, link):
         wait = min(2 * wait, LONGEST)
 
 
+def wait_for(till, link):
+    """Waits until a new wish may be taken."""
+    began, told = time.monotonic(), None
+    while not link.is_ready(till.last):
+        told = complain(till, link, began, told)
+        time.sleep(0.02)
+
+
 def complain(till, link, began, told):
     """Says what a till waits for, if it has waited for long and this is another trouble than the last that was said."""
     if time.monotonic() - began < PATIENCE:
@@ -212,7 +233,18 @@ def complain(till, link, began, told):
     return trouble
 
 
-class Pipe:
+class Carrier:
+    """What carries a till's messages, where nobody else has its number."""
+
+    def is_ready(self, _last):
+        """Whether a new wish may be taken after this number; raises Taken if another device has used the next one."""
+        return True
+
+    def free(self):
+        """Forgets the numbers that devices took: the shop never had them."""
+
+
+class Pipe(Carrier):
     """Carries messages to a command that answers a line with a line, and is started again if it has ended."""
 
     def __init__(self, command):
@@ -299,6 +331,47 @@ def words(description):
     return account.words(parser)
 
 
+def goes_on(given, till, taken):
+    """Goes on after the last number that another device used, if a person says so: by --go-on, or on a terminal. A file of
+    wishes has a line for each number, so its till never does."""
+    if taken.number is None or given.wishes != "-" or not (getattr(given, "go_on", False) or confirmed(f"{taken}. Go on here?")):
+        return False
+    dropped = f"; the open wish {till.open} may or may not count" if till.open else ""
+    say(f"till {till.till} goes on after request {taken.number}{dropped}")
+    till.go_on(taken.number)
+    return True
+
+
+def confirmed(question):
+    if not sys.stdin.isatty():
+        return False
+    print(f"{question} [y/N] ", end="", file=sys.stderr, flush=True)
+    return sys.stdin.readline().strip() in ("y", "Y", "yes")
+
+
+def take(given, till, link, wish):
+    """Opens a wish, under a number that no other device has used."""
+    while True:
+        try:
+            wait_for(till, link)
+            break
+        except Taken as taken:
+            if not goes_on(given, till, taken):
+                raise
+    if not till.wish(wish):
+        sys.exit("no number is left")
+
+
+def do(given, till, link):
+    """Does the open wish, and prints number, wish and answer. It never gets another number: it may have been asked."""
+    try:
+        number, wish = till.last + 1, till.open
+        print(number, wish, answer_to(till, link), flush=True)
+    except Taken as taken:
+        if not goes_on(given, till, taken):
+            raise
+
+
 def run(given, connect):
     """Does wish after wish, each a line `R,42,5` or `M,42,5,43`, and prints number, wish and answer of each. `connect`
     makes what carries its messages, unless that is a pipe. Status 1: a line of the file, or of a standard input that is
@@ -308,19 +381,18 @@ def run(given, connect):
         till = Till(given.till, Book(given.book))
         link = Pipe(given.pipe) if given.pipe else connect(given)
         wishes = Wishes(given.wishes, till)
-
-        def done():
-            number, wish = till.last + 1, till.open
-            print(number, wish, answer_to(till, link), flush=True)
-
         if till.open:
-            done()
+            do(given, till, link)
         for wish in wishes:
-            if not till.wish(wish):
-                sys.exit("no number is left")
-            done()
+            take(given, till, link, wish)
+            do(given, till, link)
         sys.exit(1 if wishes.wrong else 0)
+    except Taken as taken:
+        say(f"{taken}: with --go-on it goes on here" if taken.number else f"{taken}: start this one again to go on here")
+        sys.exit(LOOK)
     except Refused as refused:
+        if str(refused).endswith(",AHEAD"):
+            link.free()
         say(f"{refused}: another till has this number, or the shop isn't the one asked before")
         sys.exit(LOOK)
     except (Unfit, OSError) as fault:
