@@ -22,8 +22,8 @@ pub(crate) fn sound_disk(alloc: Global, image: &[u8]) -> Result<MemDisk, Why>
     }
 }
 
-/// The disk of an image in memory, unless a file of it is cut short and that isn't accepted. Of a disk that isn't sound
-/// none is.
+/// The disk of an image in memory, unless a file of it is cut short and that isn't accepted. A disk that isn't sound has
+/// no such file.
 pub(crate) fn taken_disk(alloc: Global, image: &[u8], cut: Shortened) -> Result<MemDisk, Why>
     ensures ok { IfOk result (λ disk. IsTaken image.now cut × (disk_image disk ≡ sectors_in image.now)) }
     ensures err { IfErr result (IsUntaken image.now) }
