@@ -168,8 +168,8 @@ module _ {H W : Type 0} (rights : Rights H) (stands : H → List ℕ → Stands)
   IsJobOver (jobs.Delete image name) old new end = IsChangeOver Written image.now
       (λ bytes. IsDeleted bytes (name_bytes name)) (λ bytes. IsDeleteRefusal bytes (name_bytes name)) old new end
   IsJobOver (jobs.Put image name file kind) old new end = IsChangeByText stands contents host image.now file.now
-      (λ bytes data. IsPut bytes (name_bytes name) kind data)
-      (λ bytes data. IsPutRefusal bytes (name_bytes name) kind data) old new end
+      (λ bytes given. IsPut bytes (name_bytes name) kind given)
+      (λ bytes given. IsPutRefusal bytes (name_bytes name) kind given) old new end
   IsJobOver (jobs.Store image records columns loss name) old new end =
       IsChangeByText stands contents host image.now records.now
       (λ bytes text. IsStored bytes (name_bytes name) (text_in columns text) (shortened loss))
