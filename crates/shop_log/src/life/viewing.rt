@@ -34,8 +34,8 @@ pub trait ViewsImage {
         ensures image { OnOk result ((s : Seen) → seen self.old ≡ Some s → image.new ≡ s.image) }
         ensures goes { (s : Seen) → seen self.old ≡ Some s → GoesTo seen s self.new };
 
-    /// Whether a writer has landed the log since it was read. Of one that wasn't `marked` then, whether it has its mark now;
-    /// of one that was, whether it has lost its name.
+    /// Whether a writer has landed the log since it was read. One that wasn't `marked` then has its mark now; one that was has
+    /// lost its name.
     fn has_landed(&mut self, marked: bool) -> io::Result<bool>
         ensures landed { IfOk result (λ landed. (s : Seen) → seen self.old ≡ Some s → HasLanded s marked landed) }
         ensures goes { (s : Seen) → seen self.old ≡ Some s → GoesTo seen s self.new };
