@@ -13,7 +13,8 @@ tried:
 - A log of another image, and one that is cut short: `LOG`, status 1, and nothing is changed, by any word; `format` removes it.
 - `format --new` and `copy` make no image beside a log that stands alone.
 - A log that is full is made anew while the service goes on.
-- An image that is moved away ends the service with `DEVICE`, and its log stays.
+- An image that is moved away ends the service with `DEVICE`, and its log stays; also if that is seen when the input ends.
+- An image with a second name: `TWO NAMES`, status 1, and nothing is changed.
 - The order of writes and syncs: zeros, base and names before the first reply; the log before each reply; mark, image, name at the
   end.
 The status is 1 at the first difference."""
@@ -212,6 +213,41 @@ class Logs:
             want(got == (1, [], "FILE EXISTS"), f"{word} beside a log that stands alone: {got}")
             want(self.files() == held, f"{word} beside a log that stands alone has changed a file")
 
+    def two_names(self):
+        """An image with a second name: TWO NAMES, and nothing is changed; without a log it is read by either."""
+        self.killed()
+        other = self.folder / "other.d64"
+        os.link(self.image, other)
+        held = self.files()
+        for command in [*LOOKING, *CHANGING]:
+            status, out, err = got = self.run(command, b"1,1,S,1,9\n")
+            printed = command.name in PRINT_REFUSALS and err == "" and "TWO NAMES" in "".join(out)
+            want(status == 1 and (printed or (out, err) == ([], "TWO NAMES")), f"{command.name} over an image with two names: {got}")
+            want(self.files() == held, f"{command.name} has changed a file of an image with two names")
+        for words in (["format", other, "--tills", 4], ["play", other, "/dev/null"], ["serve", other]):
+            got = run(self.program, *words)
+            want(got == (1, [], "TWO NAMES"), f"{words[0]} by the second name: {got}")
+        want(self.files() == held, "a word has changed a file by its second name")
+        sure(self.program, "show", other)
+        other.unlink()
+        sure(self.program, "play", self.image, "/dev/null")
+
+    def replaced_at_the_end(self):
+        """An image that is replaced, moved or removed before the input ends."""
+        for act in (shutil.copy, os.rename, os.remove):
+            self.fresh()
+            backup = self.folder / "backup.d64"
+            shutil.copy(self.image, backup)
+            served = Served(self.program, self.image)
+            self.ask(served, ["1,1,S,1,5"])
+            if act is shutil.copy:
+                backup.rename(self.image)
+            else:
+                act(self.image, *([self.folder / "elsewhere.d64"] if act is os.rename else []))
+            held = self.files()
+            want(served.finish() == (3, [], "DEVICE"), f"{act.__name__}: a service whose image is gone doesn't end with DEVICE")
+            want(self.files() == held, f"{act.__name__}: a file was changed or removed by a service whose image is gone")
+
     def moved(self):
         """An image that is moved away."""
         self.fresh()
@@ -298,7 +334,7 @@ def main():
     with tempfile.TemporaryDirectory() as folder:
         logs = Logs(str(Path(sys.argv[1]).resolve()), Path(folder).resolve(), draw, bursts)
         print(f"beside a service: {logs.beside()} views, each the shop of the answered lines", flush=True)
-        tried = [logs.after_a_kill, logs.refused, logs.alone, logs.moved]
+        tried = [logs.after_a_kill, logs.refused, logs.alone, logs.two_names, logs.replaced_at_the_end, logs.moved]
         tried += [logs.full, logs.order] if shutil.which("strace") else []
         for one in tried:
             one()

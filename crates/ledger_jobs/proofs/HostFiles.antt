@@ -67,12 +67,12 @@ reading-ends contents what bytes old new ended end told (inl run) = inl (ended, 
 reading-ends contents what bytes old new ended end told (inr (same, inl file)) =
     let E : JobEnd → Type 0 = λ e. IsErr e × IfErr e IsUnbegun in
     let R : Ended → Type 0 = λ r. E (as_job r) in
-    let both = subst E (sym told) (subst R (sym file) (refl, inl tt)) in
+    let both = subst E (sym told) (subst R (sym file) (refl, inl (inl tt))) in
     inr (same, both.0, both.1)
 reading-ends contents what bytes old new ended end told (inr (same, inr memory)) =
     let E : JobEnd → Type 0 = λ e. IsErr e × IfErr e IsUnbegun in
     let R : Ended → Type 0 = λ r. E (as_job r) in
-    let both = subst E (sym told) (subst R (sym memory) (refl, inl tt)) in
+    let both = subst E (sym told) (subst R (sym memory) (refl, inl (inl tt))) in
     inr (same, both.0, both.1)
 
 -- the same of each value

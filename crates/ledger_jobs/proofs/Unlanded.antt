@@ -25,6 +25,7 @@ landing_lost refusals.InUse = inl refl
 landing_lost (refusals.Kept n) = inl refl
 landing_lost refusals.Exists = inl refl
 landing_lost refusals.Log = inl refl
+landing_lost refusals.TwoNames = inl refl
 landing_lost (refusals.Short p) = inl refl
 landing_lost refusals.ShopFile = inl refl
 landing_lost refusals.Trimmed = inl refl
@@ -80,6 +81,8 @@ unlanded_is (Err (refusals.Kept n)) fault =
 unlanded_is (Err refusals.Exists) fault =
     record { told = inl refl; out = λ out. elim out [ inl ok ↦ false≢true ok | inr e ↦ cc ] }
 unlanded_is (Err refusals.Log) fault =
+    record { told = inl refl; out = λ out. elim out [ inl ok ↦ false≢true ok | inr e ↦ cc ] }
+unlanded_is (Err refusals.TwoNames) fault =
     record { told = inl refl; out = λ out. elim out [ inl ok ↦ false≢true ok | inr e ↦ cc ] }
 unlanded_is (Err (refusals.Short p)) fault =
     record { told = inl refl; out = λ out. elim out [ inl ok ↦ false≢true ok | inr e ↦ cc ] }

@@ -63,13 +63,17 @@ IsUnread (refusals.Fault faults.File) = ⊤
 IsUnread (refusals.Fault faults.NoMemory) = ⊤
 IsUnread _ = ⊥
 
+-- or it has a second name
+abbrev pub IsUntaken : Refusal → Type 0
+IsUntaken refusal = IsUnread refusal ⊎ (refusal ≡ refusals.TwoNames)
+
 -- or it is an image's, and has another length
 abbrev pub IsUnopened : Refusal → Type 0
-IsUnopened refusal = IsUnread refusal ⊎ (refusal ≡ refusals.Fault faults.ImageSize)
+IsUnopened refusal = IsUntaken refusal ⊎ (refusal ≡ refusals.Fault faults.ImageSize)
 
 -- or what it held couldn't be synced, or a log beside it gives no image
 abbrev pub IsUnbegun : Refusal → Type 0
-IsUnbegun refusal = IsUnread refusal ⊎ ((refusal ≡ refusals.Fault faults.Device) ⊎ (refusal ≡ refusals.Log))
+IsUnbegun refusal = IsUntaken refusal ⊎ ((refusal ≡ refusals.Fault faults.Device) ⊎ (refusal ≡ refusals.Log))
 
 -- a job was refused for this line of its script, once its files were open
 abbrev pub IsRefusedAt : ℕ → Refusal → Type 0

@@ -1,9 +1,9 @@
 //! The line that a person at a terminal reads below a refusal: which file it is about, what the system said of it, and what
 //! to do.
-ghost use Rattle.ledger_jobs.specs.Rights.{MayExplain};
+ghost use Rattle.ledger_jobs.specs.Rights.{MayExplain, MayLook};
 
 use crate::failure_lines::{tell_device, tell_files, tell_of, tell_of_image};
-use crate::job_files::{first_file, image_of, text_of};
+use crate::job_files::{first_file, image_of, size_of, text_of};
 use crate::jobs::Job;
 use crate::near_names::tell_name;
 use crate::refusal_subjects::{About, subject_of};
@@ -13,8 +13,25 @@ use image_file::{Failure, HostFiles, Locks};
 use std::fs::OpenFile;
 use std::io::{Read, Write};
 
+const THERE: &str = "it is there already; `format` without `--new` replaces it";
+
+const LOG_ALONE: &str =
+    "its log or a folder is there; a log may be all that is left of a shop (docs/LOG.md)";
+
+/// What is said of an image that can't be made at a path, since it or its log is there.
+fn said_of_made<R: HostFiles>(rt: &R, image: &str) -> &'static str
+    requires { MayLook R.rights rt.now image.now }
+{
+    match size_of(rt, image) {
+        Some(_) => THERE,
+        None => LOG_ALONE,
+    }
+}
+
 /// Prints that a file can't be made, since it or its log is there.
-fn tell_made<E: Write>(job: &Job<'_>, err: &mut E) {
+fn tell_made<R: HostFiles, E: Write>(rt: &R, job: &Job<'_>, err: &mut E)
+    requires { MayExplain R.rights rt.now job.now }
+{
     match job {
         Job::Copy { copy, .. } => {
             tell_of(
@@ -26,17 +43,11 @@ fn tell_made<E: Write>(job: &Job<'_>, err: &mut E) {
         Job::Extract { folder, .. } => {
             tell_of(err, folder, "it is there already; choose another name");
         }
-        Job::New { image, .. } | Job::Format { image, .. } => {
-            tell_of(
-                err,
-                image,
-                "it or its log is there already; choose another name",
-            );
-        }
+        Job::FormatNew { image, .. } => tell_of(err, image, said_of_made(rt, image)),
         _ => tell_of(
             err,
             image_of(job),
-            "it or its log is there already; `format` without `--new` replaces it",
+            "it or its log is there already; choose another name",
         ),
     }
 }
@@ -74,7 +85,7 @@ where
             }
         }
         About::Text(said) => tell_of(err, text_of(job).unwrap_or(image), said),
-        About::Made => tell_made(job, err),
+        About::Made => tell_made(rt, job, err),
         About::Nothing => {}
     }
 }

@@ -3,7 +3,7 @@ ghost use Rattle.ledger_jobs.specs.Rights.{MayExplain, MayLook};
 
 use crate::files::STANDARD_INPUT;
 use crate::job_files::{first_file, image_of};
-use crate::jobs::Job;
+use crate::jobs::{Job, Way};
 use image_file::{Failure, HostFiles, ShownPath, regular_at};
 use std::fmt::Display;
 use std::io::{self, ErrorKind, Write};
@@ -13,6 +13,8 @@ const UNWRITTEN: &str = "; copy it to another medium, check the copy, and go on 
 const FULL: &str = "; make room there, and go on";
 
 const GONE: &str = "its name doesn't lead to the file that was opened, or that has another length";
+
+const LOGGED: &str = "; all replies are in its log, which goes with it (docs/KEEPERS.md, DEVICE)";
 
 const UNREAD: &str = "ledger: a file couldn't be read to its end, or the output not be written";
 
@@ -100,14 +102,28 @@ pub(crate) fn tell_files<R: HostFiles, E: Write>(
     }
 }
 
+/// What is said of a file that has gone: that its log has the replies, if the job keeps one.
+fn said_of_gone(job: &Job<'_>) -> &'static str {
+    match job {
+        Job::Serve {
+            way: Way::OverLog,
+            ..
+        }
+        | Job::PlayLogged { .. } => LOGGED,
+        _ => "",
+    }
+}
+
 /// Prints why a file failed while it was written or read, and what to do. If the system said nothing, it is no longer
 /// the file that was opened.
 pub(crate) fn tell_device<E: Write>(job: &Job<'_>, cause: Option<Failure<'_>>, err: &mut E) {
+    let logged = said_of_gone(job);
     let Some(failure) = cause else {
-        return tell_of(err, image_of(job), GONE);
+        let _ = writeln!(err, "ledger: {}: {GONE}{logged}", ShownPath(image_of(job)));
+        return;
     };
     match failure.error.kind() {
-        ErrorKind::NotFound => tell_failure(err, &failure, ""),
+        ErrorKind::NotFound => tell_failure(err, &failure, logged),
         ErrorKind::StorageFull | ErrorKind::QuotaExceeded => tell_failure(err, &failure, FULL),
         _ => tell_failure(err, &failure, UNWRITTEN),
     }

@@ -6,10 +6,13 @@ ghost use Rattle.ledger_jobs.specs.Rights.{MayMakeImage, MayOverwrite, MayReadTe
 ghost use Rattle.ledger_jobs.specs.declared.files.Older.TheVariants.{Kept, Replaced};
 ghost use Rattle.image_file.specs.paths.Rights.{Look, May};
 
-use crate::image_logs::is_there;
+use crate::image_logs::{is_there, see_one_name};
 use crate::refusals::Refusal;
 use command_faults::CommandFault;
-use image_file::{EndedFile, HostFiles, Locks, OpensFile, read_script, regular, regular_at};
+use image_file::{
+    DIRECTORY_START, EndedFile, HostFiles, Locks, OpensFile, SPOILED_DIRECTORY, read_script,
+    regular, regular_at,
+};
 use shop_log::{LogNames, forget_log};
 use std::fs::OpenFile;
 use std::io;
@@ -66,6 +69,25 @@ fn is_file_at<R: HostFiles>(rt: &R, path: &str) -> io::Result<bool>
         Err(error) if error.kind() == io::ErrorKind::NotFound => Ok(false),
         Err(error) => Err(error),
     }
+}
+
+/// Removes the log of the image at a path, whose file this is, and which would win over the new image. The file is
+/// spoiled before, and that is synced: without its log the old image is an older shop.
+fn forget_shop<F: EndedFile, R: HostFiles>(
+    rt: &R,
+    path: &str,
+    names: &LogNames,
+    file: &mut F,
+) -> io::Result<()>
+    requires makes { MayMakeImage R.rights rt.now path.now }
+    requires leads { R.rights.leads rt.now path.now (string_bytes names.now.image) ≡ true }
+{
+    if is_there(rt, names.log())? {
+        file.put_over(&SPOILED_DIRECTORY, DIRECTORY_START as u64)?;
+        file.sync_whole()?;
+    }
+    forget_log(rt, names)?;
+    Ok(())
 }
 
 /// What becomes of a file that is there before another is made.
@@ -127,7 +149,8 @@ impl<R: HostFiles + AllocGlobal> AtPath<'_, R> {
             return Err(self.refuse(Refusal::Exists, error));
         }
         match self.rt.make_file(self.path) {
-            Err(error) if error.kind() == io::ErrorKind::AlreadyExists => {
+            Err(error)
+                if self.older == Older::Kept && error.kind() == io::ErrorKind::AlreadyExists => {
                 Err(self.refuse(Refusal::Exists, error))
             }
             made => made,
@@ -152,17 +175,19 @@ where
 {
     /// The file, opened or made, which this program has alone; no log stands beside it.
     fn locked(&mut self) -> io::Result<F> {
-        let rt = self.rt;
+        let (rt, path) = (self.rt, self.path);
         // before the file is made, since memory may be refused
-        let names = LogNames::of(rt, rt.alloc(), self.path)?;
+        let names = LogNames::of(rt, rt.alloc(), path)?;
         let mut file = self.opened(&names)?;
         // another thing may stand there by now
         regular(OpenFile::metadata(&file))?;
         if let Err(error) = file.lock_alone() {
             return Err(self.refuse(Refusal::of_lock(&error), io::Error::from(error)));
         }
-        // a log that was there would win over the new image
-        forget_log(rt, &names)?;
+        if let Err(refusal) = see_one_name(&file) {
+            return Err(self.refuse(refusal, io::ErrorKind::InvalidInput.into()));
+        }
+        forget_shop(rt, path, &names, &mut file)?;
         Ok(file)
     }
 }

@@ -1,7 +1,7 @@
 //! The log beside an image: it is landed before the image is written, and read in the place of the image.
 ghost use Rattle.std.specs.Prelude.{◌≡◌, IfErr, IfOk, IsNone, false, string_bytes};
 ghost use Rattle.ledger_jobs.specs.Ends.{log_refusal as refusal_of};
-ghost use Rattle.ledger_jobs.specs.HostFiles.{HasNoLog, IsUnbegun, IsUnread};
+ghost use Rattle.ledger_jobs.specs.HostFiles.{HasNoLog, IsUnbegun, IsUnopened, IsUnread, IsUntaken};
 ghost use Rattle.ledger_jobs.specs.Rights.{MayChangeImage, MayReadFile};
 ghost use Rattle.shop_log.specs.life.LogRights.{MayKeepLog, MayKeepLogOf, MayReadLog};
 ghost use Rattle.image_file.specs.paths.Rights.{Look, May, MayRead, MayWrite};
@@ -16,6 +16,7 @@ use image_file::{Durability, EndedFile, HostFiles, Locks, opened_to_change, open
 use shop_log::{ImageFolder, ImageView, LogFault, LogNames, land_in, sync_names, view_in};
 use std::fs::OpenFile;
 use std::io::{self, ErrorKind};
+use std::os::unix::fs::MetadataExt;
 
 /// What is reported for this fault of a log.
 pub(crate) fn log_refusal(fault: &LogFault) -> Refusal
@@ -35,6 +36,27 @@ pub(crate) fn is_sized<F: OpenFile>(file: &F) -> Result<bool, Refusal>
     Ok(found.len() == IMAGE_BYTES as u64)
 }
 
+/// Refuses a file that hasn't as many bytes as an image: `ImageSize`.
+pub(crate) fn see_size<F: OpenFile>(file: &F) -> Result<(), Refusal>
+    ensures { IfErr result IsUnopened }
+{
+    if is_sized(file)? {
+        return Ok(());
+    }
+    Err(Refusal::Fault(CommandFault::ImageSize))
+}
+
+/// Refuses a file that has a second name, by which it would have another log: `TwoNames`.
+pub(crate) fn see_one_name<F: OpenFile>(file: &F) -> Result<(), Refusal>
+    ensures { IfErr result IsUntaken }
+{
+    let found = told(OpenFile::metadata(file))?;
+    if found.nlink() > 1 {
+        return Err(Refusal::TwoNames);
+    }
+    Ok(())
+}
+
 /// Whether anything stands at a path.
 pub(crate) fn is_there<R: HostFiles>(rt: &R, path: &str) -> io::Result<bool>
     requires { May R.rights rt.now Look path.now }
@@ -47,19 +69,21 @@ pub(crate) fn is_there<R: HostFiles>(rt: &R, path: &str) -> io::Result<bool>
     }
 }
 
-/// The regular file at a path, opened to be changed, which this program has alone. `InUse` if another program has it.
+/// The regular file at a path, opened to be changed, which this program has alone. `InUse` if another program has it;
+/// `TwoNames` if it has a second name.
 pub(crate) fn opened_alone<F, R>(rt: &R, path: &str) -> Result<F, Refusal>
 where
-    F: Locks + Drop,
+    F: Locks + OpenFile + Drop,
     R: HostFiles<File = F>,
     requires { MayWrite R.rights rt.now path.now }
     ensures owned { IfOk result F.IsOwned }
     ensures shared { IfOk result F.IsShared }
     ensures bytes { IfOk result (λ image. AreOf R.stands rt.now path.now (F.unread image)) }
-    ensures err { IfErr result IsUnread }
+    ensures err { IfErr result IsUntaken }
 {
     let mut file = told(opened_to_change(rt, path))?;
     lock_exclusive(&mut file, Durability::AtEnd)?;
+    see_one_name(&file)?;
     Ok(file)
 }
 
@@ -135,7 +159,8 @@ where
 }
 
 /// The sectors that the log beside the image at a path gives. None if there is no log, or the image has another size.
-/// `Log` if the log gives none. The image's file is locked for reading: so none is begun while it is read.
+/// `Log` if the log gives none; `TwoNames` if it gives them, and the image has a second name. The image's file is locked
+/// for reading: so none is begun while it is read.
 pub(crate) fn logged_image<F, R>(
     rt: &R,
     path: &str,
@@ -155,7 +180,11 @@ where
     let again = told(opened_to_read(rt, path))?;
     let mut view = ImageView::new(rt, rt.alloc(), &names, again);
     match view_in(rt.alloc(), &mut view) {
-        Ok(seen) => Ok(seen),
+        Ok(None) => Ok(None),
+        Ok(Some(shop)) => {
+            see_one_name(image)?;
+            Ok(Some(shop))
+        }
         Err(fault) => Err(log_refusal(&fault)),
     }
 }

@@ -16,13 +16,14 @@ ghost use Rattle.ledger_jobs.specs.Rights.{MayChangeImage, MayReadText};
 ghost use Rattle.image_file.specs.paths.Standing.{AreOf};
 
 use crate::files::script_to_play;
+use crate::image_logs::{opened_alone, see_size};
 use crate::jobs::Loss;
 use crate::logged_plays::play_logged;
 use crate::outcomes::{run_end, told};
 use crate::refusals::Refusal;
 use crate::reply_lines::ReplyLines;
 use crate::serving_images::name_of;
-use crate::serving_logs::{begun_beside, cleared_end, landed_end, opened_image};
+use crate::serving_logs::{begun_beside, cleared_end, landed_end};
 use crate::watched_files::served_end;
 use command_faults::CommandFault;
 use disk_layout::Fault;
@@ -87,8 +88,12 @@ where
     ended
 }
 
-/// The bytes of the script at a path. `BadLine` if a line begins with `@`: the first such line.
-fn plain_script<R: HostFiles + Input + AllocGlobal>(rt: &R, path: &str) -> Result<Vec<u8>, Refusal>
+/// The bytes of the script at a path, which is to be played on the image in this file. `ImageSize` if the file hasn't as
+/// many bytes as an image; `BadLine` if a line begins with `@`: the first such line.
+fn plain_script<F, R>(rt: &R, path: &str, image: &F) -> Result<Vec<u8>, Refusal>
+where
+    F: OpenFile,
+    R: HostFiles + Input + AllocGlobal,
     requires { MayReadText R.rights rt.now path.now }
     ensures plain { IfOk result (λ script. first_reset (lines (vec_items script)) ≡ None) }
     ensures read { OfText R.stands rt.now path.now (λ all. IfOk result (λ script. vec_items script ≡ all)) }
@@ -96,6 +101,7 @@ fn plain_script<R: HostFiles + Input + AllocGlobal>(rt: &R, path: &str) -> Resul
         → IfErr result (IsRefusedAt n)) }
 {
     let script = script_to_play(rt, path)?;
+    see_size(image)?;
     match first_reset_line(script.as_slice()) {
         None => Ok(script),
         Some(line) => Err(Refusal::Fault(CommandFault::ScriptLine(line))),
@@ -152,7 +158,7 @@ where
     requires script { MayReadText R.rights rt.now script.now }
     ensures { IsPlayedOverLog R.rights R.stands W.contents rt.now path.now script.now out.old out.new result }
 {
-    let image = opened_image(rt, path)?;
-    let script = plain_script(rt, script)?;
+    let image = opened_alone(rt, path)?;
+    let script = plain_script(rt, script, &image)?;
     play_beside(rt, path, image, script.as_slice(), out)
 }

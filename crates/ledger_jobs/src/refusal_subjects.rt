@@ -34,8 +34,11 @@ const KEPT: &str = "no file owns what is kept, but another program may; `repair 
 const FOREIGN_LOG: &str =
     "the log beside it is of another image, or not whole; docs/LOG.md says what to do";
 
+const SECOND_NAME: &str =
+    "it has a second name (a hard link), and would have a log under each; keep one, or `copy` it";
+
 pub(crate) const CUT_SHORT: &str =
-    "a file ends at that sector, too early: docs/KEEPERS.md says what to do";
+    "a file ends there, too early (docs/KEEPERS.md); if `check` said OK before, use --accept-loss";
 
 const NAMED: &str = "a file has this name; `ledger list` shows them";
 
@@ -91,6 +94,7 @@ pub(crate) fn subject_of(job: &Job<'_>, refusal: Refusal) -> About {
         Refusal::Kept(_) => About::Image(KEPT),
         Refusal::Exists => About::Made,
         Refusal::Log => About::Image(FOREIGN_LOG),
+        Refusal::TwoNames => About::Image(SECOND_NAME),
         Refusal::Short(_) => About::Image(CUT_SHORT),
         Refusal::ShopFile => About::Image(SHOP_FILE),
         Refusal::Trimmed => About::Image(JUDGED),

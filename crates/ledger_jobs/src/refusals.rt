@@ -22,6 +22,8 @@ pub enum Refusal {
     Exists,
     /// The log beside the image can't be used: it is of another image, or isn't whole. Nothing was changed.
     Log,
+    /// The image's file has a second name, by which it would have another log. Nothing was changed.
+    TwoNames,
     /// A file of the image is cut short: its chain ends at this sector, too early.
     Short(Place),
     /// A file that is to be renamed or deleted is one of a shop's two files. Nothing was changed.
@@ -44,6 +46,7 @@ impl Refusal {
             Refusal::Kept(_) => 1,
             Refusal::Exists => 1,
             Refusal::Log => 1,
+            Refusal::TwoNames => 1,
             Refusal::Short(_) => 1,
             Refusal::ShopFile => 1,
             Refusal::Trimmed => 1,
@@ -57,7 +60,7 @@ impl Refusal {
     {
         match self {
             Refusal::Fault(_) | Refusal::InUse | Refusal::Exists | Refusal::Log => true,
-            Refusal::Short(_) | Refusal::ShopFile => true,
+            Refusal::TwoNames | Refusal::Short(_) | Refusal::ShopFile => true,
             Refusal::Kept(_) | Refusal::Trimmed | Refusal::Several(_) => false,
         }
     }
@@ -84,6 +87,7 @@ impl Display for Refusal {
             Refusal::Kept(count) => write!(f, "KEPT {count}"),
             Refusal::Exists => f.write_str("FILE EXISTS"),
             Refusal::Log => f.write_str("LOG"),
+            Refusal::TwoNames => f.write_str("TWO NAMES"),
             Refusal::Short(place) => write!(f, "SHORT {}/{}", place.track(), place.sector()),
             Refusal::ShopFile => f.write_str("SHOP FILE"),
             Refusal::Trimmed => f.write_str("TRIMMED"),

@@ -1,8 +1,8 @@
 //! Serving the shop of the image at a path, over a log beside it.
-ghost use Rattle.std.specs.Prelude.{◌≡◌, Bool, IfErr, IfOk, IfSome, OnOk, flat_map, length, string_bytes, take, true, vec_items};
+ghost use Rattle.std.specs.Prelude.{◌≡◌, Bool, IfOk, IfSome, OnOk, flat_map, length, string_bytes, take, true, vec_items};
 ghost use Rattle.ledger_jobs.specs.Changes.{IsLoggedEnd};
 ghost use Rattle.ledger_jobs.specs.Ends.{landing_fault, unlanded as unlanded_end};
-ghost use Rattle.ledger_jobs.specs.HostFiles.{IsShopAt, IsUnopened, OfWritten};
+ghost use Rattle.ledger_jobs.specs.HostFiles.{IsShopAt, OfWritten};
 ghost use Rattle.ledger_jobs.specs.LandedRuns.{IsDoneAndLanded, IsLandedEnd};
 ghost use Rattle.ledger_jobs.specs.LoggedRuns.{IsLoggedRun, IsUnlogged};
 ghost use Rattle.ledger_jobs.specs.Losses.{IsEndOfRun, IsGuarded};
@@ -15,7 +15,7 @@ ghost use Rattle.image_file.specs.paths.Rights.{Look, May, MayWrite, Remove};
 ghost use Rattle.image_file.specs.paths.Standing.{AreOf};
 ghost use Rattle.shop_log.specs.life.LogRights.{MayKeepLogOf, making_of};
 
-use crate::image_logs::{is_sized, log_refusal, opened_alone};
+use crate::image_logs::{log_refusal, opened_alone, see_size};
 use crate::jobs::Loss;
 use crate::locks::read_shared;
 use crate::losses::{loss_refusal, serve_logged_guarded};
@@ -213,24 +213,6 @@ pub(crate) fn cleared_end<F: OpenFile, R: HostFiles<File = F>, T>(
     ended
 }
 
-/// The regular file at a path, which this program has alone and which has as many bytes as an image.
-pub(crate) fn opened_image<F, R>(rt: &R, path: &str) -> Result<F, Refusal>
-where
-    F: Locks + OpenFile + Drop,
-    R: HostFiles<File = F>,
-    requires { MayWrite R.rights rt.now path.now }
-    ensures owned { IfOk result F.IsOwned }
-    ensures shared { IfOk result F.IsShared }
-    ensures bytes { IfOk result (λ image. AreOf R.stands rt.now path.now (F.unread image)) }
-    ensures err { IfErr result IsUnopened }
-{
-    let image = opened_alone(rt, path)?;
-    if is_sized(&image)? {
-        return Ok(image);
-    }
-    Err(Refusal::Fault(CommandFault::ImageSize))
-}
-
 /// The bytes of the image in this file, which nobody else writes and of which nothing was read. `Device` if they aren't
 /// those of this shop, which was landed: then the image's path leads to another file.
 fn landed_bytes<F: Locks>(
@@ -303,7 +285,8 @@ where
     ensures { IsLoggedService W.contents (IsShopAt R.stands rt.now path.now) out.old out.new result }
 {
     let alloc = rt.alloc();
-    let mut image = opened_image(rt, path)?;
+    let mut image = opened_alone(rt, path)?;
+    see_size(&image)?;
     // A bare reader of standard input reads a byte a call.
     let mut input = told(BufReader::new(alloc, rt.reader()))?;
     let name = name_of(rt, path, &image)?;

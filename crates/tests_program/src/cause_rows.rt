@@ -69,4 +69,12 @@ cut 2
 person ledger_cli serve --in-place a.d64
 tells DEVICE|ledger: a.d64: its name doesn't lead to the file that was opened, or that has another length|
 ends 3
+
+input 1,1,S,1,5|
+gone 5
+person ledger_cli serve a.d64
+prints 1,1,DONE,5|
+tells DEVICE|ledger: a.d64: entity not found; all replies are in its log, which goes with it (docs/KEEPERS.md, DEVICE)|
+ends 3
+logged
 ";

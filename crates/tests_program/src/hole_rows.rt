@@ -112,7 +112,7 @@ ends 3
 no image
 log junk
 person ledger_cli format --new a.d64 --tills 2
-tells FILE EXISTS|ledger: a.d64: it or its log is there already; `format` without `--new` replaces it|
+tells FILE EXISTS|ledger: a.d64: its log or a folder is there; a log may be all that is left of a shop (docs/LOG.md)|
 ends 1
 logged
 ";

@@ -113,6 +113,22 @@ $ ledger_cli format a.d64 --tills 2
 prints FORMATTED|
 rewritten
 
+# the log goes when the old image is no shop any more
+input 1,1,S,1,5|
+log-sync 3 fails
+$ ledger_cli serve a.d64
+tells DEVICE|
+ends 3
+logged
+folder-sync 1 fails
+$ ledger_cli format a.d64 --tills 2
+tells FILE|
+ends 3
+written
+$ ledger_cli show a.d64
+tells LAYOUT BADLINK 18/1|
+ends 1
+
 # a log that can't be made: nothing was asked for, and what there was of it is removed
 input 1,1,S,1,5|
 log-sync 1 fails

@@ -93,6 +93,16 @@ $ ledger_cli play --log a.d64 s.txt
 tells DEVICE|
 ends 3
 
+# as for a play in place, a file that isn't there is reported before an image of another size
+no script
+resize 174847
+$ ledger_cli play --log a.d64 s.txt
+tells FILE|
+ends 3
+$ ledger_cli play a.d64 s.txt
+tells FILE|
+ends 3
+
 gone 4
 $ ledger_cli play --log a.d64 s.txt
 prints 1,1,DONE,5|

@@ -176,8 +176,14 @@ tells FILE EXISTS|
 ends 1
 
 person ledger_cli format a.d64 --tills 2 --new
-tells FILE EXISTS|ledger: a.d64: it or its log is there already; `format` without `--new` replaces it|
+tells FILE EXISTS|ledger: a.d64: it is there already; `format` without `--new` replaces it|
 ends 1
+
+# It was made, or a link to nothing stands there: the name was free when it was looked at.
+gone 1
+$ ledger_cli format a.d64 --tills 2
+tells FILE|
+ends 3
 
 no image
 $ ledger_cli format a.d64 --tills 2 --new
