@@ -130,8 +130,8 @@ def section(heading, end):
 def explained_words():
     """The guide's faults and refusals for roff, each word with its meaning."""
     lines = [".SH FAULTS", "What", ".B check", "prints, with the sector where it is:"]
-    for word, meaning, _ in re.findall(r"(?m)^\| `([A-Z]+)` \| ([^|]+) \| ([^|]+) \|$", section("## Faults", "##")):
-        lines += [".TP", f".B {word}", escaped(plain(meaning))]
+    for word, meaning, cure in re.findall(r"(?m)^\| `([A-Z]+)` \| ([^|]+) \| ([^|]+) \|$", section("## Faults", "##")):
+        lines += [".TP", f".B {word}", escaped(plain(meaning)), ".br", escaped("What to do: " + plain(cure))]
     lines += [".SH DIAGNOSTICS", "Words on standard error. Sections and pages named here are those of docs/KEEPERS.md."]
     for line in section("## When something is refused", "###").splitlines():
         refusal = re.match(r"- (`[^:]*): (.*)", line)

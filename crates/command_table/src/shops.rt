@@ -88,7 +88,8 @@ const PLAY: Subcommand = Subcommand {
 Prints a reply for each line, for example 1,1,DONE,40. In a line such as
 \"@2 1,1,R,7,5\" the power fails after two writes; --log refuses such a line.
 With --log the requests are synced in IMAGE-log first, and come to IMAGE at the
-end.
+end. Without --sync or --log a power loss can lose answered requests, or leave a
+wrong shop.
 
 Exit status:
   0  all lines were played
