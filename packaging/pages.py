@@ -34,7 +34,7 @@ EXAMPLES = (
     ("{0} list customers.d64", "prints the directory:", ('0 "CUSTOMERS 1987" CU 2A', '132 "ADDRESS" REL', "..", "393 BLOCKS FREE")),
     ("{0} records customers.d64 ADDRESS", "prints the records of a relative file:", ('1,"CLARK\\0d12 MILL LANE\\0dLEEDS\\0d"', "..")),
     ("{0} format --new shop.d64 --tills 4", "makes a shop for four tills; a file of this name is left alone:", ("FORMATTED",)),
-    ("{0} play shop.d64 day.txt", "plays the messages of a script, and prints the reply to each line:", ("1,1,DONE,40", "..")),
+    ("{0} play --sync shop.d64 day.txt", "plays the messages of a script, and prints the reply to each line:", ("1,1,DONE,40", "..")),
 )
 
 

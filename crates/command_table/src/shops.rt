@@ -98,7 +98,7 @@ Exit status:
   3  FILE, NO MEMORY, IN USE; or DEVICE: check a copy on another disk, and go
      on there
 
-Example: ledger play shop.d64 day.txt",
+Example: ledger play --sync shop.d64 day.txt",
     values: &[IMAGE, SCRIPT, SYNC, LOG],
 };
 
