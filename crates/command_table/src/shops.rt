@@ -111,7 +111,8 @@ Prints the replies that a fresh disk with 64 tills would give.
 
 Exit status:
   0  the replies were printed
-  1  SCRIPT LINE n: nothing was printed
+  1  SCRIPT LINE n (also a line with resets, as \"@2 1,1,R,7,5\"): nothing was
+     printed
   3  FILE, NO MEMORY
 
 Example: ledger dry day.txt",
