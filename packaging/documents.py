@@ -52,9 +52,10 @@ class Links:
 def readme(text):
     """The README, of which the package's licence is the file `copyright`, and whose program is on the path."""
     text = text.replace("(LICENSE)", "(copyright)")
-    text = re.sub(r"(?m)^On Linux.*$", "With the program on the path as `ledger` ([docs/KEEPERS.md](docs/KEEPERS.md) says how), in a copy of "
+    text = re.sub(r"(?m)^In a clone.*$", "With the program on the path as `ledger` ([docs/KEEPERS.md](docs/KEEPERS.md) says how), in a copy of "
                   "this folder. Pages that are named here without a link are in the repository.", text, count=1)
-    return re.sub(r"(?m)^\./ledger ", "ledger ", text)
+    text = re.sub(r"(?m)^This runs the \[released\].*\n\n", "", text, count=1)
+    return re.sub(r"(?m)^\./test .*\n", "", re.sub(r"(?m)(^|`)\./ledger ", r"\1ledger ", text))
 
 
 def renamed(text, name):

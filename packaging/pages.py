@@ -34,7 +34,7 @@ EXAMPLES = (
     ("{0} list customers.d64", "prints the directory:", ('0 "CUSTOMERS 1987" CU 2A', '132 "ADDRESS" REL', "..", "393 BLOCKS FREE")),
     ("{0} records customers.d64 ADDRESS", "prints the records of a relative file:", ('1,"CLARK\\0d12 MILL LANE\\0dLEEDS\\0d"', "..")),
     ("{0} format --new shop.d64 --tills 4", "makes a shop for four tills; a file of this name is left alone:", ("FORMATTED",)),
-    ("{0} play shop.d64 day.txt", "plays the messages of a script, and prints the reply to each line:", ("1,1,DONE,40", "..")),
+    ("{0} play --sync shop.d64 day.txt", "plays the messages of a script, and prints the reply to each line:", ("1,1,DONE,40", "..")),
 )
 
 
@@ -130,8 +130,8 @@ def section(heading, end):
 def explained_words():
     """The guide's faults and refusals for roff, each word with its meaning."""
     lines = [".SH FAULTS", "What", ".B check", "prints, with the sector where it is:"]
-    for word, meaning, _ in re.findall(r"(?m)^\| `([A-Z]+)` \| ([^|]+) \| ([^|]+) \|$", section("## Faults", "##")):
-        lines += [".TP", f".B {word}", escaped(plain(meaning))]
+    for word, meaning, cure in re.findall(r"(?m)^\| `([A-Z]+)` \| ([^|]+) \| ([^|]+) \|$", section("## Faults", "##")):
+        lines += [".TP", f".B {word}", escaped(plain(meaning)), ".br", escaped("What to do: " + plain(cure))]
     lines += [".SH DIAGNOSTICS", "Words on standard error. Sections and pages named here are those of docs/KEEPERS.md."]
     for line in section("## When something is refused", "###").splitlines():
         refusal = re.match(r"- (`[^:]*): (.*)", line)

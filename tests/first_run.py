@@ -28,8 +28,8 @@ FILES = {
     "crates/low/proofs/a b.antt": "proofs\n",
     "crates/other/src/lib.rt": "other\n",
     "examples/day_with_power_cuts.replies": "1,1,DONE,40\n",
-    "README.md": "./ledger format --new shop.d64  # makes it\n./ledger play shop.d64 day\n./ledger show shop.d64\n./ledger check shop.d64\n"
-    "```\nTOP 1\nCARD 1,2\n```\n",
+    "README.md": "## A first session\n\n```sh\n./ledger format --new shop.d64  # makes it\n./ledger play shop.d64 day\n./ledger show shop.d64\n"
+    "./ledger check shop.d64\n```\n\n```\nTOP 1\nCARD 1,2\n```\n\n```sh\n./ledger serve shop.d64\n```\n",
 }
 PROGRAM = """#!/bin/sh
 case $1 in

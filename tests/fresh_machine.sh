@@ -27,7 +27,7 @@ home=$(mktemp -d "$debian/home/keeper.XXXXXX")
 began=$(date +%s%N)
 git clone --quiet --depth 1 "file://$top" "$home/ledger"
 chown -R nobody:nogroup "$home"
-commands=$(sed -n 's/^\(\.\/ledger [^#]*\).*/\1/p' "$top/README.md")
+commands=$(sed -n '/^## A first session/,/^```$/s/^\(\.\/ledger [^#]*\).*/\1/p' "$top/README.md")
 [ "$(echo "$commands" | wc -l)" -ge 4 ] || fail "the README has no session"
 unshare --net chroot --userspec=nobody:nogroup "$debian" /usr/bin/env -i PATH=/usr/bin:/bin \
     sh -euc "cd '${home#"$debian"}/ledger' && $commands" >"$work/printed" 2>"$work/said" || {

@@ -73,7 +73,8 @@ def compare_program(program, built_from):
 def play_session(program):
     """The README's session, with the output that it shows."""
     readme = (TOP / "README.md").read_text()
-    session = [line.split("#")[0].split()[1:] for line in re.findall(r"(?m)^\./ledger .*$", readme)]
+    first = re.search(r"(?ms)^## A first session\n.*?^```sh\n(.*?)^```$", readme)[1]
+    session = [line.split("#")[0].split()[1:] for line in first.splitlines()]
     shows = re.search(r"(?ms)^TOP .*?(?=^```$)", readme)[0]
     wanted = {"format": "FORMATTED\n", "show": shows, "check": "OK\n", "play": (TOP / "examples/day_with_power_cuts.replies").read_text()}
     want({"format", "play", "show", "check"} <= {words[0] for words in session}, "the README has no session")

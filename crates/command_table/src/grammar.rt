@@ -66,7 +66,7 @@ fn explainable_of<'a>(alloc: Global, subcommand: &Subcommand) -> Result<Command<
 fn described<'a>(alloc: Global) -> Command<'a>
     ensures { app_of result ≡ new_app (codes "ledger") }
 {
-    let about = "A retry-safe stock ledger: a request that comes again gets its first answer";
+    let about = "Keeps a shop's stock on a 1541 disk (D64), and checks, reads and repairs disks";
     named(alloc, "ledger", about, MORE)
 }
 

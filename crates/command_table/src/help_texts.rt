@@ -10,14 +10,14 @@ Exit status:
   0  success
   1  a fault was found, or an image, a script or records were refused
   2  the command line was refused
-  3  a file, the output or memory failed, or another program has the image
-     (IN USE)
+  3  a file or the output can't be had, read or written (FILE), memory doesn't
+     suffice (NO MEMORY), writing or syncing an image failed (DEVICE), or
+     another program has the image (IN USE)
 
 While IMAGE-log stands beside IMAGE, the shop is what the log says, and each
 command reads it there. LOG with status 1: the log is of another image.
 If a command fails, standard error has one line. On a terminal, or with
 --explain, a second line names the file or says what to do.
 
-\"ledger COMMAND --help\" has an example of each command. These pages say more:
-  /usr/share/doc/ledger-1541/README.md        the commands
-  /usr/share/doc/ledger-1541/docs/KEEPERS.md  every word that they print";
+\"ledger COMMAND --help\" has an example of each command. \"man ledger-1541\", of
+the package, has all of this, and every word that the commands print.";

@@ -57,7 +57,7 @@ Prints OK, or a fault and its sector, for example LOOP 17/0:
   UNCLOSED    no drive closed a file whose entry is in this sector
   BADTYPE     a closed entry in this sector has a type that doesn't exist
   BADLENGTH   a relative file's entry in this sector has record length 0 or 255
-/usr/share/doc/ledger-1541/docs/KEEPERS.md says what to do about each.
+\"man ledger-1541\" says what to do about each.
 On a terminal, or with --explain, SHORT and a sector follow if a file is cut
 short there; not with several images.
 With several images each line begins with the image's name, also for an image

@@ -158,7 +158,8 @@ const TRIM: Subcommand = Subcommand {
 Prints an image of 174848 bytes, as every other command takes it, from one of 35
 or 40 tracks with or without error bytes. On standard error it prints a line for
 each sector that the drive couldn't read, for example ERROR 23 17/4. A file that
-goes on past track 35 has one too: BEYOND and the sector whose link leads there.
+goes on past track 35 has one too: BEYOND, the sector whose link leads there,
+and its name.
 
 Exit status:
   0  all of the image is there

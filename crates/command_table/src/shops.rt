@@ -88,7 +88,8 @@ const PLAY: Subcommand = Subcommand {
 Prints a reply for each line, for example 1,1,DONE,40. In a line such as
 \"@2 1,1,R,7,5\" the power fails after two writes; --log refuses such a line.
 With --log the requests are synced in IMAGE-log first, and come to IMAGE at the
-end.
+end. Without --sync or --log a power loss can lose answered requests, or leave a
+wrong shop.
 
 Exit status:
   0  all lines were played
@@ -97,7 +98,7 @@ Exit status:
   3  FILE, NO MEMORY, IN USE; or DEVICE: check a copy on another disk, and go
      on there
 
-Example: ledger play shop.d64 day.txt",
+Example: ledger play --sync shop.d64 day.txt",
     values: &[IMAGE, SCRIPT, SYNC, LOG],
 };
 
@@ -110,7 +111,8 @@ Prints the replies that a fresh disk with 64 tills would give.
 
 Exit status:
   0  the replies were printed
-  1  SCRIPT LINE n: nothing was printed
+  1  SCRIPT LINE n (also a line with resets, as \"@2 1,1,R,7,5\"): nothing was
+     printed
   3  FILE, NO MEMORY
 
 Example: ledger dry day.txt",
