@@ -103,7 +103,9 @@ class Trial:
         self.stopped(page, words)
         if number is not None:
             self.want(page.at("number").get_attribute("value") == str(number), f"not {number} is filled in")
+        text = page.at("stop").text
         page.at("again").find_element("css selector", "button").click()
+        until(lambda: page.at("stop").text != text, "what comes after going on")
 
     def back(self, page, number):
         """A page whose till was taken over says so; it goes on after this number, which it may learn after that."""
