@@ -134,6 +134,8 @@ class OverMqtt:
         yield "all topics", lambda: silent(INSIDER, "#", "$SYS/#")
         yield "all replies", lambda: silent(INSIDER, f"{replies}/+", f"{replies}/{HONEST}")
         yield "all asks", lambda: silent(INSIDER, f"{ask}/+", f"$share/thief/{ask}/+")
+        yield "all tills' numbers", lambda: silent(INSIDER, "shops/1/marks/+", "shops/1/tills/+", f"shops/1/marks/{HONEST}")
+        yield "another till's number, said to be another device's", self.marked
         yield "all asks, for another shop's bridge", lambda: silent(FOREIGN, f"{ask}/+", "shops/#")
         yield "others' identifiers", self.names
         yield "the bridge's session", self.session
@@ -145,6 +147,12 @@ class OverMqtt:
         yield "a request of till 8", self.insider_asks
         yield "a flood of one request", lambda: scene.not_kept(lambda: self.flood("8,1,S,8,8", REPEATS))
         yield "a message of 10 MB", self.large
+
+    def marked(self):
+        """A till, which knows marks, asks as if nobody had said anything."""
+        self.publish("shops/1/marks/6", f"{'0' * 16} 1:{'0' * 16}", retain=True)
+        self.publish("shops/1/tills/6", "- 5,S,1,1,DONE,1", retain=True)
+        self.scene.heard(self.scene.victim(6, ["S,13,6"]), 6, "1 S,13,6 DONE,6")
 
     def retained(self):
         self.publish(f"shops/1/replies/{OTHER}", f"{OTHER},1,DONE,4", retain=True)

@@ -4,7 +4,8 @@
 # PROGRAM is what `tools/program` prints. DEBIAN is a folder that debootstrap has made, with systemd; without it this makes
 # one, in some two minutes. A copy of it is started as a container whose net is its own: it reaches nothing but a proxy that
 # gets packages from Debian's servers. At most ten commands may stand there, and all may take ten minutes. After them
-# tests/quick_start_after.sh looks at the pages, runs set_up.sh again, and restores a damaged shop. It wants to be root, and Debian's packages debootstrap, systemd-container, iproute2 and python3. The status is 1 at the first difference.
+# tests/quick_start_after.sh looks at the pages, runs set_up.sh again, also for addresses, and restores a damaged shop. It wants
+# to be root, and Debian's packages debootstrap, systemd-container, iproute2 and python3. The status is 1 at the first difference.
 set -eu
 top="$(CDPATH= cd -- "$(dirname -- "$0")/.." && pwd)"
 program="${1:?"which program?"}"

@@ -45,6 +45,7 @@ grep -q 'ledger_pages.conf was changed and stays' /shop/second
 grep -q '^# mine' /etc/nginx/conf.d/ledger_pages.conf
 
 # an address in the place of the name: pages and broker have a certificate of it, by the same authority
+authority=$(sha256sum "$own/ca.crt")
 for host in 10.213.0.2 ::1 shop.example; do
     case $host in *:*) place="[$host]" ;; *) place=$host ;; esac
     examples/operator/set_up.sh "$host" 4 2>/shop/address || { cat /shop/address; exit 1; }
@@ -55,7 +56,7 @@ for host in 10.213.0.2 ::1 shop.example; do
         openssl s_client -connect "$place:$port" -CAfile "$own/ca.crt" -verify_return_error $named "$host" </dev/null >/dev/null
     done
 done
-[ "$before" = "$(sums)" ]
+[ "$authority" = "$(sha256sum "$own/ca.crt")" ]
 
 # a damaged image isn't served, and calls for somebody; a restore puts the shop back
 printf '#!/bin/sh\necho "$1" >>/var/lib/ledger/alarms\n' >"$own/alarm"

@@ -61,7 +61,7 @@ def imports(folder, listed, many):
     supplier.write_text("Article;Text;Pieces\n101;new;12\n102;;3\n", encoding="utf-8")
     words = [supplier, "--goods", listed, "--item", "Article", "--quantity", "Pieces", "--delimiter", ";"]
     told = tool("import_list.py", *words)
-    check(f"line 2: 12 of 101 {MARKUP} come in" in told and "nothing was added" in told, f"the preview is {told}")
+    check(f"line 2: 12 of {MARKUP} (101) come in" in told and "nothing was added" in told, f"the preview is {told}")
     check(not wishes.exists(), "a preview writes")
     tool("import_list.py", *words, "--add-to", wishes)
     check(wishes.read_text() == "R,101,12\nR,102,3\n", f"the wishes are {wishes.read_text()}")
@@ -81,6 +81,31 @@ def imports(folder, listed, many):
     supplier.write_text("Article;Pieces\n101;1\n")
     tool("import_list.py", *words, "--add-to", broken, status=1)
     check(broken.read_text() == "R,101,12\nR,1", "a file that isn't understood is written to")
+
+
+def first_stock(folder):
+    """A shop's first stock: requests of till 1, or each fault by its line, and nothing written."""
+    listed, requests = folder / "list.csv", folder / "stock.txt"
+    words = [listed, "--stock", requests]
+    listed.write_text("101,40\n\n102, 6\n205,12\n")
+    check(tool("import_list.py", *words) == f"{listed}: 3 requests of till 1 in {requests}", "a first stock")
+    check(requests.read_text() == "1,1,S,101,40\n1,2,S,102,6\n1,3,S,205,12\n", f"the requests are {requests.read_text()}")
+    listed.write_text("101,1\n")
+    check("File exists" in tool("import_list.py", *words, status=1), "a file that is there is written over")
+    check(requests.read_text().count("\n") == 3, "a file that is there is written over")
+    requests.unlink()
+    for text, delimiter in (("\ufeffGoods,Count\r\n101,40\r\n", ","), ("Goods;Count\n101;40;note\n", ";")):
+        listed.write_text(text, encoding="utf-8")
+        tool("import_list.py", *words, "--delimiter", delimiter)
+        check(requests.read_text() == "1,1,S,101,40\n", f"{text!r} gives {requests.read_text()}")
+        requests.unlink()
+    for row in ("101;40", "007,1", "0,1", "65536,1", "103,1.5", "103,-1", "103,", "103", "102,1", "mug,3", "103,1000000000"):
+        listed.write_text(f"Goods,Count\n102,6\n{row}\n104,2\n")
+        told = tool("import_list.py", *words, status=1)
+        check(told.startswith(f"{listed}, line 3: ") and told.count("line ") == 1 and not requests.exists(), f"{row}: {told}")
+    for text in ("", "Goods,Count\n\"101,4\n"):
+        listed.write_text(text)
+        check("Traceback" not in tool("import_list.py", *words, status=1) and not requests.exists(), f"{text!r}")
 
 
 JOURNAL = """# 2026-11-25T08:00:00.000Z begins
@@ -110,7 +135,9 @@ def reports(folder, listed):
     tool("day_report.py", kept, "--day", "2026-11-26", "--csv", folder / "day.csv", status=1, **zone)
     told = tool("history.py", kept, 102, "--goods", listed, **zone)
     lines = told.splitlines()
-    check(len(lines) == 3 and "2 moved from 101" in lines[1] and "6 of 102 left" in lines[1], f"the history is {lines}")
+    check(len(lines) == 3 and "2 moved from" in lines[1] and lines[1].endswith(f"10 of {MARKUP} (101) left, 6 of Poster, rolled (102) left"), f"the history is {lines}")
+    told = tool("history.py", kept, 101, "--goods", listed, **zone)
+    check(f"3 of {MARKUP} (101) sold: 12 left" in told, f"the history is {told}")
     cut_short(folder, kept)
 
 
@@ -137,6 +164,7 @@ def main():
         folder = Path(name)
         listed, many = goods(folder)
         imports(folder, listed, many)
+        first_stock(folder)
         reports(folder, listed)
     print(f"shop_papers: {checks} checks of goods, imports, reports and journals; no difference")
 

@@ -39,7 +39,7 @@ test("what is low", () => {
 test("tills and last answers, and what is no message of the bridge's", () => {
   const board = new Board(GOODS);
   assert.equal(board.take("tills/7", `${TIME} 16,I,15,3,SHORT,2`), "tills");
-  assert.equal(words(board.tills.get(7), nameIn(GOODS)), "Sell 3 of Postcard (15): refused: short 2");
+  assert.equal(words(board.tills.get(7), nameIn(GOODS)), "Sell 3 of Postcard (15). Nothing was done: only 2 of Postcard (15) are there.");
   assert.equal(board.take("tills/7", ""), "tills");
   assert.equal(board.tills.size, 0);
   board.take("last", `${TIME} 7,16,S,16,10,DONE,10\nrubbish\n- 1,3,M,15,1,16,DONE,2,3`);

@@ -8,7 +8,7 @@ devices call *Done* together is what the shop has counted, each once. A device t
 that number filled in; one whose till was taken over says so. Wishes that were entered without net, while the bridge was away
 and before the broker was killed with SIGKILL are counted once, and shown as *Done* by the device that entered them alone. A
 second tap at 0.05 to 0.6 s sells nothing, and all goods have to be chosen anew. A wrong password shows the form with a word
-beside its field, and nothing of it is kept; a code of make_accounts.py signs in, as zbar reads it (Debian's zbar-tools)."""
+beside its field, and nothing of it is kept. After an old backup both go on from the shop's number. A code of make_accounts.py signs in, as zbar reads it (Debian's zbar-tools)."""
 
 import argparse
 import os
@@ -54,6 +54,11 @@ class Trial:
     def open_bridge(self):
         words = scene.bridge_words(self.program, self.image, self.kept, self.broker, "--screen")
         self.bridge = subprocess.Popen(words, stderr=subprocess.DEVNULL)
+
+    def tend(self):
+        """The bridge ends with its broker; a supervisor starts it again."""
+        if self.bridge.poll() is not None:
+            self.open_bridge()
 
     def end_bridge(self):
         self.bridge.kill()
@@ -103,7 +108,9 @@ class Trial:
         self.stopped(page, words)
         if number is not None:
             self.want(page.at("number").get_attribute("value") == str(number), f"not {number} is filled in")
+        text = page.at("stop").text
         page.at("again").find_element("css selector", "button").click()
+        until(lambda: page.at("stop").text != text, "what comes after going on")
 
     def back(self, page, number):
         """A page whose till was taken over says so; it goes on after this number, which it may learn after that."""
@@ -256,9 +263,7 @@ class Trial:
             time.sleep(0.02 * turn)
             self.broker.kill()
             self.broker.start()
-            self.bridge.wait(60)
-            self.open_bridge()
-            until(lambda: len(page.answers()) > before, f"an answer after the broker's death ({page.at('stop').text})", 40)
+            until(lambda: self.tend() or len(page.answers()) > before, f"an answer after the broker's death ({page.at('stop').text})", 40)
             self.done += 1
         self.counted("a broker that is killed")
 
@@ -315,9 +320,7 @@ class Trial:
         time.sleep(1)
         self.want(page.at("sign").is_displayed() and self.signs(page) is None, "the page doesn't wait for the broker")
         self.broker.start()
-        self.bridge.wait(60)
-        self.open_bridge()
-        page.ready()
+        until(lambda: self.tend() or page.state() == "Ready", "till 3 ready")
         until(lambda: (self.signs(page) or {}).get("till") == 3, "the account that is kept")
         self.sell(page)
         driver.refresh()
@@ -339,12 +342,45 @@ class Trial:
         self.want("password" not in page.driver.current_url, "the password stays in the address")
         self.sell(page)
 
+    def old_backup(self):
+        """An older image without its journal: the tablet and the terminal say so, and go on after the shop's number."""
+        page, old = TillPage(self.drivers["sign"], self.pages, 1), self.folder / "old.d64"
+        self.want(self.terminal(5, "I,2,1\n", "new.book", "--go-on")[0] == 0, "the terminal as till 5")
+        sure(self.program, "copy", self.image, old)
+        number = page.answers()[0][0]
+        self.sell(page)
+        self.want(self.terminal(5, "I,2,1\n", "new.book")[0] == 0, "the terminal as till 5")
+        self.end_bridge()
+        self.on_hand()
+        old.replace(self.image)
+        for path in [*self.folder.glob("shop1.lines*"), *self.folder.glob("shop1.d64-log")]:
+            path.unlink()
+        self.open_bridge()
+        page.ready()
+        page.fill("I", 1, 1)
+        page.send()
+        self.asked(page, "(AHEAD)", number)
+        page.ready()
+        page.fill("R", 2, 7)
+        page.send()
+        until(lambda: any(line.startswith(f"TILL 1,{number + 1},R,2,7,DONE") for line in sure(self.program, "show", self.image)), "the page's request")
+        until(lambda: "Receive 7 of Postcard" in page.at("answers").text, "the answer after an old backup")
+        self.want(page.answers()[0][0] == number + 1, f"after an old backup the page shows {page.answers()[:2]}")
+        status, out, told = self.terminal(5, "I,2,1\n", "new.book")
+        self.want(status == 4 and "AHEAD" in told, f"the terminal: {status} {out} {told}")
+        last = [line.split(",")[1] for line in sure(self.program, "show", self.image) if line.startswith("TILL 5,")]
+        with open(self.folder / "new.book", "a", encoding="ascii") as book:
+            book.write(f"= {last[0]},lost\n")
+        status, out, told = self.terminal(5, "I,2,1\n", "new.book")
+        self.want(status == 0 and "DONE" in out[0], f"the terminal doesn't go on after an old backup: {status} {out} {told}")
+
     def run(self):
         self.main_way()
         self.taps()
         self.sign_in()
         self.code()
         self.counted("all")
+        self.old_backup()
         print(f"tablets: {self.done} sold by 3 tablets and a terminal, {self.done} counted; {len(TAPS)} double taps, {self.checks} checks; no difference")
 
 

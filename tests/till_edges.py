@@ -10,6 +10,7 @@
 - A typing error: asked again on a terminal, skipped with status 1 on a pipe, the end with status 1 in a file.
 - An account from a file, from systemd's credential, from the environment, in that order; one that others can read, or
   that is no line USER:PASSWORD, and places of brokers with a password or without TLS: refused.
+- Without python3-pika: a till with a pipe works, one with a broker ends with status 4 and a word.
 - A broker that isn't there, and a command that doesn't answer: the till says so after some seconds, and asks on."""
 
 import os
@@ -161,6 +162,20 @@ def typed(shop):
     return 3
 
 
+def without_pika(shop):
+    """A Python that has no pika."""
+    folder = shop.folder / "bare"
+    folder.mkdir()
+    (folder / "pika.py").write_text("raise ModuleNotFoundError('no pika', name='pika')\n")
+    bare = {"env": {**os.environ, "PYTHONPATH": str(folder)}}
+    status, out, err = shop.till(7, shop.folder / "bare.book", "S,7,1\n", **bare)
+    want((status, out) == (0, ["1 S,7,1 DONE,1"]), f"without pika: {status} {out} {err}")
+    command = [PYTHON, EXAMPLES / "till.py", 7, "--book", shop.folder / "bare2.book"]
+    done = subprocess.run([*map(str, command)], input="S,7,1\n", capture_output=True, text=True, timeout=60, **bare)
+    want(done.returncode == wishes.LOOK and "python3-pika" in done.stderr and "Traceback" not in done.stderr, f"without pika: {done.stderr}")
+    return 2
+
+
 def accounts(folder):
     """Where an account comes from, and what is refused."""
     given, guarded = folder / "till.account", folder / "credentials"
@@ -256,9 +271,9 @@ def main():
     with tempfile.TemporaryDirectory() as folder:
         folder = Path(folder)
         shop = Pipes(program, folder)
-        counts = [forged(folder), books(shop), broken_off(folder), typed(shop), accounts(folder), silent(shop)]
+        counts = [forged(folder), books(shop), broken_off(folder), typed(shop), accounts(folder), silent(shop), without_pika(shop)]
         one_book(shop)
-    told = "{} forged replies, {} damaged books, {} that broke off, {} typing errors, {} accounts, {} silences".format(
+    told = "{} forged replies, {} damaged books, {} that broke off, {} typing errors, {} accounts, {} silences, {} without pika".format(
         *counts
     )
     print(f"a till: {told}, two tills with one book: no difference")

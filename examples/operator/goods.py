@@ -79,8 +79,8 @@ def goods_of(path):
 
 
 def named(goods, item):
-    """An item's number with its name, if it has one."""
-    return f"{item} {goods[item].name}" if item in goods else str(item)
+    """An item's name with its number, as the pages have it."""
+    return f"{goods[item].name} ({item})" if item in goods else f"item {item}"
 
 
 def safe(text):

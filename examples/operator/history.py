@@ -29,7 +29,9 @@ def words_of(one, goods):
     left = movements.left(one)
     if not left:
         return f"{asked}: refused, {one.answer}"
-    return f"{asked}: {', '.join(f'{count} of {item} left' for item, count in left.items())}"
+    if len(left) == 1:
+        return f"{asked}: {left[one.item]} left"
+    return f"{asked}: {', '.join(f'{count} of {shop_goods.named(goods, item)} left' for item, count in left.items())}"
 
 
 def main():
@@ -46,7 +48,7 @@ def main():
                 count += 1
                 time = movements.local(one.time).isoformat(" ", "seconds")
                 print(f"{time} till {one.till}, request {one.number}: {words_of(one, goods)}")
-        print(f"{given.journal}: {count} requests for item {shop_goods.named(goods, given.item)}")
+        print(f"{given.journal}: {count} requests for {shop_goods.named(goods, given.item)}")
     except (Unfit, shop_goods.Faults, OSError) as fault:
         sys.exit(f"history: {fault}")
 

@@ -1,10 +1,14 @@
 #!/usr/bin/python3
-"""Turns a supplier's list into wishes of a till, after a preview.
+"""Turns a list into requests: a shop's first stock, or a supplier's list as wishes of a till, after a preview.
 
+    import_list.py list.csv --stock stock.txt
     import_list.py list.csv --goods goods.csv --item Article --quantity Pieces              prints a preview
     import_list.py list.csv --goods goods.csv --item Article --quantity Pieces --add-to wishes5
 
-The list is a CSV file (UTF-8) whose first line names its columns; `--delimiter ';'` for lists with semicolons. --item names
+--stock: the list's lines are an item's number, and how many there are (`101,40`), with a heading or without. Each becomes
+a request of till 1, which sets it, in the new file stock.txt for `ledger play`.
+
+Otherwise the list is a CSV file (UTF-8) whose first line names its columns; `--delimiter ';'` for lists with semicolons. --item names
 the column with the item's number, or --name the one with its name as in goods.csv. Each line becomes `R,ITEM,QUANTITY`
 (it comes in), or with --set `S,ITEM,QUANTITY` (there are so many). One line that is unfit, and nothing is written.
 
@@ -13,8 +17,8 @@ does each once, however often it is started or killed:
 
     till_mqtt.py 5 --wishes wishes5 --book till5.book ..
 
-A list that was added already is refused; --again adds it once more. Status 1: a line is unfit, or the list was added
-already."""
+A list that was added already is refused; --again adds it once more. Status 1: a line is unfit, the list was added already,
+or the file of --stock is there."""
 
 import argparse
 import fcntl
@@ -41,18 +45,23 @@ def item_of(text, goods, is_name):
     number = shop_goods.number_of(text, 1, shop_goods.MOST_ITEM)
     if number is None:
         return f"item {text[:20]!r} is no number"
-    return number if number in goods else f"item {number} isn't in the goods"
+    return number if goods is None or number in goods else f"item {number} isn't in the goods"
 
 
 class List:
-    """A supplier's list: its wishes, and what is unfit in it."""
+    """A list: its wishes, and what is unfit in it."""
 
     def __init__(self, given, goods):
-        self.kind, self.goods, self.wishes, self.faults = "S" if given.set else "R", goods, [], []
+        self.kind, self.goods, self.wishes, self.faults = "S" if given.set or given.stock else "R", goods, [], []
         rows = shop_goods.rows_of(given.list, given.delimiter)
         if not rows:
             raise Faults(f"{given.list} is empty")
         head = [field.strip() for field in rows[0][1]]
+        if given.stock:
+            # a heading has no number
+            for line, row in rows[0 if any(map(str.isdigit, "".join(head))) else 1 :]:
+                self.take(line, row, 0, 1, False)
+            return
         what = column_of(head, given.name or given.item, given.list)
         count = column_of(head, given.quantity, given.list)
         for line, row in rows[1:]:
@@ -60,7 +69,7 @@ class List:
 
     def take(self, line, row, what, count, is_name):
         if len(row) <= max(what, count):
-            self.faults.append(f"line {line}: only {len(row)} fields")
+            self.faults.append(f"line {line}: only {len(row)} fields; another --delimiter?")
             return
         item, text = item_of(row[what], self.goods, is_name), row[count].strip()
         quantity = shop_goods.number_of(text, 0, shop_goods.MOST)
@@ -106,27 +115,41 @@ def add(path, lines, digest, is_again):
         return text.count(b"\n") + 1
 
 
+def put_stock(path, lines):
+    """Writes requests of till 1 into a new file."""
+    with open(path, "x", encoding="ascii") as file:
+        file.write("".join(f"1,{number},{line}\n" for number, line in enumerate(lines, 1)))
+
+
 def words():
     parser = argparse.ArgumentParser(description=__doc__.splitlines()[0])
-    parser.add_argument("list", help="the supplier's list, a CSV file")
-    parser.add_argument("--goods", required=True, metavar="FILE", help="the shop's goods.csv")
-    which = parser.add_mutually_exclusive_group(required=True)
+    parser.add_argument("list", help="the list, a CSV file")
+    parser.add_argument("--stock", metavar="FILE", help="the first stock: write till 1's requests into this new file")
+    parser.add_argument("--goods", metavar="FILE", help="the shop's goods.csv")
+    which = parser.add_mutually_exclusive_group()
     which.add_argument("--item", metavar="COLUMN", help="the column with the item's number")
     which.add_argument("--name", metavar="COLUMN", help="the column with the item's name")
-    parser.add_argument("--quantity", required=True, metavar="COLUMN", help="the column with the quantity")
+    parser.add_argument("--quantity", metavar="COLUMN", help="the column with the quantity")
     parser.add_argument("--set", action="store_true", help="set the stock, and don't receive")
     parser.add_argument("--delimiter", default=",", help="what stands between two fields (default: a comma)")
     parser.add_argument("--add-to", metavar="FILE", help="add the wishes to this file; without it only a preview")
     parser.add_argument("--again", action="store_true", help="add a list that was added already")
-    return parser.parse_args()
+    given = parser.parse_args()
+    if not given.stock and not (given.goods and given.quantity and (given.item or given.name)):
+        parser.error("without --stock it wants --goods, --quantity, and --item or --name")
+    return given
 
 
 def main():
     given = words()
     try:
-        found = List(given, shop_goods.goods_of(given.goods))
+        found = List(given, shop_goods.goods_of(given.goods) if given.goods else None)
         if found.faults:
-            raise Faults("\n".join(f"{given.list}, {fault}" for fault in found.faults) + "\nNothing was added.")
+            raise Faults("\n".join(f"{given.list}, {fault}" for fault in found.faults) + "\nNothing was written.")
+        if given.stock:
+            put_stock(given.stock, found.lines())
+            print(f"{given.list}: {len(found.wishes)} requests of till 1 in {given.stock}")
+            return
         found.preview()
         if not given.add_to:
             print(f"{given.list}: {len(found.wishes)} wishes, a preview: nothing was added")

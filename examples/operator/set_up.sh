@@ -71,14 +71,22 @@ install -m 644 "$own/ca.crt" /var/www/ledger/ca.crt
 install -m 644 "$own/goods.csv" /var/www/ledger/till_page/goods.csv
 put root:root 644 "$here/till_page/nginx.conf" /etc/nginx/conf.d/ledger_pages.conf
 
+# a further shop has copies of them, as OPERATIONS.md makes them
+for other in /var/www/ledger/*/; do
+    [ -e "$other/till_page/config.json" ] || continue
+    for page in till_page stock_page; do
+        install -m 644 -t "$other$page" /var/www/ledger/"$page"/*.html /var/www/ledger/"$page"/*.css /var/www/ledger/"$page"/*.js
+    done
+done
+
 # the shop
 [ -e /var/lib/ledger/shop1.d64 ] || runuser -u ledger -- /usr/bin/ledger format --new /var/lib/ledger/shop1.d64 --tills 64
 systemctl daemon-reload
 systemctl enable mosquitto nginx
 systemctl restart mosquitto nginx
 systemctl enable --now ledger-bridge-mqtt@1 ledger-backup@1.timer
-# after an update the bridge is the new one
-systemctl restart ledger-bridge-mqtt@1
+# after an update the bridges are the new one
+systemctl restart 'ledger-bridge-mqtt@*'
 # it serves once it has the image and the broker
 curl -s --retry 30 --retry-all-errors --retry-delay 1 -o /dev/null http://127.0.0.1:9641/health || true
 for _ in 1 2 3 4 5 6 7 8 9 10; do

@@ -1,6 +1,6 @@
 // The shop as the bridge publishes it (examples/tills/board.py), without browser or broker.
 
-import { isDone, wishWords } from "../till_page/rules.js";
+import { answerWords, isDone, wishWords } from "../till_page/rules.js";
 
 export const PAGE = 40;
 const COUNT = /^[1-9][0-9]{0,8}$/, NUMBER = /^(?:0|[1-9][0-9]{0,8})$/, TIME = /^(?:-|\d{4}-\d\d-\d\dT\d\d:\d\d:\d\d\.\d{3}Z)$/;
@@ -65,9 +65,8 @@ export class Board {
 
 /** A request and its answer in a line of words. */
 export function words({ wish, answer }, name) {
-  const parts = answer.split(",");
-  const left = isDone(answer) ? `${parts.slice(1).join(" and ")} left` : `refused: ${answer.toLowerCase().replace(",", " ")}`;
-  return `${wishWords(wish, name)}: ${left}`;
+  if (!isDone(answer)) return `${wishWords(wish, name)}. ${answerWords(wish, answer, name)}`;
+  return `${wishWords(wish, name)}: ${answer.split(",").slice(1).join(" and ")} left`;
 }
 
 /** How long ago a time was, in words. A clock that went back counts as now. */

@@ -101,7 +101,7 @@ class Page {
       return line;
     }), "low-none");
     fill("stock", items.slice(0, this.rows).map((item) => this.row(item)));
-    const text = `${items.length} ${items.length === 1 ? "card" : "cards"}` + (items.length > this.rows ? `, the first ${this.rows} shown` : "");
+    const text = `${items.length} goods` + (items.length > this.rows ? `, the first ${this.rows} shown` : "");
     if (at("count").textContent !== text) at("count").textContent = text;
     show("more", items.length > this.rows);
   }
@@ -116,8 +116,8 @@ class Page {
     if (one && quantity < one.least) row.className = "low";
     row.dataset.item = item;
     row.dataset.quantity = quantity;
-    const unit = one?.unit ? `${quantity} ${one.unit}` : String(quantity);
-    row.append(made("td", String(item)), name, made("td", unit, "right"), made("td", one ? String(one.least) : "", "right"));
+    if (one?.unit) name.append(made("span", ` ${one.unit}`, "soft"));
+    row.append(made("td", String(item)), name, made("td", String(quantity), "right"), made("td", one ? String(one.least) : "", "right"));
     return row;
   }
 

@@ -84,7 +84,8 @@ export class Books {
       isSame = there.last === before.last && there.open === before.open;
       if (!isSame) return transaction.abort();
       books.put(book, place);
-      if (answer) transaction.objectStore("answers").add({ place, ...answer });
+      // after an old backup a number comes again
+      if (answer) transaction.objectStore("answers").put({ place, ...answer });
     };
     try {
       await finished;

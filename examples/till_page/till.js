@@ -96,11 +96,12 @@ class Page {
 
   /** The broker doesn't take this account: it is forgotten, and the form says so. */
   denied() {
+    at("sign-fault").textContent = this.link.trouble();
     this.link.end();
+    this.link = null;
     this.books.keepSign(null);
     ["leave", "work", "done"].forEach((id) => show(id, false));
     ["sign", "sign-fault"].forEach((id) => show(id, true));
-    at("sign-fault").textContent = this.link.trouble();
     at("till").value = this.till;
     at("password").value = "";
     at("password").focus();
@@ -142,7 +143,7 @@ class Page {
 
   /** Whether this connection is the till's, and its numbers are compared. */
   get holds() {
-    return this.isHolder && this.link.isConnected;
+    return this.isHolder && this.link?.isConnected === true;
   }
 
   /** Says at the broker that this device is signed in, and who has the last numbers. */
@@ -261,6 +262,7 @@ class Page {
   /** Shows an answer, above the earlier ones. */
   list({ number, wish, answer, time }) {
     const one = document.createElement("li"), said = document.createElement("span"), asked = document.createElement("span");
+    at("answers").querySelector(`[data-number="${number}"]`)?.remove();
     one.dataset.number = number;
     one.dataset.answer = answer;
     said.textContent = rules.answerWords(wish, answer, this.name);
@@ -289,12 +291,16 @@ class Page {
   async goOn() {
     const isAsked = !at("number-field").hidden, book = isAsked ? rules.begunAgain(Number(at("number").value)) : this.book;
     if (!book || this.isBusy || (isAsked && !(await this.keep(book)))) return;
-    // a number that a device took, and that the shop never had, is free again
-    if (this.holds) this.mine(marks.upTo(this.marked.taken, book.last));
-    this.link.end();
-    this.isStopped = this.wasHolder = false;
+    this.isStopped = false;
     show("stop", false);
     show("work", true);
+    // the shop has refused the number: those that devices took, and that the shop never had, are free again
+    if (this.holds) {
+      this.mine(marks.upTo(this.marked.taken, book.last));
+      return this.tell();
+    }
+    this.wasHolder = false;
+    this.link.end();
     this.connect();
   }
 

@@ -9,15 +9,20 @@ its number as key. Its own queue falls with its connection: a reply that finds n
 import secrets
 from collections import deque
 
-import pika
-from pika.adapters.utils.connection_workflow import AMQPConnectorException
-from pika.exceptions import AMQPError, ChannelClosedByBroker, ProbableAuthenticationError
-
 import account
 import wishes
 
-# what pika raises if a broker isn't there, or is slow to answer
-FAULTS = (AMQPError, AMQPConnectorException, OSError)
+try:
+    import pika
+    from pika.adapters.utils.connection_workflow import AMQPConnectorException
+    from pika.exceptions import AMQPError, ChannelClosedByBroker, ProbableAuthenticationError
+
+    # what pika raises if a broker isn't there, or is slow to answer
+    FAULTS = (AMQPError, AMQPConnectorException, OSError)
+except ModuleNotFoundError:
+    # a till with --pipe does without
+    pika = None
+
 # AMQP's codes of what isn't allowed, and of what isn't there
 DENIED, ABSENT = 403, 404
 # how many replies wait for a till
@@ -110,6 +115,8 @@ class Broker(wishes.Carrier):
 
 
 def connected(given):
+    if not pika:
+        raise account.Unfit("without --pipe it wants Debian's python3-pika, which isn't there")
     places = [account.Place(text, "amqp", given.plain) for text in given.broker or ["amqp://127.0.0.1/"]]
     return Broker(places, given.shop, given.till, account.account_of(given.account), given.ca)
 
