@@ -14,7 +14,7 @@ returns-in_err-image g c =
 pub returns-in_err-data : goal.returns-in_err-data
 returns-in_err-data g c =
     let p = err_from_is_err_and c.from_residual-in_err-data.result c.from_residual-in_err-data.ensures.1 in
-    not-begun c.args.out.now c.from_residual-in_err-data.result _ _ (p.1 ∙ ap Err p.2) (inl c.in_err-data.ensures.err)
+    not-begun c.args.out.now c.from_residual-in_err-data.result _ _ (p.1 ∙ ap Err p.2) (inl (inl c.in_err-data.ensures.err))
 
 pub returns : goal.returns
 returns g c =

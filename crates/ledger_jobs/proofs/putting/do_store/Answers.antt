@@ -19,12 +19,12 @@ returns-in_err-image g c =
 pub returns-in_err-records : goal.returns-in_err-records
 returns-in_err-records g c =
     let p = err_from_is_err_and c.from_residual-in_err-records.result c.from_residual-in_err-records.ensures.1 in
-    not-begun c.args.out.now c.from_residual-in_err-records.result _ _ (p.1 ∙ ap Err p.2) (inl c.in_err-records.ensures.err)
+    not-begun c.args.out.now c.from_residual-in_err-records.result _ _ (p.1 ∙ ap Err p.2) (inl (inl c.in_err-records.ensures.err))
 
 pub returns-in_err-lines : goal.returns-in_err-lines
 returns-in_err-lines g c =
     let p = err_from_is_err_and c.from_residual-in_err-lines.result c.from_residual-in_err-lines.ensures.1 in
-    not-begun c.args.out.now c.from_residual-in_err-lines.result _ _ (p.1 ∙ ap Err p.2) (subst IsUnbegun (sym c.in_err-lines.ensures.err) (inl tt))
+    not-begun c.args.out.now c.from_residual-in_err-lines.result _ _ (p.1 ∙ ap Err p.2) (subst IsUnbegun (sym c.in_err-lines.ensures.err) (inl (inl tt)))
 
 pub returns : goal.returns
 returns g c =
