@@ -72,7 +72,7 @@ IsStoringJob rows image result = ((records : Bor Text) × (columns : Columns)
 -- the job that makes a relative file; or there is no name for it, or no length of its records
 abbrev pub IsMakingJob : List Row → Bor Text → Result Job JobFault → Type 0
 IsMakingJob rows image result =
-    ((name : Name) × (size : ℕ) × (result ≡ Ok (jobs.Make image name size (loss_in rows)))
+    ((name : Name) × (size : ℕ) × (result ≡ Ok (jobs.Make image size (loss_in rows) name))
     × IsNameOf (value (codes "NAME") rows) (name_bytes name) × IsNewName (name_bytes name)
     × (length_in rows ≡ Some size) × IsLength size)
     ⊎ (((result ≡ Err faults.Name) × HasNoNewName (codes "NAME") rows)
@@ -110,7 +110,7 @@ type_in rows = type_named (value (codes "TYPE") rows)
 -- the job that puts a file on the disk; or there is no name for it, or no type
 abbrev pub IsPuttingJob : List Row → Bor Text → Result Job JobFault → Type 0
 IsPuttingJob rows image result =
-    ((name : Name) × (file : Bor Text) × (kind : FileType) × (result ≡ Ok (jobs.Put image name file kind))
+    ((name : Name) × (file : Bor Text) × (kind : FileType) × (result ≡ Ok (jobs.Put image file kind name))
     × IsNameOf (value (codes "NAME") rows) (name_bytes name) × IsNewName (name_bytes name)
     × (file.now ≡ value (codes "FILE") rows) × (type_in rows ≡ Some kind))
     ⊎ (((result ≡ Err faults.Name) × HasNoNewName (codes "NAME") rows)

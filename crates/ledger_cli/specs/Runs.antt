@@ -150,7 +150,7 @@ module _ {F : Type 0} (position : F → Option ℕ) (bytes contents : F → Opti
       IsChangeJob position bytes contents told effect (IsRepaired image (frees u) (shortened loss)) (IsRepairRefusal image) file after old new end
   IsJobRun told (jobs.RepairSides path loss u effect) image script file after old new end =
       IsChangeJob position bytes contents told effect (IsRebuilt image (frees u) (shortened loss)) (IsRebuildRefusal image) file after old new end
-  IsJobRun told (jobs.Make path name L loss) image script file after old new end = IsChangeJob position bytes contents told Written
+  IsJobRun told (jobs.Make path L loss name) image script file after old new end = IsChangeJob position bytes contents told Written
       (IsMade image (name_bytes name) L (shortened loss)) (IsMakeRefusal image (name_bytes name) (shortened loss))
       file after old new end
   IsJobRun told (jobs.Rename path from to) image script file after old new end = IsChangeJob position bytes contents told Written
@@ -158,7 +158,7 @@ module _ {F : Type 0} (position : F → Option ℕ) (bytes contents : F → Opti
       file after old new end
   IsJobRun told (jobs.Delete path name) image script file after old new end = IsChangeJob position bytes contents told Written
       (IsDeleted image (name_bytes name)) (IsDeleteRefusal image (name_bytes name)) file after old new end
-  IsJobRun told (jobs.Put path name source kind) image script file after old new end = IsChangeJob position bytes contents told Written
+  IsJobRun told (jobs.Put path source kind name) image script file after old new end = IsChangeJob position bytes contents told Written
       (IsPut image (name_bytes name) kind script) (IsPutRefusal image (name_bytes name) kind script)
       file after old new end
   IsJobRun told (jobs.Store path text c loss name) image script file after old new end = IsChangeJob position bytes contents told Written

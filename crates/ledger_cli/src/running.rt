@@ -69,9 +69,9 @@ fn obey<F: Write + Seek + Drop, W: Write>(
             ..
         } => rebuild(alloc, image, unowned, effect, loss, file, out),
         Job::Make {
-            ref name,
             length,
             loss,
+            ref name,
             ..
         } => make(alloc, image, name, length, loss, file, out),
         Job::Rename {
@@ -80,7 +80,7 @@ fn obey<F: Write + Seek + Drop, W: Write>(
             ..
         } => rename(alloc, image, from, to, file, out),
         Job::Delete { ref name, .. } => delete(alloc, image, name, file, out),
-        Job::Put { ref name, kind, .. } => put(alloc, image, name, kind, script, file, out),
+        Job::Put { kind, ref name, .. } => put(alloc, image, name, kind, script, file, out),
         Job::Store { ref name, loss, .. } => store(alloc, image, name, script, loss, file, out),
         Job::Take { what, ref name, .. } => {
             let ended = take_told(alloc, what, image, name.as_bytes(), out);

@@ -159,7 +159,7 @@ module _ {H W : Type 0} (rights : Rights H) (stands : H → List ℕ → Stands)
   IsJobOver (jobs.Format image tills) old new end = IsMakingEnd contents (codes "FORMATTED\n") old new end
   IsJobOver (jobs.FormatNew image tills) old new end = IsMakingEnd contents (codes "FORMATTED\n") old new end
   IsJobOver (jobs.New image name id) old new end = IsMakingEnd contents (codes "FORMATTED\n") old new end
-  IsJobOver (jobs.Make image name size loss) old new end = IsChangeOver Written image.now
+  IsJobOver (jobs.Make image size loss name) old new end = IsChangeOver Written image.now
       (λ bytes. IsMade bytes (name_bytes name) size (shortened loss))
       (λ bytes. IsMakeRefusal bytes (name_bytes name) (shortened loss)) old new end
   IsJobOver (jobs.Rename image from to) old new end = IsChangeOver Written image.now
@@ -167,7 +167,7 @@ module _ {H W : Type 0} (rights : Rights H) (stands : H → List ℕ → Stands)
       (λ bytes. IsRenameRefusal bytes (name_bytes from) (name_bytes to)) old new end
   IsJobOver (jobs.Delete image name) old new end = IsChangeOver Written image.now
       (λ bytes. IsDeleted bytes (name_bytes name)) (λ bytes. IsDeleteRefusal bytes (name_bytes name)) old new end
-  IsJobOver (jobs.Put image name file kind) old new end = IsChangeByText stands contents host image.now file.now
+  IsJobOver (jobs.Put image file kind name) old new end = IsChangeByText stands contents host image.now file.now
       (λ bytes given. IsPut bytes (name_bytes name) kind given)
       (λ bytes given. IsPutRefusal bytes (name_bytes name) kind given) old new end
   IsJobOver (jobs.Store image records columns loss name) old new end =

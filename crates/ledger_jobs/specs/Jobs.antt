@@ -19,9 +19,9 @@ use Rattle.rel_records.specs.File.{IsLength}
 abbrev pub IsFit : Job → Type 0
 IsFit (jobs.Format image tills) = (1 ≤ tills) × (tills ≤ 64)
 IsFit (jobs.FormatNew image tills) = (1 ≤ tills) × (tills ≤ 64)
-IsFit (jobs.Make image name size loss) = IsNewName (name_bytes name) × IsLength size
+IsFit (jobs.Make image size loss name) = IsNewName (name_bytes name) × IsLength size
 IsFit (jobs.Rename image from to) = IsNewName (name_bytes to)
-IsFit (jobs.Put image name file kind) = IsNewName (name_bytes name)
+IsFit (jobs.Put image file kind name) = IsNewName (name_bytes name)
 IsFit (jobs.New image name id) = length (name_bytes name) ≤ 16
 IsFit _ = ⊤
 

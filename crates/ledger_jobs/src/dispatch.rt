@@ -200,9 +200,9 @@ where
         } => do_rebuild(rt, image, unowned, effect, loss, out),
         Job::Make {
             image,
-            ref name,
             length,
             loss,
+            ref name,
         } => do_make(rt, image, name, length, loss, out),
         Job::Rename {
             image,
@@ -212,9 +212,9 @@ where
         Job::Delete { image, ref name } => do_delete(rt, image, name, out),
         Job::Put {
             image,
-            ref name,
             file,
             kind,
+            ref name,
         } => do_put(rt, image, name, file, kind, out),
         Job::Store {
             image,

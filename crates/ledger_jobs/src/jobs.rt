@@ -266,12 +266,12 @@ pub enum Job<'a> {
     Make {
         /// The image's path.
         image: &'a str,
-        /// The name of the file, which a new file can have. The caller that makes a job ensures that.
-        name: Name,
         /// How many bytes a record has, 1 to 254. The caller that makes a job ensures that.
         length: u8,
         /// What is done if the disk has lost a part of a file.
         loss: Loss,
+        /// The name of the file, which a new file can have. The caller that makes a job ensures that.
+        name: Name,
     },
     /// The first file of a name, which gets another name on the disk of an image.
     Rename {
@@ -293,12 +293,12 @@ pub enum Job<'a> {
     Put {
         /// The image's path.
         image: &'a str,
-        /// The name of the new file, which a new file can have. The caller that makes a job ensures that.
-        name: Name,
         /// The path of the file whose bytes it gets.
         file: &'a str,
         /// The type of the new file.
         kind: FileType,
+        /// The name of the new file, which a new file can have. The caller that makes a job ensures that.
+        name: Name,
     },
     /// Records from the lines of a text, stored in a relative file of an image.
     Store {

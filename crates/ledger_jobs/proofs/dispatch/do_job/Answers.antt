@@ -61,7 +61,7 @@ returns-in-Repair g c =
 pub returns-in-RepairSides : goal.returns-in-RepairSides
 returns-in-RepairSides g c =
     subst (λ (job : Job). IsJobOver g.R.HostFiles.rights g.R.HostFiles.stands g.W.Write.contents c.args.rt.now job
-    c.args.out.now c.do_repair_sides.new.out c.do_repair_sides.result) (sym c.in-RepairSides.is) c.do_repair_sides.ensures
+    c.args.out.now c.do_rebuild.new.out c.do_rebuild.result) (sym c.in-RepairSides.is) c.do_rebuild.ensures
 
 pub returns-in-Make : goal.returns-in-Make
 returns-in-Make g c =

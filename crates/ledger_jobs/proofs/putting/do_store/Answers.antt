@@ -34,7 +34,7 @@ returns g c =
     let new = c.change_taken.new.out in
     let end = c.change_taken.result in
     let at : List ℕ → List ℕ → Shortened → Type 0 =
-        λ n text cut. IsChangeEnd g.W.Write.contents (IsStored image n text cut) (IsStoreRefusal image n text cut) old new end in
+    λ n text cut. IsChangeEnd g.W.Write.contents (IsStored image n text cut) (IsStoreRefusal image n text cut) old new end in
     run-weaker old new end _ _
     (λ run. (
       image,
