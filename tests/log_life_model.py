@@ -4,7 +4,8 @@
     tests/log_life_model.py [CRASHES [SEED]]
 
 It is written from docs/LOG.md. Programs run on a folder: `serve`, which begins a log, commits to it, renews it when it
-is full and lands it at the end, and `play`, which lands a log and then changes IMAGE itself. Each is stopped at a random
+is full and lands it at the end; `play`, which lands a log and then changes IMAGE itself; and `replace`, which lands a log
+and then puts another image in IMAGE's place. Each is stopped at a random
 call, by a kill or by a power loss, during recoveries too. A power loss keeps any of the unsynced changes of names, and
 tears each unsynced write: every byte of it comes or stays out. Each image that the next program finds must be one that
 was there since the last confirmed change. The same is then tried with one step of the order left out: the model must
@@ -28,6 +29,8 @@ STEPS = {
     'removed': 'the folder is not synced after the removal',
     'begin': 'the folder is not synced at the beginning',
     'made': 'the new log is named before it is synced',
+    'replaced': 'the log of a replacement is named before it is synced',
+    'kept base': 'the log of a replacement has the new image as its base',
     'making': 'the folder is not synced before the renaming',
     'named': 'the folder is not synced after the renaming',
     'zeros': 'a full log is written again in place',
@@ -245,6 +248,10 @@ class World:
         if without != 'mark':
             disk.sync(log)
             yield
+        yield from self.write_image(image)
+
+    def write_image(self, image):
+        disk, without = self.disk, self.without
         now = self.sectors()
         for i in range(SECTORS):
             if now[i] != image[i]:
@@ -355,6 +362,39 @@ class World:
         yield from self.bring(log, image)
         yield from self.unlog()
 
+    def replace(self):
+        disk, without = self.disk, self.without
+        image = yield from self.land()
+        self.find(image)
+        new, touched = self.change(image, SECTORS)
+        here = len(self.may_be) - 1
+        if 'NEW' in disk.names:
+            disk.remove('NEW')
+            yield
+        log = disk.create('NEW')
+        yield
+        disk.write(log, 0, bytes(BLOCK * BLOCKS + 1))
+        yield
+        base = new if without == 'kept base' else image
+        disk.write(log, 0, blocks_of(list(enumerate(base))) + blocks_of([(i, new[i]) for i in touched]))
+        yield
+        disk.write(log, BLOCK * BLOCKS, b'\1')
+        yield
+        if without != 'replaced':
+            disk.sync(log)
+            yield
+        if without != 'making':
+            disk.sync_folder()
+            yield
+        disk.rename('NEW', 'LOG')
+        yield
+        if without != 'named':
+            disk.sync_folder()
+            yield
+        self.confirmed = here
+        yield from self.write_image(new)
+        yield from self.unlog()
+
     def play(self):
         image = yield from self.land()
         self.find(image)
@@ -403,8 +443,8 @@ def day(seed, without):
     rng = random.Random(seed)
     world, stops = World(rng, without), rng.randint(1, 6)
     for _ in range(stops):
-        program = world.serve() if rng.random() < .75 else world.play()
-        run(world, program, rng.choice((10 ** 9, rng.randint(1, 80), rng.randint(1, 40), rng.randint(1, 15))))
+        program = rng.choice((world.serve, world.serve, world.play, world.replace))
+        run(world, program(), rng.choice((10 ** 9, rng.randint(1, 80), rng.randint(1, 40), rng.randint(1, 15))))
         if rng.random() < .7:
             world.reader = None
             world.disk.lose_power(rng)
