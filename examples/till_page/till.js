@@ -28,7 +28,7 @@ function stop(head, text) {
 
 class Page {
   constructor(books, mark, config, goods) {
-    Object.assign(this, { books, mark, config, name: nameIn(goods), book: rules.EMPTY, rested: 0 });
+    Object.assign(this, { books, mark, config, name: nameIn(goods), book: rules.EMPTY, held: new Set(), rested: 0 });
     this.isBusy = this.isStopped = this.wasHolder = false;
     this.choosers = ["item", "to"].map((id) => new Chooser(at(id), at(`${id}-list`)));
     for (const chooser of this.choosers) chooser.search = new Search(goods);
@@ -47,13 +47,13 @@ class Page {
    *  kept, if `stays`, when the broker has taken it; until then the form stays. */
   async start(sign, isNew = false, stays = false) {
     const { till, password } = sign, shop = `shops/${this.config.shop}`, place = `${this.config.shop}/${till}`;
-    const isHeld = this.place === place;
     this.link?.end();
     Object.assign(this, { till, place, link: null });
     at("title").textContent = document.title = `Till ${till}`;
-    this.isStopped = !isHeld && !(await hold(place));
+    this.isStopped = !this.held.has(place) && !(await hold(place));
     if (this.isStopped)
       return stop("This till is open in another tab", "Use that tab, or close it and load this page again.");
+    this.held.add(place);
     this.book = (await this.books.book(place)) ?? rules.EMPTY;
     const answers = await this.books.answers(place, SHOWN);
     at("answers").replaceChildren();
