@@ -27,7 +27,7 @@ module _ (image name text : List ℕ) (cut : Shortened) (a b : MemDisk) (taken :
     (is : disk_image a ≡ sectors_in image) where
   pub store-done : (x : IsStoredDisk memory image name text a b) → (made : Changed) → made.disk ≡ b → (before : List ℕ)
       → before ≡ [] → made.text.items ≡ before ++ changed_text (record_length x.run.file.slot) (last_ones x.run.all)
-          (grown_to (disk_image a) x.run.file (greatest x.run.all))
+      (grown_to (disk_image a) x.run.file (greatest x.run.all))
       → IsStored image name text cut made
   store-done x made disk before none printed =
       let L = record_length x.run.file.slot in
