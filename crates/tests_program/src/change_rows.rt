@@ -28,7 +28,6 @@ aside
 $ ledger_cli rename a.d64 CARDS 'OLD CARDS'
 prints RENAMED|
 leaves the one aside
-synced
 syncs 2
 reads-behind 1 sync
 
@@ -66,7 +65,7 @@ tells NO FILE|ledger: a.d64: it has no such file, but \"CARDS\" REL|
 ends 1
 ";
 
-/// A file that is deleted: its type byte is 0, and then its two sectors are free in the map.
+/// A file that is deleted: its type byte is 0, and its two sectors are free in the map.
 const DELETED: &[u8] = b"
 $ ledger_cli make a.d64 CARDS --length 30
 prints MADE|
@@ -79,14 +78,14 @@ aside
 $ ledger_cli delete a.d64 CARDS
 prints DELETED|
 leaves the one aside
-synced
-syncs 3
+syncs 2
 reads-behind 1 sync
 $ ledger_cli check a.d64
 prints OK|
 
-# The second sync, of two writes, fails: the entry is gone, and its sectors aren't free yet.
+# The image can't be synced once it is written: its log stays.
 hurt CARDS GONE
+hurt CARDS FREED
 aside
 
 sync 2 fails
@@ -94,6 +93,7 @@ $ ledger_cli delete a.d64 CARDS
 tells DEVICE|
 ends 3
 leaves the one aside
+logged
 
 hurt WRONG MAP
 $ ledger_cli delete a.d64 CARDS

@@ -14,13 +14,13 @@ fn rows_hold(rt: HostRuntime) {
     hold(&rt, &ROWS);
 }
 
-/// Files that are made, and why they aren't: the layout is checked before the name. Each sector is synced before the next
-/// is written, and all before the first byte is read.
+/// Files that are made, and why they aren't: the layout is checked before the name. What is there is synced before it is
+/// read, and the new image at once.
 const MADE: &[u8] = b"
 $ ledger_cli make a.d64 CARDS --length 30
 prints MADE|
 written
-synced
+syncs 2
 reads-behind 1 sync
 
 hurt LOOP
@@ -64,12 +64,12 @@ ends 3
 synced
 reads-behind 0 syncs
 
-sync 3 fails
+sync 2 fails
 $ ledger_cli make a.d64 CARDS --length 30
 tells DEVICE|
 ends 3
 written
-synced
+logged
 reads-behind 1 sync
 ";
 
