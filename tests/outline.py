@@ -1,9 +1,7 @@
 #!/usr/bin/env python3
-"""Makes crates/README.md, the outline of the crates: those of crates.txt under its headings, each with the first sentence of its
-README and, of the product, where its tests stand and whether a command uses it.  tests/outline.py [--check]
+"""Compares the crates' folders, crates.txt, their READMEs and the figure of docs/MAP.md.  tests/outline.py
 
-Without words the page is written. With `--check` nothing is written, and the status is 1 where the page isn't up to date. In both
-cases it is 1 where
+The status is 1 where
   - a folder of crates/ isn't in crates.txt, or doesn't stand under the heading that its name fits;
   - a crate has no README, or the README of a crate of the product doesn't say in its first lines where its tests stand
     (`Tests: ..`), or names tests that aren't there or don't stand on it;
@@ -15,7 +13,7 @@ from pathlib import Path
 
 sys.dont_write_bytecode = True
 sys.path.insert(0, str(Path(__file__).resolve().parent))
-from spec_files import TOP, write_or_check  # noqa: E402
+from spec_files import TOP  # noqa: E402
 
 # how the crates under a heading of crates.txt are called
 NAMES = {
@@ -24,10 +22,6 @@ NAMES = {
     "Tools": r"test_|benchmarks$",
     "Example": r"example_",
 }
-HEAD = """# The crates
-
-[MAP](../docs/MAP.md) draws them, and `../crates.txt` says on which others each stands. `tests/outline.py` makes this page.
-"""
 
 
 def groups():
@@ -49,12 +43,6 @@ def paragraphs(crate):
     return [it.replace("\n", " ").strip() for it in text.split("\n\n")[1:]]
 
 
-def first_sentence(crate):
-    first = next(it for it in paragraphs(crate) if not it.startswith("Tests:"))
-    said = re.split(r"(?<=[.:])(?:\)|\*)* +(?=[A-Z`*\[-])|: *$", first)[0].rstrip(".:")
-    return said.replace("](../", "](")
-
-
 def all_below(crate, stands_on):
     """All on which a crate stands, the kit's crates too."""
     found, left = set(), [crate]
@@ -66,13 +54,13 @@ def all_below(crate, stands_on):
 
 
 def tests_of(crate, stands_on):
-    """Where the tests of a crate stand, by its README, and what is wrong with that."""
+    """What is wrong with where the tests of a crate stand, by its README."""
     said = paragraphs(crate)[0]
     places = re.findall(r"`([\w./]+)`", said) if said.startswith("Tests:") else []
     if not places:
-        return "", [f"crates/{crate}/README.md: doesn't begin with `Tests:`"]
+        return [f"crates/{crate}/README.md: doesn't begin with `Tests:`"]
     wrong = [it for it in places if crate not in all_below(it, stands_on) and not (TOP / it).is_file()]
-    return said, [f"crates/{crate}/README.md: no such tests: {it}" for it in wrong]
+    return [f"crates/{crate}/README.md: no such tests: {it}" for it in wrong]
 
 
 def figure_faults(product, every):
@@ -86,23 +74,18 @@ def figure_faults(product, every):
 
 
 def main():
-    found, faults, lines = groups(), [], [HEAD]
+    found, faults = groups(), []
     stands_on = {crate: below for crates in found.values() for crate, below in crates.items()}
-    every, in_program = list(stands_on), {"ledger"} | all_below("ledger", stands_on)
     folders = sorted(it.parent.name for it in TOP.glob("crates/*/src"))
-    faults += [f"crates.txt: no {it}" for it in folders if it not in every]
+    faults += [f"crates.txt: no {it}" for it in folders if it not in stands_on]
+    faults += [f"crates/{it}: no README" for it in stands_on if not (TOP / "crates" / it / "README.md").exists()]
     for group, crates in found.items():
-        lines += [f"## {group}\n"]
         faults += [f"crates.txt: {it} under {group}" for it in crates if not re.match(NAMES[group], it)]
-        for crate in crates:
-            said, wrong = tests_of(crate, stands_on) if group == "Product" else ("", [])
-            faults += wrong
-            said += " No command uses it yet." if group == "Product" and crate not in in_program else ""
-            lines += [f"- [`{crate}`]({crate}/README.md): {first_sentence(crate)}. {said.lstrip()}".rstrip()]
-        lines += [""]
-    faults += figure_faults(found["Product"], every)
-    text = "\n".join(lines).rstrip() + "\n"
-    return write_or_check("crates/README.md", text, faults, "crates/README.md, crates.txt and the map's figure have each crate")
+    for crate in found["Product"]:
+        faults += tests_of(crate, stands_on)
+    faults += figure_faults(found["Product"], list(stands_on))
+    print(*faults or ["crates.txt, the crates' READMEs and the map's figure agree"], sep="\n")
+    return 1 if faults else 0
 
 
 if __name__ == "__main__":

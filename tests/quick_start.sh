@@ -31,8 +31,8 @@ else
         >"$work/log" 2>&1 || { tail "$work/log" >&2; exit 1; }
 fi
 
-# the repository's top, with the program where it is built
-install -D -m 755 "$program" "$root/shop/crates/ledger/out/ledger"
+# the repository's top, with the program where `./ledger` puts it
+install -D -m 755 "$program" "$root/shop/releases/out/ledger"
 cp -a "$top/examples" "$root/shop/"
 cp "$top/tests/quick_start_after.sh" "$root/shop/after"
 sed -n '/^```sh$/,/^```$/{/^```/!p}' "$top/examples/operator/QUICK_START.md" >"$root/shop/commands"
