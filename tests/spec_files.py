@@ -1,4 +1,4 @@
-"""Reads what stands in the crates' specs/: for tests/core.py and tests/definitions.py; and how these and tests/outline.py end.
+"""Reads what stands in the crates' specs/: for tests/core.py; and how it ends.
 
 A definition has a key: its crate, its module below specs/ (of a declared Rust type ""), and its name."""
 
