@@ -39,6 +39,8 @@ CALLS = "openat,creat,close,dup,dup2,lseek,write,pwrite64,writev,pwritev,ftrunca
 CALLS += ",rename,renameat,renameat2,unlink,unlinkat,link,linkat"
 LINES, TILLS, DEPTH = 300, 8, 2
 BLOCKS = (512, 4096)
+# How much of the writes that weren't synced reaches the disk: of each of them whole, and of torn ones.
+WHOLE, TORN = ["all", "some", "none"], ["start", "bytes", "damage"]
 CALL = re.compile(r"(?:\d+ +)?(\w+)\((.*)\) += (-?\d+)")
 TEXT = re.compile(r'"((?:\\x[0-9a-f]{2})*)"')
 
@@ -221,8 +223,8 @@ class Machine:
 class Power:
     """Draws what a power failure leaves."""
 
-    def __init__(self, draw, is_whole):
-        self.draw, self.is_whole = draw, is_whole
+    def __init__(self, draw, ways):
+        self.draw, self.ways = draw, ways
 
     def left_of_write(self, held, place, what, way):
         """One write that wasn't synced, as so much of it reaches the disk."""
@@ -246,8 +248,7 @@ class Power:
 
     def left_of(self, file):
         held = bytearray(file.held)
-        ways = ["all", "some", "none"] if self.is_whole else ["all", "some", "none", "start", "bytes", "damage"]
-        way = self.draw.choice(ways)
+        way = self.draw.choice(self.ways)
         last = self.draw.randint(0, len(file.changes))
         for number, (place, what) in enumerate(file.changes):
             if place is None:
@@ -379,7 +380,8 @@ def try_states(program, draw, words, is_torn, states):
     """Tries so many states, of days of their own; how many days, states and cut recoveries it were."""
     with tempfile.TemporaryDirectory() as room:
         room = Path(room)
-        trial, days = Trial(program, draw, words, Power(draw, not is_torn), room), 0
+        power = Power(draw, [*WHOLE, *TORN] if is_torn else WHOLE)
+        trial, days = Trial(program, draw, words, power, room), 0
         while trial.states < states:
             days += 1
             folder = room / "day"
