@@ -5,8 +5,7 @@ the changed one (Debian's package strace):
     tests/crash_changes.py PROGRAM [STATES] [SEED]
 
 PROGRAM is what `tools/program` prints. `repair`, `make`, `store`, `put`, `rename` and `delete` each run on disks with other files. The
-model of tests/crash_states.py replays their system calls up to a random one. A write that wasn't synced reaches the disk whole, not at
-all, byte by byte in any mix, or as a prefix.
+model of tests/crash_states.py replays their system calls up to a random one, with torn writes.
 In each state `copy` has to find the image of before or the changed one, byte by byte, and the changed one if a line was printed by
 then. Then the same command ends as on that image, and leaves the changed one alone, with no log. Of some states the calls of this second
 run are recorded too, and cut in the same way.
@@ -21,7 +20,7 @@ import tempfile
 from pathlib import Path
 
 from changes import IMAGE, WORDS, Draw
-from crash_states import CALL, CALLS, WHOLE, Machine, Power, Wrong, need
+from crash_states import CALL, CALLS, TORN, WHOLE, Machine, Power, Wrong, need
 from served import differs
 
 SYNCS = ("fsync", "fdatasync")
@@ -33,7 +32,7 @@ class Trial:
 
     def __init__(self, program, draw, room, without=()):
         self.drawn, self.draw, self.room, self.without = Draw(program, room, draw), draw, room, without
-        self.power = Power(draw, [*WHOLE, "start", "bytes"])
+        self.power = Power(draw, [*WHOLE, *TORN])
         self.commands = self.states = self.recoveries = 0
 
     def recorded(self, change, files):

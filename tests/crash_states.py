@@ -7,8 +7,8 @@ PROGRAM is what `tools/program` prints; the words after `--` are handed to `serv
 records the system calls of a day that is served in bursts of 1 to 64 lines. The script replays them up to a random call over a model
 of a file system:
 - A write that wasn't synced reaches the disk whole or not at all. With `--torn` it also comes byte by byte in any mix, or as a
-  prefix, and a block of 512 or 4,096 bytes that was being written may be damaged: other bytes stand in all of it. Each file draws
-  its own way. A shop that is served in its own image promises nothing then.
+  prefix, and a block of 512 or 4,096 bytes of the log that was being written may be damaged: other bytes stand in all of it. Each
+  file draws its own way. A shop that is served in its own image promises nothing then.
 - Names that were made, changed or removed since the folder was synced reach the disk each or not, in any order.
 The shop of each state is shown, and served on. After that `show` has to print the shop after the first n lines, where n is at least
 the number of lines that were answered before the failure, and at most the number that were handed over; and each till's last answered
@@ -246,9 +246,9 @@ class Power:
             if first < end:
                 held[first:end] = draw.randbytes(end - first) if draw.random() < 0.5 else bytes(end - first)
 
-    def left_of(self, file):
+    def left_of(self, name, file):
         held = bytearray(file.held)
-        way = self.draw.choice(self.ways)
+        way = self.draw.choice([it for it in self.ways if it != "damage" or "-log" in name])
         last = self.draw.randint(0, len(file.changes))
         for number, (place, what) in enumerate(file.changes):
             if place is None:
@@ -268,7 +268,7 @@ class Power:
         for change in changes:
             if self.draw.random() < 0.5:
                 rename(names, change)
-        return {name: self.left_of(file) for name, file in names.items()}
+        return {name: self.left_of(name, file) for name, file in names.items()}
 
 
 def recorded(program, folder, words, bursts):
