@@ -39,11 +39,10 @@ class Change:
         return run(*self.over(image))
 
     def seen(self, image, copied):
-        """The image that readers find."""
+        """The image that readers find, or why they find none."""
         copied.unlink(missing_ok=True)
         status, _, err = run(self.program, "copy", image, copied)
-        want(status == 0, f"{self.words}, {sorted(it.name for it in image.parent.iterdir())}: copy: {err}")
-        return copied.read_bytes()
+        return err if status else copied.read_bytes()
 
     def ends(self, image, found):
         """What isn't so if the command is run once more where readers find this image, or None."""

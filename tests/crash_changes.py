@@ -69,7 +69,7 @@ class Trial:
         image = change.put(files)
         where = f"{change.words}, state {self.states}, {sorted(files)}"
         found = change.seen(image, self.room / "copied.d64")
-        need(found in images, f"{where}: neither the image of before nor the changed one")
+        need(found in images, f"{where}: {found if isinstance(found, str) else 'neither the image of before nor the changed one'}")
         why = change.ends(image, found)
         need(not why, f"{where}: {why}")
         return found

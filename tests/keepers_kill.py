@@ -47,7 +47,7 @@ class Killer:
                 images = [change.after]
             self.logs += (self.folder / "state" / f"{IMAGE}-log").exists()
             found = change.seen(image, self.folder / "copied.d64")
-            want(found in images, f"{change.words}: neither the image of before nor the changed one")
+            want(found in images, f"{change.words}: {found if isinstance(found, str) else 'another image'}")
             images = images[images.index(found) :]
         self.changed += found == change.after
         why = change.ends(image, found)
