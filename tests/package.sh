@@ -13,6 +13,7 @@
 # program that was built elsewhere. Wants root, Debian's packages debootstrap, lintian, zsh, fish and those that ./package wants.
 set -eu
 top=$(CDPATH= cd -- "$(dirname -- "$0")/.." && pwd)
+[ -z "${PROGRAM-}" ] || export PROGRAM="$(readlink -f -- "$PROGRAM")"
 work=$(mktemp -d)
 trap 'rm -rf "$work"' EXIT
 debian=${1:-$work/debian}
