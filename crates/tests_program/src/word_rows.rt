@@ -191,7 +191,7 @@ const SAID: &[u8] = b"
 no image
 no script
 $ ledger_cli --help
-prints ..README.md..
+prints ..man ledger-1541..
 
 no image
 no script
