@@ -116,7 +116,8 @@ class Page:
 
     def _start(self, tag, attributes):
         self._path.append(tag)
-        self._text = ""
+        # (the signs after a name stand in <bdi>)
+        self._text = self._text if tag == "bdi" else ""
         if tag == "g":
             name = attributes.pop("id", None)
             self._group.append((name, *attributes.items()))
@@ -144,7 +145,8 @@ class Page:
             self._group.pop()
 
     def _add(self, text):
-        self._text += text
+        if self._path[-1] != "bdi":
+            self._text += text
 
 
 def wanted_circle(disk, place):
