@@ -1,5 +1,5 @@
 //! What `ledger store IMAGE NAME RECORDS` does and prints, as plain Rust without proofs: the yardstick of keepers.sh.
-//! The image has to be clean, and NAME one of plain letters. The writes and syncs are those of the program.
+//! The image has to be clean, and NAME one of plain letters. Each sector is written and synced by itself.
 use std::fs;
 use std::io::{self, Write};
 use std::process::exit;
