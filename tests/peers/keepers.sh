@@ -6,8 +6,8 @@
 # - files of all types that both made are taken out by `bytes` and by cbmconvert;
 # - disks of both with wrong maps, block counts and side sectors are mended by `repair --free`, and read again by both;
 # - names with any bytes are read from disks of cbmconvert, and written for it.
-# What is wanted is made by keepers.py from the bytes that went in. Images lie in memory, since `store` waits for the disk
-# at each sector. Not part of the gate. Run it from anywhere; it wants python3.
+# What is wanted is made by keepers.py from the bytes that went in. Images lie in memory, since each
+# change waits for the disk. Not part of the gate. Run it from anywhere; it wants python3.
 if [ -z "${TMPDIR:-}" ] && [ -d /dev/shm ]; then
     TMPDIR=/dev/shm
     export TMPDIR
