@@ -6,7 +6,6 @@
 # Both write each sector to the file; the kernel's time is counted too, since most of the work is there. Then the first 20,
 # 2,000 and all requests in each way to play, by the clock, on images in FOLDER, which has to be on the disk that is asked about
 # (/var/tmp): three times each, of which the least counts. How many syncs each way takes, by `strace` where it is installed.
-# `play --sync` syncs each sector, so it plays 2,000 requests at most.
 source "$(dirname "$0")/common.sh"
 requests="${1:-10000}"
 folder="$(mktemp -d "${3:-/var/tmp}/play.XXXXXX")"
@@ -93,6 +92,5 @@ way() {
 
 for count in 20 2000 "$requests"; do
     way "$count"
-    way "$count" --log
-    [ "$count" -gt 2000 ] || way "$count" --sync
+    way "$count" --sync
 done

@@ -1,4 +1,4 @@
-//! What `ledger serve IMAGE [--in-place] [--unsynced]` does and prints, as plain Rust without proofs: the yardstick of serve.sh.
+//! What `ledger serve IMAGE` does and prints, as plain Rust without proofs: the yardstick of serve.sh.
 //! The image has to be a clean shop; the calls of the system are those of the program.
 use std::fs::{File, OpenOptions};
 use std::io::{self, BufRead, BufReader, Write};
@@ -53,10 +53,10 @@ fn owned(image: &str) -> File {
 }
 
 /// The lines at hand, 512 at most, are handled in memory, committed together, and then told one by one.
-fn serve_over_log(image: &str, syncs: bool) {
+fn serve(image: &str) {
     let file = owned(image);
     let loaded = Mirror::load(file.try_clone().unwrap_or_else(|_| refuse("FILE")), false);
-    let mut log = Log::begin(file, image, loaded.disk.sectors.clone(), syncs).unwrap_or_else(|_| refuse("FILE"));
+    let mut log = Log::begin(file, image, loaded.disk.sectors.clone(), true).unwrap_or_else(|_| refuse("FILE"));
     let disk = Touched { disk: loaded.disk, touched: [false; SECTORS] };
     let mut shop = Shop::open(disk).expect("a clean shop");
     let mut out = Out { inner: io::stdout().lock(), buffer: [0; ROOM], used: 0 };
@@ -90,35 +90,13 @@ fn serve_over_log(image: &str, syncs: bool) {
     log.finish().unwrap_or_else(|_| refuse("DEVICE"));
 }
 
-fn serve(image: &str, syncs: bool) {
-    let file = owned(image);
-    if syncs {
-        file.sync_data().unwrap_or_else(|_| refuse("DEVICE"));
-    }
-    let mut shop = Shop::open(Mirror::load(file, syncs)).expect("a clean shop");
-    let mut out = Out { inner: io::stdout().lock(), buffer: [0; ROOM], used: 0 };
-    let mut input = io::stdin().lock();
-    let mut line = Vec::with_capacity(KEPT + 2);
-    while read_line(&mut input, &mut line) {
-        play_line(&mut shop, &line, 0, &mut out);
-        if std::fs::metadata(image).is_err() {
-            refuse("DEVICE");
-        }
-        out.flush();
-        let _ = out.inner.flush();
-    }
-}
-
 fn main() {
     let words: Vec<String> = std::env::args().skip(1).collect();
     let words: Vec<&str> = words.iter().map(String::as_str).collect();
     match words[..] {
-        ["serve", "--in-place", image] => serve(image, true),
-        ["serve", "--in-place", image, "--unsynced"] => serve(image, false),
-        ["serve", image] => serve_over_log(image, true),
-        ["serve", image, "--unsynced"] => serve_over_log(image, false),
+        ["serve", image] => serve(image),
         _ => {
-            eprintln!("serve_plain serve [--in-place] IMAGE [--unsynced]");
+            eprintln!("serve_plain serve IMAGE");
             exit(2);
         }
     }

@@ -39,7 +39,7 @@ LINES = (
     ("copy b.d64 a\t", ["copy", "b.d64", "a shop.d64"]),
     ("put b.d64 N a\t", ["put", "b.d64", "N", "a shop.d64"]),
     ("store b.d64 N a\t", ["store", "b.d64", "N", "a shop.d64"]),
-    ("serve --uns\tb.d64", ["serve", "--unsynced", "b.d64"]),
+    ("serve --acc\tb.d64", ["serve", "--accept-loss", "b.d64"]),
 )
 STAND_IN = """#!/bin/sh
 printf '<<'

@@ -1,21 +1,20 @@
 #!/usr/bin/env python3
 """Makes the states that a power failure can leave of what `serve` wrote, and looks whether each is a shop (Debian's package strace):
 
-    tests/crash_states.py PROGRAM [STATES] [SEED] [--torn] [-- WORD ..]
+    tests/crash_states.py PROGRAM [STATES] [SEED] [--torn]
 
-PROGRAM is what `tools/program` prints; the words after `--` are handed to `serve`. The model knows nothing of our formats. strace
-records the system calls of a day that is served in bursts of 1 to 64 lines. The script replays them up to a random call over a model
-of a file system:
+PROGRAM is what `tools/program` prints. The model knows nothing of our formats. strace records the system calls of a day that is
+served in bursts of 1 to 64 lines. The script replays them up to a random call over a model of a file system:
 - A write that wasn't synced reaches the disk whole or not at all. With `--torn` it also comes byte by byte in any mix, or as a
   prefix, and a block of 512 or 4,096 bytes of the log that was being written may be damaged: other bytes stand in all of it. Each
-  file draws its own way. A shop that is served in its own image promises nothing then.
+  file draws its own way.
 - Names that were made, changed or removed since the folder was synced reach the disk each or not, in any order.
 The shop of each state is shown, and served on. After that `show` has to print the shop after the first n lines, where n is at least
 the number of lines that were answered before the failure, and at most the number that were handed over; and each till's last answered
 request has to get its kept answer once more. Of some states the calls of the recovery are recorded too, and cut in the same way.
 
-Then the same with `--unsynced`, which has to fail: otherwise nothing was tried. The status is 1 at the first state that is wrong, and
-if `--unsynced` holds. The last line says how much was tried."""
+Then the same without the calls that sync, which has to fail: otherwise nothing was tried. The status is 1 at the first state that is
+wrong, and if the states without syncs are all right. The last line says how much was tried."""
 
 import functools
 import itertools
@@ -38,6 +37,7 @@ class Wrong(Exception):
 CALLS = "openat,creat,close,dup,dup2,lseek,write,pwrite64,writev,pwritev,ftruncate,fallocate,fsync,fdatasync"
 CALLS += ",rename,renameat,renameat2,unlink,unlinkat,link,linkat"
 LINES, TILLS, DEPTH = 300, 8, 2
+SYNCS = ("fsync", "fdatasync")
 BLOCKS = (512, 4096)
 # How much of the writes that weren't synced reaches the disk: of each of them whole, and of torn ones.
 WHOLE, TORN = ["all", "some", "none"], ["start", "bytes", "damage"]
@@ -271,12 +271,12 @@ class Power:
         return {name: self.left_of(name, file) for name, file in names.items()}
 
 
-def recorded(program, folder, words, bursts):
+def recorded(program, folder, bursts):
     """The calls of a `serve` to which the bursts of lines are handed, one after the answers to the one before; and for each call how
     many lines were handed over before it."""
     trace = folder.parent / "calls"
     command = ["strace", "-f", "-xx", "-s", "5000000", "-o", str(trace), "-e", f"trace={CALLS}"]
-    command += [program, "serve", str(folder / "shop.d64"), *words]
+    command += [program, "serve", str(folder / "shop.d64")]
     process = subprocess.Popen(command, stdin=subprocess.PIPE, stdout=subprocess.PIPE, stderr=subprocess.PIPE)
     replies, handed = [], 0
     for burst in bursts:
@@ -310,8 +310,8 @@ class Day:
 class Trial:
     """Looks at states of one day, and cuts recoveries again."""
 
-    def __init__(self, program, draw, words, power, room):
-        self.program, self.draw, self.words, self.power, self.room = program, draw, words, power, room
+    def __init__(self, program, draw, without, power, room):
+        self.program, self.draw, self.without, self.power, self.room = program, draw, without, power, room
         self.states = self.recoveries = 0
 
     def put(self, files):
@@ -337,7 +337,7 @@ class Trial:
             self.cut_again(a_day, files, counts[0], counts[-1], depth)
             self.put(files)
         text = "".join(line + "\n" for line, _ in repeats).encode()
-        status, told, err = run(self.program, "serve", image, *self.words, stdin=text)
+        status, told, err = run(self.program, "serve", image, stdin=text)
         need(status == 0, f"{where}: serve: {status} {err}")
         need(told == [reply for _, reply in repeats], f"{where}: a repeat got another answer")
         need(sure(self.program, "show", image)[1:] == shown[1:], f"{where}: a recovery changed the shop")
@@ -353,7 +353,7 @@ class Trial:
     def cut_again(self, a_day, files, least, most, depth):
         """Cuts the recovery of a state."""
         folder = self.put(files)
-        calls, _ = recorded(self.program, folder, self.words, [])
+        calls, _ = recorded(self.program, folder, [])
         for _ in range(4):
             self.recoveries += 1
             left = self.left(files, folder, calls, self.draw.randint(0, len(calls)))
@@ -363,7 +363,8 @@ class Trial:
         """What stands if power goes before the call of that number; and how many lines were printed by then."""
         machine = Machine(files, folder)
         for call in calls[:cut]:
-            machine.do(*call)
+            if call[0] not in self.without:
+                machine.do(*call)
         return self.power.left(machine.folder), machine.printed
 
 
@@ -376,12 +377,12 @@ def bursts_of(draw, lines):
         at += size
 
 
-def try_states(program, draw, words, is_torn, states):
+def try_states(program, draw, without, is_torn, states):
     """Tries so many states, of days of their own; how many days, states and cut recoveries it were."""
     with tempfile.TemporaryDirectory() as room:
         room = Path(room)
         power = Power(draw, [*WHOLE, *TORN] if is_torn else WHOLE)
-        trial, days = Trial(program, draw, words, power, room), 0
+        trial, days = Trial(program, draw, without, power, room), 0
         while trial.states < states:
             days += 1
             folder = room / "day"
@@ -392,7 +393,7 @@ def try_states(program, draw, words, is_torn, states):
             lines = [it for it in day(draw, LINES, (20, 100)) if not request_of(it) or request_of(it)[0] <= TILLS]
             a_day, first = Day(lines, top), {"shop.d64": (folder / "shop.d64").read_bytes()}
             bursts = list(bursts_of(draw, lines))
-            calls, replies = recorded(program, folder, words, bursts)
+            calls, replies = recorded(program, folder, bursts)
             need(replies == a_day.replies, f"day {days}: other replies than the rule's")
             ends = list(itertools.accumulate(map(len, bursts)))
             for _ in range(min(200, states - trial.states)):
@@ -403,18 +404,16 @@ def try_states(program, draw, words, is_torn, states):
 
 
 def main(words):
-    cut = words.index("--") if "--" in words else len(words)
-    given, rest = [it for it in words[:cut] if it != "--torn"], words[cut + 1 :]
-    is_torn = "--torn" in words[:cut]
+    given, is_torn = [it for it in words if it != "--torn"], "--torn" in words
     program, numbers = given[0], [int(it) for it in given[1:]]
     states, seed = (*numbers, *(2000, 1)[len(numbers) :])
     try:
-        days, states, recoveries = try_states(program, random.Random(seed), rest, is_torn, states)
+        days, states, recoveries = try_states(program, random.Random(seed), (), is_torn, states)
     except Wrong as wrong:
         differs(wrong)
     try:
-        try_states(program, random.Random(seed), [*rest, "--unsynced"], is_torn, 200)
-        differs("each state of a shop that is served unsynced is a shop: nothing was tried")
+        try_states(program, random.Random(seed), SYNCS, is_torn, 200)
+        differs("each state of a service that syncs nothing is a shop: nothing was tried")
     except Wrong:
         pass
     kind = "torn" if is_torn else "whole"
@@ -423,5 +422,5 @@ def main(words):
 
 if __name__ == "__main__":
     if len(sys.argv) < 2:
-        differs("PROGRAM [STATES] [SEED] [--torn] [-- WORD ..]")
+        differs("PROGRAM [STATES] [SEED] [--torn]")
     main(sys.argv[1:])

@@ -85,7 +85,7 @@ def main():
         shop = subprocess.Popen([PROGRAM, "format", "s.d64", "--tills", "9"], cwd=folder, stdout=subprocess.DEVNULL)
         shop.wait()
         lines = "".join(f"{n % 9 + 1},{n // 9 + 1},S,{n + 1},{n}\n" for n in range(180)).encode()
-        subprocess.run([PROGRAM, "serve", "--unsynced", "s.d64"], cwd=folder, input=lines, check=True, stdout=subprocess.DEVNULL)
+        subprocess.run([PROGRAM, "serve", "s.d64"], cwd=folder, input=lines, check=True, stdout=subprocess.DEVNULL)
         olds = [image.read_bytes(), image.read_bytes() + bytes(683), image.read_bytes()[:100_000], b""]
         for old in olds:
             image.write_bytes(old)

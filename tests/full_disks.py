@@ -149,7 +149,7 @@ class Trial:
             for word, *more in (["check"], ["list"], ["map"], ["picture"], ["records", "STOCK"], ["bytes", "STOCK"]):
                 sure(self.program, word, image, *more)
                 self.tried += 1
-            writing = [["serve"], ["serve", "--in-place"], ["play", empty], ["repair"], ["make", "CARDS", "--length", 30],
+            writing = [["serve"], ["play", empty], ["play", "--sync", empty], ["repair"], ["make", "CARDS", "--length", 30],
                        ["store", "STOCK", empty], ["put", "TEXT", empty, "--type", "seq"], ["rename", "CARDS", "NOTES"], ["delete", "CARDS"], ["format", "--tills", 4]]
             for word, *more in writing:
                 status, out, err = run(self.program, word, image, *more)

@@ -46,7 +46,7 @@ class Place:
         sure(program, "format", self.image, "--tills", tills)
 
     def serve(self, size=journal.SIZE):
-        return shop.Serve(self.program, str(self.image), (), journal.Journal(self.kept, size))
+        return shop.Serve(self.program, str(self.image), journal.Journal(self.kept, size))
 
     def served(self, *requests, size=journal.SIZE):
         """A bridge that takes these; their replies."""

@@ -192,7 +192,7 @@ def shop(tried):
     tried.path.unlink(missing_ok=True)
     want(tried.run("format", tried.path, "--tills", 13)[0] == 0, "no shop")
     asks = "".join(f"{1 + n % 13},{1 + n // 13},S,{7 * n + 7},{n + 5}\n" for n in range(430)).encode()
-    want(tried.run("serve", tried.path, "--unsynced", given=asks)[0] == 0, "no cards")
+    want(tried.run("serve", tried.path, given=asks)[0] == 0, "no cards")
     image = tried.path.read_bytes()
     _, whole, _ = tried.run("show", tried.path)
     counts = []

@@ -91,38 +91,36 @@ def main():
     with tempfile.TemporaryDirectory() as place:
         folder = Path(place)
         for change in CHANGES:
-            for words in ([], ["--unsynced"], ["--in-place"], ["--in-place", "--unsynced"]):
-                for line in (b"1,2,I,15,1", b"1,1,S,15,7", b"2,1,R,15,1"):
-                    fresh(folder)
-                    served = Served(folder, *words)
-                    want("the first line", served.ask(b"1,1,S,15,7"), b"1,1,DONE,7")
-                    change(folder)
-                    name = f"{change.__name__} {words} {line}"
-                    want(name, served.ask(line), b",".join(line.split(b",")[:2]) + b",MEDIA")
-                    want(name, served.end(), (3, b"DEVICE\n"))
-                    tried += 1
+            for line in (b"1,2,I,15,1", b"1,1,S,15,7", b"2,1,R,15,1"):
                 fresh(folder)
-                served = Served(folder, *words)
+                served = Served(folder)
                 want("the first line", served.ask(b"1,1,S,15,7"), b"1,1,DONE,7")
                 change(folder)
-                before = held(folder)
-                name = f"{change.__name__} {words}, and then the input's end"
+                name = f"{change.__name__} {line}"
+                want(name, served.ask(line), b",".join(line.split(b",")[:2]) + b",MEDIA")
                 want(name, served.end(), (3, b"DEVICE\n"))
-                want(name, held(folder), before)
                 tried += 1
-        # the goods of a shop whose copy came in its place are sold once: in place, and over a log, which the second lands
-        for words, told in (["--in-place"], b"3,1,MEDIA"), ([], b""):
             fresh(folder)
-            first = Served(folder, *words)
-            want("stock", first.ask(b"1,1,S,15,10"), b"1,1,DONE,10")
-            shutil.copy(folder / "s.d64", folder / "copy.d64")
-            (folder / "copy.d64").rename(folder / "s.d64")
-            second = Served(folder, *words)
-            want("the second sells", second.ask(b"2,1,I,15,10"), b"2,1,DONE,0")
-            want("the first doesn't", first.ask(b"3,1,I,15,3"), told)
-            want("the first", first.end(), (3, b"DEVICE\n"))
-            want("the second", second.end(), (0, b""))
+            served = Served(folder)
+            want("the first line", served.ask(b"1,1,S,15,7"), b"1,1,DONE,7")
+            change(folder)
+            before = held(folder)
+            name = f"{change.__name__}, and then the input's end"
+            want(name, served.end(), (3, b"DEVICE\n"))
+            want(name, held(folder), before)
             tried += 1
+        # the goods of a shop whose copy came in its place are sold once: the second service lands the log of the first
+        fresh(folder)
+        first = Served(folder)
+        want("stock", first.ask(b"1,1,S,15,10"), b"1,1,DONE,10")
+        shutil.copy(folder / "s.d64", folder / "copy.d64")
+        (folder / "copy.d64").rename(folder / "s.d64")
+        second = Served(folder)
+        want("the second sells", second.ask(b"2,1,I,15,10"), b"2,1,DONE,0")
+        want("the first doesn't", first.ask(b"3,1,I,15,3"), b"")
+        want("the first", first.end(), (3, b"DEVICE\n"))
+        want("the second", second.end(), (0, b""))
+        tried += 1
         # what stays in its place goes on
         fresh(folder)
         served = Served(folder)

@@ -5,7 +5,7 @@
 
 PROGRAM is what `tools/program` prints, and CUTS what `tools/program benchmarks` prints. Each of its words is run over and
 over: the first request for memory is refused, then the second, and so on, until a run has none left to refuse. Each time
-- it ends with status 3 and `NO MEMORY`, with nothing printed and no image changed; `serve` and `play --log` may have printed all
+- it ends with status 3 and `NO MEMORY`, with nothing printed and no image changed; `serve` and `play --sync` may have printed all
   replies, if they were refused the memory to land the log, which stays;
 - or, where it can do without, it does and prints what it does with all its memory.
 `CUTS cuts` plays a short day: it says so where memory is wanted, with status 1, and never that something differs. A small library
@@ -199,7 +199,7 @@ def main():
                 begin()
                 command.forget(trial.folder)
 
-            if command.words[0] == "serve" or "--log" in command.words:
+            if command.words[0] == "serve" or "--sync" in command.words:
                 given = LINES if command.given else b""
                 anew()
                 wanted = no_memory_or_unlanded(trial.run(words, given=given)[0][1])

@@ -4,13 +4,11 @@
     tests/serve_ends.py PROGRAM
 
 PROGRAM is what `tools/program` prints. It prints a line for each thing tried:
-- over the log and in place: a reply comes while the input stays open, and the lines are answered in order, however they come;
+- a reply comes while the input stays open, and the lines are answered in order, however they come;
 - unfinished, empty, long and `@` lines, bytes that are no text; a line of many megabytes takes no memory;
-- two programs on one image that is served in place, a holder that was killed, readers beside readers (`serve_logs.py` tries what
-  stands beside a log);
+- a holder that was killed, readers beside readers (`serve_logs.py` tries what stands beside a log);
 - an output that is full or closed, an input that is a folder, images that are none;
-- with `strace` installed: each write and each sync of a request in place fails once (EIO): `MEDIA` and `DEVICE` are told, it
-  isn't tried again, and the next `serve` answers the repeat. Over the log a sync fails once: `DEVICE`, and no reply.
+- with `strace` installed: the sync of a commit fails once (EIO): `DEVICE`, no reply, and the next `serve` answers the repeat.
 The status is 1 at the first difference."""
 
 import fcntl
@@ -43,17 +41,15 @@ class Ends:
     def __init__(self, program, folder):
         self.program, self.folder = program, folder
         self.image = folder / "shop.d64"
-        # the words behind each `serve`
-        self.way = []
 
     def fresh(self):
         sure(self.program, "format", self.image, "--tills", 4)
 
     def serve(self, *words, **more):
-        return Served(self.program, self.image, *self.way, *words, **more)
+        return Served(self.program, self.image, *words, **more)
 
     def served(self, stdin, *words, **more):
-        return run(self.program, "serve", self.image, *self.way, *words, stdin=stdin, **more)
+        return run(self.program, "serve", self.image, *words, stdin=stdin, **more)
 
     def other(self, command):
         """How a command ends that comes beside what has the image."""
@@ -72,16 +68,15 @@ class Ends:
     def reply_while_open(self):
         """Each reply comes while the input stays open, and nothing comes before its line has ended."""
         self.fresh()
-        for words in [[], ["--unsynced"]]:
-            served = self.serve(*words)
-            for line, reply in [("1,1,S,7,5", "1,1,DONE,5"), ("1,1,S,7,5", "1,1,DONE,5"), ("", SYNTAX)]:
-                served.process.stdin.write(line.encode())
-                served.process.stdin.flush()
-                want(served.silent(0.05), "a reply comes before its line has ended")
-                served.send([""])
-                want(not served.silent(10), "no reply comes while the input stays open")
-                want(served.reply() == reply, f"{line} isn't answered {reply}")
-            want(served.finish() == (0, [], ""), "the end isn't quiet")
+        served = self.serve()
+        for line, reply in [("1,1,S,7,5", "1,1,DONE,5"), ("1,1,S,7,5", "1,1,DONE,5"), ("", SYNTAX)]:
+            served.process.stdin.write(line.encode())
+            served.process.stdin.flush()
+            want(served.silent(0.05), "a reply comes before its line has ended")
+            served.send([""])
+            want(not served.silent(10), "no reply comes while the input stays open")
+            want(served.reply() == reply, f"{line} isn't answered {reply}")
+        want(served.finish() == (0, [], ""), "the end isn't quiet")
 
     def in_order(self):
         """Lines that come all at once, and a byte at a time."""
@@ -132,25 +127,6 @@ class Ends:
 
     # --- the lock
     # ------------------------------------------------------------------------------------------------------
-
-    def in_use(self):
-        """Every command beside a `serve` is refused, and changes nothing; when it has ended, or was killed, none is."""
-        scene(self.program, self.folder, 4)
-        holder = self.serve()
-        want(holder.ask("1,1,S,1,1") == "1,1,DONE,1", "1,1,S,1,1 isn't answered")
-        held, there = self.image.read_bytes(), set(self.folder.iterdir())
-        for command in OTHERS:
-            got = self.other(command)
-            want(is_in_use(command, got), f"{command.name} beside a serve: {got}")
-            want(self.image.read_bytes() == held, f"{command.name} beside a serve has changed the image")
-            want(set(self.folder.iterdir()) == there, f"{command.name} beside a serve has made something")
-        want(holder.ask("1,2,R,1,1") == "1,2,DONE,2", "the holder doesn't serve on")
-        want(holder.finish() == (0, [], ""), "the end isn't quiet")
-        self.answered("1,2,R,1,1", "1,2,DONE,2")
-        killed = self.serve()
-        want(killed.ask("1,3,R,1,1") == "1,3,DONE,3", "1,3,R,1,1 isn't answered")
-        killed.kill()
-        self.answered("1,3,R,1,1", "1,3,DONE,3")
 
     def readers(self):
         """Beside one that reads, the words that only read run and those that write are refused; beside one that
@@ -220,30 +196,6 @@ class Ends:
     # --- a medium that fails
     # -------------------------------------------------------------------------------------------
 
-    def device_fails(self, call, first):
-        """The call fails once, at its first time, its second, and so on, until a whole run has no more of them; how
-        often."""
-        times = 0
-        while True:
-            times += 1
-            self.fresh()
-            shown = self.show()
-            served = Served(self.program, self.image, "--in-place", before=injecting(call, times))
-            reply = served.ask(GROWS)
-            status, out, err = served.finish()
-            if (status, reply) == (0, "1,1,DONE,7"):
-                return times - 1
-            where = f"{call} fails at its time {times}"
-            if reply is None:
-                want(times == first and (status, err) == (3, "DEVICE"), f"{where}: status {status}, {err}")
-                want(self.show() == shown, f"{where}: the shop has changed before a line was read")
-            else:
-                ended = reply, out, status, err
-                want(ended == ("1,1,MEDIA", [], 3, "DEVICE"), f"{where}: {ended}")
-            self.answered(GROWS, "1,1,DONE,7")
-            want(sure(self.program, "check", self.image) == ["OK"], f"{where}: check isn't OK after it")
-
-
     def log_fails(self):
         """The sync of a commit fails once."""
         self.fresh()
@@ -269,12 +221,8 @@ def try_device(ends):
     if not shutil.which("strace"):
         print("writes and syncs that fail: not tried, there is no strace (Debian's package strace)")
         return
-    writes = ends.device_fails("pwrite64", None)
-    syncs = ends.device_fails("fdatasync", 1)
-    want(writes > 0 and syncs > writes, f"{writes} writes and {syncs} syncs")
     ends.log_fails()
-    each = f"each of {writes} writes and {syncs} syncs of a request"
-    print(f"{each} fails once: MEDIA, DEVICE, and the repeat is answered")
+    print(f"log_fails: {ends.log_fails.__doc__}")
 
 
 def main():
@@ -284,11 +232,9 @@ def main():
         ends = Ends(str(Path(sys.argv[1]).resolve()), Path(folder))
         lines = [ends.reply_while_open, ends.in_order, ends.unfinished, ends.odd_lines, ends.long_line]
         everywhere = [*lines, ends.output_fails, ends.input_fails, ends.no_image]
-        for ends.way, all_tried in ([], [*everywhere, ends.readers]), (["--in-place"], [*everywhere, ends.in_use]):
-            for tried in all_tried:
-                tried()
-                where = " ".join(ends.way) or "over the log"
-                print(f"{where}: {tried.__name__}: {' '.join(tried.__doc__.split())}", flush=True)
+        for tried in [*everywhere, ends.readers]:
+            tried()
+            print(f"{tried.__name__}: {' '.join(tried.__doc__.split())}", flush=True)
         try_device(ends)
 
 

@@ -4,7 +4,7 @@
     tests/serve_kill.py PROGRAM [KILLS] [SEED]
 
 PROGRAM is what `tools/program` prints. A client sends the lines of days of 1,500
-lines of 64 tills, one at a time or up to eight ahead; `serve`, over the log or in place, synced or not, is killed (SIGKILL) at random moments,
+lines of 64 tills, one at a time or up to eight ahead; `serve` is killed (SIGKILL) at random moments,
 also while it opens the shop, and started again at once: it is never told `IN USE`, for the lock falls with the
 process. What wasn't answered is sent again.
 - Each reply is the one that `dry` gives, in order, and `show` after a kill tells a shop.
@@ -27,12 +27,12 @@ from served import Served, script, sure, want
 class Client:
     """Sends lines to a `serve` that is killed now and then, until each has its reply."""
 
-    def __init__(self, program, folder, draw, words):
-        self.program, self.folder, self.draw, self.words = program, folder, draw, words
+    def __init__(self, program, folder, draw):
+        self.program, self.folder, self.draw = program, folder, draw
         self.image = folder / "shop.d64"
         self.kills = self.missed = self.lines = 0
-        # the seconds that a turn takes, and an opening at most: over a log it makes that first
-        self.turn, self.opening = 0.005, 0.01 if "--in-place" in words else 0.1
+        # the seconds that a turn takes, and an opening at most, which makes a log first
+        self.turn, self.opening = 0.005, 0.1
 
     def killer(self, served, answered):
         """Kills within the time of an opening, or of two turns."""
@@ -41,7 +41,7 @@ class Client:
     def live(self, lines, replies, mortal):
         """One life of `serve`: how many of the lines were answered before it was killed, or all."""
         ahead, doomed = self.draw.choice([1, 1, 8]), self.draw.choice([0, self.draw.randint(1, 40)])
-        served, killer, answered, sent = Served(self.program, self.image, *self.words), None, 0, 0
+        served, killer, answered, sent = Served(self.program, self.image), None, 0, 0
         while answered < len(lines):
             if mortal and killer is None and answered >= doomed:
                 killer = self.killer(served, answered)
@@ -107,13 +107,11 @@ def main():
     kills = int(sys.argv[2]) if len(sys.argv) > 2 else 1000
     draw = random.Random(int(sys.argv[3]) if len(sys.argv) > 3 else 1541)
     with tempfile.TemporaryDirectory() as folder:
-        for words in [[], ["--unsynced"], ["--in-place"], ["--in-place", "--unsynced"]]:
-            client = Client(program, Path(folder), draw, words)
-            while client.kills < kills // 4:
-                client.one_day(min(100, kills // 4 - client.kills))
-            how = " ".join(["serve", *words])
-            missed = f"{client.missed} of them left lines without a reply"
-            print(f"{how}: {client.kills} kills, {missed}, {client.lines} lines: no difference", flush=True)
+        client = Client(program, Path(folder), draw)
+        while client.kills < kills:
+            client.one_day(min(100, kills - client.kills))
+        missed = f"{client.missed} of them left lines without a reply"
+        print(f"{client.kills} kills, {missed}, {client.lines} lines: no difference")
 
 
 main()

@@ -95,8 +95,8 @@ class Refusals:
 class Serve:
     """The one `serve` of an image, whose lock keeps every other away."""
 
-    def __init__(self, program, image, words=(), kept=None):
-        self.command, self.journal, self.process = [program, "serve", image, *words], kept, None
+    def __init__(self, program, image, kept=None):
+        self.command, self.journal, self.process = [program, "serve", image], kept, None
         self.numbers, self.strangers, self.refusals = {}, set(), Refusals()
 
     def is_open(self):
@@ -295,14 +295,12 @@ def words(parser):
     parser.add_argument("--keep", metavar="FILE", help="the shop's journal: who asked what, when, and the reply")
     size = f"bytes after which a new journal is begun (default {journal.SIZE})"
     parser.add_argument("--keep-size", type=int, default=journal.SIZE, metavar="BYTES", help=size)
-    parser.add_argument("--unsynced", action="store_true", help="serve without syncing")
     return account.words(parser)
 
 
 def serve_of(given, kind=Serve):
-    unsynced = ["--unsynced"] if given.unsynced else []
     kept = journal.Journal(given.keep, given.keep_size) if given.keep else None
-    return kind(given.program, given.image, unsynced, kept)
+    return kind(given.program, given.image, kept)
 
 
 def served(given, work, kind=Serve):

@@ -59,19 +59,17 @@ check = with_rule (with_rule (over_images (codes "check")) (flag (codes "json"))
 abbrev pub show : App
 show = over_image (codes "show")
 
--- play IMAGE SCRIPT [--sync] [--log]
+-- play IMAGE SCRIPT [--sync]
 abbrev pub play : App
-play = with_rule (with_rule (with_rule (over_image (codes "play")) (required (codes "SCRIPT"))) (flag (codes "sync")))
-    (flag (codes "log"))
+play = with_rule (with_rule (over_image (codes "play")) (required (codes "SCRIPT"))) (flag (codes "sync"))
 
 -- a subcommand that goes on where a disk has lost a part of a file, if --accept-loss is given
 abbrev pub may_accept_loss : App → App
 may_accept_loss a = with_rule a (flag (codes "accept-loss"))
 
--- serve IMAGE [--unsynced] [--accept-loss] [--in-place]
+-- serve IMAGE [--accept-loss]
 abbrev pub serve : App
-serve = with_rule (may_accept_loss (with_rule (over_image (codes "serve")) (flag (codes "unsynced"))))
-    (flag (codes "in-place"))
+serve = may_accept_loss (over_image (codes "serve"))
 
 -- copy IMAGE NEW
 abbrev pub copy : App

@@ -64,42 +64,32 @@ const SCRIPT: Value = Value {
     help: "The script, a line each message; /dev/stdin is standard input",
 };
 
-/// The flag that syncs each sector by itself.
+/// The flag that plays over a log.
 const SYNC: Value = Value {
     name: "sync",
     word: Some("sync"),
     count: Count::Flag,
-    help: "Syncs each sector before the next is written",
+    help: "Plays over a log beside the image, as `serve` does",
 };
 
-/// The flag that plays over a log.
-const LOG: Value = Value {
-    name: "log",
-    word: Some("log"),
-    count: Count::Flag,
-    help: "Plays over a log beside the image, as `serve` does; not with --sync",
-};
-
-/// `play IMAGE SCRIPT [--sync] [--log]`
+/// `play IMAGE SCRIPT [--sync]`
 const PLAY: Subcommand = Subcommand {
     name: "play",
     about: "Plays the messages of a script on the image, and prints the replies",
     more: "\
 Prints a reply for each line, for example 1,1,DONE,40. In a line such as
-\"@2 1,1,R,7,5\" the power fails after two writes; --log refuses such a line.
-With --log the requests are synced in IMAGE-log first, and come to IMAGE at the
-end. Without --sync or --log a power loss can lose answered requests, or leave a
-wrong shop.
+\"@2 1,1,R,7,5\" the power fails after two writes; --sync refuses such a line.
+With --sync the requests are synced in IMAGE-log first, and come to IMAGE at the
+end. Without it a power loss can lose answered requests, or leave a wrong shop.
 
 Exit status:
   0  all lines were played
   1  the script (SCRIPT LINE n) or the image is refused: nothing was done
-  2  FLAGS: --sync and --log
   3  FILE, NO MEMORY, IN USE; or DEVICE: check a copy on another disk, and go
      on there
 
 Example: ledger play --sync shop.d64 day.txt",
-    values: &[IMAGE, SCRIPT, SYNC, LOG],
+    values: &[IMAGE, SCRIPT, SYNC],
 };
 
 /// `dry SCRIPT`
@@ -119,31 +109,13 @@ Example: ledger dry day.txt",
     values: &[SCRIPT],
 };
 
-/// The flag that syncs nothing.
-const UNSYNCED: Value = Value {
-    name: "unsynced",
-    word: Some("unsynced"),
-    count: Count::Flag,
-    help: "Leaves it to the system when replies are on the disk",
-};
-
-/// The flag that serves without a log.
-const IN_PLACE: Value = Value {
-    name: "in-place",
-    word: Some("in-place"),
-    count: Count::Flag,
-    help: "Uses no log: writes and syncs each sector in IMAGE itself",
-};
-
-/// `serve IMAGE [--unsynced] [--accept-loss] [--in-place]`
+/// `serve IMAGE [--accept-loss]`
 const SERVE: Subcommand = Subcommand {
     name: "serve",
     about: "Answers the messages on standard input, over a log beside the image",
     more: "\
 Takes the lines at hand, 512 at most, syncs once, and prints their replies. What
 they changed is in IMAGE-log until the input ends; other commands read it there.
-With --in-place it writes IMAGE itself, and prints each reply before it reads
-the next line.
 
 Exit status:
   0  the input ended
@@ -153,7 +125,7 @@ Exit status:
      that is served)
 
 Example: ledger serve shop.d64 < messages.txt",
-    values: &[IMAGE, UNSYNCED, ACCEPT_LOSS, IN_PLACE],
+    values: &[IMAGE, ACCEPT_LOSS],
 };
 
 /// The path of a copy.

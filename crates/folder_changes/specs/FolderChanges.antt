@@ -1,5 +1,5 @@
 -- What comes of a change to the image in a folder. Our own.
-use Rattle.std.specs.Prelude.{◌≡◌, ◌⊎◌, Err, List, Ok, Option, Result, ℕ}
+use Rattle.std.specs.Prelude.{◌≡◌, ◌≢◌, ◌⊎◌, Err, List, Ok, Option, Result, ℕ}
 use Rattle.std.specs.Io.KnownBytes.{Appends}
 use Rattle.command_faults.specs.Outputs.{HandsPart}
 use Rattle.d64_image.specs.Memory.{disk_image, sectors_in}
@@ -30,11 +30,17 @@ IsToldAs contents Is Refuses before after (Err stops.Device) = after ≡ before
 IsToldAs contents Is Refuses before after (Err stops.Output) =
     (made : Changed) × Is made × HandsPart (contents before) (contents after) made.text.items
 
+-- the same of a change that is only printed: no folder fails
+abbrev pub IsShownAs : {W : Type 0} → (W → Option (List ℕ)) → (Is : Changed → Type 0) → (Refuses : Why → Type 0) → W → W
+    → Result ℕ Stop → Type 0
+IsShownAs contents Is Refuses before after result =
+    IsToldAs contents Is Refuses before after result × (result ≢ Err stops.Device)
+
 -- the same of a change to an image
 abbrev pub IsChangePrinted : {W : Type 0} → Change → (image : List ℕ) → (W → Option (List ℕ)) → W → W → Result ℕ Stop
     → Type 0
 IsChangePrinted what image contents before after result =
-    IsToldAs contents (IsChanged what image) (IsRefused what image) before after result
+    IsShownAs contents (IsChanged what image) (IsRefused what image) before after result
 
 module _ {D : Type 0} (h : FolderHistory D) (what : Change) (image : List ℕ) (old new : D) where
   -- the change was made: if the folder had the image alone, it has the new one alone

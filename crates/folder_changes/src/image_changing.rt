@@ -1,5 +1,5 @@
 //! The image in a folder, changed.
-ghost use Rattle.std.specs.Prelude.{◌≡◌, ◌⊎◌, IfErr, IfOk, OnErr, OnOk, length};
+ghost use Rattle.std.specs.Prelude.{◌≡◌, ◌⊎◌, Err, IfErr, IfOk, OnErr, OnOk, length, true};
 ghost use Rattle.std.specs.Io.KnownBytes.{Appends};
 ghost use Rattle.command_faults.specs.Outputs.{HandsPart};
 ghost use Rattle.command_faults.specs.declared.faults.CommandFault.TheVariants.{NoMemory};
@@ -30,7 +30,7 @@ fn sectors_of(image: &[u8]) -> &[[u8; 256]]
 }
 
 /// Puts the disk that came of a change in the place of the image, unless it is the same. The only errors are `NoMemory`,
-/// and then nothing was done, and `Device`.
+/// and then nothing was done, and `Device`, if the folder failed.
 fn put_in_place<F: LogFile, D: LogFolder<F>>(
     alloc: Global,
     folder: &mut D,
@@ -43,7 +43,7 @@ fn put_in_place<F: LogFile, D: LogFolder<F>>(
     ensures ok { OnOk result (RestsAlone D.history folder.old (sectors_in image.now)
         → RestsAlone D.history folder.new (disk_image made.now.disk)) }
     ensures err { IfErr result (λ stop. ((stop ≡ stops.Refused (Fault NoMemory)) × (folder.new ≡ folder.old))
-        ⊎ (stop ≡ stops.Device)) }
+        ⊎ ((stop ≡ stops.Device) × (D.history.has_failed folder.new ≡ true))) }
 {
     if made.disk.bytes() == image {
         return Ok(());
@@ -96,7 +96,8 @@ pub fn show_change<W: Write>(
 
 /// Changes the image in a folder, all or nothing, and prints the change's text. Returns how many sectors it leaves taken
 /// though no file owns them. `image` has the bytes of IMAGE, which has no log beside it; both are synced, as `land` leaves
-/// them. A power loss at any moment, and an error, leave a folder that gives this image, or the one with the change.
+/// them. A power loss at any moment, and an error, leave a folder that gives this image, or the one with the change. `Device`
+/// only if the folder failed.
 pub fn change_image<F: LogFile, D: LogFolder<F>, W: Write>(
     alloc: Global,
     folder: &mut D,
@@ -108,6 +109,7 @@ pub fn change_image<F: LogFile, D: LogFolder<F>, W: Write>(
     ensures run { IsChangeOver D.history what.now image.now folder.old folder.new W.contents out.old out.new result }
     ensures any_moment { RestsAlone D.history folder.old (sectors_in image.now)
         → LeavesFolders D.history folder.old folder.new (GivesChanged what.now image.now) }
+    ensures cause { result ≡ Err stops.Device → D.history.has_failed folder.new ≡ true }
 {
     let made = change(alloc, what, image)?;
     put_in_place(alloc, folder, image, &made)?;

@@ -32,7 +32,7 @@ named-met found rows make r job fit none (inr (same, missing)) =
 -- there is no job without columns
 refused : (found : Option (Text × List Row)) (rows : List Row) (fault : JobFault) → HasNoColumns rows fault
     → AreRefusedColumns found fault → IsNoJob [] found fault
-refused found rows faults.Flags none has = (refl, inr has)
+refused found rows faults.Flags none has = (refl, has)
 refused found rows faults.Positions none has = (refl, has)
 refused found rows _ none has = absurd none
 

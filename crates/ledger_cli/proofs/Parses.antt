@@ -109,22 +109,20 @@ pub repair-fit : (rows : List Row) (image : Bor Text) (sides : Bool)
 repair-fit rows image true = tt
 repair-fit rows image false = tt
 
--- and with --sync, with --log or without both that of `play`; with both there is none
-pub play-met : (found : Option (Text × List Row)) (rows : List Row) (image script : Bor Text) (synced logged : Bool)
-    → is_given (codes "sync") rows ≡ synced → is_given (codes "log") rows ≡ logged → found ≡ Some (codes "play", rows)
-    → image.now ≡ value (codes "IMAGE") rows → script.now ≡ value (codes "SCRIPT") rows
-    → let r : Result Job JobFault =
-    if synced then (if logged then Err faults.Flags else Ok (jobs.PlaySynced image script))
-    else (if logged then Ok (jobs.PlayLogged image script) else Ok (jobs.Play image script)) in
-    MatchResult r (IsJob found) (IsNoJob [] found) × IfOk r IsFit
-play-met found rows image script true true sync log is by-image by-script =
-    ((refl, inl (record { rows = rows; is = is; holds = (sync, log) })), tt)
-play-met found rows image script true false sync log is by-image by-script =
-    (record { rows = rows; is = is; holds = (by-image, by-script, sync, log) }, tt)
-play-met found rows image script false true sync log is by-image by-script =
-    (record { rows = rows; is = is; holds = (by-image, by-script, sync, log) }, tt)
-play-met found rows image script false false sync log is by-image by-script =
-    (record { rows = rows; is = is; holds = (by-image, by-script, sync, log) }, tt)
+-- and with --sync or without that of `play`
+pub play-met : (found : Option (Text × List Row)) (rows : List Row) (image script : Bor Text) (synced : Bool)
+    → is_given (codes "sync") rows ≡ synced → found ≡ Some (codes "play", rows) → image.now ≡ value (codes "IMAGE") rows
+    → script.now ≡ value (codes "SCRIPT") rows
+    → IsJob found (if synced then jobs.PlayLogged image script else jobs.Play image script)
+play-met found rows image script true sync is by-image by-script =
+    record { rows = rows; is = is; holds = (by-image, by-script, sync) }
+play-met found rows image script false sync is by-image by-script =
+    record { rows = rows; is = is; holds = (by-image, by-script, sync) }
+
+pub play-fit : (image script : Bor Text) (synced : Bool)
+    → IsFit (if synced then jobs.PlayLogged image script else jobs.Play image script)
+play-fit image script true = tt
+play-fit image script false = tt
 
 -- what was heard is what the words ask for
 pub heard-as-asked : (r : Result Job JobFault) (asked heard : Bool) → heard ≡ asked → IsHeard r asked heard

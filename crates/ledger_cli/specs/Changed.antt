@@ -8,7 +8,7 @@ use Rattle.disk_changes.specs.declared.changes.Why.{Why}
 use Rattle.folder_changes.specs.declared.stops.Stop.{Stop}
 use Rattle.folder_changes.specs.declared.stops.Stop.TheVariants as stops
 use Rattle.ledger_cli.specs.Making.{AreWrittenInPart, IsImageHanded, image_writes}
-use Rattle.ledger_jobs.specs.Changes.{IsChangeEnd, as_change}
+use Rattle.ledger_jobs.specs.Changes.{IsShownEnd, as_change}
 use Rattle.ledger_jobs.specs.Ends.{EndsAs, JobEnd}
 use Rattle.ledger_jobs.specs.declared.jobs.Effect.{Effect}
 use Rattle.ledger_jobs.specs.declared.jobs.Effect.TheVariants.{Printed, Written}
@@ -41,4 +41,4 @@ module _ {F W : Type 0} (position : F → Option ℕ) (bytes contents : F → Op
     -- or only what it would print was printed
     abbrev pub IsChangeJob : Effect → (Changed → Type 0) → (Why → Type 0) → Option F → Option F → W → W → JobEnd → Type 0
     IsChangeJob Written Is Refuses file after old new end = IsChangeMade Is Refuses file after old new end
-    IsChangeJob Printed Is Refuses file after old new end = (after ≡ file) × IsChangeEnd told Is Refuses old new end
+    IsChangeJob Printed Is Refuses file after old new end = (after ≡ file) × IsShownEnd told Is Refuses old new end

@@ -2,14 +2,12 @@
 use Rattle.std.specs.Prelude.{◌≡◌, false, List, Option, Some, None, Result, Ok, Err, codes, if◌then◌else◌, ⊤}
 use Rattle.std.specs.Borrow.{Bor}
 use Rattle.clap.specs.Words.{Row, Text}
-use Rattle.image_file.specs.declared.durability.Durability.{Durability}
 use Rattle.ledger_jobs.specs.declared.jobs.Effect.{Effect}
 use Rattle.ledger_jobs.specs.declared.jobs.Job.{Job}
 use Rattle.ledger_jobs.specs.declared.jobs.Overview.{Overview}
 use Rattle.ledger_jobs.specs.declared.jobs.Loss.{Loss}
 use Rattle.ledger_jobs.specs.declared.jobs.Taking.{Taking}
 use Rattle.ledger_jobs.specs.declared.jobs.Unowned.{Unowned}
-use Rattle.ledger_jobs.specs.declared.jobs.Way.{Way}
 use Rattle.keeper_commands.specs.declared.rescue.choices.Choice.{Choice}
 use Rattle.keeper_commands.specs.declared.finding.Candidates.{Candidates}
 use Rattle.keeper_commands.specs.declared.forms.ByteForm.{ByteForm}
@@ -22,14 +20,12 @@ use Rattle.disk_reports.specs.declared.texts.NameForm.{NameForm}
 use Rattle.ledger_cli.specs.Flags.{is_given}
 use Rattle.ledger_cli.specs.Positions.{AsksForColumns, AsksForNone, HasNoColumns}
 use Rattle.ledger_cli.specs.declared.faults.JobFault.{JobFault}
-use Rattle.image_file.specs.declared.durability.Durability.TheVariants as durabilities
 use Rattle.ledger_jobs.specs.declared.jobs.Effect.TheVariants as effects
 use Rattle.ledger_jobs.specs.declared.jobs.Job.TheVariants as jobs
 use Rattle.ledger_jobs.specs.declared.jobs.Overview.TheVariants as overviews
 use Rattle.ledger_jobs.specs.declared.jobs.Loss.TheVariants as losses
 use Rattle.ledger_jobs.specs.declared.jobs.Taking.TheVariants as takings
 use Rattle.ledger_jobs.specs.declared.jobs.Unowned.TheVariants as unowneds
-use Rattle.ledger_jobs.specs.declared.jobs.Way.TheVariants as ways
 use Rattle.keeper_commands.specs.declared.finding.Candidates.TheVariants.{All, Closed}
 use Rattle.keeper_commands.specs.declared.forms.ByteForm.TheVariants as bytes
 use Rattle.keeper_commands.specs.declared.forms.RecordForm.TheVariants as records
@@ -97,14 +93,6 @@ name_form_in rows = name_form (set_in rows)
 -- which faults the flags ask for: the first, but with --all all of them
 abbrev pub findings_in : List Row → Findings
 findings_in rows = if is_given (codes "all") rows then findings.All else findings.First
-
--- to which file the requests of a shop that is served are synced first: to a log, but with --in-place to the image itself
-abbrev pub way_in : List Row → Way
-way_in rows = if is_given (codes "in-place") rows then ways.InPlace else ways.OverLog
-
--- when what is served is synced: before each reply, or with --unsynced when the operating system does it
-abbrev pub serve_durability : List Row → Durability
-serve_durability rows = if is_given (codes "unsynced") rows then durabilities.AtEnd else durabilities.EachSector
 
 -- what is done if a disk has lost a part of a file: the job is refused, but with --accept-loss it goes on
 abbrev pub loss_in : List Row → Loss

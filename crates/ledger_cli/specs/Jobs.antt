@@ -11,7 +11,7 @@ use Rattle.disk_pictures.specs.declared.views.View.{View}
 use Rattle.ledger_jobs.specs.Names.{IsNameOf, name_bytes}
 use Rattle.ledger_cli.specs.declared.faults.JobFault.{JobFault}
 use Rattle.ledger_cli.specs.Numbers.{tills_in, length_in, place_in}
-use Rattle.ledger_cli.specs.Forms.{AreColumns, way_in, serve_durability, loss_in, unowned_in, effect_in, IsTakenBy}
+use Rattle.ledger_cli.specs.Forms.{AreColumns, loss_in, unowned_in, effect_in, IsTakenBy}
 use Rattle.ledger_cli.specs.Forms.{IsViewedBy, choice_in}
 use Rattle.ledger_cli.specs.Images.{word_of_drawing, AreCompared, AreOnSheet, IsNoPicture, IsDrawnBy}
 use Rattle.ledger_cli.specs.Images.{word_of_overview, IsOnlyImage, AreImages, AreDescribed}
@@ -86,17 +86,13 @@ IsJob found (jobs.Several what images) = Has found (word_of_overview what)
 IsJob found (jobs.Show image) = Has found (codes "show") (λ rows. image.now ≡ value (codes "IMAGE") rows)
 IsJob found (jobs.Play image script) = Has found (codes "play")
     (λ rows. (image.now ≡ value (codes "IMAGE") rows) × (script.now ≡ value (codes "SCRIPT") rows)
-    × (is_given (codes "sync") rows ≡ false) × (is_given (codes "log") rows ≡ false))
-IsJob found (jobs.PlaySynced image script) = Has found (codes "play")
-    (λ rows. (image.now ≡ value (codes "IMAGE") rows) × (script.now ≡ value (codes "SCRIPT") rows)
-    × (is_given (codes "sync") rows ≡ true) × (is_given (codes "log") rows ≡ false))
+    × (is_given (codes "sync") rows ≡ false))
 IsJob found (jobs.PlayLogged image script) = Has found (codes "play")
     (λ rows. (image.now ≡ value (codes "IMAGE") rows) × (script.now ≡ value (codes "SCRIPT") rows)
-    × (is_given (codes "sync") rows ≡ false) × (is_given (codes "log") rows ≡ true))
+    × (is_given (codes "sync") rows ≡ true))
 IsJob found (jobs.Dry script) = Has found (codes "dry") (λ rows. script.now ≡ value (codes "SCRIPT") rows)
-IsJob found (jobs.Serve image way durability loss) = Has found (codes "serve")
-    (λ rows. (image.now ≡ value (codes "IMAGE") rows) × (way ≡ way_in rows) × (durability ≡ serve_durability rows)
-    × (loss ≡ loss_in rows))
+IsJob found (jobs.Serve image loss) = Has found (codes "serve")
+    (λ rows. (image.now ≡ value (codes "IMAGE") rows) × (loss ≡ loss_in rows))
 IsJob found (jobs.Copy image copy) = Has found (codes "copy")
     (λ rows. (image.now ≡ value (codes "IMAGE") rows) × (copy.now ≡ value (codes "NEW") rows))
 IsJob found (jobs.Extract choice image folder) = Has found (codes "extract")
@@ -159,7 +155,5 @@ IsNoJob kinds found faults.Id =
     (kinds ≡ []) × Has found (codes "new") (λ rows. HasName (codes "N") rows × HasNoId rows)
 IsNoJob kinds found faults.Kind =
     (kinds ≡ []) × Has found (codes "put") (λ rows. HasNewName (codes "NAME") rows × (type_in rows ≡ None))
-IsNoJob kinds found faults.Flags = (kinds ≡ []) × (Has found (codes "play")
-    (λ rows. (is_given (codes "sync") rows ≡ true) × (is_given (codes "log") rows ≡ true))
-    ⊎ AreRefusedColumns found faults.Flags)
+IsNoJob kinds found faults.Flags = (kinds ≡ []) × AreRefusedColumns found faults.Flags
 IsNoJob kinds found faults.Positions = (kinds ≡ []) × AreRefusedColumns found faults.Positions

@@ -7,24 +7,21 @@ use Rattle.disk_changes.specs.Rebuilds.{IsRebuildRefusal, IsRebuilt}
 use Rattle.disk_changes.specs.Renames.{IsRenameRefusal, IsRenamed}
 use Rattle.disk_changes.specs.Repairs.{IsRepairRefusal, IsRepaired}
 use Rattle.disk_changes.specs.Stores.{IsStoreRefusal, IsStored}
-use Rattle.std.specs.Prelude.{◌≡◌, ◌≢◌, ◌⊎◌, ℕ, List, Option, None, Some, Result, Ok, Err, length}
+use Rattle.std.specs.Prelude.{◌≡◌, ◌⊎◌, ℕ, List, Option, None, Some, Result, Ok, Err, length}
 use Rattle.d64_image.specs.declared.device_as_file.DeviceAsFile.{DeviceAsFile}
 use Rattle.d64_image.specs.declared.mirror.Mirror.{Mirror}
 use Rattle.ledger_cli.specs.Making.{IsImageCopied, IsImageMade}
 use Rattle.ledger_cli.specs.Streams.{HandsSectors, IsBegun, WhyUnbegun, stream, stream_file}
-use Rattle.disk_layout.specs.declared.faults.Fault.{Fault}
 use Rattle.host_session.specs.runs.Outputs.{written}
 use Rattle.line_text.specs.Handed.{AppendsPart}
-use Rattle.shop_commands.specs.Plays.{IsUntouched}
-use Rattle.shop_commands.specs.Shops.{IsOpenRefusal}
 use Rattle.command_faults.specs.declared.faults.CommandFault.{CommandFault}
 use Rattle.command_faults.specs.declared.faults.CommandFault.TheVariants as faults
 use Rattle.ledger_jobs.specs.Comparisons.{IsComparingRun}
 use Rattle.ledger_jobs.specs.Drawings.{IsDrawingRun}
-use Rattle.ledger_jobs.specs.Ends.{Ended, EndsAs, JobEnd, as_job, as_run, end_status, refusal_line}
+use Rattle.ledger_jobs.specs.Ends.{EndsAs, JobEnd, as_job, as_run, end_status, refusal_line}
 use Rattle.ledger_jobs.specs.Listings.{IsListingRun}
 use Rattle.ledger_jobs.specs.Jobs.{frees, shortened}
-use Rattle.ledger_jobs.specs.Losses.{IsEndOf, IsGuarded, IsTakingEnd}
+use Rattle.ledger_jobs.specs.Losses.{IsTakingEnd}
 use Rattle.ledger_jobs.specs.Names.{name_bytes}
 use Rattle.ledger_jobs.specs.NewDisks.{IsNewImage}
 use Rattle.shop_commands.specs.Images.{AreFreshBytes}
@@ -35,7 +32,6 @@ use Rattle.ledger_jobs.specs.declared.jobs.Job.TheVariants as jobs
 use Rattle.ledger_jobs.specs.declared.jobs.Effect.TheVariants.{Written}
 use Rattle.ledger_jobs.specs.declared.jobs.Findings.{Findings}
 use Rattle.ledger_jobs.specs.declared.jobs.Findings.TheVariants as findings
-use Rattle.ledger_jobs.specs.declared.jobs.Loss.{Loss}
 use Rattle.ledger_jobs.specs.declared.jobs.Reading.{Reading}
 use Rattle.ledger_jobs.specs.declared.jobs.Reading.TheVariants as readings
 use Rattle.ledger_jobs.specs.declared.refusals.Refusal.TheVariants as refusals
@@ -72,21 +68,6 @@ abbrev pub IsOverFile : {F W : Type 0} → List ℕ → Option F → Option F �
     → (DeviceAsFile (Mirror F) → DeviceAsFile (Mirror F) → Type 0) → Type 0
 IsOverFile image file after old new end P = IsUnbegun image file after old new end ⊎ IsRunOver image file after P
 
--- Why a shop wasn't served to the input's end: the image's size, no memory, or that it is no shop's, and then nothing was
--- done; or the file or the output failed.
-abbrev pub IsServiceFault : {F W : Type 0} → (image : List ℕ) → F → F → W → W → CommandFault → Type 0
-IsServiceFault image file after old new faults.ImageSize = (length image ≢ 174848) × IsUntouched file after old new
-IsServiceFault image file after old new faults.NoMemory = (length image ≡ 174848) × IsUntouched file after old new
-IsServiceFault image file after old new faults.File = length image ≡ 174848
-IsServiceFault image file after old new faults.Device = length image ≡ 174848
-IsServiceFault image file after old new (faults.ScriptLine line) = ⊥
-IsServiceFault image file after old new fault = IsOpenRefusal image fault × IsUntouched file after old new
-
--- A service ended so: the shop of the image was served to the input's end, or it wasn't for this reason.
-abbrev pub IsServiceEnd : {F W : Type 0} → (image : List ℕ) → F → F → W → W → Ended → Type 0
-IsServiceEnd image file after old new (Ok printed) = (printed ≡ None) × (length image ≡ 174848)
-IsServiceEnd image file after old new (Err fault) = IsServiceFault image file after old new fault
-
 module _ {F : Type 0} (position : F → Option ℕ) (bytes contents : F → Option (List ℕ)) {W : Type 0} where
   -- the making of an image over the file ended so; without one it isn't made
   abbrev pub IsFormatted : (W → Option (List ℕ)) → ℕ → Option F → Option F → W → W → JobEnd → Type 0
@@ -115,11 +96,6 @@ module _ {F : Type 0} (position : F → Option ℕ) (bytes contents : F → Opti
       (IsPlayRun (stream position bytes contents) (written told) image script f left old new)
       × HandsSectors position bytes contents image f left)
 
-  -- a shop was served, or not for what is lost
-  abbrev pub IsServed : List ℕ → Loss → Option F → Option F → W → W → JobEnd → Type 0
-  IsServed image loss file after old new end = IsOverFile image file after old new end
-      (λ f left. IsGuarded image loss (IsUntouched f left old new) (IsEndOf (IsServiceEnd image f left old new)) end)
-
   -- what comes of each job: its run over the bytes that it reads, and over the file that it writes
   abbrev pub IsJobRun : (W → Option (List ℕ)) → Job → (image script : List ℕ) → Option F → Option F → W → W → JobEnd
       → Type 0
@@ -139,12 +115,10 @@ module _ {F : Type 0} (position : F → Option ℕ) (bytes contents : F → Opti
       (after ≡ file) × IsRead told readings.Dry script old new end
   IsJobRun told (jobs.Play path text) image script file after old new end =
       IsPlayed told image script file after old new end
-  IsJobRun told (jobs.PlaySynced path text) image script file after old new end =
-      IsPlayed told image script file after old new end
   IsJobRun told (jobs.PlayLogged path text) image script file after old new end =
       IsPlayed told image script file after old new end
-  IsJobRun told (jobs.Serve path way durability loss) image script file after old new end =
-      IsServed image loss file after old new end
+  IsJobRun told (jobs.Serve path loss) image script file after old new end =
+      (after ≡ file) × (new ≡ old) × (end ≡ Err (refusals.Fault faults.File))
   IsJobRun told (jobs.Copy path copy) image script file after old new end = IsCopyJob told image file after old new end
   IsJobRun told (jobs.Repair path loss u effect) image script file after old new end =
       IsChangeJob position bytes contents told effect (IsRepaired image (frees u) (shortened loss)) (IsRepairRefusal image) file after old new end

@@ -1,22 +1,17 @@
 -- The jobs that make a shop's image, and play on it. Our own.
-use Rattle.std.specs.Prelude.{ℕ, List, Result, Ok, Err, codes, if◌then◌else◌}
+use Rattle.std.specs.Prelude.{ℕ, List, codes, if◌then◌else◌}
 use Rattle.std.specs.Borrow.{Bor}
 use Rattle.clap.specs.Words.{Row, Text}
 use Rattle.ledger_jobs.specs.declared.jobs.Job.{Job}
-use Rattle.ledger_cli.specs.declared.faults.JobFault.{JobFault}
 use Rattle.ledger_cli.specs.Flags.{is_given}
 use Rattle.ledger_jobs.specs.declared.jobs.Job.TheVariants as jobs
-use Rattle.ledger_cli.specs.declared.faults.JobFault.TheVariants as faults
 
 -- the job that makes the image of a shop: with --new it is refused if the image is there
 abbrev pub format_job : List Row → Bor Text → ℕ → Job
 format_job rows image tills =
     if is_given (codes "new") rows then jobs.FormatNew image tills else jobs.Format image tills
 
--- the job that plays a script: with --sync each sector is synced before the next is written, and with --log the requests
--- go to a log first. Both together are refused.
-abbrev pub play_job : List Row → Bor Text → Bor Text → Result Job JobFault
+-- the job that plays a script: with --sync the requests go to a log first
+abbrev pub play_job : List Row → Bor Text → Bor Text → Job
 play_job rows image script =
-    if is_given (codes "sync") rows
-    then (if is_given (codes "log") rows then Err faults.Flags else Ok (jobs.PlaySynced image script))
-    else (if is_given (codes "log") rows then Ok (jobs.PlayLogged image script) else Ok (jobs.Play image script))
+    if is_given (codes "sync") rows then jobs.PlayLogged image script else jobs.Play image script

@@ -1,6 +1,6 @@
 //! Jobs that make an image or run its shop, over its file.
 ghost use Rattle.std.specs.Prelude.{◌≤◌, length};
-ghost use Rattle.ledger_cli.specs.Runs.{IsCopyJob, IsFormatted, IsNewMade, IsPlayed, IsServed};
+ghost use Rattle.ledger_cli.specs.Runs.{IsCopyJob, IsFormatted, IsNewMade, IsPlayed};
 ghost use Rattle.ledger_jobs.specs.Names.{name_bytes};
 
 use crate::making::{copy_image, make_disk, make_image};
@@ -8,8 +8,7 @@ use crate::playing::play_written;
 use crate::stream::{begin, file_of};
 use command_faults::CommandFault;
 use disk_layout::Fault;
-use host_session::Printer;
-use ledger_jobs::{Loss, Name, Refusal, job_end, loss_refusal, run_end, serve_run};
+use ledger_jobs::{Name, Refusal, job_end, run_end};
 use std::alloc::Global;
 use std::io::{Seek, Write};
 
@@ -87,32 +86,5 @@ pub(crate) fn play<F: Write + Seek + Drop, W: Write>(
             (file_of(stream), job_end(ended))
         }
         Err((fault, file)) => (file, Err(Refusal::Fault(fault))),
-    }
-}
-
-/// Serves the shop of the image, over its file, to the lines of an input, unless a file of it is cut short and no loss is
-/// accepted.
-pub(crate) fn serve<F: Write + Seek + Drop, W: Write>(
-    alloc: Global,
-    image: &[u8],
-    input: &[u8],
-    loss: Loss,
-    file: Option<F>,
-    out: &mut W,
-) -> (Option<F>, Ended)
-    ensures { IsServed F.stream_position F.stream_bytes F.contents image.now loss file result.0 out.old out.new result.1 }
-{
-    let stream = match begin(alloc, image, file) {
-        Ok(stream) => stream,
-        Err((fault, file)) => return (file, Err(Refusal::Fault(fault))),
-    };
-    match loss_refusal(alloc, image, loss) {
-        Some(refusal) => (file_of(stream), Err(refusal)),
-        None => {
-            let mut lines = input;
-            let mut printer = Printer::new(out);
-            let (stream, ended) = serve_run(alloc, image, stream, &mut lines, &mut printer);
-            (file_of(stream), job_end(ended))
-        }
     }
 }

@@ -2,7 +2,7 @@
 ghost use Rattle.std.specs.Prelude.{◌≡◌};
 ghost use Rattle.clap.specs.Words.{found_of, rows_of};
 ghost use Rattle.ledger_cli.specs.Forms.{record_form as of_set};
-ghost use Rattle.ledger_cli.specs.Forms.{effect_in, loss_in, repair_job, unowned_in, serve_durability as of_serve, way_in};
+ghost use Rattle.ledger_cli.specs.Forms.{effect_in, loss_in, repair_job, unowned_in};
 ghost use Rattle.ledger_cli.specs.Forms.{AreAskedColumns, IsAskedForm, byte_form_in, findings_in, name_form_in, set_in};
 ghost use Rattle.ledger_cli.specs.Forms.{candidates_in, choice_in};
 
@@ -11,32 +11,9 @@ use crate::positions::columns_asked;
 use crate::values::is_given;
 use clap::ArgMatches;
 use disk_reports::NameForm;
-use image_file::Durability;
 use keeper_commands::{ByteForm, Candidates, Choice, RecordForm};
-use ledger_jobs::{Columns, Effect, Findings, Job, Loss, Unowned, Way};
+use ledger_jobs::{Columns, Effect, Findings, Job, Loss, Unowned};
 use line_text::CharacterSet;
-
-/// To which file the requests of a shop that is served are synced first.
-pub(crate) fn way<'a>(matches: &ArgMatches<'a>) -> Way
-    ensures { result ≡ way_in (rows_of (found_of matches.now)) }
-{
-    if is_given(matches, "in-place") {
-        Way::InPlace
-    } else {
-        Way::OverLog
-    }
-}
-
-/// When what is served is synced.
-pub(crate) fn serve_durability<'a>(matches: &ArgMatches<'a>) -> Durability
-    ensures { result ≡ of_serve (rows_of (found_of matches.now)) }
-{
-    if is_given(matches, "unsynced") {
-        Durability::AtEnd
-    } else {
-        Durability::EachSector
-    }
-}
 
 /// What is done if the disk has lost a part of a file.
 pub(crate) fn loss<'a>(matches: &ArgMatches<'a>) -> Loss

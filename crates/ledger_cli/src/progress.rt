@@ -8,8 +8,7 @@ const STEP: u64 = 100;
 /// Whether a job may go on for so long that a person wonders.
 pub(crate) fn is_long(job: &Job<'_>) -> bool {
     match job {
-        Job::Play { .. } | Job::PlaySynced { .. } | Job::PlayLogged { .. } => true,
-        Job::Store { .. } | Job::Dry { .. } => true,
+        Job::Play { .. } | Job::PlayLogged { .. } | Job::Store { .. } | Job::Dry { .. } => true,
         _ => false,
     }
 }

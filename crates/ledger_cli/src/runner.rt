@@ -84,10 +84,7 @@ fn explain_words<E: Write>(fault: &JobFault, err: &mut E) {
             err,
             "ledger: I has two bytes; one that isn't plain text is a backslash and two digits, as \\c1"
         ),
-        JobFault::Flags => writeln!(
-            err,
-            "ledger: give --sync or --log, and --fields or --at, not both"
-        ),
+        JobFault::Flags => writeln!(err, "ledger: give --fields or --at, not both"),
         JobFault::Kind => writeln!(err, "ledger: TYPE is prg, seq or usr"),
         JobFault::Positions => writeln!(
             err,

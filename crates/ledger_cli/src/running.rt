@@ -3,7 +3,7 @@ ghost use Rattle.std.specs.Prelude.{◌≡◌, Option};
 ghost use Rattle.ledger_cli.specs.Runs.{IsChecked, IsJobRun, IsRead, IsRun};
 ghost use Rattle.ledger_jobs.specs.Jobs.{IsFit};
 
-use crate::changing::{Ended, begin_disk, copy, format, play, serve};
+use crate::changing::{Ended, begin_disk, copy, format, play};
 use crate::editing::{delete, make, put, rebuild, rename, repair, store};
 use command_faults::CommandFault;
 use disk_pictures::view_image;
@@ -51,10 +51,7 @@ fn obey<F: Write + Seek + Drop, W: Write>(
         Job::Check { findings, .. } => (file, checked(alloc, findings, image, out)),
         Job::Show { .. } => (file, read(alloc, Reading::Show, image, out)),
         Job::Dry { .. } => (file, read(alloc, Reading::Dry, script, out)),
-        Job::Play { .. } | Job::PlaySynced { .. } | Job::PlayLogged { .. } => {
-            play(alloc, image, script, file, out)
-        }
-        Job::Serve { loss, .. } => serve(alloc, image, script, loss, file, out),
+        Job::Play { .. } | Job::PlayLogged { .. } => play(alloc, image, script, file, out),
         Job::Copy { .. } => copy(image, file, out),
         Job::Repair {
             loss,
@@ -90,7 +87,8 @@ fn obey<F: Write + Seek + Drop, W: Write>(
         Job::View { what, .. } => (file, run_end(view_image(alloc, what, image, out))),
         Job::Compare { .. } => (file, job_end(comparing_run(alloc, image, script, out))),
         // it needs the bytes of each image, or standard error too, or a folder
-        Job::Several { .. }
+        Job::Serve { .. }
+        | Job::Several { .. }
         | Job::Sheet { .. }
         | Job::Describe { .. }
         | Job::Trim { .. }
@@ -102,19 +100,19 @@ fn obey<F: Write + Seek + Drop, W: Write>(
 /// returns the exit status and the file.
 ///
 /// Bytes that the job doesn't read are empty. `image` has the bytes of IMAGE. `script` has those of SCRIPT, RECORDS
-/// or FILE, or of `serve`'s standard input. For `Compare` they have the first image and the second one. Lines with a column for
+/// or FILE. For `Compare` they have the first image and the second one. Lines with a column for
 /// each field, or at positions, are made plain before the call (`plain_lines` of `keeper_commands`).
 ///
 /// `file` is IMAGE for writing, at its start, for a job that writes it, and the copy for `Copy`. If it is missing, such
 /// a job ends with 3 and `FILE`, and nothing is printed. A job that only reads leaves it as it was. There are no logs:
-/// `Serve` and `PlayLogged` write the image itself.
+/// `PlayLogged` writes the image itself.
 ///
-/// Three kinds of job end with 3 and `FILE`:
+/// Four kinds of job end with 3 and `FILE`:
 /// - a job over several images, since only one has its bytes here: call `overview_run` for each;
-/// - `Extract`, since there is no folder: call `extract_run` over one;
+/// - `Extract` and `Serve`, since there is no folder: call `extract_run` and `serve_logged` over one and over a log;
 /// - `Trim`, which reports on standard error: call `trim_run`.
 ///
-/// `Play` and `Serve` hand the file each sector at 256 times its index, before memory takes it, and nothing else. All other
+/// `Play` hands the file each sector at 256 times its index, before memory takes it, and nothing else. All other
 /// jobs hand it the whole image, the directory's first sector spoiled first and written last. It isn't cut: what a longer
 /// file held after an image stays there. The caller decides whether it was there before, and when its sectors are synced. If
 /// it fails, the status is 3, and nothing is known of what it was handed in that call.

@@ -3,7 +3,6 @@ ghost use Rattle.std.specs.Prelude.{◌≡◌};
 ghost use Rattle.clap.specs.Words.{found_of, rows_of};
 ghost use Rattle.ledger_cli.specs.Shops.{format_job, play_job};
 
-use crate::faults::JobFault;
 use crate::values::is_given;
 use clap::ArgMatches;
 use ledger_jobs::Job;
@@ -19,19 +18,13 @@ pub(crate) fn formatting<'a>(matches: &ArgMatches<'a>, image: &'a str, tills: u8
     }
 }
 
-/// The job that plays a script on an image: over a log, or each sector synced, or neither.
-pub(crate) fn playing<'a>(
-    matches: &ArgMatches<'a>,
-    image: &'a str,
-    script: &'a str,
-) -> Result<Job<'a>, JobFault>
+/// The job that plays a script on an image: over a log, or sector by sector and synced at the end.
+pub(crate) fn playing<'a>(matches: &ArgMatches<'a>, image: &'a str, script: &'a str) -> Job<'a>
     ensures { result ≡ play_job (rows_of (found_of matches.now)) image.entry script.entry }
 {
-    let synced = is_given(matches, "sync");
-    match (synced, is_given(matches, "log")) {
-        (true, true) => Err(JobFault::Flags),
-        (true, false) => Ok(Job::PlaySynced { image, script }),
-        (false, true) => Ok(Job::PlayLogged { image, script }),
-        (false, false) => Ok(Job::Play { image, script }),
+    if is_given(matches, "sync") {
+        Job::PlayLogged { image, script }
+    } else {
+        Job::Play { image, script }
     }
 }

@@ -6,9 +6,7 @@ ghost use Rattle.ledger_jobs.specs.Jobs.{IsFit};
 ghost use Rattle.ledger_cli.specs.Jobs.{IsHeard, IsJob, IsNoJob, IsParse, is_explained as explained};
 
 use crate::faults::JobFault;
-use crate::forms::{
-    byte_form, candidates, choice, loss, name_form, repairing, serve_durability, way,
-};
+use crate::forms::{byte_form, candidates, choice, loss, name_form, repairing};
 use crate::images::{checking, picturing, viewing};
 use crate::names::{
     deleting, empty_disk, making, putting, renaming, storing, taking, taking_records,
@@ -42,11 +40,9 @@ fn job_of<'a>(alloc: Global, matches: &ArgMatches<'a>) -> Result<Job<'a>, JobFau
         "list" => viewing(alloc, found, Overview::List(name_form(found))),
         "check" => checking(alloc, found),
         "show" => Ok(Job::Show { image }),
-        "play" => playing(found, image, script),
+        "play" => Ok(playing(found, image, script)),
         "serve" => Ok(Job::Serve {
             image,
-            way: way(found),
-            durability: serve_durability(found),
             loss: loss(found),
         }),
         "copy" => Ok(Job::Copy {

@@ -5,21 +5,18 @@ use Rattle.std.specs.Prelude.{IfErr}
 use Rattle.d64_image.specs.Images.{Image}
 use Rattle.d64_image.specs.Keeps.{Keeps, none_kept}
 use Rattle.host_session.specs.events.Telling.{Output}
-use Rattle.line_server.specs.Answering.{Answering}
-use Rattle.line_server.specs.Giving.{Input}
 use Rattle.image_file.specs.Durable.{AllStays}
 use Rattle.image_file.specs.Lasting.{Lasting, Whole, seen}
 use Rattle.image_file.specs.LastingImages.{are_image, image_of}
 use Rattle.image_file.specs.ImageFile.{IsTakenUp, placed, placed_file}
 use Rattle.shop_commands.specs.Plays.{IsFileFault, IsUntouched}
-use Rattle.image_file.specs.declared.durability.Durability.{Durability}
+use Rattle.image_file.specs.declared.durability.Durability.TheVariants.{AtEnd}
 use Rattle.image_file.specs.declared.durability.WritesAt.{Ghosts}
 use Rattle.command_faults.specs.declared.faults.CommandFault.{CommandFault}
 use Rattle.command_faults.specs.declared.faults.CommandFault.TheVariants as faults
 use Rattle.image_file.specs.declared.sectors.ImageFile.{ImageFile}
 use Rattle.ledger_jobs.specs.DurableRuns.{IsDurableRun, IsFinished}
 use Rattle.ledger_jobs.specs.Ends.{Ended}
-use Rattle.ledger_jobs.specs.FileServes.{IsServeFault, IsUnserved}
 
 -- what stays at the end is what was looked at
 image_left : {F : Type 0} (held : F → Option (List ℕ)) (L : Lasting F) (W : Whole held) (synced sized : Bool) (f g : F)
@@ -31,11 +28,11 @@ image_left held L W false true f g untouched same stays c e =
     ap image_of (stays ∙ same ∙ W.is_held f x.all x.are ∙ sym x.are) ∙ e
 image_left held L W false false f g untouched same stays c e = none_kept e
 
-module _ {F : Type 0} {G : Ghosts F} (durability : Durability) (image : List ℕ) (file after : F)
+module _ {F : Type 0} {G : Ghosts F} (image : List ℕ) (file after : F)
     (first left last : ImageFile F G) (end ended : Ended) (IsRun : ImageFile F G → ImageFile F G → Ended → Type 0) where
   -- whatever the run was, its file was taken up, brought to the disk and handed back
-  pub durable_run : IsTakenUp durability image file first → after ≡ placed_file last → IsRun first left end
-      → IsFinished end left last ended → IsDurableRun durability image file after ended IsRun
+  pub durable_run : IsTakenUp AtEnd image file first → after ≡ placed_file last → IsRun first left end
+      → IsFinished end left last ended → IsDurableRun image file after ended IsRun
   durable_run taken is_last run finished = record {
     first = first;
     left = left;
@@ -46,10 +43,8 @@ module _ {F : Type 0} {G : Ghosts F} (durability : Durability) (image : List ℕ
     finished = finished;
     is_after = sym is_last;
     counted = λ some. subst (λ f. G.has_failed f ≡ true) (sym is_last) (finished.failed (left.blamed some));
-    lasts = λ each size now r. ap (λ b. image_of ((seen G.lasting G.whole.lasting b now.sized).bytes now.file))
-        (r.synced ∙ taken.synced each size);
-    holds = λ end size now r.
-        let is = taken.unsynced end size in
+    holds = λ size now r.
+        let is = taken.unsynced refl size in
         ap (λ b. image_of ((seen G.lasting G.whole.lasting b now.sized).bytes now.file)) (r.synced ∙ is.0)
         ∙ ap (λ b. image_of ((seen G.lasting G.whole.lasting false b).bytes now.file)) (r.sized ∙ is.1);
     remains = subst
@@ -88,35 +83,6 @@ module _ {F T : Type 0} (K : Keeps F) (o : Output T) (image script : List ℕ) (
   undone (Ok x) is = tt
   undone (Err fault) is = nothing_done fault is
 
--- nor one of a service
-module _ {F R T : Type 0} (K : Keeps F) (i : Input R) (a : Answering T) (image : List ℕ) (file after : F)
-    (old_in new_in : R) (old new : T) where
-  nothing_served : (fault : CommandFault) → IsServeFault K i a image file after old_in new_in old new fault
-      → fault ≢ faults.File → fault ≢ faults.Device → IsUnserved file after old_in new_in old new
-  nothing_served faults.ImageSize is _ _ = is.1
-  nothing_served (faults.Layout f) is _ _ = is.1
-  nothing_served faults.NoStock is _ _ = is.1
-  nothing_served faults.NoRequests is _ _ = is.1
-  nothing_served (faults.BadCard item) is _ _ = is.1
-  nothing_served (faults.BadRequestCard till) is _ _ = is.1
-  nothing_served faults.TwoIntents is _ _ = is.1
-  nothing_served (faults.ScriptLine line) is _ _ = absurd is
-  nothing_served faults.File is other _ = absurd (other refl)
-  nothing_served faults.NoMemory is _ _ = is.1
-  nothing_served faults.Device is _ other = absurd (other refl)
-  nothing_served faults.NoFile is _ _ = is.1
-  nothing_served faults.FileExists is _ _ = is.1
-  nothing_served faults.DiskFull is _ _ = is.1
-  nothing_served faults.Locked is _ _ = is.1
-  nothing_served (faults.RecordsLine line) is _ _ = is.1
-  nothing_served faults.Geos is _ _ = is.1
-  nothing_served faults.Format is _ _ = is.1
-
-  pub unserved : (end : Ended) → IfErr end (IsServeFault K i a image file after old_in new_in old new)
-      → IfErr end (λ fault. fault ≢ faults.File → fault ≢ faults.Device → IsUnserved file after old_in new_in old new)
-  unserved (Ok x) is = tt
-  unserved (Err fault) is = nothing_served fault is
-
 -- what a run that did nothing left is what was handed in
 module _ {F : Type 0} {G : Ghosts F} (file after : F) (first left last : ImageFile F G) (end ended : Ended)
     (is_file : placed_file first ≡ file) (is_last : after ≡ placed_file last)
@@ -146,12 +112,3 @@ module _ {F : Type 0} {G : Ghosts F} (file after : F) (first left last : ImageFi
       → IfErr ended (λ fault. fault ≢ faults.File → fault ≢ faults.Device → IsUntouched file after old new)
   played_alone old new = left_so (IsUntouched first left old new) (IsUntouched file after old new)
       (λ left_alone x. (handed_back x.0 left_alone, x.1))
-
-  pub served_alone : {R T : Type 0} (old_in new_in : R) (old new : T)
-      → IfErr end (λ fault. fault ≢ faults.File → fault ≢ faults.Device
-      → IsUnserved first left old_in new_in old new)
-      → IfErr ended (λ fault. fault ≢ faults.File → fault ≢ faults.Device
-      → IsUnserved file after old_in new_in old new)
-  served_alone old_in new_in old new = left_so (IsUnserved first left old_in new_in old new)
-      (IsUnserved file after old_in new_in old new)
-      (λ left_alone x. ((handed_back x.0.0 left_alone, x.0.1), x.1))

@@ -15,8 +15,7 @@ use Rattle.shop_commands.specs.Faults.{opening_fault}
 use Rattle.command_faults.specs.Faults.{IsLoadFault}
 use Rattle.command_faults.specs.declared.faults.CommandFault.{CommandFault}
 use Rattle.shop_log.specs.ImageLogs.{LogHistory}
-use Rattle.ledger_jobs.specs.FileServes.{loop_fault}
-use Rattle.ledger_jobs.specs.LoggedRuns.{IsLoggedFault, IsLoggedTo, IsUnlogged}
+use Rattle.ledger_jobs.specs.LoggedRuns.{IsLoggedFault, IsLoggedTo, IsUnlogged, loop_fault}
 use Rattle.command_faults.proofs.Loads.{by-load}
 
 module _ {L R T : Type 0} (h : LogHistory L) (i : BatchInput R) (o : LogOutput L T) (image : List ℕ) (log after : L)

@@ -1,5 +1,6 @@
 -- What was printed of a service or a play over a log, by how its run ended and its log was landed.
-use Rattle.std.proofs.Common.{◌≡◌, ◌∙◌, ℕ, Bool, true, false, List, Option, Result, Ok, Err, ap, inl, inr, refl, subst, sym, ⊎_elim}
+use Rattle.std.proofs.Common.{◌≡◌, ◌∙◌, ℕ, Bool, true, false, List, None, Option, Result, Ok, Err, ap, inl, inr, refl, subst, sym, ⊎_elim}
+use Rattle.std.specs.Prelude.{IfOk}
 use Rattle.command_faults.specs.declared.faults.CommandFault.{CommandFault}
 use Rattle.command_faults.specs.declared.faults.CommandFault.TheVariants as faults
 use Rattle.shop_log.specs.life.Folders.{FolderHistory}
@@ -8,13 +9,18 @@ use Rattle.line_server.specs.Batches.{BatchInput}
 use Rattle.line_server.specs.logged.Reporting.{LogOutput}
 use Rattle.shop_log.specs.ImageLogs.{LogHistory}
 use Rattle.shop_log.specs.declared.log_file.LogFile.{Ghosts}
-use Rattle.ledger_jobs.specs.Changes.{IsLoggedEnd, IsServiceEnd}
+use Rattle.ledger_jobs.specs.Changes.{IsLoggedEnd, IsQuietEnd}
 use Rattle.ledger_jobs.specs.Ends.{JobEnd, as_run}
 use Rattle.ledger_jobs.specs.LandedRuns.{IsDoneAndLanded, watched_end}
 use Rattle.ledger_jobs.specs.LoggedRuns.{IsLoggedRun, IsUnlogged}
 use Rattle.ledger_jobs.specs.Losses.{IsEndOfRun, IsGuarded}
 use Rattle.ledger_jobs.specs.declared.jobs.Loss.{Loss}
 use Rattle.ledger_jobs.specs.declared.watched_files.WhileThere.{WhileThere}
+
+-- before its log is landed, a service that is done printed no fault; one that isn't printed nothing, unless the input, the
+-- output or the log failed
+abbrev pub IsServiceEnd : {W : Type 0} → W → W → JobEnd → Type 0
+IsServiceEnd old new end = IfOk end (λ found. found ≡ None) × IsQuietEnd old new end
 
 -- a run over a log that isn't done printed nothing, unless the input, the output or the log failed
 module _ {L R T : Type 0} (h : LogHistory L) (i : BatchInput R) (o : LogOutput L T) (image : List ℕ) (log after : L)
@@ -76,7 +82,3 @@ module _ {T W : Type 0} (before behind : T) (old new : W) (back : behind ≡ bef
   pub lent-logged : (end : JobEnd) → IsLoggedEnd before behind end → IsLoggedEnd old new end
   lent-logged (Ok found) is = is
   lent-logged (Err refusal) is = (tt, λ memory file device. back (is.1 memory file device))
-
-  pub lent-service : (end : JobEnd) → IsServiceEnd before behind end → IsServiceEnd old new end
-  lent-service (Ok found) is = is
-  lent-service (Err refusal) is = (tt, λ file device. back (is.1 file device))

@@ -15,7 +15,6 @@ use Rattle.line_text.specs.scripts.Lines.{first_reset, lines}
 use Rattle.image_file.specs.ImageFile.{placed}
 use Rattle.image_file.specs.paths.Standing.{Stands}
 use Rattle.shop_commands.specs.Plays.{IsUntouched}
-use Rattle.image_file.specs.declared.durability.Durability.{Durability}
 use Rattle.image_file.specs.declared.durability.WritesAt.{Ghosts}
 use Rattle.image_file.specs.declared.sectors.ImageFile.{ImageFile}
 use Rattle.ledger_jobs.proofs.ServiceTold.{given-back, lent-lines, some-lines}
@@ -25,7 +24,7 @@ use Rattle.ledger_jobs.specs.DurableRuns.{IsDurableRun}
 use Rattle.ledger_jobs.specs.Ends.{Ended, JobEnd, as_job}
 use Rattle.ledger_jobs.specs.HostFiles.{IsShopAt, OfWritten}
 use Rattle.ledger_jobs.specs.LoggedPlays.{IsLoggedPlayEnd}
-use Rattle.ledger_jobs.specs.Replies.{AreAnswered, AreAnsweredBy, AreReplyLines, IsFileService, IsLoggedService, IsPlainPlayed}
+use Rattle.ledger_jobs.specs.Replies.{AreAnswered, AreAnsweredBy, AreReplyLines, IsLoggedService, IsPlainPlayed}
 use Rattle.ledger_jobs.specs.Replies.{IsShopOf, lines_to}
 use Rattle.ledger_jobs.specs.Runs.{IsPlayRun}
 use Rattle.ledger_jobs.specs.declared.refusals.Refusal.TheVariants as refusals
@@ -67,25 +66,25 @@ module _ {F W : Type 0} (contents : W → Option (List ℕ)) (file after : F) (b
     run-plain none start left (Err fault) run ok = cc
 
     -- one that is done, of a script without resets, printed the replies of the image's shop to all lines
-    plain-ended : (durability : Durability) (ended : Ended) (end : JobEnd) → end ≡ as_job ended
-        → IsDurableRun {G = G} durability image file after ended Run → IsPlainPlayed contents (IsShopOf image) script old new end
-    plain-ended durability ended (Err refusal) told x none = tt
-    plain-ended durability ended (Ok found) told x none =
+    plain-ended : (ended : Ended) (end : JobEnd) → end ≡ as_job ended
+        → IsDurableRun {G = G} image file after ended Run → IsPlainPlayed contents (IsShopOf image) script old new end
+    plain-ended ended (Err refusal) told x none = tt
+    plain-ended ended (Ok found) told x none =
         run-plain none x.first x.left x.end x.run
         (⊎_elim (λ same. subst (λ (e : Ended). IsOk e) same (ended-ok ended (subst (λ (e : JobEnd). IsOk e) told refl)))
         (λ device. absurd (false≢true (subst (λ (e : Ended). IsOk e) device
         (ended-ok ended (subst (λ (e : JobEnd). IsOk e) told refl))))) x.finished.told)
 
-    pub play-plain : (durability : Durability) (ended : Ended) (end : JobEnd) (all : List ℕ) → script ≡ all
-        → end ≡ as_job ended → IsDurableRun {G = G} durability image file after ended Run
+    pub play-plain : (ended : Ended) (end : JobEnd) (all : List ℕ) → script ≡ all
+        → end ≡ as_job ended → IsDurableRun {G = G} image file after ended Run
         → IsPlainPlayed contents (IsShopOf image) all old new end
-    play-plain durability ended end all is told x =
-        subst (λ (bytes : List ℕ). IsPlainPlayed contents (IsShopOf image) bytes old new end) is (plain-ended durability ended end told x)
+    play-plain ended end all is told x =
+        subst (λ (bytes : List ℕ). IsPlainPlayed contents (IsShopOf image) bytes old new end) is (plain-ended ended end told x)
 
     -- however it ended, lines of replies were printed
-    pub play-lines : (durability : Durability) (ended : Ended) → IsDurableRun {G = G} durability image file after ended Run
+    pub play-lines : (ended : Ended) → IsDurableRun {G = G} image file after ended Run
         → AreReplyLines contents old new
-    play-lines durability ended x =
+    play-lines ended x =
         some-lines contents before behind old new begun back
         (run-some placed (lines_to contents) image script x.first x.left before behind x.end x.run)
 
@@ -103,10 +102,6 @@ module _ {W : Type 0} (contents : W → Option (List ℕ)) (Is At : Shop → Typ
       → IsPlainPlayed contents At script old new end
   played-at script (Err refusal) x none = tt
   played-at script (Ok found) x none = let y = x none in (y.0, weaker y.0 y.1, y.2)
-
-  pub served-at : (end : JobEnd) → IsFileService contents Is old new end → IsFileService contents At old new end
-  served-at (Err refusal) x = (x.0, x.1, tt)
-  served-at (Ok found) x = let y = x.2 in (x.0, x.1, (y.0, y.1, weaker y.0 y.2, y.3))
 
   -- the same over a log
   pub answered-at : (ls : List (List ℕ)) (end : JobEnd) → OnOk end (AreAnswered contents Is ls old new)

@@ -6,7 +6,7 @@ use Rattle.command_faults.specs.declared.faults.CommandFault.TheVariants as faul
 use Rattle.disk_changes.specs.declared.changes.Changed.{Changed}
 use Rattle.disk_changes.specs.declared.changes.Why.{Why}
 use Rattle.disk_changes.specs.declared.changes.Why.TheVariants as whys
-use Rattle.folder_changes.specs.FolderChanges.{IsToldAs}
+use Rattle.folder_changes.specs.FolderChanges.{IsShownAs, IsToldAs}
 use Rattle.folder_changes.specs.declared.stops.Stop.{Stop}
 use Rattle.folder_changes.specs.declared.stops.Stop.TheVariants as stops
 use Rattle.line_text.specs.Handed.{AppendsPart}
@@ -32,6 +32,10 @@ as_change (Err stop) = Err (stop_refusal stop)
 abbrev pub IsChangeEnd : {W : Type 0} → (W → Option (List ℕ)) → (Changed → Type 0) → (Why → Type 0) → W → W → JobEnd → Type 0
 IsChangeEnd contents Is Refuses old new end = EndsAs as_change end (IsToldAs contents Is Refuses old new)
 
+-- the same of a job that only prints what a change would print
+abbrev pub IsShownEnd : {W : Type 0} → (W → Option (List ℕ)) → (Changed → Type 0) → (Why → Type 0) → W → W → JobEnd → Type 0
+IsShownEnd contents Is Refuses old new end = EndsAs as_change end (IsShownAs contents Is Refuses old new)
+
 -- what a run over a file that is made printed, whose text this is
 abbrev pub IsMakingTold : {W : Type 0} → (W → Option (List ℕ)) → (text : List ℕ) → W → W → Result Unit CommandFault → Type 0
 IsMakingTold contents text old new (Ok _) = Appends (contents old) (contents new) text
@@ -49,11 +53,8 @@ abbrev pub IsQuietEnd : {W : Type 0} → W → W → JobEnd → Type 0
 IsQuietEnd old new end = IfErr end (λ refusal. refusal ≢ refusals.Fault faults.File → refusal ≢ refusals.Fault faults.Device
     → new ≡ old)
 
--- A service that is done printed no fault. One that isn't printed nothing, unless the input, the output or the file failed.
-abbrev pub IsServiceEnd : {W : Type 0} → W → W → JobEnd → Type 0
-IsServiceEnd old new end = IfOk end (λ found. found ≡ None) × IsQuietEnd old new end
-
--- The same over a log. If there was no memory, the log may not have been landed once all was printed.
+-- A service over a log that is done printed no fault. One that isn't printed nothing, unless the input, the output or the log
+-- failed. If there was no memory, the log may not have been landed once all was printed.
 abbrev pub IsLoggedEnd : {W : Type 0} → W → W → JobEnd → Type 0
 IsLoggedEnd old new end = IfOk end (λ found. found ≡ None)
     × IfErr end (λ refusal. refusal ≢ refusals.Fault faults.NoMemory → refusal ≢ refusals.Fault faults.File

@@ -1,11 +1,10 @@
--- A run over a file of which it is known what stays if the machine loses power. All of it is our own.
+-- A run over a file, which is synced at the end. All of it is our own.
 use Rattle.std.specs.Prelude.{◌≡◌, ◌≢◌, ◌⊎◌, ◌≤◌, List, ℕ, Err, IfErr, OnOk, Some, length, true}
 use Rattle.d64_image.specs.Images.{Image}
 use Rattle.image_file.specs.Durable.{AllStays}
 use Rattle.image_file.specs.LastingImages.{image_of}
 use Rattle.image_file.specs.ImageFile.{IsTakenUp, KeepsOn, is_synced, placed, placed_file}
-use Rattle.image_file.specs.declared.durability.Durability.{Durability}
-use Rattle.image_file.specs.declared.durability.Durability.TheVariants as durabilities
+use Rattle.image_file.specs.declared.durability.Durability.TheVariants.{AtEnd}
 use Rattle.image_file.specs.declared.durability.WritesAt.{Ghosts}
 use Rattle.command_faults.specs.declared.faults.CommandFault.TheVariants as faults
 use Rattle.image_file.specs.declared.sectors.ImageFile.{ImageFile}
@@ -33,13 +32,13 @@ pub record IsFinished {F : Type 0} {G : Ghosts F} (end : Ended) (left last : Ima
   pub stands : IfErr ended (λ fault. fault ≡ faults.File → AllStays G.held G.lasting (placed_file last))
 
 -- A run over the image of a file that was passed in, and which was left as `after`, ended so.
-pub record IsDurableRun {F : Type 0} {G : Ghosts F} (durability : Durability) (image : List ℕ) (file after : F)
+pub record IsDurableRun {F : Type 0} {G : Ghosts F} (image : List ℕ) (file after : F)
     (ended : Ended) (IsRun : ImageFile F G → ImageFile F G → Ended → Type 0) : Type 0 where
   -- the file with its sectors at their places, as the run took it up, as it left it, and at the end
   pub first : ImageFile F G
   pub left : ImageFile F G
   pub last : ImageFile F G
-  pub taken : IsTakenUp durability image file first
+  pub taken : IsTakenUp AtEnd image file first
   -- how the run itself ended
   pub end : Ended
   pub run : IsRun first left end
@@ -47,13 +46,9 @@ pub record IsDurableRun {F : Type 0} {G : Ghosts F} (durability : Durability) (i
   pub is_after : placed_file last ≡ after
   -- if the file failed in the run, it says so
   pub counted : 1 ≤ placed.failures left → G.has_failed after ≡ true
-  -- If each sector is synced, what such a file keeps at any time of the run is the image that stays if the machine loses
-  -- power.
-  pub lasts : durability ≡ durabilities.EachSector → length image ≡ 174848 → (now : ImageFile F G)
-      → placed.reached first now → placed.kept now ≡ image_of (G.lasting.bytes (placed_file now))
-  -- If they are synced at the end, it is the image of the bytes that the file holds, if that is known whole.
-  pub holds : durability ≡ durabilities.AtEnd → length image ≡ 174848 → (now : ImageFile F G)
-      → placed.reached first now → placed.kept now ≡ image_of (G.whole.lasting.bytes (placed_file now))
+  -- What such a file keeps at any time of the run is the image of the bytes that the file holds, if that is known whole.
+  pub holds : length image ≡ 174848 → (now : ImageFile F G) → placed.reached first now
+      → placed.kept now ≡ image_of (G.whole.lasting.bytes (placed_file now))
   -- What stays at the end is the image that the run left, if that is known.
   pub remains : AllStays G.held G.lasting after → (c : Image) → placed.kept left ≡ Some c
       → image_of (G.lasting.bytes after) ≡ Some c

@@ -15,7 +15,7 @@ use Rattle.disk_changes.specs.declared.changes.Why.{Why}
 use Rattle.keeper_commands.specs.declared.rescue.choices.Choice.{Choice}
 use Rattle.image_file.specs.paths.Rights.{Rights}
 use Rattle.image_file.specs.paths.Standing.{Stands}
-use Rattle.ledger_jobs.specs.Changes.{IsChangeEnd, IsLoggedEnd, IsMakingEnd, IsQuietEnd}
+use Rattle.ledger_jobs.specs.Changes.{IsChangeEnd, IsLoggedEnd, IsMakingEnd, IsQuietEnd, IsShownEnd}
 use Rattle.ledger_jobs.specs.Columns.{text_in}
 use Rattle.ledger_jobs.specs.Comparisons.{IsComparingRun}
 use Rattle.ledger_jobs.specs.Copies.{IsCopyEnd}
@@ -31,7 +31,7 @@ use Rattle.ledger_jobs.specs.LoggedPlays.{IsLoggedPlayEnd}
 use Rattle.ledger_jobs.specs.Losses.{IsTakingEnd}
 use Rattle.ledger_jobs.specs.Names.{name_bytes}
 use Rattle.ledger_jobs.specs.Overviews.{IsOverviewOf}
-use Rattle.ledger_jobs.specs.Replies.{AreReplyLines, IsFileService, IsLoggedService, IsPlainPlayed}
+use Rattle.ledger_jobs.specs.Replies.{AreReplyLines, IsLoggedService, IsPlainPlayed}
 use Rattle.ledger_jobs.specs.Runs.{IsReadingEnd}
 use Rattle.ledger_jobs.specs.SheetPages.{IsSheetPrinted}
 use Rattle.disk_pictures.specs.Views.{IsViewRun}
@@ -45,7 +45,6 @@ use Rattle.ledger_jobs.specs.declared.jobs.Overview.{Overview}
 use Rattle.ledger_jobs.specs.declared.jobs.Reading.{Reading}
 use Rattle.ledger_jobs.specs.declared.jobs.Reading.TheVariants as readings
 use Rattle.ledger_jobs.specs.declared.jobs.Taking.{Taking}
-use Rattle.ledger_jobs.specs.declared.jobs.Way.TheVariants.{InPlace, OverLog}
 use Rattle.ledger_jobs.specs.declared.refusals.Refusal.TheVariants as refusals
 use Rattle.disk_pictures.specs.declared.views.View.{View}
 
@@ -110,7 +109,7 @@ module _ {H W : Type 0} (rights : Rights H) (stands : H → List ℕ → Stands)
       × IsChangeEnd contents (Is image) (Refuses image) old new end)
   IsChangeOver Printed path Is Refuses old new end = RunEnds old new end ((image : List ℕ)
       × OfImage rights stands host path (λ all. image ≡ take 174849 all)
-      × IsChangeEnd contents (Is image) (Refuses image) old new end)
+      × IsShownEnd contents (Is image) (Refuses image) old new end)
 
   -- a script was played on the shop of an image, over its file
   abbrev pub IsPlayedOverFile : (image script : List ℕ) → W → W → JobEnd → Type 0
@@ -175,16 +174,12 @@ module _ {H W : Type 0} (rights : Rights H) (stands : H → List ℕ → Stands)
       (λ bytes text. IsStored bytes (name_bytes name) (text_in columns text) (shortened loss))
       (λ bytes text. IsStoreRefusal bytes (name_bytes name) (text_in columns text) (shortened loss)) old new end
   IsJobOver (jobs.Play image script) old new end = IsPlayedOverFile image.now script.now old new end
-  IsJobOver (jobs.PlaySynced image script) old new end = IsPlayedOverFile image.now script.now old new end
   IsJobOver (jobs.RepairSides image loss unowned effect) old new end = IsChangeOver effect image.now
       (λ bytes. IsRebuilt bytes (frees unowned) (shortened loss)) IsRebuildRefusal old new end
   IsJobOver (jobs.Sheet images) old new end = AreDrawnOnSheet (paths_of images) old new end
   IsJobOver (jobs.Describe images) old new end = AreDescribed (paths_of images) old new end
   IsJobOver (jobs.Several what images) old new end = AreOverviewed what (paths_of images) old new end
   IsJobOver (jobs.PlayLogged image script) old new end = IsPlayedOverLog image.now script.now old new end
-  IsJobOver (jobs.Serve image OverLog durability loss) old new end =
-      IsLoggedService contents (IsShopAt stands host image.now) old new end
-  IsJobOver (jobs.Serve image InPlace durability loss) old new end =
-      IsFileService contents (IsShopAt stands host image.now) old new end
+  IsJobOver (jobs.Serve image loss) old new end = IsLoggedService contents (IsShopAt stands host image.now) old new end
   -- `do_trim` does that job
   IsJobOver (jobs.Trim image) old new end = (new ≡ old) × (end ≡ Err (refusals.Fault faults.File))

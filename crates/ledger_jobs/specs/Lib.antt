@@ -8,7 +8,6 @@ pub mod DurableRuns
 pub mod EachImage
 pub mod Ends
 pub mod Extracts
-pub mod FileServes
 pub mod HostFiles
 pub mod JobRuns
 pub mod Jobs
@@ -23,7 +22,6 @@ pub mod Overviews
 pub mod Replies
 pub mod Rights
 pub mod Runs
-pub mod Serves
 pub mod SheetPages
 pub mod Takings
 pub mod Trims

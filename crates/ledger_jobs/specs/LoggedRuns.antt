@@ -7,10 +7,18 @@ use Rattle.host_session.specs.declared.runs.event_loop.LoopFault.TheVariants as 
 use Rattle.line_server.specs.Batches.{BatchInput}
 use Rattle.line_server.specs.logged.Reporting.{LogOutput}
 use Rattle.line_server.specs.logged.Serves.{IsServedOver}
+use Rattle.shop_commands.specs.Faults.{opening_fault}
 use Rattle.shop_commands.specs.Shops.{IsOpenRefusal}
 use Rattle.command_faults.specs.declared.faults.CommandFault.{CommandFault}
 use Rattle.command_faults.specs.declared.faults.CommandFault.TheVariants as faults
 use Rattle.shop_log.specs.ImageLogs.{LogHistory}
+
+-- what is reported of a shop whose service this fault ended
+abbrev pub loop_fault : LoopFault → CommandFault
+loop_fault (loop.Open fault) = opening_fault fault
+loop_fault loop.Input = faults.File
+loop_fault loop.Output = faults.File
+loop_fault loop.Device = faults.Device
 
 -- The disk of the image was served over the log to this end, batch by batch. Each batch was durable before its replies
 -- were reported.

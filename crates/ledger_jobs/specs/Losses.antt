@@ -4,7 +4,7 @@ use Rattle.d64_image.specs.declared.place.Place.{Place}
 use Rattle.command_faults.specs.declared.faults.CommandFault.{CommandFault}
 use Rattle.damaged_files.specs.cut.Told.{IsCutShort, IsToldOfImage}
 use Rattle.command_faults.specs.declared.faults.CommandFault.TheVariants as faults
-use Rattle.ledger_jobs.specs.Ends.{Ended, JobEnd, as_job, as_run}
+use Rattle.ledger_jobs.specs.Ends.{JobEnd, as_run}
 use Rattle.ledger_jobs.specs.Takings.{IsTaken, IsTakingFault}
 use Rattle.ledger_jobs.specs.declared.jobs.Loss.{Loss}
 use Rattle.ledger_jobs.specs.declared.jobs.Loss.TheVariants as losses
@@ -38,10 +38,6 @@ abbrev pub IsGuarded : (image : List ℕ) → Loss → (Untouched : Type 0) → 
 IsGuarded image loss Untouched IsRun end =
     ((refusal : Refusal) × (end ≡ Err refusal) × (loss ≡ losses.Refused) × IsLossFault image refusal × Untouched)
     ⊎ (MayBeLost image loss × IsRun end)
-
--- a run that ended so is reported as this end
-abbrev pub IsEndOf : (Ended → Type 0) → JobEnd → Type 0
-IsEndOf IsRun end = (ended : Ended) × (end ≡ as_job ended) × IsRun ended
 
 -- a run that prints no fault and ended so is reported as this end
 abbrev pub IsEndOfRun : (Result Unit CommandFault → Type 0) → JobEnd → Type 0

@@ -12,7 +12,7 @@ use Rattle.host_session.specs.shop.Shop.{IsShop, Shop, start_of}
 use Rattle.request_cards.specs.Ledgers.{replies, report}
 use Rattle.request_cards.specs.declared.reply.Reply.{Reply}
 use Rattle.line_text.specs.scripts.Lines.{lines}
-use Rattle.ledger_jobs.specs.Changes.{IsLoggedEnd, IsServiceEnd}
+use Rattle.ledger_jobs.specs.Changes.{IsLoggedEnd}
 use Rattle.ledger_jobs.specs.Ends.{JobEnd}
 use Rattle.ledger_jobs.specs.declared.reply_lines.ReplyLines.{ReplyLines}
 
@@ -60,12 +60,6 @@ abbrev pub IsPlainPlayed : {W : Type 0} → (W → Option (List ℕ)) → (Is : 
     → JobEnd → Type 0
 IsPlainPlayed contents Is script old new end = HasNoReset (lines script)
     → OnOk end ((s : Shop) × Is s × AreAnsweredBy contents s (lines script) old new)
-
--- A service over a file ended so. Only lines of replies were printed; when it is done, those of a shop's replies to some lines.
--- `Is` says which shop.
-abbrev pub IsFileService : {W : Type 0} → (W → Option (List ℕ)) → (Is : Shop → Type 0) → W → W → JobEnd → Type 0
-IsFileService contents Is old new end = IsServiceEnd old new end × AreReplyLines contents old new
-    × OnOk end ((s : Shop) × (ls : List (List ℕ)) × Is s × AreAnsweredBy contents s ls old new)
 
 -- A service over a log ended so. Only lines of replies were printed; when it is done, those of a shop's replies to some lines.
 -- `Is` says which shop.

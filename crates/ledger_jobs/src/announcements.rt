@@ -77,9 +77,7 @@ where
                 let _ = writeln!(err, "ledger: replacing {image}, which has {bytes} bytes");
             }
         }
-        Job::Play { image, .. } | Job::PlaySynced { image, .. } | Job::PlayLogged { image, .. } => {
-            warn_of_cut(rt, image, err);
-        }
+        Job::Play { image, .. } | Job::PlayLogged { image, .. } => warn_of_cut(rt, image, err),
         _ => {}
     }
 }

@@ -9,7 +9,7 @@ ghost use Rattle.ledger_jobs.specs.declared.jobs.Effect.TheVariants.{Printed, Wr
 
 use crate::image_logs::opened_and_landed;
 use crate::jobs::Effect;
-use crate::locks::own_image;
+use crate::locks::read_synced;
 use crate::outcomes::told;
 use crate::readings::image_at;
 use crate::refusals::Refusal;
@@ -17,7 +17,7 @@ use command_faults::CommandFault;
 use disk_changes::{Change, Why};
 use disk_layout::Fault;
 use folder_changes::{Stop, change_image, show_change};
-use image_file::{Durability, EndedFile, HostFiles, Locks};
+use image_file::{EndedFile, HostFiles, Locks};
 use shop_log::{ImageFolder, LogNames};
 use std::fs::OpenFile;
 use std::io::{Read, Write};
@@ -58,7 +58,7 @@ where
     ensures err { IfErr result IsUnbegun }
 {
     let mut file = opened_and_landed(rt, path)?;
-    let image = own_image(rt.alloc(), &mut file, Durability::EachSector)?;
+    let image = read_synced(rt.alloc(), &mut file)?;
     Ok((image, file))
 }
 

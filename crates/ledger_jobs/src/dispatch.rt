@@ -16,9 +16,9 @@ use crate::editing::{do_delete, do_make, do_rebuild, do_rename, do_repair};
 use crate::extracting::do_extracting;
 use crate::files::{AtPath, Older, script_to_play};
 use crate::image_logs::opened_and_landed;
-use crate::jobs::{Drawing, Findings, Job, Reading, Taking, Way};
+use crate::jobs::{Drawing, Findings, Job, Reading, Taking};
 use crate::listings::do_listing;
-use crate::locks::own_image;
+use crate::locks::read_owned;
 use crate::losses::take_told;
 use crate::names::Name;
 use crate::new_disks::do_new;
@@ -29,13 +29,12 @@ use crate::putting::{do_put, do_store};
 use crate::readings::{do_reading, image_at};
 use crate::refusals::Refusal;
 use crate::reply_lines::ReplyLines;
-use crate::serving_images::do_serving;
 use crate::serving_logs::do_logged_serving;
 use crate::sheets::do_sheet;
 use crate::viewing::do_viewing;
 use command_faults::CommandFault;
 use disk_layout::Fault;
-use image_file::{Durability, EndedFile, HostFiles, Locks, OverwrittenFile};
+use image_file::{EndedFile, HostFiles, Locks, OverwrittenFile};
 use shop_commands::format_image;
 use std::fs::OpenFile;
 use std::io::{Read, Write};
@@ -68,7 +67,6 @@ fn do_playing<F, R, W>(
     rt: &R,
     path: &str,
     script: &str,
-    durability: Durability,
     out: &mut W,
 ) -> Result<Option<Fault>, Refusal>
 where
@@ -80,7 +78,7 @@ where
     ensures { IsPlayedOverFile R.rights R.stands W.contents rt.now path.now script.now out.old out.new result }
 {
     let mut file = opened_and_landed(rt, path)?;
-    let image = own_image(rt.alloc(), &mut file, durability)?;
+    let image = read_owned(rt.alloc(), &mut file)?;
     let script = script_to_play(rt, script)?;
     let mut printer = ReplyLines::new(out);
     let (_, ended) = play_durably(
@@ -88,7 +86,6 @@ where
         image.as_slice(),
         script.as_slice(),
         file,
-        durability,
         &mut printer,
     );
     job_end(ended)
@@ -139,7 +136,7 @@ where
 ///
 /// `InUse` if another program has the image; `Log` if its log gives no image; `File` if a file couldn't be opened or
 /// read. The other faults are those of `reading_run`, `format_image`, `new_run`, `play_durably`, `play_logged`,
-/// `serve_guarded`, `serve_logged_guarded`, `copy_run`, `change_image`, `show_change`, `take_told`, `extract_run`,
+/// `serve_logged_guarded`, `copy_run`, `change_image`, `show_change`, `take_told`, `extract_run`,
 /// `listing_run`, `drawing_run`, `comparing_run` and `view_image`. `Trim` ends with `File`, since it reports on standard error: call `do_trim`. What is
 /// wrong with one of several images is printed; only a failed output ends the job before the last of them.
 pub fn do_job<F, R, W>(rt: &R, job: &Job<'_>, out: &mut W) -> Result<Option<Fault>, Refusal>
@@ -166,20 +163,9 @@ where
         },
         Job::Show { image } => do_reading(rt, Reading::Show, image, out),
         Job::Dry { script } => do_reading(rt, Reading::Dry, script, out),
-        Job::Play { image, script } => do_playing(rt, image, script, Durability::AtEnd, out),
-        Job::PlaySynced { image, script } => {
-            do_playing(rt, image, script, Durability::EachSector, out)
-        }
+        Job::Play { image, script } => do_playing(rt, image, script, out),
         Job::PlayLogged { image, script } => do_logged_playing(rt, image, script, out),
-        Job::Serve {
-            image,
-            way,
-            durability,
-            loss,
-        } => match way {
-            Way::OverLog => do_logged_serving(rt, image, durability, loss, out),
-            Way::InPlace => do_serving(rt, image, durability, loss, out),
-        },
+        Job::Serve { image, loss } => do_logged_serving(rt, image, loss, out),
         Job::Copy { image, copy } => do_copying(rt, image, copy, out),
         Job::Extract {
             choice,

@@ -3,7 +3,7 @@ ghost use Rattle.ledger_jobs.specs.Rights.{MayExplain, MayLook};
 
 use crate::files::STANDARD_INPUT;
 use crate::job_files::{first_file, image_of};
-use crate::jobs::{Job, Way};
+use crate::jobs::Job;
 use image_file::{Failure, HostFiles, ShownPath, regular_at};
 use std::fmt::Display;
 use std::io::{self, ErrorKind, Write};
@@ -105,11 +105,7 @@ pub(crate) fn tell_files<R: HostFiles, E: Write>(
 /// What is said of a file that has gone: that its log has the replies, if the job keeps one.
 fn said_of_gone(job: &Job<'_>) -> &'static str {
     match job {
-        Job::Serve {
-            way: Way::OverLog,
-            ..
-        }
-        | Job::PlayLogged { .. } => LOGGED,
+        Job::Serve { .. } | Job::PlayLogged { .. } => LOGGED,
         _ => "",
     }
 }

@@ -12,7 +12,7 @@ use crate::outcomes::told;
 use crate::refusals::Refusal;
 use command_faults::CommandFault;
 use d64_image::IMAGE_BYTES;
-use image_file::{Durability, EndedFile, HostFiles, Locks, opened_to_change, opened_to_read};
+use image_file::{EndedFile, HostFiles, Locks, opened_to_change, opened_to_read};
 use shop_log::{ImageFolder, ImageView, LogFault, LogNames, land_in, sync_names, view_in};
 use std::fs::OpenFile;
 use std::io::{self, ErrorKind};
@@ -82,7 +82,7 @@ where
     ensures err { IfErr result IsUntaken }
 {
     let mut file = told(opened_to_change(rt, path))?;
-    lock_exclusive(&mut file, Durability::AtEnd)?;
+    lock_exclusive(&mut file)?;
     see_one_name(&file)?;
     Ok(file)
 }
@@ -150,6 +150,7 @@ where
     R: HostFiles<File = F> + AllocGlobal,
     requires { MayChangeImage R.rights rt.now path.now }
     ensures owned { IfOk result F.IsOwned }
+    ensures shared { IfOk result F.IsShared }
     ensures bytes { IfOk result (λ image. AreOf R.stands rt.now path.now (F.unread image)) }
     ensures err { IfErr result IsUnbegun }
 {

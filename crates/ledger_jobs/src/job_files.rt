@@ -17,8 +17,9 @@ pub(crate) fn first_file<'a>(job: &Job<'a>) -> Option<&'a str>
             image,
         ),
         Job::List { image, .. } | Job::Check { image, .. } | Job::Show { image } => Some(image),
-        Job::Play { image, .. } | Job::PlaySynced { image, .. } => Some(image),
-        Job::PlayLogged { image, .. } | Job::Serve { image, .. } => Some(image),
+        Job::Play { image, .. } | Job::PlayLogged { image, .. } | Job::Serve { image, .. } => Some(
+            image,
+        ),
         Job::Repair { image, .. } | Job::Take { image, .. } | Job::Draw { image, .. } => Some(
             image,
         ),
@@ -42,8 +43,9 @@ pub(crate) fn image_of<'a>(job: &Job<'a>) -> &'a str {
 /// The script or the records that a job reads after its first file.
 pub(crate) fn text_of<'a>(job: &Job<'a>) -> Option<&'a str> {
     match job {
-        Job::Play { script, .. } | Job::PlaySynced { script, .. } => Some(script),
-        Job::PlayLogged { script, .. } | Job::Dry { script } => Some(script),
+        Job::Play { script, .. } | Job::PlayLogged { script, .. } | Job::Dry { script } => Some(
+            script,
+        ),
         Job::Store { records, .. } => Some(records),
         _ => None,
     }

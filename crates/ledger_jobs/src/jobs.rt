@@ -7,7 +7,6 @@ use damaged_files::Shortened;
 use disk_pictures::View;
 use disk_reports::NameForm;
 use file_changes::FileType;
-use image_file::Durability;
 use keeper_commands::{ByteForm, Candidates, Choice, ColumnForm, RecordForm};
 
 /// What is asked of the bytes of one file, which isn't written.
@@ -50,15 +49,6 @@ pub enum Drawing {
     Picture,
     /// A poster: an SVG file of its own with the same drawing, title, legend and directory.
     Poster,
-}
-
-/// To which file the requests of a shop that is served are synced first.
-#[derive(Clone, Copy, Debug, PartialEq, Eq)]
-pub enum Way {
-    /// A log beside the image, which other jobs read while it is served. Its image is copied into IMAGE at the end.
-    OverLog,
-    /// The image itself, sector by sector, and no other file.
-    InPlace,
 }
 
 /// Which of the faults of an image are printed.
@@ -184,13 +174,6 @@ pub enum Job<'a> {
         /// The script's path.
         script: &'a str,
     },
-    /// The messages of a script, played as `Play` does; but each sector is synced before the next is written.
-    PlaySynced {
-        /// The image's path.
-        image: &'a str,
-        /// The script's path.
-        script: &'a str,
-    },
     /// The messages of a script, played as `Play` does; but each goes to a log beside the image, whose image is copied
     /// into IMAGE at the end.
     PlayLogged {
@@ -204,14 +187,11 @@ pub enum Job<'a> {
         /// The script's path.
         script: &'a str,
     },
-    /// The requests that come on standard input, line by line, to the shop of an image.
+    /// The requests that come on standard input, line by line, to the shop of an image. Each goes to a log beside the
+    /// image, which other jobs read meanwhile, and whose image is copied into IMAGE at the end.
     Serve {
         /// The image's path.
         image: &'a str,
-        /// To which file the requests are synced first.
-        way: Way,
-        /// When they are synced: before their replies are passed, or when the operating system does it.
-        durability: Durability,
         /// What is done if the disk has lost a part of a file.
         loss: Loss,
     },

@@ -1,11 +1,24 @@
 //! Serving the shop of an image over a log, as a run of the program.
-ghost use Rattle.ledger_jobs.specs.LoggedRuns.{IsLoggedRun};
+ghost use Rattle.std.specs.Prelude.{◌≡◌};
+ghost use Rattle.ledger_jobs.specs.LoggedRuns.{IsLoggedRun, loop_fault};
 
-use crate::serving_files::told;
 use command_faults::{CommandFault, load};
+use host_session::LoopFault;
 use line_server::{BatchSource, Reports, Room, serve_batches};
+use shop_commands::of_opening;
 use shop_log::ImageLog;
 use std::alloc::Global;
+
+/// What is reported of a shop whose service this fault ended: `File` for its input and for its output.
+fn told(fault: LoopFault) -> CommandFault
+    ensures { result ≡ loop_fault fault }
+{
+    match fault {
+        LoopFault::Open(fault) => of_opening(fault),
+        LoopFault::Input | LoopFault::Output => CommandFault::File,
+        LoopFault::Device => CommandFault::Device,
+    }
+}
 
 /// Serves the shop of an image over a log that stands for that image, batch by batch up to the end of the input. The
 /// lines at hand are handled in memory, made durable by one commit, and then their replies are reported.

@@ -1,28 +1,21 @@
 //! What a disk has lost of its files: it is looked for before a shop is served, and reported if a file is taken out.
-ghost use Rattle.std.specs.Prelude.{◌≡◌, IfErr, IfOk, IfSome, option_map, take};
-ghost use Rattle.image_file.specs.Durable.{IsSynced};
-ghost use Rattle.image_file.specs.ImageFile.{placed};
+ghost use Rattle.std.specs.Prelude.{◌≡◌, IfErr, IfOk, option_map};
 ghost use Rattle.command_faults.specs.declared.faults.CommandFault.TheVariants.{NoMemory};
-ghost use Rattle.ledger_jobs.specs.DurableRuns.{IsDurableRun};
-ghost use Rattle.ledger_jobs.specs.FileServes.{IsUnserved};
-ghost use Rattle.ledger_jobs.specs.Losses.{IsEndOf, IsEndOfRun, IsGuarded, IsJudged, IsSeen};
+ghost use Rattle.ledger_jobs.specs.Losses.{IsEndOfRun, IsGuarded, IsJudged, IsSeen};
 ghost use Rattle.ledger_jobs.specs.Losses.{IsTakingEnd, taken_end};
 ghost use Rattle.ledger_jobs.specs.LoggedRuns.{IsLoggedRun, IsUnlogged};
-ghost use Rattle.ledger_jobs.specs.Serves.{IsServeRun};
 ghost use Rattle.ledger_jobs.specs.declared.refusals.Refusal.TheVariants as refusals;
 
-use crate::durable_runs::serve_durably;
 use crate::jobs::{Loss, Taking};
 use crate::logged_runs::serve_logged;
-use crate::outcomes::{job_end, run_end};
+use crate::outcomes::run_end;
 use crate::refusals::Refusal;
 use crate::takings::taking_run;
 use command_faults::CommandFault;
-use d64_image::{ImageFault, KeptMirror, Place};
+use d64_image::{ImageFault, Place};
 use damaged_files::find_image_cut;
 use disk_layout::Fault;
-use image_file::{Durability, ImageFile, WritesAt};
-use line_server::{Answers, BatchSource, LineSource, Reports};
+use line_server::{BatchSource, Reports};
 use shop_log::ImageLog;
 use std::alloc::Global;
 use std::io::Write;
@@ -57,36 +50,6 @@ pub fn loss_refusal(alloc: Global, image: &[u8], loss: Loss) -> Option<Refusal>
             Err(refusal) => Some(refusal),
         },
     }
-}
-
-/// Serves the shop of the image that the file has, as `serve_durably` does. If a file of it is cut short and no loss is
-/// accepted, the error is `Short`, and nothing was read or changed.
-pub fn serve_guarded<F, R, T>(
-    alloc: Global,
-    image: &[u8],
-    file: F,
-    durability: Durability,
-    loss: Loss,
-    input: &mut R,
-    out: &mut T,
-) -> (F, Result<Option<Fault>, Refusal>)
-where
-    F: WritesAt,
-    R: LineSource<KeptMirror<ImageFile<F>>>,
-    T: Answers<KeptMirror<ImageFile<F>>>,
-    // if each sector is synced, what the file holds was synced too, and then these bytes were read from it
-    requires synced { IsSynced F.held F.lasting durability file }
-    requires image { IfSome (F.held file) (λ all. image.now ≡ take 174849 all) }
-    ensures { IsGuarded image.now loss (IsUnserved file result.0 input.old input.new out.old out.new)
-        (IsEndOf (λ ended. IsDurableRun {G = F.WritesAt.own} durability image.now file result.0 ended
-        (λ first left end. IsServeRun placed R.input T.answering image.now first left
-        input.old input.new out.old out.new end))) result.1 }
-{
-    if let Some(refusal) = loss_refusal(alloc, image, loss) {
-        return (file, Err(refusal));
-    }
-    let (left, ended) = serve_durably(alloc, image, file, durability, input, out);
-    (left, job_end(ended))
 }
 
 /// Serves the shop of an image over a log that stands for it, as `serve_logged` does. If a file of the image is cut short

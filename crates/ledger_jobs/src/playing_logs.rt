@@ -22,12 +22,11 @@ use crate::logged_plays::play_logged;
 use crate::outcomes::{run_end, told};
 use crate::refusals::Refusal;
 use crate::reply_lines::ReplyLines;
-use crate::serving_images::name_of;
 use crate::serving_logs::{begun_beside, cleared_end, landed_end};
-use crate::watched_files::served_end;
+use crate::watched_files::{name_of, served_end};
 use command_faults::CommandFault;
 use disk_layout::Fault;
-use image_file::{Durability, EndedFile, HostFiles, Locks, Stays};
+use image_file::{EndedFile, HostFiles, Locks, Stays};
 use line_server::Reports;
 use line_text::first_reset_line;
 use shop_log::{LiveLog, LogFile, LogFolder, LogNames};
@@ -134,8 +133,7 @@ where
     let alloc = rt.alloc();
     let name = name_of(rt, path, &image)?;
     let names = told(LogNames::of(rt, alloc, path))?;
-    let durability = Durability::EachSector;
-    let (bytes, log) = begun_beside(rt, path, &names, &mut image, durability, Loss::Accepted)?;
+    let (bytes, log) = begun_beside(rt, path, &names, &mut image, Loss::Accepted)?;
     let ended = play_printed(alloc, bytes.as_slice(), script, log, &name, out);
     cleared_end(rt, path, &image, &names, ended)
 }

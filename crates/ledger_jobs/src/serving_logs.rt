@@ -22,12 +22,11 @@ use crate::losses::{loss_refusal, serve_logged_guarded};
 use crate::outcomes::told;
 use crate::refusals::Refusal;
 use crate::reply_lines::ReplyLines;
-use crate::serving_images::name_of;
-use crate::watched_files::{WhileThere, served_end};
+use crate::watched_files::{WhileThere, name_of, served_end};
 use command_faults::CommandFault;
 use d64_image::MemDisk;
 use disk_layout::Fault;
-use image_file::{Durability, EndedFile, HostFiles, Locks, Stays, opened_to_change};
+use image_file::{EndedFile, HostFiles, Locks, Stays, opened_to_change};
 use line_server::{Answers, BatchSource};
 use shop_log::{
     ImageFolder, LiveLog, LogFault, LogFile, LogFolder, LogNames, LogRoom, SystemLog, TouchedDisk,
@@ -42,7 +41,6 @@ fn folder_of<'a, F, R>(
     rt: &'a R,
     names: &'a LogNames,
     path: &str,
-    durability: Durability,
 ) -> Result<ImageFolder<'a, R>, Refusal>
 where
     F: EndedFile + OpenFile + Drop,
@@ -51,8 +49,7 @@ where
     requires log { MayKeepLogOf R.rights rt.now (string_bytes names.now.image) }
 {
     let image = told(opened_to_change(rt, path))?;
-    let synced = durability == Durability::EachSector;
-    told(ImageFolder::new(rt, rt.alloc(), names, image, synced))
+    told(ImageFolder::new(rt, rt.alloc(), names, image, true))
 }
 
 /// The sectors of the shop that a folder gives, which the image has from then on. `Log` if its log gives none: nothing
@@ -238,7 +235,6 @@ pub(crate) fn begun_beside<'a, F, R>(
     path: &str,
     names: &'a LogNames,
     image: &mut F,
-    durability: Durability,
     loss: Loss,
 ) -> Result<(Vec<u8>, LiveLog<SystemLog<'a, R>, ImageFolder<'a, R>>), Refusal>
 where
@@ -252,7 +248,7 @@ where
     ensures { IfOk result (λ begun. OfWritten R.stands rt.now path.now (λ all. vec_items begun.0 ≡ take 174849 all)) }
 {
     let alloc = rt.alloc();
-    let mut folder = folder_of(rt, names, path, durability)?;
+    let mut folder = folder_of(rt, names, path)?;
     let shop = shop_of(rt, &mut folder, loss)?;
     let room = told(LogRoom::new(alloc).map_err(From::from))?;
     let bytes = landed_bytes(alloc, image, shop.as_slice())?;
@@ -273,7 +269,6 @@ where
 pub(crate) fn do_logged_serving<F, R, W>(
     rt: &R,
     path: &str,
-    durability: Durability,
     loss: Loss,
     out: &mut W,
 ) -> Result<Option<Fault>, Refusal>
@@ -291,7 +286,7 @@ where
     let mut input = told(BufReader::new(alloc, rt.reader()))?;
     let name = name_of(rt, path, &image)?;
     let names = told(LogNames::of(rt, alloc, path))?;
-    let (bytes, log) = begun_beside(rt, path, &names, &mut image, durability, loss)?;
+    let (bytes, log) = begun_beside(rt, path, &names, &mut image, loss)?;
     let ended = serve_printed(alloc, bytes.as_slice(), log, loss, &mut input, name, out);
     cleared_end(rt, path, &image, &names, ended)
 }

@@ -3,15 +3,33 @@ ghost use Rattle.std.specs.Prelude.{◌≡◌, if◌then◌else◌, Err, true};
 ghost use Rattle.command_faults.specs.declared.faults.CommandFault.TheVariants as faults;
 ghost use Rattle.ledger_jobs.specs.WatchedFiles.{media_for as media, while_there};
 ghost use Rattle.ledger_jobs.specs.declared.refusals.Refusal.TheVariants as refusals;
+ghost use Rattle.image_file.specs.paths.Rights.{Look, May};
 
+use crate::outcomes::told;
 use crate::refusals::Refusal;
 use command_faults::CommandFault;
 use d64_image::Sectors;
 use disk_layout::Fault;
 use host_session::{NotTaken, ReplySink};
-use image_file::Stays;
+use image_file::{FileName, HostFiles, Stays};
 use line_server::Answers;
 use request_cards::{Reply, Word};
+use std::fs::OpenFile;
+
+/// The name of the file that was opened at a path. `Device` if the path leads elsewhere by now.
+pub(crate) fn name_of<'a, F: OpenFile, R: HostFiles<File = F>>(
+    rt: &'a R,
+    path: &'a str,
+    file: &F,
+) -> Result<FileName<'a, R>, Refusal>
+    requires { May R.rights rt.now Look path.now }
+{
+    let name = told(FileName::of(rt, path, file))?;
+    if !name.is_there() {
+        return Err(Refusal::Fault(CommandFault::Device));
+    }
+    Ok(name)
+}
 
 /// What is passed in the place of a reply if the file has gone: MEDIA to its request. The reply to a message that is no
 /// request is MEDIA too.

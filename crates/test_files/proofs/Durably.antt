@@ -11,51 +11,40 @@ use Rattle.disk_layout.specs.declared.faults.Fault.{Fault}
 use Rattle.image_file.specs.Durable.{AllStays}
 use Rattle.image_file.specs.Lasting.{Lasting, seen}
 use Rattle.image_file.specs.LastingImages.{image_of, image_of-size, stayed_image}
-use Rattle.image_file.specs.ImageFile.{is_synced, placed, placed_file, seen_of}
-use Rattle.image_file.specs.declared.durability.Durability.{Durability}
-use Rattle.image_file.specs.declared.durability.Durability.TheVariants as durabilities
+use Rattle.image_file.specs.ImageFile.{placed, placed_file, seen_of}
 use Rattle.image_file.specs.declared.durability.WritesAt.{Ghosts}
 use Rattle.command_faults.specs.declared.faults.CommandFault.TheVariants as faults
 use Rattle.image_file.specs.declared.sectors.ImageFile.{ImageFile}
 use Rattle.ledger_jobs.specs.DurableRuns.{IsDurableRun}
 use Rattle.ledger_jobs.specs.Ends.{Ended}
 
--- what is looked at is what stays or what is held, as sectors are brought to the disk
-abbrev pub looked_at : {F : Type 0} → (L W : Lasting F) → Durability → Lasting F
-looked_at L W durabilities.EachSector = L
-looked_at L W durabilities.AtEnd = W
-
-seen_by : {F : Type 0} (L W : Lasting F) (d : Durability) (synced sized : Bool)
-    → (d ≡ durabilities.EachSector → synced ≡ true)
-    → (d ≡ durabilities.AtEnd → (synced ≡ false) × (sized ≡ true)) → (P : Lasting F → Type 0)
-    → (P (looked_at L W d) → P (seen L W synced sized)) × (P (seen L W synced sized) → P (looked_at L W d))
-seen_by L W durabilities.EachSector true sized each end P = (λ x. x, λ x. x)
-seen_by L W durabilities.EachSector false sized each end P = absurd (false≢true (each refl))
-seen_by L W durabilities.AtEnd true sized each end P = absurd (false≢true (sym (end refl).0))
-seen_by L W durabilities.AtEnd false true each end P = (λ x. x, λ x. x)
-seen_by L W durabilities.AtEnd false false each end P = absurd (false≢true (end refl).1)
+-- where sectors aren't synced, what is looked at is what is held
+seen_whole : {F : Type 0} (L W : Lasting F) (synced sized : Bool) → synced ≡ false → sized ≡ true
+    → (P : Lasting F → Type 0) → (P W → P (seen L W synced sized)) × (P (seen L W synced sized) → P W)
+seen_whole L W true sized none all P = absurd (false≢true (sym none))
+seen_whole L W false true none all P = (λ x. x, λ x. x)
+seen_whole L W false false none all P = absurd (false≢true all)
 
 -- done, all that the file holds stays
-pub all_there : {F : Type 0} {G : Ghosts F} {d : Durability} {image : List ℕ} {file after : F} {ended : Ended}
-    {IsRun : ImageFile F G → ImageFile F G → Ended → Type 0} → IsDurableRun {G = G} d image file after ended IsRun
+pub all_there : {F : Type 0} {G : Ghosts F} {image : List ℕ} {file after : F} {ended : Ended}
+    {IsRun : ImageFile F G → ImageFile F G → Ended → Type 0} → IsDurableRun {G = G} image file after ended IsRun
     → OnOk ended (AllStays G.held G.lasting after)
-all_there {F} {G} {d} {image} {file} {after} {ended} run =
+all_there {F} {G} {image} {file} {after} {ended} run =
     subst (λ f. OnOk ended (AllStays G.held G.lasting f)) run.is_after run.finished.there
 
 some_of : (n : ℕ) → (n ≡ 0 → ⊥) → 1 ≤ n
 some_of zero never = absurd (never refl)
 some_of (suc n) never = omega arith
 
-module _ {F : Type 0} {G : Ghosts F} (d : Durability) (image : List ℕ) (file after : F) (ended : Ended)
+module _ {F : Type 0} {G : Ghosts F} (image : List ℕ) (file after : F) (ended : Ended)
     (IsRun : ImageFile F G → ImageFile F G → Ended → Type 0) (size : length image ≡ 174848)
-    (known : (looked_at G.lasting G.whole.lasting d).bytes file ≡ Some image)
-    (run : IsDurableRun {G = G} d image file after ended IsRun) where
+    (known : G.whole.lasting.bytes file ≡ Some image) (run : IsDurableRun {G = G} image file after ended IsRun) where
   abbrev L : Lasting F
-  L = looked_at G.lasting G.whole.lasting d
+  L = G.whole.lasting
 
   at_first : (now : ImageFile F G) → placed.reached run.first now → (P : Lasting F → Type 0) → P L → P (seen_of now)
-  at_first now r P = (seen_by G.lasting G.whole.lasting d now.synced now.sized (λ e. r.synced ∙ run.taken.synced e size)
-      (λ e. let is = run.taken.unsynced e size in (r.synced ∙ is.0, r.sized ∙ is.1)) P).0
+  at_first now r P = let is = run.taken.unsynced refl size in
+      (seen_whole G.lasting L now.synced now.sized (r.synced ∙ is.0) (r.sized ∙ is.1) P).0
 
   first_same : placed.reached run.first run.first
   first_same = placed.reached_same run.first
@@ -109,17 +98,3 @@ module _ {F : Type 0} {G : Ghosts F} (d : Durability) (image : List ℕ) (file a
         (λ h. kept.each (sectors_in all) h)
         (λ e. kept.each (sectors_in all) (placed.now run.left (placed.moment run.first) kept.later (sectors_in all) e))
         (run.finished.brought.only.before (placed.moment run.first) (sectors_in all) kept.later held)
-
--- where each sector is brought to the disk
-module _ {F : Type 0} {G : Ghosts F} (image : List ℕ) (file after : F) (ended : Ended)
-    (IsRun : ImageFile F G → ImageFile F G → Ended → Type 0) (size : length image ≡ 174848)
-    (run : IsDurableRun {G = G} durabilities.EachSector image file after ended IsRun) where
-  pub first_synced : is_synced run.first
-  first_synced = run.taken.synced refl size
-
-  module _ (reached : placed.reached run.first run.left) where
-    pub left_synced : is_synced run.left
-    left_synced = reached.synced ∙ first_synced
-
-    pub left_is : placed_file run.left ≡ after
-    left_is = sym (ap placed_file (run.finished.untouched left_synced)) ∙ run.is_after

@@ -13,7 +13,6 @@ use Rattle.shop_commands.specs.Plays.{IsFileFault, IsPlayedFile}
 use Rattle.disk_layout.specs.declared.faults.Fault.{Fault}
 use Rattle.image_file.specs.ImageFile.{placed}
 use Rattle.image_file.specs.Lasting.{Lasting}
-use Rattle.image_file.specs.declared.durability.Durability.{Durability}
 use Rattle.image_file.specs.declared.durability.WritesAt.{Ghosts}
 use Rattle.command_faults.specs.declared.faults.CommandFault.TheVariants as faults
 use Rattle.image_file.specs.declared.sectors.ImageFile.{ImageFile}
@@ -21,40 +20,40 @@ use Rattle.ledger_jobs.specs.DurableRuns.{IsDurableRun}
 use Rattle.ledger_jobs.specs.Ends.{Ended}
 use Rattle.ledger_jobs.specs.Runs.{IsPlayRun}
 use Rattle.test_files.proofs.Begun.{IsSome}
-use Rattle.test_files.proofs.Durably.{at_ok, each_kept, first_kept, kept_last, looked_at, told_failed}
+use Rattle.test_files.proofs.Durably.{at_ok, each_kept, first_kept, kept_last, told_failed}
 use Rattle.test_files.proofs.Played.{of_play}
 
-module _ {F T : Type 0} {G : Ghosts F} (d : Durability) (o : Output T) (image script : List ℕ) (file after : F)
+module _ {F T : Type 0} {G : Ghosts F} (o : Output T) (image script : List ℕ) (file after : F)
     (ended : Ended) (old new : T) (size : length image ≡ 174848)
-    (known : (looked_at G.lasting G.whole.lasting d).bytes file ≡ Some image)
-    (run : IsDurableRun {G = G} d image file after ended
+    (known : G.whole.lasting.bytes file ≡ Some image)
+    (run : IsDurableRun {G = G} image file after ended
     (λ first left end. IsPlayRun placed o image script first left old new end)) where
   abbrev L : Lasting F
-  L = looked_at G.lasting G.whole.lasting d
+  L = G.whole.lasting
 
   abbrev Ran : ImageFile F G → ImageFile F G → Ended → Type 0
   Ran first left end = IsPlayRun placed o image script first left old new end
 
   -- the device is told of where the file failed
   pub play_failed : ended ≡ Err faults.Device → G.has_failed after ≡ true
-  play_failed e = told_failed d image file after ended Ran size known run (λ is. (subst (λ (end : Ended). IfErr end
+  play_failed e = told_failed image file after ended Ran size known run (λ is. (subst (λ (end : Ended). IfErr end
       (IsFileFault placed o image script run.first run.left old new)) is run.run.fault).0) e
 
   module _ (s : Shop) (is : IsShop (sectors_in image) s) where
     kept_only : KeptOnly placed run.first run.left (IsSome s (messages_of (lines script)))
     kept_only = of_play placed o image script run.first run.left old new s is
-        (first_kept d image file after ended Ran size known run) run.end run.run
+        (first_kept image file after ended Ran size known run) run.end run.run
 
     -- each content of an image's size that stayed at any moment is the shop's after some beginning of the lines
     pub lasts_each : (all : List ℕ) → length all ≡ 174848 → L.stayed after (L.moment file) all
         → IsSome s (messages_of (lines script)) (sectors_in all)
     lasts_each all sized stayed =
-        each_kept d image file after ended Ran size known run kept_only.reached kept_only all sized stayed
+        each_kept image file after ended Ran size known run kept_only.reached kept_only all sized stayed
 
     played : (v : Option Fault) → ended ≡ Ok v → IsPlayedFile placed o image script run.first run.left old new
     played v e = (subst (λ (end : Ended). IfOk end (λ printed. (printed ≡ None)
         × IsPlayedFile placed o image script run.first run.left old new))
-        (at_ok d image file after ended Ran size known run v e) run.run.done).1
+        (at_ok image file after ended Ran size known run v e) run.run.done).1
 
     -- each line was told its own reply, and what stays at the end is the shop after all of them
     pub lasts_done : (v : Option Fault) → ended ≡ Ok v → (all : List ℕ) → L.bytes after ≡ Some all
@@ -65,7 +64,7 @@ module _ {F T : Type 0} {G : Ghosts F} (d : Durability) (o : Output T) (image sc
         let x = (played v e).1 in
         let end = x.ends.0.without_resets s (subst (λ img. IsShop img s) (sym x.holds) is) none in
         let last : placed.kept run.left ≡ Some (sectors_in all) =
-        kept_last d image file after ended Ran size known run kept_only.reached all there sized in
+        kept_last image file after ended Ran size known run kept_only.reached all there sized in
         let same : x.left.image ≡ sectors_in all =
         sym x.left.agrees ∙ ap (λ k. kept_or k x.left.image) (ap placed.kept x.is_after ∙ last) in (
           end.0,

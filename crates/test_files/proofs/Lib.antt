@@ -5,7 +5,4 @@ pub mod Durably
 pub mod Played
 pub mod Lasts
 pub mod Ends
-pub mod Services
-pub mod Served
-pub mod OnDisk
 pub mod Noted

@@ -4,5 +4,4 @@ pub mod Files
 pub mod WholeFiles
 pub mod Shops
 pub mod WholeShops
-pub mod Services
 pub mod Noted

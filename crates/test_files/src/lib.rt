@@ -1,5 +1,5 @@
-//! A file in memory. It is known what it holds, what of that is on its disk, and all that was there before. Also the runs
-//! of the program over it, whose contracts say what stays if power is lost at any moment.
+//! A file in memory. It is known what it holds, what of that is on its disk, and all that was there before. Also a run
+//! of the program over it, whose contract says what it holds if the program dies at any moment.
 #![tactic(auto)]
 
 mod disk;
@@ -11,5 +11,5 @@ mod whole_file;
 pub use disk::{Disk, IMAGE_BYTES};
 pub use disk_file::{Bringing, DiskFile, Lock};
 pub use noting::{NotedLines, NotedReplies};
-pub use runs::{play_in_file, play_on_disk, serve_on_disk};
+pub use runs::play_in_file;
 pub use whole_file::WholeFile;

@@ -1,11 +1,9 @@
-//! Days on files whose disks are known: played whole, and with a call that fails.
+//! Days on files of which it is known what they hold: played whole, and with a call that fails.
 use crate::images::formatted;
-use command_faults::CommandFault;
-use disk_layout::Fault;
 use host_session::Printer;
 use shop_commands::show_image;
 use std::process::Abort;
-use test_files::{Bringing, DiskFile, IMAGE_BYTES, WholeFile, play_in_file, play_on_disk};
+use test_files::{Bringing, DiskFile, IMAGE_BYTES, WholeFile, play_in_file};
 
 const SCRIPT: &[u8] = b"1,1,S,42,120\n1,2,I,42,20\n";
 
@@ -19,33 +17,6 @@ pub(crate) static SHOPS: [&[u8]; 3] = [
 /// The image of a fresh shop.
 pub(crate) fn fresh(rt: &(impl AllocGlobal + Abort)) -> Vec<u8> {
     formatted(rt, 2)
-}
-
-/// Plays the script on a file of this image, of which so many calls pass: how that ends, and the file then.
-fn played(
-    rt: &(impl AllocGlobal + Abort),
-    image: &[u8],
-    bringing: Bringing,
-    calls: u64,
-) -> (DiskFile, Result<Option<Fault>, CommandFault>) {
-    if image.len() != IMAGE_BYTES {
-        panic!(rt; "no image");
-    }
-    let file = DiskFile::new(rt.alloc(), image, bringing).expect(rt, "a file");
-    let file = file.failing(calls, 100, false);
-    let mut out = Printer::new(Vec::new(rt.alloc()));
-    play_on_disk(rt.alloc(), image, SCRIPT, file, &mut out)
-}
-
-/// Which shop is on the disk once such a day has ended, and whether that ended well.
-fn shop_after(
-    rt: &(impl AllocGlobal + Abort),
-    bringing: Bringing,
-    calls: u64,
-) -> (Option<usize>, bool) {
-    let image = fresh(rt);
-    let (file, ended) = played(rt, image.as_slice(), bringing, calls);
-    (shop_of(rt, file.disk().bytes()), ended == Ok(None))
 }
 
 /// Which shop an image has.
@@ -77,37 +48,6 @@ fn shops_in_file(
     let file = file.into_inner();
     let there = shop_of(rt, file.disk().bytes());
     (shop_of(rt, file.held()), there, ended == Ok(None))
-}
-
-/// Checks that the disk has this shop, and that the day ended so.
-fn leaves(rt: &(impl AllocGlobal + Abort), bringing: Bringing, calls: u64, wanted: (usize, bool)) {
-    let (shop, done) = shop_after(rt, bringing, calls);
-    assert!(rt;
-        shop == Some(wanted.0) && done == wanted.1,
-        "{calls}: {shop:?}, {done}"
-    );
-}
-
-#[test]
-fn a_day_is_on_the_disk(rt: HostRuntime) {
-    leaves(&rt, Bringing::WhenSynced, u64::MAX, (2, true));
-    leaves(&rt, Bringing::Flushing, u64::MAX, (2, true));
-}
-
-#[test]
-fn a_failing_call_leaves_a_beginning(rt: HostRuntime) {
-    leaves(&rt, Bringing::WhenSynced, 1, (0, false));
-    let mut before = (0, false);
-    for calls in 0..120u64 {
-        let (shop, done) = shop_after(&rt, Bringing::WhenSynced, calls);
-        let now = (shop.unwrap_or(0), done);
-        assert!(&rt; now >= before && (now.0 == 2 || !done), "{calls}: {now:?}");
-        before = now;
-        if done {
-            break;
-        }
-    }
-    assert!(&rt; before == (2, true), "{before:?}");
 }
 
 #[test]

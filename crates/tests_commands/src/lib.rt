@@ -12,15 +12,11 @@ mod check_rows;
 #[cfg(test)]
 mod comparing;
 #[cfg(test)]
-mod durable_rows;
-#[cfg(test)]
 mod file_rows;
 #[cfg(test)]
 mod files;
 #[cfg(test)]
 mod format_rows;
-#[cfg(test)]
-mod history_rows;
 #[cfg(test)]
 mod images;
 #[cfg(test)]
@@ -31,8 +27,6 @@ mod kept_rows;
 mod known_disk_rows;
 #[cfg(test)]
 mod listing_rows;
-#[cfg(test)]
-mod machine;
 #[cfg(test)]
 mod noted_rows;
 #[cfg(test)]

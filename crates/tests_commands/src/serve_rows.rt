@@ -1,17 +1,23 @@
-//! Shops that are served over a file, from an input in pieces.
+//! Shops that are served line by line over the file of an image, from an input in pieces.
 use crate::comparing::{same, same_at};
 use crate::files::{Full, Tape, blank_paper, new_tape};
 use crate::images::formatted;
 use crate::pieces::Piece::{self, Bytes, Failed, Interrupted};
 use crate::pieces::{Line, Pieces, Talk};
-use crate::runs::{is_printed, is_shown, parted};
-use command_faults::CommandFault;
-use host_session::Printer;
+use crate::runs::{is_printed, is_shown};
+use d64_image::{KeptMirror, MemDisk};
+use host_session::{LoopFault, Printer};
 use image_file::ImageFile;
-use ledger_jobs::serve_file;
+use line_server::serve;
 use std::cell::Cell;
 use std::io::{BufRead, Write};
 use std::process::Abort;
+
+/// The file behind a mirror.
+fn tape_of(mirror: KeptMirror<ImageFile<Tape>>) -> Tape {
+    let (file, _) = mirror.into_inner();
+    file.into_inner()
+}
 
 /// Serves the shop of the image over a file that takes so many bytes: how it ends, and the file.
 fn served<R: BufRead, W: Write>(
@@ -20,10 +26,14 @@ fn served<R: BufRead, W: Write>(
     input: &mut R,
     room: usize,
     out: &mut W,
-) -> (Result<(), CommandFault>, Tape) {
+) -> (Result<(), LoopFault>, Tape) {
     let file = ImageFile::new(new_tape(rt, image, room));
+    let disk = MemDisk::load(rt.alloc(), image).expect(rt, "a disk");
     let mut printer = Printer::new(out);
-    parted(serve_file(rt.alloc(), image, file, input, &mut printer))
+    match serve(KeptMirror::new(file, disk), input, &mut printer) {
+        Ok(mirror) => (Ok(()), tape_of(mirror)),
+        Err((fault, mirror)) => (Err(fault), tape_of(mirror)),
+    }
 }
 
 /// An input, whether it can be read to its end, the replies on a disk for two tills, and what is shown then.
@@ -97,7 +107,7 @@ fn are_served(rt: &(impl AllocGlobal + Abort), image: &[u8], services: &[Service
         let wanted = if *whole {
             Ok(())
         } else {
-            Err(CommandFault::File)
+            Err(LoopFault::Input)
         };
         same_at(rt, ended, wanted, replies);
         is_printed(rt, &out, replies);
@@ -116,7 +126,7 @@ fn is_told_full(rt: &(impl AllocGlobal + Abort), image: &[u8], room: usize, flus
     let mut full = Full { room, flushes };
     let mut input = Pieces::new(&[Bytes(b"1,1,S,42,120\n1,2,I,42,1\n")]);
     let (ended, file) = served(rt, image, &mut input, usize::MAX, &mut full);
-    same_at(rt, ended, Err(CommandFault::File), room);
+    same_at(rt, ended, Err(LoopFault::Output), room);
     is_shown(rt, file.bytes(), SET);
 }
 
@@ -152,6 +162,6 @@ fn a_file_that_fails_ends_the_service(rt: HostRuntime) {
     let mut out = blank_paper(&rt);
     let mut input = Pieces::new(&[Bytes(b"x\n1,1,S,15,7\n1,1,S,15,7\n")]);
     let (ended, _) = served(&rt, image.as_slice(), &mut input, 300, &mut out);
-    same(&rt, ended, Err(CommandFault::Device));
+    same(&rt, ended, Err(LoopFault::Device));
     is_printed(&rt, &out, b"30,SYNTAX ERROR,00,00\n1,1,MEDIA\n");
 }

@@ -13,7 +13,7 @@ use Rattle.ledger_cli.specs.Numbers.{spelled_place}
 use Rattle.ledger_cli.proofs.Pictures.{picturing-met}
 use Rattle.ledger_cli.proofs.Named.{making-met, named-met, new-met, putting-met, records-met, renaming-met}
 use Rattle.ledger_cli.proofs.Named.{storing-met}
-use Rattle.ledger_cli.proofs.Parses.{format-fit, format-met, met-has, met-is, play-met}
+use Rattle.ledger_cli.proofs.Parses.{format-fit, format-met, met-has, met-is, play-fit, play-met}
 use Rattle.ledger_cli.proofs.Parses.{repair-fit, repair-met}
 use Rattle.ledger_cli.proofs.Views.{checking-met, viewing-met}
 use Rattle.ledger_cli.proofs.words.job_of.Goals as goal
@@ -70,11 +70,13 @@ returns-in-play c =
     let rows = rows_of (found_of c.in-Some.found.now) in
     let is = met-is c.parsed_subcommand.result _ c.in-Some.name c.in-Some.found _ c.parsed_subcommand.ensures c.in-Some.is c.in-play.is in
     let found = subcommand_rows_of c.args.matches.now in
-    let met = play-met found rows c.value_of-image.result c.value_of-script.result (is_given (codes "sync") rows)
-    (is_given (codes "log") rows) refl refl is c.value_of-image.ensures c.value_of-script.ensures in
+    let synced = is_given (codes "sync") rows in
     record {
-      job = subst (λ r. MatchResult r (IsJob found) (IsNoJob [] found)) (sym c.playing.ensures) met.0;
-      fit = subst (λ r. IfOk r IsFit) (sym c.playing.ensures) met.1;
+      job = subst (IsJob found) (sym c.playing.ensures)
+          (play-met found rows c.value_of-image.result c.value_of-script.result synced refl is c.value_of-image.ensures
+          c.value_of-script.ensures);
+      fit = subst IsFit (sym c.playing.ensures)
+          (play-fit c.value_of-image.result c.value_of-script.result synced);
     }
 
 pub returns-in-dry : goal.returns-in-dry
@@ -87,7 +89,7 @@ returns-in-dry c = record {
 pub returns-in-serve : goal.returns-in-serve
 returns-in-serve c = record {
   job = met-has c.parsed_subcommand.result _ c.in-Some.name c.in-Some.found _ _ c.parsed_subcommand.ensures c.in-Some.is c.in-serve.is
-      (c.value_of-image.ensures, c.way.ensures, c.serve_durability.ensures, c.loss.ensures);
+      (c.value_of-image.ensures, c.loss.ensures);
   fit = tt;
 }
 

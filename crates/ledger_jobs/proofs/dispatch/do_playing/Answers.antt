@@ -22,12 +22,12 @@ returns g c =
       play-quiet told _ file before behind c.args.out.now _ c.new-printer.ensures.out (λ same. search rules) ended
           c.job_end.result c.job_end.ensures c.play_durably-ended.ensures.untouched,
       play-lines told _ file before behind c.args.out.now _ c.new-printer.ensures.out (λ same. search rules) image script
-          c.args.durability ended c.play_durably-ended.ensures.run,
+          ended c.play_durably-ended.ensures.run,
       λ other all holds. played-at told (IsShopOf image) at
           (shop-at g.R.HostFiles.stands c.args.rt.now c.args.path.now (vec_items c.in_ok-image.image) image read
           c.as_slice.ensures.value) c.args.out.now _ all c.job_end.result
           (play-plain told _ file before behind c.args.out.now _ c.new-printer.ensures.out
-          (λ same. search rules) image script c.args.durability ended c.job_end.result all
+          (λ same. search rules) image script ended c.job_end.result all
           (c.as_slice-2.ensures.value ∙ c.in_ok-script.ensures.read other all holds) c.job_end.ensures
           c.play_durably-ended.ensures.run),
     )

@@ -9,7 +9,7 @@ returns g c =
     let run = c.play_run-left in
     let done = c.finished-end in
     record {
-      run = durable_run c.args.durability c.args.image.now c.args.file c.into_inner.result taken.result run.result.0
+      run = durable_run c.args.image.now c.args.file c.into_inner.result taken.result run.result.0
           done.new.file run.result.1 done.result _ taken.ensures c.into_inner.ensures run.ensures.run done.ensures;
       untouched = played_alone c.args.file c.into_inner.result taken.result run.result.0 done.new.file run.result.1
           done.result taken.ensures.is_file c.into_inner.ensures done.ensures.told done.ensures.alone c.args.out.now

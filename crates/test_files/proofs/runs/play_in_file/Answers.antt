@@ -8,7 +8,6 @@ use Rattle.host_session.specs.events.Events.{messages_of, requests_of}
 use Rattle.host_session.specs.shop.Shop.{IsSettled, IsShop, Shop, start_of, with_state}
 use Rattle.request_cards.specs.Ledgers.{plain}
 use Rattle.line_text.specs.scripts.Lines.{lines}
-use Rattle.image_file.specs.declared.durability.Durability.TheVariants as durabilities
 use Rattle.ledger_jobs.specs.Ends.{Ended}
 use Rattle.test_files.specs.Shops.{IsAfterSome}
 use Rattle.test_files.specs.WholeFiles.{whole_held}
@@ -42,7 +41,7 @@ returns g c =
     λ s is all were.
     let sized : length all ≡ 174848 = held_sized after _ all were in (
       sized,
-      lasts_each durabilities.AtEnd o image script file after ended out new_out size known run s (shop s is) all sized
+      lasts_each o image script file after ended out new_out size known run s (shop s is) all sized
           were,
     ) in
     record {
@@ -50,16 +49,16 @@ returns g c =
           let there : Some after.file.disk.bytes.items ≡ Some (whole_held after) = subst
           (λ (end : Ended). OnOk end (Some after.file.disk.bytes.items ≡ Some (whole_held after))) e (all_there run) in
           record {
-            told = λ s is none. (lasts_done durabilities.AtEnd o image script file after ended out new_out size known
+            told = λ s is none. (lasts_done o image script file after ended out new_out size known
                 run s (shop s is) v e (whole_held after) refl after.file.held.size none).0;
             there = λ s is none. subst
                 (λ (bytes : List ℕ). IsSettled (sectors_in bytes)
                 (with_state s (plain (start_of s) (requests_of (lines script)))))
                 (ap known_in (sym there))
-                (lasts_done durabilities.AtEnd o image script file after ended out new_out size known run s (shop s is)
+                (lasts_done o image script file after ended out new_out size known run s (shop s is)
                 v e (whole_held after) refl after.file.held.size none).1;
           });
       held = on_ok_weaker ended (λ same. ap known_in same) (all_there run);
       stays = record { each = each; now = λ s is. each s is (whole_held after) (inl refl) };
-      device = play_failed durabilities.AtEnd o image script file after ended out new_out size known run;
+      device = play_failed o image script file after ended out new_out size known run;
     }
