@@ -1,5 +1,6 @@
 //! Image files that a job locks, reads, writes and syncs.
 ghost use Rattle.std.specs.Prelude.{◌≡◌, IfErr, IfOk, IfSome, OnOk, take, vec_items};
+ghost use Rattle.image_file.specs.Durable.{AllStays};
 ghost use Rattle.ledger_jobs.specs.DurableRuns.{IsFinished};
 ghost use Rattle.ledger_jobs.specs.HostFiles.{IsUnbegun, IsUnread};
 
@@ -55,6 +56,7 @@ pub(crate) fn read_owned<F: Locks>(alloc: Global, file: &mut F) -> Result<Vec<u8
     ensures read { IfOk result (λ bytes. IfSome (F.unread file.old) (λ all. vec_items bytes ≡ take 174849 all)) }
     ensures owned { F.IsOwned file.new }
     ensures untouched { F.held file.new ≡ F.held file.old }
+    ensures lasting { F.lasting.bytes file.new ≡ F.lasting.bytes file.old }
     ensures err { IfErr result IsUnbegun }
 {
     match file.image(alloc) {
@@ -69,6 +71,7 @@ pub(crate) fn read_synced<F: Locks>(alloc: Global, file: &mut F) -> Result<Vec<u
     requires owned { F.IsOwned file.old }
     requires shared { F.IsShared file.old }
     ensures read { IfOk result (λ bytes. IfSome (F.unread file.old) (λ all. vec_items bytes ≡ take 174849 all)) }
+    ensures synced { OnOk result (AllStays F.held F.lasting file.new) }
     ensures owned { F.IsOwned file.new }
     ensures err { IfErr result IsUnbegun }
 {
