@@ -1,6 +1,6 @@
 -- A folder whose image is changed.
 use Rattle.std.proofs.Common.{◌≡◌, ◌⊎◌, ℕ, zero, suc, List, [], ◌∷◌, arith, inl, inr, refl, subst, sym, ⊎_elim}
-use Rattle.std.specs.Prelude.{Contains, Err, IfErr, IfOk, Ok, OnErr, Option, Result}
+use Rattle.std.specs.Prelude.{◌≢◌, Contains, Err, IfErr, IfOk, Ok, OnErr, Option, Result}
 use Rattle.std.specs.Io.KnownBytes.{Appends}
 use Rattle.command_faults.specs.Outputs.{HandsPart}
 use Rattle.d64_image.specs.Images.{Image}
@@ -49,3 +49,8 @@ pub printed : {W : Type 0} (contents : W → Option (List ℕ)) (Is : Changed �
 printed contents Is Refuses before after made is (Ok left) all part output = (made, is, all.0, all.1)
 printed contents Is Refuses before after made is (Err stop) all part output =
     subst (λ (s : Stop). IsToldAs contents Is Refuses before after (Err s)) (sym output) (made, is, part)
+
+-- only an output fails while a text is printed
+pub no-device : (r : Result ℕ Stop) → IfErr r (λ stop. stop ≡ stops.Output) → r ≢ Err stops.Device
+no-device (Ok left) output device = cc
+no-device (Err stop) output device = cc

@@ -1,13 +1,11 @@
 -- A file that keeps the sectors of a disk at their places. Our own.
-use Rattle.std.specs.Prelude.{◌≡◌, ◌≤◌, ℕ, List, Result, IsOk, OnErr, OnOk, Some, length, true, false}
+use Rattle.std.specs.Prelude.{◌≡◌, ◌≤◌, ℕ, List, Result, OnErr, OnOk, Some, length, true}
 use Rattle.std.proofs.Common.{◌∙◌, arith, le_refl, refl}
 use Rattle.d64_image.specs.Keeps.{Agrees, Keeps, KeptOnly}
 use Rattle.d64_image.specs.Memory.{sectors_in}
 use Rattle.image_file.specs.Durable.{AllStays}
 use Rattle.image_file.specs.Lasting.{Lasting, seen}
 use Rattle.image_file.specs.LastingImages.{image_of, now_image, only_now_image, stayed_image, whole_image}
-use Rattle.image_file.specs.declared.durability.Durability.{Durability}
-use Rattle.image_file.specs.declared.durability.Durability.TheVariants as durabilities
 use Rattle.image_file.specs.declared.durability.WritesAt.{Ghosts}
 use Rattle.image_file.specs.declared.sectors.ImageFile.{ImageFile}
 
@@ -16,33 +14,18 @@ module _ {F : Type 0} {G : Ghosts F} where
   abbrev pub placed_file : ImageFile F G → F
   placed_file p = p.file
 
-  -- when what is written is synced
-  abbrev pub placed_durability : ImageFile F G → Durability
-  placed_durability p = p.durability
-
-  -- each sector is synced before anything else is done, and everything else that the file holds is on the disk
-  abbrev pub is_synced : ImageFile F G → Type 0
-  is_synced p = p.synced ≡ true
-
-  -- they aren't, and the file is an image's
-  abbrev pub is_unsynced : ImageFile F G → Type 0
-  is_unsynced p = (p.synced ≡ false) × (p.sized ≡ true)
-
   -- the bytes of its file that are looked at
   abbrev pub seen_of : ImageFile F G → Lasting F
-  seen_of p = seen G.lasting G.whole.lasting p.synced p.sized
+  seen_of p = seen G.whole.lasting p.sized
 
-  -- The counts only grow, and whether sectors are synced didn't change.
+  -- The counts only grow, and it is an image's file as before.
   pub record GrowsOn (old new : ImageFile F G) : Type 0 where
     pub taken : old.taken ≤ new.taken
     pub failed : old.failed ≤ new.failed
-    pub durability : new.durability ≡ old.durability
-    pub synced : new.synced ≡ old.synced
     pub sized : new.sized ≡ old.sized
 
-  -- If each sector is synced, and everything else is on the disk, such a file keeps what stays if the machine loses
-  -- power. Otherwise it keeps what an image's file holds whole: a sector that it took in part would be neither the old
-  -- one nor the new.
+  -- Such a file keeps what an image's file holds whole: a sector that it took in part would be neither the old one nor the
+  -- new.
   abbrev pub placed : Keeps (ImageFile F G)
   placed = record {
     kept = λ p. image_of ((seen_of p).bytes p.file);
@@ -59,15 +42,11 @@ module _ {F : Type 0} {G : Ghosts F} where
     reached_same = λ p. record {
       taken = le_refl p.taken;
       failed = le_refl p.failed;
-      durability = refl;
-      synced = refl;
       sized = refl;
     };
     reached_then = λ a b c x y. record {
       taken = omega (arith, x.taken, y.taken);
       failed = omega (arith, x.failed, y.failed);
-      durability = y.durability ∙ x.durability;
-      synced = y.synced ∙ x.synced;
       sized = y.sized ∙ x.sized;
     };
   }
@@ -77,25 +56,21 @@ module _ {F : Type 0} {G : Ghosts F} where
     pub kept : placed.kept new ≡ placed.kept old
     pub only : KeptOnly placed old new (λ c. placed.kept old ≡ Some c)
 
-  -- The file of an image with these bytes was taken up: it took no sector, and hasn't failed. If each sector is synced,
-  -- it keeps what stays on the disk. Otherwise it keeps what it holds, if that is known whole.
-  pub record IsTakenUp (durability : Durability) (image : List ℕ) (file : F) (p : ImageFile F G) : Type 0 where
+  -- The file of an image with these bytes was taken up: it took no sector, and hasn't failed. It keeps what it holds, if
+  -- that is known whole.
+  pub record IsTakenUp (image : List ℕ) (file : F) (p : ImageFile F G) : Type 0 where
     pub is_file : placed_file p ≡ file
-    pub brings : placed_durability p ≡ durability
     pub untaken : placed.writes p ≡ 0
     pub unfailed : placed.failures p ≡ 0
-    pub synced : durability ≡ durabilities.EachSector → length image ≡ 174848 → is_synced p
-    pub unsynced : durability ≡ durabilities.AtEnd → length image ≡ 174848 → is_unsynced p
+    pub sized : length image ≡ 174848 → p.sized ≡ true
     pub agrees : Agrees (placed.kept p) (sectors_in image)
 
-  -- All that was written was synced, if that wasn't done after each sector.
+  -- All that was written was synced.
   pub record BringsAll {E : Type 0} (old new : ImageFile F G) (result : Result Unit E) : Type 0 where
     pub lasting : OnOk result (AllStays G.held G.lasting (placed_file new))
-    pub whole : is_synced old → placed.failures old ≡ 0 → IsOk result
-    -- an error is returned only if the file failed, now or before
+    -- an error is returned only if the file failed
     pub failed : OnErr result (G.has_failed (placed_file new) ≡ true)
     pub passed : OnOk result (G.has_failed (placed_file new) ≡ G.has_failed (placed_file old))
     pub same : G.held (placed_file new) ≡ G.held (placed_file old)
     pub reached : placed.reached old new
     pub kept : KeepsOn old new
-    pub untouched : is_synced old → new ≡ old

@@ -1,4 +1,4 @@
--- What a file says of the bytes that stay if the machine loses power. Our own.
+-- What a file says of the bytes that it holds, at each moment. Our own.
 use Rattle.std.specs.Prelude.{
   ◌≡◌,
   ◌<◌,
@@ -22,18 +22,18 @@ use Rattle.std.specs.Prelude.{
 use Rattle.std.proofs.lemmas.Option.{none-some}
 use Rattle.d64_image.specs.Offsets.{overwritten}
 
--- The bytes that stay, now and at the moments before.
+-- Bytes that are kept, now and at the moments before.
 pub record Lasting (F : Type 0) : Type 1 where
-  -- those that stay now; None if that isn't known
+  -- those that are kept now; None if that isn't known
   pub bytes : F → Option (List ℕ)
   -- the moment, as a number that doesn't fall
   pub moment : F → ℕ
-  -- those that may have stayed at some moment from that one on
+  -- those that may have been kept at some moment from that one on
   pub stayed : F → ℕ → List ℕ → Type 0
   pub small : (f : F) (all : List ℕ) → bytes f ≡ Some all → (i : ℕ) → slice_index all i < 256
-  -- those of now stay since each earlier moment
+  -- those of now are kept since each earlier moment
   pub now : (f : F) (t : ℕ) → t ≤ moment f → (all : List ℕ) → bytes f ≡ Some all → stayed f t all
-  -- since now no others stayed
+  -- since now no others were kept
   pub only_now : (f : F) (all : List ℕ) → stayed f (moment f) all → bytes f ≡ Some all
 
 -- a file of which that isn't known
@@ -56,14 +56,12 @@ pub record Whole {F : Type 0} (held : F → Option (List ℕ)) : Type 1 where
 abbrev pub unknown_whole : {F : Type 0} → {held : F → Option (List ℕ)} → Whole held
 unknown_whole = record { lasting = unknown_lasting; is_held = λ f all e. absurd (none-some all e) }
 
--- The bytes of a file that are looked at. If each sector is synced, they are those that stay; otherwise those that an
--- image's file holds whole.
-abbrev pub seen : {F : Type 0} → (L W : Lasting F) → (synced sized : Bool) → Lasting F
-seen L W true sized = L
-seen L W false true = W
-seen L W false false = unknown_lasting
+-- the bytes of a file that are looked at: those that an image's file holds whole
+abbrev pub seen : {F : Type 0} → Lasting F → (sized : Bool) → Lasting F
+seen W true = W
+seen W false = unknown_lasting
 
--- From old to new the bytes of old stayed, or these, and at each moment nothing else.
+-- From old to new the bytes of old were kept, or these, and at each moment nothing else.
 pub record StaysOr {F : Type 0} (L : Lasting F) (old new : F) (next : Option (List ℕ)) : Type 0 where
   pub now : (L.bytes new ≡ L.bytes old) ⊎ (L.bytes new ≡ next)
   pub later : L.moment old ≤ L.moment new
@@ -89,8 +87,3 @@ pub record TakesSector {F E : Type 0} (L : Lasting F) (old new : F) (n : ℕ) (b
     : Type 0 where
   pub stays : StaysOr L old new (overwritten_in (L.bytes old) n bytes)
   pub ok : OnOk result (L.bytes new ≡ overwritten_in (L.bytes old) n bytes)
-
--- what stays is what is held, or all of it but one sector
-abbrev pub LacksASector : (lasting held : Option (List ℕ)) → Type 0
-LacksASector lasting held = (lasting ≡ held)
-    ⊎ ((n : ℕ) × (bytes : List ℕ) × IsSectorIn lasting n bytes × (held ≡ overwritten_in lasting n bytes))

@@ -1,7 +1,6 @@
 //! Files that are written at places, and synced.
 ghost use Rattle.std.specs.Prelude.{◌≡◌, Bool, List, None, OnErr, OnOk, Option, ℕ, true, ⊤};
-ghost use Rattle.image_file.specs.Durable.{IsSynced, LastsSo, WritesOver};
-ghost use Rattle.image_file.specs.Lasting.{IsSectorIn, Lasting, TakesSector, Whole, unknown_lasting};
+ghost use Rattle.image_file.specs.Lasting.{Whole};
 
 use std::fs::File;
 use std::io;
@@ -11,13 +10,13 @@ use std::os::unix::fs::FileExt;
 pub trait WritesAt {
     ghost use Rattle.std.specs.Prelude.{◌≡◌, OnErr, OnOk};
     ghost use Rattle.image_file.specs.Durable.{AllStays, WritesOver};
-    ghost use Rattle.image_file.specs.Lasting.{IsSectorIn, LacksASector, StaysOr, TakesSector, overwritten_in};
+    ghost use Rattle.image_file.specs.Lasting.{IsSectorIn, StaysOr, TakesSector};
 
     // the bytes that it holds, if they are known
     ghost held: { Self → Option (List ℕ) } = { λ _. None };
 
     // the bytes that stay if the machine loses power, if they are known
-    ghost lasting: { Lasting Self } = { unknown_lasting };
+    ghost lasting: { Self → Option (List ℕ) } = { λ _. None };
 
     // the bytes that it holds, if it is known that a write that fails stands there whole or not at all
     ghost whole: { Whole held };
@@ -34,11 +33,9 @@ pub trait WritesAt {
     ghost has_failed: { Self → Bool } = { λ _. true };
 
     /// Writes all these bytes over those from that place on, in bytes from the file's start. At an error a prefix of them
-    /// was written. If all the rest is on the disk already, all of a sector comes there or nothing.
+    /// was written.
     fn write_all_at(&mut self, bytes: &[u8], at: u64) -> io::Result<()>
         ensures written { WritesOver (held self.old) (held self.new) at bytes.now result }
-        ensures stays { AllStays held lasting self.old → IsSectorIn (lasting.bytes self.old) at bytes.now
-            → StaysOr lasting self.old self.new (overwritten_in (lasting.bytes self.old) at bytes.now) }
         ensures whole { IsSectorIn (whole.lasting.bytes self.old) at bytes.now
             → TakesSector whole.lasting self.old self.new at bytes.now result }
         ensures failed { OnErr result (has_failed self.new ≡ true) }
@@ -51,8 +48,6 @@ pub trait WritesAt {
         ensures lasting { OnOk result (AllStays held lasting self.new) }
         ensures failed { OnErr result (has_failed self.new ≡ true) }
         ensures passed { OnOk result (has_failed self.new ≡ has_failed self.old) }
-        ensures stays { LacksASector (lasting.bytes self.old) (held self.old)
-            → StaysOr lasting self.old self.new (held self.old) }
         ensures whole { StaysOr whole.lasting self.old self.new (whole.lasting.bytes self.old) }
         ensures owned { IsOwned self.old → IsOwned self.new }
         ensures shared { IsShared self.old → IsShared self.new }
@@ -72,37 +67,5 @@ impl WritesAt for File {
 
     fn sync(&mut self) -> io::Result<()> {
         self.sync_data()
-    }
-}
-
-/// When what is written to a file is synced, so that it stays though the machine loses power.
-#[derive(Clone, Copy, Debug, PartialEq, Eq)]
-pub enum Durability {
-    /// Each sector before anything else is done.
-    EachSector,
-    /// Not before the end, and then all of it.
-    AtEnd,
-}
-
-/// Writes the bytes of a sector from a place on, and syncs them if each sector is synced.
-#[inline(always)]
-pub(crate) fn write_sector<F: WritesAt>(
-    file: &mut F,
-    durability: Durability,
-    bytes: &[u8; 256],
-    at: u64,
-) -> io::Result<()>
-    ensures written { WritesOver (F.held file.old) (F.held file.new) at bytes.now result }
-    ensures lasting { OnOk result (IsSynced F.held F.lasting durability file.new) }
-    ensures stays { LastsSo F.held F.lasting file.old file.new durability at bytes.now result }
-    ensures whole { IsSectorIn (F.whole.lasting.bytes file.old) at bytes.now
-        → TakesSector F.whole.lasting file.old file.new at bytes.now result }
-    ensures failed { OnErr result (F.has_failed file.new ≡ true) }
-    ensures passed { OnOk result (F.has_failed file.new ≡ F.has_failed file.old) }
-{
-    file.write_all_at(bytes, at)?;
-    match durability {
-        Durability::EachSector => file.sync(),
-        Durability::AtEnd => Ok(()),
     }
 }

@@ -17,7 +17,7 @@ mod sectors;
 mod shown_paths;
 mod streams;
 
-pub use durability::{Durability, WritesAt};
+pub use durability::WritesAt;
 pub use locks::Locks;
 pub use noted::failures::{Failure, Failures};
 pub use noted::noted_file::NotedFile;

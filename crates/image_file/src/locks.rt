@@ -32,7 +32,7 @@ pub trait Locks: WritesAt + Read {
         ensures read { IfOk result (λ bytes. IfSome (Self.unread self.old) (λ all. vec_items bytes ≡ take 174849 all)) }
         ensures owned { Self.IsOwned self.old → Self.IsOwned self.new }
         ensures held { Self.held self.new ≡ Self.held self.old }
-        ensures lasting { Self.lasting.bytes self.new ≡ Self.lasting.bytes self.old };
+        ensures lasting { Self.lasting self.new ≡ Self.lasting self.old };
 
     // what is left of it is what reads give
     ghost reads: { (file : Self) → Self.WritesAt.unread file ≡ Self.Read.remaining file };

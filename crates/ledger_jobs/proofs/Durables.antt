@@ -6,11 +6,10 @@ use Rattle.d64_image.specs.Images.{Image}
 use Rattle.d64_image.specs.Keeps.{Keeps, none_kept}
 use Rattle.host_session.specs.events.Telling.{Output}
 use Rattle.image_file.specs.Durable.{AllStays}
-use Rattle.image_file.specs.Lasting.{Lasting, Whole, seen}
+use Rattle.image_file.specs.Lasting.{Whole, seen}
 use Rattle.image_file.specs.LastingImages.{are_image, image_of}
 use Rattle.image_file.specs.ImageFile.{IsTakenUp, placed, placed_file}
 use Rattle.shop_commands.specs.Plays.{IsFileFault, IsUntouched}
-use Rattle.image_file.specs.declared.durability.Durability.TheVariants.{AtEnd}
 use Rattle.image_file.specs.declared.durability.WritesAt.{Ghosts}
 use Rattle.command_faults.specs.declared.faults.CommandFault.{CommandFault}
 use Rattle.command_faults.specs.declared.faults.CommandFault.TheVariants as faults
@@ -19,19 +18,18 @@ use Rattle.ledger_jobs.specs.DurableRuns.{IsDurableRun, IsFinished}
 use Rattle.ledger_jobs.specs.Ends.{Ended}
 
 -- what stays at the end is what was looked at
-image_left : {F : Type 0} (held : F → Option (List ℕ)) (L : Lasting F) (W : Whole held) (synced sized : Bool) (f g : F)
-    → (synced ≡ true → g ≡ f) → held g ≡ held f → L.bytes g ≡ held g → (c : Image)
-    → image_of ((seen L W.lasting synced sized).bytes f) ≡ Some c → image_of (L.bytes g) ≡ Some c
-image_left held L W true sized f g untouched same stays c e = ap (λ x. image_of (L.bytes x)) (untouched refl) ∙ e
-image_left held L W false true f g untouched same stays c e =
+image_left : {F : Type 0} (held lasting : F → Option (List ℕ)) (W : Whole held) (sized : Bool) (f g : F) → held g ≡ held f
+    → lasting g ≡ held g → (c : Image) → image_of ((seen W.lasting sized).bytes f) ≡ Some c
+    → image_of (lasting g) ≡ Some c
+image_left held lasting W true f g same stays c e =
     let x = are_image (W.lasting.bytes f) c e in
     ap image_of (stays ∙ same ∙ W.is_held f x.all x.are ∙ sym x.are) ∙ e
-image_left held L W false false f g untouched same stays c e = none_kept e
+image_left held lasting W false f g same stays c e = none_kept e
 
 module _ {F : Type 0} {G : Ghosts F} (image : List ℕ) (file after : F)
     (first left last : ImageFile F G) (end ended : Ended) (IsRun : ImageFile F G → ImageFile F G → Ended → Type 0) where
   -- whatever the run was, its file was taken up, brought to the disk and handed back
-  pub durable_run : IsTakenUp AtEnd image file first → after ≡ placed_file last → IsRun first left end
+  pub durable_run : IsTakenUp image file first → after ≡ placed_file last → IsRun first left end
       → IsFinished end left last ended → IsDurableRun image file after ended IsRun
   durable_run taken is_last run finished = record {
     first = first;
@@ -44,15 +42,12 @@ module _ {F : Type 0} {G : Ghosts F} (image : List ℕ) (file after : F)
     is_after = sym is_last;
     counted = λ some. subst (λ f. G.has_failed f ≡ true) (sym is_last) (finished.failed (left.blamed some));
     holds = λ size now r.
-        let is = taken.unsynced refl size in
-        ap (λ b. image_of ((seen G.lasting G.whole.lasting b now.sized).bytes now.file)) (r.synced ∙ is.0)
-        ∙ ap (λ b. image_of ((seen G.lasting G.whole.lasting false b).bytes now.file)) (r.sized ∙ is.1);
+        ap (λ b. image_of ((seen G.whole.lasting b).bytes now.file)) (r.sized ∙ taken.sized size);
     remains = subst
         (λ f. AllStays G.held G.lasting f → (c : Image) → placed.kept left ≡ Some c
-        → image_of (G.lasting.bytes f) ≡ Some c)
+        → image_of (G.lasting f) ≡ Some c)
         (sym is_last)
-        (image_left G.held G.lasting G.whole left.synced left.sized left.file last.file
-        (λ is. ap placed_file (finished.untouched is)) finished.same);
+        (image_left G.held G.lasting G.whole left.sized left.file last.file finished.same);
   }
 
 -- a fault that blames neither the file nor the output tells that nothing was done

@@ -3,8 +3,7 @@ use Rattle.std.specs.Prelude.{◌≡◌, ◌≢◌, ◌⊎◌, ◌≤◌, List, 
 use Rattle.d64_image.specs.Images.{Image}
 use Rattle.image_file.specs.Durable.{AllStays}
 use Rattle.image_file.specs.LastingImages.{image_of}
-use Rattle.image_file.specs.ImageFile.{IsTakenUp, KeepsOn, is_synced, placed, placed_file}
-use Rattle.image_file.specs.declared.durability.Durability.TheVariants.{AtEnd}
+use Rattle.image_file.specs.ImageFile.{IsTakenUp, KeepsOn, placed, placed_file}
 use Rattle.image_file.specs.declared.durability.WritesAt.{Ghosts}
 use Rattle.command_faults.specs.declared.faults.CommandFault.TheVariants as faults
 use Rattle.image_file.specs.declared.sectors.ImageFile.{ImageFile}
@@ -13,16 +12,14 @@ use Rattle.ledger_jobs.specs.Ends.{Ended}
 -- A run that ended as `end` left such a file. Then the rest of what was written was synced, and `ended` is reported.
 pub record IsFinished {F : Type 0} {G : Ghosts F} (end : Ended) (left last : ImageFile F G) (ended : Ended) : Type 0 where
   -- What is reported is how the run ended, or `Device` for a sync that failed. A run that was refused is reported as it
-  -- ended, and so is one over a file whose sectors were all synced.
+  -- ended.
   pub told : (ended ≡ end) ⊎ (ended ≡ Err faults.Device)
   pub refused : IfErr end (λ fault. fault ≢ faults.File → ended ≡ end)
-  pub unblamed : is_synced left → placed.failures left ≡ 0 → ended ≡ end
   -- if `Device` is reported in place of that, the file failed
   pub blamed : (ended ≡ end) ⊎ (G.has_failed (placed_file last) ≡ true)
   pub failed : G.has_failed (placed_file left) ≡ true → G.has_failed (placed_file last) ≡ true
   pub same : G.held (placed_file last) ≡ G.held (placed_file left)
   pub reached : placed.reached left last
-  pub untouched : is_synced left → last ≡ left
   -- nothing is asked of the file after a refusal, nor of a file that failed
   pub alone : IfErr end (λ fault. fault ≢ faults.File → last ≡ left)
   -- it changes nothing of what the file keeps, at no moment
@@ -38,7 +35,7 @@ pub record IsDurableRun {F : Type 0} {G : Ghosts F} (image : List ℕ) (file aft
   pub first : ImageFile F G
   pub left : ImageFile F G
   pub last : ImageFile F G
-  pub taken : IsTakenUp AtEnd image file first
+  pub taken : IsTakenUp image file first
   -- how the run itself ended
   pub end : Ended
   pub run : IsRun first left end
@@ -51,4 +48,4 @@ pub record IsDurableRun {F : Type 0} {G : Ghosts F} (image : List ℕ) (file aft
       → placed.kept now ≡ image_of (G.whole.lasting.bytes (placed_file now))
   -- What stays at the end is the image that the run left, if that is known.
   pub remains : AllStays G.held G.lasting after → (c : Image) → placed.kept left ≡ Some c
-      → image_of (G.lasting.bytes after) ≡ Some c
+      → image_of (G.lasting after) ≡ Some c

@@ -12,7 +12,7 @@ use command_faults::CommandFault;
 use d64_image::KeptMirror;
 use disk_layout::Fault;
 use host_session::ReplySink;
-use image_file::{Durability, ImageFile, WritesAt};
+use image_file::{ImageFile, WritesAt};
 use std::alloc::Global;
 
 /// Plays the script on the shop of the image that the file has, as `play_run` does, and hands the file back. All its
@@ -32,7 +32,7 @@ pub fn play_durably<F: WritesAt, T: ReplySink<KeptMirror<ImageFile<F>>>>(
     ensures untouched { IfErr result.1 (λ fault. fault ≢ File → fault ≢ Device
         → IsUntouched file result.0 out.old out.new) }
 {
-    let placed = ImageFile::of_image(file, Durability::AtEnd, image);
+    let placed = ImageFile::of_image(file, image);
     let (mut left, ended) = play_run(alloc, image, script, placed, out);
     let end = finished(&mut left, ended);
     (left.into_inner(), end)

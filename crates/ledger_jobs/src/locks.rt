@@ -56,7 +56,7 @@ pub(crate) fn read_owned<F: Locks>(alloc: Global, file: &mut F) -> Result<Vec<u8
     ensures read { IfOk result (λ bytes. IfSome (F.unread file.old) (λ all. vec_items bytes ≡ take 174849 all)) }
     ensures owned { F.IsOwned file.new }
     ensures untouched { F.held file.new ≡ F.held file.old }
-    ensures lasting { F.lasting.bytes file.new ≡ F.lasting.bytes file.old }
+    ensures lasting { F.lasting file.new ≡ F.lasting file.old }
     ensures err { IfErr result IsUnbegun }
 {
     match file.image(alloc) {

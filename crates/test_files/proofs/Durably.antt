@@ -18,12 +18,11 @@ use Rattle.image_file.specs.declared.sectors.ImageFile.{ImageFile}
 use Rattle.ledger_jobs.specs.DurableRuns.{IsDurableRun}
 use Rattle.ledger_jobs.specs.Ends.{Ended}
 
--- where sectors aren't synced, what is looked at is what is held
-seen_whole : {F : Type 0} (L W : Lasting F) (synced sized : Bool) → synced ≡ false → sized ≡ true
-    → (P : Lasting F → Type 0) → (P W → P (seen L W synced sized)) × (P (seen L W synced sized) → P W)
-seen_whole L W true sized none all P = absurd (false≢true (sym none))
-seen_whole L W false true none all P = (λ x. x, λ x. x)
-seen_whole L W false false none all P = absurd (false≢true all)
+-- of an image's file what is looked at is what is held
+seen_whole : {F : Type 0} (W : Lasting F) (sized : Bool) → sized ≡ true → (P : Lasting F → Type 0)
+    → (P W → P (seen W sized)) × (P (seen W sized) → P W)
+seen_whole W true all P = (λ x. x, λ x. x)
+seen_whole W false all P = absurd (false≢true all)
 
 -- done, all that the file holds stays
 pub all_there : {F : Type 0} {G : Ghosts F} {image : List ℕ} {file after : F} {ended : Ended}
@@ -43,8 +42,7 @@ module _ {F : Type 0} {G : Ghosts F} (image : List ℕ) (file after : F) (ended 
   L = G.whole.lasting
 
   at_first : (now : ImageFile F G) → placed.reached run.first now → (P : Lasting F → Type 0) → P L → P (seen_of now)
-  at_first now r P = let is = run.taken.unsynced refl size in
-      (seen_whole G.lasting L now.synced now.sized (r.synced ∙ is.0) (r.sized ∙ is.1) P).0
+  at_first now r P = (seen_whole L now.sized (r.sized ∙ run.taken.sized size) P).0
 
   first_same : placed.reached run.first run.first
   first_same = placed.reached_same run.first

@@ -4,10 +4,8 @@ use Rattle.std.proofs.Common.{ap, drop, length, refl, suc, zero}
 use Rattle.std.proofs.Common.{⊎_elim, ℕ}
 use Rattle.std.specs.Prelude.{OnOk, Vec}
 use Rattle.std.specs.declared.alloc.Global.{Global}
-use Rattle.test_files.specs.Files.{file_lasting}
 use Rattle.test_files.specs.WholeFiles.{held_lasting}
 use Rattle.test_files.specs.Past.{AreImages, HadBeen}
-use Rattle.test_files.specs.declared.disk_file.DiskFile.{DiskFile}
 use Rattle.test_files.specs.declared.whole_file.WholeFile.{WholeFile}
 
 -- what holds of a result that is Ok
@@ -26,14 +24,7 @@ had_sized [] bytes all had = absurd had
 had_sized (v ∷ past) bytes all had =
     ⊎_elim (λ e. ap length e ∙ all.0) (λ rest. had_sized past bytes all.1 rest) had
 
--- what was on a disk at any moment has the size of an image
-pub stayed_sized : (f : DiskFile) (t : ℕ) (all : List ℕ) → file_lasting.stayed f t all → length all ≡ 174848
-stayed_sized f t all stayed = ⊎_elim
-    (λ e. ap length e ∙ f.disk.size)
-    (λ had. had_sized (drop t f.disk.past.items) all (images_left t f.disk.past.items f.disk.images) had)
-    stayed
-
--- and so has what a file held
+-- what a file held at any moment has the size of an image
 pub held_sized : (f : WholeFile) (t : ℕ) (all : List ℕ) → held_lasting.stayed f t all → length all ≡ 174848
 held_sized f t all stayed = ⊎_elim
     (λ e. ap length e ∙ f.file.held.size)

@@ -8,13 +8,6 @@ use Rattle.d64_image.specs.Offsets.{overwritten}
 use Rattle.image_file.specs.Durable.{IsOverwritten, WritesOver}
 use Rattle.image_file.specs.Lasting.{Lasting, StaysOr}
 
--- whatever came of bringing them to the disk
-pub whole_written : {E : Type 0} (old new : List ℕ) (n : ℕ) (bytes : List ℕ) (r : Result Unit E)
-    → IsOverwritten (Some old) (Some new) n bytes → WritesOver (Some old) (Some new) n bytes r
-whole_written old new n bytes (Ok _) written = written
-whole_written old new n bytes (Err _) written =
-    (length bytes, subst (λ xs. IsOverwritten (Some old) (Some new) n xs) (sym (take-length bytes)) written)
-
 pub overwritten_none : (all : List ℕ) (n : ℕ) → overwritten all n [] ≡ all
 overwritten_none all n =
     let none : n + 0 ≡ n = omega arith in

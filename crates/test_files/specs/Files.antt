@@ -1,7 +1,6 @@
 -- What a file in memory holds, and what of that is on its disk. Our own.
 use Rattle.std.specs.Prelude.{◌≡◌, ◌≢◌, Bool, List, ℕ}
-use Rattle.image_file.specs.Lasting.{Lasting}
-use Rattle.test_files.specs.Disks.{disk_bytes, disk_lasting}
+use Rattle.test_files.specs.Disks.{disk_bytes}
 use Rattle.test_files.specs.declared.disk.Disk.{Disk}
 use Rattle.test_files.specs.declared.disk_file.DiskFile.{DiskFile}
 use Rattle.test_files.specs.declared.disk_file.Lock.TheVariants as locks
@@ -25,17 +24,6 @@ is_alone f = f.lock ≡ locks.Alone
 -- it is locked, so that nobody else writes it
 abbrev pub is_locked : DiskFile → Type 0
 is_locked f = f.lock ≢ locks.None
-
--- what is on its disk stays
-abbrev pub file_lasting : Lasting DiskFile
-file_lasting = record {
-  bytes = λ f. disk_lasting.bytes f.disk;
-  moment = λ f. disk_lasting.moment f.disk;
-  stayed = λ f. disk_lasting.stayed f.disk;
-  small = λ f. disk_lasting.small f.disk;
-  now = λ f. disk_lasting.now f.disk;
-  only_now = λ f. disk_lasting.only_now f.disk;
-}
 
 -- a write that fails leaves no part of itself
 abbrev pub is_whole : DiskFile → Type 0

@@ -2,7 +2,7 @@
 use Rattle.std.specs.Prelude.{List, Some, ℕ}
 use Rattle.image_file.specs.Lasting.{Lasting, Whole}
 use Rattle.test_files.specs.Disks.{disk_lasting}
-use Rattle.test_files.specs.Files.{file_held, file_lasting}
+use Rattle.test_files.specs.Files.{file_held}
 use Rattle.test_files.specs.declared.disk_file.DiskFile.{DiskFile}
 use Rattle.test_files.specs.declared.whole_file.WholeFile.{WholeFile}
 
@@ -14,18 +14,7 @@ file_in f = f.file
 abbrev pub whole_held : WholeFile → List ℕ
 whole_held f = file_held f.file
 
--- what is on its disk stays
-abbrev pub whole_lasting : Lasting WholeFile
-whole_lasting = record {
-  bytes = λ f. file_lasting.bytes f.file;
-  moment = λ f. file_lasting.moment f.file;
-  stayed = λ f. file_lasting.stayed f.file;
-  small = λ f. file_lasting.small f.file;
-  now = λ f. file_lasting.now f.file;
-  only_now = λ f. file_lasting.only_now f.file;
-}
-
--- and what it holds, at each moment
+-- at each moment
 abbrev pub held_lasting : Lasting WholeFile
 held_lasting = record {
   bytes = λ f. disk_lasting.bytes f.file.held;

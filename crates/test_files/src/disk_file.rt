@@ -11,15 +11,6 @@ use std::alloc::{AllocError, Global};
 use std::fs::TryLockError;
 use std::io::{self, ErrorKind, Read};
 
-/// When what is written to a file comes to its disk.
-#[derive(Clone, Copy, Debug, PartialEq, Eq)]
-pub enum Bringing {
-    /// With each write.
-    Flushing,
-    /// When the file is brought there, and not before.
-    WhenSynced,
-}
-
 /// How a file is locked.
 #[derive(Clone, Copy, Debug, PartialEq, Eq)]
 pub enum Lock {
@@ -37,7 +28,6 @@ pub struct DiskFile {
     /// What it holds, with all that it held before.
     held: Disk,
     disk: Disk,
-    bringing: Bringing,
     lock: Lock,
     /// How many calls pass yet.
     calls: u64,
@@ -82,12 +72,11 @@ fn write(held: &mut Disk, at: u64, bytes: &[u8], most: Option<usize>) -> io::Res
 
 impl DiskFile {
     ghost use Rattle.std.specs.Prelude.{IfOk, OnErr, OnOk, true};
-    ghost use Rattle.image_file.specs.Lasting.{IsSectorIn, overwritten_in};
-    ghost use Rattle.test_files.specs.Files.{file_disk, file_held, file_lasting, has_failed, is_whole};
+    ghost use Rattle.test_files.specs.Files.{file_disk, file_held, has_failed, is_whole};
 
     /// A file of this image, all of which is on its disk. No call of it fails before the last that can be counted. An
     /// error if memory for it was refused.
-    pub fn new(alloc: Global, image: &[u8], bringing: Bringing) -> Result<DiskFile, AllocError>
+    pub fn new(alloc: Global, image: &[u8]) -> Result<DiskFile, AllocError>
         requires size { length image.now ≡ 174848 }
         ensures held { IfOk result (λ file. file_held file ≡ image.now) }
         ensures disk { IfOk result (λ file. disk_bytes (file_disk file) ≡ image.now) }
@@ -97,7 +86,6 @@ impl DiskFile {
         Ok(DiskFile {
             held: Disk::new(alloc, image)?,
             disk: Disk::new(alloc, image)?,
-            bringing,
             lock: Lock::None,
             calls: u64::MAX,
             part: 0,
@@ -117,7 +105,6 @@ impl DiskFile {
         let DiskFile {
             held,
             disk,
-            bringing,
             lock,
             failed,
             ..
@@ -125,7 +112,6 @@ impl DiskFile {
         DiskFile {
             held,
             disk,
-            bringing,
             lock,
             calls,
             part,
@@ -141,12 +127,9 @@ impl DiskFile {
         self.held.bytes()
     }
 
-    /// Writes all these bytes from there on, and syncs them if each write is synced.
+    /// Writes all these bytes from there on. They come to its disk when it is synced.
     fn write_through(&mut self, bytes: &[u8], at: u64) -> io::Result<()>
         ensures written { WritesOver (Some (file_held self.old)) (Some (file_held self.new)) at bytes.now result }
-        ensures stays { file_lasting.bytes self.old ≡ Some (file_held self.old)
-            → IsSectorIn (file_lasting.bytes self.old) at bytes.now
-            → StaysOr file_lasting self.old self.new (overwritten_in (file_lasting.bytes self.old) at bytes.now) }
         ensures whole { is_whole self.old → at + length bytes.now ≤ 174848
             → StaysOr disk_lasting self.old.held self.new.held (Some (overwritten (file_held self.old) at bytes.now)) }
         ensures part { self.new.part ≡ self.old.part }
@@ -157,19 +140,14 @@ impl DiskFile {
         } else {
             Some(self.part)
         };
-        write(&mut self.held, at, bytes, most)?;
-        if self.bringing == Bringing::Flushing {
-            self.disk.bring(self.held.bytes())?;
-        }
-        Ok(())
+        write(&mut self.held, at, bytes, most)
     }
 
     /// Syncs all that it holds. A call that fails does that or not.
     fn bring_all(&mut self) -> io::Result<()>
         ensures held { self.new.held ≡ self.old.held }
         ensures part { self.new.part ≡ self.old.part }
-        ensures lasting { OnOk result (file_lasting.bytes self.new ≡ Some (file_held self.new)) }
-        ensures stays { StaysOr file_lasting self.old self.new (Some (file_held self.old)) }
+        ensures lasting { OnOk result (disk_bytes (file_disk self.new) ≡ file_held self.new) }
         ensures lock { self.new.lock ≡ self.old.lock }
         ensures same { has_failed self.new ≡ has_failed self.old }
     {
@@ -183,9 +161,6 @@ impl DiskFile {
     /// Writes as `write_through` does, and notes whether it failed.
     pub(crate) fn write_noted(&mut self, bytes: &[u8], at: u64) -> io::Result<()>
         ensures written { WritesOver (Some (file_held self.old)) (Some (file_held self.new)) at bytes.now result }
-        ensures stays { file_lasting.bytes self.old ≡ Some (file_held self.old)
-            → IsSectorIn (file_lasting.bytes self.old) at bytes.now
-            → StaysOr file_lasting self.old self.new (overwritten_in (file_lasting.bytes self.old) at bytes.now) }
         ensures whole { is_whole self.old → at + length bytes.now ≤ 174848
             → StaysOr disk_lasting self.old.held self.new.held (Some (overwritten (file_held self.old) at bytes.now)) }
         ensures part { self.new.part ≡ self.old.part }
@@ -201,8 +176,7 @@ impl DiskFile {
     pub(crate) fn bring_noted(&mut self) -> io::Result<()>
         ensures held { self.new.held ≡ self.old.held }
         ensures part { self.new.part ≡ self.old.part }
-        ensures lasting { OnOk result (file_lasting.bytes self.new ≡ Some (file_held self.new)) }
-        ensures stays { StaysOr file_lasting self.old self.new (Some (file_held self.old)) }
+        ensures lasting { OnOk result (disk_bytes (file_disk self.new) ≡ file_held self.new) }
         ensures lock { self.new.lock ≡ self.old.lock }
         ensures failed { OnErr result (has_failed self.new ≡ true) }
         ensures passed { OnOk result (has_failed self.new ≡ has_failed self.old) }
@@ -223,11 +197,12 @@ impl DiskFile {
 impl WritesAt for DiskFile {
     ghost use Rattle.std.specs.Prelude.{◌≡◌, ◌≢◌, Some};
     ghost use Rattle.image_file.specs.Lasting.{unknown_whole};
-    ghost use Rattle.test_files.specs.Files.{file_held, file_lasting, has_failed, is_alone, is_locked};
+    ghost use Rattle.test_files.specs.Disks.{disk_bytes};
+    ghost use Rattle.test_files.specs.Files.{file_disk, file_held, has_failed, is_alone, is_locked};
 
     ghost held = { λ f. Some (file_held f) };
 
-    ghost lasting = { file_lasting };
+    ghost lasting = { λ f. Some (disk_bytes (file_disk f)) };
 
     ghost whole = { unknown_whole };
 

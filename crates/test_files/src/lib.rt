@@ -9,7 +9,7 @@ mod runs;
 mod whole_file;
 
 pub use disk::{Disk, IMAGE_BYTES};
-pub use disk_file::{Bringing, DiskFile, Lock};
+pub use disk_file::{DiskFile, Lock};
 pub use noting::{NotedLines, NotedReplies};
 pub use runs::play_in_file;
 pub use whole_file::WholeFile;

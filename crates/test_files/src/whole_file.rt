@@ -36,12 +36,13 @@ impl WholeFile {
 
 impl WritesAt for WholeFile {
     ghost use Rattle.std.specs.Prelude.{◌≡◌, Some};
-    ghost use Rattle.test_files.specs.Files.{has_failed};
-    ghost use Rattle.test_files.specs.WholeFiles.{file_in, whole_file, whole_held, whole_lasting};
+    ghost use Rattle.test_files.specs.Disks.{disk_bytes};
+    ghost use Rattle.test_files.specs.Files.{file_disk, has_failed};
+    ghost use Rattle.test_files.specs.WholeFiles.{file_in, whole_file, whole_held};
 
     ghost held = { λ f. Some (whole_held f) };
 
-    ghost lasting = { whole_lasting };
+    ghost lasting = { λ f. Some (disk_bytes (file_disk (file_in f))) };
 
     ghost whole = { whole_file };
 

@@ -3,7 +3,7 @@ use crate::images::formatted;
 use host_session::Printer;
 use shop_commands::show_image;
 use std::process::Abort;
-use test_files::{Bringing, DiskFile, IMAGE_BYTES, WholeFile, play_in_file};
+use test_files::{DiskFile, IMAGE_BYTES, WholeFile, play_in_file};
 
 const SCRIPT: &[u8] = b"1,1,S,42,120\n1,2,I,42,20\n";
 
@@ -41,7 +41,7 @@ fn shops_in_file(
     if image.len() != IMAGE_BYTES {
         panic!(rt; "no image");
     }
-    let file = DiskFile::new(rt.alloc(), image.as_slice(), Bringing::WhenSynced);
+    let file = DiskFile::new(rt.alloc(), image.as_slice());
     let file = WholeFile::new(file.expect(rt, "a file").failing(calls, 0, false));
     let mut out = Printer::new(Vec::new(rt.alloc()));
     let (file, ended) = play_in_file(rt.alloc(), image.as_slice(), SCRIPT, file, &mut out);

@@ -4,4 +4,3 @@ pub mod Kept
 pub mod KeptOn
 pub mod KeptSectors
 pub mod KeptSizes
-pub mod Synced

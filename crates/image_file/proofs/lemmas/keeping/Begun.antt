@@ -1,4 +1,4 @@
--- A file of an image, of which it is known which bytes stay or which it holds.
+-- A file of an image, of which it is known which bytes it holds.
 use Rattle.std.proofs.Common.{
   ◌≡◌,
   ◌∙◌,
@@ -24,16 +24,8 @@ use Rattle.std.proofs.lemmas.List.{length-take}
 use Rattle.std.proofs.Math.Seq.{take_all}
 use Rattle.d64_image.specs.Keeps.{Agrees, kept_or}
 use Rattle.d64_image.specs.Memory.{sectors_in}
-use Rattle.image_file.specs.Lasting.{Lasting, Whole, seen}
+use Rattle.image_file.specs.Lasting.{Whole, seen}
 use Rattle.image_file.specs.LastingImages.{image_of, image_of-size}
-use Rattle.image_file.specs.declared.durability.Durability.{Durability}
-use Rattle.image_file.specs.declared.durability.Durability.TheVariants as durabilities
-
--- where sectors are brought to the disk at the end, none is brought there before
-pub unbrought : (b : Bool) (d : Durability) → (b ≡ true → d ≡ durabilities.EachSector) → d ≡ durabilities.AtEnd
-    → b ≡ false
-unbrought true d each end = let e = sym (each refl) ∙ end in cc
-unbrought false d each end = refl
 
 -- bytes of which one more was asked for than there are
 read_whole : (all image : List ℕ) → image ≡ take 174849 all → length image ≡ 174848 → length all ≡ 174848
@@ -42,12 +34,10 @@ read_whole all image e size =
     omega (arith, n, length-take 174849 all)
 
 -- what is looked at of a file is what it holds
-pub seen_held : {F : Type 0} (held : F → Option (List ℕ)) (L : Lasting F) (W : Whole held) (synced sized : Bool) (f : F)
-    (X : Type 0) → (synced ≡ true → X × (L.bytes f ≡ held f)) → (sized ≡ true → X) → (all : List ℕ)
-    → (seen L W.lasting synced sized).bytes f ≡ Some all → X × (held f ≡ Some all)
-seen_held held L W true sized f X brought whole all e = ((brought refl).0, sym (brought refl).1 ∙ e)
-seen_held held L W false true f X brought whole all e = (whole refl, W.is_held f all e)
-seen_held held L W false false f X brought whole all e = absurd (none-some all e)
+pub seen_held : {F : Type 0} (held : F → Option (List ℕ)) (W : Whole held) (sized : Bool) (f : F) (X : Type 0)
+    → (sized ≡ true → X) → (all : List ℕ) → (seen W.lasting sized).bytes f ≡ Some all → X × (held f ≡ Some all)
+seen_held held W true f X whole all e = (whole refl, W.is_held f all e)
+seen_held held W false f X whole all e = absurd (none-some all e)
 
 -- and so as many bytes as an image has, where the image was read of it
 pub sized : (o held : Option (List ℕ)) (image : List ℕ) → IfSome held (λ all. image ≡ take 174849 all)

@@ -1,15 +1,13 @@
--- A file that keeps what it kept: one that nothing was asked of, and one that was brought to the disk at the end.
+-- A file that keeps what it kept: one that was synced.
 use Rattle.std.proofs.Common.{◌≡◌, ◌≤◌, ◌⊎◌, ◌∙◌, Bool, false, true, ℕ, List, Some, Result, Ok, Err}
 use Rattle.std.proofs.Common.{ap, inl, inr, le_refl, length, refl, sym, ⊎_elim}
 use Rattle.std.specs.Prelude.{OnErr, OnOk}
-use Rattle.std.proofs.lemmas.Bool.{false≢true}
 use Rattle.image_file.specs.Lasting.{Lasting, StaysOr, seen}
 use Rattle.image_file.specs.LastingImages.{image_of, stayed_image}
 use Rattle.image_file.specs.ImageFile.{GrowsOn, KeepsOn, placed, seen_of}
 use Rattle.image_file.specs.declared.durability.WritesAt.{Ghosts}
 use Rattle.image_file.specs.declared.sectors.ImageFile.{ImageFile}
 use Rattle.image_file.proofs.lemmas.keeping.KeptSectors.{seen_back, seen_so}
-use Rattle.image_file.proofs.lemmas.keeping.KeptSizes.{unmoved}
 
 -- whoever told of a failure failed, now or before
 pub still_blamed : {E : Type 0} (r : Result Unit E) (before after : Bool) → OnErr r (after ≡ true)
@@ -17,13 +15,11 @@ pub still_blamed : {E : Type 0} (r : Result Unit E) (before after : Bool) → On
 still_blamed (Ok u) before after failed passed was = passed ∙ was
 still_blamed (Err fault) before after failed passed was = failed
 
--- what is looked at of a file whose sectors aren't brought to the disk
-unsynced_stays : {F : Type 0} (L W : Lasting F) (synced sized : Bool) (old new : F) → synced ≡ false
-    → StaysOr W old new (W.bytes old)
-    → StaysOr (seen L W synced sized) old new ((seen L W synced sized).bytes old)
-unsynced_stays L W true sized old new e stays = absurd (false≢true (sym e))
-unsynced_stays L W false true old new e stays = stays
-unsynced_stays L W false false old new e stays = record {
+-- what is looked at of a file that holds what it held
+seen_stays : {F : Type 0} (W : Lasting F) (sized : Bool) (old new : F) → StaysOr W old new (W.bytes old)
+    → StaysOr (seen W sized) old new ((seen W sized).bytes old)
+seen_stays W true old new stays = stays
+seen_stays W false old new stays = record {
   now = inl refl;
   later = le_refl 0;
   each = λ all never. absurd never;
@@ -52,21 +48,12 @@ module _ {F : Type 0} {G : Ghosts F} (a b : ImageFile F G) (grows : GrowsOn a b)
         };
       }
 
-  pub kept_at_end : a.synced ≡ false → StaysOr G.whole.lasting a.file b.file (G.whole.lasting.bytes a.file)
-      → KeepsOn a b
-  kept_at_end unsynced stays =
-      stays_kept (unsynced_stays G.lasting G.whole.lasting a.synced a.sized a.file b.file unsynced stays)
+  pub kept_at_end : StaysOr G.whole.lasting a.file b.file (G.whole.lasting.bytes a.file) → KeepsOn a b
+  kept_at_end stays = stays_kept (seen_stays G.whole.lasting a.sized a.file b.file stays)
 
-module _ {F : Type 0} {G : Ghosts F} (a : ImageFile F G) where
-  pub grows_not : GrowsOn a a
-  grows_not = placed.reached_same a
-
-  pub kept_same : KeepsOn a a
-  kept_same = stays_kept a a grows_not (unmoved (seen_of a) a.file)
-
-  pub sized_at_end : (new : F) → a.synced ≡ false
-      → StaysOr G.whole.lasting a.file new (G.whole.lasting.bytes a.file)
-      → (all : List ℕ) → (seen_of a).bytes new ≡ Some all → length all ≡ 174848
-  sized_at_end new unsynced stays all e =
-      let x = unsynced_stays G.lasting G.whole.lasting a.synced a.sized a.file new unsynced stays in
-      a.whole all (⊎_elim (λ s. sym s ∙ e) (λ s. sym s ∙ e) x.now)
+pub sized_at_end : {F : Type 0} {G : Ghosts F} (a : ImageFile F G) (new : F)
+    → StaysOr G.whole.lasting a.file new (G.whole.lasting.bytes a.file)
+    → (all : List ℕ) → (seen_of a).bytes new ≡ Some all → length all ≡ 174848
+sized_at_end {F} {G} a new stays all e =
+    let x = seen_stays G.whole.lasting a.sized a.file new stays in
+    a.whole all (⊎_elim (λ s. sym s ∙ e) (λ s. sym s ∙ e) x.now)

@@ -1,4 +1,4 @@
--- A file in which a sector was written, or which was left as it was: how long it is, and what came of it.
+-- A file in which a sector was written: how long it is, and what came of it.
 use Rattle.std.proofs.Common.{◌≡◌, ◌≤◌, ◌+◌, ◌∙◌, ℕ, List, Option, Some, Result, Ok, Err}
 use Rattle.std.proofs.Common.{add-zero, ap, arith, inl, le_refl, length, min, refl, subst, sym, ⊎_elim}
 use Rattle.std.specs.Prelude.{None, OnErr, OnOk}
@@ -21,28 +21,6 @@ at_err X r fault e h = subst (λ x. OnErr x X) e h
 pub written_at : {E : Type 0} (old new : Option (List ℕ)) (m n : ℕ) (bytes : List ℕ) (r : Result Unit E) → m ≡ n
     → WritesOver old new m bytes r → WritesOver old new n bytes r
 written_at old new m n bytes r e h = subst (λ x. WritesOver old new x bytes r) e h
-
--- nothing was written: a beginning of no bytes
-pub unwritten : {E : Type 0} (o : Option (List ℕ)) (n : ℕ) (bytes : List ℕ) (fault : E)
-    → WritesOver o o n bytes (Err fault)
-unwritten None n bytes fault = (0, refl)
-unwritten (Some all) n bytes fault = (0, λ _. ap Some (rw (add-zero, append-nil) (sym (take-append-drop n all))))
-
-pub unmoved : {F : Type 0} (L : Lasting F) (f : F) → {next : Option (List ℕ)} → StaysOr L f f next
-unmoved L f = record {
-  now = inl refl;
-  later = le_refl (L.moment f);
-  each = λ all h. inl (L.only_now f all h);
-  before = λ t all le h. inl h;
-}
-
-pub untaken : {F E : Type 0} (L : Lasting F) (f : F) (n : ℕ) (bytes : List ℕ) (fault : E)
-    → TakesSector L f f n bytes (Err fault)
-untaken L f n bytes fault = record { stays = unmoved L f; ok = tt }
-
--- a failure was counted
-pub no_failure : (X : Type 0) (before after : ℕ) → after ≡ min (before + 1) 18446744073709551615 → after ≡ 0 → X
-no_failure X before after counted none = absurd {A = X} (omega (arith, counted, none))
 
 overwritten_length : (xs : List ℕ) (n : ℕ) (bytes : List ℕ) → n + length bytes ≤ length xs
     → length (overwritten xs n bytes) ≡ length xs
