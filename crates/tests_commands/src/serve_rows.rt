@@ -13,7 +13,7 @@ use std::cell::Cell;
 use std::io::{BufRead, Write};
 use std::process::Abort;
 
-/// The file behind a mirror.
+/// The file of a mirror.
 fn tape_of(mirror: KeptMirror<ImageFile<Tape>>) -> Tape {
     let (file, _) = mirror.into_inner();
     file.into_inner()
