@@ -26,7 +26,7 @@ RUNS = {b"$": (False, False), b"full": (False, False), b"person": (True, True), 
 NOTHING = {b"prints": b"", b"tells": b"", b"ends": b"0", b"makes": b"0", b"logged": b"no log", b"written": b"as it was", b"others": b""}
 LEFT = {*NOTHING, b"size", b"leaves"} - {b"others"}
 PATHS = {b"image": "a.d64", b"script": "s.txt", b"log": "a.d64-log", b"input": "../input"}
-SHOWN = 300
+SHOWN = 300  # bytes of an output that differs
 DROP_OF_BOUNDS, RIGHT_TO_ANY_FILE = 24, 1  # prctl(2), capabilities(7)
 
 
