@@ -2,16 +2,25 @@
 use crate::scenes::{Rows, hold};
 
 /// The rows, each text under what it shows.
-static ROWS: [Rows; 4] = [
-    ("an image is on the disk before it is read", SYNCED),
-    ("changes whose syncs fail are told", UNSYNCED),
+static FAILING: [Rows; 2] = [
     ("changes whose writes fail are told", BROKEN),
     ("the first fault is told", FIRST),
 ];
 
+// Each is a test of its own, which has 60 seconds.
 #[test]
 fn rows_hold(rt: HostRuntime) {
-    hold(&rt, &ROWS);
+    hold(&rt, &FAILING);
+}
+
+#[test]
+fn images_are_on_the_disk_before_they_are_read(rt: HostRuntime) {
+    hold(&rt, &[("synced", SYNCED)]);
+}
+
+#[test]
+fn changes_whose_syncs_fail_are_told(rt: HostRuntime) {
+    hold(&rt, &[("unsynced", UNSYNCED)]);
 }
 
 /// What is there is synced before it is read, and what is changed all at once.
