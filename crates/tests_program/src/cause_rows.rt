@@ -19,19 +19,6 @@ tells DEVICE|ledger: a.d64: no storage space, at sector 17/2; make room there, a
 ends 3
 rewritten
 
-input 1,1,S,1,5|
-disk-takes 300 bytes
-person ledger_cli serve --in-place a.d64
-prints 1,1,MEDIA|
-tells DEVICE|ledger: a.d64: no storage space, at sector 17/0; make room there, and go on|
-ends 3
-written
-
-output-takes 0 bytes
-person ledger_cli show a.d64
-tells FILE|ledger: standard output: no storage space|
-ends 3
-
 unreadable
 person ledger_cli show a.d64
 tells FILE|ledger: a.d64: other error|
@@ -56,18 +43,10 @@ person ledger_cli serve a.d64
 tells FILE|ledger: beside a.d64: other error|
 ends 3
 
-input 1,1,S,1,5|
-gone 3
-person ledger_cli serve --in-place a.d64
-prints 1,1,MEDIA|
-tells DEVICE|ledger: a.d64: entity not found|
-ends 3
-written
-
 # it has another length, and no call failed
 cut 2
-person ledger_cli serve --in-place a.d64
-tells DEVICE|ledger: a.d64: its name doesn't lead to the file that was opened, or that has another length|
+person ledger_cli serve a.d64
+tells DEVICE|ledger: a.d64: its name doesn't lead to the file that was opened, or that has another length; all replies are in its log, which goes with it (docs/KEEPERS.md, DEVICE)|
 ends 3
 
 input 1,1,S,1,5|
@@ -77,4 +56,21 @@ prints 1,1,DONE,5|
 tells DEVICE|ledger: a.d64: entity not found; all replies are in its log, which goes with it (docs/KEEPERS.md, DEVICE)|
 ends 3
 logged
+
+hurt WRONG MAP
+script
+sync 2 fails
+person ledger_cli repair a.d64
+tells DEVICE|ledger: a.d64: other error; copy it to another medium, check the copy, and go on there|
+ends 3
+written
+logged
+
+script 1,1,S,1,5|1,2,S,1,6|
+output-takes 12 bytes
+waiting ledger_cli play a.d64 s.txt
+prints 1,1,DONE,5|1
+tells FILE|ledger: standard output: no storage space|
+ends 3
+written
 ";

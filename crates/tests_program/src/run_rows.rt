@@ -64,13 +64,12 @@ run ledger play a.d64 s.txt
 tells LAYOUT LOOP 17/0|
 ends 1
 
+# there is no folder for its log
 no script
-input 1,1,S,42,120|1,2,R,42,1|
+input 1,1,S,42,120|
 run ledger serve a.d64
-prints 1,1,DONE,120|1,2,DONE,121|
-written
-$ ledger_cli show a.d64
-prints TOP 9256|CARD 42,121|TILL 1,2,R,42,1,DONE,121|PRIOR 1,1,S,42,120,DONE,120|
+tells FILE|
+ends 3
 
 no script
 hurt COUNT
@@ -186,6 +185,15 @@ no image
 script 1,1,S,8819,4|1,2,S,8820,4|
 run ledger dry s.txt
 prints 1,1,DONE,4|1,2,72,DISK FULL|
+
+no script
+run ledger check a.d64 a.d64
+tells FILE|
+ends 3
+
+run ledger picture --compare a.d64 s.txt
+tells IMAGE SIZE|
+ends 1
 ";
 
 /// Words that ask for no job: its fault's number and status.

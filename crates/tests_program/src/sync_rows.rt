@@ -12,56 +12,15 @@ fn rows_hold(rt: HostRuntime) {
     hold(&rt, &ROWS);
 }
 
-/// When plays and shops that are served sync an image: at the end, or before the first write and after each. If a sync
-/// fails, a play of these messages gives the answer then.
+/// A play syncs an image at its end. If the sync fails, a further play of these messages gives the answer.
 const SYNCED: &[u8] = b"
 script 1,1,S,42,120|
-input 1,1,S,42,120|
-$ ledger_cli serve --in-place a.d64
-prints 1,1,DONE,120|
-written
-synced
-
-script 1,1,S,42,120|
-input 1,1,S,42,120|
-sync 1 fails
-$ ledger_cli serve --in-place a.d64
-tells DEVICE|
-ends 3
-syncs 1
-$ ledger_cli play a.d64 s.txt
-prints 1,1,DONE,120|
-written
-
-script 1,1,S,42,120|
-input 1,1,S,42,120|
-sync 3 fails
-$ ledger_cli serve --in-place a.d64
-prints 1,1,MEDIA|
-tells DEVICE|
-ends 3
-written
-syncs 3
-$ ledger_cli play a.d64 s.txt
-prints 1,1,DONE,120|
-written
-
-script 1,1,S,42,120|
-input 1,1,S,42,120|
-$ ledger_cli serve --in-place a.d64 --unsynced
-prints 1,1,DONE,120|
-written
-syncs 1
-
-script 1,1,S,42,120|
-input 1,1,S,42,120|
 $ ledger_cli play a.d64 s.txt
 prints 1,1,DONE,120|
 written
 syncs 1
 
 script 1,1,S,42,120|
-input 1,1,S,42,120|
 sync 1 fails
 $ ledger_cli play a.d64 s.txt
 prints 1,1,DONE,120|
@@ -73,47 +32,10 @@ $ ledger_cli play a.d64 s.txt
 prints 1,1,DONE,120|
 
 script @01 x|
-input @01 x|
 $ ledger_cli play a.d64 s.txt
 tells SCRIPT LINE 1|
 ends 1
 syncs 0
-
-script 1,1,S,42,120|
-input 1,1,S,42,120|
-$ ledger_cli play --sync a.d64 s.txt
-prints 1,1,DONE,120|
-written
-synced
-
-script 1,1,S,42,120|
-input 1,1,S,42,120|
-sync 1 fails
-$ ledger_cli play --sync a.d64 s.txt
-tells DEVICE|
-ends 3
-syncs 1
-$ ledger_cli play a.d64 s.txt
-prints 1,1,DONE,120|
-written
-
-script 1,1,S,42,120|
-input 1,1,S,42,120|
-sync 3 fails
-$ ledger_cli play --sync a.d64 s.txt
-prints 1,1,MEDIA|
-tells DEVICE|
-ends 3
-written
-syncs 3
-$ ledger_cli play a.d64 s.txt
-prints 1,1,DONE,120|
-written
-
-script
-input
-$ ledger_cli play --sync a.d64 s.txt
-syncs 1
 ";
 
 /// An image is synced with its folder before the program prints that it is made. One that can't be synced isn't called
