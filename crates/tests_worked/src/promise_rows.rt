@@ -9,7 +9,7 @@ use retry_safe::retry_after_power_loss;
 use std::process::Abort;
 
 /// A first set.
-static SET: [Event<'static>; 1] = [Event {
+const SET: [Event<'static>; 1] = [Event {
     message: b"1,1,S,15,7",
     cut: None,
 }];
