@@ -48,6 +48,10 @@ printf '%s' "$BUILDS" >crates/ledger/out/ledger
 chmod 755 crates/ledger/out/ledger
 eval "$SAYS"
 """
+# as tests/rows.py it says what ROWS does
+ROWS = """#!/bin/sh
+eval "${ROWS:-echo '2 passed, 0 failed'}"
+"""
 BUILT = "#!/bin/sh\necho \"built: $*\"\n"
 OTHER_FILES = "no release here is of these files"
 
@@ -62,6 +66,7 @@ class Repository:
         for name in COPIED:
             (folder / name).parent.mkdir(exist_ok=True)
             shutil.copy2(TOP / name, folder / name)
+        self.write("tests/rows.py", ROWS, 0o755)
         self.bare, self.kit = folder / "bare", folder / "kit"
         self.make_paths()
         self.release()
@@ -196,37 +201,39 @@ def try_build(here):
 
 
 def try_tests(here):
-    """`./test` sums up what the kit and tests/release.py say."""
-    def says(what, script, last, builds=PROGRAM, part=""):
-        ran = here.ran("test", BUILDS=builds, SAYS=script)
+    """`./test` sums up what the kit, tests/rows.py and tests/release.py say."""
+    def says(what, script, last, builds=PROGRAM, part="", rows=""):
+        ran = here.ran("test", BUILDS=builds, SAYS=script, ROWS=rows)
         ended = ran.stdout.splitlines()[-1] if ran.stdout else ""
         good = (ran.returncode == 0) == last.endswith(" 0 failed") and ended == last and part in ran.stdout + ran.stderr
         here.tell(f"./test: {what}", good, ran)
 
     well = "echo '3 passed, 0 failed'"
-    says("all passed", well, "4 passed, 0 failed", part="it passes the README's session")
-    says("one failed", "echo '2 passed, 1 failed'; exit 1", "3 passed, 1 failed", part="2 passed, 1 failed\n")
-    says("the kit was killed", "kill -9 $$", "1 passed, 1 failed", part="status 137")
-    says("it stopped without its last line", "echo '3 passed, 0 failed of x'", "1 passed, 1 failed")
-    says("its status is wrong", f"{well}; exit 2", "4 passed, 1 failed", part="status 2")
-    says("another program was built", well, "3 passed, 1 failed", builds=PROGRAM + "\n", part="built another program")
+    says("all passed", well, "6 passed, 0 failed", part="it passes the README's session")
+    says("one failed", "echo '2 passed, 1 failed'; exit 1", "5 passed, 1 failed", part="2 passed, 1 failed\n")
+    says("a row failed", well, "5 passed, 1 failed", rows="echo '1 passed, 1 failed'; exit 1")
+    says("no row was played", well, "4 passed, 1 failed", rows="exit 1", part="the rows ended with status 1")
+    says("the kit was killed", "kill -9 $$", "3 passed, 1 failed", part="status 137")
+    says("it stopped without its last line", "echo '3 passed, 0 failed of x'", "3 passed, 1 failed")
+    says("its status is wrong", f"{well}; exit 2", "6 passed, 1 failed", part="status 2")
+    says("another program was built", well, "5 passed, 1 failed", builds=PROGRAM + "\n", part="built another program")
     here.write("releases/more", "")
-    says("a file is in no sum", well, "3 passed, 1 failed", part="more")
+    says("a file is in no sum", well, "5 passed, 1 failed", part="more")
     (here.folder / "releases/more").unlink()
     here.write("README.md", FILES["README.md"].replace("CARD 1,2", "CARD 1,3"))
-    says("the README shows another session", well, "3 passed, 1 failed", part="prints otherwise")
+    says("the README shows another session", well, "5 passed, 1 failed", part="prints otherwise")
     here.write("README.md", FILES["README.md"])
     here.write("crates/low/src/lib.rt", "changed\n")
-    says("the release is of other files", well, "4 passed, 0 failed", builds=BUILT, part="nothing was compared")
+    says("the release is of other files", well, "6 passed, 0 failed", builds=BUILT, part="nothing was compared")
     text = (here.folder / "releases/BUILT_FROM").read_text()
     here.write("releases/BUILT_FROM", text + "\n")
-    says("a file's sum is wrong", well, "3 passed, 1 failed", part="hasn't the sum")
+    says("a file's sum is wrong", well, "5 passed, 1 failed", part="hasn't the sum")
     here.write("crates/low/src/lib.rt", FILES["crates/low/src/lib.rt"])
     here.write("releases/BUILT_FROM", text.replace("kit 1", "kit 2"))
     here.sum_up()
-    says("the release is of another kit", well, "4 passed, 0 failed", builds=BUILT, part="the kit here isn't kit 2")
+    says("the release is of another kit", well, "6 passed, 0 failed", builds=BUILT, part="the kit here isn't kit 2")
     shutil.rmtree(here.folder / "releases")
-    says("there is no release", well, "4 passed, 0 failed", builds=BUILT, part="there is none here")
+    says("there is no release", well, "6 passed, 0 failed", builds=BUILT, part="there is none here")
     environment = {**os.environ, "PATH": f"{here.kit}:{os.environ['PATH']}", "BUILDS": BUILT, "SAYS": f"echo first; sleep 2; {well}"}
     with subprocess.Popen([here.folder / "test"], env=environment, stdout=subprocess.PIPE, text=True) as started:
         began = time.monotonic()

@@ -27,11 +27,6 @@ tells DEVICE|ledger: a.d64: no storage space, at sector 17/0; make room there, a
 ends 3
 written
 
-output-takes 0 bytes
-person ledger_cli show a.d64
-tells FILE|ledger: standard output: no storage space|
-ends 3
-
 unreadable
 person ledger_cli show a.d64
 tells FILE|ledger: a.d64: other error|
@@ -77,4 +72,29 @@ prints 1,1,DONE,5|
 tells DEVICE|ledger: a.d64: entity not found; all replies are in its log, which goes with it (docs/KEEPERS.md, DEVICE)|
 ends 3
 logged
+
+script 1,1,S,1,5|
+sync 3 fails
+person ledger_cli play --sync a.d64 s.txt
+prints 1,1,MEDIA|
+tells DEVICE|ledger: a.d64: other error; copy it to another medium, check the copy, and go on there|
+ends 3
+written
+
+hurt WRONG MAP
+script
+sync 2 fails
+person ledger_cli repair a.d64
+tells DEVICE|ledger: a.d64: other error; copy it to another medium, check the copy, and go on there|
+ends 3
+written
+logged
+
+script 1,1,S,1,5|1,2,S,1,6|
+output-takes 12 bytes
+waiting ledger_cli play a.d64 s.txt
+prints 1,1,DONE,5|1
+tells FILE|ledger: standard output: no storage space|
+ends 3
+written
 ";

@@ -1,5 +1,5 @@
-//! Scripts of megabytes, records of each kind of length, images in other folders, outputs that falter once, and refusals
-//! whose explanation leaves a file as it is.
+//! A script of megabytes whose sectors are synced, images in other folders, outputs that falter once, and a refusal whose
+//! explanation leaves a file as it is.
 use crate::comparing::same_at;
 use crate::scenes::{Rows, Scene, first_scene, hold};
 use ledger_jobs::{Job, do_job, end};
@@ -7,8 +7,7 @@ use std::io::{self, ErrorKind, Write};
 use test_runtime::Runtime;
 
 /// The rows, each text under what it shows.
-static ROWS: [Rows; 4] = [
-    ("long records have their length", LENGTHS),
+static ROWS: [Rows; 3] = [
     ("the folder of an image is synced", ELSEWHERE),
     ("the root of an image is synced", AT_THE_ROOT),
     ("explained refusals change no file", EXPLAINED),
@@ -19,21 +18,7 @@ fn rows_hold(rt: HostRuntime) {
     hold(&rt, &ROWS);
 }
 
-/// A script of 3,300,000 bytes, of which only the first line is new: without a disk, on one, and with each sector synced.
-const DRY: &[u8] = b"
-script 330000*1,1,S,1,5|
-$ ledger_cli dry s.txt
-prints 330000*1,1,DONE,5|
-";
-
-const PLAYED: &[u8] = b"
-script 330000*1,1,S,1,5|
-$ ledger_cli play a.d64 s.txt
-prints 330000*1,1,DONE,5|
-written
-syncs 1
-";
-
+/// A script of 3,300,000 bytes, of which only the first line is new.
 const SYNCED: &[u8] = b"
 script 330000*1,1,S,1,5|
 $ ledger_cli play --sync a.d64 s.txt
@@ -42,36 +27,11 @@ written
 synced
 ";
 
-// Each is a test of its own, which has 60 seconds.
-#[test]
-fn a_script_of_megabytes_is_run_dry(rt: HostRuntime) {
-    hold(&rt, &[("run dry", DRY)]);
-}
-
-#[test]
-fn a_script_of_megabytes_is_played(rt: HostRuntime) {
-    hold(&rt, &[("played", PLAYED)]);
-}
-
+// It is a test of its own, which has 60 seconds.
 #[test]
 fn a_script_of_megabytes_is_synced(rt: HostRuntime) {
     hold(&rt, &[("synced", SYNCED)]);
 }
-
-/// A block has 254 bytes.
-const LENGTHS: &[u8] = b"
-$ ledger_cli make a.d64 CARDS --length 127
-prints MADE|
-written
-$ ledger_cli map a.d64
-prints ..LENGTH 127 RECORDS 2|OK|..
-
-$ ledger_cli make a.d64 CARDS --length 253
-prints MADE|
-written
-$ ledger_cli map a.d64
-prints ..LENGTH 253 RECORDS 1|OK|..
-";
 
 /// The folder of an image is synced after each of its three syncs, and once more after the log's removal.
 const ELSEWHERE: &[u8] = b"
@@ -97,24 +57,12 @@ syncs 3
 folder-syncs 4
 ";
 
-/// Refusals that a person reads more of: each file stays as it was, and none is made.
+/// A refusal that a person reads more of: each file stays as it was, and none is made.
 const EXPLAINED: &[u8] = b"
-others alone
-person ledger_cli format a.d64 --tills 2
-tells ledger: replacing a.d64, which has 174848 bytes|IN USE|ledger: a.d64: another program has it; end that one first|
-ends 3
-
 unreadable
 person ledger_cli play a.d64 s.txt
 tells FILE|ledger: a.d64: other error|
 ends 3
-
-no image
-log junk
-person ledger_cli format --new a.d64 --tills 2
-tells FILE EXISTS|ledger: a.d64: its log or a folder is there; a log may be all that is left of a shop (docs/LOG.md)|
-ends 1
-logged
 ";
 
 /// What an output does at its first call.

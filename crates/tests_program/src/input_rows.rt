@@ -1,8 +1,11 @@
-//! Standard input that fails while it is read.
+//! Standard input that fails while it is read, and a command line without any word.
 use crate::scenes::{Rows, hold};
 
 /// The rows, each text under what it shows.
-static ROWS: [Rows; 1] = [("an input that fails is told", FAILING)];
+static ROWS: [Rows; 2] = [
+    ("an input that fails is told", FAILING),
+    ("no word is told", NO_WORD),
+];
 
 #[test]
 fn rows_hold(rt: HostRuntime) {
@@ -82,4 +85,11 @@ tells FILE|
 ends 3
 $ ledger_cli show a.d64
 prints TOP 9256|
+";
+
+/// There isn't even the program's name.
+const NO_WORD: &[u8] = b"
+$
+tells error: 'ledger' requires a subcommand but one was not provided|..
+ends 2
 ";

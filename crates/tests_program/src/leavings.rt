@@ -3,15 +3,13 @@ use crate::scenes::Scene;
 use crate::texts::{number_of, took};
 use test_runtime::{Kind, Memory, Stored};
 
-/// How often something was done with the image, its folder or the output, or how many bytes stand there.
+/// How often something was done with the image or its folder, or how many bytes stand there.
 fn counted(memory: &Memory, word: &[u8]) -> Option<usize> {
     match word {
         b"size" => Some(memory.image.size()),
-        b"writes" => Some(memory.image.writes.get()),
         b"syncs" => Some(memory.image.syncs.get()),
         b"folder-syncs" => Some(memory.folder.syncs.get()),
         b"reads-behind" => Some(memory.image.syncs_before.get()),
-        b"pieces" => Some(memory.prints.get()),
         _ => None,
     }
 }
@@ -51,8 +49,6 @@ pub(crate) fn sees(scene: &Scene, word: &[u8], text: &[u8]) -> bool {
             scene.logged.set(true);
             memory.log().kind.get() != Kind::Missing
         }
-        b"unlocked" => memory.image.unlocked.replace(false),
-        b"makes" => memory.made.replace(0) == number_of(text),
         _ => match counted(memory, word) {
             Some(number) => number == number_of(text),
             None => leaves(scene, word, text),

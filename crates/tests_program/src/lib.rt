@@ -4,33 +4,17 @@
 #![tactic(auto)]
 
 #[cfg(test)]
-mod advice_rows;
-#[cfg(test)]
 mod cause_rows;
 #[cfg(test)]
 mod change_rows;
 #[cfg(test)]
 mod comparing;
 #[cfg(test)]
-mod day_rows;
-#[cfg(test)]
-mod extract_rows;
-#[cfg(test)]
-mod failing_rows;
-#[cfg(test)]
-mod file_rows;
-#[cfg(test)]
 mod hole_rows;
 #[cfg(test)]
 mod hurts;
 #[cfg(test)]
 mod input_rows;
-#[cfg(test)]
-mod job_rows;
-#[cfg(test)]
-mod jobs;
-#[cfg(test)]
-mod keeper_rows;
 #[cfg(test)]
 mod known_rows;
 #[cfg(test)]
@@ -40,15 +24,9 @@ mod lock_rows;
 #[cfg(test)]
 mod log_rows;
 #[cfg(test)]
-mod logged_play_rows;
-#[cfg(test)]
 mod moved_rows;
 #[cfg(test)]
 mod output_rows;
-#[cfg(test)]
-mod put_rows;
-#[cfg(test)]
-mod refusal_rows;
 #[cfg(test)]
 mod right_rows;
 #[cfg(test)]
@@ -58,28 +36,8 @@ mod runs;
 #[cfg(test)]
 mod scenes;
 #[cfg(test)]
-mod several_rows;
-#[cfg(test)]
-mod sheet_rows;
-#[cfg(test)]
-mod side_rows;
-#[cfg(test)]
-mod size_rows;
-#[cfg(test)]
-mod stored_rows;
-#[cfg(test)]
 mod surface_jobs;
 #[cfg(test)]
 mod sync_rows;
 #[cfg(test)]
 mod texts;
-#[cfg(test)]
-mod told_rows;
-#[cfg(test)]
-mod typed_rows;
-#[cfg(test)]
-mod value_rows;
-#[cfg(test)]
-mod word_rows;
-#[cfg(test)]
-mod wrong_rows;

@@ -5,7 +5,7 @@ use crate::scenes::{Rows, hold};
 static ROWS: [Rows; 3] = [
     ("lines are served over a log", SERVED),
     ("a log that stays has the shop", LEFT),
-    ("a log of no image is refused", REFUSED),
+    ("a play that fails leaves its shop", PLAYED),
 ];
 
 #[test]
@@ -15,16 +15,6 @@ fn rows_hold(rt: HostRuntime) {
 
 /// Replies are printed after the log has their lines, and the log is landed at the end.
 const SERVED: &[u8] = b"
-input 1,1,S,1,5|1,2,R,1,4|1,2,R,1,4|hello|
-$ ledger_cli serve a.d64
-prints 1,1,DONE,5|1,2,DONE,9|1,2,DONE,9|30,SYNTAX ERROR,00,00|
-written
-$ ledger_cli show a.d64
-prints TOP 9256|CARD 1,9|TILL 1,2,R,1,4,DONE,9|PRIOR 1,1,S,1,5,DONE,5|
-
-# nothing is asked
-$ ledger_cli serve a.d64
-
 input 1,1,S,1,5|
 $ ledger_cli serve --unsynced a.d64
 prints 1,1,DONE,5|
@@ -43,16 +33,6 @@ output-takes 0
 $ ledger_cli serve a.d64
 tells FILE|
 ends 3
-
-input 1,1,S,1,5|
-output-takes 0
-$ ledger_cli serve a.d64
-tells FILE|
-ends 3
-written
-input 1,1,S,1,5|
-$ ledger_cli serve a.d64
-prints 1,1,DONE,5|
 ";
 
 /// A commit that fails isn't answered, and its log stays. The log has the shop from then on, and the next job that writes
@@ -137,89 +117,30 @@ tells FILE|
 ends 3
 ";
 
-/// A log that gives no image is refused by every word, and nothing is changed; but `format` removes it.
-const REFUSED: &[u8] = b"
-log junk
-$ ledger_cli show a.d64
-tells LOG|
-ends 1
+/// A commit that fails isn't reported, and its log stays, as it does if the image goes from its name. The next play lands it.
+const PLAYED: &[u8] = b"
+log-sync 3 fails
+$ ledger_cli play --log a.d64 s.txt
+tells DEVICE|
+ends 3
 logged
-$ ledger_cli check a.d64
-tells LOG|
-ends 1
-logged
-$ ledger_cli list a.d64
-tells LOG|
-ends 1
-logged
-$ ledger_cli map a.d64
-tells LOG|
-ends 1
-logged
-$ ledger_cli bytes a.d64 STOCK
-tells LOG|
-ends 1
-logged
-$ ledger_cli repair --dry-run a.d64
-tells LOG|
-ends 1
-logged
-$ ledger_cli play a.d64 s.txt
-tells LOG|
-ends 1
-logged
-$ ledger_cli serve a.d64
-tells LOG|
-ends 1
-logged
-$ ledger_cli serve --in-place a.d64
-tells LOG|
-ends 1
-logged
-$ ledger_cli repair a.d64
-tells LOG|
-ends 1
-logged
-$ ledger_cli make a.d64 A --length 30
-tells LOG|
-ends 1
-logged
-$ ledger_cli store a.d64 STOCK s.txt
-tells LOG|
-ends 1
-logged
-$ ledger_cli copy a.d64 b.d64
-tells LOG|
-ends 1
-logged
-person ledger_cli show a.d64
-tells LOG|ledger: a.d64: the log beside it is of another image, or not whole; docs/LOG.md says what to do|
-ends 1
-logged
-$ ledger_cli format a.d64 --tills 2
-prints FORMATTED|
-rewritten
-
-# no image is made beside a log alone
-no image
-log junk
-$ ledger_cli format --new a.d64 --tills 2
-tells FILE EXISTS|
-ends 1
-logged
-$ ledger_cli format a.d64 --tills 2
-prints FORMATTED|
+script 1,2,R,1,4|
+$ ledger_cli play --log a.d64 s.txt
+prints 1,2,DONE,9|
 written
 
-# an image of another size has no log
-log junk
-resize 174847
-$ ledger_cli show a.d64
-tells IMAGE SIZE|
-ends 1
+gone 2
+$ ledger_cli play --log a.d64 s.txt
+tells DEVICE|
+ends 3
+
+gone 4
+$ ledger_cli play --log a.d64 s.txt
+prints 1,1,DONE,5|
+tells DEVICE|
+ends 3
 logged
-$ ledger_cli serve a.d64
-tells IMAGE SIZE|
-ends 1
-logged
+$ ledger_cli play --log a.d64 s.txt
+prints 1,1,DONE,5|
+written
 ";

@@ -3,9 +3,8 @@
 use crate::scenes::{Rows, hold};
 
 /// The rows, each text under what it shows.
-static ROWS: [Rows; 3] = [
+static ROWS: [Rows; 2] = [
     ("a file that goes is noticed", GONE),
-    ("what is no file is refused", NO_FILE),
     ("a new image replaces nothing", NEW),
 ];
 
@@ -93,100 +92,11 @@ ends 3
 logged
 ";
 
-/// What is no regular file is neither opened nor written, also to explain why.
-const NO_FILE: &[u8] = b"
-pipe image
-$ ledger_cli check a.d64
-tells FILE|
-ends 3
-
-pipe image
-$ ledger_cli show a.d64
-tells FILE|
-ends 3
-
-pipe image
-$ ledger_cli records a.d64 STOCK
-tells FILE|
-ends 3
-
-pipe image
-$ ledger_cli picture a.d64
-tells FILE|
-ends 3
-
-pipe image
-$ ledger_cli serve --in-place a.d64
-tells FILE|
-ends 3
-
-pipe image
-$ ledger_cli play a.d64 s.txt
-tells FILE|
-ends 3
-
-pipe image
-$ ledger_cli repair a.d64
-tells FILE|
-ends 3
-
-pipe image
-$ ledger_cli format a.d64 --tills 2
-tells FILE|
-ends 3
-
-pipe image
-$ ledger_cli format a.d64 --tills 2 --new
-tells FILE EXISTS|
-ends 1
-
-pipe image
-person ledger_cli repair a.d64
-tells FILE|ledger: a.d64: it is a pipe, a device or a folder|
-ends 3
-
-pipe image
-person ledger_cli format a.d64 --tills 2
-tells FILE|ledger: a.d64: it is a pipe, a device or a folder|
-ends 3
-
-script 1,1,S,1,5|
-pipe script
-output-takes 2 bytes
-person ledger_cli dry s.txt
-prints 1,
-tells FILE|ledger: standard output: no storage space|
-ends 3
-";
-
 /// A new image is made only under a name that is free.
 const NEW: &[u8] = b"
-$ ledger_cli format a.d64 --tills 2 --new
-tells FILE EXISTS|
-ends 1
-
-image
-$ ledger_cli format a.d64 --tills 2 --new
-tells FILE EXISTS|
-ends 1
-
-folder image
-$ ledger_cli format a.d64 --tills 2 --new
-tells FILE EXISTS|
-ends 1
-
-person ledger_cli format a.d64 --tills 2 --new
-tells FILE EXISTS|ledger: a.d64: it is there already; `format` without `--new` replaces it|
-ends 1
-
 # It was made, or a link to nothing stands there: the name was free when it was looked at.
 gone 1
 $ ledger_cli format a.d64 --tills 2
 tells FILE|
 ends 3
-
-no image
-$ ledger_cli format a.d64 --tills 2 --new
-prints FORMATTED|
-leaves the shop
 ";

@@ -33,87 +33,6 @@ written
 
 script 1,1,S,1,5|1,2,S,1,6|
 input 1,1,S,1,5|1,2,S,1,6|
-output-takes 2 bytes
-$ ledger_cli repair a.d64
-prints OK
-tells FILE|
-ends 3
-
-script 1,1,S,1,5|1,2,S,1,6|
-input 1,1,S,1,5|1,2,S,1,6|
-output-takes 3 bytes
-$ ledger_cli make a.d64 CARDS --length 30
-prints MAD
-tells FILE|
-ends 3
-written
-
-script 1,\"1,S,1,5\"|1,\"2,S,1,6\"|
-input 1,1,S,1,5|1,2,S,1,6|
-output-takes 8 bytes
-$ ledger_cli store a.d64 REQUESTS s.txt
-prints 1,\"2,S,1
-tells FILE|
-ends 3
-written
-
-script 1,1,S,1,5|1,2,S,1,6|
-input 1,1,S,1,5|1,2,S,1,6|
-output-takes 4 bytes
-$ ledger_cli map a.d64
-prints    0
-tells FILE|
-ends 3
-
-script 1,1,S,1,5|1,2,S,1,6|
-input 1,1,S,1,5|1,2,S,1,6|
-output-takes 5 bytes
-$ ledger_cli picture a.d64
-prints <!DOC
-tells FILE|
-ends 3
-
-script 1,1,S,1,5|1,2,S,1,6|
-input 1,1,S,1,5|1,2,S,1,6|
-output-takes 5 bytes
-$ ledger_cli records a.d64 REQUESTS
-prints 1,\"\\f
-tells FILE|
-ends 3
-
-script 1,1,S,1,5|1,2,S,1,6|
-input 1,1,S,1,5|1,2,S,1,6|
-output-takes 1 bytes
-$ ledger_cli bytes a.d64 REQUESTS
-prints \xff
-tells FILE|
-ends 3
-
-script 1,1,S,1,5|1,2,S,1,6|
-input 1,1,S,1,5|1,2,S,1,6|
-output-takes 10 bytes
-$ ledger_cli list a.d64
-prints 0 \"STOCK L
-tells FILE|
-ends 3
-
-script 1,1,S,1,5|1,2,S,1,6|
-input 1,1,S,1,5|1,2,S,1,6|
-output-takes 2 bytes
-$ ledger_cli check a.d64
-prints OK
-tells FILE|
-ends 3
-
-script 1,1,S,1,5|1,2,S,1,6|
-input 1,1,S,1,5|1,2,S,1,6|
-output-takes 0 bytes
-$ ledger_cli show a.d64
-tells FILE|
-ends 3
-
-script 1,1,S,1,5|1,2,S,1,6|
-input 1,1,S,1,5|1,2,S,1,6|
 output-takes 12 bytes
 $ ledger_cli dry s.txt
 prints 1,1,DONE,5|1
@@ -128,29 +47,6 @@ prints 1,1,DONE,5|1
 tells FILE|
 ends 3
 written
-
-script 1,1,S,1,5|1,2,S,1,6|
-input 1,1,S,1,5|1,2,S,1,6|
-output-takes 0 bytes
-$ ledger_cli format a.d64 --tills 2
-tells FILE|
-ends 3
-rewritten
-
-script 1,1,S,1,5|1,2,S,1,6|
-input 1,1,S,1,5|1,2,S,1,6|
-output-takes 0 bytes
-$ ledger_cli --help
-tells FILE|
-ends 3
-
-script 1,1,S,1,5|1,2,S,1,6|
-input 1,1,S,1,5|1,2,S,1,6|
-output-takes 5 bytes
-$ ledger_cli --version
-prints ledge
-tells FILE|
-ends 3
 ";
 
 /// A writer that takes everything and hands nothing on.

@@ -186,6 +186,15 @@ no image
 script 1,1,S,8819,4|1,2,S,8820,4|
 run ledger dry s.txt
 prints 1,1,DONE,4|1,2,72,DISK FULL|
+
+no script
+run ledger check a.d64 a.d64
+tells FILE|
+ends 3
+
+run ledger picture --compare a.d64 s.txt
+tells IMAGE SIZE|
+ends 1
 ";
 
 /// Words that ask for no job: its fault's number and status.

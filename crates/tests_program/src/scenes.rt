@@ -5,12 +5,9 @@
 //! space, with `|` for the end of a line and `3*` for what stands there three times.
 //!
 //! What the program finds:
-//! - `image`, `script`, `input`: a file at `a.d64` or `s.txt`, or standard input, with this text; `feed`: the image
-//!   at `a.d64` is on standard input, too
-//! - `no`, `folder`, `read-only`, `pipe` with `image` or `script`: what stands at its path
-//! - `log`: a file with this text where the image's log stands
-//! - `shop`: the shop; `keep`: the image at `a.d64` is the shop from here on, also for the rows below; `aside`: it is put
-//!   aside
+//! - `image`, `script`, `input`: a file at `a.d64` or `s.txt`, or standard input, with this text
+//! - `no`, `folder`, `read-only` with `image` or `script`: what stands at its path
+//! - `keep`: the image at `a.d64` is the shop from here on, also for the rows below; `aside`: it is put aside
 //! - `hurt`: a change of the image (`hurts`); `resize`: its bytes, by cutting it or by zeros
 //!
 //! What fails, only in the next run:
@@ -21,8 +18,8 @@
 //! - `gone`, `cut`: from this look at its name on the image is elsewhere, or has half of its bytes
 //!
 //! The run, by a command line as a shell splits it: `$` with standard error that no person reads, `person` with a person
-//! who reads it, `waiting` with one who doesn't see the output. `job` only prints which job the command line asks for, by
-//! `ledger_cli::job`. `run` does that job by `ledger_cli::run`, over the bytes of `a.d64` and `s.txt` or standard input.
+//! who reads it, `waiting` with one who doesn't see the output. `run` does the job that the words ask for, by
+//! `ledger_cli::run`, over the bytes of `a.d64` and `s.txt` or standard input.
 //!
 //! What it leaves. If no line names them, nothing is printed or reported, the status is 0, nothing is written, and
 //! standard input isn't opened by its name. In every row no other file is made, changed, renamed or removed:
@@ -30,14 +27,11 @@
 //!   that begins with `..` too a part of it
 //! - `written`: the image is another; `rewritten`: it was written, and is as it was; `leaves` with `the shop`, `another`
 //!   or `the one aside`
-//! - `size`, `at-most`: its bytes; `writes`, `syncs`, `folder-syncs`: how many there were; `reads-behind`: how many syncs
-//!   before it was read; `pieces`: in how many writes the output was taken
+//! - `size`, `at-most`: its bytes; `syncs`, `folder-syncs`: how many there were; `reads-behind`: how many syncs before it
+//!   was read
 //! - `synced`: one sync before the first write, and one after each
 //! - `logged`: a log stands beside the image, which no line needs to say if there is none
-//! - `unlocked`: the image was read without a lock, as a script
-//! - `makes`: so many files were made in the folder `out`, which was made before
 use crate::hurts::hurt;
-use crate::jobs::asked;
 use crate::leavings::{is_told, sees};
 use crate::runs::ran;
 use crate::texts::{cut, number_of, text_in, text_of, words_of};
@@ -74,7 +68,6 @@ fn stands(memory: &Memory, kind: &[u8], place: &[u8]) -> bool {
         b"no" => place.hold(Kind::Missing, b""),
         b"folder" => place.turn(Kind::Folder),
         b"read-only" => place.turn(Kind::ReadOnly),
-        b"pipe" => place.turn(Kind::Stream),
         _ => false,
     }
 }
@@ -86,9 +79,6 @@ fn finds(scene: &Scene, word: &[u8], text: &[u8]) -> bool {
         b"image" => memory.image.hold(Kind::Plain, text),
         b"script" => memory.script.hold(Kind::Plain, text),
         b"input" => memory.input.hold(Kind::Plain, text),
-        b"feed" => memory.input.copy(&memory.image),
-        b"shop" => memory.image.copy(&scene.shop),
-        b"log" => memory.put_log(Kind::Plain, text),
         b"keep" => scene.shop.copy(&memory.image),
         b"aside" => scene.aside.copy(&memory.image),
         b"hurt" => hurt(&memory.image, text),
@@ -152,15 +142,6 @@ fn runs(scene: &Scene, told: Audience, line: &[u8]) -> bool {
     begins
 }
 
-/// Writes to the output which job a command line asks for. Whether nothing was left of the run before.
-fn asks(scene: &Scene, line: &[u8]) -> bool {
-    let alloc = scene.memory.alloc;
-    let words = words_of(alloc, line);
-    let begins = is_told(scene) && noted(scene);
-    scene.told.set(false);
-    begins && asked(alloc, words.as_slice(), &scene.memory.out)
-}
-
 /// Runs the job that a command line asks for over the bytes of its files. Whether it could be, and nothing was left of the
 /// run before.
 fn runs_job(scene: &Scene, line: &[u8]) -> bool {
@@ -188,7 +169,6 @@ fn holds(scene: &Scene, line: &[u8]) -> bool {
         b"$" => return runs(scene, Audience::Program, rest),
         b"person" => return runs(scene, Audience::Person, rest),
         b"waiting" => return runs(scene, Audience::Waiting, rest),
-        b"job" => return asks(scene, rest),
         b"run" => return runs_job(scene, rest),
         _ => {}
     }

@@ -1,0 +1,72 @@
+"""A run of a program in a folder: what it prints and reports, how it ends, and which files it changes."""
+
+import os
+import subprocess
+import threading
+import tty
+from contextlib import suppress
+
+SECONDS = int(os.environ.get("ROW_SECONDS", "60"))
+
+
+class Stream:
+    """A pipe, or a terminal, that the program writes to."""
+
+    def __init__(self, is_terminal):
+        self.ours, self.theirs = os.openpty() if is_terminal else os.pipe()
+        if is_terminal:
+            tty.setraw(self.theirs)
+        self.came, self.reader = b"", threading.Thread(target=self.read)
+        self.reader.start()
+
+    def read(self):
+        with suppress(OSError):  # a terminal fails once nobody writes to it any more
+            while part := os.read(self.ours, 65536):
+                self.came += part
+
+    def taken(self):
+        os.close(self.theirs)
+        self.reader.join()
+        os.close(self.ours)
+        return self.came
+
+
+def fed(path, text):
+    """Makes a pipe that gives a text, once it is read."""
+    def feed():
+        with suppress(OSError):
+            path.write_bytes(text)
+    os.mkfifo(path)
+    threading.Thread(target=feed, daemon=True).start()
+
+
+def seen_in(folder):
+    """The bytes of each file in a folder, with none of what is no file."""
+    return {str(it.relative_to(folder)): it.read_bytes() if it.is_file() else b"" for it in folder.rglob("*")}
+
+
+def left_by(program, words, folder, given, terminals, is_full):
+    """What a run leaves, by the words of a row. `terminals` has whether the output and standard error are; or the output is full."""
+    before = seen_in(folder)
+    out, err = (Stream(it) for it in terminals)
+    with open("/dev/full", "wb") as full, open(given, "rb") as given:
+        how = {"stdin": given, "stdout": full if is_full else out.theirs, "stderr": err.theirs, "cwd": folder}
+        with subprocess.Popen(words, executable=program, **how) as started:
+            try:
+                status = b"%d" % started.wait(SECONDS)
+            except subprocess.TimeoutExpired:
+                started.kill()
+                status = b"no end"
+    after = seen_in(folder)
+    made = {it for it in after.keys() - before.keys() if it.startswith("out/")}
+    changed = {it for it in {*before, *after} - made if before.get(it) != after.get(it)}
+    own = {"a.d64", *(["out"] if made else []), *(["a.d64-log"] if "a.d64-log" not in before.keys() & after.keys() else [])}
+    return {
+        b"prints": out.taken(),
+        b"tells": err.taken(),
+        b"ends": status,
+        b"makes": b"%d" % len(made),
+        b"logged": b"" if "a.d64-log" in after else b"no log",
+        b"written": b"" if "a.d64" in changed else b"as it was",
+        b"others": ", ".join(sorted(changed - own)).encode(),
+    }
